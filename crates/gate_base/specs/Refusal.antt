@@ -1,0 +1,44 @@
+-- The names of verdicts in a report.
+use Rattle.std.specs.Prelude.{ℕ, List, codes}
+use Rattle.gate_base.specs.declared.event.Verdict.{Verdict}
+use Rattle.gate_base.specs.declared.event.Verdict.TheVariants.{Pass, Refused}
+use Rattle.gate_base.specs.declared.refusal.Refusal.{Refusal}
+use Rattle.gate_base.specs.declared.refusal.Refusal.TheVariants.{Snapped, NotIpv4, BadHeader, BadHeaderSum, Fragment, IpOptions, TtlSpent, NotUnicast, Protocol, BadTransport, BadSum, SourceInPool, NoBinding, BadInner, InnerUnbound, BadDns, DnsUnbound, BadSnmp, DnsStream, NoSession, SynData, SynInSession, NoAck, Gap, PastEnd, AckAhead, StreamLimit, SessionsFull, PoolEmpty, NotYet}
+
+-- the refusal's name
+unfoldable pub name_of : Refusal → List ℕ
+name_of Snapped = codes "Snapped"
+name_of NotIpv4 = codes "NotIpv4"
+name_of BadHeader = codes "BadHeader"
+name_of BadHeaderSum = codes "BadHeaderSum"
+name_of Fragment = codes "Fragment"
+name_of IpOptions = codes "IpOptions"
+name_of TtlSpent = codes "TtlSpent"
+name_of NotUnicast = codes "NotUnicast"
+name_of Protocol = codes "Protocol"
+name_of BadTransport = codes "BadTransport"
+name_of BadSum = codes "BadSum"
+name_of SourceInPool = codes "SourceInPool"
+name_of NoBinding = codes "NoBinding"
+name_of BadInner = codes "BadInner"
+name_of InnerUnbound = codes "InnerUnbound"
+name_of BadDns = codes "BadDns"
+name_of DnsUnbound = codes "DnsUnbound"
+name_of BadSnmp = codes "BadSnmp"
+name_of DnsStream = codes "DnsStream"
+name_of NoSession = codes "NoSession"
+name_of SynData = codes "SynData"
+name_of SynInSession = codes "SynInSession"
+name_of NoAck = codes "NoAck"
+name_of Gap = codes "Gap"
+name_of PastEnd = codes "PastEnd"
+name_of AckAhead = codes "AckAhead"
+name_of StreamLimit = codes "StreamLimit"
+name_of SessionsFull = codes "SessionsFull"
+name_of PoolEmpty = codes "PoolEmpty"
+name_of NotYet = codes "NotYet"
+
+-- `pass`, or the refusal's name
+abbrev pub verdict_name : Verdict → List ℕ
+verdict_name Pass = codes "pass"
+verdict_name (Refused refusal) = name_of refusal

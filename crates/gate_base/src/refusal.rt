@@ -1,0 +1,109 @@
+ghost use Rattle.std.specs.Prelude.{◌≡◌};
+
+/// Why a frame goes nowhere, in the order of testing.
+#[derive(Clone, Copy, Debug, PartialEq, Eq)]
+pub enum Refusal {
+    /// The capture kept fewer octets than the frame had.
+    Snapped,
+    /// It is no IPv4 datagram.
+    NotIpv4,
+    /// The IPv4 header's lengths contradict each other or the frame (RFC 791, 3.1).
+    BadHeader,
+    /// The IPv4 header's checksum is wrong.
+    BadHeaderSum,
+    /// It is a fragment.
+    Fragment,
+    /// The IPv4 header has options.
+    IpOptions,
+    /// The lifetime is 0 or 1.
+    TtlSpent,
+    /// Source or destination is no host's address.
+    NotUnicast,
+    /// The protocol is none of ICMP, TCP and UDP, or the ICMP type is none of those that are translated.
+    Protocol,
+    /// The ICMP, TCP or UDP header contradicts itself or the datagram's length.
+    BadTransport,
+    /// The ICMP, TCP or UDP checksum is wrong.
+    BadSum,
+    /// The source lies in the pool of its own realm.
+    SourceInPool,
+    /// The destination stands for no host of the other realm.
+    NoBinding,
+    /// The datagram inside an ICMP error can't be read.
+    BadInner,
+    /// An address or number inside an ICMP error has no image.
+    InnerUnbound,
+    /// The payload of a DNS port is no DNS message (RFC 1035).
+    BadDns,
+    /// An address in a DNS message lies in the pool and stands for no host.
+    DnsUnbound,
+    /// The payload of an SNMP port is no SNMP message (RFC 1157).
+    BadSnmp,
+    /// DNS over TCP.
+    DnsStream,
+    /// A TCP segment of a control session that isn't known.
+    NoSession,
+    /// A SYN to a control port with octets, FIN or RST.
+    SynData,
+    /// A SYN inside a control session.
+    SynInSession,
+    /// A segment of a control session with neither SYN, RST nor ACK.
+    NoAck,
+    /// Octets before this segment of a control session are missing.
+    Gap,
+    /// Octets past the end of a control session's stream.
+    PastEnd,
+    /// An acknowledgement of octets that were never sent.
+    AckAhead,
+    /// The stream of a control session is too long.
+    StreamLimit,
+    /// No room for another connection or control session.
+    SessionsFull,
+    /// The other realm's pool has too few free addresses.
+    PoolEmpty,
+    /// The gateway doesn't translate such a frame yet.
+    NotYet,
+}
+
+impl Refusal {
+    ghost use Rattle.gate_base.specs.Refusal.{name_of};
+
+    /// The refusal's name, as a report prints it.
+    #[tactic(auto, unfolding(crate::specs::Refusal::name_of))]
+    pub fn name(&self) -> &'static str
+        ensures { result.now ≡ name_of self.now }
+    {
+        match self {
+            Refusal::Snapped => "Snapped",
+            Refusal::NotIpv4 => "NotIpv4",
+            Refusal::BadHeader => "BadHeader",
+            Refusal::BadHeaderSum => "BadHeaderSum",
+            Refusal::Fragment => "Fragment",
+            Refusal::IpOptions => "IpOptions",
+            Refusal::TtlSpent => "TtlSpent",
+            Refusal::NotUnicast => "NotUnicast",
+            Refusal::Protocol => "Protocol",
+            Refusal::BadTransport => "BadTransport",
+            Refusal::BadSum => "BadSum",
+            Refusal::SourceInPool => "SourceInPool",
+            Refusal::NoBinding => "NoBinding",
+            Refusal::BadInner => "BadInner",
+            Refusal::InnerUnbound => "InnerUnbound",
+            Refusal::BadDns => "BadDns",
+            Refusal::DnsUnbound => "DnsUnbound",
+            Refusal::BadSnmp => "BadSnmp",
+            Refusal::DnsStream => "DnsStream",
+            Refusal::NoSession => "NoSession",
+            Refusal::SynData => "SynData",
+            Refusal::SynInSession => "SynInSession",
+            Refusal::NoAck => "NoAck",
+            Refusal::Gap => "Gap",
+            Refusal::PastEnd => "PastEnd",
+            Refusal::AckAhead => "AckAhead",
+            Refusal::StreamLimit => "StreamLimit",
+            Refusal::SessionsFull => "SessionsFull",
+            Refusal::PoolEmpty => "PoolEmpty",
+            Refusal::NotYet => "NotYet",
+        }
+    }
+}

@@ -1,0 +1,39 @@
+-- What a desk tells that tells only its counts.
+use Rattle.std.proofs.Common.{◌≡◌, ℕ, List, [], refl}
+use Rattle.gate_desk.specs.declared.slot.Slot.{Slot}
+use Rattle.gate_desk.specs.declared.slot.Way.{Way}
+use Rattle.gate_desk.specs.declared.slot.PerSlot.{PerSlot}
+use Rattle.gate_desk.specs.Slots.{at, put}
+use Rattle.gate_desk.specs.Outside.{Starts, Takes, Writes, AreNext, IsAtEnd, wrote, took, told_at, started}
+use Rattle.gate_desk.specs.Untold.{untold}
+use Rattle.gate_desk.specs.Memory.{raised}
+use Rattle.gate_desk.proofs.Laws.{rises_not}
+use Rattle.gate_desk.proofs.MemoryLaws.{rises_one}
+
+pub untold_starts : (s : Slot) (name : List ℕ) (way : Way) (a b : PerSlot ℕ) → Starts s name way (untold a b) (untold a b)
+unfolding started
+untold_starts s name way a b = record { starts = refl; left = refl; written = refl; faults = refl; start_faults = rises_not s b }
+
+pub untold_takes : (s : Slot) (n : ℕ) (a b : PerSlot ℕ) → Takes s n (untold a b) (untold a b)
+unfolding took
+untold_takes s n a b = record { left = refl; written = refl; starts = refl; start_faults = refl; faults = rises_not s a }
+
+pub untold_read_fails : (s : Slot) (a a' b : PerSlot ℕ) → a' ≡ put a s (raised (at a s)) → Takes s 0 (untold a b) (untold a' b)
+unfolding took
+untold_read_fails s a a' b e = record { left = refl; written = refl; starts = refl; start_faults = refl; faults = rises_one s a a' e }
+
+pub untold_next : (s : Slot) (xs : List ℕ) (a b : PerSlot ℕ) → AreNext xs (untold a b) s
+unfolding told_at
+untold_next s xs a b = tt
+
+pub untold_end : (s : Slot) (a b : PerSlot ℕ) → IsAtEnd (untold a b) s
+unfolding told_at
+untold_end s a b = tt
+
+pub untold_writes : (s : Slot) (xs : List ℕ) (a b : PerSlot ℕ) → Writes s xs (untold a b) (untold a b)
+unfolding wrote
+untold_writes s xs a b = record { written = refl; left = refl; starts = refl; start_faults = refl; faults = rises_not s a }
+
+pub untold_write_fails : (s : Slot) (a a' b : PerSlot ℕ) → a' ≡ put a s (raised (at a s)) → Writes s [] (untold a b) (untold a' b)
+unfolding wrote
+untold_write_fails s a a' b e = record { written = refl; left = refl; starts = refl; start_faults = refl; faults = rises_one s a a' e }

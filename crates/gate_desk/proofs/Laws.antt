@@ -1,0 +1,373 @@
+-- Laws of the words for slots.
+use Rattle.std.proofs.Common.{Bool, true, false, cond, ◌≡◌, ℕ, ◌+◌, ◌-◌, ◌≤◌, List, [], ◌∷◌, ◌++◌, Option, Some, None, IfSome, option_map, take, drop, length, refl, sym, ap, subst, ◌∙◌, append_assoc, arith, length-append, length-drop}
+use Rattle.std.proofs.lemmas.List.{append-nil, drop-drop, take_all, take-append-le, length-take-le}
+use Rattle.std.proofs.lemmas.Bool.{false≢true}
+use Rattle.std.proofs.lemmas.List.Sums.{fold-append}
+use Rattle.std.proofs.Math.Seq.{take-add, take-append-add}
+use borrow.Rule.Slice.PartMut.{put_mid, post_of}
+use Rattle.gate_desk.specs.declared.slot.Slot.{Slot}
+use Rattle.gate_desk.specs.declared.slot.Slot.TheVariants.{Settings, LeftIn, RightIn, LeftOut, RightOut, Report, Errors}
+use Rattle.gate_desk.specs.declared.slot.PerSlot.{PerSlot}
+use Rattle.gate_desk.specs.declared.slot.Way.{Way}
+use Rattle.gate_desk.specs.declared.slot.Way.TheVariants.{Read, Write}
+use Rattle.gate_desk.specs.Slots.{at, put, same_slot}
+use Rattle.gate_desk.specs.Outside.{Outside, wrote, took, told_at, Told, Rises, Writes, Takes, AreNext, IsAtEnd, AreUpTo, HasFailed, HasFailedToStart, Grows, NoneFell, WritesPart, Starts, FailsToStart, Start, started, last_way, CanRead, CanWrite}
+
+pub at-put : {A : Type 0} (p : PerSlot A) (s : Slot) (x : A) → at (put p s x) s ≡ x
+at-put p Settings x = refl
+at-put p LeftIn x = refl
+at-put p RightIn x = refl
+at-put p LeftOut x = refl
+at-put p RightOut x = refl
+at-put p Report x = refl
+at-put p Errors x = refl
+
+pub put-put : {A : Type 0} (p : PerSlot A) (s : Slot) (x y : A) → put (put p s x) s y ≡ put p s y
+put-put p Settings x y = refl
+put-put p LeftIn x y = refl
+put-put p RightIn x y = refl
+put-put p LeftOut x y = refl
+put-put p RightOut x y = refl
+put-put p Report x y = refl
+put-put p Errors x y = refl
+
+pub put-at : {A : Type 0} (p : PerSlot A) (s : Slot) → put p s (at p s) ≡ p
+put-at p Settings = refl
+put-at p LeftIn = refl
+put-at p RightIn = refl
+put-at p LeftOut = refl
+put-at p RightOut = refl
+put-at p Report = refl
+put-at p Errors = refl
+
+pub wrote-wrote : (s : Slot) (xs ys : List ℕ) (told : Told) → wrote s ys (wrote s xs told) ≡ wrote s (xs ++ ys) told
+unfolding wrote
+wrote-wrote s xs ys None = refl
+wrote-wrote s xs ys (Some p) = ap Some (rw (put-put, at-put, append_assoc) refl)
+
+pub wrote-nil : (s : Slot) (told : Told) → wrote s [] told ≡ told
+unfolding wrote
+wrote-nil s None = refl
+wrote-nil s (Some p) = ap Some (rw (append-nil, put-at) refl)
+
+pub took-took : (s : Slot) (m n : ℕ) (told : Told) → took s n (took s m told) ≡ took s (m + n) told
+unfolding took
+took-took s m n None = refl
+took-took s m n (Some p) = ap Some (rw (put-put, at-put, drop-drop) refl)
+
+pub took-none : (s : Slot) (told : Told) → took s 0 told ≡ told
+unfolding took
+took-none s None = refl
+took-none s (Some p) = ap Some (rw put-at refl)
+
+pub rises_not : (s : Slot) (a : PerSlot ℕ) → Rises s a a
+rises_not s a = record { never_falls = omega arith; only = sym (put-at a s) }
+
+pub rises_on : (s : Slot) (a b c : PerSlot ℕ) → Rises s a b → Rises s b c → Rises s a c
+rises_on s a b c e f = record {
+  never_falls = omega (arith, e.never_falls, f.never_falls);
+  only = f.only ∙ ap (λ (p : PerSlot ℕ). put p s (at c s)) e.only ∙ put-put a s (at b s) (at c s);
+}
+
+pub writes_none : (s : Slot) (a : Outside) → Writes s [] a a
+writes_none s a = record { written = sym (wrote-nil s a.written); left = refl; starts = refl; start_faults = refl; faults = rises_not s a.faults }
+
+pub writes_on : (s : Slot) (xs ys : List ℕ) (a b c : Outside) → Writes s xs a b → Writes s ys b c → Writes s (xs ++ ys) a c
+writes_on s xs ys a b c e f = record {
+  written = f.written ∙ ap (wrote s ys) e.written ∙ wrote-wrote s xs ys a.written;
+  left = f.left ∙ e.left;
+  starts = f.starts ∙ e.starts;
+  start_faults = f.start_faults ∙ e.start_faults;
+  faults = rises_on s a.faults b.faults c.faults e.faults f.faults;
+}
+
+pub takes_none : (s : Slot) (a : Outside) → Takes s 0 a a
+takes_none s a = record { left = sym (took-none s a.left); written = refl; starts = refl; start_faults = refl; faults = rises_not s a.faults }
+
+pub takes_on : (s : Slot) (m n : ℕ) (a b c : Outside) → Takes s m a b → Takes s n b c → Takes s (m + n) a c
+takes_on s m n a b c e f = record {
+  left = f.left ∙ ap (took s n) e.left ∙ took-took s m n a.left;
+  written = f.written ∙ e.written;
+  starts = f.starts ∙ e.starts;
+  start_faults = f.start_faults ∙ e.start_faults;
+  faults = rises_on s a.faults b.faults c.faults e.faults f.faults;
+}
+
+pub told_at-took : (s : Slot) (m : ℕ) (t : Told) → told_at (took s m t) s ≡ option_map (drop m) (told_at t s)
+unfolding told_at took
+told_at-took s m None = refl
+told_at-took s m (Some p) = ap Some (at-put p s (drop m (at p s)))
+
+next_none-of : (o : Option (List ℕ)) → IfSome o (λ all. take 0 all ≡ [])
+next_none-of None = tt
+next_none-of (Some all) = refl
+
+pub next_none : (s : Slot) (a : Outside) → AreNext [] a s
+next_none s a = next_none-of (told_at a.left s)
+
+next_on-of : (xs ys : List ℕ) (o : Option (List ℕ)) → IfSome o (λ all. take (length xs) all ≡ xs) → IfSome (option_map (drop (length xs)) o) (λ all. take (length ys) all ≡ ys) → IfSome o (λ all. take (length (xs ++ ys)) all ≡ xs ++ ys)
+next_on-of xs ys None h k = tt
+next_on-of xs ys (Some all) h k = rw (length-append, take-add, h, k) refl
+
+-- more of the slot's next octets
+pub next_on : (s : Slot) (xs ys : List ℕ) (m : ℕ) (a b : Outside) → length xs ≡ m → Takes s m a b → AreNext xs a s → AreNext ys b s → AreNext (xs ++ ys) a s
+next_on s xs ys m a b e t h k =
+    let there : told_at b.left s ≡ option_map (drop (length xs)) (told_at a.left s) = ap (λ (o : Told). told_at o s) t.left ∙ told_at-took s m a.left ∙ ap (λ (n : ℕ). option_map (drop n) (told_at a.left s)) (sym e) in
+    next_on-of xs ys (told_at a.left s) h (subst (λ o. IfSome o (λ all. take (length ys) all ≡ ys)) there k)
+
+up_to_end-of : (xs : List ℕ) (wanted : ℕ) (o : Option (List ℕ)) → length xs ≤ wanted → IfSome o (λ all. take (length xs) all ≡ xs) → IfSome (option_map (drop (length xs)) o) (λ all. length all ≡ 0) → IfSome o (λ all. xs ≡ take wanted all)
+up_to_end-of xs wanted None le h k = tt
+up_to_end-of xs wanted (Some all) le h k =
+    let short : length all ≤ length xs = omega (arith, length-drop (length xs) all, k) in
+    let whole : take (length xs) all ≡ all = take_all (length xs) all short in
+    sym h ∙ whole ∙ sym (take_all wanted all (omega arith))
+
+-- all that was left
+pub up_to_end : (s : Slot) (xs : List ℕ) (m wanted : ℕ) (a b : Outside) → length xs ≡ m → m ≤ wanted → Takes s m a b → AreNext xs a s → IsAtEnd b s → AreUpTo wanted xs a s
+up_to_end s xs m wanted a b e le t h k =
+    let there : told_at b.left s ≡ option_map (drop (length xs)) (told_at a.left s) = ap (λ (o : Told). told_at o s) t.left ∙ told_at-took s m a.left ∙ ap (λ (n : ℕ). option_map (drop n) (told_at a.left s)) (sym e) in
+    up_to_end-of xs wanted (told_at a.left s) (omega arith) h (subst (λ o. IfSome o (λ all. length all ≡ 0)) there k)
+
+-- a buffer after more was read into it
+pub buffer_on : (xs ys : List ℕ) (a n : ℕ) → a ≤ length xs → n ≤ length ys → take (a + n) (put_mid a (length xs - a) xs ys) ≡ take a xs ++ take n ys
+buffer_on xs ys a n le fits =
+    let front : length (take a xs) ≡ a = length-take-le a xs le in
+    let e : take (a + n) (take a xs ++ (ys ++ post_of a (length xs - a) xs)) ≡ take a xs ++ take n (ys ++ post_of a (length xs - a) xs) =
+    subst (λ (k : ℕ). take (k + n) (take a xs ++ (ys ++ post_of a (length xs - a) xs)) ≡ take a xs ++ take n (ys ++ post_of a (length xs - a) xs)) front (take-append-add (take a xs) (ys ++ post_of a (length xs - a) xs) n) in
+    e ∙ ap (λ (zs : List ℕ). take a xs ++ zs) (take-append-le n ys (post_of a (length xs - a) xs) fits)
+
+moved-of : (n : ℕ) (o : Option (List ℕ)) (P : List ℕ → Type 0) → IfSome (option_map (drop n) o) P → IfSome o (λ all. P (drop n all))
+moved-of n None P h = tt
+moved-of n (Some all) P h = h
+
+-- a fact of all the octets, from one of what was left after some were taken
+pub moved : (s : Slot) (n : ℕ) (a b : Outside) (P : List ℕ → Type 0) → Takes s n a b → IfSome (told_at b.left s) P → IfSome (told_at a.left s) (λ all. P (drop n all))
+moved s n a b P t h = moved-of n (told_at a.left s) P (subst (λ o. IfSome o P) (ap (λ (o : Told). told_at o s) t.left ∙ told_at-took s n a.left) h)
+
+-- a failure in a later call
+pub failed_later : (s : Slot) (a b c : Outside) → Rises s a.faults b.faults → HasFailed s b c → HasFailed s a c
+failed_later s a b c r h = omega (arith, r.never_falls, h)
+
+-- any slot, after one was put
+pub at-put_any : {A : Type 0} (p : PerSlot A) (s t : Slot) (x : A) → at (put p s x) t ≡ cond (same_slot s t) x (at p t)
+at-put_any p Settings Settings x = refl
+at-put_any p Settings LeftIn x = refl
+at-put_any p Settings RightIn x = refl
+at-put_any p Settings LeftOut x = refl
+at-put_any p Settings RightOut x = refl
+at-put_any p Settings Report x = refl
+at-put_any p Settings Errors x = refl
+at-put_any p LeftIn Settings x = refl
+at-put_any p LeftIn LeftIn x = refl
+at-put_any p LeftIn RightIn x = refl
+at-put_any p LeftIn LeftOut x = refl
+at-put_any p LeftIn RightOut x = refl
+at-put_any p LeftIn Report x = refl
+at-put_any p LeftIn Errors x = refl
+at-put_any p RightIn Settings x = refl
+at-put_any p RightIn LeftIn x = refl
+at-put_any p RightIn RightIn x = refl
+at-put_any p RightIn LeftOut x = refl
+at-put_any p RightIn RightOut x = refl
+at-put_any p RightIn Report x = refl
+at-put_any p RightIn Errors x = refl
+at-put_any p LeftOut Settings x = refl
+at-put_any p LeftOut LeftIn x = refl
+at-put_any p LeftOut RightIn x = refl
+at-put_any p LeftOut LeftOut x = refl
+at-put_any p LeftOut RightOut x = refl
+at-put_any p LeftOut Report x = refl
+at-put_any p LeftOut Errors x = refl
+at-put_any p RightOut Settings x = refl
+at-put_any p RightOut LeftIn x = refl
+at-put_any p RightOut RightIn x = refl
+at-put_any p RightOut LeftOut x = refl
+at-put_any p RightOut RightOut x = refl
+at-put_any p RightOut Report x = refl
+at-put_any p RightOut Errors x = refl
+at-put_any p Report Settings x = refl
+at-put_any p Report LeftIn x = refl
+at-put_any p Report RightIn x = refl
+at-put_any p Report LeftOut x = refl
+at-put_any p Report RightOut x = refl
+at-put_any p Report Report x = refl
+at-put_any p Report Errors x = refl
+at-put_any p Errors Settings x = refl
+at-put_any p Errors LeftIn x = refl
+at-put_any p Errors RightIn x = refl
+at-put_any p Errors LeftOut x = refl
+at-put_any p Errors RightOut x = refl
+at-put_any p Errors Report x = refl
+at-put_any p Errors Errors x = refl
+
+same-of : (s t : Slot) → same_slot s t ≡ true → s ≡ t
+same-of Settings Settings e = refl
+same-of Settings LeftIn e = absurd (false≢true e)
+same-of Settings RightIn e = absurd (false≢true e)
+same-of Settings LeftOut e = absurd (false≢true e)
+same-of Settings RightOut e = absurd (false≢true e)
+same-of Settings Report e = absurd (false≢true e)
+same-of Settings Errors e = absurd (false≢true e)
+same-of LeftIn Settings e = absurd (false≢true e)
+same-of LeftIn LeftIn e = refl
+same-of LeftIn RightIn e = absurd (false≢true e)
+same-of LeftIn LeftOut e = absurd (false≢true e)
+same-of LeftIn RightOut e = absurd (false≢true e)
+same-of LeftIn Report e = absurd (false≢true e)
+same-of LeftIn Errors e = absurd (false≢true e)
+same-of RightIn Settings e = absurd (false≢true e)
+same-of RightIn LeftIn e = absurd (false≢true e)
+same-of RightIn RightIn e = refl
+same-of RightIn LeftOut e = absurd (false≢true e)
+same-of RightIn RightOut e = absurd (false≢true e)
+same-of RightIn Report e = absurd (false≢true e)
+same-of RightIn Errors e = absurd (false≢true e)
+same-of LeftOut Settings e = absurd (false≢true e)
+same-of LeftOut LeftIn e = absurd (false≢true e)
+same-of LeftOut RightIn e = absurd (false≢true e)
+same-of LeftOut LeftOut e = refl
+same-of LeftOut RightOut e = absurd (false≢true e)
+same-of LeftOut Report e = absurd (false≢true e)
+same-of LeftOut Errors e = absurd (false≢true e)
+same-of RightOut Settings e = absurd (false≢true e)
+same-of RightOut LeftIn e = absurd (false≢true e)
+same-of RightOut RightIn e = absurd (false≢true e)
+same-of RightOut LeftOut e = absurd (false≢true e)
+same-of RightOut RightOut e = refl
+same-of RightOut Report e = absurd (false≢true e)
+same-of RightOut Errors e = absurd (false≢true e)
+same-of Report Settings e = absurd (false≢true e)
+same-of Report LeftIn e = absurd (false≢true e)
+same-of Report RightIn e = absurd (false≢true e)
+same-of Report LeftOut e = absurd (false≢true e)
+same-of Report RightOut e = absurd (false≢true e)
+same-of Report Report e = refl
+same-of Report Errors e = absurd (false≢true e)
+same-of Errors Settings e = absurd (false≢true e)
+same-of Errors LeftIn e = absurd (false≢true e)
+same-of Errors RightIn e = absurd (false≢true e)
+same-of Errors LeftOut e = absurd (false≢true e)
+same-of Errors RightOut e = absurd (false≢true e)
+same-of Errors Report e = absurd (false≢true e)
+same-of Errors Errors e = refl
+
+none_fell : (s t : Slot) (a b : PerSlot ℕ) → Rises s a b → (r : Bool) → same_slot s t ≡ r → at a t ≤ at b t
+none_fell s t a b h true e = subst (λ (u : Slot). at a u ≤ at b u) (same-of s t e) h.never_falls
+none_fell s t a b h false e =
+    let there : at b t ≡ cond (same_slot s t) (at b s) (at a t) = ap (λ (p : PerSlot ℕ). at p t) h.only ∙ at-put_any a s t (at b s) in
+    let same : at b t ≡ at a t = there ∙ ap (λ (r : Bool). cond r (at b s) (at a t)) e in
+    omega (arith, same)
+
+-- no count of any slot falls
+pub NoneFell-from_rises : (s : Slot) (a b : PerSlot ℕ) → Rises s a b → NoneFell a b
+NoneFell-from_rises s a b h t = none_fell s t a b h (same_slot s t) refl
+
+pub grows_not : (a : Outside) → Grows a a
+grows_not a = record { faults = λ s. omega arith; start_faults = λ s. omega arith }
+
+pub grows_on : (a b c : Outside) → Grows a b → Grows b c → Grows a c
+grows_on a b c h k = record { faults = λ s. omega (arith, h.faults s, k.faults s); start_faults = λ s. omega (arith, h.start_faults s, k.start_faults s) }
+
+pub grows_same : (a b : Outside) → a ≡ b → Grows a b
+grows_same a b e = subst (Grows a) e (grows_not a)
+
+keeps : (a b : PerSlot ℕ) → b ≡ a → NoneFell a b
+keeps a b e s = omega (arith, ap (λ (p : PerSlot ℕ). at p s) e)
+
+pub grows_writes : (s : Slot) (xs : List ℕ) (a b : Outside) → Writes s xs a b → Grows a b
+grows_writes s xs a b h = record { faults = NoneFell-from_rises s a.faults b.faults h.faults; start_faults = keeps a.start_faults b.start_faults h.start_faults }
+
+pub grows_takes : (s : Slot) (n : ℕ) (a b : Outside) → Takes s n a b → Grows a b
+grows_takes s n a b h = record { faults = NoneFell-from_rises s a.faults b.faults h.faults; start_faults = keeps a.start_faults b.start_faults h.start_faults }
+
+pub grows_starts : (s : Slot) (name : List ℕ) (way : Way) (a b : Outside) → Starts s name way a b → Grows a b
+grows_starts s name way a b h = record { faults = keeps a.faults b.faults h.faults; start_faults = NoneFell-from_rises s a.start_faults b.start_faults h.start_faults }
+
+pub failed_since : (s : Slot) (a b c : Outside) → Grows a b → HasFailed s b c → HasFailed s a c
+failed_since s a b c h k = omega (arith, h.faults s, k)
+
+pub failed_till : (s : Slot) (a b c : Outside) → HasFailed s a b → Grows b c → HasFailed s a c
+failed_till s a b c k h = omega (arith, h.faults s, k)
+
+pub failed_to_start_since : (s : Slot) (a b c : Outside) → Grows a b → HasFailedToStart s b c → HasFailedToStart s a c
+failed_to_start_since s a b c h k = omega (arith, h.start_faults s, k)
+
+-- a prefix of more
+pub writes_part_on : (s : Slot) (xs ys : List ℕ) (a b c : Outside) → Writes s xs a b → WritesPart s ys b c → WritesPart s (xs ++ ys) a c
+writes_part_on s xs ys a b c h k =
+    let e : take (length xs + k.0) (xs ++ ys) ≡ xs ++ take k.0 ys = take-append-add xs ys k.0 in
+    (length xs + k.0, omega (arith, k.1, length-append xs ys), subst (λ zs. Writes s zs a c) (sym e) (writes_on s xs (take k.0 ys) a b c h k.2))
+
+pub writes_part_first : (s : Slot) (xs ys : List ℕ) (a b : Outside) → WritesPart s xs a b → WritesPart s (xs ++ ys) a b
+writes_part_first s xs ys a b h =
+    (h.0, omega (arith, h.1, length-append xs ys), subst (λ zs. Writes s zs a b) (sym (take-append-le h.0 xs ys h.1)) h.2)
+
+-- what may be read and written
+last-started : (slot s : Slot) (name : List ℕ) (way : Way) (starts : List Start) → last_way slot (starts ++ (record { slot = s; name = name; way = way }) ∷ []) ≡ cond (same_slot s slot) (Some way) (last_way slot starts)
+last-started slot s name way starts = fold-append _ None starts _
+
+same-self : (s : Slot) → same_slot s s ≡ true
+same-self Settings = refl
+same-self LeftIn = refl
+same-self RightIn = refl
+same-self LeftOut = refl
+same-self RightOut = refl
+same-self Report = refl
+same-self Errors = refl
+
+can_read_started-of : (s : Slot) (name : List ℕ) (o : Option (List Start)) → IfSome (started s name Read o) (λ starts. last_way s starts ≡ Some Read)
+unfolding started
+can_read_started-of s name None = tt
+can_read_started-of s name (Some starts) = last-started s s name Read starts ∙ ap (λ (r : Bool). cond r (Some Read) (last_way s starts)) (same-self s)
+
+pub can_read_started : (s : Slot) (name : List ℕ) (a b : Outside) → Starts s name Read a b → CanRead b s
+can_read_started s name a b h = subst (λ o. IfSome o (λ starts. last_way s starts ≡ Some Read)) (sym h.starts) (can_read_started-of s name a.starts)
+
+kept-of : (s t : Slot) (name : List ℕ) (way way' : Way) (o : Option (List Start)) → same_slot s t ≡ false → IfSome o (λ starts. last_way t starts ≡ Some way') → IfSome (started s name way o) (λ starts. last_way t starts ≡ Some way')
+unfolding started
+kept-of s t name way way' None e h = tt
+kept-of s t name way way' (Some starts) e h = last-started t s name way starts ∙ ap (λ (r : Bool). cond r (Some way) (last_way t starts)) e ∙ h
+
+pub can_read_kept : (s t : Slot) (name : List ℕ) (way : Way) (a b : Outside) → Starts s name way a b → same_slot s t ≡ false → CanRead a t → CanRead b t
+can_read_kept s t name way a b h e k = subst (λ o. IfSome o (λ starts. last_way t starts ≡ Some Read)) (sym h.starts) (kept-of s t name way Read a.starts e k)
+
+can_write_started-of : (s : Slot) (name : List ℕ) (o : Option (List Start)) → IfSome (started s name Write o) (λ starts. last_way s starts ≡ Some Write)
+unfolding started
+can_write_started-of s name None = tt
+can_write_started-of s name (Some starts) = last-started s s name Write starts ∙ ap (λ (r : Bool). cond r (Some Write) (last_way s starts)) (same-self s)
+
+can_write-of : (s : Slot) (a : Outside) → IfSome a.starts (λ starts. last_way s starts ≡ Some Write) → CanWrite a s
+can_write-of Settings a h = h
+can_write-of LeftIn a h = h
+can_write-of RightIn a h = h
+can_write-of LeftOut a h = h
+can_write-of RightOut a h = h
+can_write-of Report a h = h
+can_write-of Errors a h = tt
+
+of-can_write : (s : Slot) (a : Outside) → same_slot s Errors ≡ false → CanWrite a s → IfSome a.starts (λ starts. last_way s starts ≡ Some Write)
+of-can_write Settings a e h = h
+of-can_write LeftIn a e h = h
+of-can_write RightIn a e h = h
+of-can_write LeftOut a e h = h
+of-can_write RightOut a e h = h
+of-can_write Report a e h = h
+of-can_write Errors a e h = absurd (false≢true (sym e))
+
+pub can_write_started : (s : Slot) (name : List ℕ) (a b : Outside) → Starts s name Write a b → CanWrite b s
+can_write_started s name a b h = can_write-of s b (subst (λ o. IfSome o (λ starts. last_way s starts ≡ Some Write)) (sym h.starts) (can_write_started-of s name a.starts))
+
+pub can_write_kept : (s t : Slot) (name : List ℕ) (way : Way) (a b : Outside) → Starts s name way a b → same_slot s t ≡ false → same_slot t Errors ≡ false → CanWrite a t → CanWrite b t
+can_write_kept s t name way a b h e f k = can_write-of t b (subst (λ o. IfSome o (λ starts. last_way t starts ≡ Some Write)) (sym h.starts) (kept-of s t name way Write a.starts e (of-can_write t a f k)))
+
+-- what another slot holds
+pub told_at-took_other : (s t : Slot) (n : ℕ) (o : Told) → same_slot s t ≡ false → told_at (took s n o) t ≡ told_at o t
+unfolding told_at took
+told_at-took_other s t n None e = refl
+told_at-took_other s t n (Some p) e = ap Some (at-put_any p s t (drop n (at p s)) ∙ ap (λ (r : Bool). cond r (drop n (at p s)) (at p t)) e)
+
+pub grows_fails_to_start : (s : Slot) (a b : Outside) → FailsToStart s a b → Grows a b
+grows_fails_to_start s a b h = record { faults = keeps a.faults b.faults h.faults; start_faults = NoneFell-from_rises s a.start_faults b.start_faults h.start_faults }
+
+pub can_read_same : (s : Slot) (a b : Outside) → b.starts ≡ a.starts → CanRead a s → CanRead b s
+can_read_same s a b e h = subst (λ o. IfSome o (λ starts. last_way s starts ≡ Some Read)) (sym e) h

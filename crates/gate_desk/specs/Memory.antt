@@ -1,0 +1,36 @@
+-- A desk in memory, as its callers see it.
+use Rattle.std.specs.Prelude.{ℕ, ◌+◌, ◌-◌, ◌^◌, List, [], Some, length, min, max}
+use Rattle.gate_desk.specs.declared.slot.PerSlot.{PerSlot}
+use Rattle.gate_desk.specs.Outside.{Outside, Start}
+
+pub record Memory : Type 0 where
+  pub left : PerSlot (List ℕ)
+  pub written : PerSlot (List ℕ)
+  pub starts : List Start
+  pub faults : PerSlot ℕ
+  pub start_faults : PerSlot ℕ
+
+-- it tells all
+abbrev pub told_of : Memory → Outside
+told_of m = record { left = Some m.left; written = Some m.written; starts = Some m.starts; faults = m.faults; start_faults = m.start_faults }
+
+-- the octets of all slots
+abbrev pub total : PerSlot (List ℕ) → ℕ
+total p = length p.settings + length p.left_in + length p.right_in + length p.left_out + length p.right_out + length p.report + length p.errors
+
+-- the same value in each slot
+abbrev pub each : {A : Type 0} → A → PerSlot A
+each x = record { settings = x; left_in = x; right_in = x; left_out = x; right_out = x; report = x; errors = x }
+
+abbrev pub raised : ℕ → ℕ
+raised n = max n (min (n + 1) (2 ^ 64 - 1))
+
+-- these octets to be read, nothing written, no start and no fault
+abbrev pub opening : List ℕ → List ℕ → List ℕ → Memory
+opening settings left right = record {
+  left = record { settings = settings; left_in = left; right_in = right; left_out = []; right_out = []; report = []; errors = [] };
+  written = each [];
+  starts = [];
+  faults = each 0;
+  start_faults = each 0;
+}

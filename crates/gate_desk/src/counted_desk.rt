@@ -1,0 +1,116 @@
+// A desk of which some calls fail.
+ghost use Rattle.std.specs.Prelude.{◌≡◌, ◌+◌, ◌-◌, ◌<◌, ◌≤◌, ◌^◌, ◌↔◌, ◌⊎◌, [], IsTrue, IsErr, IfOk, OnOk, OnErr, Contains, min, take, length};
+ghost use Rattle.gate_desk.specs.Slots.{at};
+ghost use Rattle.gate_desk.specs.Memory.{total};
+ghost use Rattle.gate_desk.specs.Counted.{IsListed, counted, told_by};
+ghost use Rattle.gate_desk.specs.Outside.{names_size, Starts, FailsToStart, Takes, AreNext, IsAtEnd, Writes, HasFailed};
+
+use crate::{Desk, Failed, MemoryDesk, Slot, Way};
+use std::marker::Model;
+
+/// A desk in memory, of which the listed calls fail. Starts, reads and writes are counted together, from 1.
+#[derive(Drop)]
+pub struct CountedDesk {
+    inner: MemoryDesk,
+    failing: Vec<u64>,
+    calls: u64,
+}
+
+impl Model for CountedDesk {
+    ghost use Rattle.gate_desk.specs.Counted.{Counted};
+
+    ghost Value = { Counted };
+
+    ghost view = { λ d. record { inner = d.inner; failing = d.failing.items; calls = d.calls } };
+}
+
+fn is_listed(failing: &[u64], call: u64) -> bool
+    ensures { IsTrue result ↔ Contains failing.now call }
+{
+    failing.contains(&call)
+}
+
+impl CountedDesk {
+    /// The desk as it is, of which these calls are to fail.
+    pub fn make(inner: MemoryDesk, failing: Vec<u64>) -> CountedDesk
+        ensures { result ≡ record { inner = inner; failing = failing.items; calls = 0 } }
+    {
+        CountedDesk {
+            inner,
+            failing,
+            calls: 0,
+        }
+    }
+
+    /// What was written on a slot.
+    pub fn output(&self, slot: Slot) -> &[u8]
+        ensures { result.now ≡ at self.now.inner.written slot }
+    {
+        self.inner.output(slot)
+    }
+
+    /// Counts a call, and says whether it is to fail. A count that can't go on stands still, and no call after that is listed.
+    fn next_call(&mut self) -> bool
+        ensures listed { IsTrue result ↔ IsListed self.old }
+        ensures after { self.new ≡ counted self.old }
+    {
+        if self.calls == u64::MAX {
+            return false;
+        }
+        self.calls += 1;
+        is_listed(&self.failing, self.calls)
+    }
+}
+
+impl Desk for CountedDesk {
+    ghost outside = { told_by };
+
+    /// Fails exactly where the call is listed or the names would be more than 64 KiB.
+    fn start(&mut self, slot: Slot, name: &str, way: Way) -> Result<(), Failed>
+        ensures ok { OnOk result (Starts slot name.now way (told_by self.old) (told_by self.new)) }
+        ensures err { OnErr result (FailsToStart slot (told_by self.old) (told_by self.new)) }
+        ensures exact { IsErr result ↔ (IsListed self.old ⊎ (2 ^ 16 < names_size self.old.inner.starts + length name.now + 3)) }
+        ensures calls { self.new.calls ≡ (counted self.old).calls }
+    {
+        if self.next_call() {
+            self.inner.fail_start(slot);
+            return Err(Failed);
+        }
+        self.inner.start(slot, name, way)
+    }
+
+    /// Fails exactly where the call is listed.
+    fn read(&mut self, slot: Slot, buffer: &mut [u8]) -> Result<usize, Failed>
+        ensures fits { IfOk result (λ n. n ≤ length buffer.new) }
+        ensures ok { IfOk result (λ n. Takes slot n (told_by self.old) (told_by self.new)) }
+        ensures octets { IfOk result (λ n. AreNext (take n buffer.new) (told_by self.old) slot) }
+        ensures end { IfOk result (λ n. n ≡ 0 → 0 < length buffer.old → IsAtEnd (told_by self.old) slot) }
+        ensures err { OnErr result (Takes slot 0 (told_by self.old) (told_by self.new)) }
+        ensures cause { OnErr result (HasFailed slot (told_by self.old) (told_by self.new)) }
+        ensures exact { IsErr result ↔ IsListed self.old }
+        ensures calls { self.new.calls ≡ (counted self.old).calls }
+    {
+        if self.next_call() {
+            self.inner.fail_call(slot);
+            return Err(Failed);
+        }
+        self.inner.read(slot, buffer)
+    }
+
+    /// Fails exactly where the call is listed or the octets of all slots would be more than 64 MiB.
+    fn write(&mut self, slot: Slot, piece: &[u8]) -> Result<usize, Failed>
+        ensures fits { IfOk result (λ n. n ≤ length piece.now) }
+        ensures some { IfOk result (λ n. 0 < length piece.now → 0 < n) }
+        ensures ok { IfOk result (λ n. Writes slot (take n piece.now) (told_by self.old) (told_by self.new)) }
+        ensures err { OnErr result (Writes slot [] (told_by self.old) (told_by self.new)) }
+        ensures cause { OnErr result (HasFailed slot (told_by self.old) (told_by self.new)) }
+        ensures exact { IsErr result ↔ (IsListed self.old ⊎ (2 ^ 26 < total self.old.inner.written + length piece.now)) }
+        ensures calls { self.new.calls ≡ (counted self.old).calls }
+    {
+        if self.next_call() {
+            self.inner.fail_call(slot);
+            return Err(Failed);
+        }
+        self.inner.write(slot, piece)
+    }
+}

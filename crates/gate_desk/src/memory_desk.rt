@@ -1,0 +1,144 @@
+// A desk in memory.
+ghost use Rattle.std.specs.Prelude.{◌≡◌, ◌+◌, ◌^◌, ◌<◌, ◌≤◌, ◌↔◌, [], Some, take, IfOk, OnOk, OnErr, IsOk, IsErr, length};
+ghost use Rattle.gate_desk.specs.Slots.{at, put};
+ghost use Rattle.gate_desk.specs.Memory.{each, total, told_of, raised};
+ghost use Rattle.gate_desk.specs.Outside.{names_size, Starts, FailsToStart, Takes, AreNext, IsAtEnd, Writes, HasFailed};
+
+use crate::log::StartLog;
+use crate::memory::{Sink, Source};
+use crate::per_slot::{no_counts, octets_of, push_to, raise, take_from, total_of};
+use crate::{Desk, Failed, PerSlot, Slot, Way};
+use gate_base::OutOfMemory;
+use std::alloc::Global;
+use std::marker::Model;
+
+/// The most octets that are written to all slots together: 64 MiB.
+const WRITTEN_LIMIT: usize = 1 << 26;
+
+/// The most octets of names, three more for each, of all starts together: 64 KiB.
+const NAMES_LIMIT: usize = 1 << 16;
+
+/// A desk that holds its slots in memory and tells all. A start's name changes nothing of what a slot holds.
+#[derive(Drop)]
+pub struct MemoryDesk {
+    left: PerSlot<Source>,
+    written: PerSlot<Sink>,
+    log: StartLog,
+    faults: PerSlot<u64>,
+    start_faults: PerSlot<u64>,
+}
+
+impl Model for MemoryDesk {
+    ghost use Rattle.gate_desk.specs.Memory.{Memory};
+
+    ghost Value = { Memory };
+
+    ghost view = { λ d. record { left = d.left; written = d.written; starts = d.log; faults = d.faults; start_faults = d.start_faults } };
+}
+
+impl MemoryDesk {
+    ghost use Rattle.gate_desk.specs.Memory.{opening};
+
+    /// A desk with these octets to be read, nothing written, no start and no fault. It takes all its memory here.
+    pub fn make(
+        alloc: Global,
+        settings: Vec<u8>,
+        left: Vec<u8>,
+        right: Vec<u8>,
+    ) -> Result<MemoryDesk, OutOfMemory>
+        ensures { IfOk result (λ d. d ≡ opening settings.items left.items right.items) }
+    {
+        let left = PerSlot {
+            settings: Source::new(settings),
+            left_in: Source::new(left),
+            right_in: Source::new(right),
+            left_out: Source::new(Vec::new(alloc)),
+            right_out: Source::new(Vec::new(alloc)),
+            report: Source::new(Vec::new(alloc)),
+            errors: Source::new(Vec::new(alloc)),
+        };
+        let written = PerSlot {
+            settings: Sink::new(alloc)?,
+            left_in: Sink::new(alloc)?,
+            right_in: Sink::new(alloc)?,
+            left_out: Sink::new(alloc)?,
+            right_out: Sink::new(alloc)?,
+            report: Sink::new(alloc)?,
+            errors: Sink::new(alloc)?,
+        };
+        Ok(MemoryDesk {
+            left,
+            written,
+            log: StartLog::new(alloc)?,
+            faults: no_counts(),
+            start_faults: no_counts(),
+        })
+    }
+
+    /// What was written on a slot.
+    pub fn output(&self, slot: Slot) -> &[u8]
+        ensures { result.now ≡ at self.now.written slot }
+    {
+        octets_of(&self.written, slot)
+    }
+
+    pub(crate) fn fail_start(&mut self, slot: Slot)
+        ensures { self.new ≡ record self.old { start_faults = put self.old.start_faults slot (raised (at self.old.start_faults slot)) } }
+    {
+        raise(&mut self.start_faults, slot);
+    }
+
+    pub(crate) fn fail_call(&mut self, slot: Slot)
+        ensures { self.new ≡ record self.old { faults = put self.old.faults slot (raised (at self.old.faults slot)) } }
+    {
+        raise(&mut self.faults, slot);
+    }
+}
+
+impl Desk for MemoryDesk {
+    ghost outside = { told_of };
+
+    /// Fails exactly where the names would be more than 64 KiB.
+    fn start(&mut self, slot: Slot, name: &str, way: Way) -> Result<(), Failed>
+        ensures ok { OnOk result (Starts slot name.now way (told_of self.old) (told_of self.new)) }
+        ensures err { OnErr result (FailsToStart slot (told_of self.old) (told_of self.new)) }
+        ensures exact { IsErr result ↔ (2 ^ 16 < names_size self.old.starts + length name.now + 3) }
+    {
+        if name.len() > NAMES_LIMIT || self.log.size() + name.len() + 3 > NAMES_LIMIT {
+            raise(&mut self.start_faults, slot);
+            return Err(Failed);
+        }
+        self.log.push(slot, name.as_bytes(), way);
+        Ok(())
+    }
+
+    /// Never fails.
+    fn read(&mut self, slot: Slot, buffer: &mut [u8]) -> Result<usize, Failed>
+        ensures fits { IfOk result (λ n. n ≤ length buffer.new) }
+        ensures ok { IfOk result (λ n. Takes slot n (told_of self.old) (told_of self.new)) }
+        ensures octets { IfOk result (λ n. AreNext (take n buffer.new) (told_of self.old) slot) }
+        ensures end { IfOk result (λ n. n ≡ 0 → 0 < length buffer.old → IsAtEnd (told_of self.old) slot) }
+        ensures err { OnErr result (Takes slot 0 (told_of self.old) (told_of self.new)) }
+        ensures cause { OnErr result (HasFailed slot (told_of self.old) (told_of self.new)) }
+        ensures exact { IsOk result }
+    {
+        Ok(take_from(&mut self.left, slot, buffer))
+    }
+
+    /// Fails exactly where the octets of all slots would be more than 64 MiB.
+    fn write(&mut self, slot: Slot, piece: &[u8]) -> Result<usize, Failed>
+        ensures fits { IfOk result (λ n. n ≤ length piece.now) }
+        ensures some { IfOk result (λ n. 0 < length piece.now → 0 < n) }
+        ensures ok { IfOk result (λ n. Writes slot (take n piece.now) (told_of self.old) (told_of self.new)) }
+        ensures err { OnErr result (Writes slot [] (told_of self.old) (told_of self.new)) }
+        ensures cause { OnErr result (HasFailed slot (told_of self.old) (told_of self.new)) }
+        ensures exact { IsErr result ↔ (2 ^ 26 < total self.old.written + length piece.now) }
+    {
+        if piece.len() > WRITTEN_LIMIT || total_of(&self.written) + piece.len() > WRITTEN_LIMIT {
+            raise(&mut self.faults, slot);
+            return Err(Failed);
+        }
+        push_to(&mut self.written, slot, piece);
+        Ok(piece.len())
+    }
+}

@@ -1,0 +1,19 @@
+//! The settings of a gateway, read from a TOML document.
+#![tactic(auto)]
+
+mod cross;
+mod document;
+mod fault;
+mod given;
+mod key;
+mod settings;
+mod texts;
+mod values;
+
+pub use document::read_settings;
+pub use fault::{ReadSettings, SettingsFault, fault_text};
+pub use key::Key;
+pub use settings::{Block, Blocks, Fixed, Settings, SideSettings, Statics};
+
+#[cfg(test)]
+mod tests;

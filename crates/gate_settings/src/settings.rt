@@ -1,0 +1,166 @@
+// The settings of a gateway.
+ghost use Rattle.std.specs.Prelude.{◌≡◌};
+ghost use Rattle.gate_settings.specs.Cross as cross;
+
+use gate_base::{Addr, Link, Side};
+use std::marker::Model;
+
+/// A block of addresses that cross unchanged: those whose first `bits` bits are those of `base` (RFC 4632, 3.1).
+/// In settings that were read `bits` is at most 32, and `base` is zero past its first `bits` bits.
+#[derive(Clone, Copy, Debug, PartialEq, Eq)]
+pub struct Block {
+    pub base: Addr,
+    pub bits: u8,
+}
+
+impl Block {
+    /// The greatest address of the block, as a number.
+    #[tactic(auto, unfolding(crate::specs::Cross::block_end))]
+    pub fn end(&self) -> u64
+        ensures { result ≡ cross.block_end self.now }
+    {
+        let rest = 32u32.saturating_sub(u32::from(self.bits));
+        u64::from(self.base.0) + ((1u64 << rest) - 1)
+    }
+
+    /// Whether the address lies in the block.
+    pub fn contains(&self, address: Addr) -> bool
+        ensures { result ≡ cross.is_in_block address self.now }
+    {
+        self.base.0 <= address.0 && u64::from(address.0) <= self.end()
+    }
+}
+
+/// One realm's pool and link.
+#[derive(Clone, Copy, Debug, PartialEq, Eq)]
+pub struct SideSettings {
+    /// The least address of the pool.
+    pub first: Addr,
+    /// The greatest address of the pool, itself part of it.
+    pub last: Addr,
+    /// What the frames of the realm's captures are.
+    pub link: Link,
+    /// The gateway's own Ethernet address on this link, and six zeros where none is given.
+    pub gateway_mac: [u8; 6],
+    /// The Ethernet address to which outgoing frames are sent, and six zeros where none is given.
+    pub next_mac: [u8; 6],
+}
+
+impl SideSettings {
+    /// Whether the address lies in the realm's pool.
+    pub fn contains(&self, address: Addr) -> bool
+        ensures { result ≡ cross.is_in_pool address self.now }
+    {
+        self.first.0 <= address.0 && address.0 <= self.last.0
+    }
+}
+
+/// A binding that never ends.
+#[derive(Clone, Copy, Debug, PartialEq, Eq)]
+pub struct Fixed {
+    /// The realm of the host.
+    pub side: Side,
+    /// The host's address in its own realm.
+    pub host: Addr,
+    /// The address by which the other realm knows the host, in that realm's pool.
+    pub alias: Addr,
+}
+
+/// A list of blocks.
+#[derive(Drop)]
+pub struct Blocks {
+    items: Vec<Block>,
+}
+
+impl Model for Blocks {
+    ghost use Rattle.std.specs.Prelude.{List};
+    ghost use Rattle.gate_settings.specs.declared.settings.Block.{Block};
+
+    ghost Value = { List Block };
+
+    ghost view = { λ a. a.items.items };
+}
+
+impl Blocks {
+    /// The list of these blocks.
+    pub fn of(items: Vec<Block>) -> Blocks
+        ensures { result ≡ items.items }
+    {
+        Blocks { items }
+    }
+
+    /// The blocks in their order.
+    pub fn items(&self) -> &[Block]
+        ensures { result.now ≡ self.now }
+    {
+        &self.items
+    }
+}
+
+/// A list of static bindings.
+#[derive(Drop)]
+pub struct Statics {
+    items: Vec<Fixed>,
+}
+
+impl Model for Statics {
+    ghost use Rattle.std.specs.Prelude.{List};
+    ghost use Rattle.gate_settings.specs.declared.settings.Fixed.{Fixed};
+
+    ghost Value = { List Fixed };
+
+    ghost view = { λ a. a.items.items };
+}
+
+impl Statics {
+    /// The list of these bindings.
+    pub fn of(items: Vec<Fixed>) -> Statics
+        ensures { result ≡ items.items }
+    {
+        Statics { items }
+    }
+
+    /// The bindings in their order.
+    pub fn items(&self) -> &[Fixed]
+        ensures { result.now ≡ self.now }
+    {
+        &self.items
+    }
+}
+
+/// What a gateway is set to.
+#[derive(Drop)]
+pub struct Settings {
+    /// Whether the report is JSON, and else plain text.
+    pub json: bool,
+    /// The blocks whose addresses mean the same host in both realms.
+    pub same: Blocks,
+    /// The left realm's pool and link.
+    pub left: SideSettings,
+    /// The right realm's pool and link.
+    pub right: SideSettings,
+    /// The static bindings.
+    pub statics: Statics,
+}
+
+impl Settings {
+    /// A realm's pool and link.
+    pub fn side(&self, side: Side) -> &SideSettings
+        ensures { result.now ≡ cross.side_settings self.now side }
+    {
+        match side {
+            Side::Left => &self.left,
+            Side::Right => &self.right,
+        }
+    }
+
+    /// Whether the address lies in a block of `same`.
+    pub fn in_same(&self, address: Addr) -> bool
+        ensures { result ≡ cross.is_in_same address self.now.same }
+    {
+        self.same
+            .items()
+            .iter()
+            .any(|block| block.contains(address))
+    }
+}

@@ -1,0 +1,10 @@
+pub mod Status
+pub mod Command
+pub mod Report
+pub mod Stops
+pub mod Pieces
+pub mod Causes
+pub mod Gate
+pub mod Machine
+pub mod Phases
+pub mod Answers

@@ -1,0 +1,121 @@
+// One event: its frame is judged, and what it gives is written.
+ghost use Rattle.std.specs.Prelude.{◌≡◌, ◌+◌, ◌*◌, ◌<◌, ◌≤◌, ◌^◌, [], ◌∷◌, IfSome, length, option_map, option_to_list};
+ghost use Rattle.gate_base.specs.Events.{event_of};
+ghost use Rattle.gate_desk.specs.declared.slot.Slot.TheVariants.{LeftOut, RightOut, Report};
+ghost use Rattle.gate_desk.specs.Outside.{CanWrite};
+ghost use Rattle.pcap_merge.specs.Merge.{IsSmallEvent};
+ghost use Rattle.gateway.specs.Machine.{out_slot, sent, event_piece};
+ghost use Rattle.gateway.specs.Causes.{Gives};
+ghost use Rattle.gateway.specs.Phases.{Handles};
+
+use crate::Status;
+use crate::gate::Gate;
+use crate::report::{Totals, count, put_event_line};
+use gate_base::{Event, Moment, Side, Verdict};
+use gate_desk::{Desk, Slot, write_whole};
+use pcap_files::write_packet;
+
+fn out_slot(side: Side) -> Slot
+    ensures { result ≡ out_slot side }
+{
+    match side {
+        Side::Left => Slot::LeftOut,
+        Side::Right => Slot::RightOut,
+    }
+}
+
+// How many frames go on: one, or none.
+fn count_frames(image: Option<&[u8]>) -> u64
+    ensures { result ≡ length (option_to_list (option_map (λ octets. octets.now) image.entry)) }
+{
+    match image {
+        Some(_) => 1,
+        None => 0,
+    }
+}
+
+/// Sends the frame to a realm, if there is one.
+fn send<D: Desk>(
+    desk: &mut D,
+    side: Side,
+    moment: Moment,
+    frame: Option<&[u8]>,
+) -> Result<(), Status>
+    requires left { CanWrite (D.outside desk.old) LeftOut }
+    requires right { CanWrite (D.outside desk.old) RightOut }
+    requires early { moment.0 < 2 ^ 32 * 1000000000 }
+    requires short { IfSome frame (λ octets. length octets.now ≤ 65535) }
+    ensures { Gives result (sent side moment.0 (option_to_list (option_map (λ octets. octets.now) frame.entry))) (D.outside desk.old) (D.outside desk.new) }
+{
+    let Some(octets) = frame else {
+        return Ok(());
+    };
+    let slot = out_slot(side);
+    match write_packet(desk, slot, moment, octets) {
+        Ok(()) => Ok(()),
+        Err(_) => Err(Status::WriteFault(slot)),
+    }
+}
+
+/// Writes the line of an event.
+fn report<D: Desk>(
+    desk: &mut D,
+    text: &mut String,
+    number: u64,
+    side: Side,
+    moment: Moment,
+    verdict: Verdict,
+    frames: u64,
+) -> Result<(), Status>
+    requires { CanWrite (D.outside desk.old) Report }
+    ensures { Gives result (event_piece number side moment.0 verdict frames ∷ []) (D.outside desk.old) (D.outside desk.new) }
+{
+    match put_event_line(text, number, side, moment, verdict, frames) {
+        Ok(()) => {}
+        Err(_) => return Err(Status::OutOfMemory),
+    }
+    match write_whole(desk, Slot::Report, text.as_bytes()) {
+        Ok(()) => Ok(()),
+        Err(_) => Err(Status::WriteFault(Slot::Report)),
+    }
+}
+
+/// Takes an event: its frame goes on, if it passes, and then its line is written.
+pub fn handle<D: Desk>(
+    desk: &mut D,
+    gate: &mut Gate,
+    text: &mut String,
+    totals: Totals,
+    event: Event<'_>,
+) -> Result<Totals, Status>
+    requires left { CanWrite (D.outside desk.old) LeftOut }
+    requires right { CanWrite (D.outside desk.old) RightOut }
+    requires report { CanWrite (D.outside desk.old) Report }
+    requires small { IsSmallEvent (event_of event) }
+    requires few { totals.events < 2 ^ 42 }
+    requires passed { totals.passed ≤ totals.events }
+    requires to_left { totals.to_left ≤ totals.events }
+    requires to_right { totals.to_right ≤ totals.events }
+    ensures { Handles result gate.old gate.new totals (event_of event.entry) (D.outside desk.old) (D.outside desk.new) }
+{
+    let verdict = gate.step(&event);
+    let image = gate.image();
+    let frames = count_frames(image);
+    match send(desk, event.side.other(), event.moment, image) {
+        Ok(()) => {}
+        Err(status) => return Err(status),
+    }
+    let number = totals.events + 1;
+    match report(
+        desk,
+        text,
+        number,
+        event.side,
+        event.moment,
+        verdict,
+        frames,
+    ) {
+        Ok(()) => Ok(count(totals, event.side, verdict, frames)),
+        Err(status) => Err(status),
+    }
+}

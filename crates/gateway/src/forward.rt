@@ -1,0 +1,73 @@
+// The events of a run.
+ghost use Rattle.std.specs.Prelude.{◌≡◌, ◌≤◌, ◌^◌, None};
+ghost use Rattle.gate_desk.specs.declared.slot.Slot.TheVariants.{LeftIn, RightIn, LeftOut, RightOut, Report};
+ghost use Rattle.gate_desk.specs.Outside.{CanRead, CanWrite, Grows};
+ghost use Rattle.pcap_merge.specs.Merge.{work, AtEnds};
+ghost use Rattle.gateway.specs.Gate.{opening_world};
+ghost use Rattle.gateway.specs.Machine.{last_line};
+ghost use Rattle.gateway.specs.Phases.{Forwards, Finishes};
+
+use crate::Status;
+use crate::event::handle;
+use crate::gate::Gate;
+use crate::report::{Totals, put_done_line};
+use crate::stops::status_of_merge;
+use gate_desk::{Desk, Slot, write_whole};
+use pcap_merge::Merge;
+
+/// Writes the last line of the report.
+fn finish<D: Desk>(desk: &mut D, text: &mut String, totals: Totals) -> Status
+    requires can { CanWrite (D.outside desk.old) Report }
+    requires passed { totals.passed ≤ totals.events }
+    ensures { Finishes result (last_line totals) (D.outside desk.old) (D.outside desk.new) }
+{
+    match put_done_line(text, totals) {
+        Ok(()) => {}
+        Err(_) => return Status::OutOfMemory,
+    }
+    match write_whole(desk, Slot::Report, text.as_bytes()) {
+        Ok(()) => Status::Done,
+        Err(_) => Status::WriteFault(Slot::Report),
+    }
+}
+
+/// Takes the events of both captures: the frames and the line of each are written before the next record is read.
+pub fn forward<D: Desk>(
+    desk: &mut D,
+    merge: &mut Merge,
+    gate: &mut Gate,
+    text: &mut String,
+) -> Status
+    requires left_in { CanRead (D.outside desk.old) LeftIn }
+    requires right_in { CanRead (D.outside desk.old) RightIn }
+    requires left_out { CanWrite (D.outside desk.old) LeftOut }
+    requires right_out { CanWrite (D.outside desk.old) RightOut }
+    requires report { CanWrite (D.outside desk.old) Report }
+    requires stop { merge.old.stop ≡ None }
+    requires work { work merge.old ≤ 2 ^ 41 }
+    requires ends { AtEnds merge.old (D.outside desk.old) }
+    requires world { gate.old.world ≡ opening_world }
+    ensures answer { Forwards result gate.old.settings merge.old (D.outside desk.old) (D.outside desk.new) }
+    ensures starts { (D.outside desk.new).starts ≡ (D.outside desk.old).starts }
+    ensures counts { Grows (D.outside desk.old) (D.outside desk.new) }
+{
+    let mut totals = Totals {
+        events: 0,
+        passed: 0,
+        to_left: 0,
+        to_right: 0,
+    };
+    'events: loop {
+        let more = match merge.advance(desk) {
+            Ok(more) => more,
+            Err(stop) => return status_of_merge(stop),
+        };
+        if !more {
+            return finish(desk, text, totals);
+        }
+        match handle(desk, gate, text, totals, merge.event()) {
+            Ok(next) => totals = next,
+            Err(status) => return status,
+        }
+    }
+}

@@ -1,0 +1,22 @@
+use Rattle.std.proofs.Common.{◌≡◌, ◌+◌, ◌%◌, ◌≤◌, List, ℕ, length, take, drop, ap, ◌∙◌, sym, arith}
+use Rattle.std.proofs.lemmas.List.{take-append-drop, length-take-le}
+use Rattle.inet_sum.specs.Sum.{total, fold_of}
+use Rattle.inet_sum.proofs.Words.{total-append, fold_again}
+use Rattle.inet_sum.proofs.folded_with.Goals as goal
+
+-- a block, and what follows
+total_block : (octets : List ℕ) → 65536 ≤ length octets → total octets ≡ total (take 65536 octets) + total (drop 65536 octets)
+total_block octets long =
+    let even : length (take 65536 octets) % 2 ≡ 0 = rw (length-take-le 65536 octets long) in
+    ap total (sym (take-append-drop 65536 octets)) ∙ total-append (take 65536 octets) (drop 65536 octets) even
+
+pub loop-rest-preserved : goal.loop-rest-preserved
+loop-rest-preserved c =
+    let cut : c.loop-rest.sum + total c.loop-rest.rest.now ≡ (c.loop-rest.sum + c.block_total.result) + total c.split_at.result.1.now =
+    omega (arith, total_block c.loop-rest.rest.now (omega arith), c.block_total.ensures.total, ap total c.split_at.ensures.front, ap total c.split_at.ensures.back)
+    in
+    record {
+      small = omega arith;
+      so_far = ap (λ n. fold_of (n + total c.split_at.result.1.now)) (c.from-sum.ensures ∙ c.fold.ensures)
+          ∙ fold_again (c.loop-rest.sum + c.block_total.result) (total c.split_at.result.1.now) ∙ ap fold_of (sym cut) ∙ c.loop-rest.invariant.so_far;
+    }

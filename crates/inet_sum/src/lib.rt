@@ -1,0 +1,110 @@
+//! The Internet checksum: the complement of the one's complement sum of 16-bit words (RFC 1071).
+#![tactic(auto)]
+
+ghost use Rattle.std.specs.Prelude.{◌≡◌, ◌==◌, ◌+◌, ◌/◌, ◌%◌, ◌^◌, ◌<◌, ◌≤◌, ◌++◌, length, IsPermutation};
+ghost use Rattle.gate_base.specs.Fields.{u16_at, with_u16};
+ghost use Rattle.inet_sum.specs.Sum.{words, total, fold_of, checksum, IsRight, is_right, pseudo_header};
+
+use gate_base::Addr;
+
+/// The octets that are added up before the total is folded: an even number, so that no word is cut.
+const BLOCK: usize = 65_536;
+
+/// The checksum of octets (RFC 1071, 1). It is 0 exactly where they hold their right checksum.
+#[tactic(auto, using(crate::proofs::Words::zero_if_right))]
+pub fn sum(octets: &[u8]) -> u16
+    ensures value { result ≡ checksum octets.now }
+    ensures right { (result == 0) ≡ is_right octets.now }
+{
+    65_535 - folded_with(0, octets)
+}
+
+/// The checksum of the octets of a TCP or UDP segment behind its pseudo header (RFC 768, RFC 9293, 3.1).
+/// There are at most 65,535 octets, so that their number fits its field.
+pub fn pseudo_sum(source: Addr, destination: Addr, protocol: u8, octets: &[u8]) -> u16
+    requires { length octets.now ≤ 65535 }
+    ensures value { result ≡ checksum (pseudo_header source.0 destination.0 protocol (length octets.now) ++ octets.now) }
+    ensures right { (result == 0) ≡ is_right (pseudo_header source.0 destination.0 protocol (length octets.now) ++ octets.now) }
+{
+    let addresses = halves(source.0) + halves(destination.0);
+    let header = addresses + u32::from(protocol) + octets.len() as u32;
+    65_535 - folded_with(header, octets)
+}
+
+/// A list with its checksum in a field that was 0 has the sum FFFF, and so is right.
+pub fn written_is_right(octets: &[u8], place: usize)
+    requires even { place % 2 ≡ 0 }
+    requires within { place + 2 ≤ length octets.now }
+    requires empty { u16_at place octets.now ≡ 0 }
+    ensures { IsRight (with_u16 place (checksum octets.now) octets.now) }
+{}
+
+/// The order of the words makes no difference.
+pub fn any_order(octets: &[u8], others: &[u8])
+    requires { IsPermutation (words octets.now) (words others.now) }
+    ensures { checksum octets.now ≡ checksum others.now }
+{}
+
+// The sum of both words of an address.
+fn halves(address: u32) -> u32
+    ensures words { result ≡ address / 65536 + address % 65536 }
+    ensures fits { address < 2 ^ 32 }
+{
+    address / 65_536 + address % 65_536
+}
+
+// The one's complement sum of a number and the words of octets.
+fn folded_with(start: u32, octets: &[u8]) -> u16
+    requires { start < 2 ^ 30 }
+    ensures { result ≡ fold_of (start + total octets.now) }
+{
+    let mut sum = start;
+    let mut rest = octets;
+    while rest.len() > BLOCK {
+        let (block, more) = rest.split_at(BLOCK);
+        sum = u32::from(fold(sum + block_total(block)));
+        rest = more;
+    }
+    fold(sum + block_total(rest))
+}
+
+#[tactic(auto, unfolding(crate::specs::Sum::fold_of))]
+fn fold(sum: u32) -> u16
+    ensures { result ≡ fold_of sum }
+{
+    if sum == 0 {
+        0
+    } else {
+        ((sum - 1) % 65_535 + 1) as u16
+    }
+}
+
+fn block_total(block: &[u8]) -> u32
+    requires { length block.now ≤ BLOCK }
+    ensures total { result ≡ total block.now }
+    ensures small { result < 2 ^ 31 }
+{
+    let pairs = block.chunks_exact(2);
+    let last = pairs.remainder();
+    let mut total = 0;
+    for pair in pairs {
+        total += word(pair);
+    }
+    total + word(last)
+}
+
+#[tactic(auto, using(crate::proofs::Words::two_octets, crate::proofs::Words::one_octet, crate::proofs::Words::no_octet))]
+fn word(octets: &[u8]) -> u32
+    requires { length octets.now ≤ 2 }
+    ensures total { result ≡ total octets.now }
+    ensures small { result < 2 ^ 16 }
+{
+    match octets {
+        [high, low] => u32::from(*high) * 256 + u32::from(*low),
+        [last] => u32::from(*last) * 256,
+        _ => 0,
+    }
+}
+
+#[cfg(test)]
+mod tests;

@@ -1,0 +1,12 @@
+use super::{pseudo_sum, sum};
+use gate_base::Addr;
+use std::test::Fail;
+
+#[test]
+fn sums_octets(rt: HostRuntime) -> Result<(), Fail> {
+    assert!(rt; sum(b"") == 0xffff);
+    assert!(rt; sum(b"\x01") == 0xfeff);
+    let segment = b"\x0f\xa0\x13\x88\x00\x0a\x00\x00hi";
+    assert!(rt; pseudo_sum(Addr(0x0a00_0005), Addr(0xc0a8_c801), 17, segment) == 0xe199);
+    Ok(())
+}

@@ -1,0 +1,5 @@
+pub mod Steps
+pub mod Records
+pub mod Numbers
+pub mod Joined
+pub mod Cut

@@ -1,0 +1,6 @@
+pub mod Capture
+pub mod Reader
+pub mod Heads
+pub mod Spelling
+pub mod Spelled
+pub mod Packets

@@ -1,0 +1,48 @@
+-- A reader of a capture, and what its calls answer.
+use Rattle.std.specs.Prelude.{◌≡◌, ℕ, ◌+◌, ◌*◌, ◌^◌, ◌<◌, ◌≤◌, length, Bool, true, false, Option, Some, None, Result, Ok, Err, IfSome}
+use Rattle.gate_desk.specs.declared.slot.Slot.{Slot}
+use Rattle.gate_desk.specs.Outside.{Outside, Takes, HasFailed, told_at}
+use Rattle.pcap_files.specs.declared.fault.ReadStop.{ReadStop}
+use Rattle.pcap_files.specs.declared.fault.ReadStop.TheVariants.{Fault, Desk, OutOfMemory}
+use Rattle.pcap_files.specs.declared.form.Form.{Form}
+use Rattle.pcap_files.specs.Capture.{Packet, Next, Ended, Broken, Came, size, next_at, Good, Bad, head_of}
+
+-- a reader: its slot, the form of the capture, the place that it has come to, the record that the last advance read, and the stop that it has come to
+pub record Reading : Type 0 where
+  pub slot : Slot
+  pub form : Form
+  pub place : ℕ
+  pub packet : Option Packet
+  pub stop : Option ReadStop
+
+-- so many octets are no whole further record
+abbrev pub TakesNoRecord : Next → ℕ → Type 0
+TakesNoRecord (Came p) n = n < size p
+TakesNoRecord Ended n = Unit {0}
+TakesNoRecord (Broken f) n = Unit {0}
+
+-- a record that can be written again
+pub record IsSmall (p : Packet) : Type 0 where
+  pub stamp : p.stamp < 2 ^ 32 * 1000000000
+  pub octets : length p.octets ≤ 262144
+
+-- what an advance answers, where no earlier one stopped
+abbrev pub Advances : Result Bool ReadStop → Reading → Reading → Outside → Outside → Type 0
+Advances (Ok true) r s old new = (p : Packet) × IsSmall p × (r.place + size p ≤ 2 ^ 40) × (s ≡ record r { packet = Some p; place = r.place + size p })
+    × Takes r.slot (size p) old new × IfSome (told_at old.left r.slot) (λ octets. next_at r.form r.place octets ≡ Came p)
+Advances (Ok false) r s old new = (s ≡ record r { packet = None }) × Takes r.slot 0 old new
+    × IfSome (told_at old.left r.slot) (λ octets. next_at r.form r.place octets ≡ Ended)
+Advances (Err (Fault f place)) r s old new = (place ≡ r.place) × (s ≡ record r { packet = None; stop = Some (Fault f place) })
+    × ((n : ℕ) × Takes r.slot n old new) × IfSome (told_at old.left r.slot) (λ octets. next_at r.form r.place octets ≡ Broken f)
+Advances (Err (Desk slot)) r s old new = (slot ≡ r.slot) × (s ≡ record r { packet = None; stop = Some (Desk slot) }) × HasFailed slot old new
+    × ((n : ℕ) × Takes r.slot n old new × IfSome (told_at old.left r.slot) (λ octets. TakesNoRecord (next_at r.form r.place octets) n))
+Advances (Err OutOfMemory) r s old new = ⊥
+
+-- what a beginning answers: the reader stands behind a good head; or the head is faulty; or the desk failed before a whole head was taken; or memory ran out behind a good head
+abbrev pub Begins : Result Reading ReadStop → Slot → Outside → Outside → Type 0
+Begins (Ok r) slot old new = (form : Form) × (r ≡ record { slot = slot; form = form; place = 24; packet = None; stop = None }) × Takes slot 24 old new
+    × IfSome (told_at old.left slot) (λ octets. head_of octets ≡ Good form)
+Begins (Err (Fault f place)) slot old new = (place ≡ 0) × ((n : ℕ) × Takes slot n old new)
+    × IfSome (told_at old.left slot) (λ octets. head_of octets ≡ Bad f)
+Begins (Err (Desk s)) slot old new = (s ≡ slot) × HasFailed slot old new × ((n : ℕ) × (n < 24) × Takes slot n old new)
+Begins (Err OutOfMemory) slot old new = (form : Form) × Takes slot 24 old new × IfSome (told_at old.left slot) (λ octets. head_of octets ≡ Good form)

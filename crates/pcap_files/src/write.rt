@@ -1,0 +1,118 @@
+// Captures, written to a desk's slot: little-endian, fractions in nanoseconds.
+ghost use Rattle.std.specs.Prelude.{◌≡◌, ◌+◌, ◌*◌, ◌^◌, ◌<◌, ◌≤◌, ◌++◌, length, take, OnOk, OnErr};
+ghost use Rattle.gate_desk.specs.Outside.{Writes, WritesPart, HasFailed, CanWrite};
+ghost use Rattle.pcap_files.specs.Capture.{link_number};
+ghost use Rattle.pcap_files.specs.Spelling.{head_octets, record_octets, record_head};
+
+use crate::record::{RECORD_HEAD, SECOND};
+use byteorder::{ByteOrder, LittleEndian};
+use gate_base::{Link, Moment};
+use gate_desk::{Desk, Failed, Slot, write_whole};
+
+/// The most octets of a record that is written with its head in one piece.
+const TOGETHER: usize = 2032;
+
+fn link_octet(link: Link) -> u8
+    ensures { result ≡ link_number link }
+{
+    match link {
+        Link::Ethernet => 1,
+        Link::Raw => 101,
+    }
+}
+
+fn head_of_capture(link: Link) -> [u8; 24]
+    ensures { result ≡ head_octets link }
+{
+    let link = link_octet(link);
+    [
+        0x4d, 0x3c, 0xb2, 0xa1, 2, 0, 4, 0, 0, 0, 0, 0, 0, 0, 0, 0, 0, 0, 4, 0, link, 0, 0, 0,
+    ]
+}
+
+/// Writes the head of a capture. Failed comes only where the count of the slot rose; a prefix of the head was written then.
+pub fn write_head<D: Desk>(desk: &mut D, slot: Slot, link: Link) -> Result<(), Failed>
+    requires { CanWrite (D.outside desk.old) slot }
+    ensures ok { OnOk result (Writes slot (head_octets link) (D.outside desk.old) (D.outside desk.new)) }
+    ensures err { OnErr result (WritesPart slot (head_octets link) (D.outside desk.old) (D.outside desk.new)) }
+    ensures cause { OnErr result (HasFailed slot (D.outside desk.old) (D.outside desk.new)) }
+{
+    write_whole(desk, slot, &head_of_capture(link))
+}
+
+fn head_of_record(moment: Moment, kept: u32) -> [u8; 16]
+    requires { moment.0 < 2 ^ 32 * 1000000000 }
+    ensures { result ≡ record_head moment.0 kept }
+{
+    let mut head = [0; RECORD_HEAD];
+    LittleEndian::write_u32(&mut head[..4], (moment.0 / SECOND) as u32);
+    LittleEndian::write_u32(&mut head[4..8], (moment.0 % SECOND) as u32);
+    LittleEndian::write_u32(&mut head[8..12], kept);
+    LittleEndian::write_u32(&mut head[12..], kept);
+    head
+}
+
+/// Writes a frame as a record at a moment: a moment below 2^32 times 10^9, at most 262,144 octets. Failed comes only where the count of the slot rose; a prefix of the record was written then.
+#[tactic(auto, unfolding(crate::specs::Spelling::record_octets))]
+pub fn write_packet<D: Desk>(
+    desk: &mut D,
+    slot: Slot,
+    moment: Moment,
+    octets: &[u8],
+) -> Result<(), Failed>
+    requires can { CanWrite (D.outside desk.old) slot }
+    requires early { moment.0 < 2 ^ 32 * 1000000000 }
+    requires short { length octets.now ≤ 262144 }
+    ensures ok { OnOk result (Writes slot (record_octets moment.0 octets.now) (D.outside desk.old) (D.outside desk.new)) }
+    ensures err { OnErr result (WritesPart slot (record_octets moment.0 octets.now) (D.outside desk.old) (D.outside desk.new)) }
+    ensures cause { OnErr result (HasFailed slot (D.outside desk.old) (D.outside desk.new)) }
+{
+    let head = head_of_record(moment, octets.len() as u32);
+    if octets.len() <= TOGETHER {
+        write_together(desk, slot, &head, octets)
+    } else {
+        write_apart(desk, slot, &head, octets)
+    }
+}
+
+/// Writes a head and the octets behind it in one piece.
+fn write_together<D: Desk>(
+    desk: &mut D,
+    slot: Slot,
+    head: &[u8],
+    octets: &[u8],
+) -> Result<(), Failed>
+    requires can { CanWrite (D.outside desk.old) slot }
+    requires head_len { length head.now ≡ 16 }
+    requires short { length octets.now ≤ 2032 }
+    ensures ok { OnOk result (Writes slot (head.now ++ octets.now) (D.outside desk.old) (D.outside desk.new)) }
+    ensures err { OnErr result (WritesPart slot (head.now ++ octets.now) (D.outside desk.old) (D.outside desk.new)) }
+    ensures cause { OnErr result (HasFailed slot (D.outside desk.old) (D.outside desk.new)) }
+{
+    let mut record = [0; RECORD_HEAD + TOGETHER];
+    let len = join(&mut record, head, octets);
+    write_whole(desk, slot, &record[..len])
+}
+
+/// Puts two pieces, one behind the other, at the front of a buffer, and answers their length.
+fn join(buffer: &mut [u8], first: &[u8], second: &[u8]) -> usize
+    requires { length first.now + length second.now ≤ length buffer.old }
+    ensures len { result ≡ length first.now + length second.now }
+    ensures octets { take result buffer.new ≡ first.now ++ second.now }
+{
+    let len = first.len() + second.len();
+    buffer[..first.len()].copy_from_slice(first);
+    buffer[first.len()..len].copy_from_slice(second);
+    len
+}
+
+/// Writes a head, and then the octets behind it.
+fn write_apart<D: Desk>(desk: &mut D, slot: Slot, head: &[u8], octets: &[u8]) -> Result<(), Failed>
+    requires { CanWrite (D.outside desk.old) slot }
+    ensures ok { OnOk result (Writes slot (head.now ++ octets.now) (D.outside desk.old) (D.outside desk.new)) }
+    ensures err { OnErr result (WritesPart slot (head.now ++ octets.now) (D.outside desk.old) (D.outside desk.new)) }
+    ensures cause { OnErr result (HasFailed slot (D.outside desk.old) (D.outside desk.new)) }
+{
+    write_whole(desk, slot, head)?;
+    write_whole(desk, slot, octets)
+}

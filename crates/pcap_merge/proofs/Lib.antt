@@ -1,0 +1,5 @@
+pub mod Merged
+pub mod Reading
+pub mod Steps
+pub mod Starts
+pub mod Weave

@@ -1,0 +1,6 @@
+pub mod Stops
+pub mod Order
+pub mod Events
+pub mod Sides
+pub mod Merge
+pub mod Picks

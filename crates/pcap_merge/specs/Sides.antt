@@ -1,0 +1,66 @@
+-- What reading the sides of a merge answers.
+use Rattle.std.specs.Prelude.{◌≡◌, ◌⊎◌, ℕ, ◌+◌, ◌-◌, ◌^◌, ◌<◌, ◌≤◌, List, [], ◌∷◌, Bool, true, false, Option, Some, None, Result, Ok, Err, IfSome, IsSome, drop, length}
+use Rattle.gate_base.specs.declared.side.Side.{Side}
+use Rattle.gate_base.specs.declared.side.Side.TheVariants.{Left, Right}
+use Rattle.gate_desk.specs.Outside.{Outside, Takes, HasFailed, told_at}
+use Rattle.pcap_files.specs.Capture.{Packet, Records, Whole, Fault as EndsFaulty, next_at, records_from}
+use Rattle.pcap_files.specs.Reader.{Reading, IsSmall, TakesNoRecord}
+use Rattle.pcap_merge.specs.declared.order.Last.{Last}
+use Rattle.pcap_merge.specs.declared.stop.MergeStop.{MergeStop}
+use Rattle.pcap_merge.specs.declared.stop.MergeStop.TheVariants.{Fault, Desk, OutOfMemory}
+use Rattle.pcap_merge.specs.Order.{is_unread}
+use Rattle.pcap_merge.specs.Stops.{slot_of}
+
+-- a record that is held, and the records behind it; where none is held the side was read to its end
+abbrev pub held_before : Option Packet → Records → Records
+held_before None rest = record { packets = []; ending = Whole }
+held_before (Some p) rest = record { packets = p ∷ rest.packets; ending = rest.ending }
+
+-- the records of a side that are still to be given, by the octets that are still to be read
+abbrev pub records_ahead : Bool → Reading → List ℕ → Records
+records_ahead true r octets = records_from r.form r.place octets
+records_ahead false r octets = held_before r.packet (records_from r.form r.place octets)
+
+-- a side that was read to its end has nothing left
+abbrev pub IsSpent : Bool → Option Packet → List ℕ → Type 0
+IsSpent true packet octets = Unit {0}
+IsSpent false (Some p) octets = Unit {0}
+IsSpent false None octets = length octets ≡ 0
+
+-- one for a record
+abbrev pub one_for : Option Packet → ℕ
+one_for None = 0
+one_for (Some p) = 1
+
+-- a number that falls with each reading of a side
+abbrev pub side_work : Reading → ℕ
+side_work r = (2 ^ 40 - r.place) + one_for r.packet
+
+-- the side stands at its next record or at its end, and was read where it had to be
+pub record Readies (side : Side) (unread : Bool) (r s : Reading) (old new : Outside) : Type 0 where
+  pub count : ℕ
+  pub takes : Takes (slot_of side) count old new
+  pub kept : unread ≡ false → (s ≡ r) × (count ≡ 0)
+  pub slot : s.slot ≡ r.slot
+  pub form : s.form ≡ r.form
+  pub stop : s.stop ≡ None
+  pub small : IfSome r.packet IsSmall → IfSome s.packet IsSmall
+  pub records : IfSome (told_at old.left (slot_of side)) (λ octets. records_ahead unread r octets ≡ records_ahead false s (drop count octets))
+  pub spent : IfSome (told_at old.left (slot_of side)) (λ octets. IsSpent unread r.packet octets → IsSpent false s.packet (drop count octets))
+  pub work : side_work s ≤ side_work r
+  pub falls : unread ≡ true → IsSome r.packet ⊎ IsSome s.packet → side_work s < side_work r
+
+-- what reading a side answers
+abbrev pub ReadsSide : Result (Unit {0}) MergeStop → Side → Bool → Reading → Reading → Outside → Outside → Type 0
+ReadsSide (Ok u) side unread r s old new = Readies side unread r s old new
+ReadsSide (Err (Fault stopped f place)) side unread r s old new = (stopped ≡ side) × (unread ≡ true) × (s.slot ≡ r.slot) × (s.packet ≡ None) × ((n : ℕ) × Takes (slot_of side) n old new)
+    × IfSome (told_at old.left (slot_of side)) (λ octets. records_from r.form r.place octets ≡ record { packets = []; ending = EndsFaulty f place })
+ReadsSide (Err (Desk slot)) side unread r s old new = (slot ≡ slot_of side) × (unread ≡ true) × (s.slot ≡ r.slot) × (s.packet ≡ None) × HasFailed slot old new
+    × ((n : ℕ) × Takes (slot_of side) n old new × IfSome (told_at old.left (slot_of side)) (λ octets. TakesNoRecord (next_at r.form r.place octets) n))
+ReadsSide (Err OutOfMemory) side unread r s old new = ⊥
+
+-- what reading both sides answers
+abbrev pub ReadsSides : Result (Unit {0}) MergeStop → Last → Reading → Reading → Reading → Reading → Outside → Outside → Type 0
+ReadsSides (Ok u) last l l' r r' old new = (mid : Outside) × Readies Left (is_unread Left last) l l' old mid × Readies Right (is_unread Right last) r r' mid new
+ReadsSides (Err e) last l l' r r' old new = (ReadsSide (Err e) Left (is_unread Left last) l l' old new × (r' ≡ r))
+    ⊎ ((mid : Outside) × Readies Left (is_unread Left last) l l' old mid × ReadsSide (Err e) Right (is_unread Right last) r r' mid new)
