@@ -13,7 +13,8 @@ use Rattle.gate_settings.specs.declared.settings.Settings.{Settings as GateSetti
 use Rattle.pcap_merge.specs.declared.stop.MergeStop.{MergeStop}
 use Rattle.pcap_merge.specs.declared.stop.MergeStop.TheVariants as merges
 use Rattle.pcap_merge.specs.Events.{Merged, Ending, Done as BothEnded, Fault as EndsFaulty, with_event}
-use Rattle.pcap_merge.specs.Merge.{Merging, Gives as GivesEvent, Finishes as FinishesMerge, StopsBy, Advances, ahead, AtEnds}
+use Rattle.pcap_merge.specs.Stops.{slot_of}
+use Rattle.pcap_merge.specs.Merge.{Merging, HasGiven, Gives as GivesEvent, Finishes as FinishesMerge, StopsBy, Advances, ahead, AtEnds}
 use Rattle.gateway.specs.declared.report.Totals.{Totals}
 use Rattle.gateway.specs.declared.status.Status.{Status}
 use Rattle.gateway.specs.declared.status.Status.TheVariants.{Done, Usage, SettingsRefused, CaptureRefused, ReadFault, WriteFault, OpenFault, OutOfMemory}
@@ -59,6 +60,7 @@ pub record Progress (settings : GateSettings) (m0 : Merging) (old now : Outside)
   pub others : ahead m0 old.left ≡ option_map (with_front done) (ahead m now.left)
   pub written : now.written ≡ wrote_pieces (given_by_all settings opening done) old.written
   pub state : s ≡ after settings opening done
+  pub given : (start : Outside) → HasGiven start m0 old [] → HasGiven start m now done
 
 no_front : (o : Option Merged) → o ≡ option_map (with_front []) o
 no_front None = refl
@@ -70,11 +72,16 @@ progress_none settings m a = record {
   others = no_front (ahead m a.left);
   written = sym (wrote_pieces-nil a.written) ∙ ap (λ (ps : List Piece). wrote_pieces ps a.written) (sym (given_by_all-nil settings opening));
   state = refl;
+  given = λ start h. h;
 }
 
 longer_front : (done : List Event) (e : Event) (o : Option Merged) → option_map (with_front done) (option_map (with_event e) o) ≡ option_map (with_front (done ++ e ∷ [])) o
 longer_front done e None = refl
 longer_front done e (Some x) = ap (λ (es : List Event). let y : Option Merged = Some (record { events = es; ending = x.ending }) in y) (sym (append_assoc done (e ∷ []) x.events))
+
+-- what was given stays given while nothing is read
+pub given_kept : (start : Outside) (m : Merging) (a b : Outside) (events : List Event) → b.left ≡ a.left → HasGiven start m a events → HasGiven start m b events
+given_kept start m a b events e h = record { stands = λ side. ap (λ (t : Told). told_at t (slot_of side)) e ∙ h.stands side; before = h.before; last = h.last }
 
 -- one event more
 pub progress_on : (settings : GateSettings) (m0 m m' : Merging) (old now mid new : Outside) (s s' : State) (e : Event) → Progress settings m0 old now m s → GivesEvent e m m' now mid
@@ -87,6 +94,7 @@ progress_on settings m0 m m' old now mid new s s' e h gives steps writes =
       others = h.others ∙ ap (option_map (with_front h.done)) (gives.events ∙ ap (λ (t : Told). option_map (with_event e) (ahead m' t)) (sym writes.only.left)) ∙ longer_front h.done e (ahead m' new.left);
       written = writes.written ∙ ap (wrote_pieces (given_by settings s e)) (gives.reads.written ∙ h.written) ∙ sym (wrote_pieces-append (given_by_all settings opening h.done) (given_by settings s e) old.written)
           ∙ ap (λ (ps : List Piece). wrote_pieces ps old.written) (sym one);
+      given = λ start given. given_kept start m' mid new (h.done ++ e ∷ []) writes.only.left (gives.given start h.done (h.given start given));
       state = steps ∙ ap (λ (t : State). after_one settings t e) h.state ∙ sym (fold-append (after_one settings) opening h.done (e ∷ []));
     }
 
@@ -142,9 +150,9 @@ forwards_done (CaptureRefused side fault place) settings m0 m m' old now mid new
 forwards_done (ReadFault slot) settings m0 m m' old now mid new s h grows k ends f = absurd f
 forwards_done (OpenFault slot) settings m0 m m' old now mid new s h grows k ends f = f
 
-first-of : (settings : GateSettings) (done : List Event) (o : Option Merged) (a b : Told) → b ≡ wrote_pieces (given_by_all settings opening done) a → IfSome (option_map (with_front done) o) (λ all. IsOfFirst settings all.events a b)
+first-of : (settings : GateSettings) (done : List Event) (o : Option Merged) (a b : Told) → b ≡ wrote_pieces (given_by_all settings opening done) a → IfSome (option_map (with_front done) o) (λ all. IsOfFirst settings done all.events a b)
 first-of settings done None a b e = tt
-first-of settings done (Some x) a b e = record { handled = done; others = x.events; split = refl; written = e }
+first-of settings done (Some x) a b e = record { others = x.events; split = refl; written = e }
 
 -- the merge stopped
 pub forwards_stop : (stop : MergeStop) (settings : GateSettings) (m0 m : Merging) (old now new : Outside) (s : State) → Progress settings m0 old now m s → Grows old now → StopsBy stop m now new → Forwards (status_of_merge stop) settings m0 old new
@@ -152,7 +160,13 @@ forwards_stop (merges.Fault side fault place) settings m0 m old now new s h grow
     ended settings m0 m old now new s (EndsFaulty side fault place) h k.1 (k.0.written ∙ sym (wrote_pieces-nil now.written))
 forwards_stop (merges.Desk slot) settings m0 m old now new s h grows k = (
   causes_since (ReadFault slot) old now new grows (subst (λ u. IsTrue (is_read u)) (sym k.1) (is_read_side k.0), subst (λ u. HasFailed u now new) (sym k.1) k.2.cause),
-  subst (λ o. IfSome o (λ all. IsOfFirst settings all.events old.written new.written)) (sym h.others) (first-of settings h.done (ahead m now.left) old.written new.written (k.2.reads.written ∙ h.written)),
+  record {
+    side = k.0;
+    slot_is = k.1;
+    handled = h.done;
+    written = subst (λ o. IfSome o (λ all. IsOfFirst settings h.done all.events old.written new.written)) (sym h.others) (first-of settings h.done (ahead m now.left) old.written new.written (k.2.reads.written ∙ h.written));
+    taken = λ start given. k.2.given start h.done (h.given start given);
+  },
 )
 forwards_stop merges.OutOfMemory settings m0 m old now new s h grows k = absurd k
 
@@ -188,13 +202,13 @@ forwards_fail (ReadFault slot) settings m0 m m' old now mid new s e h grows give
 forwards_fail (OpenFault slot) settings m0 m m' old now mid new s e h grows gives cause front = cause
 
 -- whole events are a front
-pub front_of_first : (settings : GateSettings) (all : Merged) (a b : Told) → IsOfFirst settings all.events a b → IsFront (given_by_merged settings all) a b
-front_of_first settings all a b h =
-    let there : given_by_all settings opening all.events ≡ given_by_all settings opening h.handled ++ given_by_all settings (after settings opening h.handled) h.others =
-    ap (given_by_all settings opening) h.split ∙ given_by_all-append settings opening h.handled h.others in
+pub front_of_first : (settings : GateSettings) (handled : List Event) (all : Merged) (a b : Told) → IsOfFirst settings handled all.events a b → IsFront (given_by_merged settings all) a b
+front_of_first settings handled all a b h =
+    let there : given_by_all settings opening all.events ≡ given_by_all settings opening handled ++ given_by_all settings (after settings opening handled) h.others =
+    ap (given_by_all settings opening) h.split ∙ given_by_all-append settings opening handled h.others in
     subst (λ (ps : List Piece). IsFront ps a b) (ap (λ (ps : List Piece). ps ++ ended_by (after settings opening all.events).totals all.ending) (sym there) ∙ sym (merged-of settings all))
-    (is_front_more (given_by_all settings opening h.handled ++ given_by_all settings (after settings opening h.handled) h.others) (ended_by (after settings opening all.events).totals all.ending) a b
-    (is_front_more (given_by_all settings opening h.handled) (given_by_all settings (after settings opening h.handled) h.others) a b (is_front_all (given_by_all settings opening h.handled) a b h.written)))
+    (is_front_more (given_by_all settings opening handled ++ given_by_all settings (after settings opening handled) h.others) (ended_by (after settings opening all.events).totals all.ending) a b
+    (is_front_more (given_by_all settings opening handled) (given_by_all settings (after settings opening handled) h.others) a b (is_front_all (given_by_all settings opening handled) a b h.written)))
 
 -- ## The loop
 

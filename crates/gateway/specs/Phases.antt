@@ -1,18 +1,22 @@
 -- The phases of a run, and how each answers.
-use Rattle.std.specs.Prelude.{◌≡◌, ℕ, ◌^◌, ◌≤◌, List, [], ◌++◌, if◌then◌else◌, true, false, Result, Ok, Err, None, IfSome}
+use Rattle.std.specs.Prelude.{◌≡◌, ℕ, ◌^◌, ◌<◌, ◌≤◌, List, [], ◌++◌, if◌then◌else◌, true, false, Result, Ok, Err, None, IfSome, option_map, drop}
 use Rattle.gate_base.specs.Events.{Event}
+use Rattle.gate_base.specs.declared.side.Side.{Side}
+use Rattle.gate_desk.specs.declared.slot.Slot.{Slot}
 use Rattle.gate_desk.specs.declared.slot.Slot.TheVariants.{Settings, LeftIn, RightIn}
 use Rattle.gate_desk.specs.declared.slot.PerSlot.{PerSlot}
-use Rattle.gate_desk.specs.Outside.{Outside, Told, Start, Grows, IsAtEnd, took}
+use Rattle.gate_desk.specs.Outside.{Outside, Told, Start, Grows, IsAtEnd, told_at, took}
 use Rattle.gate_settings.specs.declared.settings.Settings.{Settings as GateSettings}
 use Rattle.gate_settings.specs.Cross.{settings_of}
 use Rattle.pcap_merge.specs.Events.{Merged, Done as BothEnded, Fault as EndsFaulty, have_good_heads, events_of}
-use Rattle.pcap_merge.specs.Merge.{Merging, HeadsAre, all_events, ahead, work, AtEnds}
+use Rattle.pcap_merge.specs.Stops.{slot_of}
+use Rattle.pcap_merge.specs.Given.{EndsAtTaken}
+use Rattle.pcap_merge.specs.Merge.{Merging, HeadsAre, HasGiven, all_events, ahead, work, AtEnds}
 use Rattle.gateway.specs.declared.report.Totals.{Totals}
 use Rattle.gateway.specs.declared.status.Status.{Status}
 use Rattle.gateway.specs.declared.status.Status.TheVariants.{Done, Usage, SettingsRefused, CaptureRefused, ReadFault, WriteFault, OpenFault, OutOfMemory}
 use Rattle.gateway.specs.Pieces.{Piece, wrote_pieces, WritesAll, WritesFront, IsFront}
-use Rattle.gateway.specs.Causes.{Causes, CausesOfWriting, started_all, StartsSome, Stops}
+use Rattle.gateway.specs.Causes.{Causes, CausesOfWriting, CausesOfReadying, started_all, StartsSome, Stops}
 use Rattle.gateway.specs.Gate.{Gateway, opening_world}
 use Rattle.gateway.specs.Machine.{State, after_one, heads, given_by, given_by_all, given_by_merged, files, opening}
 
@@ -54,10 +58,16 @@ pub record Settled (settings : GateSettings) (appended : List Start) (old new : 
   pub written : new.written ≡ old.written
   pub grows : Grows old new
 
+-- of a capture fewer octets than a head has were taken
+abbrev pub IsBeforeHead : Slot → Outside → Outside → Type 0
+IsBeforeHead Settings old new = Unit {0}
+IsBeforeHead slot old new = (count : ℕ) × (count < 24) × (told_at new.left slot ≡ option_map (drop count) (told_at old.left slot))
+
 -- a phase before the outputs ended a run, which is then not done; where it was refused for a capture, a head is faulty
 abbrev pub EndsUnwritten : Status → List Start → Outside → Outside → Type 0
 EndsUnwritten Done starts old new = ⊥
 EndsUnwritten (CaptureRefused side fault place) starts old new = Ends (CaptureRefused side fault place) starts old new × (new.written ≡ old.written) × HeadsAre false old.left
+EndsUnwritten (ReadFault slot) starts old new = Ends (ReadFault slot) starts old new × (new.written ≡ old.written) × IsBeforeHead slot old new
 EndsUnwritten status starts old new = Ends status starts old new × (new.written ≡ old.written)
 
 -- what reading the settings answers
@@ -72,6 +82,7 @@ pub record Prepared (gate : Gateway) (m : Merging) (appended : List Start) (old 
   pub stop : m.stop ≡ None
   pub heads : HeadsAre true old.left
   pub events : all_events old.left ≡ ahead m new.left
+  pub given : HasGiven old m new []
   pub work : work m ≤ 2 ^ 41
   pub ends : AtEnds m new
   pub starts : new.starts ≡ started_all appended old.starts
@@ -83,6 +94,7 @@ pub record Begun (m : Merging) (appended : List Start) (old new : Outside) : Typ
   pub stop : m.stop ≡ None
   pub heads : HeadsAre true old.left
   pub events : all_events old.left ≡ ahead m new.left
+  pub given : HasGiven old m new []
   pub work : work m ≤ 2 ^ 41
   pub ends : AtEnds m new
   pub starts : new.starts ≡ started_all appended old.starts
@@ -93,6 +105,7 @@ pub record Begun (m : Merging) (appended : List Start) (old new : Outside) : Typ
 abbrev pub EndsAtHeads : Status → List Start → Outside → Outside → Type 0
 EndsAtHeads (CaptureRefused side fault place) starts old new =
     IfSome (all_events old.left) (λ all. all.ending ≡ EndsFaulty side fault place) × StartsSome starts old new × (new.written ≡ old.written) × Grows old new × HeadsAre false old.left
+EndsAtHeads (ReadFault slot) starts old new = Stops (ReadFault slot) starts old new × IsBeforeHead slot old new
 EndsAtHeads status starts old new = Stops status starts old new
 
 -- what starting both captures and reading their heads answers
@@ -109,7 +122,7 @@ pub record Readied (settings : GateSettings) (appended : List Start) (old new : 
 
 -- a phase that writes stopped
 pub record StopsInFront (status : Status) (appended : List Start) (pieces : List Piece) (old new : Outside) : Type 0 where
-  pub cause : Causes status old new
+  pub cause : CausesOfReadying status old new
   pub some : StartsSome appended old new
   pub front : IsFront pieces old.written new.written
   pub grows : Grows old new
@@ -123,12 +136,19 @@ Readies (Err status) settings starts old new = StopsInFront status starts (heads
 abbrev pub OfEvents : Merging → Outside → (Merged → Type 0) → Type 0
 OfEvents m old P = IfSome (ahead m old.left) P
 
--- what a number of first events give stands written, whole
-pub record IsOfFirst (settings : GateSettings) (events : List Event) (old new : Told) : Type 0 where
-  pub handled : List Event
+-- these are the first of the events, and what they give stands written, whole
+pub record IsOfFirst (settings : GateSettings) (handled events : List Event) (old new : Told) : Type 0 where
   pub others : List Event
   pub split : events ≡ handled ++ others
   pub written : new ≡ wrote_pieces (given_by_all settings opening handled) old
+
+-- reading a capture failed: what the first events give stands written, whole, and the last of them is that of the last record that was taken whole from it
+pub record StopsReading (slot : Slot) (settings : GateSettings) (m : Merging) (old new : Outside) : Type 0 where
+  pub side : Side
+  pub slot_is : slot ≡ slot_of side
+  pub handled : List Event
+  pub written : OfEvents m old (λ all. IsOfFirst settings handled all.events old.written new.written)
+  pub taken : (start : Outside) → HasGiven start m old [] → EndsAtTaken side start new handled
 
 -- how the events of a merge end
 abbrev pub Forwards : Status → GateSettings → Merging → Outside → Outside → Type 0
@@ -136,7 +156,7 @@ Forwards Done settings m old new =
     OfEvents m old (λ all. (all.ending ≡ BothEnded) × (new.written ≡ wrote_pieces (given_by_merged settings all) old.written)) × IsAtEnd new LeftIn × IsAtEnd new RightIn
 Forwards (CaptureRefused side fault place) settings m old new =
     OfEvents m old (λ all. (all.ending ≡ EndsFaulty side fault place) × (new.written ≡ wrote_pieces (given_by_merged settings all) old.written))
-Forwards (ReadFault slot) settings m old new = Causes (ReadFault slot) old new × OfEvents m old (λ all. IsOfFirst settings all.events old.written new.written)
+Forwards (ReadFault slot) settings m old new = Causes (ReadFault slot) old new × StopsReading slot settings m old new
 Forwards (WriteFault slot) settings m old new = Causes (WriteFault slot) old new × OfEvents m old (λ all. IsFront (given_by_merged settings all) old.written new.written)
 Forwards OutOfMemory settings m old new = OfEvents m old (λ all. IsFront (given_by_merged settings all) old.written new.written)
 Forwards status settings m old new = ⊥

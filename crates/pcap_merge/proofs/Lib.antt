@@ -1,4 +1,5 @@
 pub mod Merged
+pub mod Given
 pub mod Reading
 pub mod Steps
 pub mod Starts

@@ -1,5 +1,5 @@
 -- Reading one side of a merge.
-use Rattle.std.proofs.Common.{◌≡◌, inl, inr, ℕ, ◌+◌, ◌^◌, ◌<◌, ◌≤◌, List, [], Bool, true, false, Option, Some, None, Ok, Err, IfSome, IsSome, drop, refl, sym, ap, subst, ◌∙◌, arith}
+use Rattle.std.proofs.Common.{◌≡◌, inl, inr, ℕ, ◌+◌, ◌^◌, ◌<◌, ◌≤◌, List, [], Bool, true, false, Option, Some, None, Ok, Err, IfSome, drop, refl, sym, ap, subst, ◌∙◌, arith}
 use Rattle.std.proofs.lemmas.Bool.{false≢true, true≢false}
 use Rattle.gate_base.specs.declared.side.Side.{Side}
 use Rattle.gate_desk.specs.Outside.{Outside, Takes, told_at}
@@ -12,6 +12,7 @@ use Rattle.pcap_files.specs.Reader.{Reading, IsSmall, Advances, TakesNoRecord}
 use Rattle.pcap_files.proofs.Records.{records-came, records-ended, records-broken, ended_is_empty}
 use Rattle.pcap_merge.specs.Sides.{Readies, ReadsSide, records_ahead, IsSpent, side_work, one_for}
 use Rattle.pcap_merge.specs.Stops.{slot_of, stop_of}
+use Rattle.pcap_merge.proofs.Given.{one_for_some}
 
 same_records : (unread : Bool) (r : Reading) (o : Option (List ℕ)) → IfSome o (λ octets. records_ahead unread r octets ≡ records_ahead unread r (drop 0 octets))
 same_records unread r None = tt
@@ -29,6 +30,9 @@ not_read side r o e = record {
   kept = λ h. (refl, refl);
   slot = refl;
   form = refl;
+  place = omega arith;
+  size_is = λ h. absurd (false≢true h);
+  comes = λ h. absurd (false≢true h);
   stop = e;
   small = λ h. h;
   records = same_records false r (told_at o.left (slot_of side));
@@ -69,10 +73,6 @@ pub one_at_most : (p : Option Packet) → one_for p ≤ 1
 one_at_most None = omega arith
 one_at_most (Some p) = omega arith
 
-one_for_some : (p : Option Packet) → IsSome p → one_for p ≡ 1
-one_for_some None h = absurd (false≢true h)
-one_for_some (Some p) h = refl
-
 came : (side : Side) (r : Reading) (p : Packet) (old new : Outside) → r.stop ≡ None → IsSmall p → r.place + size p ≤ 2 ^ 40
     → Takes (slot_of side) (size p) old new → IfSome (told_at old.left (slot_of side)) (λ octets. next_at r.form r.place octets ≡ Came p) → Readies side true r (behind r p) old new
 came side r p old new e small fits takes there = record {
@@ -81,6 +81,9 @@ came side r p old new e small fits takes there = record {
   kept = λ h. absurd (true≢false h);
   slot = refl;
   form = refl;
+  place = refl;
+  size_is = λ h. refl;
+  comes = λ h. there;
   stop = e;
   small = λ h. small;
   records = records_behind r p (told_at old.left (slot_of side)) there;
@@ -97,6 +100,9 @@ ended side r old new e takes there = record {
   kept = λ h. absurd (true≢false h);
   slot = refl;
   form = refl;
+  place = omega arith;
+  size_is = λ h. refl;
+  comes = λ h. there;
   stop = e;
   small = λ h. tt;
   records = records_at_end r (told_at old.left (slot_of side)) there;

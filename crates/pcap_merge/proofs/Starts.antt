@@ -2,7 +2,7 @@
 use Rattle.std.proofs.Common.{◌≡◌, ℕ, List, [], true, false, Option, Some, None, Ok, Err, IfSome, drop, refl, sym, ap, subst, ◌∙◌, arith}
 use Rattle.gate_base.specs.declared.side.Side.TheVariants.{Left, Right}
 use Rattle.gate_desk.specs.declared.slot.Slot.TheVariants.{LeftIn, RightIn}
-use Rattle.gate_desk.specs.Outside.{Outside, Told, HasFailed, took}
+use Rattle.gate_desk.specs.Outside.{Outside, Told, HasFailed, told_at, took}
 use Rattle.gate_desk.proofs.Laws.{takes_none, failed_since, grows_takes}
 use Rattle.pcap_files.specs.declared.fault.CaptureFault.{CaptureFault}
 use Rattle.pcap_files.specs.declared.fault.ReadStop.{ReadStop}
@@ -17,6 +17,7 @@ use Rattle.pcap_merge.specs.Events.{Merged, Fault as EndsFaulty, merge_from, are
 use Rattle.pcap_merge.specs.Merge.{Merging, merging, all_events, ahead, sides_ahead, HasBegun, Begins}
 use Rattle.pcap_merge.specs.Sides.{IsSpent}
 use Rattle.pcap_merge.proofs.Reading.{one_at_most}
+use Rattle.pcap_merge.proofs.Given.{given_none}
 use Rattle.pcap_merge.proofs.Steps.{reads_of, left_told, right_told, both, sides}
 
 all_events_are : (o : Told) (y : Merged) → IfSome o (λ all. events_of all.left_in all.right_in ≡ y) → IfSome (all_events o) (λ x. x ≡ y)
@@ -109,4 +110,6 @@ begins l r old mid new h k =
           ∙ ap (ahead (merging l r 0 Nothing None)) (sym reads.left);
       work = omega (arith, one_at_most l.packet, one_at_most r.packet);
       ends = nothing_spent new.left l.packet r.packet;
+      given = given_none l r 0 None old mid new left_place right_place h.2 k.2
+          (subst (λ (f : Form). IfSome (told_at old.left LeftIn) (λ octets. head_of octets ≡ Good f)) left_form h.3) (subst (λ (f : Form). IfSome (told_at mid.left RightIn) (λ octets. head_of octets ≡ Good f)) right_form k.3);
     }

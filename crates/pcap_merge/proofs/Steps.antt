@@ -4,15 +4,16 @@ use Rattle.std.proofs.lemmas.Bool.{false≢true}
 use Rattle.gate_base.specs.declared.side.Side.{Side}
 use Rattle.gate_base.specs.declared.side.Side.TheVariants.{Left, Right}
 use Rattle.gate_base.specs.declared.side.Link.{Link}
+use Rattle.gate_base.specs.Side.{same_side}
 use Rattle.gate_base.specs.Events.{Event}
 use Rattle.gate_desk.specs.declared.slot.Slot.TheVariants.{LeftIn, RightIn}
 use Rattle.gate_desk.specs.declared.slot.PerSlot.{PerSlot}
 use Rattle.gate_desk.specs.Outside.{Outside, Told, Takes, HasFailed, told_at, took}
-use Rattle.gate_desk.proofs.Laws.{takes_none, grows_on, grows_takes, failed_since, told_at-took_other}
+use Rattle.gate_desk.proofs.Laws.{takes_none, grows_on, grows_takes, failed_since}
 use Rattle.pcap_files.specs.declared.fault.CaptureFault.{CaptureFault}
 use Rattle.pcap_files.specs.declared.form.Form.{Form}
-use Rattle.pcap_files.specs.Capture.{Packet, Records, Fault as CaptureEndsFaulty, next_at, records_from}
-use Rattle.pcap_files.specs.Reader.{Reading, IsSmall, TakesNoRecord}
+use Rattle.pcap_files.specs.Capture.{Packet, Records, Fault as CaptureEndsFaulty, records_from}
+use Rattle.pcap_files.specs.Reader.{Reading, IsSmall}
 use Rattle.pcap_merge.specs.declared.order.Last.{Last}
 use Rattle.pcap_merge.specs.declared.order.Last.TheVariants.{Nothing, Event as LastEvent, End}
 use Rattle.pcap_merge.specs.declared.stop.MergeStop.{MergeStop}
@@ -22,6 +23,7 @@ use Rattle.pcap_merge.specs.Events.{Merged, Done, Fault as EndsFaulty, Ahead, Gi
 use Rattle.pcap_merge.specs.Sides.{Readies, ReadsSide, ReadsSides, records_ahead, held_before, IsSpent, side_work}
 use Rattle.pcap_merge.specs.Merge.{Merging, merging, event_given, HoldsLast, IsSound, Reads, ahead, sides_ahead, Gives, Finishes, StopsBy}
 use Rattle.pcap_merge.proofs.Merged.{merge-gives, merge-ends, merge-stops}
+use Rattle.pcap_merge.proofs.Given.{same_right, given_more, ends_taken}
 
 -- what was taken from both captures
 abbrev pub reads_of : (m n : ℕ) (old mid new : Outside) → Takes LeftIn m old mid → Takes RightIn n mid new → Reads old new
@@ -210,6 +212,14 @@ is_ready l l' r r' last old mid new h k = record {
   spent_right = right_told h.count old mid (λ octets. IsSpent (is_unread Right last) r.packet octets → IsSpent false r'.packet (drop k.count octets)) h.takes k.spent;
 }
 
+held_left : (side : Side) (left right : Option Packet) (p : Packet) → held_of side left right ≡ Some p → same_side side Left ≡ true → IsSome left
+held_left Left left right p e h = is_some_of left p e
+held_left Right left right p e h = absurd (false≢true h)
+
+held_right : (side : Side) (left right : Option Packet) (p : Packet) → held_of side left right ≡ Some p → same_side side Right ≡ true → IsSome right
+held_right Left left right p e h = absurd (false≢true h)
+held_right Right left right p e h = is_some_of right p e
+
 gives_at : (l l' r r' : Reading) (clock time : ℕ) (last : Last) (side : Side) (p : Packet) (stop : Option MergeStop) (old mid new : Outside) → IsSound l r clock last stop → stop ≡ None
     → Readies Left (is_unread Left last) l l' old mid → Readies Right (is_unread Right last) r r' mid new → IsNext side p time l'.packet r'.packet
     → Gives (event_now side (max clock p.stamp) l' r' p) (merging l r clock last stop) (merging l' r' (max clock p.stamp) (LastEvent side) stop) old new
@@ -231,6 +241,8 @@ gives_at l l' r r' clock time last side p stop old mid new sound running h k nex
           ∙ ap (λ (o : Told). option_map (with_event event) (ahead after o)) (sym is.reads.left);
       ends = λ e. subst (λ o. IfSome o (λ all. IsSpent (is_unread Left (LastEvent side)) l'.packet all.left_in × IsSpent (is_unread Right (LastEvent side)) r'.packet all.right_in)) (sym is.reads.left)
           (keeps_ends-of old.left is.reads.left_count is.reads.right_count l l' r r' last (LastEvent side) is.spent_left is.spent_right e);
+      given = λ start events given. given_more l l' r r' clock (max clock p.stamp) last event stop start old mid new events
+          (held_left side l'.packet r'.packet p next.held) (held_right side l'.packet r'.packet p next.held) (shown l' r' (max clock p.stamp) side p next.held) h k given;
     }
 
 -- the merge came to an event
@@ -335,10 +347,8 @@ stops_left (Desk slot) l l' r clock last stopped old new h = (
   h.0,
   record {
     cause = subst (λ s. HasFailed s old new) h.0 h.4;
-    unread = h.1;
-    last = given_side Left last l r clock h.1;
     reads = reads_of h.5.0 0 old new new h.5.1 (takes_none RightIn new);
-    none = h.5.2;
+    given = λ start events given. ends_taken Left l (is_unread Left last) h.5.0 start old new (event_given last l r clock) events h.1 h.5.1 h.5.2 (given.stands Left) (given.before Left) given.last (given_side Left last l r clock h.1);
   },
 )
 stops_left OutOfMemory l l' r clock last stopped old new h = absurd h
@@ -357,10 +367,9 @@ stops_right (Desk slot) l l' r r' clock last stopped old mid new h k = (
   k.0,
   record {
     cause = subst (λ s. HasFailed s old new) k.0 (failed_since slot old mid new (grows_takes LeftIn h.count old mid h.takes) k.4);
-    unread = k.1;
-    last = given_side Right last l r clock k.1;
     reads = reads_of h.count k.5.0 old mid new h.takes k.5.1;
-    none = subst (λ o. IfSome o (λ octets. TakesNoRecord (next_at r.form r.place octets) k.5.0)) (ap (λ (o : Told). told_at o RightIn) h.takes.left ∙ told_at-took_other LeftIn RightIn h.count old.left refl) k.5.2;
+    given = λ start events given. ends_taken Right r (is_unread Right last) k.5.0 start mid new (event_given last l r clock) events k.1 k.5.1 k.5.2 (same_right h.count old mid h.takes ∙ given.stands Right) (given.before Right) given.last
+        (given_side Right last l r clock k.1);
   },
 )
 stops_right OutOfMemory l l' r r' clock last stopped old mid new h k = absurd k

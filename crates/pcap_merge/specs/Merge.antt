@@ -1,13 +1,13 @@
 -- A merge of two captures, and what its calls answer.
-use Rattle.std.specs.Prelude.{◌≡◌, ℕ, ◌+◌, ◌*◌, ◌^◌, ◌<◌, ◌≤◌, List, [], Bool, true, false, Option, Some, None, Result, Ok, Err, IfSome, IsSome, option_map, length}
+use Rattle.std.specs.Prelude.{◌≡◌, ℕ, ◌+◌, ◌*◌, ◌^◌, ◌<◌, ◌≤◌, List, [], ◌∷◌, ◌++◌, Bool, true, false, Option, Some, None, Result, Ok, Err, IfSome, IsSome, option_map, drop, length}
 use Rattle.gate_base.specs.declared.side.Side.{Side}
 use Rattle.gate_base.specs.declared.side.Side.TheVariants.{Left, Right}
 use Rattle.gate_base.specs.Events.{Event}
 use Rattle.gate_desk.specs.declared.slot.Slot.TheVariants.{LeftIn, RightIn}
 use Rattle.gate_desk.specs.declared.slot.PerSlot.{PerSlot}
 use Rattle.gate_desk.specs.Outside.{Outside, Told, told_at, took, HasFailed, Grows, IsAtEnd}
-use Rattle.pcap_files.specs.Capture.{Packet, next_at}
-use Rattle.pcap_files.specs.Reader.{Reading, IsSmall, TakesNoRecord}
+use Rattle.pcap_files.specs.Capture.{Packet}
+use Rattle.pcap_files.specs.Reader.{Reading, IsSmall}
 use Rattle.pcap_merge.specs.declared.order.Last.{Last}
 use Rattle.pcap_merge.specs.declared.order.Last.TheVariants.{Nothing, Event as LastEvent, End}
 use Rattle.pcap_merge.specs.declared.stop.MergeStop.{MergeStop}
@@ -16,6 +16,7 @@ use Rattle.pcap_merge.specs.Order.{is_unread}
 use Rattle.pcap_merge.specs.Stops.{slot_of}
 use Rattle.pcap_merge.specs.Events.{Merged, Done, Fault as EndsFaulty, Ahead, merge_from, have_good_heads, events_of, event_at, with_event}
 use Rattle.pcap_merge.specs.Sides.{records_ahead, IsSpent, side_work}
+use Rattle.pcap_merge.specs.Given.{HasRead, IsLast, EndsAtTaken, count_of_side}
 
 -- a merge: the readers of both sides, the greatest stamp of the events so far, what the last advance answered, the event to which it came, and the stop to which it came
 pub record Merging : Type 0 where
@@ -118,6 +119,12 @@ pub record IsSmallEvent (e : Event) : Type 0 where
 abbrev pub HeadsAre : Bool → Told → Type 0
 HeadsAre good told = IfSome told (λ all. have_good_heads all.left_in all.right_in ≡ good)
 
+-- these events were given since the captures began, and of each side the records of its events, with one that is held, and nothing else were taken
+pub record HasGiven (start : Outside) (m : Merging) (now : Outside) (events : List Event) : Type 0 where
+  pub stands : (side : Side) → told_at now.left (slot_of side) ≡ option_map (drop (reading_of side m).place) (told_at start.left (slot_of side))
+  pub before : (side : Side) → IfSome (told_at start.left (slot_of side)) (HasRead (reading_of side m) (is_unread side m.last) (count_of_side side events))
+  pub last : IsLast m.event events
+
 -- a merge that has just begun: the two heads alone were taken, and all events are still to come
 pub record HasBegun (m : Merging) (old new : Outside) : Type 0 where
   pub stop : m.stop ≡ None
@@ -130,6 +137,7 @@ pub record HasBegun (m : Merging) (old new : Outside) : Type 0 where
   pub events : all_events old.left ≡ ahead m new.left
   pub work : work m ≤ 2 ^ 41
   pub ends : AtEnds m new
+  pub given : HasGiven old m new []
 
 -- what a beginning answers: the desk fails before a whole head was taken from that slot
 abbrev pub Begins : Result Merging MergeStop → Outside → Outside → Type 0
@@ -150,6 +158,7 @@ pub record Gives (e : Event) (m m' : Merging) (old new : Outside) : Type 0 where
   pub work : work m' < work m
   pub events : ahead m old.left ≡ option_map (with_event e) (ahead m' new.left)
   pub ends : AtEnds m old → AtEnds m' new
+  pub given : (start : Outside) (events : List Event) → HasGiven start m old events → HasGiven start m' new (events ++ e ∷ [])
 
 -- the merge came to the end of both captures
 pub record Finishes (m m' : Merging) (old new : Outside) : Type 0 where
@@ -159,13 +168,11 @@ pub record Finishes (m m' : Merging) (old new : Outside) : Type 0 where
   pub left : AtEnds m old → IsAtEnd new LeftIn
   pub right : AtEnds m old → IsAtEnd new RightIn
 
--- the desk failed to read the next record of a side, whose last record was given in the last event if there was one
+-- the desk failed to read a side: the last event is that of the last record that was taken whole from it
 pub record FailsAt (side : Side) (m : Merging) (old new : Outside) : Type 0 where
   pub cause : HasFailed (slot_of side) old new
-  pub unread : is_unread side m.last ≡ true
-  pub last : IfSome m.event (λ e. e.side ≡ side)
   pub reads : Reads old new
-  pub none : IfSome (told_at old.left (slot_of side)) (λ octets. TakesNoRecord (next_at (reading_of side m).form (reading_of side m).place octets) (count_of side reads))
+  pub given : (start : Outside) (events : List Event) → HasGiven start m old events → EndsAtTaken side start new events
 
 -- why a merge stops
 abbrev pub StopsBy : MergeStop → Merging → Outside → Outside → Type 0

@@ -2,14 +2,9 @@
 use Rattle.std.specs.Prelude.{ℕ, Bool, true, false, Option, Some, None, if◌then◌else◌, nat_le}
 use Rattle.gate_base.specs.declared.side.Side.{Side}
 use Rattle.gate_base.specs.declared.side.Side.TheVariants.{Left, Right}
+use Rattle.gate_base.specs.Side.{same_side}
 use Rattle.pcap_merge.specs.declared.order.Last.{Last}
 use Rattle.pcap_merge.specs.declared.order.Last.TheVariants.{Nothing, Event, End}
-
--- whether two sides are one
-abbrev pub same_side : Side → Side → Bool
-same_side Left Left = true
-same_side Right Right = true
-same_side _ _ = false
 
 -- whether the side is to be read before the next event: both sides before the first event, then the side of the last one
 abbrev pub is_unread : Side → Last → Bool

@@ -3,7 +3,7 @@ use Rattle.std.specs.Prelude.{◌≡◌, ◌⊎◌, ℕ, ◌+◌, ◌-◌, ◌^�
 use Rattle.gate_base.specs.declared.side.Side.{Side}
 use Rattle.gate_base.specs.declared.side.Side.TheVariants.{Left, Right}
 use Rattle.gate_desk.specs.Outside.{Outside, Takes, HasFailed, told_at}
-use Rattle.pcap_files.specs.Capture.{Packet, Records, Whole, Fault as EndsFaulty, next_at, records_from}
+use Rattle.pcap_files.specs.Capture.{Packet, Records, Whole, Fault as EndsFaulty, Ended, Came, size, next_at, records_from}
 use Rattle.pcap_files.specs.Reader.{Reading, IsSmall, TakesNoRecord}
 use Rattle.pcap_merge.specs.declared.order.Last.{Last}
 use Rattle.pcap_merge.specs.declared.stop.MergeStop.{MergeStop}
@@ -36,6 +36,16 @@ one_for (Some p) = 1
 abbrev pub side_work : Reading → ℕ
 side_work r = (2 ^ 40 - r.place) + one_for r.packet
 
+-- the reader came to what stands next: a record, which it holds, or the end
+abbrev pub ComesTo : Option Packet → Reading → List ℕ → Type 0
+ComesTo None r octets = next_at r.form r.place octets ≡ Ended
+ComesTo (Some p) r octets = next_at r.form r.place octets ≡ Came p
+
+-- how many octets the record that is held has
+abbrev pub held_size : Option Packet → ℕ
+held_size None = 0
+held_size (Some p) = size p
+
 -- the side stands at its next record or at its end, and was read where it had to be
 pub record Readies (side : Side) (unread : Bool) (r s : Reading) (old new : Outside) : Type 0 where
   pub count : ℕ
@@ -43,6 +53,9 @@ pub record Readies (side : Side) (unread : Bool) (r s : Reading) (old new : Outs
   pub kept : unread ≡ false → (s ≡ r) × (count ≡ 0)
   pub slot : s.slot ≡ r.slot
   pub form : s.form ≡ r.form
+  pub place : s.place ≡ r.place + count
+  pub size_is : unread ≡ true → count ≡ held_size s.packet
+  pub comes : unread ≡ true → IfSome (told_at old.left (slot_of side)) (ComesTo s.packet r)
   pub stop : s.stop ≡ None
   pub small : IfSome r.packet IsSmall → IfSome s.packet IsSmall
   pub records : IfSome (told_at old.left (slot_of side)) (λ octets. records_ahead unread r octets ≡ records_ahead false s (drop count octets))

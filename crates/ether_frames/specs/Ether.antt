@@ -1,0 +1,25 @@
+-- Ethernet frames (RFC 894).
+use Rattle.std.specs.Prelude.{ℕ, nat_lt, if◌then◌else◌, List, ◌++◌, drop, length, Option, Some, None}
+use Rattle.byteorder.specs.Endian.{big_bytes}
+use Rattle.gate_base.specs.Fields.{u16_at}
+
+-- an Ethernet frame: what it carries, and what stands behind its head of 14 octets
+pub record Ether : Type 0 where
+  pub kind : ℕ
+  pub payload : List ℕ
+
+-- the fields by their places
+abbrev pub fields_of : List ℕ → Ether
+fields_of octets = record { kind = u16_at 12 octets; payload = drop 14 octets }
+
+-- the frame that octets are, if they are enough for a head
+unfoldable pub read_frame : List ℕ → Option Ether
+read_frame octets = if nat_lt (length octets) 14 then None else Some (fields_of octets)
+
+-- the type of frames that carry IPv4
+abbrev pub ipv4_type : ℕ
+ipv4_type = 0x0800
+
+-- the head of a frame that carries IPv4: the receiver's address, the sender's, and the type
+abbrev pub ipv4_head : List ℕ → List ℕ → List ℕ
+ipv4_head destination source = (destination ++ source) ++ big_bytes 2 ipv4_type
