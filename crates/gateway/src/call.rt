@@ -7,6 +7,7 @@ ghost use Rattle.gateway.specs.Answers.{IsRun, Answers};
 use crate::Status;
 use crate::command::{FileNames, command};
 use crate::errors::{tell, tell_usage};
+use crate::event::LONGEST_FRAME;
 use crate::forward::forward;
 use crate::prepare::prepare;
 use crate::ready::ready;
@@ -28,8 +29,12 @@ fn run<D: Desk>(alloc: Global, desk: &mut D, names: FileNames<'_>) -> Status
         Ok(text) => text,
         Err(_) => return Status::OutOfMemory,
     };
+    let mut room = match vec![in alloc; 0; LONGEST_FRAME] {
+        Ok(room) => room,
+        Err(_) => return Status::OutOfMemory,
+    };
     match ready(desk, names, gate.settings()) {
-        Ok(()) => forward(desk, &mut merge, &mut gate, &mut text),
+        Ok(()) => forward(desk, &mut merge, &mut gate, &mut room, &mut text),
         Err(status) => status,
     }
 }

@@ -1,19 +1,25 @@
 // One event: its frame is judged, and what it gives is written.
-ghost use Rattle.std.specs.Prelude.{◌≡◌, ◌+◌, ◌*◌, ◌<◌, ◌≤◌, ◌^◌, [], ◌∷◌, IfSome, length, option_map, option_to_list};
+ghost use Rattle.std.specs.Prelude.{◌≡◌, ◌+◌, ◌*◌, ◌<◌, ◌≤◌, ◌^◌, [], ◌∷◌, IfSome, length, option_map, option_to_list, take};
 ghost use Rattle.gate_base.specs.Events.{event_of};
 ghost use Rattle.gate_desk.specs.declared.slot.Slot.TheVariants.{LeftOut, RightOut, Report};
 ghost use Rattle.gate_desk.specs.Outside.{CanWrite};
 ghost use Rattle.pcap_merge.specs.Merge.{IsSmallEvent};
-ghost use Rattle.gateway.specs.Machine.{out_slot, sent, event_piece};
+ghost use Rattle.gate_base.specs.declared.side.Link.TheVariants.{Ethernet};
+ghost use Rattle.gateway.specs.Machine.{out_slot, framed_on, frame_piece, sent, event_piece};
 ghost use Rattle.gateway.specs.Causes.{Gives};
 ghost use Rattle.gateway.specs.Phases.{Handles};
 
 use crate::Status;
-use crate::gate::Gate;
 use crate::report::{Totals, count, put_event_line};
-use gate_base::{Event, Moment, Side, Verdict};
+use ether_frames::put_head;
+use gate_base::{Event, Link, Moment, Side, Verdict};
+use gate_core::Gate;
 use gate_desk::{Desk, Slot, write_whole};
+use gate_settings::{Settings, SideSettings};
 use pcap_files::write_packet;
+
+/// The most octets of a frame: an Ethernet head and a datagram.
+pub const LONGEST_FRAME: usize = 65_549;
 
 fn out_slot(side: Side) -> Slot
     ensures { result ≡ out_slot side }
@@ -34,26 +40,62 @@ fn count_frames(image: Option<&[u8]>) -> u64
     }
 }
 
-/// Sends the frame to a realm, if there is one.
-fn send<D: Desk>(
+/// Writes a frame to a realm's capture.
+fn write_frame<D: Desk>(
     desk: &mut D,
     side: Side,
     moment: Moment,
-    frame: Option<&[u8]>,
+    frame: &[u8],
 ) -> Result<(), Status>
     requires left { CanWrite (D.outside desk.old) LeftOut }
     requires right { CanWrite (D.outside desk.old) RightOut }
     requires early { moment.0 < 2 ^ 32 * 1000000000 }
-    requires short { IfSome frame (λ octets. length octets.now ≤ 65535) }
-    ensures { Gives result (sent side moment.0 (option_to_list (option_map (λ octets. octets.now) frame.entry))) (D.outside desk.old) (D.outside desk.new) }
+    requires short { length frame.now ≤ 65549 }
+    ensures { Gives result (frame_piece side moment.0 frame.now ∷ []) (D.outside desk.old) (D.outside desk.new) }
 {
-    let Some(octets) = frame else {
-        return Ok(());
-    };
     let slot = out_slot(side);
-    match write_packet(desk, slot, moment, octets) {
+    match write_packet(desk, slot, moment, frame) {
         Ok(()) => Ok(()),
         Err(_) => Err(Status::WriteFault(slot)),
+    }
+}
+
+/// Puts an Ethernet frame from the gateway to the next router or host together.
+fn put_frame(room: &mut [u8], side: &SideSettings, datagram: &[u8])
+    requires room { length room.old ≡ LONGEST_FRAME }
+    requires short { length datagram.now ≤ 65535 }
+    ensures { take (14 + length datagram.now) room.new ≡ framed_on Ethernet side.now datagram.now }
+{
+    put_head(&side.next_mac, &side.gateway_mac, room);
+    room[14..14 + datagram.len()].copy_from_slice(datagram);
+}
+
+/// Sends the datagram to a realm, if there is one.
+fn send<D: Desk>(
+    desk: &mut D,
+    room: &mut [u8],
+    settings: &Settings,
+    side: Side,
+    moment: Moment,
+    datagram: Option<&[u8]>,
+) -> Result<(), Status>
+    requires left { CanWrite (D.outside desk.old) LeftOut }
+    requires right { CanWrite (D.outside desk.old) RightOut }
+    requires room { length room.old ≡ LONGEST_FRAME }
+    requires early { moment.0 < 2 ^ 32 * 1000000000 }
+    requires short { IfSome datagram (λ octets. length octets.now ≤ 65535) }
+    ensures { Gives result (sent settings.now side moment.0 (option_to_list (option_map (λ octets. octets.now) datagram.entry))) (D.outside desk.old) (D.outside desk.new) }
+{
+    let Some(octets) = datagram else {
+        return Ok(());
+    };
+    let realm = settings.side(side);
+    match realm.link {
+        Link::Raw => write_frame(desk, side, moment, octets),
+        Link::Ethernet => {
+            put_frame(room, realm, octets);
+            write_frame(desk, side, moment, &room[..14 + octets.len()])
+        }
     }
 }
 
@@ -84,6 +126,7 @@ fn report<D: Desk>(
 pub fn handle<D: Desk>(
     desk: &mut D,
     gate: &mut Gate,
+    room: &mut [u8],
     text: &mut String,
     totals: Totals,
     event: Event<'_>,
@@ -91,6 +134,7 @@ pub fn handle<D: Desk>(
     requires left { CanWrite (D.outside desk.old) LeftOut }
     requires right { CanWrite (D.outside desk.old) RightOut }
     requires report { CanWrite (D.outside desk.old) Report }
+    requires room { length room.old ≡ LONGEST_FRAME }
     requires small { IsSmallEvent (event_of event) }
     requires few { totals.events < 2 ^ 42 }
     requires passed { totals.passed ≤ totals.events }
@@ -101,7 +145,14 @@ pub fn handle<D: Desk>(
     let verdict = gate.step(&event);
     let image = gate.image();
     let frames = count_frames(image);
-    match send(desk, event.side.other(), event.moment, image) {
+    match send(
+        desk,
+        room,
+        gate.settings(),
+        event.side.other(),
+        event.moment,
+        image,
+    ) {
         Ok(()) => {}
         Err(status) => return Err(status),
     }

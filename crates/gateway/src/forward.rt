@@ -1,17 +1,17 @@
 // The events of a run.
-ghost use Rattle.std.specs.Prelude.{◌≡◌, ◌≤◌, ◌^◌, None};
+ghost use Rattle.std.specs.Prelude.{◌≡◌, ◌≤◌, ◌^◌, None, length};
 ghost use Rattle.gate_desk.specs.declared.slot.Slot.TheVariants.{LeftIn, RightIn, LeftOut, RightOut, Report};
 ghost use Rattle.gate_desk.specs.Outside.{CanRead, CanWrite, Grows};
 ghost use Rattle.pcap_merge.specs.Merge.{work, AtEnds};
-ghost use Rattle.gateway.specs.Gate.{opening_world};
+ghost use Rattle.gate_core.specs.World.{opening_world};
 ghost use Rattle.gateway.specs.Machine.{last_line};
 ghost use Rattle.gateway.specs.Phases.{Forwards, Finishes};
 
 use crate::Status;
-use crate::event::handle;
-use crate::gate::Gate;
+use crate::event::{LONGEST_FRAME, handle};
 use crate::report::{Totals, put_done_line};
 use crate::stops::status_of_merge;
+use gate_core::Gate;
 use gate_desk::{Desk, Slot, write_whole};
 use pcap_merge::Merge;
 
@@ -36,6 +36,7 @@ pub fn forward<D: Desk>(
     desk: &mut D,
     merge: &mut Merge,
     gate: &mut Gate,
+    room: &mut [u8],
     text: &mut String,
 ) -> Status
     requires left_in { CanRead (D.outside desk.old) LeftIn }
@@ -43,10 +44,11 @@ pub fn forward<D: Desk>(
     requires left_out { CanWrite (D.outside desk.old) LeftOut }
     requires right_out { CanWrite (D.outside desk.old) RightOut }
     requires report { CanWrite (D.outside desk.old) Report }
+    requires room { length room.old ≡ LONGEST_FRAME }
     requires stop { merge.old.stop ≡ None }
     requires work { work merge.old ≤ 2 ^ 41 }
     requires ends { AtEnds merge.old (D.outside desk.old) }
-    requires world { gate.old.world ≡ opening_world }
+    requires world { gate.old.world ≡ opening_world gate.old.settings }
     ensures answer { Forwards result gate.old.settings merge.old (D.outside desk.old) (D.outside desk.new) }
     ensures starts { (D.outside desk.new).starts ≡ (D.outside desk.old).starts }
     ensures counts { Grows (D.outside desk.old) (D.outside desk.new) }
@@ -65,7 +67,7 @@ pub fn forward<D: Desk>(
         if !more {
             return finish(desk, text, totals);
         }
-        match handle(desk, gate, text, totals, merge.event()) {
+        match handle(desk, gate, room, text, totals, merge.event()) {
             Ok(next) => totals = next,
             Err(status) => return status,
         }

@@ -1,0 +1,10 @@
+pub mod Pools
+pub mod Kept
+pub mod Room
+pub mod Whole
+pub mod Bind
+pub mod Opening
+pub mod Fresh
+pub mod Planned
+pub mod Back
+pub mod Rows

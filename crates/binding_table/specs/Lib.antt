@@ -1,0 +1,5 @@
+pub mod Bindings
+pub mod Lawful
+pub mod Inside
+pub mod Plan
+pub mod Steps

@@ -1,0 +1,15 @@
+//! The bindings of hosts to the addresses by which the other realm knows them (RFC 2663, 4.3).
+#![tactic(auto)]
+
+mod binding;
+mod entries;
+mod laws;
+mod plan;
+mod table;
+
+pub use binding::Crossing;
+pub use laws::{crosses_back, keeps_apart};
+pub use table::Table;
+
+#[cfg(test)]
+mod tests;

@@ -1,0 +1,4 @@
+pub mod Frame
+pub mod Faults
+pub mod World
+pub mod Gate

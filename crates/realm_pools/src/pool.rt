@@ -1,0 +1,131 @@
+ghost use Rattle.std.specs.Prelude.{◌≡◌, ◌+◌, ◌-◌, ◌<◌, ◌≤◌, IsTrue, IfOk, IfSome, IfNone, true, false, not, length, position, count_by};
+ghost use Rattle.realm_pools.specs.Addresses as addresses;
+
+use gate_base::{Addr, OutOfMemory};
+use std::alloc::Global;
+use std::marker::Model;
+
+/// A range of 1 to 65,536 addresses, each of which is free or taken.
+#[derive(Drop)]
+pub struct Pool {
+    first: u32,
+    last: u32,
+    // whether each address is taken, in order
+    taken: Vec<bool>,
+    // how many are free
+    free: u32,
+    // all addresses at the places below are taken
+    low: usize,
+}
+
+impl Model for Pool {
+    ghost use Rattle.realm_pools.specs.Addresses.{Addresses};
+
+    ghost Value = { Addresses };
+
+    ghost use Rattle.realm_pools.specs.Inside.{addresses_of, IsWhole};
+
+    ghost view = { addresses_of };
+
+    ghost invariant = { IsWhole };
+}
+
+impl Pool {
+    /// The pool of the addresses from the first to the last, 1 to 65,536 of them, all free. The error is that there is too little
+    /// memory.
+    pub fn make(alloc: Global, first: Addr, last: Addr) -> Result<Pool, OutOfMemory>
+        requires ordered { first.0 ≤ last.0 }
+        requires small { last.0 - first.0 < 65536 }
+        ensures { IfOk result (λ pool. pool ≡ addresses.unused first last) }
+    {
+        let size = last.0 - first.0 + 1;
+        Ok(Pool {
+            first: first.0,
+            last: last.0,
+            taken: vec![in alloc; false; size as usize]?,
+            free: size,
+            low: 0,
+        })
+    }
+
+    /// Whether the address is one of the pool's.
+    pub fn contains(&self, address: Addr) -> bool
+        ensures { result ≡ addresses.is_in address self.now.range }
+    {
+        self.first <= address.0 && address.0 <= self.last
+    }
+
+    /// The number of free addresses.
+    pub fn free(&self) -> u32
+        ensures { result ≡ count_by not self.now.taken }
+    {
+        self.free
+    }
+
+    /// The least free address, and None exactly where none is free.
+    pub fn least_free(&self) -> Option<Addr>
+        ensures value { result ≡ addresses.least_free self.now }
+        ensures least { IfSome result (addresses.IsLeastFree 0 self.now) }
+        ensures none { IfNone result (addresses.IsNoneFree 0 self.now) }
+    {
+        self.free_from(self.low)
+    }
+
+    /// The least free address above another, and None exactly where none above it is free.
+    pub fn next_free(&self, after: Addr) -> Option<Addr>
+        ensures value { result ≡ addresses.next_free after self.now }
+        ensures least { IfSome result (addresses.IsLeastFree (after.0 + 1) self.now) }
+        ensures none { IfNone result (addresses.IsNoneFree (after.0 + 1) self.now) }
+    {
+        if after.0 < self.first {
+            return self.free_from(0);
+        }
+        let place = (after.0 - self.first) as usize + 1;
+        if self.taken.len() < place {
+            return None;
+        }
+        self.free_from(place)
+    }
+
+    /// Takes a free address.
+    pub fn take(&mut self, address: Addr)
+        requires { IsTrue (addresses.is_free address self.old) }
+        ensures { self.new ≡ addresses.with_address address true self.old }
+    {
+        let place = (address.0 - self.first) as usize;
+        self.taken[place] = true;
+        self.free -= 1;
+        if place == self.low {
+            self.low += 1;
+        }
+    }
+
+    /// Makes a taken address free.
+    pub fn give_back(&mut self, address: Addr)
+        requires { IsTrue (addresses.is_taken address self.old) }
+        ensures { self.new ≡ addresses.with_address address false self.old }
+    {
+        let place = (address.0 - self.first) as usize;
+        self.taken[place] = false;
+        self.free += 1;
+        if place < self.low {
+            self.low = place;
+        }
+    }
+
+    // The first free address from a place on.
+    fn free_from(&self, place: usize) -> Option<Addr>
+        requires { place ≤ length self.now.taken }
+        ensures { result ≡ addresses.free_from place self.now }
+    {
+        let more = first_free(&self.taken[place..])?;
+        Some(Addr(self.first + (place + more) as u32))
+    }
+}
+
+fn first_free(taken: &[bool]) -> Option<usize>
+    ensures value { result ≡ position not taken.now }
+    ensures within { IfSome result (λ place. place < length taken.now) }
+{
+    taken.iter().position(|taken| !*taken)
+}
