@@ -1,0 +1,3 @@
+pub mod Addresses
+pub mod Renaming
+pub mod Replies

@@ -1,0 +1,71 @@
+// What is sent for a message (RFC 1035, 4.1.1 and 4.2.1).
+ghost use Rattle.std.specs.Prelude.{◌≡◌, ◌≤◌, max, length, IfOk, IfSome};
+ghost use Rattle.dns_names.specs.Names.{IsName};
+ghost use Rattle.dns_messages.specs.Suits.{MessageSuits};
+ghost use Rattle.dns_messages.specs.Writing.{spelling};
+ghost use Rattle.dns_gateway.specs.Replies.{cut, reply_of};
+
+use dns_messages::{Message, Question, Resources, WriteStop, write_message};
+use gate_base::OutOfMemory;
+use std::alloc::Global;
+
+fn question_of(alloc: Global, question: &Option<Question>) -> Result<Option<Question>, OutOfMemory>
+    ensures same { IfOk result (λ same. same ≡ question.now) }
+    ensures name { IfOk result (λ _. IfSome question.now (λ q. IsName q.name)) }
+{
+    match question {
+        None => Ok(None),
+        Some(question) => Ok(Some(Question {
+            name: question.name.try_clone(alloc)?,
+            kind: question.kind,
+            class: question.class,
+        })),
+    }
+}
+
+/// The header with the flag TC set and the counts of records 0, and the question.
+fn cut(alloc: Global, message: &Message) -> Result<Message, OutOfMemory>
+    ensures is { IfOk result (λ short. short ≡ cut message.now) }
+    ensures name { IfOk result (λ _. IfSome message.now.question (λ q. IsName q.name)) }
+{
+    Ok(Message {
+        id: message.id,
+        flags: message.flags | 0x0200,
+        question: question_of(alloc, &message.question)?,
+        answers: Resources::of(Vec::new(alloc)),
+        authority: Resources::of(Vec::new(alloc)),
+        additional: Resources::of(Vec::new(alloc)),
+    })
+}
+
+fn put_cut(alloc: Global, message: &Message) -> Result<Vec<u8>, OutOfMemory>
+    ensures is { IfOk result (λ octets. octets.items ≡ spelling (cut message.now)) }
+    ensures short { IfOk result (λ octets. length octets.items ≤ 512) }
+{
+    let short = cut(alloc, message)?;
+    match write_message(alloc, &short) {
+        Ok(octets) => Ok(octets),
+        Err(_) => Err(OutOfMemory),
+    }
+}
+
+/// The octets that are sent for a message, where one of so many octets came in: its spelling, or the header with the flag TC
+/// set and the question alone, where the spelling is longer than what came in and than 512 octets, or too long for a message.
+/// The data of each record must be what its type and class hold.
+pub fn reply(alloc: Global, message: &Message, incoming: usize) -> Result<Vec<u8>, OutOfMemory>
+    requires { MessageSuits message.now }
+    ensures is { IfOk result (λ octets. octets.items ≡ reply_of message.now incoming) }
+    ensures short { IfOk result (λ octets. length octets.items ≤ max 512 incoming) }
+{
+    match write_message(alloc, message) {
+        Ok(octets) => {
+            if octets.len() <= incoming.max(512) {
+                Ok(octets)
+            } else {
+                put_cut(alloc, message)
+            }
+        }
+        Err(WriteStop::TooLong) => put_cut(alloc, message),
+        Err(WriteStop::OutOfMemory) => Err(OutOfMemory),
+    }
+}

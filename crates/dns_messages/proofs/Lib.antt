@@ -1,0 +1,6 @@
+pub mod Loop
+pub mod Exact
+pub mod Fitting
+pub mod Again
+pub mod Wrote
+pub mod Rows

@@ -1,0 +1,6 @@
+pub mod Forms
+pub mod Relation
+pub mod Reading
+pub mod Suits
+pub mod Writing
+pub mod Writers

@@ -1,0 +1,78 @@
+// Messages (RFC 1035, 4.1).
+ghost use Rattle.std.specs.Prelude.{◌≡◌, IfOk};
+
+use crate::lists::{Octets, Resources};
+use dns_names::Name;
+use gate_base::{Addr, OutOfMemory};
+use std::alloc::Global;
+
+/// What the data of a record holds.
+#[derive(Drop)]
+pub enum Content {
+    /// The address of type 1 in class 1.
+    Address(Addr),
+    /// The one name of the types 2, 3, 4, 5, 7, 8, 9 and 12.
+    One(Name),
+    /// The two names and 20 octets of type 6.
+    Soa(Name, Name, Octets),
+    /// The two names of type 14.
+    Two(Name, Name),
+    /// The preference and the name of type 15.
+    Mx(u16, Name),
+    /// The octets of any other type, and none with each type.
+    Octets(Octets),
+}
+
+impl Content {
+    /// The same content once more.
+    pub fn try_clone(&self, alloc: Global) -> Result<Content, OutOfMemory>
+        ensures { IfOk result (λ content. content ≡ self.now) }
+    {
+        Ok(match self {
+            Content::Address(address) => Content::Address(*address),
+            Content::One(name) => Content::One(name.try_clone(alloc)?),
+            Content::Soa(first, second, octets) => Content::Soa(
+                first.try_clone(alloc)?,
+                second.try_clone(alloc)?,
+                octets.try_clone(alloc)?,
+            ),
+            Content::Two(first, second) => {
+                Content::Two(first.try_clone(alloc)?, second.try_clone(alloc)?)
+            }
+            Content::Mx(preference, name) => Content::Mx(*preference, name.try_clone(alloc)?),
+            Content::Octets(octets) => Content::Octets(octets.try_clone(alloc)?),
+        })
+    }
+}
+
+/// A question (RFC 1035, 4.1.2).
+#[derive(Drop)]
+pub struct Question {
+    pub name: Name,
+    pub kind: u16,
+    pub class: u16,
+}
+
+/// A record (RFC 1035, 4.1.3).
+#[derive(Drop)]
+pub struct Resource {
+    /// The name that owns the record.
+    pub name: Name,
+    pub kind: u16,
+    pub class: u16,
+    /// How many seconds the record may be kept.
+    pub lifetime: u32,
+    pub content: Content,
+}
+
+/// A message with at most one question.
+#[derive(Drop)]
+pub struct Message {
+    pub id: u16,
+    /// The second 16 bits of the header (RFC 1035, 4.1.1).
+    pub flags: u16,
+    pub question: Option<Question>,
+    pub answers: Resources,
+    pub authority: Resources,
+    pub additional: Resources,
+}

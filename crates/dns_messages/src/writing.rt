@@ -1,0 +1,227 @@
+// Writing messages.
+ghost use Rattle.std.specs.Prelude.{◌≡◌, ◌+◌, ◌<◌, ◌≤◌, ◌^◌, OnOk, IfOk, IfSome, length, Err, true, false};
+ghost use Rattle.std.specs.List.{AllByRecursion};
+ghost use Rattle.byteorder.specs.Endian.{big_bytes};
+ghost use Rattle.dns_names.specs.Names.{IsName};
+ghost use Rattle.dns_messages.specs.Relation.{IsMessage};
+ghost use Rattle.dns_messages.specs.Suits.{MessageSuits, ContentFits, ResourceFits, QuestionFits, MessageFits};
+ghost use Rattle.dns_messages.specs.Writing.{content_written, sized, head_written, resource_written, resources_written, questions_written, header_written, question_count, message_written, spelling, put, name, ◌⨟◌};
+ghost use Rattle.dns_messages.specs.Writers.{wrote, Writes};
+
+use crate::message::{Content, Message, Question, Resource};
+use crate::stop::WriteStop;
+use dns_names::{Name, NameWriter};
+use gate_base::OutOfMemory;
+use std::alloc::Global;
+
+fn put_octets(writer: &mut NameWriter, octets: &[u8]) -> Result<(), OutOfMemory>
+    ensures { OnOk result (writer.new ≡ wrote writer.old (put octets.now)) }
+{
+    writer.put_octets(octets)
+}
+
+fn put_u16(writer: &mut NameWriter, number: u16) -> Result<(), OutOfMemory>
+    ensures { OnOk result (writer.new ≡ wrote writer.old (put (big_bytes 2 number))) }
+{
+    put_octets(writer, &number.to_be_bytes())
+}
+
+fn put_u32(writer: &mut NameWriter, number: u32) -> Result<(), OutOfMemory>
+    ensures { OnOk result (writer.new ≡ wrote writer.old (put (big_bytes 4 number))) }
+{
+    put_octets(writer, &number.to_be_bytes())
+}
+
+fn put_two(writer: &mut NameWriter, first: &Name, second: &Name) -> Result<(), OutOfMemory>
+    ensures text { OnOk result (writer.new ≡ wrote writer.old (name first.now ⨟ name second.now)) }
+    ensures names { OnOk result (IsName first.now × IsName second.now) }
+{
+    writer.put_name(first)?;
+    writer.put_name(second)?;
+    Ok(())
+}
+
+fn put_soa(
+    writer: &mut NameWriter,
+    first: &Name,
+    second: &Name,
+    octets: &[u8],
+) -> Result<(), OutOfMemory>
+    ensures text { OnOk result (writer.new ≡ wrote writer.old (name first.now ⨟ name second.now ⨟ put octets.now)) }
+    ensures names { OnOk result (IsName first.now × IsName second.now) }
+{
+    writer.put_name(first)?;
+    writer.put_name(second)?;
+    put_octets(writer, octets)?;
+    Ok(())
+}
+
+fn put_mx(writer: &mut NameWriter, preference: u16, exchange: &Name) -> Result<(), OutOfMemory>
+    ensures text { OnOk result (writer.new ≡ wrote writer.old (put (big_bytes 2 preference) ⨟ name exchange.now)) }
+    ensures names { OnOk result (IsName exchange.now) }
+{
+    put_u16(writer, preference)?;
+    writer.put_name(exchange)?;
+    Ok(())
+}
+
+fn put_content(writer: &mut NameWriter, content: &Content) -> Result<(), OutOfMemory>
+    ensures text { OnOk result (writer.new ≡ wrote writer.old (content_written content.now)) }
+    ensures fits { OnOk result (ContentFits content.now) }
+{
+    match content {
+        Content::Address(address) => put_u32(writer, address.0),
+        Content::One(name) => writer.put_name(name),
+        Content::Soa(first, second, octets) => put_soa(writer, first, second, octets.items()),
+        Content::Two(first, second) => put_two(writer, first, second),
+        Content::Mx(preference, exchange) => put_mx(writer, *preference, exchange),
+        Content::Octets(octets) => put_octets(writer, octets.items()),
+    }
+}
+
+/// The content behind its length.
+fn put_sized(writer: &mut NameWriter, content: &Content) -> Result<(), WriteStop>
+    ensures text { Writes result writer.old writer.new (sized (content_written content.now)) }
+    ensures fits { OnOk result (ContentFits content.now) }
+    ensures short { OnOk result (length writer.new.octets < 2 ^ 16) }
+{
+    let place = writer.len();
+    writer.put_octets(&[0, 0])?;
+    put_content(writer, content)?;
+    let end = writer.len();
+    if end > 65_535 {
+        return Err(WriteStop::TooLong);
+    }
+    writer.set_number(place, (end - (place + 2)) as u16);
+    Ok(())
+}
+
+fn put_head(writer: &mut NameWriter, resource: &Resource) -> Result<(), OutOfMemory>
+    ensures text { OnOk result (writer.new ≡ wrote writer.old (head_written resource.now)) }
+    ensures name { OnOk result (IsName resource.now.name) }
+    ensures kind { resource.now.kind < 2 ^ 16 }
+    ensures class { resource.now.class < 2 ^ 16 }
+    ensures lifetime { resource.now.lifetime < 2 ^ 32 }
+{
+    let (kind, class, lifetime) = (resource.kind, resource.class, resource.lifetime);
+    writer.put_name(&resource.name)?;
+    put_u16(writer, kind)?;
+    put_u16(writer, class)?;
+    put_u32(writer, lifetime)?;
+    Ok(())
+}
+
+fn put_resource(writer: &mut NameWriter, resource: &Resource) -> Result<(), WriteStop>
+    ensures text { Writes result writer.old writer.new (resource_written resource.now) }
+    ensures fits { OnOk result (ResourceFits resource.now) }
+{
+    put_head(writer, resource)?;
+    put_sized(writer, &resource.content)
+}
+
+/// Writes records, and stops as soon as all is too long.
+fn put_resources(writer: &mut NameWriter, resources: &[Resource]) -> Result<(), WriteStop>
+    ensures text { Writes result writer.old writer.new (resources_written resources.now) }
+    ensures fits { OnOk result (AllByRecursion ResourceFits resources.now) }
+{
+    for resource in resources {
+        put_resource(writer, resource)?;
+    }
+    Ok(())
+}
+
+fn put_one_question(writer: &mut NameWriter, question: &Question) -> Result<(), OutOfMemory>
+    ensures text { OnOk result (writer.new ≡ wrote writer.old (name question.now.name ⨟ put (big_bytes 2 question.now.kind) ⨟ put (big_bytes 2 question.now.class))) }
+    ensures name { OnOk result (IsName question.now.name) }
+    ensures kind { question.now.kind < 2 ^ 16 }
+    ensures class { question.now.class < 2 ^ 16 }
+{
+    let (kind, class) = (question.kind, question.class);
+    writer.put_name(&question.name)?;
+    put_u16(writer, kind)?;
+    put_u16(writer, class)?;
+    Ok(())
+}
+
+fn put_question(writer: &mut NameWriter, question: &Option<Question>) -> Result<(), OutOfMemory>
+    ensures text { OnOk result (writer.new ≡ wrote writer.old (questions_written question.now)) }
+    ensures fits { OnOk result (IfSome question.now QuestionFits) }
+{
+    match question {
+        None => put_octets(writer, &[]),
+        Some(question) => put_one_question(writer, question),
+    }
+}
+
+fn asked(question: &Option<Question>) -> u16
+    ensures { result ≡ question_count question.now }
+{
+    match question {
+        None => 0,
+        Some(_) => 1,
+    }
+}
+
+/// Whether the records of each part can be counted in 16 bits.
+fn can_be_counted(message: &Message) -> bool
+    ensures few { result ≡ true → (length message.now.answers < 2 ^ 16) × (length message.now.authority < 2 ^ 16) × (length message.now.additional < 2 ^ 16) }
+    ensures many { result ≡ false → 2 ^ 16 ≤ length message.now.answers + length message.now.authority + length message.now.additional }
+{
+    message.answers.items().len() <= 65_535
+        && message.authority.items().len() <= 65_535
+        && message.additional.items().len() <= 65_535
+}
+
+fn put_header(writer: &mut NameWriter, message: &Message) -> Result<(), OutOfMemory>
+    requires answers { length message.now.answers < 2 ^ 16 }
+    requires authority { length message.now.authority < 2 ^ 16 }
+    requires additional { length message.now.additional < 2 ^ 16 }
+    ensures text { OnOk result (writer.new ≡ wrote writer.old (header_written message.now)) }
+    ensures id { message.now.id < 2 ^ 16 }
+    ensures flags { message.now.flags < 2 ^ 16 }
+{
+    let (id, flags) = (message.id, message.flags);
+    put_u16(writer, id)?;
+    put_u16(writer, flags)?;
+    put_u16(writer, asked(&message.question))?;
+    put_u16(writer, message.answers.items().len() as u16)?;
+    put_u16(writer, message.authority.items().len() as u16)?;
+    put_u16(writer, message.additional.items().len() as u16)?;
+    Ok(())
+}
+
+fn put_message(writer: &mut NameWriter, message: &Message) -> Result<(), WriteStop>
+    requires answers { length message.now.answers < 2 ^ 16 }
+    requires authority { length message.now.authority < 2 ^ 16 }
+    requires additional { length message.now.additional < 2 ^ 16 }
+    ensures text { Writes result writer.old writer.new (message_written message.now) }
+    ensures fits { OnOk result (MessageFits message.now) }
+{
+    put_header(writer, message)?;
+    put_question(writer, &message.question)?;
+    put_resources(writer, message.answers.items())?;
+    put_resources(writer, message.authority.items())?;
+    put_resources(writer, message.additional.items())
+}
+
+/// The one spelling of a message: each name is as short as what stands before it lets it be. `TooLong` exactly where it, or
+/// the data of one record in it, would have more than 65,535 octets. The data of each record must be what its type and
+/// class hold.
+pub fn write_message(alloc: Global, message: &Message) -> Result<Vec<u8>, WriteStop>
+    requires { MessageSuits message.now }
+    ensures written { IfOk result (λ octets. octets.items ≡ spelling message.now) }
+    ensures short { IfOk result (λ octets. length octets.items < 2 ^ 16) }
+    ensures long { result ≡ Err WriteStop.TooLong → 2 ^ 16 ≤ length (spelling message.now) }
+    // It reads back as the message.
+    ensures again { IfOk result (λ octets. IsMessage octets.items message.now) }
+{
+    if !can_be_counted(message) {
+        return Err(WriteStop::TooLong);
+    }
+    let mut writer = NameWriter::make(Vec::new(alloc))?;
+    put_message(&mut writer, message)?;
+    if writer.len() > 65_535 {
+        return Err(WriteStop::TooLong);
+    }
+    Ok(writer.finish())
+}

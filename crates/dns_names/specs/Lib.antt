@@ -1,0 +1,10 @@
+pub mod Names
+pub mod Walk
+pub mod Pieces
+pub mod Chains
+pub mod Stops
+pub mod Spelling
+pub mod Writers
+pub mod Texts
+pub mod Reverse
+pub mod Octets

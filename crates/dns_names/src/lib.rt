@@ -1,0 +1,22 @@
+//! Domain names in DNS messages (RFC 1035): reading them, writing each as short as what was written before lets it be, and
+//! the reverse names of addresses.
+#![tactic(auto)]
+
+mod chains;
+mod laws;
+mod name;
+mod piece;
+mod reader;
+mod reverse;
+mod stop;
+mod writer;
+
+pub use laws::{found_is_lowest, names_read_back, one_name};
+pub use name::{Name, read_name};
+pub use reader::NameReader;
+pub use reverse::{address_of, reverse_of};
+pub use stop::NameStop;
+pub use writer::NameWriter;
+
+#[cfg(test)]
+mod tests;

@@ -1,0 +1,105 @@
+// Names, and reading them (RFC 1035, 3.1 and 4.1.4).
+ghost use Rattle.std.specs.Prelude.{◌≡◌, ℕ, List, IfOk, Err};
+ghost use Rattle.dns_names.specs.Names.{NameAt};
+ghost use Rattle.dns_names.specs.Walk.{name_at};
+ghost use Rattle.dns_names.specs.Chains.{AreEnds};
+ghost use Rattle.dns_names.specs.Stops.{Gives};
+
+use crate::chains::end_at;
+use crate::piece::{Found, piece_at};
+use crate::stop::NameStop;
+use gate_base::OutOfMemory;
+use std::alloc::Global;
+use std::marker::Model;
+
+/// A name, seen as the list of its labels: each has 1 to 63 octets, and written out with the root octet they have at most
+/// 255.
+#[derive(Drop)]
+pub struct Name {
+    pub(crate) octets: Vec<u8>,
+}
+
+impl Model for Name {
+    ghost use Rattle.std.specs.Prelude.{ℕ, List};
+    ghost use Rattle.dns_names.specs.Names.{labels_in, IsSpelled};
+
+    ghost Value = { List (List ℕ) };
+
+    ghost view = { λ n. labels_in n.octets.items };
+
+    ghost invariant = { λ n. IsSpelled n.octets.items (labels_in n.octets.items) };
+}
+
+impl Name {
+    ghost use Rattle.std.specs.Prelude.{◌≡◌, IfOk};
+    ghost use Rattle.dns_names.specs.Names.{IsName, IsSpelled};
+
+    /// The labels written out, each behind its length, without the root octet.
+    pub fn octets(&self) -> &[u8]
+        ensures { IsSpelled result.now self.now }
+    {
+        &self.octets
+    }
+
+    /// The same name once more.
+    pub fn try_clone(&self, alloc: Global) -> Result<Name, OutOfMemory>
+        ensures same { IfOk result (λ name. name ≡ self.now) }
+        ensures name { IsName self.now }
+    {
+        let octets = Vec::from_slice(alloc, &self.octets)?;
+        Ok(Name { octets })
+    }
+}
+
+/// The name at a place of a message, some chains of pointers of which are taken in one step.
+pub(crate) fn walk(
+    alloc: Global,
+    message: &[u8],
+    ends: &[u16],
+    place: usize,
+) -> Result<(Name, usize), NameStop>
+    requires { AreEnds message.now ends.now }
+    ensures found { IfOk result (λ x. NameAt message.now place x.0 x.1) }
+    ensures none { result ≡ Err NameStop.BadDns → (labels : List (List ℕ)) (after : ℕ) → NameAt message.now place labels after → ⊥ }
+{
+    let mut octets = Vec::new(alloc);
+    let mut start = place;
+    let mut at = place;
+    let mut after: Option<usize> = None;
+    'pieces: loop {
+        match piece_at(message, at) {
+            Found::Root => {
+                let end = after.unwrap_or(at + 1);
+                return Ok((Name { octets }, end));
+            }
+            Found::Label(label) => {
+                if octets.len() + 1 + label.len() > 254 {
+                    return Err(NameStop::BadDns);
+                }
+                octets.push(label.len() as u8)?;
+                octets.extend_from_slice(label)?;
+                at += 1 + label.len();
+            }
+            Found::Pointer(to) => {
+                if to >= start {
+                    return Err(NameStop::BadDns);
+                }
+                after = after.or(Some(at + 2));
+                start = end_at(ends, to);
+                at = start;
+            }
+            Found::Nothing => return Err(NameStop::BadDns),
+        }
+    }
+}
+
+/// The name that stands at a place, and the place after it. `BadDns` exactly where none stands there: where a label passes
+/// the end, an octet from 64 to 191 stands for a length, a pointer leads to no place below the start of its name, or the
+/// name has more than 255 octets when written out.
+pub fn read_name(alloc: Global, message: &[u8], place: usize) -> Result<(Name, usize), NameStop>
+    ensures found { IfOk result (λ x. NameAt message.now place x.0 x.1) }
+    ensures none { result ≡ Err NameStop.BadDns → (labels : List (List ℕ)) (after : ℕ) → NameAt message.now place labels after → ⊥ }
+    ensures exact { Gives (λ x. (x.0, x.1)) result (name_at message.now place) }
+{
+    walk(alloc, message, &[], place)
+}

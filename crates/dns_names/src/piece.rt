@@ -1,0 +1,59 @@
+// What stands at a place of a message (RFC 1035, 3.1 and 4.1.4).
+
+ghost use Rattle.std.specs.Prelude.{◌≡◌, length, ◌+◌};
+ghost use Rattle.dns_names.specs.Names.{piece_of, piece_at};
+ghost use Rattle.dns_names.specs.Pieces.{piece, IsWithin};
+
+/// What begins at a place.
+#[derive(Clone, Copy)]
+pub enum Found<'a> {
+    /// The root octet, which ends a name.
+    Root,
+    /// A label of 1 to 63 octets.
+    Label(&'a [u8]),
+    /// A pointer to a place.
+    Pointer(usize),
+    /// None of them.
+    Nothing,
+}
+
+fn piece_of(octets: &[u8]) -> Found<'_>
+    ensures is { piece_of octets.now ≡ piece result }
+    ensures within { IsWithin result 0 (length octets.now) }
+{
+    match octets {
+        [] => Found::Nothing,
+        [first, rest @ ..] => {
+            let first = *first;
+            if first == 0 {
+                return Found::Root;
+            }
+            if first < 64 {
+                let count = first as usize;
+                if rest.len() < count {
+                    return Found::Nothing;
+                }
+                return Found::Label(&rest[..count]);
+            }
+            if first < 192 {
+                return Found::Nothing;
+            }
+            match rest {
+                [] => Found::Nothing,
+                [low, ..] => Found::Pointer((first - 192) as usize * 256 + *low as usize),
+            }
+        }
+    }
+}
+
+/// What begins at a place: nothing where that is the end or behind it.
+#[tactic(auto, unfolding(crate::specs::Names::piece_at))]
+pub fn piece_at(message: &[u8], place: usize) -> Found<'_>
+    ensures is { piece_at message.now place ≡ piece result }
+    ensures within { IsWithin result place (length message.now) }
+{
+    if place >= message.len() {
+        return Found::Nothing;
+    }
+    piece_of(&message[place..])
+}

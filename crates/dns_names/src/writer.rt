@@ -1,0 +1,157 @@
+// Names one behind the other, each as short as it can be (RFC 1035, 4.1.4).
+ghost use Rattle.std.specs.Prelude.{◌≡◌, ◌+◌, ◌<◌, ◌≤◌, ◌++◌, [], length, OnOk, None};
+ghost use Rattle.dns_names.specs.Names.{labels_in, IsSpelled};
+ghost use Rattle.dns_names.specs.Spelling.{pointer, with_start, spell};
+ghost use Rattle.dns_names.specs.Writers.{starts_in, place_in, IsIndex};
+
+use crate::name::Name;
+use gate_base::{OutOfMemory, put_u16};
+use std::alloc::{AllocError, Global};
+use std::collections::BTreeMap;
+use std::marker::Model;
+
+fn place_of(places: &BTreeMap<Vec<u8>, u16>, octets: &[u8]) -> Option<u16>
+    ensures { result ≡ place_in places.now.entries octets.now }
+{
+    places.get(octets).copied()
+}
+
+/// Keeps the place of a label start, if a pointer can lead there.
+fn remember(
+    places: &mut BTreeMap<Vec<u8>, u16>,
+    alloc: Global,
+    octets: &[u8],
+    place: usize,
+) -> Result<(), AllocError>
+    requires absent { place_in places.old.entries octets.now ≡ None }
+    requires index { IsIndex places.old.entries place }
+    ensures starts { OnOk result (starts_in places.new.entries ≡ starts_in places.old.entries ++ with_start place octets.now []) }
+    ensures index { IsIndex places.new.entries (place + 1) }
+{
+    if place < 16_384 {
+        let key = Vec::from_slice(alloc, octets)?;
+        places.insert(key, place as u16)?;
+    }
+    Ok(())
+}
+
+fn put_pointer(out: &mut Vec<u8>, place: u16) -> Result<(), AllocError>
+    requires { place < 16384 }
+    ensures octets { OnOk result (out.new.items ≡ out.old.items ++ pointer place) }
+    ensures longer { length out.old.items ≤ length out.new.items }
+{
+    out.push(192 + (place / 256) as u8)?;
+    out.push((place % 256) as u8)?;
+    Ok(())
+}
+
+/// Writes a name, and keeps its label starts.
+fn put_labels(
+    places: &mut BTreeMap<Vec<u8>, u16>,
+    alloc: Global,
+    name: &[u8],
+    out: &mut Vec<u8>,
+) -> Result<(), AllocError>
+    requires spelled { IsSpelled name.now (labels_in name.now) }
+    requires index { IsIndex places.old.entries (length out.old.items) }
+    ensures octets { OnOk result (out.new.items ≡ out.old.items ++ (spell (starts_in places.old.entries) (length out.old.items) (labels_in name.now)).octets) }
+    ensures starts { OnOk result (starts_in places.new.entries ≡ starts_in places.old.entries ++ (spell (starts_in places.old.entries) (length out.old.items) (labels_in name.now)).starts) }
+    ensures index { IsIndex places.new.entries (length out.new.items) }
+{
+    let mut rest = name;
+    'labels: while let [count, ..] = rest {
+        let count = *count as usize;
+        match place_of(places, rest) {
+            Some(place) => return put_pointer(out, place),
+            None => {}
+        }
+        let place = out.len();
+        let (label, after) = rest.split_at(1 + count);
+        out.extend_from_slice(label)?;
+        remember(places, alloc, rest, place)?;
+        rest = after;
+    }
+    out.push(0)?;
+    Ok(())
+}
+
+/// Octets and names, one behind the other. Contracts see the octets, and the label starts below 16,384 in them with what
+/// stands there.
+#[derive(Drop)]
+pub struct NameWriter {
+    octets: Vec<u8>,
+    places: BTreeMap<Vec<u8>, u16>,
+}
+
+impl Model for NameWriter {
+    ghost use Rattle.std.specs.Prelude.{length};
+    ghost use Rattle.dns_names.specs.Spelling.{Text};
+
+    ghost Value = { Text };
+
+    ghost use Rattle.dns_names.specs.Writers.{starts_in, IsIndex};
+
+    ghost view = { λ w. record { octets = w.octets.items; starts = starts_in w.places.entries } };
+
+    ghost invariant = { λ w. IsIndex w.places.entries (length w.octets.items) };
+}
+
+impl NameWriter {
+    ghost use Rattle.std.specs.Prelude.{IfOk};
+    ghost use Rattle.dns_names.specs.Names.{IsName};
+    ghost use Rattle.dns_names.specs.Spelling as spelling;
+    ghost use Rattle.dns_names.specs.Texts.{nothing};
+
+    /// A writer behind a target that is empty, whose allocator it goes on with. Nothing is written yet.
+    pub fn make(target: Vec<u8>) -> Result<NameWriter, OutOfMemory>
+        requires { target.items ≡ [] }
+        ensures { IfOk result (λ writer. writer ≡ nothing) }
+    {
+        let places = BTreeMap::new(*target.allocator());
+        Ok(NameWriter {
+            octets: target,
+            places,
+        })
+    }
+
+    /// How many octets were written so far.
+    pub fn len(&self) -> usize
+        ensures { result ≡ length self.now.octets }
+    {
+        self.octets.len()
+    }
+
+    /// Writes octets that are no name.
+    pub fn put_octets(&mut self, octets: &[u8]) -> Result<(), OutOfMemory>
+        ensures { OnOk result (self.new ≡ spelling.put_octets self.old octets.now) }
+    {
+        self.octets.extend_from_slice(octets)?;
+        Ok(())
+    }
+
+    /// Writes a name label by label, until a suffix of it stands already. Then a pointer to its lowest place ends the name.
+    pub fn put_name(&mut self, name: &Name) -> Result<(), OutOfMemory>
+        ensures text { OnOk result (self.new ≡ spelling.put_name self.old name.now) }
+        ensures name { IsName name.now }
+    {
+        let alloc = *self.octets.allocator();
+        put_labels(&mut self.places, alloc, name.octets(), &mut self.octets)?;
+        Ok(())
+    }
+
+    /// Sets a number of 16 bits over two octets that were written before.
+    pub fn set_number(&mut self, place: usize, number: u16)
+        requires { place + 2 ≤ length self.old.octets }
+        ensures { self.new ≡ spelling.with_number self.old place number }
+    {
+        put_u16(&mut self.octets, place, number);
+    }
+
+    /// The octets that were written.
+    pub fn finish(self) -> Vec<u8>
+        ensures { result.items ≡ self.octets }
+    {
+        let NameWriter { octets, .. } = self;
+        octets
+    }
+}
