@@ -1,5 +1,5 @@
 // Names one behind the other, each as short as it can be (RFC 1035, 4.1.4).
-ghost use Rattle.std.specs.Prelude.{◌≡◌, ◌+◌, ◌<◌, ◌≤◌, ◌++◌, [], length, OnOk, None};
+ghost use Rattle.std.specs.Prelude.{◌≡◌, ◌+◌, ◌<◌, ◌≤◌, ◌++◌, [], length, OnOk, OnErr, None};
 ghost use Rattle.dns_names.specs.Names.{labels_in, IsSpelled};
 ghost use Rattle.dns_names.specs.Spelling.{pointer, with_start, spell};
 ghost use Rattle.dns_names.specs.Writers.{starts_in, place_in, IsIndex};
@@ -121,15 +121,17 @@ impl NameWriter {
         self.octets.len()
     }
 
-    /// Writes octets that are no name.
+    /// Writes octets that are no name, or nothing where memory runs out.
     pub fn put_octets(&mut self, octets: &[u8]) -> Result<(), OutOfMemory>
-        ensures { OnOk result (self.new ≡ spelling.put_octets self.old octets.now) }
+        ensures text { OnOk result (self.new ≡ spelling.put_octets self.old octets.now) }
+        ensures kept { OnErr result (self.new ≡ self.old) }
     {
         self.octets.extend_from_slice(octets)?;
         Ok(())
     }
 
     /// Writes a name label by label, until a suffix of it stands already. Then a pointer to its lowest place ends the name.
+    /// Where memory runs out, a part of it is written.
     pub fn put_name(&mut self, name: &Name) -> Result<(), OutOfMemory>
         ensures text { OnOk result (self.new ≡ spelling.put_name self.old name.now) }
         ensures name { IsName name.now }

@@ -1,0 +1,99 @@
+// Pieces as datagrams.
+ghost use Rattle.std.specs.Prelude.{◌≡◌, ◌≤◌, ◌<◌, ◌+◌, ◌-◌, ◌*◌, ◌^◌, ℕ, List, ◌++◌, length, vec_capacity};
+ghost use Rattle.std.specs.List.{flat_map};
+ghost use Rattle.tcp_segments.specs.Tcp.{IsTcpHeader, spelled_segment, datagram_of};
+ghost use Rattle.resegment.specs.Pieces.{piece_count};
+ghost use Rattle.resegment.specs.Datagrams.{datagrams, ends_from, room_for, flags_of};
+
+use crate::cut::{piece, pieces};
+use gate_base::Addr;
+use tcp_segments::put_segment;
+
+const FIN: u8 = 1;
+
+const PSH: u8 = 8;
+
+/// What all pieces of one segment have from their models: an IPv4 header of 20 octets, a TCP header, and the new fields.
+#[derive(Clone, Copy)]
+pub struct SegmentModel<'a> {
+    pub ip: &'a [u8],
+    pub tcp: &'a [u8],
+    pub source: Addr,
+    pub destination: Addr,
+    pub lifetime: u8,
+    /// The number of the first piece's first octet.
+    pub sequence: u32,
+    pub acknowledgement: u32,
+    pub flags: u8,
+}
+
+/// Appends each piece of the octets as a whole datagram, and its end in the outbox to `ends`. FIN and PSH stand on the last
+/// piece alone.
+///
+/// The limit is at least 1, and with the TCP header's options at most 65,495 octets, which is what a datagram holds. Both
+/// lists have room for all of it, so no memory is taken.
+pub fn put_pieces(
+    outbox: &mut Vec<u8>,
+    ends: &mut Vec<u32>,
+    model: &SegmentModel,
+    octets: &[u8],
+    limit: usize,
+)
+    requires some { 1 ≤ limit }
+    requires fits { limit + (length model.now.tcp.now - 20) ≤ 65495 }
+    requires ip { length model.now.ip.now ≡ 20 }
+    requires tcp { IsTcpHeader model.now.tcp.now }
+    requires room { length outbox.old.items + room_for model.now (length octets.now) limit ≤ vec_capacity outbox.old }
+    requires below { length outbox.old.items + room_for model.now (length octets.now) limit < 2 ^ 32 }
+    requires ends { length ends.old.items + piece_count (length octets.now) limit ≤ vec_capacity ends.old }
+    ensures octets { outbox.new.items ≡ outbox.old.items ++ flat_map (λ datagram. datagram) (datagrams model.now octets.now limit) }
+    ensures ends { ends.new.items ≡ ends.old.items ++ ends_from (length outbox.old.items) (datagrams model.now octets.now limit) }
+    ensures room { vec_capacity outbox.old ≤ vec_capacity outbox.new }
+    ensures more { vec_capacity ends.old ≤ vec_capacity ends.new }
+{
+    for index in 0..pieces(octets.len(), limit) {
+        let (start, end) = piece(octets.len(), limit, index);
+        let flags = piece_flags(model.flags, end < octets.len());
+        let sequence = model.sequence.wrapping_add(start as u32);
+        put_datagram(outbox, model, sequence, flags, &octets[start..end]);
+        ends.push_reserved(outbox.len() as u32);
+    }
+}
+
+fn piece_flags(flags: u8, more_follow: bool) -> u8
+    ensures { result ≡ flags_of flags more_follow }
+{
+    if more_follow {
+        flags & !(FIN | PSH)
+    } else {
+        flags
+    }
+}
+
+fn put_datagram(outbox: &mut Vec<u8>, model: &SegmentModel, sequence: u32, flags: u8, octets: &[u8])
+    requires ip { length model.now.ip.now ≡ 20 }
+    requires tcp { IsTcpHeader model.now.tcp.now }
+    requires fits { 20 + (length model.now.tcp.now + length octets.now) ≤ 65535 }
+    requires room { length outbox.old.items + (20 + (length model.now.tcp.now + length octets.now)) ≤ vec_capacity outbox.old }
+    ensures octets { let m = model.now in let segment = spelled_segment m.tcp.now m.source.0 m.destination.0 sequence m.acknowledgement flags octets.now in
+        outbox.new.items ≡ outbox.old.items ++ datagram_of m.ip.now m.source.0 m.destination.0 m.lifetime segment }
+    ensures len { length outbox.new.items ≡ length outbox.old.items + (20 + (length model.now.tcp.now + length octets.now)) }
+    ensures room { vec_capacity outbox.old ≤ vec_capacity outbox.new }
+{
+    let start = outbox.len();
+    let end = start + 20 + model.tcp.len() + octets.len();
+    if outbox.resize(end, 0).is_ok() {
+        put_segment(
+            &mut outbox[start..],
+            model.ip,
+            model.tcp,
+            model.source,
+            model.destination,
+            model.lifetime,
+            sequence,
+            model.acknowledgement,
+            flags,
+            octets,
+        );
+    }
+}

@@ -1,0 +1,13 @@
+pub mod SamePushes
+pub mod OctetSteps
+pub mod RunLemmas
+pub mod DuePlaces
+pub mod SenderLemmas
+pub mod SenderSteps
+pub mod RearBack
+pub mod HeldCover
+pub mod PlacesKept
+pub mod SessionLemmas
+pub mod RangeLemmas
+pub mod OpenLines
+pub mod Begins

@@ -1,0 +1,86 @@
+-- The first reason for which a segment of a session is refused (RFC 9293, 3.10.7), by what is known of its sender, its receiver and itself.
+use Rattle.std.specs.Prelude.{◌+◌, ◌-◌, ◌^◌, Bool, true, false, not, ◌&&◌, ◌||◌, cond, nat_lt, nat_le, ◌==◌, List, [], ◌∷◌, Option, Some, None, is_some, is_none}
+use Rattle.gate_base.specs.declared.refusal.Refusal.{Refusal}
+use Rattle.gate_base.specs.declared.refusal.Refusal.TheVariants.{NoSession, SynData, SynInSession, NoAck, Gap, PastEnd, AckAhead, StreamLimit}
+use Rattle.stream_model.specs.Numbers.{number_at, known, is_number, one_if}
+use Rattle.stream_model.specs.Session.{Session, Segment, own, other, extent, arrival, start_at, acknowledged_at}
+use Rattle.stream_model.specs.declared.numbers.Near.{Near}
+use Rattle.stream_model.specs.declared.verdict.Arrival.{Arrival}
+use Rattle.stream_model.specs.declared.verdict.Extent.{Extent}
+
+-- a segment with neither SYN nor RST
+abbrev pub is_data : Arrival → Bool
+is_data segment = not segment.flags.syn && not segment.flags.reset
+
+-- such a segment, and an initial number is not known
+abbrev pub no_session : Extent → Extent → Arrival → Bool
+no_session sender receiver segment = is_data segment && (is_none sender.initial || is_none receiver.initial)
+
+-- a SYN with octets, FIN or RST
+abbrev pub syn_data : Arrival → Bool
+syn_data segment = segment.flags.syn && (nat_lt 0 segment.count || segment.flags.fin || segment.flags.reset)
+
+-- the client's SYN has no ACK and repeats its number; the server's has ACK, and brings its number or repeats it
+abbrev pub opens : Bool → Extent → Arrival → Bool
+opens true sender segment = not segment.flags.ack && is_number sender.initial segment.sequence
+opens false sender segment = segment.flags.ack && (is_none sender.initial || is_number sender.initial segment.sequence)
+
+-- a SYN that is neither
+abbrev pub syn_in_session : Bool → Extent → Arrival → Bool
+syn_in_session from_client sender segment = segment.flags.syn && not (opens from_client sender segment)
+
+-- neither SYN nor RST nor ACK
+abbrev pub no_ack : Arrival → Bool
+no_ack segment = is_data segment && not segment.flags.ack
+
+-- no SYN, and it starts after the sender's octets so far and their end
+abbrev pub gap : Extent → Arrival → Bool
+gap sender segment = not segment.flags.syn && is_some sender.initial && nat_lt (one_if sender.ended) (start_at sender segment).after
+
+-- with its start: octets beyond an end; an end that is not where the octets ended; an end before the octets so far
+abbrev pub past_end_at : Extent → Arrival → Near → Bool
+past_end_at sender segment start =
+    (sender.ended && nat_lt 0 segment.count && nat_lt start.before (start.after + segment.count))
+    || (sender.ended && segment.flags.fin && not (start.after + segment.count == start.before))
+    || (not sender.ended && segment.flags.fin && nat_lt (start.after + segment.count) start.before)
+
+-- it has neither SYN nor RST, and is past an end
+abbrev pub past_end : Extent → Arrival → Bool
+past_end sender segment = is_data segment && past_end_at sender segment (start_at sender segment)
+
+-- a SYN with ACK acknowledges the client's initial number; no other segment acknowledges more than was sent
+abbrev pub ack_ahead : Extent → Arrival → Bool
+ack_ahead receiver segment =
+    cond (segment.flags.syn && segment.flags.ack)
+    (not (segment.acknowledgement == number_at (known receiver.initial) 0))
+    (segment.flags.ack && is_some receiver.initial && nat_lt (one_if receiver.ended) (acknowledged_at receiver segment).after)
+
+-- the sender would have 2 ^ 30 octets or more
+abbrev pub stream_limit : Extent → Arrival → Bool
+stream_limit sender segment = is_data segment && nat_le (2 ^ 30) (sender.octets + (segment.count - (start_at sender segment).before))
+
+-- the tests in their order
+abbrev pub tests : Bool → Extent → Extent → Arrival → List (Bool × Refusal)
+tests from_client sender receiver segment =
+    (no_session sender receiver segment, NoSession)
+    ∷ (syn_data segment, SynData)
+    ∷ (syn_in_session from_client sender segment, SynInSession)
+    ∷ (no_ack segment, NoAck)
+    ∷ (gap sender segment, Gap)
+    ∷ (past_end sender segment, PastEnd)
+    ∷ (ack_ahead receiver segment, AckAhead)
+    ∷ (stream_limit sender segment, StreamLimit)
+    ∷ []
+
+-- the refusal of the first test that holds
+abbrev pub first_that_holds : List (Bool × Refusal) → Option Refusal
+first_that_holds [] = None
+first_that_holds (test ∷ others) = cond test.0 (Some test.1) (first_that_holds others)
+
+-- the verdict, by what is known of both senders and of the segment
+abbrev pub refusal_of : Bool → Extent → Extent → Arrival → Option Refusal
+refusal_of from_client sender receiver segment = first_that_holds (tests from_client sender receiver segment)
+
+-- why a segment of the client (true), or of the server, is refused
+abbrev pub session_verdict : Bool → Session → Segment → Option Refusal
+session_verdict from_client s segment = refusal_of from_client (extent (own from_client s)) (extent (other from_client s)) (arrival segment)
