@@ -5,7 +5,7 @@ use std::alloc::{AllocError, Global};
 use std::{fs, io};
 
 /// The words of a run. A desk in memory takes any names.
-const WORDS: &str = "run settings left right left_out right_out -";
+pub(crate) const WORDS: &str = "run settings left right left_out right_out -";
 
 // A word. `_` stands for an empty one.
 fn word_of(alloc: Global, word: &str) -> Result<String, AllocError> {
@@ -29,13 +29,14 @@ pub(crate) fn run_gate<D: Desk>(alloc: Global, words: &[String], desk: &mut D) -
     realm_gate(alloc, words, desk)
 }
 
-// A file of a case. Its name begins with the case's.
-fn read_part(rt: &HostRuntime, name: &str, part: &str) -> io::Result<Vec<u8>> {
+/// A file of a case. Its name begins with the case's.
+pub(crate) fn read_part(rt: &HostRuntime, name: &str, part: &str) -> io::Result<Vec<u8>> {
     let path = format!(in rt.alloc(); "{name}.{part}")?;
     fs::read(rt, path.as_str())
 }
 
-fn is_part(rt: &HostRuntime, name: &str, part: &str, octets: &[u8]) -> io::Result<bool> {
+/// Whether a file of a case holds these octets.
+pub(crate) fn is_part(rt: &HostRuntime, name: &str, part: &str, octets: &[u8]) -> io::Result<bool> {
     let wanted = read_part(rt, name, part)?;
     Ok(wanted.as_slice() == octets)
 }
@@ -45,18 +46,29 @@ fn is_front_of_part(rt: &HostRuntime, name: &str, part: &str, octets: &[u8]) -> 
     Ok(wanted.starts_with(octets))
 }
 
-// A desk that holds what the run is given.
-fn desk_of(rt: &HostRuntime, name: &str) -> io::Result<MemoryDesk> {
+/// A desk that holds these captures, and the settings of a case.
+pub(crate) fn desk_over(
+    rt: &HostRuntime,
+    name: &str,
+    left: Vec<u8>,
+    right: Vec<u8>,
+) -> io::Result<MemoryDesk> {
     let settings = read_part(rt, name, "settings.toml")?;
-    let left = read_part(rt, name, "left.pcap")?;
-    let right = read_part(rt, name, "right.pcap")?;
     match MemoryDesk::make(rt.alloc(), settings, left, right) {
         Ok(desk) => Ok(desk),
         Err(_) => Err(io::Error::from(AllocError)),
     }
 }
 
-fn has_status(rt: &HostRuntime, name: &str, status: Status) -> io::Result<bool> {
+// A desk that holds what the run is given.
+fn desk_of(rt: &HostRuntime, name: &str) -> io::Result<MemoryDesk> {
+    let left = read_part(rt, name, "left.pcap")?;
+    let right = read_part(rt, name, "right.pcap")?;
+    desk_over(rt, name, left, right)
+}
+
+/// Whether a status is that of a case.
+pub(crate) fn has_status(rt: &HostRuntime, name: &str, status: Status) -> io::Result<bool> {
     let code = status.code();
     let line = format!(in rt.alloc(); "{code}\n")?;
     is_part(rt, name, "status", line.as_bytes())
