@@ -2,10 +2,9 @@
 use Rattle.std.proofs.Common.{◌≡◌, ℕ, zero, suc, ◌<◌, ◌⊎◌, Bool, true, false, ◌&&◌, ◌||◌, ◌==◌, List, [], ◌∷◌, length, get_or, Option, Some, None, option_map, refl, sym, ◌∙◌, ap, subst, arith, inl, inr}
 use Rattle.std.specs.List.{find}
 use Rattle.std.proofs.lemmas.Bool.{cases_Bool, and_parts, and_from, or_left, or_right, eqb-true, eq-eqb}
-use Rattle.gate_base.specs.Side.{other}
+use Rattle.gate_base.specs.Side.{other, same_side}
 use Rattle.gate_base.specs.declared.address.Addr.{Addr}
 use Rattle.gate_base.specs.declared.side.Side.{Side}
-use Rattle.gate_settings.specs.Cross.{is_same_side}
 use Rattle.realm_pools.specs.Addresses.{Addresses, least_free}
 use Rattle.binding_table.specs.declared.binding.Binding.{Binding}
 use Rattle.binding_table.specs.declared.binding.Crossing.TheVariants.{Known}
@@ -41,30 +40,30 @@ find_only test (binding ∷ rest) (suc place) d within passes before = rw (befor
 
 -- ## Two bindings with the same host or alias are one
 
-both_collide : (s t u : Side) (hosts aliases : Bool) → is_same_side s u ≡ true → is_same_side t u ≡ true → (hosts || aliases) ≡ true → (is_same_side s t && (hosts || aliases)) ≡ true
+both_collide : (s t u : Side) (hosts aliases : Bool) → same_side s u ≡ true → same_side t u ≡ true → (hosts || aliases) ≡ true → (same_side s t && (hosts || aliases)) ≡ true
 both_collide s t u hosts aliases p q h = and_from _ _ (rw (same_side-true s u p, same_side-true t u q) (same_side-itself u)) h
 
 -- no earlier binding has the host of this one
-host_before : (table : Bindings) (side : Side) (host : Addr) (place : ℕ) (d : Binding) → IsLawful table → place < length table.entries → is_same_side (get_or table.entries place d).side side ≡ true → (get_or table.entries place d).host ≡ host → (k : ℕ) → k < place → is_of_host side host.0 (get_or table.entries k d) ≡ false
+host_before : (table : Bindings) (side : Side) (host : Addr) (place : ℕ) (d : Binding) → IsLawful table → place < length table.entries → same_side (get_or table.entries place d).side side ≡ true → (get_or table.entries place d).host ≡ host → (k : ℕ) → k < place → is_of_host side host.0 (get_or table.entries k d) ≡ false
 host_before table side host place d lawful within sides hosts k less =
     let binding = get_or table.entries place d in
     let earlier = get_or table.entries k d in
     elim (cases_Bool (is_of_host side host.0 earlier)) [
       | inl holds ↦
-          let parts = and_parts (is_same_side earlier.side side) (earlier.host.0 == host.0) holds in
+          let parts = and_parts (same_side earlier.side side) (earlier.host.0 == host.0) holds in
           let same : (earlier.host.0 == binding.host.0) ≡ true = rw hosts parts.1 in
           cc (lawful.once k place d less within, both_collide earlier.side binding.side side (earlier.host.0 == binding.host.0) (earlier.alias.0 == binding.alias.0) parts.0 sides (or_left _ _ same))
       | inr fails ↦ fails
     ]
 
 -- no earlier binding has the alias of this one
-alias_before : (table : Bindings) (side : Side) (alias : Addr) (place : ℕ) (d : Binding) → IsLawful table → place < length table.entries → is_same_side (get_or table.entries place d).side (other side) ≡ true → (get_or table.entries place d).alias ≡ alias → (k : ℕ) → k < place → is_of_alias side alias.0 (get_or table.entries k d) ≡ false
+alias_before : (table : Bindings) (side : Side) (alias : Addr) (place : ℕ) (d : Binding) → IsLawful table → place < length table.entries → same_side (get_or table.entries place d).side (other side) ≡ true → (get_or table.entries place d).alias ≡ alias → (k : ℕ) → k < place → is_of_alias side alias.0 (get_or table.entries k d) ≡ false
 alias_before table side alias place d lawful within sides aliases k less =
     let binding = get_or table.entries place d in
     let earlier = get_or table.entries k d in
     elim (cases_Bool (is_of_alias side alias.0 earlier)) [
       | inl holds ↦
-          let parts = and_parts (is_same_side earlier.side (other side)) (earlier.alias.0 == alias.0) holds in
+          let parts = and_parts (same_side earlier.side (other side)) (earlier.alias.0 == alias.0) holds in
           let same : (earlier.alias.0 == binding.alias.0) ≡ true = rw aliases parts.1 in
           cc (lawful.once k place d less within, both_collide earlier.side binding.side (other side) (earlier.host.0 == binding.host.0) (earlier.alias.0 == binding.alias.0) parts.0 sides (or_right _ _ same))
       | inr fails ↦ fails
@@ -97,7 +96,7 @@ crosses_back table side address image lawful known =
       | inl by_pool ↦
           let found = finds (λ binding. binding.host) (is_of_alias side address.0) table.entries d image by_pool.2 in
           let binding = get_or table.entries found.place d in
-          let parts = and_parts (is_same_side binding.side (other side)) (binding.alias.0 == address.0) found.passes in
+          let parts = and_parts (same_side binding.side (other side)) (binding.alias.0 == address.0) found.passes in
           let sides : binding.side ≡ other side = same_side-true binding.side (other side) parts.0 in
           let place = lawful.places found.place d found.within in
           let passes : is_of_host (other side) image.0 binding ≡ true = and_from _ _ parts.0 (rw found.gives (eq-eqb image.0 image.0 refl)) in
@@ -111,10 +110,10 @@ crosses_back table side address image lawful known =
       | inr by_host ↦
           let found = finds (λ binding. binding.alias) (is_of_host side address.0) table.entries d image by_host.2 in
           let binding = get_or table.entries found.place d in
-          let parts = and_parts (is_same_side binding.side side) (binding.host.0 == address.0) found.passes in
+          let parts = and_parts (same_side binding.side side) (binding.host.0 == address.0) found.passes in
           let sides : binding.side ≡ side = same_side-true binding.side side parts.0 in
           let place = lawful.places found.place d found.within in
-          let twice : is_same_side binding.side (other (other side)) ≡ true = rw (other_other side) parts.0 in
+          let twice : same_side binding.side (other (other side)) ≡ true = rw (other_other side) parts.0 in
           let passes : is_of_alias (other side) image.0 binding ≡ true = and_from _ _ twice (rw found.gives (eq-eqb image.0 image.0 refl)) in
           let only = find_only (is_of_alias (other side) image.0) table.entries found.place d found.within passes (alias_before table (other side) image found.place d lawful found.within twice found.gives) in
           let S : Side → Type 0 = λ s. in_pool table (other s) binding.alias ≡ true in

@@ -3,11 +3,10 @@ use Rattle.std.proofs.Common.{IfSome, ◌≡◌, ◌≤◌, ℕ, ◌<◌, Bool, 
 use Rattle.std.specs.List.{find, list_any}
 use Rattle.std.proofs.lemmas.List.Folds.{list_any_at}
 use Rattle.std.proofs.lemmas.Bool.{cases_Bool}
-use Rattle.gate_base.specs.Side.{other}
+use Rattle.gate_base.specs.Side.{other, same_side}
 use Rattle.gate_base.specs.declared.address.Addr.{Addr}
 use Rattle.gate_base.specs.declared.event.Moment.{Moment}
 use Rattle.gate_base.specs.declared.side.Side.{Side}
-use Rattle.gate_settings.specs.Cross.{is_same_side}
 use Rattle.realm_pools.specs.Addresses.{Range, is_free, least_free, IsLeastFree}
 use Rattle.realm_pools.proofs.Free.{HasFlags, least_from}
 use Rattle.binding_table.specs.Steps.{CanHold}
@@ -90,8 +89,8 @@ can_bind table side host alias until lawful u free =
           let hosts = fails_at (is_of_host side host.0) table.entries k d within (none_found (is_of_host side host.0) table.entries u.alias) in
           let aliases = fails_at (is_of_alias (other side) alias.0) table.entries k d within parts.1 in
           let earlier = get_or table.entries k d in
-          let P : Side → Type 0 = λ s. (is_same_side earlier.side s && earlier.alias.0 == alias.0) ≡ false in
-          apart_by (is_same_side earlier.side side) (earlier.host.0 == host.0) (earlier.alias.0 == alias.0) hosts (subst P (other_other side) aliases);
+          let P : Side → Type 0 = λ s. (same_side earlier.side s && earlier.alias.0 == alias.0) ≡ false in
+          apart_by (same_side earlier.side side) (earlier.host.0 == host.0) (earlier.alias.0 == alias.0) hosts (subst P (other_other side) aliases);
     }
   where
     fails_at : (test : Binding → Bool) (entries : List Binding) (k : ℕ) (d : Binding) → k < length entries → list_any test entries ≡ false → test (get_or entries k d) ≡ false

@@ -7,11 +7,10 @@ use Rattle.std.proofs.lemmas.List.Elements.{All-head, All-tail, All-weaker, All-
 use Rattle.std.proofs.lemmas.List.Kept.{AllPairs-filter}
 use Rattle.std.proofs.lemmas.List.Quantifiers.{all_pairs_push}
 use Rattle.std.proofs.lemmas.Bool.{or_left, or_right, lt-ltb, cases_Bool}
-use Rattle.gate_base.specs.Side.{other}
+use Rattle.gate_base.specs.Side.{other, same_side}
 use Rattle.gate_base.specs.declared.address.Addr.{Addr}
 use Rattle.gate_base.specs.declared.event.Moment.{Moment}
 use Rattle.gate_base.specs.declared.side.Side.{Side}
-use Rattle.gate_settings.specs.Cross.{is_same_side}
 use Rattle.realm_pools.specs.Addresses.{Range, is_in, is_free, is_taken}
 use Rattle.binding_table.specs.Steps.{AreTaken, CanHold, changed}
 use Rattle.binding_table.specs.declared.binding.Binding.{Binding}
@@ -25,25 +24,25 @@ in_place_too table entries binding place = record { alias = place.alias; outside
 
 -- ## A binding more
 
-pub alias_within : (table : Bindings) (binding : Binding) (side : Side) → in_pool table (other binding.side) binding.alias ≡ true → is_same_side binding.side (other side) ≡ true → is_in binding.alias (range_of table side) ≡ true
+pub alias_within : (table : Bindings) (binding : Binding) (side : Side) → in_pool table (other binding.side) binding.alias ≡ true → same_side binding.side (other side) ≡ true → is_in binding.alias (range_of table side) ≡ true
 alias_within table binding side within h =
     let same : other binding.side ≡ side = ap other (same_side-true binding.side (other side) h) ∙ other_other side in
     let P : Side → Type 0 = λ s. in_pool table s binding.alias ≡ true in
     subst P same within
 
-pub unused_by_all : (side : Side) (entries : List Binding) (binding : Binding) → is_same_side binding.side (other side) ≡ true → All (λ earlier. collides binding earlier ≡ false) entries → is_used side entries binding.alias.0 ≡ false
+pub unused_by_all : (side : Side) (entries : List Binding) (binding : Binding) → same_side binding.side (other side) ≡ true → All (λ earlier. collides binding earlier ≡ false) entries → is_used side entries binding.alias.0 ≡ false
 unused_by_all side entries binding h apart =
     list_any_none (is_of_alias side binding.alias.0) entries
     (All-weaker (λ earlier. collides binding earlier ≡ false) (λ earlier. is_of_alias side binding.alias.0 earlier ≡ false) (λ earlier. other_alias side binding earlier h) entries apart)
 
 -- the alias of a binding that the table can hold is free
-pub lone : (table : Bindings) (binding : Binding) (side : Side) → CanHold table binding → is_same_side binding.side (other side) ≡ true → IsLone (range_of table side) side table.entries binding
+pub lone : (table : Bindings) (binding : Binding) (side : Side) → CanHold table binding → same_side binding.side (other side) ≡ true → IsLone (range_of table side) side table.entries binding
 lone table binding side can h = record {
   within = alias_within table binding side can.place.alias h;
   unused = unused_by_all side table.entries binding h can.once;
 }
 
-pub free_for : (table : Bindings) (binding : Binding) (side : Side) → CanHold table binding → is_same_side binding.side (other side) ≡ true → IsTrue (is_free binding.alias (pool_of table side))
+pub free_for : (table : Bindings) (binding : Binding) (side : Side) → CanHold table binding → same_side binding.side (other side) ≡ true → IsTrue (is_free binding.alias (pool_of table side))
 free_for table binding side can h =
     let l = lone table binding side can h in
     free_alias (range_of table side) side table.entries binding.alias l.within l.unused
@@ -80,7 +79,7 @@ others_apart test entries place d within once =
     All-append P (filter test (take place entries)) (drop (place + 1) entries) (All-filter test P (take place entries) before) after
 
 -- the alias of the binding at a place is that of no other binding that is left
-lone_at : (test : Binding → Bool) (table : Bindings) (side : Side) (place : ℕ) (d : Binding) → AreTaken table → place < length table.entries → is_same_side (get_or table.entries place d).side (other side) ≡ true → IsLone (range_of table side) side (filter test (take place table.entries) ++ drop (place + 1) table.entries) (get_or table.entries place d)
+lone_at : (test : Binding → Bool) (table : Bindings) (side : Side) (place : ℕ) (d : Binding) → AreTaken table → place < length table.entries → same_side (get_or table.entries place d).side (other side) ≡ true → IsLone (range_of table side) side (filter test (take place table.entries) ++ drop (place + 1) table.entries) (get_or table.entries place d)
 lone_at test table side place d are within h = record {
   within = alias_within table (get_or table.entries place d) side (are.aliases place d within) h;
   unused = unused_by_all side _ (get_or table.entries place d) h (others_apart test table.entries place d within are.once);
@@ -114,7 +113,7 @@ left_changed test table side place d are within h =
     ∙ ap (λ entries. pool_with range side entries) (sym (left_gone test table.entries place d within h))
 
 -- the alias of a binding that is left is taken
-pub taken_at : (test : Binding → Bool) (table : Bindings) (side : Side) (place : ℕ) (d : Binding) → AreTaken table → place < length table.entries → is_same_side (get_or table.entries place d).side (other side) ≡ true → IsTrue (is_taken (get_or table.entries place d).alias (pool_with (range_of table side) side (left_at test table.entries place)))
+pub taken_at : (test : Binding → Bool) (table : Bindings) (side : Side) (place : ℕ) (d : Binding) → AreTaken table → place < length table.entries → same_side (get_or table.entries place d).side (other side) ≡ true → IsTrue (is_taken (get_or table.entries place d).alias (pool_with (range_of table side) side (left_at test table.entries place)))
 taken_at test table side place d are within h =
     let binding = get_or table.entries place d in
     let used = ap (λ entries. is_used side entries binding.alias.0) (left_here test table.entries place d within) ∙ used_alias side (filter test (take place table.entries)) (drop (place + 1) table.entries) binding h in
@@ -156,7 +155,7 @@ same_pair from_pool side address until binding = elim (cases_Bool (is_through fr
 ]
 
 abbrev colliding : Side → Side → Addr → Addr → Addr → Addr → Bool
-colliding s t g h a b = is_same_side s t && (g.0 == h.0 || a.0 == b.0)
+colliding s t g h a b = same_side s t && (g.0 == h.0 || a.0 == b.0)
 
 same_colliding : (s t s' t' : Side) (g h g' h' a b a' b' : Addr) → s ≡ s' → t ≡ t' → g ≡ g' → h ≡ h' → a ≡ a' → b ≡ b' → colliding s t g h a b ≡ colliding s' t' g' h' a' b'
 same_colliding s t s' t' g h g' h' a b a' b' p q r u v w = cc
@@ -166,7 +165,7 @@ collides_same one one' two two' p q =
     same_colliding two.side one.side two'.side one'.side two.host one.host two'.host one'.host two.alias one.alias two'.alias one'.alias q.side p.side q.host p.host q.alias p.alias
 
 abbrev pub aliasing : Side → Side → Addr → ℕ → Bool
-aliasing s t a k = is_same_side s t && a.0 == k
+aliasing s t a k = same_side s t && a.0 == k
 
 pub same_aliasing : (s s' t : Side) (a a' : Addr) (k : ℕ) → s ≡ s' → a ≡ a' → aliasing s t a k ≡ aliasing s' t a' k
 same_aliasing s s' t a a' k p q = cc

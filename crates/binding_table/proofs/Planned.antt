@@ -9,12 +9,12 @@ use Rattle.std.proofs.lemmas.List.Quantifiers.{position-Some}
 use Rattle.std.proofs.lemmas.List.Sums.{fold_more, fails_before_first, sum_by-le}
 use Rattle.std.proofs.lemmas.Bool.{and_right, cases_Bool, cases_lt, cases_eq, and_parts, and_from, and_left, or_parts, or_cases, not_from_false, eqb-true, eq-eqb, leb-true, le-leb, ltb-false, false≢true}
 use Rattle.gate_base.specs.Address.{is_unicast_number}
-use Rattle.gate_base.specs.Side.{other}
+use Rattle.gate_base.specs.Side.{other, same_side}
 use Rattle.gate_base.specs.declared.address.Addr.{Addr}
 use Rattle.gate_base.specs.declared.event.Moment.{Moment}
 use Rattle.gate_base.specs.declared.side.Side.{Side}
 use Rattle.gate_base.specs.declared.side.Side.TheVariants.{Left, Right}
-use Rattle.gate_settings.specs.Cross.{is_in_same, is_same_side}
+use Rattle.gate_settings.specs.Cross.{is_in_same}
 use Rattle.gate_settings.specs.declared.settings.Block.{Block}
 use Rattle.realm_pools.specs.Addresses.{Range, Addresses, is_in, least_free, free_from}
 use Rattle.realm_pools.proofs.Free.{from_low}
@@ -190,7 +190,7 @@ next_is range side entries later None used =
     least_later range side entries later 0 used ∙ ap (λ (place : ℕ). free_from place (pool_with range side entries)) zero_place
 
 -- once the least free address is taken too, all up to it are used
-used_more : (range : Range) (side : Side) (entries later : List Binding) (bound : ℕ) (binding : Binding) → range.first ≤ range.last → is_same_side binding.side (other side) ≡ true → IsUsedBelow range side entries later bound → least_free (pool_with range side later) ≡ Some binding.alias → IsUsedBelow range side entries (later ++ binding ∷ []) (binding.alias.0 + 1)
+used_more : (range : Range) (side : Side) (entries later : List Binding) (bound : ℕ) (binding : Binding) → range.first ≤ range.last → same_side binding.side (other side) ≡ true → IsUsedBelow range side entries later bound → least_free (pool_with range side later) ≡ Some binding.alias → IsUsedBelow range side entries (later ++ binding ∷ []) (binding.alias.0 + 1)
 used_more range side entries later bound binding ordered h used least =
     let parts = least_parts range side later binding.alias ordered least in
     let free = free_parts range side later binding.alias parts.free in
@@ -301,7 +301,7 @@ or_none : (found : Option Addr) → option_or found None ≡ found
 or_none None = refl
 or_none (Some one) = refl
 
-not_other_side : (side : Side) → is_same_side side (other side) ≡ false
+not_other_side : (side : Side) → same_side side (other side) ≡ false
 not_other_side Left = refl
 not_other_side Right = refl
 
@@ -313,7 +313,7 @@ push_follows table binding = record {
   same = refl;
   left = refl;
   right = refl;
-  hosts = λ one. found_push (λ binding. binding.host) (is_of_alias binding.side one.0) table.entries binding ∙ rw (and_left (is_same_side binding.side (other binding.side)) (binding.alias.0 == one.0) (not_other_side binding.side)) (or_none (host_of binding.side one table.entries));
+  hosts = λ one. found_push (λ binding. binding.host) (is_of_alias binding.side one.0) table.entries binding ∙ rw (and_left (same_side binding.side (other binding.side)) (binding.alias.0 == one.0) (not_other_side binding.side)) (or_none (host_of binding.side one table.entries));
   kept = λ one alias h. alias_push binding.side one table.entries binding ∙ rw h refl;
 }
 
@@ -345,7 +345,7 @@ planned_new table later side earlier rest given address alias until ordered p fr
     let last = with_binding later binding in
     let range = range_of table (other side) in
     let after = push_follows later binding in
-    let h : is_same_side side (other (other side)) ≡ true = rw (other_other side) (same_side-itself side) in
+    let h : same_side side (other (other side)) ≡ true = rw (other_other side) (same_side-itself side) in
     let free = free_parts range (other side) later.entries alias (least_parts range (other side) later.entries alias ordered least).free in
     let here : alias_of side address last.entries ≡ Some alias = alias_push side address later.entries binding ∙ rw (lacks.alias, and_from _ _ (same_side-itself side) (eq-eqb address.0 address.0 refl)) refl in
     let known : cross last side address ≡ Known alias = cross_follows later last side address after ∙ rw (lacks.differs, lacks.outside, here) refl in
@@ -358,7 +358,7 @@ planned_new table later side earlier rest given address alias until ordered p fr
         follows = follows_twice table later last side p.follows after;
         absent = λ other_one among.
             let parts = not_among earlier other_one address among in
-            alias_push side other_one later.entries binding ∙ rw (and_right (is_same_side side side) (address.0 == other_one.0) parts.1) (or_none (alias_of side other_one later.entries)) ∙ p.absent other_one parts.0;
+            alias_push side other_one later.entries binding ∙ rw (and_right (same_side side side) (address.0 == other_one.0) parts.1) (or_none (alias_of side other_one later.entries)) ∙ p.absent other_one parts.0;
         settled = λ other_one among. elim (among_cases earlier other_one address among) [
           | inl before ↦ ap is_settled (settled_stays later last side other_one after (p.settled other_one before)) ∙ p.settled other_one before
           | inr same ↦ let P : Addr → Type 0 = λ a. is_settled (cross last side a) ≡ true in subst P same (ap is_settled known)

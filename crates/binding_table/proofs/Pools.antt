@@ -6,11 +6,10 @@ use Rattle.std.proofs.lemmas.List.FromFn.{get_or-map-range_with_len, length-map-
 use Rattle.std.proofs.lemmas.List.Folds.{list_any-append}
 use Rattle.std.proofs.lemmas.Bool.{or_left, and_from, and_left, and_right, eq-eqb, ne_eqb, not-true, cases_Bool, cases_eq, or_parts, and_parts, leb-true}
 use Rattle.std.proofs.lemmas.Bool.Decides.{nat_tests}
-use Rattle.gate_base.specs.Side.{other}
+use Rattle.gate_base.specs.Side.{other, same_side}
 use Rattle.gate_base.specs.declared.address.Addr.{Addr}
 use Rattle.gate_base.specs.declared.side.Side.{Side}
 use Rattle.gate_base.specs.declared.side.Side.TheVariants.{Left, Right}
-use Rattle.gate_settings.specs.Cross.{is_same_side}
 use Rattle.realm_pools.specs.Addresses.{Range, Addresses, is_in, is_free, is_taken}
 use Rattle.binding_table.specs.Steps.{changed}
 use Rattle.binding_table.specs.declared.binding.Binding.{Binding}
@@ -19,13 +18,13 @@ use Rattle.binding_table.specs.Lawful.{collides}
 
 -- ## Sides
 
-pub same_side-true : (one two : Side) → is_same_side one two ≡ true → one ≡ two
+pub same_side-true : (one two : Side) → same_side one two ≡ true → one ≡ two
 same_side-true Left Left h = refl
 same_side-true Left Right h = cc
 same_side-true Right Left h = cc
 same_side-true Right Right h = refl
 
-pub same_side-itself : (side : Side) → is_same_side side side ≡ true
+pub same_side-itself : (side : Side) → same_side side side ≡ true
 same_side-itself Left = refl
 same_side-itself Right = refl
 
@@ -36,7 +35,7 @@ other_other Right = refl
 -- ## Aliases that no other binding has
 
 -- of two bindings of hosts of one realm that don't collide, each has another alias
-apart_later : (side one two : Side) (hosts : Bool) (first second : ℕ) → is_same_side one side ≡ true → (is_same_side two one && (hosts || second == first)) ≡ false → (is_same_side two side && second == first) ≡ false
+apart_later : (side one two : Side) (hosts : Bool) (first second : ℕ) → same_side one side ≡ true → (same_side two one && (hosts || second == first)) ≡ false → (same_side two side && second == first) ≡ false
 apart_later Left Left Left hosts first second h apart = (or_parts hosts (second == first) apart).1
 apart_later Right Right Right hosts first second h apart = (or_parts hosts (second == first) apart).1
 apart_later Left Left Right hosts first second h apart = refl
@@ -45,10 +44,10 @@ apart_later Left Right two hosts first second h apart = cc
 apart_later Right Left two hosts first second h apart = cc
 
 -- the alias of a binding isn't that of one that it doesn't collide with
-pub other_alias : (side : Side) (binding earlier : Binding) → is_same_side binding.side (other side) ≡ true → collides binding earlier ≡ false → is_of_alias side binding.alias.0 earlier ≡ false
+pub other_alias : (side : Side) (binding earlier : Binding) → same_side binding.side (other side) ≡ true → collides binding earlier ≡ false → is_of_alias side binding.alias.0 earlier ≡ false
 other_alias side binding earlier h apart = apart_later (other side) binding.side earlier.side (earlier.host.0 == binding.host.0) binding.alias.0 earlier.alias.0 h apart
 
-same_side-sym : (one two : Side) → is_same_side one two ≡ is_same_side two one
+same_side-sym : (one two : Side) → same_side one two ≡ same_side two one
 same_side-sym Left Left = refl
 same_side-sym Left Right = refl
 same_side-sym Right Left = refl
@@ -61,7 +60,7 @@ same_both : (s t h i a b : Bool) → s ≡ t → h ≡ i → a ≡ b → (s && (
 same_both s t h i a b p q r = cc
 
 pub collides-sym : (one two : Binding) → collides one two ≡ collides two one
-collides-sym one two = same_both (is_same_side two.side one.side) (is_same_side one.side two.side) (two.host.0 == one.host.0) (one.host.0 == two.host.0) (two.alias.0 == one.alias.0) (one.alias.0 == two.alias.0) (same_side-sym two.side one.side) (same-sym two.host.0 one.host.0) (same-sym two.alias.0 one.alias.0)
+collides-sym one two = same_both (same_side two.side one.side) (same_side one.side two.side) (two.host.0 == one.host.0) (one.host.0 == two.host.0) (two.alias.0 == one.alias.0) (one.alias.0 == two.alias.0) (same_side-sym two.side one.side) (same-sym two.host.0 one.host.0) (same-sym two.alias.0 one.alias.0)
 
 -- ## The flags of a pool
 
@@ -122,14 +121,14 @@ used_among side xs ys binding k =
     list_any-append (is_of_alias side k) xs (binding ∷ ys) ∙ or_swap (is_used side xs k) (is_of_alias side k binding) (is_used side ys k)
     ∙ ap (λ r. is_of_alias side k binding || r) (sym (list_any-append (is_of_alias side k) xs ys))
 
-pub used_alias : (side : Side) (xs ys : List Binding) (binding : Binding) → is_same_side binding.side (other side) ≡ true → is_used side (xs ++ binding ∷ ys) binding.alias.0 ≡ true
+pub used_alias : (side : Side) (xs ys : List Binding) (binding : Binding) → same_side binding.side (other side) ≡ true → is_used side (xs ++ binding ∷ ys) binding.alias.0 ≡ true
 used_alias side xs ys binding h = used_among side xs ys binding binding.alias.0 ∙ or_left _ _ (and_from _ _ h (eq-eqb binding.alias.0 binding.alias.0 refl))
 
 pub used_elsewhere : (side : Side) (xs ys : List Binding) (binding : Binding) (k : ℕ) → k ≢ binding.alias.0 → is_used side (xs ++ binding ∷ ys) k ≡ is_used side (xs ++ ys) k
 used_elsewhere side xs ys binding k differs =
     used_among side xs ys binding k ∙ ap (λ b. b || is_used side (xs ++ ys) k) (and_right _ _ (ne_eqb binding.alias.0 k (λ e. differs (sym e))))
 
-used_as_before : (side : Side) (xs ys : List Binding) (binding : Binding) (k : ℕ) → is_same_side binding.side (other side) ≡ false → is_used side (xs ++ binding ∷ ys) k ≡ is_used side (xs ++ ys) k
+used_as_before : (side : Side) (xs ys : List Binding) (binding : Binding) (k : ℕ) → same_side binding.side (other side) ≡ false → is_used side (xs ++ binding ∷ ys) k ≡ is_used side (xs ++ ys) k
 used_as_before side xs ys binding k h = used_among side xs ys binding k ∙ ap (λ b. b || is_used side (xs ++ ys) k) (and_left _ _ h)
 
 -- an address of the range that no binding has
@@ -138,9 +137,9 @@ pub record IsLone (range : Range) (side : Side) (entries : List Binding) (bindin
   pub unused : is_used side entries binding.alias.0 ≡ false
 
 -- where a binding comes among others, its alias becomes taken
-pub changed_true : (range : Range) (side : Side) (xs ys : List Binding) (binding : Binding) → (is_same_side binding.side (other side) ≡ true → IsLone range side (xs ++ ys) binding) → changed side binding true (pool_with range side (xs ++ ys)) ≡ pool_with range side (xs ++ binding ∷ ys)
+pub changed_true : (range : Range) (side : Side) (xs ys : List Binding) (binding : Binding) → (same_side binding.side (other side) ≡ true → IsLone range side (xs ++ ys) binding) → changed side binding true (pool_with range side (xs ++ ys)) ≡ pool_with range side (xs ++ binding ∷ ys)
 changed_true range side xs ys binding lone =
-    elim (cases_Bool (is_same_side binding.side (other side))) [
+    elim (cases_Bool (same_side binding.side (other side))) [
       | inl h ↦
           let bounds = and_parts (nat_le range.first binding.alias.0) (nat_le binding.alias.0 range.last) (lone h).within in
           rw h (ap (λ flags. flagged range flags) (set_flag (is_used side (xs ++ ys)) (is_used side (xs ++ binding ∷ ys)) range binding.alias.0 true (leb-true _ _ bounds.0) (leb-true _ _ bounds.1) (used_alias side xs ys binding h) (λ k differs. sym (used_elsewhere side xs ys binding k differs))))
@@ -148,9 +147,9 @@ changed_true range side xs ys binding lone =
     ]
 
 -- where a binding goes from among others, its alias becomes free
-pub changed_false : (range : Range) (side : Side) (xs ys : List Binding) (binding : Binding) → (is_same_side binding.side (other side) ≡ true → IsLone range side (xs ++ ys) binding) → changed side binding false (pool_with range side (xs ++ binding ∷ ys)) ≡ pool_with range side (xs ++ ys)
+pub changed_false : (range : Range) (side : Side) (xs ys : List Binding) (binding : Binding) → (same_side binding.side (other side) ≡ true → IsLone range side (xs ++ ys) binding) → changed side binding false (pool_with range side (xs ++ binding ∷ ys)) ≡ pool_with range side (xs ++ ys)
 changed_false range side xs ys binding lone =
-    elim (cases_Bool (is_same_side binding.side (other side))) [
+    elim (cases_Bool (same_side binding.side (other side))) [
       | inl h ↦
           let bounds = and_parts (nat_le range.first binding.alias.0) (nat_le binding.alias.0 range.last) (lone h).within in
           rw h (ap (λ flags. flagged range flags) (set_flag (is_used side (xs ++ binding ∷ ys)) (is_used side (xs ++ ys)) range binding.alias.0 false (leb-true _ _ bounds.0) (leb-true _ _ bounds.1) (lone h).unused (λ k differs. used_elsewhere side xs ys binding k differs)))

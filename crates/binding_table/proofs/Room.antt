@@ -6,10 +6,9 @@ use Rattle.std.proofs.lemmas.List.Elements.{All-weaker, All-head, All-tail}
 use Rattle.std.proofs.lemmas.List.Folds.{sum_by-replicate}
 use Rattle.std.proofs.lemmas.List.Sums.{sum_by-set}
 use Rattle.std.proofs.lemmas.Bool.{and_parts, leb-true}
-use Rattle.gate_base.specs.Side.{other}
+use Rattle.gate_base.specs.Side.{other, same_side}
 use Rattle.gate_base.specs.declared.side.Side.{Side}
 use Rattle.gate_base.specs.declared.side.Side.TheVariants.{Left, Right}
-use Rattle.gate_settings.specs.Cross.{is_same_side}
 use Rattle.realm_pools.specs.Addresses.{Range, Addresses}
 use Rattle.binding_table.specs.Steps.{AreTaken, CanHold, plain_table}
 use Rattle.binding_table.specs.declared.binding.Binding.{Binding}
@@ -29,7 +28,7 @@ count_set flags place within free =
     omega (arith, e, one)
 
 -- where a binding comes among others, one address fewer is free
-pub free_less : (range : Range) (side : Side) (xs ys : List Binding) (binding : Binding) → is_same_side binding.side (other side) ≡ true → IsLone range side (xs ++ ys) binding → free_in range side (xs ++ binding ∷ ys) + 1 ≡ free_in range side (xs ++ ys)
+pub free_less : (range : Range) (side : Side) (xs ys : List Binding) (binding : Binding) → same_side binding.side (other side) ≡ true → IsLone range side (xs ++ ys) binding → free_in range side (xs ++ binding ∷ ys) + 1 ≡ free_in range side (xs ++ ys)
 free_less range side xs ys binding h lone =
     let flags = map (is_used side (xs ++ ys)) (numbers range) in
     let bounds = and_parts (nat_le range.first binding.alias.0) (nat_le binding.alias.0 range.last) lone.within in
@@ -40,7 +39,7 @@ free_less range side xs ys binding h lone =
     let less = count_set flags (binding.alias.0 - range.first) (omega (arith, long)) (flag_at range side (xs ++ ys) binding.alias false lone.within ∙ lone.unused) in
     ap (λ (n : ℕ). n + 1) (sym e) ∙ less
 
-free_same : (range : Range) (side : Side) (rest : List Binding) (binding : Binding) → is_same_side binding.side (other side) ≡ false → free_in range side (binding ∷ rest) ≡ free_in range side rest
+free_same : (range : Range) (side : Side) (rest : List Binding) (binding : Binding) → same_side binding.side (other side) ≡ false → free_in range side (binding ∷ rest) ≡ free_in range side rest
 free_same range side rest binding h =
     sym (ap (λ (pool : Addresses). count_by not pool.taken) (rw h at (changed_true range side [] rest binding (λ holds. cc (h, holds)))))
 
@@ -50,7 +49,7 @@ none_free range side some =
     let m : ℕ = range.last - range.first + 1 in
     ap (λ flags. count_by not flags) (none_used range side some) ∙ sum_by-replicate f m false ∙ omega arith
 
-side_cases : (side : Side) → ((is_same_side side Right ≡ true) × (is_same_side side Left ≡ false)) ⊎ ((is_same_side side Right ≡ false) × (is_same_side side Left ≡ true))
+side_cases : (side : Side) → ((same_side side Right ≡ true) × (same_side side Left ≡ false)) ⊎ ((same_side side Right ≡ false) × (same_side side Left ≡ true))
 side_cases Left = inr (refl, refl)
 side_cases Right = inl (refl, refl)
 
@@ -60,7 +59,7 @@ tail_taken left right binding rest are = record {
   aliases = All-tail (λ one. in_pool (plain_table left right rest) (other one.side) one.alias ≡ true) binding rest are.aliases;
 }
 
-head_lone : (left right : Range) (binding : Binding) (rest : List Binding) (side : Side) → AreTaken (plain_table left right (binding ∷ rest)) → is_same_side binding.side (other side) ≡ true → IsLone (range_of (plain_table left right rest) side) side rest binding
+head_lone : (left right : Range) (binding : Binding) (rest : List Binding) (side : Side) → AreTaken (plain_table left right (binding ∷ rest)) → same_side binding.side (other side) ≡ true → IsLone (range_of (plain_table left right rest) side) side rest binding
 head_lone left right binding rest side are h = record {
   within = alias_within (plain_table left right rest) binding side (All-head (λ one. in_pool (plain_table left right rest) (other one.side) one.alias ≡ true) binding rest are.aliases) h;
   unused = unused_by_all side rest binding h (λ k d less. collides-sym binding (get_or rest k d) ∙ are.once 0 (suc k) d (omega arith) (omega arith));

@@ -2,12 +2,12 @@
 use Rattle.std.specs.Prelude.{ℕ, ◌+◌, ◌-◌, max, Bool, true, false, not, ◌&&◌, ◌||◌, ◌==◌, nat_lt, if◌then◌else◌, List, [], ◌∷◌, ◌++◌, map, Option, Some, None, option_map, count_by}
 use Rattle.std.specs.List.{find, filter, list_any, range_with_len}
 use Rattle.gate_base.specs.Address.{is_unicast_number}
-use Rattle.gate_base.specs.Side.{other}
+use Rattle.gate_base.specs.Side.{other, same_side}
 use Rattle.gate_base.specs.declared.address.Addr.{Addr}
 use Rattle.gate_base.specs.declared.event.Moment.{Moment}
 use Rattle.gate_base.specs.declared.side.Side.{Side}
 use Rattle.gate_base.specs.declared.side.Side.TheVariants.{Left, Right}
-use Rattle.gate_settings.specs.Cross.{is_in_same, is_same_side}
+use Rattle.gate_settings.specs.Cross.{is_in_same}
 use Rattle.gate_settings.specs.declared.settings.Block.{Block}
 use Rattle.gate_settings.specs.declared.settings.Fixed.{Fixed}
 use Rattle.gate_settings.specs.declared.settings.Settings.{Settings}
@@ -51,11 +51,11 @@ opening settings = record (without_bindings settings) { entries = map fixed_bind
 
 -- the binding of a host of the realm
 abbrev pub is_of_host : Side → ℕ → Binding → Bool
-is_of_host side host binding = is_same_side binding.side side && binding.host.0 == host
+is_of_host side host binding = same_side binding.side side && binding.host.0 == host
 
 -- the binding of a host of the other realm, for which an address of the realm stands
 abbrev pub is_of_alias : Side → ℕ → Binding → Bool
-is_of_alias side alias binding = is_same_side binding.side (other side) && binding.alias.0 == alias
+is_of_alias side alias binding = same_side binding.side (other side) && binding.alias.0 == alias
 
 -- the alias of a host of the realm
 abbrev pub alias_of : Side → Addr → List Binding → Option Addr

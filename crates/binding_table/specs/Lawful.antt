@@ -1,15 +1,14 @@
 -- What is true of every table.
 use Rattle.std.specs.Prelude.{◌≡◌, ◌≤◌, Bool, true, false, ◌&&◌, ◌||◌, ◌==◌, All, AllPairs}
-use Rattle.gate_base.specs.Side.{other}
+use Rattle.gate_base.specs.Side.{other, same_side}
 use Rattle.gate_base.specs.declared.address.Addr.{Addr}
 use Rattle.gate_base.specs.declared.side.Side.{Side}
-use Rattle.gate_settings.specs.Cross.{is_same_side}
 use Rattle.binding_table.specs.declared.binding.Binding.{Binding}
 use Rattle.binding_table.specs.Bindings.{Bindings, range_of, is_same, in_pool}
 
 -- the two are of hosts of one realm, and have the host or the alias in common
 abbrev pub collides : Binding → Binding → Bool
-collides binding earlier = is_same_side earlier.side binding.side && (earlier.host.0 == binding.host.0 || earlier.alias.0 == binding.alias.0)
+collides binding earlier = same_side earlier.side binding.side && (earlier.host.0 == binding.host.0 || earlier.alias.0 == binding.alias.0)
 
 -- the alias is in the other realm's pool, and the host is a host of its own realm
 pub record IsInPlace (table : Bindings) (binding : Binding) : Type 0 where

@@ -1,9 +1,8 @@
 -- What the table's inner calls need and give.
 use Rattle.std.specs.Prelude.{◌≡◌, ℕ, Bool, true, false, if◌then◌else◌, List, [], position, slice_index_or, Option, Some, None, All, AllPairs}
-use Rattle.gate_base.specs.Side.{other}
+use Rattle.gate_base.specs.Side.{other, same_side}
 use Rattle.gate_base.specs.declared.address.Addr.{Addr}
 use Rattle.gate_base.specs.declared.side.Side.{Side}
-use Rattle.gate_settings.specs.Cross.{is_same_side}
 use Rattle.realm_pools.specs.Addresses.{Range, Addresses, with_address, least_free, next_free}
 use Rattle.binding_table.specs.declared.binding.Binding.{Binding}
 use Rattle.binding_table.specs.declared.binding.Crossing.{Crossing}
@@ -30,7 +29,7 @@ pub record AreTaken (table : Bindings) : Type 0 where
 
 -- a pool, where the binding's alias, if it is one of the realm's, became taken or free
 abbrev pub changed : Side → Binding → Bool → Addresses → Addresses
-changed side binding taken pool = if is_same_side binding.side (other side) then with_address binding.alias taken pool else pool
+changed side binding taken pool = if same_side binding.side (other side) then with_address binding.alias taken pool else pool
 
 -- ## How a plan is made
 

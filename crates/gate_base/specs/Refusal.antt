@@ -3,7 +3,7 @@ use Rattle.std.specs.Prelude.{ℕ, List, codes}
 use Rattle.gate_base.specs.declared.event.Verdict.{Verdict}
 use Rattle.gate_base.specs.declared.event.Verdict.TheVariants.{Pass, Refused}
 use Rattle.gate_base.specs.declared.refusal.Refusal.{Refusal}
-use Rattle.gate_base.specs.declared.refusal.Refusal.TheVariants.{Snapped, NotIpv4, BadHeader, BadHeaderSum, Fragment, IpOptions, TtlSpent, NotUnicast, Protocol, BadTransport, BadSum, SourceInPool, NoBinding, BadInner, InnerUnbound, BadDns, DnsUnbound, BadSnmp, DnsStream, NoSession, SynData, SynInSession, NoAck, Gap, PastEnd, AckAhead, StreamLimit, SessionsFull, PoolEmpty, NotYet}
+use Rattle.gate_base.specs.declared.refusal.Refusal.TheVariants.{Snapped, NotIpv4, BadHeader, BadHeaderSum, Fragment, IpOptions, TtlSpent, NotUnicast, Protocol, BadTransport, BadSum, SourceInPool, NoBinding, BadInner, InnerUnbound, BadDns, DnsUnbound, BadSnmp, DnsStream, NoSession, SynData, SynInSession, NoAck, Gap, PastEnd, AckAhead, Unlike, StreamLimit, Backlog, SessionsFull, PoolEmpty}
 
 -- the refusal's name
 unfoldable pub name_of : Refusal → List ℕ
@@ -33,10 +33,11 @@ name_of NoAck = codes "NoAck"
 name_of Gap = codes "Gap"
 name_of PastEnd = codes "PastEnd"
 name_of AckAhead = codes "AckAhead"
+name_of Unlike = codes "Unlike"
 name_of StreamLimit = codes "StreamLimit"
+name_of Backlog = codes "Backlog"
 name_of SessionsFull = codes "SessionsFull"
 name_of PoolEmpty = codes "PoolEmpty"
-name_of NotYet = codes "NotYet"
 
 -- `pass`, or the refusal's name
 abbrev pub verdict_name : Verdict → List ℕ

@@ -55,14 +55,16 @@ pub enum Refusal {
     PastEnd,
     /// An acknowledgement of octets that were never sent.
     AckAhead,
+    /// Octets of a control session repeated otherwise than they came first.
+    Unlike,
     /// The stream of a control session is too long.
     StreamLimit,
+    /// Too many octets of a control session's stream aren't acknowledged.
+    Backlog,
     /// No room for another connection or control session.
     SessionsFull,
     /// The other realm's pool has too few free addresses.
     PoolEmpty,
-    /// The gateway doesn't translate such a frame yet.
-    NotYet,
 }
 
 impl Refusal {
@@ -100,10 +102,11 @@ impl Refusal {
             Refusal::Gap => "Gap",
             Refusal::PastEnd => "PastEnd",
             Refusal::AckAhead => "AckAhead",
+            Refusal::Unlike => "Unlike",
             Refusal::StreamLimit => "StreamLimit",
+            Refusal::Backlog => "Backlog",
             Refusal::SessionsFull => "SessionsFull",
             Refusal::PoolEmpty => "PoolEmpty",
-            Refusal::NotYet => "NotYet",
         }
     }
 }

@@ -1,4 +1,3 @@
-pub mod Frame
-pub mod Faults
-pub mod World
-pub mod Gate
+pub mod Gates
+pub mod Memory
+pub mod Segments

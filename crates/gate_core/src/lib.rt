@@ -1,13 +1,9 @@
-//! The gateway over single frames: each event's frame is judged, and the datagram that goes on is made.
-//!
-//! So far it translates UDP datagrams. A host gets a binding when its first frame passes.
+//! The gateway over single frames: each event's frame is judged, all that it changes is changed, and its datagrams are put
+//! into an outbox.
 #![tactic(auto)]
 
-mod frame;
 mod gate;
-mod judge;
-mod laws;
-mod rename;
+mod stream;
 
 pub use gate::Gate;
-pub use laws::passed_goes_on;
+pub use gate_outbox::Outbox;

@@ -2,8 +2,8 @@
 use Rattle.std.specs.Prelude.{ℕ, ◌+◌, ◌-◌, ◌^◌, Bool, true, false, not, ◌&&◌, ◌||◌, ◌==◌, nat_lt, nat_le, if◌then◌else◌, List, [], ◌∷◌, ◌++◌, length, position, Option, Some, None, option_map, Ok, Err}
 use Rattle.std.specs.List.{fold, list_any}
 use Rattle.std.specs.Option.{option_or}
-use Rattle.gate_base.specs.Side.{other}
 use Rattle.gate_base.specs.declared.address.Addr.{Addr}
+use Rattle.gate_base.specs.Side.{other, same_side}
 use Rattle.gate_base.specs.declared.side.Side.{Side}
 use Rattle.gate_base.specs.declared.side.Side.TheVariants.{Left, Right}
 use Rattle.gate_settings.specs.declared.fault.SettingsFault.{SettingsFault}
@@ -61,15 +61,9 @@ host_is_taken settings fixed = is_in_pool fixed.host (side_settings settings fix
 unfoldable pub alias_is_outside : Settings → Fixed → Bool
 alias_is_outside settings fixed = not (is_in_pool fixed.alias (side_settings settings (other fixed.side)))
 
--- the two are one realm
-abbrev pub is_same_side : Side → Side → Bool
-is_same_side Left Left = true
-is_same_side Right Right = true
-is_same_side _ _ = false
-
 -- the two are of one realm, and have the host or the alias in common
 abbrev pub collides : Fixed → Fixed → Bool
-collides fixed earlier = is_same_side earlier.side fixed.side && (earlier.host.0 == fixed.host.0 || earlier.alias.0 == fixed.alias.0)
+collides fixed earlier = same_side earlier.side fixed.side && (earlier.host.0 == fixed.host.0 || earlier.alias.0 == fixed.alias.0)
 
 -- the Ethernet link of a realm lacks an address
 abbrev pub lacks_mac : Given → Side → Bool

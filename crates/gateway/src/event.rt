@@ -12,8 +12,8 @@ ghost use Rattle.gateway.specs.Phases.{Handles};
 use crate::Status;
 use crate::report::{Totals, count, put_event_line};
 use ether_frames::put_head;
-use gate_base::{Event, Link, Moment, Side, Verdict};
-use gate_core::Gate;
+use gate_base::{Event, Link, Moment, OutOfMemory, Side, Verdict};
+use gate_core::{Gate, Outbox};
 use gate_desk::{Desk, Slot, write_whole};
 use gate_settings::{Settings, SideSettings};
 use pcap_files::write_packet;
@@ -27,16 +27,6 @@ fn out_slot(side: Side) -> Slot
     match side {
         Side::Left => Slot::LeftOut,
         Side::Right => Slot::RightOut,
-    }
-}
-
-// How many frames go on: one, or none.
-fn count_frames(image: Option<&[u8]>) -> u64
-    ensures { result ≡ length (option_to_list (option_map (λ octets. octets.now) image.entry)) }
-{
-    match image {
-        Some(_) => 1,
-        None => 0,
     }
 }
 
@@ -70,33 +60,51 @@ fn put_frame(room: &mut [u8], side: &SideSettings, datagram: &[u8])
     room[14..14 + datagram.len()].copy_from_slice(datagram);
 }
 
-/// Sends the datagram to a realm, if there is one.
+/// Sends a datagram to a realm.
 fn send<D: Desk>(
     desk: &mut D,
     room: &mut [u8],
     settings: &Settings,
     side: Side,
     moment: Moment,
-    datagram: Option<&[u8]>,
+    datagram: &[u8],
 ) -> Result<(), Status>
     requires left { CanWrite (D.outside desk.old) LeftOut }
     requires right { CanWrite (D.outside desk.old) RightOut }
     requires room { length room.old ≡ LONGEST_FRAME }
     requires early { moment.0 < 2 ^ 32 * 1000000000 }
-    requires short { IfSome datagram (λ octets. length octets.now ≤ 65535) }
-    ensures { Gives result (sent settings.now side moment.0 (option_to_list (option_map (λ octets. octets.now) datagram.entry))) (D.outside desk.old) (D.outside desk.new) }
+    requires short { length datagram.now ≤ 65535 }
+    ensures { Gives result (sent settings.now side moment.0 (datagram.now ∷ [])) (D.outside desk.old) (D.outside desk.new) }
 {
-    let Some(octets) = datagram else {
-        return Ok(());
-    };
     let realm = settings.side(side);
     match realm.link {
-        Link::Raw => write_frame(desk, side, moment, octets),
+        Link::Raw => write_frame(desk, side, moment, datagram),
         Link::Ethernet => {
-            put_frame(room, realm, octets);
-            write_frame(desk, side, moment, &room[..14 + octets.len()])
+            put_frame(room, realm, datagram);
+            write_frame(desk, side, moment, &room[..14 + datagram.len()])
         }
     }
+}
+
+/// Sends the datagrams of an outbox to a realm, in their order.
+fn send_all<D: Desk>(
+    desk: &mut D,
+    room: &mut [u8],
+    settings: &Settings,
+    side: Side,
+    moment: Moment,
+    outbox: &Outbox,
+) -> Result<(), Status>
+    requires left { CanWrite (D.outside desk.old) LeftOut }
+    requires right { CanWrite (D.outside desk.old) RightOut }
+    requires room { length room.old ≡ LONGEST_FRAME }
+    requires early { moment.0 < 2 ^ 32 * 1000000000 }
+    ensures { Gives result (sent settings.now side moment.0 outbox.now) (D.outside desk.old) (D.outside desk.new) }
+{
+    for place in 0..outbox.len() {
+        send(desk, room, settings, side, moment, outbox.datagram(place))?;
+    }
+    Ok(())
 }
 
 /// Writes the line of an event.
@@ -126,6 +134,7 @@ fn report<D: Desk>(
 pub fn handle<D: Desk>(
     desk: &mut D,
     gate: &mut Gate,
+    outbox: &mut Outbox,
     room: &mut [u8],
     text: &mut String,
     totals: Totals,
@@ -138,20 +147,22 @@ pub fn handle<D: Desk>(
     requires small { IsSmallEvent (event_of event) }
     requires few { totals.events < 2 ^ 42 }
     requires passed { totals.passed ≤ totals.events }
-    requires to_left { totals.to_left ≤ totals.events }
-    requires to_right { totals.to_right ≤ totals.events }
+    requires to_left { totals.to_left ≤ 4096 * totals.events }
+    requires to_right { totals.to_right ≤ 4096 * totals.events }
     ensures { Handles result gate.old gate.new totals (event_of event.entry) (D.outside desk.old) (D.outside desk.new) }
 {
-    let verdict = gate.step(&event);
-    let image = gate.image();
-    let frames = count_frames(image);
-    match send(
+    let verdict = match gate.step(&event, outbox) {
+        Ok(verdict) => verdict,
+        Err(OutOfMemory) => return Err(Status::OutOfMemory),
+    };
+    let frames = outbox.len() as u64;
+    match send_all(
         desk,
         room,
         gate.settings(),
         event.side.other(),
         event.moment,
-        image,
+        outbox,
     ) {
         Ok(()) => {}
         Err(status) => return Err(status),

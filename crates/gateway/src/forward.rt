@@ -3,7 +3,7 @@ ghost use Rattle.std.specs.Prelude.{◌≡◌, ◌≤◌, ◌^◌, None, length}
 ghost use Rattle.gate_desk.specs.declared.slot.Slot.TheVariants.{LeftIn, RightIn, LeftOut, RightOut, Report};
 ghost use Rattle.gate_desk.specs.Outside.{CanRead, CanWrite, Grows};
 ghost use Rattle.pcap_merge.specs.Merge.{work, AtEnds};
-ghost use Rattle.gate_core.specs.World.{opening_world};
+ghost use Rattle.gate_world.specs.World.{opening_world};
 ghost use Rattle.gateway.specs.Machine.{last_line};
 ghost use Rattle.gateway.specs.Phases.{Forwards, Finishes};
 
@@ -11,17 +11,17 @@ use crate::Status;
 use crate::event::{LONGEST_FRAME, handle};
 use crate::report::{Totals, put_done_line};
 use crate::stops::status_of_merge;
-use gate_core::Gate;
+use gate_core::{Gate, Outbox};
 use gate_desk::{Desk, Slot, write_whole};
 use pcap_merge::Merge;
 
 /// Writes the last line of the report.
-fn finish<D: Desk>(desk: &mut D, text: &mut String, totals: Totals) -> Status
+fn finish<D: Desk>(desk: &mut D, text: &mut String, totals: Totals, pending: u64) -> Status
     requires can { CanWrite (D.outside desk.old) Report }
     requires passed { totals.passed ≤ totals.events }
-    ensures { Finishes result (last_line totals) (D.outside desk.old) (D.outside desk.new) }
+    ensures { Finishes result (last_line totals pending) (D.outside desk.old) (D.outside desk.new) }
 {
-    match put_done_line(text, totals) {
+    match put_done_line(text, totals, pending) {
         Ok(()) => {}
         Err(_) => return Status::OutOfMemory,
     }
@@ -36,6 +36,7 @@ pub fn forward<D: Desk>(
     desk: &mut D,
     merge: &mut Merge,
     gate: &mut Gate,
+    outbox: &mut Outbox,
     room: &mut [u8],
     text: &mut String,
 ) -> Status
@@ -65,9 +66,9 @@ pub fn forward<D: Desk>(
             Err(stop) => return status_of_merge(stop),
         };
         if !more {
-            return finish(desk, text, totals);
+            return finish(desk, text, totals, gate.pending());
         }
-        match handle(desk, gate, room, text, totals, merge.event()) {
+        match handle(desk, gate, outbox, room, text, totals, merge.event()) {
             Ok(next) => totals = next,
             Err(status) => return status,
         }

@@ -1,5 +1,5 @@
 // Pieces as datagrams.
-ghost use Rattle.std.specs.Prelude.{◌≡◌, ◌≤◌, ◌<◌, ◌+◌, ◌-◌, ◌*◌, ◌^◌, ℕ, List, ◌++◌, length, vec_capacity};
+ghost use Rattle.std.specs.Prelude.{◌≡◌, ◌≤◌, ◌<◌, ◌+◌, ◌-◌, ◌*◌, ◌^◌, ℕ, List, [], ◌∷◌, ◌++◌, length, vec_capacity};
 ghost use Rattle.std.specs.List.{flat_map};
 ghost use Rattle.tcp_segments.specs.Tcp.{IsTcpHeader, spelled_segment, datagram_of};
 ghost use Rattle.resegment.specs.Pieces.{piece_count};
@@ -48,6 +48,8 @@ pub fn put_pieces(
     requires ends { length ends.old.items + piece_count (length octets.now) limit ≤ vec_capacity ends.old }
     ensures octets { outbox.new.items ≡ outbox.old.items ++ flat_map (λ datagram. datagram) (datagrams model.now octets.now limit) }
     ensures ends { ends.new.items ≡ ends.old.items ++ ends_from (length outbox.old.items) (datagrams model.now octets.now limit) }
+    ensures count { length ends.new.items ≡ length ends.old.items + piece_count (length octets.now) limit }
+    ensures few { length outbox.new.items ≤ length outbox.old.items + room_for model.now (length octets.now) limit }
     ensures room { vec_capacity outbox.old ≤ vec_capacity outbox.new }
     ensures more { vec_capacity ends.old ≤ vec_capacity ends.new }
 {
@@ -58,6 +60,24 @@ pub fn put_pieces(
         put_datagram(outbox, model, sequence, flags, &octets[start..end]);
         ends.push_reserved(outbox.len() as u32);
     }
+}
+
+/// Appends one datagram without octets, and its end in the outbox to `ends`. It takes no memory, as both lists have room.
+pub fn put_empty(outbox: &mut Vec<u8>, ends: &mut Vec<u32>, model: &SegmentModel)
+    requires ip { length model.now.ip.now ≡ 20 }
+    requires tcp { IsTcpHeader model.now.tcp.now }
+    requires fits { 20 + length model.now.tcp.now ≤ 65535 }
+    requires room { length outbox.old.items + (20 + length model.now.tcp.now) ≤ vec_capacity outbox.old }
+    requires below { length outbox.old.items + (20 + length model.now.tcp.now) < 2 ^ 32 }
+    requires ends { length ends.old.items + 1 ≤ vec_capacity ends.old }
+    ensures octets { let m = model.now in outbox.new.items ≡ outbox.old.items ++ datagram_of m.ip.now m.source.0 m.destination.0 m.lifetime (spelled_segment m.tcp.now m.source.0 m.destination.0 m.sequence m.acknowledgement m.flags []) }
+    ensures ends { ends.new.items ≡ ends.old.items ++ length outbox.new.items ∷ [] }
+    ensures len { length outbox.new.items ≡ length outbox.old.items + (20 + length model.now.tcp.now) }
+    ensures room { vec_capacity outbox.old ≤ vec_capacity outbox.new }
+    ensures more { vec_capacity ends.old ≤ vec_capacity ends.new }
+{
+    put_datagram(outbox, model, model.sequence, model.flags, &[]);
+    ends.push_reserved(outbox.len() as u32);
 }
 
 fn piece_flags(flags: u8, more_follow: bool) -> u8

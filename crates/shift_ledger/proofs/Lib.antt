@@ -1,7 +1,9 @@
 pub mod Copies
+pub mod CopiedBy
 pub mod CopyLemmas
 pub mod Items
 pub mod NeededOctets
+pub mod Order
 pub mod RearWalk
 pub mod Rows
 pub mod SourceWalk

@@ -1,12 +1,15 @@
 // What was pushed, so far as it is needed.
-ghost use Rattle.std.specs.Prelude.{◌≡◌, ◌≤◌, ◌<◌, ◌+◌, ◌^◌, ◌-◌, ℕ, List, [], ◌∷◌, ◌++◌, length, take, drop, max, OnOk, OnErr};
+ghost use Rattle.std.specs.Prelude.{◌≡◌, ◌≤◌, ◌<◌, ◌+◌, ◌^◌, ◌-◌, ℕ, List, [], ◌∷◌, ◌++◌, length, take, drop, filter, nat_lt, nat_le, max, OnOk, OnErr};
+ghost use Rattle.std.specs.VecDeque.{deque_capacity, deque_len};
 ghost use Rattle.dialogue.specs.Places.{Push, open_in};
 ghost use Rattle.dialogue.specs.Places as places;
-ghost use Rattle.shift_ledger.specs.Kept.{StandsFor, fore_of, rear_of, back_of, pushed, pruned, IsButForSpare};
+ghost use Rattle.shift_ledger.specs.Kept.{StandsFor, is_open, fore_of, rear_of, back_of, pushed, pruned, IsButForSpare};
+ghost use Rattle.shift_ledger.specs.Answers.{fore_by, rear_by, back_by};
 ghost use Rattle.shift_ledger.specs.Sources.{copied, NeedsOnly};
 
 use gate_base::OutOfMemory;
 use std::alloc::Global;
+use std::collections::VecDeque;
 use std::marker::Model;
 
 /// A unit with another image: the places of the first octets of both, the unit's length, and the image.
@@ -21,13 +24,15 @@ struct ChangedUnit {
 }
 
 /// How the places of a stream belong to those of its image, for octets that stand as they are and changed units that
-/// were pushed one behind the other. A changed unit whose image is wholly acknowledged is forgotten.
+/// were pushed one behind the other. A changed unit whose image is wholly acknowledged is forgotten, and its memory is let
+/// go. The kept units are searched by halving.
 ///
 /// Contracts see what is kept. It stands for each list of pushes, and each greatest acknowledged place of their image, of
 /// which it is what has to be kept; every answer holds for each of them.
 #[derive(Drop)]
 pub struct Ledger {
-    changed: Vec<ChangedUnit>,
+    // in the order of their places
+    changed: VecDeque<ChangedUnit>,
     octets_in: u64,
     octets_out: u64,
 }
@@ -37,9 +42,11 @@ impl Model for Ledger {
 
     ghost Value = { Kept };
 
-    ghost use Rattle.shift_ledger.specs.Inside.{kept_of};
+    ghost use Rattle.shift_ledger.specs.Inside.{kept_of, IsInOrder};
 
     ghost view = { kept_of };
+
+    ghost invariant = { IsInOrder };
 }
 
 impl Ledger {
@@ -48,7 +55,7 @@ impl Ledger {
         ensures { StandsFor result [] 0 }
     {
         Ledger {
-            changed: Vec::new(alloc),
+            changed: VecDeque::new(alloc),
             octets_in: 0,
             octets_out: 0,
         }
@@ -65,10 +72,12 @@ impl Ledger {
         self.octets_out += count;
     }
 
-    /// Makes room for so many changed units, or finds too little memory. Nothing else changes.
+    /// Makes room for so many changed units, or finds too little memory, which is only where there was not the room. Nothing
+    /// else changes.
     pub fn reserve(&mut self, count: usize) -> Result<(), OutOfMemory>
         ensures room { OnOk result (count ≤ self.new.spare) }
         ensures same { IsButForSpare self.old self.new }
+        ensures refused { OnErr result (self.old.spare < count) }
     {
         self.changed.reserve(count)?;
         Ok(())
@@ -88,7 +97,7 @@ impl Ledger {
         ensures spare { self.old.spare ≤ self.new.spare + 1 }
     {
         let count = image.len() as u64;
-        self.changed.push(ChangedUnit {
+        self.changed.push_back(ChangedUnit {
             start: self.octets_in,
             unit: unit as u64,
             at: self.octets_out,
@@ -124,9 +133,10 @@ impl Ledger {
     /// The least image place of octet `p`, and the image's end past the last octet; from the first octet on of which not
     /// the whole image is acknowledged.
     pub fn fore(&self, p: u64) -> u64
-        ensures { (pushes : List Push) (acknowledged : ℕ) → StandsFor self.now pushes acknowledged → back_of pushes acknowledged ≤ p → result ≡ fore_of pushes p }
+        ensures exact { result ≡ fore_by self.now p }
+        ensures stands { (pushes : List Push) (acknowledged : ℕ) → StandsFor self.now pushes acknowledged → back_of pushes acknowledged ≤ p → result ≡ fore_of pushes p }
     {
-        match self.changed.iter().find(|unit| p < unit.start + unit.unit) {
+        match self.changed.get(self.ended_at(p)) {
             Some(unit) => place_before(unit.at, unit.start, p),
             None => place_before(self.octets_out, self.octets_in, p),
         }
@@ -135,9 +145,10 @@ impl Ledger {
     /// One more than the greatest image place of the octet before `e`: 0 for `e` 0, and the image's end past the last octet;
     /// from the first octet on of which not the whole image is acknowledged.
     pub fn rear(&self, e: u64) -> u64
-        ensures { (pushes : List Push) (acknowledged : ℕ) → StandsFor self.now pushes acknowledged → back_of pushes acknowledged ≤ e → result ≡ rear_of pushes e }
+        ensures exact { result ≡ rear_by self.now e }
+        ensures stands { (pushes : List Push) (acknowledged : ℕ) → StandsFor self.now pushes acknowledged → back_of pushes acknowledged ≤ e → result ≡ rear_of pushes e }
     {
-        match self.changed.iter().find(|unit| e <= unit.start + unit.unit) {
+        match self.changed.get(self.ended_before(e)) {
             Some(unit) if unit.start < e => unit.at + unit.image.len() as u64,
             Some(unit) => place_before(unit.at, unit.start, e),
             None => place_before(self.octets_out, self.octets_in, e),
@@ -147,13 +158,10 @@ impl Ledger {
     /// How many octets, from the first on, have all their image places below `q`; from the greatest acknowledged place to
     /// the image's end.
     pub fn back(&self, q: u64) -> u64
-        ensures { (pushes : List Push) (acknowledged : ℕ) → StandsFor self.now pushes acknowledged → acknowledged ≤ q → q ≤ self.now.octets_out → result ≡ back_of pushes q }
+        ensures exact { result ≡ back_by self.now q }
+        ensures stands { (pushes : List Push) (acknowledged : ℕ) → StandsFor self.now pushes acknowledged → acknowledged ≤ q → q ≤ self.now.octets_out → result ≡ back_of pushes q }
     {
-        match self
-            .changed
-            .iter()
-            .find(|unit| q < unit.at + unit.image.len() as u64)
-        {
+        match self.changed.get(self.whole_below(q)) {
             Some(unit) => place_before(unit.start, unit.at, q),
             None => place_before(self.octets_in, self.octets_out, q),
         }
@@ -166,8 +174,8 @@ impl Ledger {
         ensures exact { IsButForSpare (pruned self.old q) self.new }
         ensures spare { self.old.spare ≤ self.new.spare }
     {
-        self.changed
-            .retain(|unit| q < unit.at + unit.image.len() as u64);
+        let count = self.whole_below(q);
+        forget_front(&mut self.changed, count);
     }
 
     /// Writes the image from place `lo` to below `hi`, where the sender's octets from place `start` on are `octets`. These
@@ -180,7 +188,10 @@ impl Ledger {
         ensures { (pushes : List Push) (acknowledged : ℕ) → StandsFor self.now pushes acknowledged → fore_of pushes (back_of pushes acknowledged) ≤ lo → NeedsOnly pushes lo hi start (start + length octets.now) → target.new ≡ copied pushes lo hi start octets.now }
     {
         let mut at = lo;
-        for unit in &self.changed {
+        let mut next = self.whole_below(lo);
+        while at < hi
+            && let Some(unit) = self.changed.get(next)
+        {
             let stop = unit.at.max(at).min(hi);
             let index = place_before(unit.start, unit.at, at).saturating_sub(start);
             copy_part(
@@ -196,9 +207,45 @@ impl Ledger {
                 &mut target[(stop - lo) as usize..(end - lo) as usize],
             );
             at = end;
+            next += 1;
         }
         let index = place_before(self.octets_in, self.octets_out, at).saturating_sub(start);
         copy_part(octets, index, &mut target[(at - lo) as usize..]);
+    }
+
+    /// How many of the kept units have no octet from `p` on.
+    fn ended_at(&self, p: u64) -> usize
+        ensures { drop result self.now.changed ≡ filter (λ u. nat_lt p (u.start + u.unit)) self.now.changed }
+    {
+        self.changed
+            .partition_point(|unit| unit.start + unit.unit <= p)
+    }
+
+    /// How many of the kept units have no octet from the one before `e` on.
+    fn ended_before(&self, e: u64) -> usize
+        ensures { drop result self.now.changed ≡ filter (λ u. nat_le e (u.start + u.unit)) self.now.changed }
+    {
+        self.changed
+            .partition_point(|unit| unit.start + unit.unit < e)
+    }
+
+    /// How many of the kept units have their whole image below place `q`.
+    fn whole_below(&self, q: u64) -> usize
+        ensures { drop result self.now.changed ≡ filter (is_open q) self.now.changed }
+    {
+        self.changed
+            .partition_point(|unit| unit.at + unit.image.len() as u64 <= q)
+    }
+}
+
+/// Forgets so many units at the front.
+fn forget_front(units: &mut VecDeque<ChangedUnit>, count: usize)
+    ensures items { units.new.items ≡ drop count units.old.items }
+    ensures room { deque_capacity units.new ≡ deque_capacity units.old }
+    ensures fewer { deque_len units.new ≤ deque_len units.old }
+{
+    for _ in 0..count {
+        let _forgotten = units.pop_front();
     }
 }
 

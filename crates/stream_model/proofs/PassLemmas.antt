@@ -4,8 +4,9 @@ use Rattle.std.specs.Prelude.{not, ◌&&◌, nat_lt, Option, Some, None, is_some
 use Rattle.std.proofs.lemmas.List.{drop_all}
 use Rattle.std.proofs.lemmas.Bool.{cases_Bool, ltb-false, or_parts, or_cases, and_parts, and_cases, and_left, and_from, cond-false, not-false, eqb-true, true≢false}
 use Rattle.stream_model.specs.Numbers.{is_number, one_if}
-use Rattle.stream_model.specs.Session.{Sender, Segment, extent, arrival, acknowledged_at, place_acknowledged, start_of}
-use Rattle.stream_model.specs.Verdict.{is_data, no_session, syn_data, opens, syn_in_session, no_ack, gap, past_end_at, past_end, ack_ahead, stream_limit, tests, first_that_holds}
+use Rattle.stream_model.specs.Session.{Sender, Segment, extent, arrival, acknowledged_at, place_acknowledged, start_of, repeats_unlike}
+use Rattle.gate_base.specs.Tests.{first_that_holds}
+use Rattle.stream_model.specs.Verdict.{is_data, no_session, syn_data, opens, syn_in_session, no_ack, gap, past_end_at, past_end, ack_ahead, stream_limit, backlog, tests}
 use Rattle.stream_model.specs.declared.numbers.Near.{Near}
 use Rattle.stream_model.specs.declared.verdict.Arrival.{Arrival}
 use Rattle.stream_model.specs.declared.verdict.Extent.{Extent}
@@ -28,7 +29,7 @@ none_holds (t ∷ ts) e =
     ]
 
 -- each test fails
-pub record PassesBy (from_client : Bool) (a b : Extent) (g : Arrival) : Type 0 where
+pub record PassesBy (from_client : Bool) (a b : Extent) (g : Arrival) (u : Bool) : Type 0 where
   pub no_session : no_session a b g ≡ false
   pub syn_data : syn_data g ≡ false
   pub syn_in_session : syn_in_session from_client a g ≡ false
@@ -36,11 +37,13 @@ pub record PassesBy (from_client : Bool) (a b : Extent) (g : Arrival) : Type 0 w
   pub gap : gap a g ≡ false
   pub past_end : past_end a g ≡ false
   pub ack_ahead : ack_ahead b g ≡ false
+  pub unlike : (is_data g && u) ≡ false
   pub stream_limit : stream_limit a g ≡ false
+  pub backlog : backlog a g ≡ false
 
-pub passes_by : (from_client : Bool) (a b : Extent) (g : Arrival) → first_that_holds (tests from_client a b g) ≡ None → PassesBy from_client a b g
-passes_by f a b g e =
-    let h : NoneHolds (tests f a b g) = none_holds (tests f a b g) e in
+pub passes_by : (from_client : Bool) (a b : Extent) (g : Arrival) (u : Bool) → first_that_holds (tests from_client a b g u) ≡ None → PassesBy from_client a b g u
+passes_by f a b g u e =
+    let h : NoneHolds (tests f a b g u) = none_holds (tests f a b g u) e in
     record {
       no_session = h.0;
       syn_data = h.1.0;
@@ -49,14 +52,16 @@ passes_by f a b g e =
       gap = h.1.1.1.1.0;
       past_end = h.1.1.1.1.1.0;
       ack_ahead = h.1.1.1.1.1.1.0;
-      stream_limit = h.1.1.1.1.1.1.1.0;
+      unlike = h.1.1.1.1.1.1.1.0;
+      stream_limit = h.1.1.1.1.1.1.1.1.0;
+      backlog = h.1.1.1.1.1.1.1.1.1.0;
     }
 
 abbrev pub Passes : Bool → Sender → Sender → Segment → Type 0
-Passes from_client a b g = PassesBy from_client (extent a) (extent b) (arrival g)
+Passes from_client a b g = PassesBy from_client (extent a) (extent b) (arrival g) (repeats_unlike a g)
 
-pub passes : (from_client : Bool) (a b : Sender) (g : Segment) → first_that_holds (tests from_client (extent a) (extent b) (arrival g)) ≡ None → Passes from_client a b g
-passes f a b g e = passes_by f (extent a) (extent b) (arrival g) e
+pub passes : (from_client : Bool) (a b : Sender) (g : Segment) → first_that_holds (tests from_client (extent a) (extent b) (arrival g) (repeats_unlike a g)) ≡ None → Passes from_client a b g
+passes f a b g e = passes_by f (extent a) (extent b) (arrival g) (repeats_unlike a g) e
 
 number_is : (o : Option ℕ) (n : ℕ) → is_number o n ≡ true → o ≡ Some n
 number_is None n e = absurd (true≢false (sym e))
@@ -90,20 +95,20 @@ pub data_is : (g : Segment) → IsData g → is_data (arrival g) ≡ true
 data_is g d = rw (d.0, d.1) refl
 
 -- both initial numbers are known
-pub both_known : (f : Bool) (a b : Extent) (g : Arrival) → PassesBy f a b g → is_data g ≡ true → (is_some a.initial ≡ true) × (is_some b.initial ≡ true)
-both_known f a b g p d =
+pub both_known : (f : Bool) (a b : Extent) (g : Arrival) (u : Bool) → PassesBy f a b g u → is_data g ≡ true → (is_some a.initial ≡ true) × (is_some b.initial ≡ true)
+both_known f a b g u p d =
     let n : (is_none a.initial ≡ false) × (is_none b.initial ≡ false) = or_parts _ _ (second_false (is_data g) _ p.no_session d) in
     (some_is a.initial n.0, some_is b.initial n.1)
 
-pub has_ack : (f : Bool) (a b : Extent) (g : Arrival) → PassesBy f a b g → is_data g ≡ true → g.flags.ack ≡ true
-has_ack f a b g p d = not-false g.flags.ack (second_false (is_data g) _ p.no_ack d)
+pub has_ack : (f : Bool) (a b : Extent) (g : Arrival) (u : Bool) → PassesBy f a b g u → is_data g ≡ true → g.flags.ack ≡ true
+has_ack f a b g u p d = not-false g.flags.ack (second_false (is_data g) _ p.no_ack d)
 
 -- no more is acknowledged than was sent
-pub ack_within : (f : Bool) (a b : Extent) (g : Arrival) → PassesBy f a b g → g.flags.syn ≡ false → is_data g ≡ true → place_acknowledged b g ≤ b.due + one_if b.ended
-ack_within f a b g p syn d =
+pub ack_within : (f : Bool) (a b : Extent) (g : Arrival) (u : Bool) → PassesBy f a b g u → g.flags.syn ≡ false → is_data g ≡ true → place_acknowledged b g ≤ b.due + one_if b.ended
+ack_within f a b g u p syn d =
     let t : (g.flags.ack && is_some b.initial && nat_lt (one_if b.ended) (acknowledged_at b g).after) ≡ false =
     sym (cond-false (g.flags.syn && g.flags.ack) _ _ (and_left _ _ syn)) ∙ p.ack_ahead in
-    let k : (g.flags.ack && is_some b.initial) ≡ true = and_from _ _ (has_ack f a b g p d) (both_known f a b g p d).1 in
+    let k : (g.flags.ack && is_some b.initial) ≡ true = and_from _ _ (has_ack f a b g u p d) (both_known f a b g u p d).1 in
     let l : (acknowledged_at b g).after ≤ one_if b.ended = ltb-false _ _ (second_false _ _ t k) in
     omega arith
 

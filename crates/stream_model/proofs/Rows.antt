@@ -3,11 +3,13 @@ use Rattle.std.proofs.Common.{◌≡◌, ℕ, true, false, List, [], ◌∷◌, 
 use Rattle.std.specs.Prelude.{◌+◌, ◌-◌, ◌^◌, Option, Some, None, codes, replicate, map}
 use Rattle.std.specs.Fmt.{digits}
 use Rattle.gate_base.specs.declared.refusal.Refusal.{Refusal}
-use Rattle.gate_base.specs.declared.refusal.Refusal.TheVariants.{NoSession, SynData, SynInSession, NoAck, Gap, PastEnd, AckAhead, StreamLimit}
+use Rattle.gate_base.specs.declared.refusal.Refusal.TheVariants.{NoSession, SynData, SynInSession, NoAck, Gap, PastEnd, AckAhead, Unlike, StreamLimit, Backlog}
 use Rattle.ftp_lines.specs.Numbers.{number, four, six}
 use Rattle.ftp_lines.specs.Grammar.{port, eprt, delimited, passive, client_text, server_text}
 use Rattle.ftp_lines.specs.Renaming.{spelled}
 use Rattle.stream_model.specs.Numbers.{place_near}
+use Rattle.stream_model.specs.Session.{Outgoing}
+use Rattle.stream_model.specs.declared.verdict.Flags.{Flags}
 use Rattle.stream_model.specs.Verdict.{refusal_of}
 use Rattle.stream_model.specs.Steps.{session_ends, session_inner, session_open}
 use Rattle.stream_model.proofs.RowWords.{line, ack, ack_fin, ack_push, ack_syn, ack_reset, segment, client_with, server_with, client, server, goes_with, Refused, Goes, goes, Row, found, wanted, run, begun, answer, shake, shaken}
@@ -292,9 +294,10 @@ early_end = refl
 abbrev full : ℕ → Option Refusal
 full octets =
     refusal_of true
-    (record { initial = Some 0; octets = octets; due = octets; ended = false })
-    (record { initial = Some 5000; octets = 0; due = 0; ended = false })
+    (record { initial = Some 0; octets = octets; due = octets; ended = false; recent = 0 })
+    (record { initial = Some 5000; octets = 0; due = 0; ended = false; recent = 0 })
     (record { sequence = octets + 1; acknowledgement = 5001; flags = ack; count = 1 })
+    false
 
 stream_limits : map full ((2 ^ 30 - 2) ∷ (2 ^ 30 - 1) ∷ []) ≡ None ∷ Some StreamLimit ∷ []
 stream_limits = refl
@@ -323,3 +326,111 @@ inner_unknown = refl
 opened_lines : map session_open (run shaken (port_row ∷ []) ∷ run shaken part_acknowledged ∷ run shaken repeated_line ∷ run shaken renamed_reply ∷ run shaken ended_rest ∷ []) ≡ 1 ∷ 1 ∷ 0 ∷ 0 ∷ 0 ∷ []
 unfolding number four six port eprt delimited passive client_text server_text spelled digits
 opened_lines = refl
+
+-- octets that are repeated otherwise, and the same once they are acknowledged
+abbrev repeated_otherwise : List Row
+repeated_otherwise =
+    (client 1001 5001 (line (codes "NOOP")), goes 1001 5001 (line (codes "NOOP")))
+    ∷ (client 1001 5001 (line (codes "NOOQ")), Refused Unlike)
+    ∷ (server 5001 1007 [], goes 5001 1007 [])
+    ∷ (client 1001 5001 (line (codes "NOOQ")), goes 1006 5001 [])
+    ∷ []
+
+repeated_otherwise_holds : found shaken repeated_otherwise ≡ wanted repeated_otherwise
+unfolding number four six port eprt delimited passive client_text server_text spelled digits
+repeated_otherwise_holds = refl
+
+other_address : found (run shaken (port_row ∷ [])) ((client 1001 5001 (line (codes "PORT 10,0,0,6,4,1")), Refused Unlike) ∷ []) ≡ Refused Unlike ∷ []
+unfolding number four six port eprt delimited passive client_text server_text spelled digits
+other_address = refl
+
+-- a client of so many octets that are not acknowledged, and one octet more
+abbrev waiting : ℕ → Option Refusal
+waiting octets =
+    refusal_of true
+    (record { initial = Some 0; octets = octets; due = octets; ended = false; recent = octets })
+    (record { initial = Some 5000; octets = 0; due = 0; ended = false; recent = 0 })
+    (record { sequence = octets + 1; acknowledgement = 5001; flags = ack; count = 1 })
+    false
+
+backlogs : map waiting (65535 ∷ 65536 ∷ []) ≡ None ∷ Some Backlog ∷ []
+backlogs = refl
+
+-- the options of a segment lower the limit of its pieces
+abbrev noop_pieces : List Outgoing
+noop_pieces = goes_with ack 1001 5001 (take 88 noop_line) ∷ goes_with ack_push 1089 5001 (drop 88 noop_line) ∷ []
+
+abbrev with_options : List Row
+with_options =
+    shake 1000 100
+    ++ (record { from_client = true; segment = record (segment ack_push 1001 5001 noop_line) { options = 12 } }, Goes noop_pieces)
+    ∷ []
+
+with_options_hold : found (begun 1000) with_options ≡ wanted with_options
+unfolding number four six port eprt delimited passive client_text server_text spelled digits
+with_options_hold = refl
+
+-- a maximum segment size below 88 counts as 88
+abbrev small_size : List Row
+small_size = shake 1000 40 ++ (client_with ack_push 1001 5001 noop_line, Goes noop_pieces) ∷ []
+
+small_size_holds : found (begun 1000) small_size ≡ wanted small_size
+unfolding number four six port eprt delimited passive client_text server_text spelled digits
+small_size_holds = refl
+
+-- of several SYNs the last one's maximum segment size counts
+abbrev last_size : List Row
+last_size =
+    shake 1000 1460
+    ++ (answer 1001 88, Goes (goes_with ack_syn 5000 1001 [] ∷ []))
+    ∷ (client_with ack_push 1001 5001 noop_line, Goes noop_pieces)
+    ∷ []
+
+last_size_holds : found (begun 1000) last_size ≡ wanted last_size
+unfolding number four six port eprt delimited passive client_text server_text spelled digits
+last_size_holds = refl
+
+-- a SYN, an RST and a held line go without PSH; an RST past the octets so far is a gap, and one at their end stands at the end of what was sent
+abbrev syn_push : Flags
+syn_push = record ack_push { syn = true; ack = false }
+
+abbrev reset_push : Flags
+reset_push = record ack_reset { push = true }
+
+abbrev no_push : List Row
+no_push =
+    (client_with syn_push 1000 0 [], Goes (goes_with (record ack { syn = true; ack = false }) 1000 0 [] ∷ []))
+    ∷ (client_with ack_push 1001 5001 (codes "PO"), Goes (goes_with ack 1001 5001 [] ∷ []))
+    ∷ (client_with ack_reset 1004 5001 [], Refused Gap)
+    ∷ (client_with ack_reset 1003 5002 [], Refused AckAhead)
+    ∷ (client_with reset_push 1003 5001 [], Goes (goes_with ack_reset 1001 5001 [] ∷ []))
+    ∷ []
+
+no_push_holds : found shaken no_push ≡ wanted no_push
+unfolding number four six port eprt delimited passive client_text server_text spelled digits
+no_push_holds = refl
+
+-- an RST to a server whose number isn't known keeps its acknowledgement
+abbrev unknown_receiver : List Row
+unknown_receiver = (client_with ack_reset 1001 777 [], Goes (goes_with ack_reset 1001 777 [] ∷ [])) ∷ []
+
+unknown_receiver_holds : found (begun 1000) unknown_receiver ≡ wanted unknown_receiver
+unknown_receiver_holds = refl
+
+-- what an ICMP error brings back at the place of an end, and beyond it
+inner_end : map (session_inner true (run shaken ended_rest)) (1008 ∷ 1009 ∷ []) ≡ Some 1008 ∷ None ∷ []
+unfolding number four six port eprt delimited passive client_text server_text spelled digits
+inner_end = refl
+
+-- a changed line of the server counts too
+server_open : session_open (run shaken (take 1 renamed_reply)) ≡ 1
+unfolding number four six port eprt delimited passive client_text server_text spelled digits
+server_open = refl
+
+-- a segment without octets behind an end stands behind the end of the image
+abbrev after_end : List Row
+after_end = (client 1008 5001 [], goes 1008 5001 []) ∷ []
+
+after_end_holds : found (run shaken ended_rest) after_end ≡ wanted after_end
+unfolding number four six port eprt delimited passive client_text server_text spelled digits
+after_end_holds = refl

@@ -1,9 +1,10 @@
 -- The first reason for which a segment of a session is refused (RFC 9293, 3.10.7), by what is known of its sender, its receiver and itself.
 use Rattle.std.specs.Prelude.{◌+◌, ◌-◌, ◌^◌, Bool, true, false, not, ◌&&◌, ◌||◌, cond, nat_lt, nat_le, ◌==◌, List, [], ◌∷◌, Option, Some, None, is_some, is_none}
+use Rattle.gate_base.specs.Tests.{first_that_holds}
 use Rattle.gate_base.specs.declared.refusal.Refusal.{Refusal}
-use Rattle.gate_base.specs.declared.refusal.Refusal.TheVariants.{NoSession, SynData, SynInSession, NoAck, Gap, PastEnd, AckAhead, StreamLimit}
+use Rattle.gate_base.specs.declared.refusal.Refusal.TheVariants.{NoSession, SynData, SynInSession, NoAck, Gap, PastEnd, AckAhead, Unlike, StreamLimit, Backlog}
 use Rattle.stream_model.specs.Numbers.{number_at, known, is_number, one_if}
-use Rattle.stream_model.specs.Session.{Session, Segment, own, other, extent, arrival, start_at, acknowledged_at}
+use Rattle.stream_model.specs.Session.{Session, Segment, own, other, extent, arrival, start_at, acknowledged_at, repeats_unlike}
 use Rattle.stream_model.specs.declared.numbers.Near.{Near}
 use Rattle.stream_model.specs.declared.verdict.Arrival.{Arrival}
 use Rattle.stream_model.specs.declared.verdict.Extent.{Extent}
@@ -59,9 +60,15 @@ ack_ahead receiver segment =
 abbrev pub stream_limit : Extent → Arrival → Bool
 stream_limit sender segment = is_data segment && nat_le (2 ^ 30) (sender.octets + (segment.count - (start_at sender segment).before))
 
--- the tests in their order
-abbrev pub tests : Bool → Extent → Extent → Arrival → List (Bool × Refusal)
-tests from_client sender receiver segment =
+-- it adds octets, and more than 65,536 of the sender's would be recent
+abbrev pub backlog : Extent → Arrival → Bool
+backlog sender segment =
+    let added = segment.count - (start_at sender segment).before in
+    is_data segment && nat_lt 0 added && nat_lt 65536 (sender.recent + added)
+
+-- the tests in their order, where it is known whether the segment repeats unlike
+abbrev pub tests : Bool → Extent → Extent → Arrival → Bool → List (Bool × Refusal)
+tests from_client sender receiver segment unlike =
     (no_session sender receiver segment, NoSession)
     ∷ (syn_data segment, SynData)
     ∷ (syn_in_session from_client sender segment, SynInSession)
@@ -69,18 +76,15 @@ tests from_client sender receiver segment =
     ∷ (gap sender segment, Gap)
     ∷ (past_end sender segment, PastEnd)
     ∷ (ack_ahead receiver segment, AckAhead)
+    ∷ (is_data segment && unlike, Unlike)
     ∷ (stream_limit sender segment, StreamLimit)
+    ∷ (backlog sender segment, Backlog)
     ∷ []
 
--- the refusal of the first test that holds
-abbrev pub first_that_holds : List (Bool × Refusal) → Option Refusal
-first_that_holds [] = None
-first_that_holds (test ∷ others) = cond test.0 (Some test.1) (first_that_holds others)
-
 -- the verdict, by what is known of both senders and of the segment
-abbrev pub refusal_of : Bool → Extent → Extent → Arrival → Option Refusal
-refusal_of from_client sender receiver segment = first_that_holds (tests from_client sender receiver segment)
+abbrev pub refusal_of : Bool → Extent → Extent → Arrival → Bool → Option Refusal
+refusal_of from_client sender receiver segment unlike = first_that_holds (tests from_client sender receiver segment unlike)
 
 -- why a segment of the client (true), or of the server, is refused
 abbrev pub session_verdict : Bool → Session → Segment → Option Refusal
-session_verdict from_client s segment = refusal_of from_client (extent (own from_client s)) (extent (other from_client s)) (arrival segment)
+session_verdict from_client s segment = refusal_of from_client (extent (own from_client s)) (extent (other from_client s)) (arrival segment) (repeats_unlike (own from_client s) segment)

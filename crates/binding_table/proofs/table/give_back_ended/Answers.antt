@@ -1,7 +1,7 @@
 use Rattle.std.proofs.Common.{◌∙◌, ap, sym}
 use Rattle.gate_base.specs.declared.side.Side.{Side}
 use Rattle.gate_base.specs.declared.side.Side.TheVariants.{Left, Right}
-use Rattle.gate_settings.specs.Cross.{is_same_side}
+use Rattle.gate_base.specs.Side.{same_side}
 use Rattle.binding_table.specs.Steps.{plain_table}
 use Rattle.binding_table.specs.Bindings.{is_live, pool_with}
 use Rattle.binding_table.proofs.Kept.{taken_at, left_changed, left_kept}
@@ -11,12 +11,12 @@ use Rattle.binding_table.proofs.table.give_back_ended.Goals.{then-not-is_live, e
 pub give_back_alias-requires-clause-left : goal.give_back_alias-requires-clause-left
 give_back_alias-requires-clause-left c right =
     let table = plain_table c.args.left.now.range c.args.right.now.range c.args.bindings.now in
-    rw c.loop-binding.invariant.left (taken_at (is_live c.args.now) table Left c.loop-binding.binding-index _ c.requires.taken c.loop-binding-test.true (ap (λ (s : Side). is_same_side s Right) right))
+    rw c.loop-binding.invariant.left (taken_at (is_live c.args.now) table Left c.loop-binding.binding-index _ c.requires.taken c.loop-binding-test.true (ap (λ (s : Side). same_side s Right) right))
 
 pub give_back_alias-requires-clause-right : goal.give_back_alias-requires-clause-right
 give_back_alias-requires-clause-right c left =
     let table = plain_table c.args.left.now.range c.args.right.now.range c.args.bindings.now in
-    rw c.loop-binding.invariant.right (taken_at (is_live c.args.now) table Right c.loop-binding.binding-index _ c.requires.taken c.loop-binding-test.true (ap (λ (s : Side). is_same_side s Left) left))
+    rw c.loop-binding.invariant.right (taken_at (is_live c.args.now) table Right c.loop-binding.binding-index _ c.requires.taken c.loop-binding-test.true (ap (λ (s : Side). same_side s Left) left))
 
 pub loop-binding-preserved : goal.loop-binding-preserved
 loop-binding-preserved c =

@@ -2,7 +2,7 @@ use Rattle.std.proofs.Common.{refl, ◌∙◌, ap, subst, sym, true, arith}
 use Rattle.std.proofs.lemmas.List.Elements.{All-push, All-weaker}
 use Rattle.gate_base.specs.declared.side.Side.{Side}
 use Rattle.gate_base.specs.declared.side.Side.TheVariants.{Left, Right}
-use Rattle.gate_settings.specs.Cross.{is_same_side}
+use Rattle.gate_base.specs.Side.{same_side}
 use Rattle.binding_table.specs.Steps.{CanHold, changed}
 use Rattle.binding_table.specs.Bindings.{Bindings, with_binding}
 use Rattle.binding_table.specs.Inside.{bindings_of}
@@ -15,12 +15,12 @@ use Rattle.binding_table.proofs.table.Table.append.Goals as goal
 pub take_alias-requires-clause-left : goal.take_alias-requires-clause-left
 take_alias-requires-clause-left c right =
     let can = subst (λ (table : Bindings). CanHold table c.args.binding) (sym c.self.view_is) c.requires in
-    rw c.self.invariant.left (free_for _ c.args.binding Left can (ap (λ (s : Side). is_same_side s Right) right))
+    rw c.self.invariant.left (free_for _ c.args.binding Left can (ap (λ (s : Side). same_side s Right) right))
 
 pub take_alias-requires-clause-right : goal.take_alias-requires-clause-right
 take_alias-requires-clause-right c left =
     let can = subst (λ (table : Bindings). CanHold table c.args.binding) (sym c.self.view_is) c.requires in
-    rw c.self.invariant.right (free_for _ c.args.binding Right can (ap (λ (s : Side). is_same_side s Left) left))
+    rw c.self.invariant.right (free_for _ c.args.binding Right can (ap (λ (s : Side). same_side s Left) left))
 
 pub push_reserved-requires : goal.push_reserved-requires
 push_reserved-requires c =

@@ -1,35 +1,85 @@
-use Rattle.std.proofs.Common.{◌≡◌, Ok, Err, ℕ, List, option_map, take, sym, ap, ◌∙◌}
-use Rattle.std.specs.Vec.{with_items}
-use Rattle.std.proofs.lemmas.List.{take_at}
+use Rattle.std.proofs.Common.{◌≡◌, sym, ap, ◌∙◌, subst, arith}
 use Rattle.gate_base.specs.Events.{event_of}
+use Rattle.gate_base.specs.Tests.{first_that_holds}
+use Rattle.binding_table.specs.Bindings.{expired}
+use Rattle.gate_world.specs.Frame.{datagram_in}
+use Rattle.gate_world.specs.Ranges.{InRange}
+use Rattle.gate_world.specs.Verdict.{tests}
+use Rattle.gate_world.specs.World.{World, at_moment}
+use Rattle.gate_world.proofs.RangesKept.{next_range}
+use Rattle.kept_world.specs.Kept.{KeptSession, kept_rules}
+use Rattle.gate_core.specs.Gates.{Gateway, world_of, left_by, sent_by}
+use Rattle.gate_core.specs.Memory.{MayWant}
 use Rattle.gate_core.specs.contracts.gate.Gate.{the_view}
-use Rattle.binding_table.specs.Plan.{after_uses}
-use Rattle.gate_core.specs.Frame.{datagram_in, first_held, judged}
-use Rattle.gate_core.specs.World.{tests, uses_of}
-use Rattle.gate_core.proofs.Steps.{passed, refused, stepped_passed, stepped_refused}
+use Rattle.gate_core.proofs.Stepping.{stepped, live_range}
+use Rattle.gate_core.proofs.SteppedSessions.{on_err}
 use Rattle.gate_core.proofs.gate.Gate.step.Goals as goal
 
-pub returns-in-Ok-clause-answer : goal.returns-in-Ok-clause-answer
-returns-in-Ok-clause-answer c = rw (← c.self.view_is) (
+pub take_frame-requires-clause-range : goal.take_frame-requires-clause-range
+take_frame-requires-clause-range c =
     let e = event_of c.args.event.now in
-    sym (passed (the_view c.self.inside).world e c.in-Ok.datagram (c.in-Ok.ensures.judged ∙ ap (λ t. judged (first_held (tests t e)) (datagram_in e)) c.expire.ensures)).0)
+    let w = (the_view c.self.inside).world in
+    let lw : world_of e.moment c.expire.new.self c.expire-2.new.self c.self.inside.pending ≡ at_moment w e.moment = ap (λ t. world_of e.moment t c.expire-2.new.self c.self.inside.pending) c.expire.ensures ∙ ap (λ x. world_of e.moment (expired c.self.inside.table c.args.event.now.moment) x c.self.inside.pending) c.expire-2.ensures.live in
+    subst (λ (x : World KeptSession). InRange x) (sym lw) (live_range w e.moment c.self.invariant.range)
 
-pub returns-in-Ok-clause-after : goal.returns-in-Ok-clause-after
-returns-in-Ok-clause-after c = rw (← c.self.view_is) (
+pub invariant_of-self : goal.invariant_of-self
+invariant_of-self c =
     let e = event_of c.args.event.now in
-    let d = c.in-Ok.datagram in
-    let items : (with_items c.self.inside.buffer c.put_image-self-inside.new.target).items ≡ c.put_image-self-inside.new.target = take_at _ _ _ (c.put_image-self-inside.auto.target ∙ c.deref_mut.ensures.len) in
-    stepped_passed (the_view c.self.inside) e d c.use_addresses.new.table _ (c.in-Ok.ensures.judged ∙ ap (λ t. judged (first_held (tests t e)) (datagram_in e)) c.expire.ensures)
-    (c.use_addresses.ensures ∙ ap (λ t. after_uses t e.side (uses_of e.moment d)) c.expire.ensures)
-    (ap (λ (xs : List ℕ). option_map (λ n. take n xs) c.put_image-self-inside.result) items ∙ c.put_image-self-inside.ensures.image))
+    let w = (the_view c.self.inside).world in
+    let lw : world_of e.moment c.expire.new.self c.expire-2.new.self c.self.inside.pending ≡ at_moment w e.moment = ap (λ t. world_of e.moment t c.expire-2.new.self c.self.inside.pending) c.expire.ensures ∙ ap (λ x. world_of e.moment (expired c.self.inside.table c.args.event.now.moment) x c.self.inside.pending) c.expire-2.ensures.live in
+    record {
+      range = subst (λ (x : World KeptSession). InRange x) (sym (c.in_err-refusal.ensures.memory.0 ∙ lw)) (live_range w e.moment c.self.invariant.range);
+      none_gone = c.expire-2.ensures.empty;
+      room = omega (arith, c.expire-2.ensures.capacity, c.self.invariant.room);
+      none_left = c.take_frame.ensures.scratch;
+      places = omega (arith, c.take_frame.ensures.places, c.self.invariant.places);
+    }
 
-pub returns-in-Err-clause-answer : goal.returns-in-Err-clause-answer
-returns-in-Err-clause-answer c = rw (← c.self.view_is) (
+pub invariant_of-self-2 : goal.invariant_of-self-2
+invariant_of-self-2 c =
     let e = event_of c.args.event.now in
-    sym (refused (the_view c.self.inside).world e c.in-Err.refusal (c.in-Err.ensures.judged ∙ ap (λ t. judged (first_held (tests t e)) (datagram_in e)) c.expire.ensures)))
+    let w = (the_view c.self.inside).world in
+    let lw : world_of e.moment c.expire.new.self c.expire-2.new.self c.self.inside.pending ≡ at_moment w e.moment = ap (λ t. world_of e.moment t c.expire-2.new.self c.self.inside.pending) c.expire.ensures ∙ ap (λ x. world_of e.moment (expired c.self.inside.table c.args.event.now.moment) x c.self.inside.pending) c.expire-2.ensures.live in
+    let r = c.in_ok-refusal.refusal in
+    let s = stepped w e r (c.in_ok-refusal.ensures.refusal ∙ ap (λ l. first_that_holds (tests kept_rules l e)) lw) in
+    record {
+      range = subst (λ (x : World KeptSession). InRange x) (sym (c.in_ok-refusal.ensures.left ∙ ap (λ l. left_by r l e.side (datagram_in e)) lw ∙ s.next_is)) (next_range kept_rules w e c.self.invariant.range);
+      none_gone = c.expire-2.ensures.empty;
+      room = omega (arith, c.expire-2.ensures.capacity, c.self.invariant.room);
+      none_left = c.take_frame.ensures.scratch;
+      places = omega (arith, c.take_frame.ensures.places, c.self.invariant.places);
+    }
 
-pub returns-in-Err-clause-after : goal.returns-in-Err-clause-after
-returns-in-Err-clause-after c = rw (← c.self.view_is) (
+pub returns-clause-verdict : goal.returns-clause-verdict
+returns-clause-verdict c =
     let e = event_of c.args.event.now in
-    ap (λ t. record (the_view c.self.inside) { world = record { clock = e.moment; table = t }; image = _ }) c.expire.ensures
-    ∙ stepped_refused (the_view c.self.inside) e c.in-Err.refusal (c.in-Err.ensures.judged ∙ ap (λ t. judged (first_held (tests t e)) (datagram_in e)) c.expire.ensures))
+    let w = (the_view c.self.inside).world in
+    let lw : world_of e.moment c.expire.new.self c.expire-2.new.self c.self.inside.pending ≡ at_moment w e.moment = ap (λ t. world_of e.moment t c.expire-2.new.self c.self.inside.pending) c.expire.ensures ∙ ap (λ x. world_of e.moment (expired c.self.inside.table c.args.event.now.moment) x c.self.inside.pending) c.expire-2.ensures.live in
+    let r = c.in_ok-refusal.refusal in
+    let s = stepped w e r (c.in_ok-refusal.ensures.refusal ∙ ap (λ l. first_that_holds (tests kept_rules l e)) lw) in
+    rw (← c.self.view_is) (c.verdict_of.ensures ∙ s.verdict_is)
+
+pub returns-clause-next : goal.returns-clause-next
+returns-clause-next c =
+    let e = event_of c.args.event.now in
+    let w = (the_view c.self.inside).world in
+    let lw : world_of e.moment c.expire.new.self c.expire-2.new.self c.self.inside.pending ≡ at_moment w e.moment = ap (λ t. world_of e.moment t c.expire-2.new.self c.self.inside.pending) c.expire.ensures ∙ ap (λ x. world_of e.moment (expired c.self.inside.table c.args.event.now.moment) x c.self.inside.pending) c.expire-2.ensures.live in
+    let r = c.in_ok-refusal.refusal in
+    let s = stepped w e r (c.in_ok-refusal.ensures.refusal ∙ ap (λ l. first_that_holds (tests kept_rules l e)) lw) in
+    rw (← c.self.view_is) (ap (λ (x : World KeptSession). let g : Gateway = record { settings = c.self.inside.settings; world = x } in g) (c.in_ok-refusal.ensures.left ∙ ap (λ l. left_by r l e.side (datagram_in e)) lw ∙ s.next_is))
+
+pub returns-clause-out : goal.returns-clause-out
+returns-clause-out c =
+    let e = event_of c.args.event.now in
+    let w = (the_view c.self.inside).world in
+    let lw : world_of e.moment c.expire.new.self c.expire-2.new.self c.self.inside.pending ≡ at_moment w e.moment = ap (λ t. world_of e.moment t c.expire-2.new.self c.self.inside.pending) c.expire.ensures ∙ ap (λ x. world_of e.moment (expired c.self.inside.table c.args.event.now.moment) x c.self.inside.pending) c.expire-2.ensures.live in
+    let r = c.in_ok-refusal.refusal in
+    let s = stepped w e r (c.in_ok-refusal.ensures.refusal ∙ ap (λ l. first_that_holds (tests kept_rules l e)) lw) in
+    rw (← c.self.view_is) (c.in_ok-refusal.ensures.sent ∙ ap (λ l. sent_by r l e.side (datagram_in e)) lw ∙ s.out_is)
+
+pub returns-in_err-refusal-clause-wants : goal.returns-in_err-refusal-clause-wants
+returns-in_err-refusal-clause-wants c =
+    let e = event_of c.args.event.now in
+    let w = (the_view c.self.inside).world in
+    let lw : world_of e.moment c.expire.new.self c.expire-2.new.self c.self.inside.pending ≡ at_moment w e.moment = ap (λ t. world_of e.moment t c.expire-2.new.self c.self.inside.pending) c.expire.ensures ∙ ap (λ x. world_of e.moment (expired c.self.inside.table c.args.event.now.moment) x c.self.inside.pending) c.expire-2.ensures.live in
+    on_err c.from_residual.result (subst (λ (g : Gateway). MayWant (at_moment g.world e.moment) e.side (datagram_in e)) c.self.view_is (subst (λ (x : World KeptSession). MayWant x e.side (datagram_in e)) lw c.in_err-refusal.ensures.wants))

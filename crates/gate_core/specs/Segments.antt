@@ -1,0 +1,83 @@
+-- What becomes of a segment.
+use Rattle.std.specs.Prelude.{◌≡◌, ◌&&◌, not, nat_le, ℕ, Bool, List, [], ◌∷◌, ◌++◌, length, Option, Some, None, is_none, option_map, if◌then◌else◌, Result, Ok, Err}
+use Rattle.gate_base.specs.declared.event.OutOfMemory.{OutOfMemory}
+use Rattle.gate_base.specs.declared.event.Pair.{Pair}
+use Rattle.gate_base.specs.declared.refusal.Refusal.{Refusal}
+use Rattle.gate_base.specs.declared.refusal.Refusal.TheVariants.{PoolEmpty, SessionsFull}
+use Rattle.gate_base.specs.declared.side.Side.{Side}
+use Rattle.ipv4_frames.specs.Ipv4.{Datagram}
+use Rattle.ftp_lines.specs.Renaming.{client_lines, server_lines}
+use Rattle.tcp_segments.specs.Tcp.{Tcp}
+use Rattle.tcp_tracker.specs.Connections.{has_rst}
+use Rattle.tcp_tracker.specs.declared.connection.Connection.{Connection}
+use Rattle.stream_gate.specs.Memory.{KeptCompletes}
+use Rattle.gate_base.specs.Tests.{first_that_holds}
+use Rattle.gate_world.specs.Frame.{Stream}
+use Rattle.gate_world.specs.Step.{out_kind}
+use Rattle.gate_world.specs.Stream.{segment_of, session_refusal, stepped, ends_by, pending_by, most_connections}
+use Rattle.gate_world.specs.Verdict.{kind_tests, is_pool_empty}
+use Rattle.gate_world.specs.World.{Tracked, World, is_client}
+use Rattle.kept_world.specs.Kept.{KeptSession, kept_rules}
+use Rattle.gate_payloads.specs.Ways.{image_by, out_by}
+use Rattle.gate_payloads.specs.declared.addresses.Way.{Way}
+use Rattle.gate_core.specs.Gates.{stream_left}
+use Rattle.gate_core.specs.Memory.{SegmentMayWant}
+
+-- the first test of a segment that holds
+abbrev pub stream_refusal : World KeptSession → Side → Datagram → Option Refusal
+stream_refusal live side d = first_that_holds (kind_tests kept_rules live side live.clock d Stream ++ (is_pool_empty live.table side d Stream, PoolEmpty) ∷ [])
+
+-- it is refused by that test, or passes
+pub record IsSegmentTaken (live : World KeptSession) (side : Side) (d : Datagram) (refusal : Option Refusal) (after : World KeptSession) (sent : List (List ℕ)) : Type 0 where
+  pub answer : refusal ≡ stream_refusal live side d
+  pub left : after ≡ stream_left refusal live side d
+  pub gone : sent ≡ out_by refusal (out_kind kept_rules live side live.clock d Stream)
+
+-- where memory runs out nothing changes, and it does so on no other segment than may want it
+pub record IsSegmentLost (live : World KeptSession) (side : Side) (d : Datagram) (after : World KeptSession) (sent : List (List ℕ)) : Type 0 where
+  pub same : after ≡ live
+  pub nothing : sent ≡ []
+  pub wants : SegmentMayWant live side d
+
+-- one of both
+abbrev pub IsSegmentDone : World KeptSession → Side → Datagram → Result (Option Refusal) OutOfMemory → World KeptSession → List (List ℕ) → Type 0
+IsSegmentDone live side d (Ok refusal) after sent = IsSegmentTaken live side d refusal after sent
+IsSegmentDone live side d (Err error) after sent = IsSegmentLost live side d after sent
+
+-- the connections after a segment that is refused or passes
+abbrev pub connections_by : {S : Type 0} → Option Refusal → List (Connection S) → List (Connection S) → List (Connection S)
+connections_by None passed live = passed
+connections_by (Some refusal) passed live = live
+
+-- the tests behind those of a session
+abbrev pub room_tests : Bool → Bool → List (Bool × Refusal)
+room_tests full empty = (full, SessionsFull) ∷ (empty, PoolEmpty) ∷ []
+
+-- it would make a connection, and the most of them live
+abbrev pub lacks_place : List (Connection (Tracked KeptSession)) → Option (Connection (Tracked KeptSession)) → ℕ → Bool
+lacks_place all found flags = is_none found && (not (has_rst flags) && nat_le most_connections (length all))
+
+-- why a session refuses it, if it does, where there is a session
+abbrev pub session_verdict : Side → Datagram → Option (Tracked KeptSession) → Option (Option Refusal)
+session_verdict side d taker = option_map (λ t. session_refusal kept_rules side d (Some t)) taker
+
+-- how many changed lines wait in a session after a segment, unless it ends
+abbrev pub waiting_after : Side → Datagram → Tracked KeptSession → Option ℕ
+waiting_after side d t = if ends_by kept_rules side d (Some t) then None else Some (pending_by kept_rules (Some (stepped kept_rules side d t)))
+
+-- a segment completes a line that bears an address, in the session that takes it
+abbrev pub CompletesIn : Side → Datagram → Tracked KeptSession → Type 0
+CompletesIn side d t = KeptCompletes (client_lines t.session.pair) (server_lines t.session.pair) (is_client side t) t.session.kept (segment_of d)
+
+-- the pair of the hosts on a way
+abbrev pub pair_on : Way → Pair
+pair_on way = record {
+  client = way.source;
+  client_alias = image_by way.of_source way.source;
+  server = image_by way.of_destination way.destination;
+  server_alias = way.destination;
+}
+
+-- the session that a first segment makes
+abbrev pub made_on : Way → Tcp → Tracked KeptSession
+made_on way tcp = record { client = way.side; pair = pair_on way; session = kept_rules.made (pair_on way) tcp.sequence tcp.mss }

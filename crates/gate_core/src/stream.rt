@@ -1,0 +1,548 @@
+// TCP segments, their connections and their sessions.
+ghost use Rattle.std.specs.Prelude.{◌≡◌, ◌+◌, ◌*◌, ◌^◌, ◌<◌, ◌≤◌, ◌||◌, ◌&&◌, ◌++◌, not, nat_le, vec_capacity, ◌==◌, [], ◌∷◌, length, true, false, None, Some, Ok, IfOk, OnErr, OnOk, IsSome, is_none, count_by, if◌then◌else◌};
+ghost use Rattle.binding_table.proofs.Planned.{is_settled};
+ghost use Rattle.binding_table.specs.Plan.{after_uses};
+ghost use Rattle.twice_translate.specs.Renamed.{CanGoOn, datagram_of, renamed};
+ghost use Rattle.ipv4_frames.specs.Ipv4.{Datagram};
+ghost use Rattle.tcp_tracker.specs.Connections.{connection_of, hold_of, noted, has_rst, is_tracked};
+ghost use Rattle.session_table.specs.Joined.{replaced};
+ghost use Rattle.gate_world.specs.Frame as kinds;
+ghost use Rattle.gate_world.specs.Stream as streams;
+ghost use Rattle.gate_world.specs.World.{Tracked};
+ghost use Rattle.kept_world.specs.Kept.{KeptSession, kept_rules, kept_pending};
+ghost use Rattle.gate_payloads.specs.Ways.{IsWay, image_by, is_empty, table_by, out_by};
+ghost use Rattle.gate_payloads.specs.Taken.{IsWayOf};
+ghost use Rattle.gate_core.specs.Gates.{world_of, stream_left};
+ghost use Rattle.gate_core.specs.Memory.{SegmentMayWant};
+ghost use Rattle.gate_core.specs.Segments.{IsSegmentDone, CompletesIn, connections_by, room_tests, lacks_place, session_verdict, waiting_after, made_on};
+ghost use Rattle.gate_base.specs.declared.refusal.Refusal.TheVariants.{PoolEmpty};
+ghost use Rattle.gate_base.specs.Tests.{first_that_holds};
+ghost use Rattle.gate_world.specs.Ranges.{InRange};
+ghost use Rattle.gate_world.specs.Step.{out_kind, stream_out};
+ghost use Rattle.gate_world.specs.Stream.{tcp_of};
+ghost use Rattle.gate_world.specs.Verdict.{kind_tests, is_pool_empty, uses_until};
+
+use binding_table::Table;
+use ftp_lines::{ClientLines, ServerLines};
+use gate_base::{OutOfMemory, Pair, Refusal, get_u16};
+use gate_outbox::Outbox;
+use gate_payloads::{TrackedSession, Way, key_of, lacks_alias, pass_plain};
+use ipv4_frames::IpView;
+use session_table::SessionTable;
+use shift_ledger::Recent;
+use std::alloc::Global;
+use stream_gate::StreamGate;
+use stream_model::flags_of;
+use tcp_segments::TcpView;
+use tcp_tracker::ConnKey;
+
+/// The ports of DNS, and of the control connections of FTP.
+const DNS_PORT: u16 = 53;
+
+const CONTROL_PORT: u16 = 21;
+
+/// The most connections and the most sessions that live at once.
+const CONNECTIONS: usize = 65_536;
+
+const SESSIONS: usize = 4_096;
+
+/// For how long the addresses of a connection that is gone are held, in nanoseconds: 240 seconds.
+const SHORT_HOLD: u64 = 240_000_000_000;
+
+/// A segment: the octets of its datagram, and what stands in them.
+#[derive(Clone, Copy)]
+pub struct Segment<'a> {
+    pub octets: &'a [u8],
+    pub datagram: &'a IpView<'a>,
+    pub tcp: &'a TcpView<'a>,
+}
+
+/// Takes a segment.
+pub fn take_segment(
+    alloc: Global,
+    table: &mut Table,
+    connections: &mut SessionTable<TrackedSession>,
+    pending: &mut u64,
+    scratch: &mut Vec<u8>,
+    way: &Way,
+    segment: &Segment<'_>,
+    outbox: &mut Outbox,
+) -> Result<Option<Refusal>, OutOfMemory>
+    requires way { IsWayOf (world_of way.now.moment.0 table.old connections.old pending.old) way.now.side segment.now.datagram.now way.now }
+    requires moment { way.now.moment.0 < 2 ^ 32 * 1000000000 }
+    requires range { InRange (world_of way.now.moment.0 table.old connections.old pending.old) }
+    requires scratch { scratch.old.items ≡ [] }
+    requires places { 262144 ≤ vec_capacity scratch.old }
+    requires empty { outbox.old ≡ [] }
+    requires same { datagram_of segment.now.octets.now ≡ segment.now.datagram.now }
+    requires few { length segment.now.octets.now ≤ 65535 }
+    requires can { CanGoOn segment.now.octets.now }
+    requires tcp { segment.now.tcp.now ≡ tcp_of segment.now.datagram.now }
+    requires protocol { segment.now.datagram.now.protocol ≡ 6 }
+    ensures refusal { IfOk result (λ r. r ≡ first_that_holds (kind_tests kept_rules (world_of way.now.moment.0 table.old connections.old pending.old) way.now.side way.now.moment.0 segment.now.datagram.now kinds.Stream ++ (is_pool_empty table.old way.now.side segment.now.datagram.now kinds.Stream, PoolEmpty) ∷ [])) }
+    ensures left { IfOk result (λ r. world_of way.now.moment.0 table.new connections.new pending.new ≡ stream_left r (world_of way.now.moment.0 table.old connections.old pending.old) way.now.side segment.now.datagram.now) }
+    ensures sent { IfOk result (λ r. outbox.new ≡ out_by r (out_kind kept_rules (world_of way.now.moment.0 table.old connections.old pending.old) way.now.side way.now.moment.0 segment.now.datagram.now kinds.Stream)) }
+    ensures memory { OnErr result ((world_of way.now.moment.0 table.new connections.new pending.new ≡ world_of way.now.moment.0 table.old connections.old pending.old) × (outbox.new ≡ [])) }
+    ensures wants { OnErr result (SegmentMayWant (world_of way.now.moment.0 table.old connections.old pending.old) way.now.side segment.now.datagram.now) }
+    ensures scratch { scratch.new.items ≡ [] }
+    ensures places { vec_capacity scratch.old ≤ vec_capacity scratch.new }
+{
+    if has_dns_port(segment.tcp) {
+        return Ok(Some(Refusal::DnsStream));
+    }
+    let key = key_in(way, segment.tcp.ports());
+    take_on_connection(
+        alloc,
+        table,
+        connections,
+        pending,
+        scratch,
+        way,
+        &key,
+        segment,
+        outbox,
+    )
+}
+
+/// Takes a segment of the connection with this name; no port of it is that of DNS.
+fn take_on_connection(
+    alloc: Global,
+    table: &mut Table,
+    connections: &mut SessionTable<TrackedSession>,
+    pending: &mut u64,
+    scratch: &mut Vec<u8>,
+    way: &Way,
+    key: &ConnKey,
+    segment: &Segment<'_>,
+    outbox: &mut Outbox,
+) -> Result<Option<Refusal>, OutOfMemory>
+    requires way { IsWayOf (world_of way.now.moment.0 table.old connections.old pending.old) way.now.side segment.now.datagram.now way.now }
+    requires key { key.now ≡ streams.key_in table.old way.now.side segment.now.datagram.now }
+    requires dns { kinds.has_port kinds.dns_port segment.now.datagram.now ≡ false }
+    requires moment { way.now.moment.0 < 2 ^ 32 * 1000000000 }
+    requires scratch { scratch.old.items ≡ [] }
+    requires places { 262144 ≤ vec_capacity scratch.old }
+    requires empty { outbox.old ≡ [] }
+    requires same { datagram_of segment.now.octets.now ≡ segment.now.datagram.now }
+    requires few { length segment.now.octets.now ≤ 65535 }
+    requires can { CanGoOn segment.now.octets.now }
+    requires tcp { segment.now.tcp.now ≡ tcp_of segment.now.datagram.now }
+    ensures done { IsSegmentDone (world_of way.now.moment.0 table.old connections.old pending.old) way.now.side segment.now.datagram.now result (world_of way.now.moment.0 table.new connections.new pending.new) outbox.new }
+    ensures scratch { scratch.new.items ≡ [] }
+    ensures places { vec_capacity scratch.old ≤ vec_capacity scratch.new }
+{
+    if let Some(verdict) = session_verdict(connections, way, key, segment) {
+        return match verdict {
+            Some(refusal) => Ok(Some(refusal)),
+            None => take_by_session(
+                table,
+                connections,
+                pending,
+                scratch,
+                way,
+                key,
+                segment,
+                outbox,
+            ),
+        };
+    }
+    if connections.contains(key) {
+        return Ok(take_untracked(table, connections, way, key, segment, outbox));
+    }
+    take_beginning(
+        alloc,
+        table,
+        connections,
+        pending,
+        scratch,
+        way,
+        key,
+        segment,
+        outbox,
+    )
+}
+
+/// Takes a segment whose connection doesn't live.
+fn take_beginning(
+    alloc: Global,
+    table: &mut Table,
+    connections: &mut SessionTable<TrackedSession>,
+    pending: &mut u64,
+    scratch: &mut Vec<u8>,
+    way: &Way,
+    key: &ConnKey,
+    segment: &Segment<'_>,
+    outbox: &mut Outbox,
+) -> Result<Option<Refusal>, OutOfMemory>
+    requires way { IsWayOf (world_of way.now.moment.0 table.old connections.old pending.old) way.now.side segment.now.datagram.now way.now }
+    requires key { key.now ≡ streams.key_in table.old way.now.side segment.now.datagram.now }
+    requires absent { connection_of key.now connections.old ≡ None }
+    requires dns { kinds.has_port kinds.dns_port segment.now.datagram.now ≡ false }
+    requires moment { way.now.moment.0 < 2 ^ 32 * 1000000000 }
+    requires scratch { scratch.old.items ≡ [] }
+    requires places { 262144 ≤ vec_capacity scratch.old }
+    requires empty { outbox.old ≡ [] }
+    requires same { datagram_of segment.now.octets.now ≡ segment.now.datagram.now }
+    requires few { length segment.now.octets.now ≤ 65535 }
+    requires can { CanGoOn segment.now.octets.now }
+    requires tcp { segment.now.tcp.now ≡ tcp_of segment.now.datagram.now }
+    ensures done { IsSegmentDone (world_of way.now.moment.0 table.old connections.old pending.old) way.now.side segment.now.datagram.now result (world_of way.now.moment.0 table.new connections.new pending.new) outbox.new }
+    ensures scratch { scratch.new.items ≡ [] }
+    ensures places { vec_capacity scratch.old ≤ vec_capacity scratch.new }
+{
+    if is_late(segment.tcp) {
+        return Ok(Some(Refusal::NoSession));
+    }
+    if is_first(segment.tcp) {
+        return take_first(
+            alloc,
+            table,
+            connections,
+            pending,
+            scratch,
+            way,
+            key,
+            segment,
+            outbox,
+        );
+    }
+    Ok(take_untracked(table, connections, way, key, segment, outbox))
+}
+
+/// Takes a segment that no session takes.
+fn take_untracked(
+    table: &mut Table,
+    connections: &mut SessionTable<TrackedSession>,
+    way: &Way,
+    key: &ConnKey,
+    segment: &Segment<'_>,
+    outbox: &mut Outbox,
+) -> Option<Refusal>
+    requires way { IsWay table.old way.now }
+    requires settled { is_settled way.now.of_destination ≡ true }
+    requires moment { way.now.moment.0 < 2 ^ 32 * 1000000000 }
+    requires empty { outbox.old ≡ [] }
+    requires few { length segment.now.octets.now ≤ 65535 }
+    requires can { CanGoOn segment.now.octets.now }
+    ensures refusal { result ≡ first_that_holds (room_tests (lacks_place connections.old (connection_of key.now connections.old) segment.now.tcp.now.flags) (is_empty way.now.of_source)) }
+    ensures table { table.new ≡ table_by result (after_uses table.old way.now.side (uses_until (way.now.moment.0 + hold_of connections.old key.now way.now.side segment.now.tcp.now.flags) (way.now.source ∷ way.now.destination ∷ []))) table.old }
+    ensures connections { connections.new ≡ connections_by result (noted connections.old key.now way.now.side segment.now.tcp.now.flags None way.now.moment) connections.old }
+    ensures out { outbox.new ≡ out_by result (renamed (datagram_of segment.now.octets.now) (image_by way.now.of_source way.now.source).0 (image_by way.now.of_destination way.now.destination).0 ∷ []) }
+{
+    let flags = segment.tcp.flags();
+    if lacks_place(connections, key, flags) {
+        return Some(Refusal::SessionsFull);
+    }
+    if lacks_alias(way) {
+        return Some(Refusal::PoolEmpty);
+    }
+    let hold = hold_of(connections, way, key, flags);
+    note_untracked(connections, way, key, flags);
+    pass_plain(table, way, hold, segment.octets, outbox);
+    None
+}
+
+/// A segment passed that no session takes. An RST makes no connection.
+fn note_untracked(
+    connections: &mut SessionTable<TrackedSession>,
+    way: &Way,
+    key: &ConnKey,
+    flags: u8,
+)
+    requires place { lacks_place connections.old (connection_of key.now connections.old) flags ≡ false }
+    requires moment { way.now.moment.0 < 2 ^ 32 * 1000000000 }
+    ensures { connections.new ≡ noted connections.old key.now way.now.side flags None way.now.moment }
+{
+    if is_stray_reset(connections, key, flags) {
+        return;
+    }
+    connections.note(*key, way.side, flags, way.moment);
+}
+
+/// An RST of a connection that doesn't live.
+fn is_stray_reset(connections: &SessionTable<TrackedSession>, key: &ConnKey, flags: u8) -> bool
+    ensures { result ≡ (is_none (connection_of key.now connections.now) && has_rst flags) }
+{
+    flags_of(flags).reset && !connections.contains(key)
+}
+
+/// Takes a segment of a connection that has a session, which doesn't refuse it.
+fn take_by_session(
+    table: &mut Table,
+    connections: &mut SessionTable<TrackedSession>,
+    pending: &mut u64,
+    scratch: &mut Vec<u8>,
+    way: &Way,
+    key: &ConnKey,
+    segment: &Segment<'_>,
+    outbox: &mut Outbox,
+) -> Result<Option<Refusal>, OutOfMemory>
+    requires way { IsWayOf (world_of way.now.moment.0 table.old connections.old pending.old) way.now.side segment.now.datagram.now way.now }
+    requires key { key.now ≡ streams.key_in table.old way.now.side segment.now.datagram.now }
+    requires tracked { IsSome (streams.session_in (connection_of key.now connections.old)) }
+    requires passes { streams.session_refusal kept_rules way.now.side segment.now.datagram.now (streams.session_in (connection_of key.now connections.old)) ≡ None }
+    requires dns { kinds.has_port kinds.dns_port segment.now.datagram.now ≡ false }
+    requires moment { way.now.moment.0 < 2 ^ 32 * 1000000000 }
+    requires scratch { scratch.old.items ≡ [] }
+    requires places { 262144 ≤ vec_capacity scratch.old }
+    requires empty { outbox.old ≡ [] }
+    requires alive { 1 ≤ segment.now.datagram.now.lifetime }
+    requires tcp { segment.now.tcp.now ≡ tcp_of segment.now.datagram.now }
+    ensures done { IsSegmentDone (world_of way.now.moment.0 table.old connections.old pending.old) way.now.side segment.now.datagram.now result (world_of way.now.moment.0 table.new connections.new pending.new) outbox.new }
+    ensures scratch { scratch.new.items ≡ [] }
+    ensures places { vec_capacity scratch.old ≤ vec_capacity scratch.new }
+{
+    if lacks_alias(way) {
+        return Ok(Some(Refusal::PoolEmpty));
+    }
+    let flags = segment.tcp.flags();
+    let hold = hold_of(connections, way, key, flags);
+    match step_session(connections, scratch, way, key, segment, outbox)? {
+        Some(waiting) => {
+            *pending = (*pending).max(waiting);
+            connections.note(*key, way.side, flags, way.moment);
+            way.use_both(table, hold);
+            Ok(None)
+        }
+        None => {
+            connections.remove(key);
+            way.use_both(table, SHORT_HOLD);
+            Ok(None)
+        }
+    }
+}
+
+/// Takes the first segment of a connection that is tracked: it makes the session, and is the first segment that this takes.
+fn take_first(
+    alloc: Global,
+    table: &mut Table,
+    connections: &mut SessionTable<TrackedSession>,
+    pending: &mut u64,
+    scratch: &mut Vec<u8>,
+    way: &Way,
+    key: &ConnKey,
+    segment: &Segment<'_>,
+    outbox: &mut Outbox,
+) -> Result<Option<Refusal>, OutOfMemory>
+    requires way { IsWayOf (world_of way.now.moment.0 table.old connections.old pending.old) way.now.side segment.now.datagram.now way.now }
+    requires key { key.now ≡ streams.key_in table.old way.now.side segment.now.datagram.now }
+    requires absent { connection_of key.now connections.old ≡ None }
+    requires first { (streams.is_opening segment.now.tcp.now.flags && segment.now.tcp.now.destination_port == 21) ≡ true }
+    requires dns { kinds.has_port kinds.dns_port segment.now.datagram.now ≡ false }
+    requires moment { way.now.moment.0 < 2 ^ 32 * 1000000000 }
+    requires scratch { scratch.old.items ≡ [] }
+    requires places { 262144 ≤ vec_capacity scratch.old }
+    requires empty { outbox.old ≡ [] }
+    requires alive { 1 ≤ segment.now.datagram.now.lifetime }
+    requires few { length segment.now.tcp.now.payload ≤ 65535 }
+    requires tcp { segment.now.tcp.now ≡ tcp_of segment.now.datagram.now }
+    ensures done { IsSegmentDone (world_of way.now.moment.0 table.old connections.old pending.old) way.now.side segment.now.datagram.now result (world_of way.now.moment.0 table.new connections.new pending.new) outbox.new }
+    ensures scratch { scratch.new.items ≡ [] }
+    ensures places { vec_capacity scratch.old ≤ vec_capacity scratch.new }
+{
+    if let Some(refusal) = StreamGate::<ClientLines, ServerLines>::first_verdict(segment.tcp) {
+        return Ok(Some(refusal));
+    }
+    if is_full(connections) {
+        return Ok(Some(Refusal::SessionsFull));
+    }
+    if lacks_alias(way) {
+        return Ok(Some(Refusal::PoolEmpty));
+    }
+    let flags = segment.tcp.flags();
+    let hold = hold_of(connections, way, key, flags);
+    let mut tracked = made(alloc, way, segment.tcp)?;
+    let waiting = step_tracked(&mut tracked, scratch, way, segment, outbox)?;
+    *pending = (*pending).max(waiting.unwrap_or(0));
+    connections.open(*key, way.side, flags, tracked, way.moment);
+    way.use_both(table, hold);
+    Ok(None)
+}
+
+/// Whether a port is that of DNS.
+fn has_dns_port(tcp: &TcpView<'_>) -> bool
+    ensures { (d : Datagram) → tcp.now ≡ tcp_of d → result ≡ kinds.has_port kinds.dns_port d }
+{
+    let header = tcp.header();
+    get_u16(header, 0) == DNS_PORT || get_u16(header, 2) == DNS_PORT
+}
+
+/// Whether it is a SYN without ACK.
+fn is_opening(flags: u8) -> bool
+    ensures { result ≡ streams.is_opening flags }
+{
+    let flags = flags_of(flags);
+    flags.syn && !flags.ack
+}
+
+/// Whether it is a segment of a control connection, and no SYN without ACK.
+fn is_late(tcp: &TcpView<'_>) -> bool
+    ensures { result ≡ ((tcp.now.source_port == 21 || tcp.now.destination_port == 21) && not (streams.is_opening tcp.now.flags)) }
+{
+    let ports = tcp.ports();
+    (ports.0 == CONTROL_PORT || ports.1 == CONTROL_PORT) && !is_opening(tcp.flags())
+}
+
+/// Whether it is a SYN without ACK to the control port.
+fn is_first(tcp: &TcpView<'_>) -> bool
+    ensures { result ≡ (streams.is_opening tcp.now.flags && tcp.now.destination_port == 21) }
+{
+    is_opening(tcp.flags()) && tcp.ports().1 == CONTROL_PORT
+}
+
+/// The name of the connection of a segment with these ports.
+fn key_in(way: &Way, ports: (u16, u16)) -> ConnKey
+    ensures { result ≡ streams.key_of way.now.side way.now.source ports.0 (image_by way.now.of_destination way.now.destination) ports.1 }
+{
+    key_of(
+        way.side,
+        way.source,
+        ports.0,
+        way.destination_image(),
+        ports.1,
+    )
+}
+
+/// A segment that no session takes would make a connection, and the most of them live.
+fn lacks_place(connections: &SessionTable<TrackedSession>, key: &ConnKey, flags: u8) -> bool
+    ensures { result ≡ lacks_place connections.now (connection_of key.now connections.now) flags }
+{
+    CONNECTIONS <= connections.len() && !flags_of(flags).reset && !connections.contains(key)
+}
+
+/// The most connections live, or the most sessions.
+fn is_full(connections: &SessionTable<TrackedSession>) -> bool
+    ensures { result ≡ (nat_le 65536 (length connections.now) || nat_le 4096 (count_by is_tracked connections.now)) }
+{
+    CONNECTIONS <= connections.len() || SESSIONS <= connections.sessions()
+}
+
+/// How long the addresses of a segment are held: as its connection is.
+fn hold_of(connections: &SessionTable<TrackedSession>, way: &Way, key: &ConnKey, flags: u8) -> u64
+    ensures is { result ≡ hold_of connections.now key.now way.now.side flags }
+    ensures small { result ≤ 7440 * 1000000000 }
+{
+    connections.hold_of(key, way.side, flags)
+}
+
+/// Why the session of a connection refuses a segment, if it does; None where the connection has no session.
+fn session_verdict(
+    connections: &SessionTable<TrackedSession>,
+    way: &Way,
+    key: &ConnKey,
+    segment: &Segment<'_>,
+) -> Option<Option<Refusal>>
+    requires { segment.now.tcp.now ≡ tcp_of segment.now.datagram.now }
+    ensures { result ≡ session_verdict way.now.side segment.now.datagram.now (streams.session_in (connection_of key.now connections.now)) }
+{
+    let tracked = connections.session(key)?;
+    Some(
+        tracked
+            .session
+            .verdict(tracked.is_client(way.side), segment.tcp),
+    )
+}
+
+/// The session of a connection takes a segment: how many changed lines wait in it then; None where it ends.
+fn step_session(
+    connections: &mut SessionTable<TrackedSession>,
+    scratch: &mut Vec<u8>,
+    way: &Way,
+    key: &ConnKey,
+    segment: &Segment<'_>,
+    outbox: &mut Outbox,
+) -> Result<Option<u64>, OutOfMemory>
+    requires tracked { IsSome (streams.session_in (connection_of key.now connections.old)) }
+    requires passes { streams.session_refusal kept_rules way.now.side segment.now.datagram.now (streams.session_in (connection_of key.now connections.old)) ≡ None }
+    requires empty { outbox.old ≡ [] }
+    requires alive { 1 ≤ segment.now.datagram.now.lifetime }
+    requires tcp { segment.now.tcp.now ≡ tcp_of segment.now.datagram.now }
+    requires scratch { scratch.old.items ≡ [] }
+    requires places { 262144 ≤ vec_capacity scratch.old }
+    ensures next { (t : Tracked KeptSession) → streams.session_in (connection_of key.now connections.old) ≡ Some t → OnOk result (connections.new ≡ replaced connections.old key.now (streams.stepped kept_rules way.now.side segment.now.datagram.now t)) }
+    ensures waits { (t : Tracked KeptSession) → streams.session_in (connection_of key.now connections.old) ≡ Some t → IfOk result (λ w. w ≡ waiting_after way.now.side segment.now.datagram.now t) }
+    ensures out { (t : Tracked KeptSession) → streams.session_in (connection_of key.now connections.old) ≡ Some t → OnOk result (outbox.new ≡ stream_out kept_rules way.now.side segment.now.datagram.now (image_by way.now.of_source way.now.source).0 (image_by way.now.of_destination way.now.destination).0 (Some t)) }
+    ensures memory { (t : Tracked KeptSession) → streams.session_in (connection_of key.now connections.old) ≡ Some t → OnErr result (CompletesIn way.now.side segment.now.datagram.now t) }
+    ensures same { OnErr result (connections.new ≡ connections.old) }
+    ensures nothing { OnErr result (outbox.new ≡ []) }
+    ensures scratch { scratch.new.items ≡ [] }
+    ensures places { vec_capacity scratch.old ≤ vec_capacity scratch.new }
+{
+    match connections.session_mut(key) {
+        Some(tracked) => step_tracked(tracked, scratch, way, segment, outbox),
+        None => Ok(None),
+    }
+}
+
+/// A session takes a segment: how many changed lines wait in it then; None where it ends.
+fn step_tracked(
+    tracked: &mut TrackedSession,
+    scratch: &mut Vec<u8>,
+    way: &Way,
+    segment: &Segment<'_>,
+    outbox: &mut Outbox,
+) -> Result<Option<u64>, OutOfMemory>
+    requires passes { streams.session_refusal kept_rules way.now.side segment.now.datagram.now (Some tracked.old) ≡ None }
+    requires empty { outbox.old ≡ [] }
+    requires alive { 1 ≤ segment.now.datagram.now.lifetime }
+    requires tcp { segment.now.tcp.now ≡ tcp_of segment.now.datagram.now }
+    requires scratch { scratch.old.items ≡ [] }
+    requires places { 262144 ≤ vec_capacity scratch.old }
+    ensures next { OnOk result (tracked.new ≡ streams.stepped kept_rules way.now.side segment.now.datagram.now tracked.old) }
+    ensures waits { IfOk result (λ w. w ≡ waiting_after way.now.side segment.now.datagram.now tracked.old) }
+    ensures out { OnOk result (outbox.new ≡ stream_out kept_rules way.now.side segment.now.datagram.now (image_by way.now.of_source way.now.source).0 (image_by way.now.of_destination way.now.destination).0 (Some tracked.old)) }
+    ensures memory { OnErr result (CompletesIn way.now.side segment.now.datagram.now tracked.old) }
+    ensures same { OnErr result (tracked.new ≡ tracked.old) }
+    ensures nothing { OnErr result (outbox.new ≡ []) }
+    ensures scratch { scratch.new.items ≡ [] }
+    ensures places { vec_capacity scratch.old ≤ vec_capacity scratch.new }
+{
+    let from_client = tracked.is_client(way.side);
+    let over = outbox.put_segments(
+        &mut tracked.session,
+        from_client,
+        segment.datagram,
+        segment.tcp,
+        way.source_image(),
+        way.destination_image(),
+        scratch,
+    )?;
+    Ok(waiting(&tracked.session, over))
+}
+
+/// How many changed lines wait in a session; None where it is over.
+fn waiting(session: &StreamGate<ClientLines, ServerLines>, over: bool) -> Option<u64>
+    ensures { result ≡ (if over then None else Some (kept_pending session.now.kept)) }
+{
+    if over {
+        return None;
+    }
+    Some(session.pending() as u64)
+}
+
+/// The session that a client's first segment makes, itself not yet taken.
+fn made(alloc: Global, way: &Way, tcp: &TcpView<'_>) -> Result<TrackedSession, OutOfMemory>
+    ensures { IfOk result (λ tracked. tracked ≡ made_on way.now tcp.now) }
+{
+    let pair = Pair {
+        client: way.source,
+        client_alias: way.source_image(),
+        server: way.destination_image(),
+        server_alias: way.destination,
+    };
+    let from_client = Recent::make(alloc)?;
+    let from_server = Recent::make(alloc)?;
+    Ok(TrackedSession {
+        client: way.side,
+        pair,
+        session: StreamGate::make(
+            alloc,
+            ClientLines { pair },
+            ServerLines { pair },
+            tcp.sequence(),
+            tcp.mss(),
+            from_client,
+            from_server,
+        ),
+    })
+}

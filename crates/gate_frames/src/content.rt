@@ -1,0 +1,159 @@
+// A frame by itself: the datagram in it, and the reasons to refuse it that ask for nothing that is known.
+ghost use Rattle.std.specs.Prelude.{◌≡◌, ◌≤◌, None, Ok, length, IfOk};
+ghost use Rattle.gate_base.specs.Events.{event_of};
+ghost use Rattle.ether_frames.specs.Ether.{read_frame};
+ghost use Rattle.ipv4_frames.specs.Ipv4.{read_datagram};
+ghost use Rattle.gate_base.specs.Tests.{first_that_holds};
+ghost use Rattle.gate_world.specs.Frame as frame;
+ghost use Rattle.gate_frames.specs.Judged.{ip_refusal, transport_refusal, judged, Carries};
+
+use ether_frames::EtherView;
+use gate_base::{Event, Link, Refusal, is_unicast};
+use ipv4_frames::{IpFault, IpView, TransportFault};
+use tcp_segments::TcpView;
+use udp_icmp::{IcmpView, UdpView};
+
+/// The protocol numbers of ICMP, TCP and UDP (RFC 791, 3.1).
+const ICMP: u8 = 1;
+
+const TCP: u8 = 6;
+
+const UDP: u8 = 17;
+
+/// The type of Ethernet frames that carry IPv4 (RFC 894).
+const IPV4: u16 = 0x0800;
+
+/// What a datagram carries.
+#[derive(Drop)]
+pub enum Content<'a> {
+    Udp(UdpView<'a>),
+    Icmp(IcmpView<'a>),
+    Tcp(TcpView<'a>),
+}
+
+/// The payload of an Ethernet frame that carries IPv4, and else nothing.
+fn carried(octets: &[u8]) -> &[u8]
+    ensures { result.now ≡ frame.carried (read_frame octets.now) }
+{
+    match EtherView::of(octets) {
+        Some(frame) => {
+            if frame.kind() == IPV4 {
+                frame.payload()
+            } else {
+                &[]
+            }
+        }
+        None => &[],
+    }
+}
+
+/// The octets in which the datagram stands.
+pub fn octets_in<'a>(event: &Event<'a>) -> &'a [u8]
+    ensures { result.now ≡ frame.octets_in (event_of event.now).link (event_of event.now).octets }
+{
+    match event.link {
+        Link::Raw => event.octets,
+        Link::Ethernet => carried(event.octets),
+    }
+}
+
+fn ip_refusal(fault: IpFault) -> Refusal
+    ensures { result ≡ ip_refusal fault }
+{
+    match fault {
+        IpFault::NotIpv4 => Refusal::NotIpv4,
+        IpFault::BadHeader => Refusal::BadHeader,
+        IpFault::BadHeaderSum => Refusal::BadHeaderSum,
+        IpFault::Fragment => Refusal::Fragment,
+        IpFault::IpOptions => Refusal::IpOptions,
+    }
+}
+
+fn transport_refusal(fault: TransportFault) -> Refusal
+    ensures { result ≡ transport_refusal fault }
+{
+    match fault {
+        TransportFault::BadTransport => Refusal::BadTransport,
+        TransportFault::BadSum => Refusal::BadSum,
+    }
+}
+
+/// The datagram of a frame, or why its header is refused.
+pub fn datagram_in<'a>(event: &Event<'a>, octets: &'a [u8]) -> Result<IpView<'a>, Refusal>
+    requires { octets.now ≡ frame.octets_in (event_of event.now).link (event_of event.now).octets }
+    ensures judged { result ≡ judged (first_that_holds (frame.header_tests (event_of event.now))) (frame.datagram_in (event_of event.now)) }
+    ensures read { IfOk result (λ d. read_datagram octets.now ≡ Ok d) }
+{
+    if !event.whole {
+        return Err(Refusal::Snapped);
+    }
+    match IpView::of(octets) {
+        Ok(datagram) => Ok(datagram),
+        Err(fault) => Err(ip_refusal(fault)),
+    }
+}
+
+fn is_known_icmp(kind: u8) -> bool
+    ensures { result ≡ frame.is_known_icmp kind }
+{
+    matches!(kind, 0 | 8 | 3 | 4 | 11 | 12)
+}
+
+fn is_other_protocol(datagram: &IpView<'_>) -> bool
+    ensures { result ≡ frame.is_other_protocol datagram.now }
+{
+    if datagram.protocol() == ICMP {
+        match datagram.payload() {
+            [kind, ..] => !is_known_icmp(*kind),
+            _ => false,
+        }
+    } else {
+        !(datagram.protocol() == TCP || datagram.protocol() == UDP)
+    }
+}
+
+fn has_other_address(datagram: &IpView<'_>) -> bool
+    ensures { result ≡ frame.has_other_address datagram.now }
+{
+    !is_unicast(datagram.source()) || !is_unicast(datagram.destination())
+}
+
+/// Why a datagram with a good header is refused, whatever it carries.
+pub fn datagram_refusal(datagram: &IpView<'_>) -> Option<Refusal>
+    ensures refusal { result ≡ first_that_holds (frame.datagram_tests datagram.now) }
+    ensures alive { result ≡ None → 2 ≤ datagram.now.lifetime }
+{
+    if datagram.lifetime() < 2 {
+        Some(Refusal::TtlSpent)
+    } else if has_other_address(datagram) {
+        Some(Refusal::NotUnicast)
+    } else if is_other_protocol(datagram) {
+        Some(Refusal::Protocol)
+    } else {
+        None
+    }
+}
+
+/// What a datagram carries, or why it is refused for it.
+pub fn content_of<'a>(datagram: &IpView<'a>) -> Result<Content<'a>, Refusal>
+    ensures { Carries datagram.now result }
+{
+    let payload = datagram.payload();
+    let (source, destination) = (datagram.source(), datagram.destination());
+    if datagram.protocol() == UDP {
+        match UdpView::of(payload, source, destination) {
+            Ok(view) => Ok(Content::Udp(view)),
+            Err(fault) => Err(transport_refusal(fault)),
+        }
+    } else if datagram.protocol() == TCP {
+        match TcpView::of(payload, source, destination) {
+            Ok(view) => Ok(Content::Tcp(view)),
+            Err(fault) => Err(transport_refusal(fault)),
+        }
+    } else {
+        match IcmpView::of(payload) {
+            Ok(view) => Ok(Content::Icmp(view)),
+            Err(fault) => Err(transport_refusal(fault)),
+        }
+    }
+}

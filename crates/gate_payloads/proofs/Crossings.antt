@@ -1,0 +1,12 @@
+-- Uses of two addresses, and what they are called afterwards.
+use Rattle.std.proofs.Common.{◌≡◌, true, sym, ap, ◌∙◌}
+use Rattle.gate_base.specs.declared.address.Addr.{Addr}
+use Rattle.gate_base.specs.declared.side.Side.{Side}
+use Rattle.binding_table.specs.Bindings.{Bindings, cross}
+use Rattle.binding_table.specs.Plan.{Use, used}
+use Rattle.binding_table.specs.declared.binding.Crossing.{Crossing}
+use Rattle.binding_table.proofs.Planned.{is_settled, settled_stays, used_follows}
+
+-- a settled crossing stays after a use
+pub stays : (table : Bindings) (side : Side) (address : Addr) (one : Use) (crossing : Crossing) → crossing ≡ cross table side address → is_settled crossing ≡ true → crossing ≡ cross (used table side one) side address
+stays table side address one crossing e s = e ∙ sym (settled_stays table (used table side one) side address (used_follows table side one) (ap is_settled (sym e) ∙ s))

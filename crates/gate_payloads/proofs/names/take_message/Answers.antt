@@ -1,0 +1,45 @@
+use Rattle.std.proofs.Common.{◌≡◌, ◌∷◌, List, ℕ, Vec, Global, Some, option_map, sym, ap, subst, ◌∙◌}
+use Rattle.std.specs.Prelude.{unwrap_or, nat_lt, drop}
+use Rattle.gate_base.specs.Side.{other}
+use Rattle.gate_base.specs.declared.address.Addr.{Addr}
+use Rattle.binding_table.specs.Bindings.{free}
+use Rattle.binding_table.specs.Plan.{after_uses, images_after, needed}
+use Rattle.binding_table.proofs.Planned.{is_settled}
+use Rattle.dns_messages.specs.Reading.{message_at}
+use Rattle.twice_translate.specs.Renamed.{datagram_of}
+use Rattle.gate_world.specs.Names.{carried, has_unbound, reply_by}
+use Rattle.gate_payloads.specs.Named.{named_uses}
+use Rattle.gate_payloads.proofs.NamesTaken.{all_bound, all_used, short_payload, names_passed}
+use Rattle.gate_payloads.proofs.names.take_message.Goals as goal
+
+pub planned_reply-requires-clause-bound : goal.planned_reply-requires-clause-bound
+planned_reply-requires-clause-bound c =
+    let table = c.args.table.now in
+    let way = c.args.way.now in
+    let named = c.in_ok-named.named.items in
+    let addresses = c.deref-4.ensures.value ∙ c.in_ok-addresses.ensures ∙ ap (λ (xs : List Addr). way.source ∷ way.destination ∷ xs) c.deref-2.ensures.value in
+    let none = ap (has_unbound table way.side) (sym c.deref.ensures.value) ∙ sym c.has_unbound.ensures ∙ c.if-has_unbound.false in
+    all_bound table way.side way.source way.destination named c.deref-4.result.now addresses c.requires.outside (ap is_settled (sym c.requires.way.destination) ∙ c.requires.settled) none
+
+pub planned_reply-requires-clause-few : goal.planned_reply-requires-clause-few
+planned_reply-requires-clause-few c = short_payload c.args.octets.now c.args.payload.now c.requires.few c.requires.payload
+
+pub returns-clause-taken : goal.returns-clause-taken
+returns-clause-taken c = λ live same w.
+    let table = c.args.table.now in
+    let way = c.args.way.now in
+    let d = datagram_of c.args.octets.now in
+    let m = c.args.message.now in
+    let named = c.in_ok-named.named.items in
+    let uses = named_uses way.moment.0 way.source way.destination named in
+    let addresses = c.in_ok-addresses.ensures ∙ ap (λ (xs : List Addr). way.source ∷ way.destination ∷ xs) c.deref-2.ensures.value in
+    let none = ap (has_unbound table way.side) (sym c.deref.ensures.value) ∙ sym c.has_unbound.ensures ∙ c.if-has_unbound.false in
+    let room = ap (λ (xs : List Addr). nat_lt (free table (other way.side)) (needed table way.side xs)) (sym (c.deref-3.ensures.value ∙ addresses)) ∙ sym c.lacks_aliases.ensures ∙ c.if-lacks_aliases.false in
+    let octets : List ℕ → List ℕ = λ payload. unwrap_or (option_map (λ (v : Vec ℕ Global). v.items) c.in_ok-reply.reply) payload in
+    let P : List ℕ → Type 0 = λ payload. octets payload ≡ reply_by (drop 2 (images_after table way.side uses)) payload (Some m) in
+    let message = ap message_at (sym c.requires.payload) ∙ c.requires.message in
+    let answer = subst P c.requires.payload (c.in_ok-reply.ensures.is uses (all_used way.moment.0 way.source way.destination named c.deref-4.result.now (c.deref-4.ensures.value ∙ addresses))) in
+    names_passed live way.side d m named way table c.pass_names.new.table (octets (carried d)) c.pass_names.new.outbox same w message c.in_ok-named.ensures none room
+    (c.pass_names.ensures.table ∙ ap (λ (xs : List Addr). after_uses table way.side (named_uses way.moment.0 way.source way.destination xs)) c.deref-5.ensures.value)
+    answer
+    c.pass_names.ensures.out

@@ -1,0 +1,32 @@
+-- What becomes of a datagram by what it carries.
+use Rattle.std.specs.Prelude.{◌≡◌, ℕ, false, true, List, [], ◌∷◌, ◌++◌, Option}
+use Rattle.gate_base.specs.declared.refusal.Refusal.{Refusal}
+use Rattle.gate_base.specs.declared.refusal.Refusal.TheVariants.{PoolEmpty}
+use Rattle.gate_base.specs.declared.side.Side.{Side}
+use Rattle.binding_table.specs.Bindings.{Bindings, in_pool}
+use Rattle.binding_table.proofs.Planned.{is_settled}
+use Rattle.ipv4_frames.specs.Ipv4.{Datagram}
+use Rattle.gate_base.specs.Tests.{first_that_holds}
+use Rattle.gate_world.specs.Frame.{Kind}
+use Rattle.gate_world.specs.Step.{out_kind}
+use Rattle.gate_world.specs.Verdict.{kind_tests, is_pool_empty, table_after}
+use Rattle.gate_world.specs.World.{World, source_of, destination_of}
+use Rattle.gate_payloads.specs.Ways.{IsWay, table_by, out_by}
+use Rattle.gate_payloads.specs.declared.addresses.Way.{Way}
+use Rattle.kept_world.specs.Kept.{KeptSession, kept_rules}
+
+-- a datagram of a kind is refused by the tests of that kind and its pool, or passes: the bindings, and what goes out
+pub record IsTaken (live : World KeptSession) (side : Side) (d : Datagram) (kind : Kind) (refusal : Option Refusal) (table : Bindings) (sent : List (List ℕ)) : Type 0 where
+  pub answer : refusal ≡ first_that_holds (kind_tests kept_rules live side live.clock d kind ++ (is_pool_empty live.table side d kind, PoolEmpty) ∷ [])
+  pub bound : table ≡ table_by refusal (table_after kept_rules live side live.clock d kind) live.table
+  pub gone : sent ≡ out_by refusal (out_kind kept_rules live side live.clock d kind)
+
+-- the way is that of a datagram, over what lives, and its addresses are not refused
+pub record IsWayOf (live : World KeptSession) (side : Side) (d : Datagram) (way : Way) : Type 0 where
+  pub side_is : way.side ≡ side
+  pub moment_is : way.moment.0 ≡ live.clock
+  pub source_is : way.source ≡ source_of d
+  pub destination_is : way.destination ≡ destination_of d
+  pub crossings : IsWay live.table way
+  pub outside : in_pool live.table side (source_of d) ≡ false
+  pub settled : is_settled way.of_destination ≡ true

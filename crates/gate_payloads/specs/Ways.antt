@@ -1,0 +1,43 @@
+-- Both addresses of a datagram, and how they cross.
+use Rattle.std.specs.Prelude.{◌≡◌, ℕ, Bool, true, false, not, List, [], ◌∷◌, Option, Some, None}
+use Rattle.gate_base.specs.declared.address.Addr.{Addr}
+use Rattle.gate_base.specs.declared.refusal.Refusal.{Refusal}
+use Rattle.gate_base.specs.declared.refusal.Refusal.TheVariants.{SourceInPool, NoBinding}
+use Rattle.binding_table.specs.Bindings.{Bindings, cross, in_pool}
+use Rattle.binding_table.specs.declared.binding.Crossing.{Crossing}
+use Rattle.binding_table.specs.declared.binding.Crossing.TheVariants.{Known, New, Empty}
+use Rattle.gate_world.specs.Verdict.{is_reachable}
+use Rattle.gate_payloads.specs.declared.addresses.Way.{Way}
+
+-- the crossings are those of a table
+pub record IsWay (table : Bindings) (way : Way) : Type 0 where
+  pub source : way.of_source ≡ cross table way.side way.source
+  pub destination : way.of_destination ≡ cross table way.side way.destination
+
+-- what an address is called once it was used
+abbrev pub image_by : Crossing → Addr → Addr
+image_by (Known image) address = image
+image_by (New image) address = image
+image_by _ address = address
+
+-- there is no address left for a host
+abbrev pub is_empty : Crossing → Bool
+is_empty Empty = true
+is_empty _ = false
+
+-- the table after a datagram that passes, or is refused
+abbrev pub table_by : Option Refusal → Bindings → Bindings → Bindings
+table_by None passed live = passed
+table_by (Some refusal) passed live = live
+
+-- the datagrams that go out of one that passes; of one that is refused none do
+abbrev pub out_by : Option Refusal → List (List ℕ) → List (List ℕ)
+out_by None sent = sent
+out_by (Some refusal) sent = []
+
+-- the tests of both addresses
+abbrev pub way_tests : Bindings → Way → List (Bool × Refusal)
+way_tests table way =
+    (in_pool table way.side way.source, SourceInPool)
+    ∷ (not (is_reachable table way.side way.destination), NoBinding)
+    ∷ []

@@ -1,0 +1,247 @@
+// DNS messages over UDP (RFC 2694).
+ghost use Rattle.std.specs.Prelude.{◌≡◌, ◌≢◌, ◌+◌, ◌*◌, ◌^◌, ◌<◌, ◌≤◌, [], ◌∷◌, List, drop, length, map, option_map, unwrap_or, true, false, All, IfOk, IfSome, OnErr, is_some};
+ghost use Rattle.std.specs.List.{list_any};
+ghost use Rattle.gate_base.specs.Side.{other};
+ghost use Rattle.binding_table.specs.Bindings.{cross, in_pool, free};
+ghost use Rattle.binding_table.specs.Plan.{Use, needed, after_uses, images_after};
+ghost use Rattle.binding_table.proofs.Planned.{is_settled};
+ghost use Rattle.dns_gateway.specs.Addresses.{message_addresses};
+ghost use Rattle.dns_messages.specs.Reading.{message_at};
+ghost use Rattle.dns_messages.specs.Suits.{MessageSuits};
+ghost use Rattle.twice_translate.specs.Renamed.{CanGoOn, datagram_of, rebuilt};
+ghost use Rattle.gate_world.specs.Frame as kinds;
+ghost use Rattle.gate_world.specs.Names.{carried, named_in, is_unbound, has_unbound, reply_by};
+ghost use Rattle.gate_world.specs.Verdict.{uses_until};
+ghost use Rattle.gate_world.specs.World.{World};
+ghost use Rattle.kept_world.specs.Kept.{KeptSession};
+ghost use Rattle.gate_payloads.specs.Ways.{IsWay, image_by};
+ghost use Rattle.gate_payloads.specs.Named.{named_uses};
+ghost use Rattle.gate_payloads.specs.Taken.{IsTaken, IsWayOf};
+
+use crate::addresses::{Way, lacks_aliases, use_address};
+use crate::plain::UDP_HOLD;
+use binding_table::{Crossing, Table};
+use dns_gateway::{addresses_of, rename, reply};
+use dns_messages::{Message, read_message};
+use dns_names::NameStop;
+use gate_base::{Addr, Moment, OutOfMemory, Refusal, Side};
+use gate_outbox::Outbox;
+use std::alloc::Global;
+
+/// For how long a use by an address in a DNS message keeps a binding, in nanoseconds: 60 seconds.
+const NAMED_HOLD: u64 = 60_000_000_000;
+
+/// The message that the octets are, or None where they are none.
+fn message_in(alloc: Global, octets: &[u8]) -> Result<Option<Message>, OutOfMemory>
+    ensures is { IfOk result (λ message. message ≡ message_at octets.now) }
+    ensures suits { IfOk result (λ message. IfSome message MessageSuits) }
+{
+    match read_message(alloc, octets) {
+        Ok(message) => Ok(Some(message)),
+        Err(NameStop::BadDns) => Ok(None),
+        Err(NameStop::OutOfMemory) => Err(OutOfMemory),
+    }
+}
+
+/// The addresses in a message that are renamed.
+fn named_in(alloc: Global, message: &Message) -> Result<Vec<Addr>, OutOfMemory>
+    ensures { IfOk result (λ named. named.items ≡ named_in (Some message.now)) }
+{
+    addresses_of(alloc, message)
+}
+
+fn is_unbound(crossing: Crossing) -> bool
+    ensures { result ≡ is_unbound crossing }
+{
+    matches!(crossing, Crossing::Unbound)
+}
+
+/// One of the addresses is of the realm's pool and stands for no host.
+fn has_unbound(table: &Table, side: Side, addresses: &[Addr]) -> bool
+    ensures { result ≡ has_unbound table.now side addresses.now }
+{
+    addresses
+        .iter()
+        .any(|address| is_unbound(table.cross(side, *address)))
+}
+
+/// The addresses of the header, and then those of the message.
+fn all_addresses(alloc: Global, way: &Way, named: &[Addr]) -> Result<Vec<Addr>, OutOfMemory>
+    ensures { IfOk result (λ addresses. addresses.items ≡ way.now.source ∷ way.now.destination ∷ named.now) }
+{
+    let mut addresses = Vec::with_capacity(alloc, named.len() + 2)?;
+    addresses.push(way.source)?;
+    addresses.push(way.destination)?;
+    addresses.extend_from_slice(named)?;
+    Ok(addresses)
+}
+
+fn has_image(images: &[Option<Addr>]) -> bool
+    ensures { result ≡ list_any is_some images.now }
+{
+    images.iter().any(|image| image.is_some())
+}
+
+/// The octets that go on for a message of a payload, or None where it stays as it is.
+fn reply_by(
+    alloc: Global,
+    message: &Message,
+    images: &[Option<Addr>],
+    payload: &[u8],
+) -> Result<Option<Vec<u8>>, OutOfMemory>
+    requires images { length images.now ≡ length (message_addresses message.now) }
+    requires suits { MessageSuits message.now }
+    requires few { length payload.now ≤ 65507 }
+    ensures is { IfOk result (λ reply. unwrap_or (option_map (λ v. v.items) reply) payload.now ≡ reply_by images.now payload.now (Some message.now)) }
+    ensures fits { IfOk result (λ reply. IfSome reply (λ v. 28 + length v.items ≤ 65535)) }
+{
+    if !has_image(images) {
+        return Ok(None);
+    }
+    let renamed = rename(alloc, message, images)?;
+    Ok(Some(reply(alloc, &renamed, payload.len())?))
+}
+
+/// The octets that go on for a message, by what its addresses will be called once all of them are used, the two of the header
+/// first.
+fn planned_reply(
+    alloc: Global,
+    table: &Table,
+    side: Side,
+    message: &Message,
+    addresses: &[Addr],
+    payload: &[u8],
+) -> Result<Option<Vec<u8>>, OutOfMemory>
+    requires both { 2 ≤ length addresses.now }
+    requires named { drop 2 addresses.now ≡ named_in (Some message.now) }
+    requires bound { All (λ address. cross table.now side address ≢ Crossing.Unbound) addresses.now }
+    requires room { needed table.now side addresses.now ≤ free table.now (other side) }
+    requires suits { MessageSuits message.now }
+    requires few { length payload.now ≤ 65507 }
+    ensures is { (uses : List Use) → map (λ one. one.address) uses ≡ addresses.now → IfOk result (λ reply. unwrap_or (option_map (λ v. v.items) reply) payload.now ≡ reply_by (drop 2 (images_after table.now side uses)) payload.now (Some message.now)) }
+    ensures fits { IfOk result (λ reply. IfSome reply (λ v. 28 + length v.items ≤ 65535)) }
+{
+    let mut images = vec![in alloc; None; addresses.len()]?;
+    table.plan(side, addresses, &mut images);
+    reply_by(alloc, message, &images[2..], payload)
+}
+
+/// Uses addresses in their order.
+fn use_all(table: &mut Table, side: Side, addresses: &[Addr], until: Moment)
+    ensures { table.new ≡ after_uses table.old side (uses_until until.0 addresses.now) }
+{
+    for address in addresses {
+        use_address(table, side, *address, until);
+    }
+}
+
+/// Puts the datagram with these addresses and the reply in the place of its payload.
+fn put_reply(
+    outbox: &mut Outbox,
+    octets: &[u8],
+    source: Addr,
+    destination: Addr,
+    reply: &Option<Vec<u8>>,
+)
+    requires empty { outbox.old ≡ [] }
+    requires few { length octets.now ≤ 65535 }
+    requires can { CanGoOn octets.now }
+    requires protocol { (datagram_of octets.now).protocol ≡ 17 }
+    requires fits { IfSome reply.now (λ v. 28 + length v.items ≤ 65535) }
+    ensures { outbox.new ≡ rebuilt (datagram_of octets.now) source.0 destination.0 (unwrap_or (option_map (λ v. v.items) reply.now) (carried (datagram_of octets.now))) ∷ [] }
+{
+    match reply {
+        Some(reply) => outbox.put_rebuilt(octets, source, destination, reply),
+        None => outbox.put_renamed(octets, source, destination),
+    }
+}
+
+/// The datagram passes: its addresses and those in its message are used, and it goes on with the reply. It takes no memory.
+fn pass_names(
+    table: &mut Table,
+    way: &Way,
+    named: &[Addr],
+    octets: &[u8],
+    reply: &Option<Vec<u8>>,
+    outbox: &mut Outbox,
+)
+    requires way { IsWay table.old way.now }
+    requires settled { is_settled way.now.of_destination ≡ true }
+    requires moment { way.now.moment.0 < 2 ^ 32 * 1000000000 }
+    requires empty { outbox.old ≡ [] }
+    requires few { length octets.now ≤ 65535 }
+    requires can { CanGoOn octets.now }
+    requires protocol { (datagram_of octets.now).protocol ≡ 17 }
+    requires fits { IfSome reply.now (λ v. 28 + length v.items ≤ 65535) }
+    ensures table { table.new ≡ after_uses table.old way.now.side (named_uses way.now.moment.0 way.now.source way.now.destination named.now) }
+    ensures out { outbox.new ≡ rebuilt (datagram_of octets.now) (image_by way.now.of_source way.now.source).0 (image_by way.now.of_destination way.now.destination).0 (unwrap_or (option_map (λ v. v.items) reply.now) (carried (datagram_of octets.now))) ∷ [] }
+{
+    way.use_both(table, UDP_HOLD);
+    use_all(table, way.side, named, Moment(way.moment.0 + NAMED_HOLD));
+    let (source, destination) = (way.source_image(), way.destination_image());
+    put_reply(outbox, octets, source, destination, reply);
+}
+
+/// Takes a datagram with this message.
+fn take_message(
+    alloc: Global,
+    message: &Message,
+    table: &mut Table,
+    way: &Way,
+    octets: &[u8],
+    payload: &[u8],
+    outbox: &mut Outbox,
+) -> Result<Option<Refusal>, OutOfMemory>
+    requires way { IsWay table.old way.now }
+    requires outside { in_pool table.old way.now.side way.now.source ≡ false }
+    requires settled { is_settled way.now.of_destination ≡ true }
+    requires moment { way.now.moment.0 < 2 ^ 32 * 1000000000 }
+    requires empty { outbox.old ≡ [] }
+    requires few { length octets.now ≤ 65535 }
+    requires can { CanGoOn octets.now }
+    requires payload { payload.now ≡ carried (datagram_of octets.now) }
+    requires protocol { (datagram_of octets.now).protocol ≡ 17 }
+    requires message { message_at payload.now ≡ Some message.now }
+    requires suits { MessageSuits message.now }
+    ensures taken { (live : World KeptSession) → live.table ≡ table.old → IsWayOf live way.now.side (datagram_of octets.now) way.now → IfOk result (λ r. IsTaken live way.now.side (datagram_of octets.now) (kinds.Dns) r table.new outbox.new) }
+    ensures memory { OnErr result ((table.new ≡ table.old) × (outbox.new ≡ [])) }
+{
+    let named = named_in(alloc, message)?;
+    if has_unbound(table, way.side, &named) {
+        return Ok(Some(Refusal::DnsUnbound));
+    }
+    let addresses = all_addresses(alloc, way, &named)?;
+    if lacks_aliases(table, way.side, &addresses) {
+        return Ok(Some(Refusal::PoolEmpty));
+    }
+    let reply = planned_reply(alloc, table, way.side, message, &addresses, payload)?;
+    pass_names(table, way, &named, octets, &reply, outbox);
+    Ok(None)
+}
+
+/// Takes a datagram with a DNS message.
+pub fn take_names(
+    alloc: Global,
+    table: &mut Table,
+    way: &Way,
+    octets: &[u8],
+    payload: &[u8],
+    outbox: &mut Outbox,
+) -> Result<Option<Refusal>, OutOfMemory>
+    requires way { IsWay table.old way.now }
+    requires outside { in_pool table.old way.now.side way.now.source ≡ false }
+    requires settled { is_settled way.now.of_destination ≡ true }
+    requires moment { way.now.moment.0 < 2 ^ 32 * 1000000000 }
+    requires empty { outbox.old ≡ [] }
+    requires few { length octets.now ≤ 65535 }
+    requires can { CanGoOn octets.now }
+    requires payload { payload.now ≡ drop 8 (datagram_of octets.now).payload }
+    requires protocol { (datagram_of octets.now).protocol ≡ 17 }
+    ensures taken { (live : World KeptSession) → live.table ≡ table.old → IsWayOf live way.now.side (datagram_of octets.now) way.now → IfOk result (λ r. IsTaken live way.now.side (datagram_of octets.now) (kinds.Dns) r table.new outbox.new) }
+    ensures memory { OnErr result ((table.new ≡ table.old) × (outbox.new ≡ [])) }
+{
+    match message_in(alloc, payload)? {
+        None => Ok(Some(Refusal::BadDns)),
+        Some(message) => take_message(alloc, &message, table, way, octets, payload, outbox),
+    }
+}

@@ -1,0 +1,16 @@
+pub mod Frame
+pub mod Rules
+pub mod World
+pub mod Stream
+pub mod Inner
+pub mod Names
+pub mod Management
+pub mod Verdict
+pub mod Step
+pub mod Reading
+pub mod Answers
+pub mod Told
+pub mod Held
+pub mod Ranges
+pub mod Taken
+pub mod Promise

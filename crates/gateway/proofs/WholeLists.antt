@@ -1,0 +1,59 @@
+-- What is kept of sessions gives what the sessions over whole lists give.
+use Rattle.std.proofs.Common.{◌≡◌, ℕ, ◌+◌, List, [], ◌∷◌, ◌++◌, length, refl, sym, ap, ◌∙◌}
+use Rattle.std.specs.Prelude.{fold}
+use Rattle.gate_base.specs.Events.{Event}
+use Rattle.gate_base.specs.Side.{other}
+use Rattle.gate_base.specs.declared.event.Verdict.{Verdict}
+use Rattle.gate_settings.specs.declared.settings.Settings.{Settings as GateSettings}
+use Rattle.pcap_merge.specs.Events.{Ending, Done, Fault}
+use Rattle.stream_model.specs.Session.{Session}
+use Rattle.gate_world.specs.Reading.{AreRelated}
+use Rattle.gate_world.specs.Rules.{whole_rules}
+use Rattle.gate_world.specs.Step.{out}
+use Rattle.gate_world.specs.Verdict.{verdict}
+use Rattle.gate_world.proofs.Related.{related_verdict, related_out, related_next, opening_related}
+use Rattle.kept_world.specs.Kept.{KeptSession, kept_rules, StandsFor}
+use Rattle.kept_world.proofs.Agreed.{agreed, pending_related}
+use Rattle.gateway.specs.declared.report.Totals.{Totals}
+use Rattle.gateway.specs.Pieces.{Piece}
+use Rattle.gateway.specs.Machine.{State, counted, opening, after_one, after, sent, event_piece, given_by, ended_by, last_line}
+
+-- the world of what is kept stands for the other, and both are counted alike
+pub record AreAlike (v : State KeptSession) (w : State Session) : Type 0 where
+  pub related : AreRelated StandsFor w.world v.world
+  pub totals : v.totals ≡ w.totals
+
+same_verdict : (v : State KeptSession) (w : State Session) (e : Event) → AreAlike v w → verdict kept_rules v.world e ≡ verdict whole_rules w.world e
+same_verdict v w e h = related_verdict StandsFor whole_rules kept_rules agreed w.world v.world h.related e
+
+same_out : (v : State KeptSession) (w : State Session) (e : Event) → AreAlike v w → out kept_rules v.world e ≡ out whole_rules w.world e
+same_out v w e h = related_out StandsFor whole_rules kept_rules agreed w.world v.world h.related e
+
+alike_one : (v : State KeptSession) (w : State Session) (e : Event) → AreAlike v w → AreAlike (after_one kept_rules v e) (after_one whole_rules w e)
+alike_one v w e h = record {
+  related = related_next StandsFor whole_rules kept_rules agreed w.world v.world h.related e;
+  totals =
+      ap (λ (t : Totals). counted t e.side (verdict kept_rules v.world e) (length (out kept_rules v.world e))) h.totals
+      ∙ ap (λ (x : Verdict). counted w.totals e.side x (length (out kept_rules v.world e))) (same_verdict v w e h)
+      ∙ ap (λ (xs : List (List ℕ)). counted w.totals e.side (verdict whole_rules w.world e) (length xs)) (same_out v w e h);
+}
+
+alike_all : (events : List Event) (v : State KeptSession) (w : State Session) → AreAlike v w → AreAlike (after kept_rules v events) (after whole_rules w events)
+alike_all [] v w h = h
+alike_all (e ∷ events) v w h = alike_all events (after_one kept_rules v e) (after_one whole_rules w e) (alike_one v w e h)
+
+-- after any events
+pub alike_after : (settings : GateSettings) (events : List Event) → AreAlike (after kept_rules (opening settings) events) (after whole_rules (opening settings) events)
+alike_after settings events = alike_all events (opening settings) (opening settings) (record { related = opening_related StandsFor settings; totals = refl })
+
+pub same_given : (settings : GateSettings) (v : State KeptSession) (w : State Session) (e : Event) → AreAlike v w → given_by kept_rules settings v e ≡ given_by whole_rules settings w e
+same_given settings v w e h =
+    let gives : Totals → Verdict → List (List ℕ) → List Piece = λ t x xs. sent settings (other e.side) e.moment xs ++ event_piece (t.events + 1) e.side e.moment x (length xs) ∷ [] in
+    ap (λ (t : Totals). gives t (verdict kept_rules v.world e) (out kept_rules v.world e)) h.totals
+    ∙ ap (λ (x : Verdict). gives w.totals x (out kept_rules v.world e)) (same_verdict v w e h)
+    ∙ ap (gives w.totals (verdict whole_rules w.world e)) (same_out v w e h)
+
+pub same_end : (v : State KeptSession) (w : State Session) (ending : Ending) → AreAlike v w → ended_by v ending ≡ ended_by w ending
+same_end v w Done h =
+    ap (λ (t : Totals). last_line t v.world.pending) h.totals ∙ ap (last_line w.totals) (pending_related w.world v.world h.related)
+same_end v w (Fault side fault place) h = refl

@@ -1,0 +1,32 @@
+// The flags of a segment and the octet in which they stand (RFC 9293, 3.1).
+ghost use Rattle.std.specs.Prelude.{◌≡◌, ◌≤◌};
+ghost use Rattle.stream_model.specs.Octet.{flags_of, flags_octet};
+
+use crate::verdict::Flags;
+
+/// The flags in an octet.
+pub fn flags_of(octet: u8) -> Flags
+    ensures { result ≡ flags_of octet }
+{
+    Flags {
+        fin: octet % 2 == 1,
+        syn: octet / 2 % 2 == 1,
+        reset: octet / 4 % 2 == 1,
+        push: octet / 8 % 2 == 1,
+        ack: octet / 16 % 2 == 1,
+        ecn: octet / 64,
+    }
+}
+
+/// The octet of flags.
+pub fn flags_octet(flags: Flags) -> u8
+    requires { flags.ecn ≤ 3 }
+    ensures { result ≡ flags_octet flags }
+{
+    u8::from(flags.fin)
+        + 2 * u8::from(flags.syn)
+        + 4 * u8::from(flags.reset)
+        + 8 * u8::from(flags.push)
+        + 16 * u8::from(flags.ack)
+        + 64 * flags.ecn
+}

@@ -1,0 +1,163 @@
+#!/usr/bin/env python3
+"""Writes north.pcap and south.pcap: what each of the two firms sends to the gateway."""
+import os
+import struct
+
+FIN, SYN, PSH, ACK = 1, 2, 8, 16
+HEAD = struct.pack("<IHHiIII", 0xA1B2C3D4, 2, 4, 0, 0, 262144, 101)
+
+
+def quad(text):
+    return bytes(int(part) for part in text.split("."))
+
+
+def checksum(octets):
+    octets += bytes(len(octets) % 2)
+    total = sum(struct.unpack(f">{len(octets) // 2}H", octets))
+    while total > 0xFFFF:
+        total = (total & 0xFFFF) + (total >> 16)
+    return total ^ 0xFFFF
+
+
+def datagram(protocol, source, destination, payload, place):
+    pseudo = b"" if protocol == 1 else quad(source) + quad(destination) + struct.pack(">BBH", 0, protocol, len(payload))
+    payload = payload[:place] + struct.pack(">H", checksum(pseudo + payload)) + payload[place + 2:]
+    head = struct.pack(">BBHHHBBH", 0x45, 0, 20 + len(payload), 1, 0, 64, protocol, 0) + quad(source) + quad(destination)
+    return head[:10] + struct.pack(">H", checksum(head)) + head[12:] + payload
+
+
+def udp(source, port, destination, far_port, payload):
+    return datagram(17, source, destination, struct.pack(">HHHH", port, far_port, 8 + len(payload), 0) + payload, 6)
+
+
+def icmp(source, destination, kind, code, rest):
+    return datagram(1, source, destination, struct.pack(">BBH", kind, code, 0) + rest, 2)
+
+
+def tcp(source, port, destination, far_port, flags, sequence, acknowledgement, payload=b""):
+    header = struct.pack(">HHIIBBHHH", port, far_port, sequence, acknowledgement, 0x50, flags, 8192, 0, 0)
+    return datagram(6, source, destination, header + payload, 16)
+
+
+def name(text):
+    return b"".join(bytes([len(label)]) + label.encode() for label in text.split(".")) + b"\0"
+
+
+class Captures:
+    """Both captures; each frame comes a tenth of a second after the one before it."""
+
+    def __init__(self):
+        self.moment = 17000000000
+        self.frames = {"north": [], "south": []}
+
+    def add(self, realm, octets):
+        self.moment += 1
+        self.frames[realm].append(struct.pack("<IIII", self.moment // 10, self.moment % 10 * 100000, len(octets), len(octets)) + octets)
+
+    def write(self, folder):
+        for realm, frames in self.frames.items():
+            with open(os.path.join(folder, realm + ".pcap"), "wb") as out:
+                out.write(HEAD + b"".join(frames))
+
+
+def log_and_time(captures):
+    captures.add("north", udp("10.0.0.5", 40002, "192.168.200.1", 514, b"<13>north: backup started"))
+    captures.add("south", udp("10.0.0.5", 514, "172.16.9.1", 40002, b"ok"))
+    captures.add("north", udp("10.0.0.77", 40003, "192.168.200.1", 514, b"<13>no static"))
+    captures.add("north", udp("10.0.0.5", 123, "203.0.113.9", 123, b"\x23" + bytes(47)))
+    captures.add("south", udp("203.0.113.9", 123, "172.16.9.1", 123, b"\x24" + bytes(47)))
+
+
+def look_up(captures):
+    asked = name("ftp.south.example") + struct.pack(">HH", 1, 1)
+    question = struct.pack(">HHHHHH", 7, 0x0100, 1, 0, 0, 0) + asked
+    answer = struct.pack(">HHHHHH", 7, 0x8180, 1, 1, 0, 0) + asked + struct.pack(">HHHIH", 0xC00C, 1, 1, 3600, 4) + quad("10.0.0.21")
+    captures.add("north", udp("10.0.0.77", 40010, "192.168.200.53", 53, question))
+    captures.add("south", udp("10.0.0.53", 53, "172.16.9.2", 40010, answer))
+
+
+class Session:
+    """A control connection of FTP, by the numbers that each host sees."""
+
+    def __init__(self, captures, port):
+        self.captures, self.port = captures, port
+        # what each host has sent, and what it has been sent: their own next numbers, and those of the other
+        self.client, self.server_seen = 1001, 5001
+        self.server, self.client_seen = 5001, 1001
+
+    def open(self):
+        self.captures.add("north", tcp("10.0.0.77", self.port, "192.168.200.21", 21, SYN, 1000, 0))
+        self.captures.add("south", tcp("10.0.0.21", 21, "172.16.9.2", self.port, SYN | ACK, 5000, 1001))
+        self.captures.add("north", tcp("10.0.0.77", self.port, "192.168.200.21", 21, ACK, 1001, 5001))
+
+    def command(self, line, image=None):
+        self.captures.add("north", tcp("10.0.0.77", self.port, "192.168.200.21", 21, PSH | ACK, self.client, self.server_seen, line))
+        self.client += len(line)
+        self.client_seen += len(image or line)
+
+    def reply(self, line, image=None):
+        self.captures.add("south", tcp("10.0.0.21", 21, "172.16.9.2", self.port, PSH | ACK, self.server, self.client_seen, line))
+        self.server += len(line)
+        self.server_seen += len(image or line)
+
+
+def transfer(captures, opener, octets):
+    """A data connection: its opener's realm, addresses and ports, and what it carries to the client."""
+    realm, source, port, destination, far_port, back = opener
+    other, (back_source, back_destination) = ("south" if realm == "north" else "north"), back
+    captures.add(realm, tcp(source, port, destination, far_port, SYN, 100, 0))
+    captures.add(other, tcp(back_source, far_port, back_destination, port, SYN | ACK, 200, 101))
+    captures.add(realm, tcp(source, port, destination, far_port, ACK, 101, 201))
+    if realm == "south":
+        captures.add("south", tcp(source, port, destination, far_port, PSH | FIN | ACK, 101, 201, octets))
+        captures.add("north", tcp(back_source, far_port, back_destination, port, FIN | ACK, 201, 102 + len(octets)))
+        captures.add("south", tcp(source, port, destination, far_port, ACK, 102 + len(octets), 202))
+    else:
+        captures.add("south", tcp(back_source, far_port, back_destination, port, PSH | FIN | ACK, 201, 101, octets))
+        captures.add("north", tcp(source, port, destination, far_port, FIN | ACK, 101, 202 + len(octets)))
+        captures.add("south", tcp(back_source, far_port, back_destination, port, ACK, 202 + len(octets), 102))
+
+
+def files(captures):
+    session = Session(captures, 40100)
+    session.open()
+    session.reply(b"220 south files\r\n")
+    session.command(b"USER anna\r\n")
+    session.reply(b"230 come in\r\n")
+    session.command(b"PORT 10,0,0,77,156,168\r\n", b"PORT 172,16,9,2,156,168\r\n")
+    session.reply(b"200 ok\r\n")
+    session.command(b"RETR plan.txt\r\n")
+    session.reply(b"150 here it comes\r\n")
+    transfer(captures, ("south", "10.0.0.21", 20, "172.16.9.2", 40104, ("10.0.0.77", "192.168.200.21")), b"the plan\n")
+    session.reply(b"226 done\r\n")
+    session.command(b"PASV\r\n")
+    session.reply(b"227 Entering Passive Mode (10,0,0,21,195,80).\r\n", b"227 Entering Passive Mode (192,168,200,21,195,80).\r\n")
+    session.command(b"RETR more.txt\r\n")
+    transfer(captures, ("north", "10.0.0.77", 40105, "192.168.200.21", 50000, ("10.0.0.21", "172.16.9.2")), b"more of it\n")
+    session.reply(b"226 done\r\n")
+    session.command(b"QUIT\r\n")
+    session.reply(b"221 bye\r\n")
+
+
+def trap(captures):
+    pdu = bytes.fromhex("06032b0601") + b"\x40\x04" + quad("10.0.0.5") + bytes.fromhex("020106020101430100") + b"\x30\x00"
+    message = bytes.fromhex("02010004067075626c6963") + b"\xa4" + bytes([len(pdu)]) + pdu
+    captures.add("north", udp("10.0.0.5", 161, "192.168.200.1", 162, b"\x30" + bytes([len(message)]) + message))
+
+
+def ping(captures):
+    captures.add("north", icmp("10.0.0.77", "192.168.200.21", 8, 0, struct.pack(">HH", 9, 1) + b"are you there?"))
+    seen = icmp("172.16.9.2", "10.0.0.21", 8, 0, struct.pack(">HH", 9, 1) + b"are you there?")
+    captures.add("south", icmp("10.0.0.254", "172.16.9.2", 3, 1, bytes(4) + seen[:28]))
+    captures.add("north", icmp("10.0.0.77", "192.168.200.99", 8, 0, struct.pack(">HH", 9, 2) + b"and you?"))
+
+
+def main():
+    captures = Captures()
+    for part in (log_and_time, look_up, files, trap, ping):
+        part(captures)
+    captures.write(os.path.dirname(os.path.abspath(__file__)))
+
+
+if __name__ == "__main__":
+    main()
