@@ -2,16 +2,16 @@
 use Rattle.std.proofs.Common.{◌≡◌, ℕ, zero, suc, ◌+◌, ◌-◌, ◌<◌, ◌≤◌, ◌==◌, ◌⊎◌, Bool, true, false, ◌&&◌, nat_le, List, [], ◌∷◌, ◌++◌, get_or, take, drop, length, Option, Some, None, option_map, option_to_list, unwrap_or, inl, inr, refl, ap, subst, ◌∙◌, sym, arith, length-drop, length-append, if◌then◌else◌}
 use Rattle.std.proofs.lemmas.Bool.Decides.{nat_tests}
 use Rattle.std.proofs.lemmas.List.{length-take-le, get_or-take, get_or-drop, get_or_append_left, get_or-append_right}
-use Rattle.std.specs.List.{list_any}
 use Rattle.gate_base.specs.Address.{◌>>=◌}
 use Rattle.gate_base.specs.Fields.{u32_at, with_u32}
 use Rattle.byteorder.specs.Endian.{big_bytes}
 use Rattle.snmp_ber.specs.Element.{element_at}
 use Rattle.snmp_ber.proofs.Elements.{some_same, element_room, element_alike}
+use Rattle.snmp_gateway.specs.declared.message.SnmpKind.{SnmpKind}
 use Rattle.snmp_gateway.specs.declared.part.Part.{Part}
 use Rattle.snmp_gateway.specs.declared.part.Piece.{Piece}
 use Rattle.snmp_gateway.specs.Parts.{integer, object_identifier, sequence, ip_address, time_ticks, has_right_size, piece_of, first_of, field, skip, only, in_sequence}
-use Rattle.snmp_gateway.specs.Message.{value_tags, address_in, binding, bindings_within, request, trap}
+use Rattle.snmp_gateway.specs.Message.{is_value_tag, address_in, binding, bindings_within, request, trap}
 use Rattle.snmp_gateway.specs.Renaming.{renamed_at}
 use Rattle.snmp_gateway.proofs.Reading.{bound, tested, Read, first_read, within_size, address_size, first_cut, field_cut, skip_follows, only_first, binding_leaves}
 
@@ -173,9 +173,9 @@ sequence_same place old new differs part content e clear =
     ∙ ap (λ b. if b then Some piece.value.content else None) right.holds
     ∙ ap Some right.same
 
-binding_kept : (place : ℕ) (old new : List ℕ) → Differs place old new → (part : Part) (found : Option ℕ × Part) → binding old part ≡ Some found → ((value : Piece) → address_in value ≡ found.0 → value.content.start ≤ found.1.start → (value.content.start ≤ place) ⊎ (place + 4 ≤ part.start)) → binding new part ≡ Some found
+binding_kept : (place : ℕ) (old new : List ℕ) → Differs place old new → (kind : SnmpKind) (part : Part) (found : Option ℕ × Part) → binding old kind part ≡ Some found → ((value : Piece) → address_in value ≡ found.0 → value.content.start ≤ found.1.start → (value.content.start ≤ place) ⊎ (place + 4 ≤ part.start)) → binding new kind part ≡ Some found
 unfolding binding
-binding_kept place old new differs part found e clear =
+binding_kept place old new differs kind part found e clear =
     let pair = bound (field old sequence part) _ found e in
     let name = bound (skip old (object_identifier ∷ []) pair.value.content) _ found pair.then_is in
     let value = bound (only old name.value) _ found name.then_is in
@@ -190,22 +190,22 @@ binding_kept place old new differs part found e clear =
     let pair_same = field_same place old new differs sequence part pair.value pair.is (earlier place part.start pair.value.content.start value.value.content.start part.start (omega (arith, follows.start, value_cut.head)) (omega arith) here) in
     let name_same = skip_same place old new differs (object_identifier ∷ []) pair.value.content name.value name.is (earlier place part.start name.value.start value.value.content.start pair.value.content.start (omega (arith, value_cut.head)) (omega (arith, cut.head)) here) in
     let value_same = only_same place old new differs name.value value.value value.is (earlier place part.start value.value.content.start value.value.content.start name.value.start (omega arith) (omega (arith, cut.head, follows.start)) here) in
-    ap (λ o. o >>= λ pair. skip new (object_identifier ∷ []) pair.content >>= λ rest. only new rest >>= λ value. if list_any (λ tag. tag == value.tag) value_tags then Some (address_in value, pair.rest) else None) pair_same
-    ∙ ap (λ o. o >>= λ rest. only new rest >>= λ value. if list_any (λ tag. tag == value.tag) value_tags then Some (address_in value, pair.value.rest) else None) name_same
-    ∙ ap (λ o. o >>= λ value. if list_any (λ tag. tag == value.tag) value_tags then Some (address_in value, pair.value.rest) else None) value_same
+    ap (λ o. o >>= λ pair. skip new (object_identifier ∷ []) pair.content >>= λ rest. only new rest >>= λ value. if is_value_tag kind value.tag then Some (address_in value, pair.rest) else None) pair_same
+    ∙ ap (λ o. o >>= λ rest. only new rest >>= λ value. if is_value_tag kind value.tag then Some (address_in value, pair.value.rest) else None) name_same
+    ∙ ap (λ o. o >>= λ value. if is_value_tag kind value.tag then Some (address_in value, pair.value.rest) else None) value_same
     ∙ value.then_is
 
 address_start : (value : Piece) (place : ℕ) → address_in value ≡ Some place → value.content.start ≡ place
 address_start value place e = (tested _ _ _ e).same
 
 -- a binding stays where only its address, or what stands before or behind it, is replaced
-pub binding_same : (place : ℕ) (old new : List ℕ) → Differs place old new → (part : Part) (found : Option ℕ × Part) → binding old part ≡ Some found → (found.0 ≡ Some place) ⊎ (found.1.start ≤ place) ⊎ (place + 4 ≤ part.start) → binding new part ≡ Some found
-binding_same place old new differs part found e (inl address) =
-    binding_kept place old new differs part found e (λ value is end. inl (omega (arith, address_start value place (is ∙ address))))
-binding_same place old new differs part found e (inr (inl behind)) =
-    binding_kept place old new differs part found e (λ value is end. inl (omega (arith, end, behind)))
-binding_same place old new differs part found e (inr (inr before)) =
-    binding_kept place old new differs part found e (λ value is end. inr before)
+pub binding_same : (place : ℕ) (old new : List ℕ) → Differs place old new → (kind : SnmpKind) (part : Part) (found : Option ℕ × Part) → binding old kind part ≡ Some found → (found.0 ≡ Some place) ⊎ (found.1.start ≤ place) ⊎ (place + 4 ≤ part.start) → binding new kind part ≡ Some found
+binding_same place old new differs kind part found e (inl address) =
+    binding_kept place old new differs kind part found e (λ value is end. inl (omega (arith, address_start value place (is ∙ address))))
+binding_same place old new differs kind part found e (inr (inl behind)) =
+    binding_kept place old new differs kind part found e (λ value is end. inl (omega (arith, end, behind)))
+binding_same place old new differs kind part found e (inr (inr before)) =
+    binding_kept place old new differs kind part found e (λ value is end. inr before)
 
 -- a place is among some
 abbrev pub IsAmong : ℕ → List ℕ → Type 0
@@ -218,76 +218,76 @@ among_either place (Some other) places (inl is) = inl (ap Some is)
 among_either place (Some other) places (inr among) = inr among
 
 -- how bindings were read: none, or one and more
-pub data Reads (octets : List ℕ) (f : ℕ) (part : Part) (places : List ℕ) : Type 0 where
-  Ends : (part.start == part.end) ≡ true → Some [] ≡ Some places → Reads octets f part places
-  Goes : (part.start == part.end) ≡ false → (found : Option ℕ × Part) (more : List ℕ) → binding octets part ≡ Some found → bindings_within f octets found.1 ≡ Some more → option_to_list found.0 ++ more ≡ places → Reads octets f part places
+pub data Reads (octets : List ℕ) (f : ℕ) (kind : SnmpKind) (part : Part) (places : List ℕ) : Type 0 where
+  Ends : (part.start == part.end) ≡ true → Some [] ≡ Some places → Reads octets f kind part places
+  Goes : (part.start == part.end) ≡ false → (found : Option ℕ × Part) (more : List ℕ) → binding octets kind part ≡ Some found → bindings_within f octets kind found.1 ≡ Some more → option_to_list found.0 ++ more ≡ places → Reads octets f kind part places
 
-reads_by : (octets : List ℕ) (f : ℕ) (part : Part) (places : List ℕ) (test : Bool) → (part.start == part.end) ≡ test → (if test then Some [] else (binding octets part >>= λ found. bindings_within f octets found.1 >>= λ places. Some (option_to_list found.0 ++ places))) ≡ Some places → Reads octets f part places
-reads_by octets f part places true is e = Ends is e
-reads_by octets f part places false is e =
-    let found = bound (binding octets part) _ places e in
-    let more = bound (bindings_within f octets found.value.1) _ places found.then_is in
+reads_by : (octets : List ℕ) (f : ℕ) (kind : SnmpKind) (part : Part) (places : List ℕ) (test : Bool) → (part.start == part.end) ≡ test → (if test then Some [] else (binding octets kind part >>= λ found. bindings_within f octets kind found.1 >>= λ places. Some (option_to_list found.0 ++ places))) ≡ Some places → Reads octets f kind part places
+reads_by octets f kind part places true is e = Ends is e
+reads_by octets f kind part places false is e =
+    let found = bound (binding octets kind part) _ places e in
+    let more = bound (bindings_within f octets kind found.value.1) _ places found.then_is in
     Goes is found.value more.value found.is more.is (some_same _ _ more.then_is)
 
-pub bindings_read : (octets : List ℕ) (f : ℕ) (part : Part) (places : List ℕ) → bindings_within (suc f) octets part ≡ Some places → Reads octets f part places
+pub bindings_read : (octets : List ℕ) (f : ℕ) (kind : SnmpKind) (part : Part) (places : List ℕ) → bindings_within (suc f) octets kind part ≡ Some places → Reads octets f kind part places
 unfolding bindings_within
-bindings_read octets f part places e = reads_by octets f part places (part.start == part.end) refl e
+bindings_read octets f kind part places e = reads_by octets f kind part places (part.start == part.end) refl e
 
-bindings_made : (octets : List ℕ) (f : ℕ) (part : Part) (places : List ℕ) → Reads octets f part places → bindings_within (suc f) octets part ≡ Some places
+bindings_made : (octets : List ℕ) (f : ℕ) (kind : SnmpKind) (part : Part) (places : List ℕ) → Reads octets f kind part places → bindings_within (suc f) octets kind part ≡ Some places
 unfolding bindings_within
-bindings_made octets f part places (Ends test e) = rw test e
-bindings_made octets f part places (Goes test found more is next all) =
+bindings_made octets f kind part places (Ends test e) = rw test e
+bindings_made octets f kind part places (Goes test found more is next all) =
     rw test (
-    ap (λ o. o >>= λ found. bindings_within f octets found.1 >>= λ places. Some (option_to_list found.0 ++ places)) is
+    ap (λ o. o >>= λ found. bindings_within f octets kind found.1 >>= λ places. Some (option_to_list found.0 ++ places)) is
     ∙ ap (λ o. o >>= λ places. Some (option_to_list found.0 ++ places)) next
     ∙ ap Some all
     )
 
 -- no place without bindings
-pub none_among : (place : ℕ) (octets : List ℕ) (part : Part) (places : List ℕ) → bindings_within zero octets part ≡ Some places → IsAmong place places → ⊥
+pub none_among : (place : ℕ) (octets : List ℕ) (kind : SnmpKind) (part : Part) (places : List ℕ) → bindings_within zero octets kind part ≡ Some places → IsAmong place places → ⊥
 unfolding bindings_within
-none_among place octets part places e among = none_by (part.start == part.end) e
+none_among place octets kind part places e among = none_by (part.start == part.end) e
   where
     none_by : (test : Bool) → (if test then Some [] else None) ≡ Some places → ⊥
     none_by true is = subst (IsAmong place) (sym (some_same _ _ is)) among
     none_by false is = cc
 
-follows_by : (place : ℕ) (octets : List ℕ) (part : Part) (found : Option ℕ × Part) (more : List ℕ) → binding octets part ≡ Some found → (IsAmong place more → (found.1.start ≤ place) × (place + 4 ≤ length octets)) → IsAmong place (option_to_list found.0 ++ more) → (part.start ≤ place) × (place + 4 ≤ length octets)
-follows_by place octets part found more is on among =
-    let leaves = binding_leaves octets part found is in
+follows_by : (place : ℕ) (octets : List ℕ) (kind : SnmpKind) (part : Part) (found : Option ℕ × Part) (more : List ℕ) → binding octets kind part ≡ Some found → (IsAmong place more → (found.1.start ≤ place) × (place + 4 ≤ length octets)) → IsAmong place (option_to_list found.0 ++ more) → (part.start ≤ place) × (place + 4 ≤ length octets)
+follows_by place octets kind part found more is on among =
+    let leaves = binding_leaves octets kind part found is in
     elim (among_either place found.0 more among) [
       | inl address ↦ let inside = leaves.inside place address in (inside.0, omega (arith, inside.1, leaves.ordered, leaves.end, leaves.within))
       | inr later ↦ let inside = on later in (omega (arith, inside.0, leaves.some), inside.1)
     ]
 
 -- an address of bindings stands in their part
-pub place_follows : (place : ℕ) (octets : List ℕ) (f : ℕ) (part : Part) (places : List ℕ) → bindings_within f octets part ≡ Some places → IsAmong place places → (part.start ≤ place) × (place + 4 ≤ length octets)
-place_follows place octets zero part places e among = absurd (none_among place octets part places e among)
-place_follows place octets (suc f) part places e among = elim (bindings_read octets f part places e) [
+pub place_follows : (place : ℕ) (octets : List ℕ) (f : ℕ) (kind : SnmpKind) (part : Part) (places : List ℕ) → bindings_within f octets kind part ≡ Some places → IsAmong place places → (part.start ≤ place) × (place + 4 ≤ length octets)
+place_follows place octets zero kind part places e among = absurd (none_among place octets kind part places e among)
+place_follows place octets (suc f) kind part places e among = elim (bindings_read octets f kind part places e) [
   | Ends test is ↦ absurd (subst (IsAmong place) (sym (some_same _ _ is)) among)
-  | Goes test found more is next all ↦ follows_by place octets part found more is (λ later. place_follows place octets f found.1 more next later) (subst (IsAmong place) (sym all) among)
+  | Goes test found more is next all ↦ follows_by place octets kind part found more is (λ later. place_follows place octets f kind found.1 more next later) (subst (IsAmong place) (sym all) among)
 ]
 
-clear_next : (place : ℕ) (octets : List ℕ) (f : ℕ) (part : Part) (found : Option ℕ × Part) (more : List ℕ) → binding octets part ≡ Some found → bindings_within f octets found.1 ≡ Some more → IsAmong place (option_to_list found.0 ++ more) ⊎ (place + 4 ≤ part.start) → ((found.0 ≡ Some place) ⊎ (found.1.start ≤ place) ⊎ (place + 4 ≤ part.start)) × (IsAmong place more ⊎ (place + 4 ≤ found.1.start))
-clear_next place octets f part found more is next (inr before) =
-    let leaves = binding_leaves octets part found is in
+clear_next : (place : ℕ) (octets : List ℕ) (f : ℕ) (kind : SnmpKind) (part : Part) (found : Option ℕ × Part) (more : List ℕ) → binding octets kind part ≡ Some found → bindings_within f octets kind found.1 ≡ Some more → IsAmong place (option_to_list found.0 ++ more) ⊎ (place + 4 ≤ part.start) → ((found.0 ≡ Some place) ⊎ (found.1.start ≤ place) ⊎ (place + 4 ≤ part.start)) × (IsAmong place more ⊎ (place + 4 ≤ found.1.start))
+clear_next place octets f kind part found more is next (inr before) =
+    let leaves = binding_leaves octets kind part found is in
     (inr (inr before), inr (omega (arith, leaves.some)))
-clear_next place octets f part found more is next (inl among) =
-    let leaves = binding_leaves octets part found is in
+clear_next place octets f kind part found more is next (inl among) =
+    let leaves = binding_leaves octets kind part found is in
     elim (among_either place found.0 more among) [
       | inl address ↦ (inl address, inr (leaves.inside place address).1)
-      | inr later ↦ (inr (inl (place_follows place octets f found.1 more next later).0), inl later)
+      | inr later ↦ (inr (inl (place_follows place octets f kind found.1 more next later).0), inl later)
     ]
 
 -- bindings stay where only an address in them, or what stands before them, is replaced
-pub bindings_same : (place : ℕ) (old new : List ℕ) → Differs place old new → (f : ℕ) (part : Part) (places : List ℕ) → bindings_within f old part ≡ Some places → IsAmong place places ⊎ (place + 4 ≤ part.start) → bindings_within f new part ≡ Some places
+pub bindings_same : (place : ℕ) (old new : List ℕ) → Differs place old new → (f : ℕ) (kind : SnmpKind) (part : Part) (places : List ℕ) → bindings_within f old kind part ≡ Some places → IsAmong place places ⊎ (place + 4 ≤ part.start) → bindings_within f new kind part ≡ Some places
 unfolding bindings_within
-bindings_same place old new differs zero part places e clear = e
-bindings_same place old new differs (suc f) part places e clear = elim (bindings_read old f part places e) [
-  | Ends test is ↦ bindings_made new f part places (Ends test is)
+bindings_same place old new differs zero kind part places e clear = e
+bindings_same place old new differs (suc f) kind part places e clear = elim (bindings_read old f kind part places e) [
+  | Ends test is ↦ bindings_made new f kind part places (Ends test is)
   | Goes test found more is next all ↦ (
-      let on = clear_next place old f part found more is next (subst (λ (ps : List ℕ). IsAmong place ps ⊎ (place + 4 ≤ part.start)) (sym all) clear) in
-      bindings_made new f part places (Goes test found more (binding_same place old new differs part found is on.0) (bindings_same place old new differs f found.1 more next on.1) all)
+      let on = clear_next place old f kind part found more is next (subst (λ (ps : List ℕ). IsAmong place ps ⊎ (place + 4 ≤ part.start)) (sym all) clear) in
+      bindings_made new f kind part places (Goes test found more (binding_same place old new differs kind part found is on.0) (bindings_same place old new differs f kind found.1 more next on.1) all)
       )
 ]
 

@@ -1,3 +1,4 @@
 pub mod Reading
 pub mod Kept
 pub mod Whole
+pub mod Walk

@@ -1,16 +1,17 @@
 -- One element or one binding, and those that follow it.
-use Rattle.std.proofs.Common.{◌≡◌, ℕ, zero, suc, ◌+◌, ◌-◌, ◌<◌, ◌≤◌, ◌==◌, Bool, true, false, List, [], ◌∷◌, ◌++◌, get_or, take, drop, length, Option, Some, None, option_map, option_to_list, is_some, refl, ap, ◌∙◌, sym, arith, length-drop, drop-cons, add-one, if◌then◌else◌}
+use Rattle.std.proofs.Common.{◌≡◌, ℕ, zero, suc, ◌+◌, ◌-◌, ◌<◌, ◌≤◌, ◌==◌, Bool, true, false, List, [], ◌∷◌, ◌++◌, get_or, take, drop, length, Option, Some, None, option_map, option_to_list, refl, ap, ◌∙◌, sym, arith, length-drop, drop-cons, add-one, if◌then◌else◌}
 use Rattle.std.proofs.lemmas.Bool.{eqb-true}
 use Rattle.std.proofs.lemmas.Bool.Decides.{nat_tests}
 use Rattle.std.proofs.lemmas.List.{length-take-le, drop_all}
 use Rattle.gate_base.specs.Address.{◌>>=◌}
 use Rattle.snmp_ber.specs.Element.{Element, element_at}
 use Rattle.snmp_ber.proofs.Elements.{some_same, element_room}
+use Rattle.snmp_gateway.specs.declared.message.SnmpKind.{SnmpKind}
 use Rattle.snmp_gateway.specs.declared.part.Part.{Part}
 use Rattle.snmp_gateway.specs.declared.part.Piece.{Piece}
 use Rattle.snmp_gateway.specs.Parts.{object_identifier, ip_address, sequence, has_right_size, octets_in, piece_of, first_of, field, skip, only}
-use Rattle.snmp_gateway.specs.declared.message.Outline.{Outline}
-use Rattle.snmp_gateway.specs.Message.{binding, bindings_within, bindings, outline_of, message, kind_of}
+use Rattle.snmp_gateway.specs.declared.outline.Outline.{Outline}
+use Rattle.snmp_gateway.specs.Message.{binding, bindings_within, bindings, outline_of, places_ahead, message, kind_of}
 
 pub differ : (a b : ℕ) → (a ≡ b → ⊥) → (a == b) ≡ false
 differ a b apart = grind (arith, nat_tests)
@@ -165,9 +166,9 @@ pub record Leaves (octets : List ℕ) (part : Part) (address : Option ℕ) (rest
   pub within : part.end ≤ length octets
   pub inside : (place : ℕ) → address ≡ Some place → (part.start ≤ place) × (place + 4 ≤ rest.start)
 
-pub binding_leaves : (octets : List ℕ) (part : Part) (found : Option ℕ × Part) → binding octets part ≡ Some found → Leaves octets part found.0 found.1
+pub binding_leaves : (octets : List ℕ) (kind : SnmpKind) (part : Part) (found : Option ℕ × Part) → binding octets kind part ≡ Some found → Leaves octets part found.0 found.1
 unfolding binding
-binding_leaves octets part found e =
+binding_leaves octets kind part found e =
     let pair = bound (field octets sequence part) _ found e in
     let name = bound (skip octets (object_identifier ∷ []) pair.value.content) _ found pair.then_is in
     let value = bound (only octets name.value) _ found name.then_is in
@@ -192,72 +193,50 @@ binding_leaves octets part found e =
     }
 
 -- more is enough
-within_by : (f g : ℕ) (octets : List ℕ) (part : Part) (test : Bool) (o : Option (Option ℕ × Part)) → ((found : Option ℕ × Part) → o ≡ Some found → bindings_within f octets found.1 ≡ bindings_within g octets found.1) → (if test then Some [] else (o >>= λ found. bindings_within f octets found.1 >>= λ places. Some (option_to_list found.0 ++ places))) ≡ (if test then Some [] else (o >>= λ found. bindings_within g octets found.1 >>= λ places. Some (option_to_list found.0 ++ places)))
-within_by f g octets part true o same = refl
-within_by f g octets part false None same = refl
-within_by f g octets part false (Some found) same = ap (λ o. o >>= λ places. Some (option_to_list found.0 ++ places)) (same found refl)
+within_by : (f g : ℕ) (octets : List ℕ) (kind : SnmpKind) (part : Part) (test : Bool) (o : Option (Option ℕ × Part)) → ((found : Option ℕ × Part) → o ≡ Some found → bindings_within f octets kind found.1 ≡ bindings_within g octets kind found.1) → (if test then Some [] else (o >>= λ found. bindings_within f octets kind found.1 >>= λ places. Some (option_to_list found.0 ++ places))) ≡ (if test then Some [] else (o >>= λ found. bindings_within g octets kind found.1 >>= λ places. Some (option_to_list found.0 ++ places)))
+within_by f g octets kind part true o same = refl
+within_by f g octets kind part false None same = refl
+within_by f g octets kind part false (Some found) same = ap (λ o. o >>= λ places. Some (option_to_list found.0 ++ places)) (same found refl)
 
-none_by : (octets : List ℕ) (part : Part) (most : ℕ) (test : Bool) (o : Option (Option ℕ × Part)) → ((found : Option ℕ × Part) → o ≡ Some found → ⊥) → (if test then Some [] else (o >>= λ found. bindings_within most octets found.1 >>= λ places. Some (option_to_list found.0 ++ places))) ≡ (if test then Some [] else None)
-none_by octets part most true o never = refl
-none_by octets part most false None never = refl
-none_by octets part most false (Some found) never = absurd (never found refl)
+none_by : (octets : List ℕ) (kind : SnmpKind) (part : Part) (most : ℕ) (test : Bool) (o : Option (Option ℕ × Part)) → ((found : Option ℕ × Part) → o ≡ Some found → ⊥) → (if test then Some [] else (o >>= λ found. bindings_within most octets kind found.1 >>= λ places. Some (option_to_list found.0 ++ places))) ≡ (if test then Some [] else None)
+none_by octets kind part most true o never = refl
+none_by octets kind part most false None never = refl
+none_by octets kind part most false (Some found) never = absurd (never found refl)
 
-within_none : (octets : List ℕ) (part : Part) (most : ℕ) → part.end - part.start ≤ 0 → bindings_within most octets part ≡ bindings_within zero octets part
+within_none : (octets : List ℕ) (kind : SnmpKind) (part : Part) (most : ℕ) → part.end - part.start ≤ 0 → bindings_within most octets kind part ≡ bindings_within zero octets kind part
 unfolding bindings_within
-within_none octets part zero none = refl
-within_none octets part (suc most) none = none_by octets part most (part.start == part.end) (binding octets part) (λ found e. let leaves = binding_leaves octets part found e in omega arith)
+within_none octets kind part zero none = refl
+within_none octets kind part (suc most) none = none_by octets kind part most (part.start == part.end) (binding octets kind part) (λ found e. let leaves = binding_leaves octets kind part found e in omega arith)
 
-within_same : (f g : ℕ) (octets : List ℕ) (part : Part) → part.end - part.start ≤ f → part.end - part.start ≤ g → bindings_within f octets part ≡ bindings_within g octets part
+within_same : (f g : ℕ) (octets : List ℕ) (kind : SnmpKind) (part : Part) → part.end - part.start ≤ f → part.end - part.start ≤ g → bindings_within f octets kind part ≡ bindings_within g octets kind part
 unfolding bindings_within
-within_same zero g octets part a b = sym (within_none octets part g a)
-within_same (suc f) zero octets part a b = within_none octets part (suc f) b
-within_same (suc f) (suc g) octets part a b = within_by f g octets part (part.start == part.end) (binding octets part) (λ found e. let leaves = binding_leaves octets part found e in within_same f g octets found.1 (omega arith) (omega arith))
+within_same zero g octets kind part a b = sym (within_none octets kind part g a)
+within_same (suc f) zero octets kind part a b = within_none octets kind part (suc f) b
+within_same (suc f) (suc g) octets kind part a b = within_by f g octets kind part (part.start == part.end) (binding octets kind part) (λ found e. let leaves = binding_leaves octets kind part found e in within_same f g octets kind found.1 (omega arith) (omega arith))
 
-within_more : (octets : List ℕ) (part : Part) (o : Option (Option ℕ × Part)) → binding octets part ≡ o → bindings octets part ≡ (if part.start == part.end then Some [] else (o >>= λ found. bindings_within (part.end - part.start) octets found.1 >>= λ places. Some (option_to_list found.0 ++ places)))
+within_more : (octets : List ℕ) (kind : SnmpKind) (part : Part) (o : Option (Option ℕ × Part)) → binding octets kind part ≡ o → bindings octets kind part ≡ (if part.start == part.end then Some [] else (o >>= λ found. bindings_within (part.end - part.start) octets kind found.1 >>= λ places. Some (option_to_list found.0 ++ places)))
 unfolding bindings_within
-within_more octets part o e =
-    within_same (part.end - part.start) (suc (part.end - part.start)) octets part (omega arith) (omega arith)
-    ∙ ap (λ o. if part.start == part.end then Some [] else (o >>= λ found. bindings_within (part.end - part.start) octets found.1 >>= λ places. Some (option_to_list found.0 ++ places))) e
+within_more octets kind part o e =
+    within_same (part.end - part.start) (suc (part.end - part.start)) octets kind part (omega arith) (omega arith)
+    ∙ ap (λ o. if part.start == part.end then Some [] else (o >>= λ found. bindings_within (part.end - part.start) octets kind found.1 >>= λ places. Some (option_to_list found.0 ++ places))) e
 
 -- bindings go on
-pub bindings_next : (octets : List ℕ) (part : Part) (found : Option ℕ × Part) → binding octets part ≡ Some found → bindings octets part ≡ (bindings octets found.1 >>= λ places. Some (option_to_list found.0 ++ places))
-bindings_next octets part found e =
-    let leaves = binding_leaves octets part found e in
+pub bindings_next : (octets : List ℕ) (kind : SnmpKind) (part : Part) (found : Option ℕ × Part) → binding octets kind part ≡ Some found → bindings octets kind part ≡ (bindings octets kind found.1 >>= λ places. Some (option_to_list found.0 ++ places))
+bindings_next octets kind part found e =
+    let leaves = binding_leaves octets kind part found e in
     let some : (part.start == part.end) ≡ false = grind (arith, nat_tests, leaves.some, leaves.end, leaves.ordered) in
-    within_more octets part (Some found) e
-    ∙ ap (λ b. if b then Some [] else (bindings_within (part.end - part.start) octets found.1 >>= λ places. Some (option_to_list found.0 ++ places))) some
-    ∙ ap (λ o. o >>= λ places. Some (option_to_list found.0 ++ places)) (within_same (part.end - part.start) (found.1.end - found.1.start) octets found.1 (omega arith) (omega arith))
+    within_more octets kind part (Some found) e
+    ∙ ap (λ b. if b then Some [] else (bindings_within (part.end - part.start) octets kind found.1 >>= λ places. Some (option_to_list found.0 ++ places))) some
+    ∙ ap (λ o. o >>= λ places. Some (option_to_list found.0 ++ places)) (within_same (part.end - part.start) (found.1.end - found.1.start) octets kind found.1 (omega arith) (omega arith))
 
 -- or end
-pub bindings_stop : (octets : List ℕ) (part : Part) → binding octets part ≡ None → bindings octets part ≡ (if part.start == part.end then Some [] else None)
-bindings_stop octets part e = within_more octets part None e
+pub bindings_stop : (octets : List ℕ) (kind : SnmpKind) (part : Part) → binding octets kind part ≡ None → bindings octets kind part ≡ (if part.start == part.end then Some [] else None)
+bindings_stop octets kind part e = within_more octets kind part None e
 
-message_by : (octets : List ℕ) (o : Option Outline) → outline_of octets ≡ o → message octets ≡ (o >>= λ outline. bindings octets outline.bindings >>= λ places. Some (outline.kind, option_to_list outline.agent ++ places))
+-- the bindings of a message are those of its outline
+pub message_by : (octets : List ℕ) (o : Option Outline) → outline_of octets ≡ o → message octets ≡ (o >>= λ outline. places_ahead octets outline >>= λ places. Some (outline.kind, places))
 unfolding message
-message_by octets o e = ap (λ o. o >>= λ outline. bindings octets outline.bindings >>= λ places. Some (outline.kind, option_to_list outline.agent ++ places)) e
+message_by octets o e = ap (λ o. o >>= λ outline. places_ahead octets outline >>= λ places. Some (outline.kind, places)) e
 
 pub no_outline : (octets : List ℕ) → outline_of octets ≡ None → kind_of octets ≡ None
 no_outline octets e = ap (option_map (λ m. m.0)) (message_by octets None e)
-
-kind_by : (octets : List ℕ) (outline : Outline) (o : Option (List ℕ)) → bindings octets outline.bindings ≡ o → outline_of octets ≡ Some outline → kind_of octets ≡ (if is_some o then Some outline.kind else None)
-kind_by octets outline None b e =
-    ap (option_map (λ m. m.0)) (message_by octets (Some outline) e ∙ ap (λ o. o >>= λ places. Some (outline.kind, option_to_list outline.agent ++ places)) b)
-kind_by octets outline (Some places) b e =
-    ap (option_map (λ m. m.0)) (message_by octets (Some outline) e ∙ ap (λ o. o >>= λ places. Some (outline.kind, option_to_list outline.agent ++ places)) b)
-
-some_if : (test : Bool) → is_some {T = List ℕ} (if test then Some [] else None) ≡ test
-some_if true = refl
-some_if false = refl
-
--- the kind of octets of which the bindings were read up to a part
-pub kind_at : (octets : List ℕ) (outline : Outline) (part : Part) → outline_of octets ≡ Some outline → is_some (bindings octets part) ≡ is_some (bindings octets outline.bindings) → binding octets part ≡ None → kind_of octets ≡ (if part.start == part.end then Some outline.kind else None)
-kind_at octets outline part e same stop =
-    kind_by octets outline (bindings octets outline.bindings) refl e
-    ∙ ap (λ b. if b then Some outline.kind else None) (sym same ∙ ap is_some (bindings_stop octets part stop) ∙ some_if (part.start == part.end))
-
-some_next : (first : List ℕ) (o : Option (List ℕ)) → is_some (o >>= λ places. Some (first ++ places)) ≡ is_some o
-some_next first None = refl
-some_next first (Some places) = refl
-
-pub are_next : (octets : List ℕ) (part : Part) (found : Option ℕ × Part) → binding octets part ≡ Some found → is_some (bindings octets found.1) ≡ is_some (bindings octets part)
-are_next octets part found e = sym (some_next (option_to_list found.0) (bindings octets found.1)) ∙ ap is_some (sym (bindings_next octets part found e))

@@ -1,3 +1,4 @@
 pub mod Parts
 pub mod Message
+pub mod Walk
 pub mod Renaming

@@ -1,49 +1,58 @@
--- SNMP messages (RFC 1157, 4), and the places of the IP addresses in them.
-use Rattle.std.specs.Prelude.{ℕ, zero, suc, ◌+◌, ◌-◌, ◌≤◌, ◌&&◌, ◌==◌, nat_le, if◌then◌else◌, List, [], ◌∷◌, ◌++◌, length, slice_index, option_to_list, Option, Some, None, option_map, unwrap_or}
+-- SNMP messages of the versions 1 (RFC 1157, 4), 2c (RFC 1901; RFC 3416, 3) and 3 (RFC 3412), and the places of the IP addresses in them.
+use Rattle.std.specs.Prelude.{ℕ, zero, suc, ◌+◌, ◌-◌, ◌≤◌, Bool, false, ◌&&◌, ◌||◌, ◌==◌, nat_le, if◌then◌else◌, List, [], ◌∷◌, ◌++◌, length, slice_index, option_to_list, Option, Some, None, option_map, unwrap_or}
 use Rattle.std.specs.List.{list_any}
 use Rattle.gate_base.specs.Address.{◌>>=◌}
 use Rattle.snmp_gateway.specs.declared.message.SnmpKind.{SnmpKind}
-use Rattle.snmp_gateway.specs.declared.message.SnmpKind.TheVariants.{V1, V3}
-use Rattle.snmp_gateway.specs.declared.message.Outline.{Outline}
+use Rattle.snmp_gateway.specs.declared.message.SnmpKind.TheVariants.{V1, V2, V3}
+use Rattle.snmp_gateway.specs.declared.outline.Outline.{Outline}
 use Rattle.snmp_gateway.specs.declared.part.Part.{Part}
 use Rattle.snmp_gateway.specs.declared.part.Piece.{Piece}
-use Rattle.snmp_gateway.specs.Parts.{integer, octet_string, null, object_identifier, sequence, ip_address, counter, gauge, time_ticks, opaque, field, skip, only, in_sequence}
+use Rattle.snmp_gateway.specs.Parts.{integer, octet_string, null, object_identifier, sequence, ip_address, counter, gauge, time_ticks, opaque, counter_64, is_exception, field, skip, only, in_sequence}
 
--- the tags that a value can have (RFC 1157, 5; RFC 1155, 6)
-abbrev pub value_tags : List ℕ
-value_tags = integer ∷ octet_string ∷ null ∷ object_identifier ∷ ip_address ∷ counter ∷ gauge ∷ time_ticks ∷ opaque ∷ []
+-- the tags that a value can have in each version with a community (RFC 1157, 5; RFC 1155, 6)
+abbrev pub common_value_tags : List ℕ
+common_value_tags = integer ∷ octet_string ∷ null ∷ object_identifier ∷ ip_address ∷ counter ∷ gauge ∷ time_ticks ∷ opaque ∷ []
+
+abbrev pub is_common_value_tag : ℕ → Bool
+is_common_value_tag tag = list_any (λ common. common == tag) common_value_tags
+
+-- whether a value can have this tag: in version 2c it can be a Counter64 or an exception too (RFC 3416, 3)
+abbrev pub is_value_tag : SnmpKind → ℕ → Bool
+is_value_tag V1 tag = is_common_value_tag tag
+is_value_tag V2 tag = is_common_value_tag tag || (tag == counter_64 || is_exception tag)
+is_value_tag V3 tag = false
 
 -- the place of an address
 abbrev pub address_in : Piece → Option ℕ
 address_in value = if value.tag == ip_address then Some value.content.start else None
 
 -- the place of the address, if there is one, in the binding that a part begins with, and the bindings behind that: a name and a value, in a sequence
-unfoldable pub binding : List ℕ → Part → Option (Option ℕ × Part)
-binding octets part = do
+unfoldable pub binding : List ℕ → SnmpKind → Part → Option (Option ℕ × Part)
+binding octets kind part = do
   pair ← field octets sequence part
   rest ← skip octets (object_identifier ∷ []) pair.content
   value ← only octets rest
-  if list_any (λ tag. tag == value.tag) value_tags then Some (address_in value, pair.rest) else None
+  if is_value_tag kind value.tag then Some (address_in value, pair.rest) else None
 
 -- the places of the addresses in bindings, at most so many
-unfoldable pub bindings_within : ℕ → List ℕ → Part → Option (List ℕ)
-bindings_within zero octets part = if part.start == part.end then Some [] else None
-bindings_within (suc most) octets part = if part.start == part.end then Some [] else do
-  found ← binding octets part
-  places ← bindings_within most octets found.1
+unfoldable pub bindings_within : ℕ → List ℕ → SnmpKind → Part → Option (List ℕ)
+bindings_within zero octets kind part = if part.start == part.end then Some [] else None
+bindings_within (suc most) octets kind part = if part.start == part.end then Some [] else do
+  found ← binding octets kind part
+  places ← bindings_within most octets kind found.1
   Some (option_to_list found.0 ++ places)
 
 -- the places of the addresses in bindings that fill a part
-abbrev pub bindings : List ℕ → Part → Option (List ℕ)
-bindings octets part = bindings_within (part.end - part.start) octets part
+abbrev pub bindings : List ℕ → SnmpKind → Part → Option (List ℕ)
+bindings octets kind part = bindings_within (part.end - part.start) octets kind part
 
--- GetRequest, GetNextRequest, GetResponse and SetRequest: request number, error status and error index, and the bindings
+-- every PDU but the Trap of version 1: request number, error status and error index (in a GetBulkRequest non-repeaters and max-repetitions), and the bindings
 abbrev pub request : List ℕ → Part → Option (Option ℕ × Part)
 request octets part = do
   rest ← skip octets (integer ∷ integer ∷ integer ∷ []) part
   Some (None, rest)
 
--- Trap: enterprise, agent address, generic trap, specific trap and time, and the bindings
+-- the Trap of version 1: enterprise, agent address, generic trap, specific trap and time, and the bindings
 abbrev pub trap : List ℕ → Part → Option (Option ℕ × Part)
 trap octets part = do
   rest ← skip octets (object_identifier ∷ []) part
@@ -51,26 +60,35 @@ trap octets part = do
   rest ← skip octets (integer ∷ integer ∷ time_ticks ∷ []) agent.rest
   Some (Some agent.content.start, rest)
 
--- the place of a PDU's agent address, if it has one, and what follows its fields: the bindings
-abbrev pub pdu : List ℕ → Piece → Option (Option ℕ × Part)
-pdu octets piece =
-    if nat_le 0xA0 piece.tag && nat_le piece.tag 0xA3 then request octets piece.content
-    else if piece.tag == 0xA4 then trap octets piece.content
-    else None
+-- the tag of the Trap of version 1
+abbrev pub trap_tag : ℕ
+trap_tag = 0xA4
 
--- version 1 behind its version field: the community and a PDU
-abbrev pub version_1 : List ℕ → Part → Option Outline
-version_1 octets part = do
+-- whether a PDU can have this tag: in version 1 it is a GetRequest, GetNextRequest, GetResponse, SetRequest or Trap (RFC 1157, 4.1), in version 2c one of the first four, or a GetBulkRequest, InformRequest, Trap of version 2 or Report (RFC 3416, 3)
+abbrev pub is_pdu_tag : SnmpKind → ℕ → Bool
+is_pdu_tag V1 tag = nat_le 0xA0 tag && nat_le tag 0xA4
+is_pdu_tag V2 tag = (nat_le 0xA0 tag && nat_le tag 0xA3) || (nat_le 0xA5 tag && nat_le tag 0xA8)
+is_pdu_tag V3 tag = false
+
+-- the place of a PDU's agent address, if it has one, and what follows its fields: the bindings
+abbrev pub pdu : List ℕ → SnmpKind → Piece → Option (Option ℕ × Part)
+pdu octets kind piece =
+    if is_pdu_tag kind piece.tag then (if piece.tag == trap_tag then trap octets piece.content else request octets piece.content) else None
+
+-- version 1 or 2c behind its version field: the community and a PDU (RFC 1157, 4; RFC 1901)
+abbrev pub with_community : List ℕ → SnmpKind → Part → Option Outline
+with_community octets kind part = do
   rest ← skip octets (octet_string ∷ []) part
   piece ← only octets rest
-  found ← pdu octets piece
+  found ← pdu octets kind piece
   bindings ← in_sequence octets found.1
-  Some (record { kind = V1; agent = found.0; bindings = bindings })
+  Some (record { kind = kind; agent = found.0; bindings = bindings })
 
--- a message by its version field: 0 is version 1, and 3 is version 3, whose rest is anything
+-- a message by its version field: 0 is version 1, 1 is version 2c, and 3 is version 3, whose rest is anything
 abbrev pub by_version : List ℕ → ℕ → Part → Option Outline
 by_version octets version part =
-    if version == 0 then version_1 octets part
+    if version == 0 then with_community octets V1 part
+    else if version == 1 then with_community octets V2 part
     else if version == 3 then Some (record { kind = V3; agent = None; bindings = record { start = length octets; end = length octets } })
     else None
 
@@ -81,12 +99,18 @@ outline_of octets = do
   version ← field octets integer content
   if version.content.end - version.content.start == 1 then by_version octets (slice_index octets version.content.start) version.rest else None
 
+-- the places of the addresses that an outline has ahead: that of the agent address, if there is one, and those in the bindings
+abbrev pub places_ahead : List ℕ → Outline → Option (List ℕ)
+places_ahead octets ahead = do
+  places ← bindings octets ahead.kind ahead.bindings
+  Some (option_to_list ahead.agent ++ places)
+
 -- the kind of a message, and the places of its addresses in their order
 unfoldable pub message : List ℕ → Option (SnmpKind × List ℕ)
 message octets = do
   outline ← outline_of octets
-  places ← bindings octets outline.bindings
-  Some (outline.kind, option_to_list outline.agent ++ places)
+  places ← places_ahead octets outline
+  Some (outline.kind, places)
 
 -- the kind of a message
 abbrev pub kind_of : List ℕ → Option SnmpKind

@@ -36,12 +36,29 @@ time_ticks = 0x43
 abbrev pub opaque : ℕ
 opaque = 0x44
 
+-- the tags that came with version 2 (RFC 2578, 7.1.10; RFC 3416, 3)
+abbrev pub counter_64 : ℕ
+counter_64 = 0x46
+
+abbrev pub no_such_object : ℕ
+no_such_object = 0x80
+
+abbrev pub no_such_instance : ℕ
+no_such_instance = 0x81
+
+abbrev pub end_of_mib_view : ℕ
+end_of_mib_view = 0x82
+
+-- the tags of what stands in the place of a value that there isn't
+abbrev pub is_exception : ℕ → Bool
+is_exception tag = (tag == no_such_object || tag == no_such_instance) || tag == end_of_mib_view
+
 -- whether an element with this tag can have so many octets of content
 abbrev pub has_right_size : ℕ → ℕ → Bool
 has_right_size tag count =
     if tag == integer || tag == object_identifier then nat_lt 0 count
     else if tag == ip_address then count == 4
-    else if tag == null then count == 0
+    else if tag == null || is_exception tag then count == 0
     else true
 
 -- the octets of a part, where the message has them

@@ -1,7 +1,9 @@
-//! SNMP messages (RFC 1157), and the renaming of the addresses in them by a basic gateway (RFC 2962).
+//! SNMP messages of the versions 1 (RFC 1157), 2c (RFC 1901, RFC 3416) and 3 (RFC 3412), and the renaming of the addresses in
+//! them by a basic gateway (RFC 2962).
 #![tactic(auto)]
 
 mod message;
+mod outline;
 mod part;
 mod rename;
 

@@ -1,6 +1,6 @@
 // Elements in a message, by their places.
 ghost use Rattle.std.specs.Prelude.{◌≡◌, ◌+◌, ◌≤◌, option_map, length, IfSome};
-ghost use Rattle.snmp_gateway.specs.Parts.{has_right_size, octets_in, first_of, field, skip, only, in_sequence};
+ghost use Rattle.snmp_gateway.specs.Parts.{is_exception, has_right_size, octets_in, first_of, field, skip, only, in_sequence};
 
 use snmp_ber::Tlv;
 
@@ -25,6 +25,15 @@ pub(crate) const TIME_TICKS: u8 = 0x43;
 
 pub(crate) const OPAQUE: u8 = 0x44;
 
+// The tags that came with version 2 (RFC 2578, 7.1.10; RFC 3416, 3).
+pub(crate) const COUNTER_64: u8 = 0x46;
+
+const NO_SUCH_OBJECT: u8 = 0x80;
+
+const NO_SUCH_INSTANCE: u8 = 0x81;
+
+const END_OF_MIB_VIEW: u8 = 0x82;
+
 /// The octets of a message from a place up to another.
 #[derive(Clone, Copy)]
 pub(crate) struct Part {
@@ -40,6 +49,13 @@ pub(crate) struct Piece {
     pub(crate) rest: Part,
 }
 
+/// Whether this is the tag of what stands in the place of a value that there isn't.
+pub(crate) fn is_exception(tag: u8) -> bool
+    ensures { result ≡ is_exception tag }
+{
+    matches!(tag, NO_SUCH_OBJECT | NO_SUCH_INSTANCE | END_OF_MIB_VIEW)
+}
+
 // Whether an element with this tag can have so many octets of content.
 fn has_right_size(tag: u8, count: usize) -> bool
     ensures { result ≡ has_right_size tag count }
@@ -47,7 +63,7 @@ fn has_right_size(tag: u8, count: usize) -> bool
     match tag {
         INTEGER | OBJECT_IDENTIFIER => count > 0,
         IP_ADDRESS => count == 4,
-        NULL => count == 0,
+        NULL | NO_SUCH_OBJECT | NO_SUCH_INSTANCE | END_OF_MIB_VIEW => count == 0,
         _ => true,
     }
 }

@@ -58,10 +58,10 @@ returns c =
     let judged = is_judged c.octets_in-octets.result.now c.in-Ok.datagram c.in-Ok-content_of.content c.in-Ok.ensures.read same none c.in-Ok-content_of.ensures.0 (c.datagram_refusal.ensures.alive c.in_default.is) (omega (arith, total, c.from-total.ensures, c.get_u16.type_inv)) c.in-Ok-content_of.ensures.1 in
     record {
       none = front_is e
-        ∙ ap (λ x. option_or x (option_or (first_that_holds (datagram_tests (datagram_in e))) (first_that_holds (transport_tests (datagram_in e))))) good.0
-        ∙ ap (λ x. option_or x (first_that_holds (transport_tests (datagram_in e)))) (ap (λ x. first_that_holds (datagram_tests x)) (sym good.1) ∙ none)
-        ∙ ap (λ x. first_that_holds (transport_tests x)) (sym good.1) ∙ c.in-Ok-content_of.ensures.0;
+          ∙ ap (λ x. option_or x (option_or (first_that_holds (datagram_tests (datagram_in e))) (first_that_holds (transport_tests (datagram_in e))))) good.0
+          ∙ ap (λ x. option_or x (first_that_holds (transport_tests (datagram_in e)))) (ap (λ x. first_that_holds (datagram_tests x)) (sym good.1) ∙ none)
+          ∙ ap (λ x. first_that_holds (transport_tests x)) (sym good.1) ∙ c.in-Ok-content_of.ensures.0;
       datagram_is = good.1;
       judged = subst (λ (x : Datagram). IsJudged (take c.from-total.result c.octets_in-octets.result.now) x c.in-Ok-content_of.content) good.1
-        (subst (λ (k : ℕ). IsJudged (take k c.octets_in-octets.result.now) c.in-Ok.datagram c.in-Ok-content_of.content) (sym total) judged);
+          (subst (λ (k : ℕ). IsJudged (take k c.octets_in-octets.result.now) c.in-Ok.datagram c.in-Ok-content_of.content) (sym total) judged);
     }

@@ -1,9 +1,9 @@
-use Rattle.std.proofs.Common.{◌-◌}
-use Rattle.snmp_gateway.proofs.Whole.{Lists}
+use Rattle.snmp_gateway.specs.Walk.{size_ahead}
+use Rattle.snmp_gateway.proofs.Walk.{Lists}
 use Rattle.snmp_gateway.proofs.message.list.Given as goal
 
-abbrev pub invariant-loop-address : goal.invariant-loop-address
-invariant-loop-address l = Lists l.octets l.fn.places.items l.places.items l.part
+abbrev pub invariant-loop-place : goal.invariant-loop-place
+invariant-loop-place l = Lists l.octets l.fn.places.items l.places.items l.ahead
 
-abbrev pub decreases-loop-address : goal.decreases-loop-address
-decreases-loop-address l = l.part.end - l.part.start
+abbrev pub decreases-loop-place : goal.decreases-loop-place
+decreases-loop-place l = size_ahead l.ahead

@@ -1,7 +1,7 @@
 use Rattle.std.proofs.Common.{arith, ◌∙◌, sym}
 use Rattle.snmp_gateway.specs.Parts.{integer}
 use Rattle.snmp_gateway.proofs.Reading.{field_cut}
-use Rattle.snmp_gateway.proofs.message.outline_of.Goals as goal
+use Rattle.snmp_gateway.proofs.outline.outline_of.Goals as goal
 
 pub overflow_sub-version : goal.overflow_sub-version
 overflow_sub-version c = (field_cut c.args.octets.now integer c.in_ok-content.content c.in_ok-version.version (sym c.field.ensures ∙ c.in_ok-version.was)).content
