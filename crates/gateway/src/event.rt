@@ -10,7 +10,7 @@ ghost use Rattle.gateway.specs.Causes.{Gives};
 ghost use Rattle.gateway.specs.Phases.{Handles};
 
 use crate::Status;
-use crate::report::{Totals, count, put_event_line};
+use crate::report::{EVENT_LINE, Totals, count, put_event_line};
 use ether_frames::put_head;
 use gate_base::{Event, Link, Moment, OutOfMemory, Side, Verdict};
 use gate_core::{Gate, Outbox};
@@ -110,7 +110,6 @@ fn send_all<D: Desk>(
 /// Writes the line of an event.
 fn report<D: Desk>(
     desk: &mut D,
-    text: &mut String,
     number: u64,
     side: Side,
     moment: Moment,
@@ -120,11 +119,9 @@ fn report<D: Desk>(
     requires { CanWrite (D.outside desk.old) Report }
     ensures { Gives result (event_piece number side moment.0 verdict frames ∷ []) (D.outside desk.old) (D.outside desk.new) }
 {
-    match put_event_line(text, number, side, moment, verdict, frames) {
-        Ok(()) => {}
-        Err(_) => return Err(Status::OutOfMemory),
-    }
-    match write_whole(desk, Slot::Report, text.as_bytes()) {
+    let mut line = [0; EVENT_LINE];
+    let begin = put_event_line(&mut line, number, side, moment, verdict, frames);
+    match write_whole(desk, Slot::Report, &line[begin..]) {
         Ok(()) => Ok(()),
         Err(_) => Err(Status::WriteFault(Slot::Report)),
     }
@@ -136,7 +133,6 @@ pub fn handle<D: Desk>(
     gate: &mut Gate,
     outbox: &mut Outbox,
     room: &mut [u8],
-    text: &mut String,
     totals: Totals,
     event: Event<'_>,
 ) -> Result<Totals, Status>
@@ -168,15 +164,7 @@ pub fn handle<D: Desk>(
         Err(status) => return Err(status),
     }
     let number = totals.events + 1;
-    match report(
-        desk,
-        text,
-        number,
-        event.side,
-        event.moment,
-        verdict,
-        frames,
-    ) {
+    match report(desk, number, event.side, event.moment, verdict, frames) {
         Ok(()) => Ok(count(totals, event.side, verdict, frames)),
         Err(status) => Err(status),
     }

@@ -68,7 +68,7 @@ pub fn forward<D: Desk>(
         if !more {
             return finish(desk, text, totals, gate.pending());
         }
-        match handle(desk, gate, outbox, room, text, totals, merge.event()) {
+        match handle(desk, gate, outbox, room, totals, merge.event()) {
             Ok(next) => totals = next,
             Err(status) => return status,
         }
