@@ -14,7 +14,7 @@ use Rattle.gate_settings.specs.declared.fault.SettingsFault.{SettingsFault}
 use Rattle.gate_settings.specs.declared.fault.SettingsFault.TheVariants.{PoolSize, SameInPool, HostInPool, StaticOutsidePool}
 use Rattle.gate_settings.specs.declared.settings.Fixed.{Fixed}
 use Rattle.gate_settings.specs.declared.given.Given.{Given}
-use Rattle.gate_settings.specs.Cross.{first_side, first_static, first_repeated, first_fault, collides, pool_size, same_in_pool, host_in_pool, static_outside_pool, static_repeated, mac_missing, not_yet, is_bad_pool, meets_same, host_is_taken, alias_is_outside, side_settings}
+use Rattle.gate_settings.specs.Cross.{first_side, first_static, first_repeated, first_fault, collides, pool_size, same_in_pool, host_in_pool, static_outside_pool, static_repeated, mac_missing, is_bad_pool, meets_same, host_is_taken, alias_is_outside, side_settings}
 use Rattle.gate_settings.specs.Sound.{IsSound}
 
 -- where no line has a fault, each line has none
@@ -67,7 +67,7 @@ pub sound : (given : Given) → first_fault given ≡ None → IsSound given.set
 unfolding first_fault pool_size same_in_pool host_in_pool static_outside_pool static_repeated
 sound given h =
     let s = given.settings in
-    let none = no_line (pool_size s) (same_in_pool s ∷ host_in_pool s ∷ static_outside_pool s ∷ static_repeated s ∷ mac_missing given ∷ not_yet s ∷ []) h in
+    let none = no_line (pool_size s) (same_in_pool s ∷ host_in_pool s ∷ static_outside_pool s ∷ static_repeated s ∷ mac_missing given ∷ []) h in
     record {
       pools = no_side (λ side. is_bad_pool (side_settings s side)) PoolSize none.0;
       apart = no_side (λ side. meets_same s.same (side_settings s side)) SameInPool none.1.0;

@@ -1,5 +1,5 @@
 -- What the settings must be to one another.
-use Rattle.std.specs.Prelude.{ℕ, ◌+◌, ◌-◌, ◌^◌, Bool, true, false, not, ◌&&◌, ◌||◌, ◌==◌, nat_lt, nat_le, if◌then◌else◌, List, [], ◌∷◌, ◌++◌, length, position, Option, Some, None, option_map, Ok, Err}
+use Rattle.std.specs.Prelude.{ℕ, ◌+◌, ◌-◌, ◌^◌, Bool, not, ◌&&◌, ◌||◌, ◌==◌, nat_lt, nat_le, if◌then◌else◌, List, [], ◌∷◌, ◌++◌, length, position, Option, Some, None, option_map, Ok, Err}
 use Rattle.std.specs.List.{fold, list_any}
 use Rattle.std.specs.Option.{option_or}
 use Rattle.gate_base.specs.declared.address.Addr.{Addr}
@@ -7,7 +7,7 @@ use Rattle.gate_base.specs.Side.{other, same_side}
 use Rattle.gate_base.specs.declared.side.Side.{Side}
 use Rattle.gate_base.specs.declared.side.Side.TheVariants.{Left, Right}
 use Rattle.gate_settings.specs.declared.fault.SettingsFault.{SettingsFault}
-use Rattle.gate_settings.specs.declared.fault.SettingsFault.TheVariants.{PoolSize, SameInPool, HostInPool, StaticOutsidePool, StaticRepeated, MacMissing, NotYet}
+use Rattle.gate_settings.specs.declared.fault.SettingsFault.TheVariants.{PoolSize, SameInPool, HostInPool, StaticOutsidePool, StaticRepeated, MacMissing}
 use Rattle.gate_settings.specs.declared.settings.Block.{Block}
 use Rattle.gate_settings.specs.declared.settings.Fixed.{Fixed}
 use Rattle.gate_settings.specs.declared.settings.Settings.{Settings}
@@ -116,10 +116,6 @@ static_repeated settings = first_repeated [] settings.statics
 unfoldable pub mac_missing : Given → Option SettingsFault
 mac_missing given = first_side (lacks_mac given) MacMissing
 
--- a report as JSON, which isn't written yet
-unfoldable pub not_yet : Settings → Option SettingsFault
-not_yet settings = if settings.json then Some NotYet else None
-
 -- the first of all lines, in the order of testing
 unfoldable pub first_fault : Given → Option SettingsFault
 first_fault given = first_of (
@@ -129,7 +125,6 @@ first_fault given = first_of (
     ∷ static_outside_pool given.settings
     ∷ static_repeated given.settings
     ∷ mac_missing given
-    ∷ not_yet given.settings
     ∷ [])
 
 -- the settings, unless there is a fault

@@ -2,7 +2,7 @@
 use Rattle.std.specs.Prelude.{ℕ, List, ◌++◌, codes, decimal}
 use Rattle.gate_base.specs.Side as sides
 use Rattle.gate_settings.specs.declared.fault.SettingsFault.{SettingsFault}
-use Rattle.gate_settings.specs.declared.fault.SettingsFault.TheVariants.{TooLong, NotToml, Missing, Kind, BadAddress, PoolSize, SameInPool, HostInPool, StaticOutsidePool, StaticRepeated, MacMissing, NotYet}
+use Rattle.gate_settings.specs.declared.fault.SettingsFault.TheVariants.{TooLong, NotToml, Missing, Kind, BadAddress, PoolSize, SameInPool, HostInPool, StaticOutsidePool, StaticRepeated, MacMissing}
 use Rattle.gate_settings.specs.Keys.{key_text}
 
 -- the fault's name, and where it has one a space and its key, realm or static
@@ -18,4 +18,3 @@ text_of (HostInPool n) = codes "HostInPool static." ++ decimal n
 text_of (StaticOutsidePool n) = codes "StaticOutsidePool static." ++ decimal n
 text_of (StaticRepeated n) = codes "StaticRepeated static." ++ decimal n
 text_of (MacMissing side) = codes "MacMissing " ++ sides.name_of side
-text_of NotYet = codes "NotYet"

@@ -153,17 +153,6 @@ fn mac_missing(given: &Given) -> Option<SettingsFault>
     }
 }
 
-#[tactic(auto, unfolding(crate::specs::Cross::not_yet))]
-fn not_yet(settings: &Settings) -> Option<SettingsFault>
-    ensures { result ≡ cross.not_yet settings.now }
-{
-    if settings.json {
-        Some(SettingsFault::NotYet)
-    } else {
-        None
-    }
-}
-
 /// The first fault of settings that were given.
 #[tactic(auto, unfolding(crate::specs::Cross::first_fault))]
 pub fn first_fault(given: &Given) -> Option<SettingsFault>
@@ -177,5 +166,4 @@ pub fn first_fault(given: &Given) -> Option<SettingsFault>
         .or(static_outside_pool(settings))
         .or(static_repeated(settings))
         .or(mac_missing(given))
-        .or(not_yet(settings))
 }

@@ -35,8 +35,6 @@ pub enum SettingsFault {
     StaticRepeated(u32),
     /// The realm's link is Ethernet, and `gateway_mac` or `next_mac` isn't given.
     MacMissing(Side),
-    /// The report is to be JSON, which isn't written yet.
-    NotYet,
 }
 
 /// Why there are no settings.
@@ -103,7 +101,6 @@ impl fmt::Display for SettingsFault {
                 let side = side.name();
                 write!(f, "MacMissing {side}")
             }
-            SettingsFault::NotYet => write!(f, "NotYet"),
         }
     }
 }

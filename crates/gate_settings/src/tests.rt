@@ -23,7 +23,7 @@ const STATICS: &str = "static = [
 
 /// A case a line: the key that the base document is to lack, statements to stand behind it, and the text of the fault.
 const CASES: &str = r#"report | report = "text" | accepted
-report | report = "json" | NotYet
+report | report = "json" | accepted
 report | report = "xml" | Kind report
 report | report = 1 | Kind report
 report | report = | NotToml

@@ -1,7 +1,6 @@
 -- What is promised of the events of both captures.
-use Rattle.std.proofs.Common.{List, ℕ, Some, None}
-use Rattle.std.specs.Prelude.{IfSome, Option}
-use Rattle.gate_desk.specs.declared.slot.PerSlot.{PerSlot}
+use Rattle.std.proofs.Common.{Some, None}
+use Rattle.std.specs.Prelude.{IfSome}
 use Rattle.gate_desk.specs.Outside.{Outside, Told}
 use Rattle.gate_settings.specs.declared.settings.Settings.{Settings as GateSettings}
 use Rattle.gate_world.specs.Promise.{Promised}

@@ -1,6 +1,5 @@
 -- What is kept of sessions gives what the sessions over whole lists give.
-use Rattle.std.proofs.Common.{◌≡◌, ℕ, ◌+◌, List, [], ◌∷◌, ◌++◌, length, refl, sym, ap, ◌∙◌}
-use Rattle.std.specs.Prelude.{fold}
+use Rattle.std.proofs.Common.{◌≡◌, ℕ, ◌+◌, List, [], ◌∷◌, ◌++◌, length, refl, ap, ◌∙◌}
 use Rattle.gate_base.specs.Events.{Event}
 use Rattle.gate_base.specs.Side.{other}
 use Rattle.gate_base.specs.declared.event.Verdict.{Verdict}
@@ -48,12 +47,12 @@ alike_after settings events = alike_all events (opening settings) (opening setti
 
 pub same_given : (settings : GateSettings) (v : State KeptSession) (w : State Session) (e : Event) → AreAlike v w → given_by kept_rules settings v e ≡ given_by whole_rules settings w e
 same_given settings v w e h =
-    let gives : Totals → Verdict → List (List ℕ) → List Piece = λ t x xs. sent settings (other e.side) e.moment xs ++ event_piece (t.events + 1) e.side e.moment x (length xs) ∷ [] in
+    let gives : Totals → Verdict → List (List ℕ) → List Piece = λ t x xs. sent settings (other e.side) e.moment xs ++ event_piece settings.json (t.events + 1) e.side e.moment x (length xs) ∷ [] in
     ap (λ (t : Totals). gives t (verdict kept_rules v.world e) (out kept_rules v.world e)) h.totals
     ∙ ap (λ (x : Verdict). gives w.totals x (out kept_rules v.world e)) (same_verdict v w e h)
     ∙ ap (gives w.totals (verdict whole_rules w.world e)) (same_out v w e h)
 
-pub same_end : (v : State KeptSession) (w : State Session) (ending : Ending) → AreAlike v w → ended_by v ending ≡ ended_by w ending
-same_end v w Done h =
-    ap (λ (t : Totals). last_line t v.world.pending) h.totals ∙ ap (last_line w.totals) (pending_related w.world v.world h.related)
-same_end v w (Fault side fault place) h = refl
+pub same_end : (settings : GateSettings) (v : State KeptSession) (w : State Session) (ending : Ending) → AreAlike v w → ended_by settings v ending ≡ ended_by settings w ending
+same_end settings v w Done h =
+    ap (λ (t : Totals). last_line settings.json t v.world.pending) h.totals ∙ ap (last_line settings.json w.totals) (pending_related w.world v.world h.related)
+same_end settings v w (Fault side fault place) h = refl

@@ -11,13 +11,11 @@ use crate::event::LONGEST_FRAME;
 use crate::forward::forward;
 use crate::prepare::prepare;
 use crate::ready::ready;
+use crate::report::LINE;
 use gate_base::OutOfMemory;
 use gate_core::Outbox;
 use gate_desk::Desk;
 use std::alloc::Global;
-
-/// The room of a report's line, in octets.
-const LINE: usize = 256;
 
 /// A run over these files.
 fn run<D: Desk>(alloc: Global, desk: &mut D, names: FileNames<'_>) -> Status
@@ -27,7 +25,7 @@ fn run<D: Desk>(alloc: Global, desk: &mut D, names: FileNames<'_>) -> Status
         Ok(prepared) => prepared,
         Err(status) => return status,
     };
-    let mut text = match String::with_capacity(alloc, LINE) {
+    let mut text = match Vec::with_capacity(alloc, LINE) {
         Ok(text) => text,
         Err(_) => return Status::OutOfMemory,
     };

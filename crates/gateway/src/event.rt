@@ -1,20 +1,21 @@
 // One event: its frame is judged, and what it gives is written.
-ghost use Rattle.std.specs.Prelude.{◌≡◌, ◌+◌, ◌*◌, ◌<◌, ◌≤◌, ◌^◌, [], ◌∷◌, IfSome, length, option_map, option_to_list, take};
+ghost use Rattle.std.specs.Prelude.{◌≡◌, ◌+◌, ◌*◌, ◌<◌, ◌≤◌, ◌^◌, [], ◌∷◌, IfSome, length, option_map, option_to_list, take, vec_capacity};
 ghost use Rattle.gate_base.specs.Events.{event_of};
 ghost use Rattle.gate_desk.specs.declared.slot.Slot.TheVariants.{LeftOut, RightOut, Report};
 ghost use Rattle.gate_desk.specs.Outside.{CanWrite};
 ghost use Rattle.pcap_merge.specs.Merge.{IsSmallEvent};
 ghost use Rattle.gate_base.specs.declared.side.Link.TheVariants.{Ethernet};
-ghost use Rattle.gateway.specs.Machine.{out_slot, framed_on, frame_piece, sent, event_piece};
+ghost use Rattle.gateway.specs.Machine.{out_slot, framed_on, frame_piece, sent};
 ghost use Rattle.gateway.specs.Causes.{Gives};
 ghost use Rattle.gateway.specs.Phases.{Handles};
 
 use crate::Status;
-use crate::report::{EVENT_LINE, Totals, count, put_event_line};
+use crate::report::{LINE, Totals, count, put_line};
 use ether_frames::put_head;
-use gate_base::{Event, Link, Moment, OutOfMemory, Side, Verdict};
+use gate_base::{Event, Link, Moment, OutOfMemory, Side};
 use gate_core::{Gate, Outbox};
-use gate_desk::{Desk, Slot, write_whole};
+use gate_desk::{Desk, Slot};
+use gate_report::Line;
 use gate_settings::{Settings, SideSettings};
 use pcap_files::write_packet;
 
@@ -107,32 +108,13 @@ fn send_all<D: Desk>(
     Ok(())
 }
 
-/// Writes the line of an event.
-fn report<D: Desk>(
-    desk: &mut D,
-    number: u64,
-    side: Side,
-    moment: Moment,
-    verdict: Verdict,
-    frames: u64,
-) -> Result<(), Status>
-    requires { CanWrite (D.outside desk.old) Report }
-    ensures { Gives result (event_piece number side moment.0 verdict frames ∷ []) (D.outside desk.old) (D.outside desk.new) }
-{
-    let mut line = [0; EVENT_LINE];
-    let begin = put_event_line(&mut line, number, side, moment, verdict, frames);
-    match write_whole(desk, Slot::Report, &line[begin..]) {
-        Ok(()) => Ok(()),
-        Err(_) => Err(Status::WriteFault(Slot::Report)),
-    }
-}
-
 /// Takes an event: its frame goes on, if it passes, and then its line is written.
 pub fn handle<D: Desk>(
     desk: &mut D,
     gate: &mut Gate,
     outbox: &mut Outbox,
     room: &mut [u8],
+    text: &mut Vec<u8>,
     totals: Totals,
     event: Event<'_>,
 ) -> Result<Totals, Status>
@@ -140,22 +122,25 @@ pub fn handle<D: Desk>(
     requires right { CanWrite (D.outside desk.old) RightOut }
     requires report { CanWrite (D.outside desk.old) Report }
     requires room { length room.old ≡ LONGEST_FRAME }
+    requires text { LINE ≤ vec_capacity text.old }
     requires small { IsSmallEvent (event_of event) }
     requires few { totals.events < 2 ^ 42 }
     requires passed { totals.passed ≤ totals.events }
     requires to_left { totals.to_left ≤ 4096 * totals.events }
     requires to_right { totals.to_right ≤ 4096 * totals.events }
-    ensures { Handles result gate.old gate.new totals (event_of event.entry) (D.outside desk.old) (D.outside desk.new) }
+    ensures answer { Handles result gate.old gate.new totals (event_of event.entry) (D.outside desk.old) (D.outside desk.new) }
+    ensures text { LINE ≤ vec_capacity text.new }
 {
     let verdict = match gate.step(&event, outbox) {
         Ok(verdict) => verdict,
         Err(OutOfMemory) => return Err(Status::OutOfMemory),
     };
-    let frames = outbox.len() as u64;
+    let frames = outbox.len() as u32;
+    let settings = gate.settings();
     match send_all(
         desk,
         room,
-        gate.settings(),
+        settings,
         event.side.other(),
         event.moment,
         outbox,
@@ -163,8 +148,14 @@ pub fn handle<D: Desk>(
         Ok(()) => {}
         Err(status) => return Err(status),
     }
-    let number = totals.events + 1;
-    match report(desk, number, event.side, event.moment, verdict, frames) {
+    let line = Line::Event {
+        number: totals.events + 1,
+        side: event.side,
+        moment: event.moment,
+        verdict,
+        frames,
+    };
+    match put_line(desk, text, settings.json, &line) {
         Ok(()) => Ok(count(totals, event.side, verdict, frames)),
         Err(status) => Err(status),
     }

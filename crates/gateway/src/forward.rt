@@ -1,5 +1,5 @@
 // The events of a run.
-ghost use Rattle.std.specs.Prelude.{◌≡◌, ◌≤◌, ◌^◌, None, length};
+ghost use Rattle.std.specs.Prelude.{◌≡◌, ◌≤◌, ◌^◌, None, length, vec_capacity};
 ghost use Rattle.gate_desk.specs.declared.slot.Slot.TheVariants.{LeftIn, RightIn, LeftOut, RightOut, Report};
 ghost use Rattle.gate_desk.specs.Outside.{CanRead, CanWrite, Grows};
 ghost use Rattle.pcap_merge.specs.Merge.{work, AtEnds};
@@ -9,25 +9,37 @@ ghost use Rattle.gateway.specs.Phases.{Forwards, Finishes};
 
 use crate::Status;
 use crate::event::{LONGEST_FRAME, handle};
-use crate::report::{Totals, put_done_line};
+use crate::report::{LINE, Totals, put_line};
 use crate::stops::status_of_merge;
 use gate_core::{Gate, Outbox};
-use gate_desk::{Desk, Slot, write_whole};
+use gate_desk::Desk;
+use gate_report::Line;
 use pcap_merge::Merge;
 
 /// Writes the last line of the report.
-fn finish<D: Desk>(desk: &mut D, text: &mut String, totals: Totals, pending: u64) -> Status
+fn finish<D: Desk>(
+    desk: &mut D,
+    text: &mut Vec<u8>,
+    json: bool,
+    totals: Totals,
+    pending: u64,
+) -> Status
     requires can { CanWrite (D.outside desk.old) Report }
+    requires room { LINE ≤ vec_capacity text.old }
     requires passed { totals.passed ≤ totals.events }
-    ensures { Finishes result (last_line totals pending) (D.outside desk.old) (D.outside desk.new) }
+    ensures { Finishes result (last_line json totals pending) (D.outside desk.old) (D.outside desk.new) }
 {
-    match put_done_line(text, totals, pending) {
-        Ok(()) => {}
-        Err(_) => return Status::OutOfMemory,
-    }
-    match write_whole(desk, Slot::Report, text.as_bytes()) {
+    let line = Line::Done {
+        events: totals.events,
+        passed: totals.passed,
+        refused: totals.events - totals.passed,
+        to_left: totals.to_left,
+        to_right: totals.to_right,
+        pending,
+    };
+    match put_line(desk, text, json, &line) {
         Ok(()) => Status::Done,
-        Err(_) => Status::WriteFault(Slot::Report),
+        Err(status) => status,
     }
 }
 
@@ -38,7 +50,7 @@ pub fn forward<D: Desk>(
     gate: &mut Gate,
     outbox: &mut Outbox,
     room: &mut [u8],
-    text: &mut String,
+    text: &mut Vec<u8>,
 ) -> Status
     requires left_in { CanRead (D.outside desk.old) LeftIn }
     requires right_in { CanRead (D.outside desk.old) RightIn }
@@ -46,6 +58,7 @@ pub fn forward<D: Desk>(
     requires right_out { CanWrite (D.outside desk.old) RightOut }
     requires report { CanWrite (D.outside desk.old) Report }
     requires room { length room.old ≡ LONGEST_FRAME }
+    requires text { LINE ≤ vec_capacity text.old }
     requires stop { merge.old.stop ≡ None }
     requires work { work merge.old ≤ 2 ^ 41 }
     requires ends { AtEnds merge.old (D.outside desk.old) }
@@ -66,9 +79,9 @@ pub fn forward<D: Desk>(
             Err(stop) => return status_of_merge(stop),
         };
         if !more {
-            return finish(desk, text, totals, gate.pending());
+            return finish(desk, text, gate.settings().json, totals, gate.pending());
         }
-        match handle(desk, gate, outbox, room, totals, merge.event()) {
+        match handle(desk, gate, outbox, room, text, totals, merge.event()) {
             Ok(next) => totals = next,
             Err(status) => return status,
         }

@@ -1,5 +1,5 @@
 -- The words of a line are short.
-use Rattle.std.proofs.Common.{◌≤◌, ℕ, length, arith}
+use Rattle.std.proofs.Common.{◌≤◌, length, arith}
 use Rattle.gate_base.specs.declared.side.Side.{Side}
 use Rattle.gate_base.specs.declared.side.Side.TheVariants.{Left, Right}
 use Rattle.gate_base.specs.declared.event.Verdict.{Verdict}

@@ -1,0 +1,34 @@
+-- The lines of a report as JSON values.
+use Rattle.std.specs.Prelude.{ℕ, true, codes}
+use Rattle.serde_json.specs.Data.{Data, boolean, number, unsigned, string, object, member, no_members}
+use Rattle.gate_base.specs.declared.event.Verdict.{Verdict}
+use Rattle.gate_base.specs.declared.side.Side.{Side}
+use Rattle.gate_base.specs.Refusal.{verdict_name}
+use Rattle.gate_base.specs.Side.{name_of}
+use Rattle.gate_report.specs.declared.line.Line.{Line}
+use Rattle.gate_report.specs.declared.line.Line.TheVariants.{Event, Done}
+
+-- an event's line
+unfoldable pub event_value : ℕ → Side → ℕ → Verdict → ℕ → Data
+event_value event side moment verdict frames =
+    object (member (codes "event") (number (unsigned event))
+    (member (codes "frames") (number (unsigned frames))
+    (member (codes "moment") (number (unsigned moment))
+    (member (codes "side") (string (name_of side))
+    (member (codes "verdict") (string (verdict_name verdict)) no_members)))))
+
+-- the last line
+unfoldable pub done_value : ℕ → ℕ → ℕ → ℕ → ℕ → ℕ → Data
+done_value events passed refused to_left to_right pending =
+    object (member (codes "done") (boolean true)
+    (member (codes "events") (number (unsigned events))
+    (member (codes "passed") (number (unsigned passed))
+    (member (codes "pending") (number (unsigned pending))
+    (member (codes "refused") (number (unsigned refused))
+    (member (codes "to_left") (number (unsigned to_left))
+    (member (codes "to_right") (number (unsigned to_right)) no_members)))))))
+
+-- a line
+abbrev pub value_of : Line → Data
+value_of (Event event side moment verdict frames) = event_value event side moment.0 verdict frames
+value_of (Done events passed refused to_left to_right pending) = done_value events passed refused to_left to_right pending

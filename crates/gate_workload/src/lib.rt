@@ -1,0 +1,18 @@
+//! A workload for the gateway, made from two numbers: its settings, and a capture for each side.
+#![tactic(auto)]
+
+mod capture;
+mod datagram;
+mod draw;
+mod flow;
+mod octets;
+mod payload;
+mod rounds;
+mod workload;
+
+pub use datagram::udp_reads_back;
+pub use octets::Octets;
+pub use workload::{Workload, make};
+
+#[cfg(test)]
+mod tests;

@@ -1,0 +1,21 @@
+use Rattle.std.proofs.Common.{◌∙◌, refl, subst}
+use Rattle.gate_desk.specs.declared.slot.Slot.TheVariants.{Report}
+use Rattle.gate_desk.specs.Outside.{Writes, WritesPart}
+use Rattle.gateway.proofs.Causes.{gives_one, give_fails}
+use Rattle.gateway.proofs.Pieces.{front_none}
+use Rattle.gateway.proofs.report.put_json.Goals as goal
+
+pub returns-in-Err : goal.returns-in-Err
+returns-in-Err g c = (tt, front_none _ (g.D.Desk.outside c.args.desk.now))
+
+pub returns-in-Ok-write_whole : goal.returns-in-Ok-write_whole
+returns-in-Ok-write_whole g c =
+    let old = g.D.Desk.outside c.args.desk.now in
+    let new = g.D.Desk.outside c.write_whole.new.desk in
+    gives_one Report _ old new (subst (λ xs. Writes Report xs old new) (c.deref.ensures.value ∙ c.in-Ok.ensures) c.in-Ok-write_whole.ensures.ok)
+
+pub returns : goal.returns
+returns g c =
+    let old = g.D.Desk.outside c.args.desk.now in
+    let new = g.D.Desk.outside c.write_whole.new.desk in
+    give_fails Report _ old new refl (subst (λ xs. WritesPart Report xs old new) (c.deref.ensures.value ∙ c.in-Ok.ensures) c.in-Err-write_whole.ensures.err) c.in-Err-write_whole.ensures.cause

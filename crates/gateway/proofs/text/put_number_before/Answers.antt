@@ -1,9 +1,0 @@
-use Rattle.std.proofs.Common.{rules, arith, ◌<◌, ◌^◌, length, decimal}
-use Rattle.std.proofs.lemmas.Fmt.{length-decimal-le}
-use Rattle.gateway.proofs.text.put_number_before.Goals as goal
-
-pub write_digits-requires : goal.write_digits-requires
-write_digits-requires c = (omega (arith, length-decimal-le 20 c.args.number (omega arith) (omega arith) (omega arith)), c.requires.1)
-
-pub returns-clause-begin : goal.returns-clause-begin
-returns-clause-begin c = (omega (arith, c.write_digits.ensures.start, length-decimal-le 20 c.args.number (omega arith) (omega arith) (omega arith)), omega (arith, c.write_digits.ensures.start))
