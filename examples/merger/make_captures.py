@@ -2,41 +2,12 @@
 """Writes north.pcap and south.pcap: what each of the two firms sends to the gateway."""
 import os
 import struct
+import sys
+
+sys.path.insert(0, os.path.join(os.path.dirname(os.path.abspath(__file__)), "../../bench"))
+from datagrams import HEAD, icmp, quad, record, tcp, udp
 
 FIN, SYN, PSH, ACK = 1, 2, 8, 16
-HEAD = struct.pack("<IHHiIII", 0xA1B2C3D4, 2, 4, 0, 0, 262144, 101)
-
-
-def quad(text):
-    return bytes(int(part) for part in text.split("."))
-
-
-def checksum(octets):
-    octets += bytes(len(octets) % 2)
-    total = sum(struct.unpack(f">{len(octets) // 2}H", octets))
-    while total > 0xFFFF:
-        total = (total & 0xFFFF) + (total >> 16)
-    return total ^ 0xFFFF
-
-
-def datagram(protocol, source, destination, payload, place):
-    pseudo = b"" if protocol == 1 else quad(source) + quad(destination) + struct.pack(">BBH", 0, protocol, len(payload))
-    payload = payload[:place] + struct.pack(">H", checksum(pseudo + payload)) + payload[place + 2:]
-    head = struct.pack(">BBHHHBBH", 0x45, 0, 20 + len(payload), 1, 0, 64, protocol, 0) + quad(source) + quad(destination)
-    return head[:10] + struct.pack(">H", checksum(head)) + head[12:] + payload
-
-
-def udp(source, port, destination, far_port, payload):
-    return datagram(17, source, destination, struct.pack(">HHHH", port, far_port, 8 + len(payload), 0) + payload, 6)
-
-
-def icmp(source, destination, kind, code, rest):
-    return datagram(1, source, destination, struct.pack(">BBH", kind, code, 0) + rest, 2)
-
-
-def tcp(source, port, destination, far_port, flags, sequence, acknowledgement, payload=b""):
-    header = struct.pack(">HHIIBBHHH", port, far_port, sequence, acknowledgement, 0x50, flags, 8192, 0, 0)
-    return datagram(6, source, destination, header + payload, 16)
 
 
 def name(text):
@@ -52,7 +23,7 @@ class Captures:
 
     def add(self, realm, octets):
         self.moment += 1
-        self.frames[realm].append(struct.pack("<IIII", self.moment // 10, self.moment % 10 * 100000, len(octets), len(octets)) + octets)
+        self.frames[realm].append(record(self.moment // 10, self.moment % 10 * 100000, octets))
 
     def write(self, folder):
         for realm, frames in self.frames.items():

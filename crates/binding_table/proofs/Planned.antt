@@ -22,7 +22,7 @@ use Rattle.binding_table.specs.Steps.{given_image, next_alias, planned_by}
 use Rattle.binding_table.specs.declared.binding.Binding.{Binding}
 use Rattle.binding_table.specs.declared.binding.Crossing.{Crossing}
 use Rattle.binding_table.specs.declared.binding.Crossing.TheVariants.{Same, Known, New, Unbound, Empty}
-use Rattle.binding_table.specs.Bindings.{Bindings, is_same, is_of_host, is_of_alias, is_used, in_pool, range_of, pool_with, pool_of, alias_of, host_of, known_or, new_or_empty, cross, seen_by, with_binding, extended, extend_through}
+use Rattle.binding_table.specs.Bindings.{is_settled, Bindings, is_same, is_of_host, is_of_alias, is_used, in_pool, range_of, pool_with, pool_of, alias_of, host_of, known_or, new_or_empty, cross, seen_by, with_binding, extended, extend_through}
 use Rattle.binding_table.specs.Plan.{images_after, Use, used, used_by, after_uses, unless_same, image_after, needs_binding, is_address, is_among, is_fresh, fresh_after}
 use Rattle.binding_table.proofs.Pools.{IsLone, numbers, other_other, same_side-itself, used_elsewhere, used_alias, free_parts, free_alias}
 use Rattle.binding_table.proofs.Kept.{used_map, IsSamePair, same_pair, same_aliasing, pool_map}
@@ -41,12 +41,6 @@ cross_is table side address = refl
 
 same_crossed : (s s' p p' : Bool) (h h' : Option Addr) (f f' : Addresses) (a a' : Option Addr) → s ≡ s' → p ≡ p' → h ≡ h' → f ≡ f' → a ≡ a' → crossed s p h f a ≡ crossed s' p' h' f' a'
 same_crossed s s' p p' h h' f f' a a' q r t u v = cc
-
--- the address crosses unchanged or to a known one
-abbrev pub is_settled : Crossing → Bool
-is_settled Same = true
-is_settled (Known image) = true
-is_settled _ = false
 
 -- the image that a crossing gives
 abbrev pub image_of : Crossing → Option Addr

@@ -129,6 +129,12 @@ seen_by address Same = Some address
 seen_by address (Known image) = Some image
 seen_by address _ = None
 
+-- whether an address goes on by one that it has already
+abbrev pub is_settled : Crossing → Bool
+is_settled Same = true
+is_settled (Known image) = true
+is_settled _ = false
+
 -- what an address of the realm is called in the other realm by the bindings of the table alone
 abbrev pub seen : Bindings → Side → Addr → Option Addr
 seen table side address = seen_by address (cross table side address)

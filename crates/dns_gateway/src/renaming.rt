@@ -147,7 +147,7 @@ pub fn rename(
 ) -> Result<Message, OutOfMemory>
     requires { length images.now ≡ length (message_addresses message.now) }
     ensures renamed { IfOk result (λ renamed. renamed ≡ message_renamed images.now message.now) }
-    // What could be written can be written.
+    // It keeps the form that a message needs to be written.
     ensures suits { MessageSuits message.now → IfOk result MessageSuits }
 {
     let (question, place) = rename_question(alloc, &message.question, images)?;

@@ -1,7 +1,7 @@
 use super::{addresses_of, rename, reply};
 use dns_messages::read_message;
 use gate_base::Addr;
-use std::alloc::Global;
+use std::alloc::{AllocError, Global};
 use std::test::Fail;
 
 /// Messages, and what is sent for each.
@@ -55,6 +55,24 @@ const LONG: &[u8] =
 const CUT: &[u8] =
     b"\0\x02\x83\x80\0\x01\0\0\0\0\0\0\x011\x03200\x03168\x03192\x07in-addr\x04arpa\0\0\x0c\0\x01";
 
+/// The reply for a message that would be too long: its header alone.
+const TRUNCATED: &[u8] = b"\0\x03\x83\x80\0\0\0\0\0\0\0\0";
+
+/// An answer whose 300 names stand in other data, so that each is written whole: more than 65,535 octets.
+fn too_long(alloc: Global) -> Result<Vec<u8>, AllocError> {
+    let mut octets = Vec::from_slice(alloc, b"\0\x03\x81\x80\0\0\x01\x2d\0\0\0\0")?;
+    octets.extend_from_slice(b"\0\0\x10\0\x01\0\0\0\0\x40\x74")?;
+    for count in [63u8, 63, 63, 61] {
+        octets.push(count)?;
+        octets.resize(octets.len() + usize::from(count), b'a')?;
+    }
+    octets.resize(16_523, 0)?;
+    for _ in 0..300 {
+        octets.extend_from_slice(b"\xc0\x17\0\x01\0\x01\0\0\0\0\0\0")?;
+    }
+    Ok(octets)
+}
+
 fn image(address: &Addr) -> Option<Addr> {
     match address.0 {
         0x0a00_0005 => Some(Addr(0xc0a8_c801)),
@@ -84,5 +102,7 @@ fn known_replies(rt: HostRuntime) -> Result<(), Fail> {
     octets.resize(512, 7)?;
     let reply = sent(alloc, &octets).unwrap_or(Vec::new(alloc));
     assert!(rt; reply.as_slice() == CUT);
+    let reply = sent(alloc, &too_long(alloc)?).unwrap_or(Vec::new(alloc));
+    assert!(rt; reply.as_slice() == TRUNCATED);
     Ok(())
 }

@@ -1,4 +1,4 @@
--- Which messages can be written, and what is known of each message.
+-- The form that a message needs to be written, and what is known of each message.
 use Rattle.std.specs.Prelude.{◌≡◌, ◌<◌, ◌^◌, [], length, ◌⊎◌, IfSome}
 use Rattle.std.specs.List.{AllByRecursion}
 use Rattle.dns_names.specs.Names.{IsName}

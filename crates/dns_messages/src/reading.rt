@@ -290,7 +290,7 @@ pub fn read_message(alloc: Global, octets: &[u8]) -> Result<Message, NameStop>
     ensures found { IfOk result (λ m. IsMessage octets.now m) }
     ensures none { result ≡ Err NameStop.BadDns → (m : Message) → IsMessage octets.now m → ⊥ }
     ensures exact { Gives (λ m. m) result (message_at octets.now) }
-    // It can be written.
+    // It has the form that a message needs to be written.
     ensures suits { IfOk result MessageSuits }
 {
     let reader = NameReader::of(alloc, octets)?;

@@ -3,7 +3,7 @@ use Rattle.std.specs.Prelude.{ℕ, List, codes}
 use Rattle.gate_base.specs.declared.event.Verdict.{Verdict}
 use Rattle.gate_base.specs.declared.event.Verdict.TheVariants.{Pass, Refused}
 use Rattle.gate_base.specs.declared.refusal.Refusal.{Refusal}
-use Rattle.gate_base.specs.declared.refusal.Refusal.TheVariants.{Snapped, NotIpv4, BadHeader, BadHeaderSum, Fragment, IpOptions, TtlSpent, NotUnicast, Protocol, BadTransport, BadSum, SourceInPool, NoBinding, BadInner, InnerUnbound, BadDns, DnsUnbound, BadSnmp, DnsStream, NoSession, SynData, SynInSession, NoAck, Gap, PastEnd, AckAhead, Unlike, StreamLimit, Backlog, SessionsFull, PoolEmpty}
+use Rattle.gate_base.specs.declared.refusal.Refusal.TheVariants.{Snapped, NotIpv4, BadHeader, BadHeaderSum, Fragment, IpOptions, BadFragment, FragmentsFull, TtlSpent, NotUnicast, Protocol, BadTransport, BadSum, SourceInPool, NoBinding, BadInner, InnerUnbound, BadDns, DnsUnbound, BadSnmp, DnsStream, NoSession, SynData, SynInSession, NoAck, Gap, PastEnd, AckAhead, Unlike, StreamLimit, Backlog, SessionsFull, PoolEmpty}
 
 -- the refusal's name
 unfoldable pub name_of : Refusal → List ℕ
@@ -13,6 +13,8 @@ name_of BadHeader = codes "BadHeader"
 name_of BadHeaderSum = codes "BadHeaderSum"
 name_of Fragment = codes "Fragment"
 name_of IpOptions = codes "IpOptions"
+name_of BadFragment = codes "BadFragment"
+name_of FragmentsFull = codes "FragmentsFull"
 name_of TtlSpent = codes "TtlSpent"
 name_of NotUnicast = codes "NotUnicast"
 name_of Protocol = codes "Protocol"

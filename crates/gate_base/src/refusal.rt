@@ -15,6 +15,10 @@ pub enum Refusal {
     Fragment,
     /// The IPv4 header has options.
     IpOptions,
+    /// A fragment that contradicts itself or those held of its datagram, while fragments are joined (RFC 791, 3.2).
+    BadFragment,
+    /// A fragment of another datagram, while as many are being joined as may be.
+    FragmentsFull,
     /// The lifetime is 0 or 1.
     TtlSpent,
     /// Source or destination is no host's address.
@@ -37,7 +41,7 @@ pub enum Refusal {
     BadDns,
     /// An address in a DNS message lies in the pool and stands for no host.
     DnsUnbound,
-    /// The payload of an SNMP port is no SNMP message (RFC 1157).
+    /// The payload of an SNMP port is no SNMP message (RFC 1157, 3416).
     BadSnmp,
     /// DNS over TCP.
     DnsStream,
@@ -82,6 +86,8 @@ impl Refusal {
             Refusal::BadHeaderSum => "BadHeaderSum",
             Refusal::Fragment => "Fragment",
             Refusal::IpOptions => "IpOptions",
+            Refusal::BadFragment => "BadFragment",
+            Refusal::FragmentsFull => "FragmentsFull",
             Refusal::TtlSpent => "TtlSpent",
             Refusal::NotUnicast => "NotUnicast",
             Refusal::Protocol => "Protocol",

@@ -7,9 +7,8 @@ use Rattle.gate_base.specs.declared.event.OutOfMemory.{OutOfMemory}
 use Rattle.gate_base.specs.declared.event.Pair.{Pair}
 use Rattle.gate_base.specs.declared.refusal.Refusal.{Refusal}
 use Rattle.gate_base.specs.declared.side.Side.{Side}
-use Rattle.binding_table.specs.Bindings.{Bindings, cross}
+use Rattle.binding_table.specs.Bindings.{Bindings, cross, is_settled}
 use Rattle.binding_table.specs.Plan.{after_uses}
-use Rattle.binding_table.proofs.Planned.{is_settled}
 use Rattle.ipv4_frames.specs.Ipv4.{Datagram}
 use Rattle.tcp_segments.specs.Tcp.{Tcp}
 use Rattle.tcp_tracker.specs.Connections.{connection_of, has_rst, hold_of, short_hold, noted, without, changed, place_of, after}

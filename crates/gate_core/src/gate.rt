@@ -1,7 +1,6 @@
 // One event of the gate.
 ghost use Rattle.std.specs.Prelude.{◌≡◌, ◌*◌, ◌^◌, ◌<◌, ◌≤◌, ◌||◌, false, vec_capacity, ◌==◌, [], length, true, Ok, Err, IfOk, OnErr, OnOk};
-ghost use Rattle.binding_table.proofs.Planned.{is_settled};
-ghost use Rattle.binding_table.specs.Bindings.{in_pool};
+ghost use Rattle.binding_table.specs.Bindings.{in_pool, is_settled};
 ghost use Rattle.twice_translate.specs.Renamed.{CanGoOn, datagram_of};
 ghost use Rattle.gate_world.specs.Frame as kinds;
 ghost use Rattle.gate_world.specs.World.{World, opening_world, at_moment};
@@ -24,7 +23,9 @@ ghost use Rattle.gate_world.specs.Verdict.{tests, verdict, verdict_of, world_tes
 
 use crate::stream::{Segment, take_segment};
 use binding_table::Table;
-use gate_base::{Event, Moment, OutOfMemory, Refusal, Side, Verdict};
+use gate_base::{
+    DNS_PORT, Event, Moment, OutOfMemory, Refusal, SNMP_PORT, Side, TRAP_PORT, Verdict,
+};
 use gate_frames::{Content, Judged, judge};
 use gate_outbox::Outbox;
 use gate_payloads::{
@@ -36,13 +37,6 @@ use session_table::SessionTable;
 use std::alloc::Global;
 use std::marker::Model;
 use udp_icmp::{IcmpView, UdpView};
-
-/// The port of DNS, and those of SNMP and its traps.
-const DNS_PORT: u16 = 53;
-
-const SNMP_PORT: u16 = 161;
-
-const TRAP_PORT: u16 = 162;
 
 /// The most sessions that live at once.
 const SESSIONS: usize = 4_096;

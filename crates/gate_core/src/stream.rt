@@ -1,6 +1,6 @@
 // TCP segments, their connections and their sessions.
 ghost use Rattle.std.specs.Prelude.{◌≡◌, ◌+◌, ◌*◌, ◌^◌, ◌<◌, ◌≤◌, ◌||◌, ◌&&◌, ◌++◌, not, nat_le, vec_capacity, ◌==◌, [], ◌∷◌, length, true, false, None, Some, Ok, IfOk, OnErr, OnOk, IsSome, is_none, count_by, if◌then◌else◌};
-ghost use Rattle.binding_table.proofs.Planned.{is_settled};
+ghost use Rattle.binding_table.specs.Bindings.{is_settled};
 ghost use Rattle.binding_table.specs.Plan.{after_uses};
 ghost use Rattle.twice_translate.specs.Renamed.{CanGoOn, datagram_of, renamed};
 ghost use Rattle.ipv4_frames.specs.Ipv4.{Datagram};
@@ -24,7 +24,7 @@ ghost use Rattle.gate_world.specs.Verdict.{kind_tests, is_pool_empty, uses_until
 
 use binding_table::Table;
 use ftp_lines::{ClientLines, ServerLines};
-use gate_base::{OutOfMemory, Pair, Refusal, get_u16};
+use gate_base::{CONTROL_PORT, DNS_PORT, OutOfMemory, Pair, Refusal, get_u16};
 use gate_outbox::Outbox;
 use gate_payloads::{TrackedSession, Way, key_of, lacks_alias, pass_plain};
 use ipv4_frames::IpView;
@@ -35,11 +35,6 @@ use stream_gate::StreamGate;
 use stream_model::flags_of;
 use tcp_segments::TcpView;
 use tcp_tracker::ConnKey;
-
-/// The ports of DNS, and of the control connections of FTP.
-const DNS_PORT: u16 = 53;
-
-const CONTROL_PORT: u16 = 21;
 
 /// The most connections and the most sessions that live at once.
 const CONNECTIONS: usize = 65_536;

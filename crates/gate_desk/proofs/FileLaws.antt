@@ -6,7 +6,7 @@ use Rattle.gate_desk.specs.declared.slot.PerSlot.{PerSlot}
 use Rattle.gate_desk.specs.Slots.{at, put}
 use Rattle.gate_desk.specs.Outside.{Starts, Takes, Writes, AreNext, IsAtEnd, wrote, took, told_at, started}
 use Rattle.gate_desk.specs.Untold.{untold}
-use Rattle.gate_desk.specs.Memory.{raised}
+use Rattle.gate_desk.specs.Counts.{raised}
 use Rattle.gate_desk.proofs.Laws.{rises_not}
 use Rattle.gate_desk.proofs.MemoryLaws.{rises_one}
 

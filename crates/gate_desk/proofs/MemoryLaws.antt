@@ -6,7 +6,8 @@ use Rattle.gate_desk.specs.declared.slot.Way.{Way}
 use Rattle.gate_desk.specs.declared.slot.PerSlot.{PerSlot}
 use Rattle.gate_desk.specs.Slots.{at, put}
 use Rattle.gate_desk.specs.Outside.{Start, Starts, FailsToStart, Takes, Writes, Rises, AreNext, IsAtEnd, wrote, took, told_at, started}
-use Rattle.gate_desk.specs.Memory.{Memory, told_of, raised}
+use Rattle.gate_desk.specs.Counts.{raised}
+use Rattle.gate_desk.specs.Memory.{Memory, told_of}
 use Rattle.gate_desk.proofs.Laws.{at-put, rises_not, wrote-nil, took-none}
 
 pub rises_one : (s : Slot) (a b : PerSlot ℕ) → b ≡ put a s (raised (at a s)) → Rises s a b

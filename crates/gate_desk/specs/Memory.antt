@@ -1,5 +1,5 @@
 -- A desk in memory, as its callers see it.
-use Rattle.std.specs.Prelude.{ℕ, ◌+◌, ◌-◌, ◌^◌, List, [], Some, length, min, max}
+use Rattle.std.specs.Prelude.{ℕ, ◌+◌, List, [], Some, length}
 use Rattle.gate_desk.specs.declared.slot.PerSlot.{PerSlot}
 use Rattle.gate_desk.specs.Outside.{Outside, Start}
 
@@ -22,13 +22,14 @@ total p = length p.settings + length p.left_in + length p.right_in + length p.le
 abbrev pub each : {A : Type 0} → A → PerSlot A
 each x = record { settings = x; left_in = x; right_in = x; left_out = x; right_out = x; report = x; errors = x }
 
-abbrev pub raised : ℕ → ℕ
-raised n = max n (min (n + 1) (2 ^ 64 - 1))
+-- settings and two captures to be read
+abbrev pub inputs : List ℕ → List ℕ → List ℕ → PerSlot (List ℕ)
+inputs settings left right = record { settings = settings; left_in = left; right_in = right; left_out = []; right_out = []; report = []; errors = [] }
 
 -- these octets to be read, nothing written, no start and no fault
 abbrev pub opening : List ℕ → List ℕ → List ℕ → Memory
 opening settings left right = record {
-  left = record { settings = settings; left_in = left; right_in = right; left_out = []; right_out = []; report = []; errors = [] };
+  left = inputs settings left right;
   written = each [];
   starts = [];
   faults = each 0;

@@ -1,6 +1,7 @@
 // A desk of which some calls fail.
 ghost use Rattle.std.specs.Prelude.{◌≡◌, ◌+◌, ◌-◌, ◌<◌, ◌≤◌, ◌^◌, ◌↔◌, ◌⊎◌, [], IsTrue, IsErr, IfOk, OnOk, OnErr, Contains, min, take, length};
 ghost use Rattle.gate_desk.specs.Slots.{at};
+ghost use Rattle.gate_desk.specs.Counts.{counts_after};
 ghost use Rattle.gate_desk.specs.Memory.{total};
 ghost use Rattle.gate_desk.specs.Counted.{IsListed, counted, told_by};
 ghost use Rattle.gate_desk.specs.Outside.{names_size, Starts, FailsToStart, Takes, AreNext, IsAtEnd, Writes, HasFailed};
@@ -71,6 +72,8 @@ impl Desk for CountedDesk {
         ensures err { OnErr result (FailsToStart slot (told_by self.old) (told_by self.new)) }
         ensures exact { IsErr result ↔ (IsListed self.old ⊎ (2 ^ 16 < names_size self.old.inner.starts + length name.now + 3)) }
         ensures calls { self.new.calls ≡ (counted self.old).calls }
+        ensures list { self.new.failing ≡ self.old.failing }
+        ensures counts { self.new.inner.start_faults ≡ counts_after result slot self.old.inner.start_faults }
     {
         if self.next_call() {
             self.inner.fail_start(slot);
@@ -89,6 +92,8 @@ impl Desk for CountedDesk {
         ensures cause { OnErr result (HasFailed slot (told_by self.old) (told_by self.new)) }
         ensures exact { IsErr result ↔ IsListed self.old }
         ensures calls { self.new.calls ≡ (counted self.old).calls }
+        ensures list { self.new.failing ≡ self.old.failing }
+        ensures counts { self.new.inner.faults ≡ counts_after result slot self.old.inner.faults }
     {
         if self.next_call() {
             self.inner.fail_call(slot);
@@ -106,6 +111,8 @@ impl Desk for CountedDesk {
         ensures cause { OnErr result (HasFailed slot (told_by self.old) (told_by self.new)) }
         ensures exact { IsErr result ↔ (IsListed self.old ⊎ (2 ^ 26 < total self.old.inner.written + length piece.now)) }
         ensures calls { self.new.calls ≡ (counted self.old).calls }
+        ensures list { self.new.failing ≡ self.old.failing }
+        ensures counts { self.new.inner.faults ≡ counts_after result slot self.old.inner.faults }
     {
         if self.next_call() {
             self.inner.fail_call(slot);

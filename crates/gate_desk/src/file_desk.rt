@@ -1,5 +1,6 @@
 // A desk over real files: the trusted edge of the program.
-ghost use Rattle.std.specs.Prelude.{◌≡◌, ◌<◌, ◌≤◌, length, IfOk};
+ghost use Rattle.std.specs.Prelude.{◌≡◌, ◌<◌, ◌≤◌, [], length, take, IfOk, OnOk, OnErr};
+ghost use Rattle.gate_desk.specs.Counts.{counts_after};
 ghost use Rattle.gate_desk.specs.Memory.{each};
 
 use crate::per_slot::{no_counts, raise};
@@ -188,11 +189,16 @@ impl<R: Runtime> FileDesk<R> {
 }
 
 impl<R: Runtime> Desk for FileDesk<R> {
+    ghost use Rattle.gate_desk.specs.Outside.{Starts, FailsToStart, Takes, AreNext, IsAtEnd, Writes, HasFailed};
     ghost use Rattle.gate_desk.specs.Untold.{told_by};
 
     ghost outside = { told_by };
 
-    fn start(&mut self, slot: Slot, name: &str, way: Way) -> Result<(), Failed> {
+    fn start(&mut self, slot: Slot, name: &str, way: Way) -> Result<(), Failed>
+        ensures ok { OnOk result (Starts slot name.now way (told_by self.old) (told_by self.new)) }
+        ensures err { OnErr result (FailsToStart slot (told_by self.old) (told_by self.new)) }
+        ensures counts { self.new.start_faults ≡ counts_after result slot self.old.start_faults }
+    {
         match open_place(&self.rt, slot, name, way) {
             Ok(place) => {
                 set_place(&mut self.places, slot, place);
@@ -205,7 +211,15 @@ impl<R: Runtime> Desk for FileDesk<R> {
         }
     }
 
-    fn read(&mut self, slot: Slot, buffer: &mut [u8]) -> Result<usize, Failed> {
+    fn read(&mut self, slot: Slot, buffer: &mut [u8]) -> Result<usize, Failed>
+        ensures fits { IfOk result (λ n. n ≤ length buffer.new) }
+        ensures ok { IfOk result (λ n. Takes slot n (told_by self.old) (told_by self.new)) }
+        ensures octets { IfOk result (λ n. AreNext (take n buffer.new) (told_by self.old) slot) }
+        ensures end { IfOk result (λ n. n ≡ 0 → 0 < length buffer.old → IsAtEnd (told_by self.old) slot) }
+        ensures err { OnErr result (Takes slot 0 (told_by self.old) (told_by self.new)) }
+        ensures cause { OnErr result (HasFailed slot (told_by self.old) (told_by self.new)) }
+        ensures counts { self.new.faults ≡ counts_after result slot self.old.faults }
+    {
         match read_slot(&mut self.places, slot, buffer) {
             Ok(n) => Ok(n),
             Err(e) => {
@@ -215,7 +229,14 @@ impl<R: Runtime> Desk for FileDesk<R> {
         }
     }
 
-    fn write(&mut self, slot: Slot, piece: &[u8]) -> Result<usize, Failed> {
+    fn write(&mut self, slot: Slot, piece: &[u8]) -> Result<usize, Failed>
+        ensures fits { IfOk result (λ n. n ≤ length piece.now) }
+        ensures some { IfOk result (λ n. 0 < length piece.now → 0 < n) }
+        ensures ok { IfOk result (λ n. Writes slot (take n piece.now) (told_by self.old) (told_by self.new)) }
+        ensures err { OnErr result (Writes slot [] (told_by self.old) (told_by self.new)) }
+        ensures cause { OnErr result (HasFailed slot (told_by self.old) (told_by self.new)) }
+        ensures counts { self.new.faults ≡ counts_after result slot self.old.faults }
+    {
         match write_slot(&self.rt, &mut self.places, slot, piece) {
             Ok(n) => Ok(n),
             Err(e) => {

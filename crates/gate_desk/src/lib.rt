@@ -1,8 +1,9 @@
-//! The outside as the program sees it: seven slots that are started, read and written, and three desks that hold them.
+//! The outside as the program sees it: seven slots that are started, read and written, and four desks that hold them.
 #![tactic(auto)]
 
 mod counted_desk;
 mod desk;
+mod discarding_desk;
 mod file_desk;
 mod log;
 mod memory;
@@ -13,6 +14,7 @@ mod whole;
 
 pub use counted_desk::CountedDesk;
 pub use desk::{Desk, Failed};
+pub use discarding_desk::DiscardingDesk;
 pub use file_desk::FileDesk;
 pub use memory_desk::MemoryDesk;
 pub use slot::{PerSlot, Slot, Way};

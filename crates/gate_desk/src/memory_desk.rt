@@ -1,12 +1,13 @@
 // A desk in memory.
 ghost use Rattle.std.specs.Prelude.{◌≡◌, ◌+◌, ◌^◌, ◌<◌, ◌≤◌, ◌↔◌, [], Some, take, IfOk, OnOk, OnErr, IsOk, IsErr, length};
 ghost use Rattle.gate_desk.specs.Slots.{at, put};
-ghost use Rattle.gate_desk.specs.Memory.{each, total, told_of, raised};
+ghost use Rattle.gate_desk.specs.Counts.{raised, counts_after};
+ghost use Rattle.gate_desk.specs.Memory.{each, total, told_of};
 ghost use Rattle.gate_desk.specs.Outside.{names_size, Starts, FailsToStart, Takes, AreNext, IsAtEnd, Writes, HasFailed};
 
 use crate::log::StartLog;
 use crate::memory::{Sink, Source};
-use crate::per_slot::{no_counts, octets_of, push_to, raise, take_from, total_of};
+use crate::per_slot::{inputs, no_counts, octets_of, push_to, raise, take_from, total_of};
 use crate::{Desk, Failed, PerSlot, Slot, Way};
 use gate_base::OutOfMemory;
 use std::alloc::Global;
@@ -48,15 +49,7 @@ impl MemoryDesk {
     ) -> Result<MemoryDesk, OutOfMemory>
         ensures { IfOk result (λ d. d ≡ opening settings.items left.items right.items) }
     {
-        let left = PerSlot {
-            settings: Source::new(settings),
-            left_in: Source::new(left),
-            right_in: Source::new(right),
-            left_out: Source::new(Vec::new(alloc)),
-            right_out: Source::new(Vec::new(alloc)),
-            report: Source::new(Vec::new(alloc)),
-            errors: Source::new(Vec::new(alloc)),
-        };
+        let left = inputs(alloc, settings, left, right);
         let written = PerSlot {
             settings: Sink::new(alloc)?,
             left_in: Sink::new(alloc)?,
@@ -103,6 +96,7 @@ impl Desk for MemoryDesk {
         ensures ok { OnOk result (Starts slot name.now way (told_of self.old) (told_of self.new)) }
         ensures err { OnErr result (FailsToStart slot (told_of self.old) (told_of self.new)) }
         ensures exact { IsErr result ↔ (2 ^ 16 < names_size self.old.starts + length name.now + 3) }
+        ensures counts { self.new.start_faults ≡ counts_after result slot self.old.start_faults }
     {
         if name.len() > NAMES_LIMIT || self.log.size() + name.len() + 3 > NAMES_LIMIT {
             raise(&mut self.start_faults, slot);
@@ -121,6 +115,7 @@ impl Desk for MemoryDesk {
         ensures err { OnErr result (Takes slot 0 (told_of self.old) (told_of self.new)) }
         ensures cause { OnErr result (HasFailed slot (told_of self.old) (told_of self.new)) }
         ensures exact { IsOk result }
+        ensures counts { self.new.faults ≡ self.old.faults }
     {
         Ok(take_from(&mut self.left, slot, buffer))
     }
@@ -133,6 +128,7 @@ impl Desk for MemoryDesk {
         ensures err { OnErr result (Writes slot [] (told_of self.old) (told_of self.new)) }
         ensures cause { OnErr result (HasFailed slot (told_of self.old) (told_of self.new)) }
         ensures exact { IsErr result ↔ (2 ^ 26 < total self.old.written + length piece.now) }
+        ensures counts { self.new.faults ≡ counts_after result slot self.old.faults }
     {
         if piece.len() > WRITTEN_LIMIT || total_of(&self.written) + piece.len() > WRITTEN_LIMIT {
             raise(&mut self.faults, slot);

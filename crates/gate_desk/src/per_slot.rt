@@ -1,10 +1,27 @@
 // Work on one slot of seven.
 ghost use Rattle.std.specs.Prelude.{◌≡◌, ◌+◌, ◌-◌, ◌^◌, ◌*◌, ◌≤◌, ◌++◌, length, min, take, drop};
 ghost use Rattle.gate_desk.specs.Slots.{at, put};
-ghost use Rattle.gate_desk.specs.Memory.{total, raised, each};
+ghost use Rattle.gate_desk.specs.Counts.{raised};
+ghost use Rattle.gate_desk.specs.Memory.{total, each, inputs};
 
 use crate::memory::{Sink, Source};
 use crate::{PerSlot, Slot};
+use std::alloc::Global;
+
+/// Settings and two captures to be read.
+pub fn inputs(alloc: Global, settings: Vec<u8>, left: Vec<u8>, right: Vec<u8>) -> PerSlot<Source>
+    ensures { result ≡ inputs settings.items left.items right.items }
+{
+    PerSlot {
+        settings: Source::new(settings),
+        left_in: Source::new(left),
+        right_in: Source::new(right),
+        left_out: Source::new(Vec::new(alloc)),
+        right_out: Source::new(Vec::new(alloc)),
+        report: Source::new(Vec::new(alloc)),
+        errors: Source::new(Vec::new(alloc)),
+    }
+}
 
 pub fn take_from(left: &mut PerSlot<Source>, slot: Slot, buffer: &mut [u8]) -> usize
     ensures count { result ≡ min (length buffer.old) (length (at left.old slot)) }

@@ -8,17 +8,10 @@ ghost use Rattle.gate_world.specs.Frame as frame;
 ghost use Rattle.gate_frames.specs.Judged.{ip_refusal, transport_refusal, judged, Carries};
 
 use ether_frames::EtherView;
-use gate_base::{Event, Link, Refusal, is_unicast};
+use gate_base::{Event, ICMP, Link, Refusal, TCP, UDP, is_unicast};
 use ipv4_frames::{IpFault, IpView, TransportFault};
 use tcp_segments::TcpView;
 use udp_icmp::{IcmpView, UdpView};
-
-/// The protocol numbers of ICMP, TCP and UDP (RFC 791, 3.1).
-const ICMP: u8 = 1;
-
-const TCP: u8 = 6;
-
-const UDP: u8 = 17;
 
 /// The type of Ethernet frames that carry IPv4 (RFC 894).
 const IPV4: u16 = 0x0800;

@@ -2,10 +2,10 @@
 use Rattle.std.proofs.Common.{◌≡◌, true, sym, ap, ◌∙◌}
 use Rattle.gate_base.specs.declared.address.Addr.{Addr}
 use Rattle.gate_base.specs.declared.side.Side.{Side}
-use Rattle.binding_table.specs.Bindings.{Bindings, cross}
+use Rattle.binding_table.specs.Bindings.{Bindings, cross, is_settled}
 use Rattle.binding_table.specs.Plan.{Use, used}
 use Rattle.binding_table.specs.declared.binding.Crossing.{Crossing}
-use Rattle.binding_table.proofs.Planned.{is_settled, settled_stays, used_follows}
+use Rattle.binding_table.proofs.Planned.{settled_stays, used_follows}
 
 -- a settled crossing stays after a use
 pub stays : (table : Bindings) (side : Side) (address : Addr) (one : Use) (crossing : Crossing) → crossing ≡ cross table side address → is_settled crossing ≡ true → crossing ≡ cross (used table side one) side address

@@ -4,9 +4,8 @@ use Rattle.gate_base.specs.declared.address.Addr.{Addr}
 use Rattle.gate_base.specs.declared.refusal.Refusal.{Refusal}
 use Rattle.gate_base.specs.declared.refusal.Refusal.TheVariants.{PoolEmpty}
 use Rattle.gate_base.specs.declared.side.Side.{Side}
-use Rattle.binding_table.specs.Bindings.{Bindings, cross}
+use Rattle.binding_table.specs.Bindings.{Bindings, cross, is_settled}
 use Rattle.binding_table.specs.Plan.{Use, after_uses}
-use Rattle.binding_table.proofs.Planned.{is_settled}
 use Rattle.ipv4_frames.specs.Ipv4.{Datagram}
 use Rattle.twice_translate.specs.Renamed.{renamed}
 use Rattle.gate_base.specs.Tests.{first_that_holds}

@@ -13,10 +13,9 @@ use Rattle.gate_base.specs.declared.event.Moment.{Moment}
 use Rattle.gate_base.specs.declared.side.Side.{Side}
 use Rattle.binding_table.specs.declared.binding.Crossing.{Crossing}
 use Rattle.binding_table.specs.declared.binding.Crossing.TheVariants.{Unbound}
-use Rattle.binding_table.specs.Bindings.{Bindings, cross, in_pool, free}
+use Rattle.binding_table.specs.Bindings.{Bindings, cross, in_pool, free, is_settled}
 use Rattle.binding_table.specs.Plan.{Use, used, after_uses, image_after, images_after, needed, needs_binding}
 use Rattle.binding_table.proofs.Fresh.{fresh_cons}
-use Rattle.binding_table.proofs.Planned.{is_settled}
 use Rattle.dns_messages.specs.declared.message.Message.{Message}
 use Rattle.ipv4_frames.specs.Ipv4.{Datagram, total_length_of}
 use Rattle.ipv4_frames.proofs.Items.{items, front_items}

@@ -14,11 +14,11 @@ use Rattle.realm_pools.specs.Addresses.{least_free}
 use Rattle.binding_table.specs.declared.binding.Binding.{Binding}
 use Rattle.binding_table.specs.declared.binding.Crossing.{Crossing}
 use Rattle.binding_table.specs.declared.binding.Crossing.TheVariants.{Same, Known, New, Unbound, Empty}
-use Rattle.binding_table.specs.Bindings.{Bindings, is_same, in_pool, is_of_host, alias_of, host_of, pool_of, free, cross, seen, seen_by, known_or, new_or_empty, with_binding, extended, IsNew}
+use Rattle.binding_table.specs.Bindings.{Bindings, is_same, in_pool, is_of_host, alias_of, host_of, pool_of, free, cross, seen, seen_by, known_or, new_or_empty, with_binding, extended, IsNew, is_settled}
 use Rattle.binding_table.specs.Plan.{Use, used, used_by, needed, needs_binding}
 use Rattle.binding_table.proofs.Pools.{same_side-itself}
 use Rattle.binding_table.proofs.Bind.{HasNoBinding, unbound_of}
-use Rattle.binding_table.proofs.Planned.{is_settled, settled_stays, extended_follows, used_follows, flags_free}
+use Rattle.binding_table.proofs.Planned.{settled_stays, extended_follows, used_follows, flags_free}
 use Rattle.gate_world.specs.Verdict.{is_reachable}
 use Rattle.gate_world.specs.World.{called}
 use Rattle.gate_world.proofs.BoundTables.{new_is_least}

@@ -3,8 +3,7 @@ use Rattle.std.specs.Prelude.{◌≡◌, ℕ, false, true, List, [], ◌∷◌, 
 use Rattle.gate_base.specs.declared.refusal.Refusal.{Refusal}
 use Rattle.gate_base.specs.declared.refusal.Refusal.TheVariants.{PoolEmpty}
 use Rattle.gate_base.specs.declared.side.Side.{Side}
-use Rattle.binding_table.specs.Bindings.{Bindings, in_pool}
-use Rattle.binding_table.proofs.Planned.{is_settled}
+use Rattle.binding_table.specs.Bindings.{Bindings, in_pool, is_settled}
 use Rattle.ipv4_frames.specs.Ipv4.{Datagram}
 use Rattle.gate_base.specs.Tests.{first_that_holds}
 use Rattle.gate_world.specs.Frame.{Kind}

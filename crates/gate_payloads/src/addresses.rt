@@ -1,9 +1,8 @@
 // The addresses of a datagram: what they are called in the other realm, and what a use of them changes.
 ghost use Rattle.std.specs.Prelude.{◌≡◌, ◌+◌, ◌*◌, ◌^◌, ◌<◌, ◌≤◌, [], ◌∷◌, None, nat_lt, true};
 ghost use Rattle.gate_base.specs.Side.{other};
-ghost use Rattle.binding_table.specs.Bindings.{cross, seen, free};
+ghost use Rattle.binding_table.specs.Bindings.{cross, seen, free, is_settled};
 ghost use Rattle.binding_table.specs.Plan.{used, used_by, after_uses, needed};
-ghost use Rattle.binding_table.proofs.Planned.{is_settled};
 ghost use Rattle.gate_base.specs.Tests.{first_that_holds};
 ghost use Rattle.gate_world.specs.Verdict.{is_reachable, uses_until};
 ghost use Rattle.gate_payloads.specs.Ways.{IsWay, image_by, is_empty, way_tests};

@@ -1,6 +1,6 @@
 // ICMP errors: the datagram inside, which came from the other realm and goes back.
 ghost use Rattle.std.specs.Prelude.{◌≡◌, ◌*◌, ◌^◌, ◌<◌, ◌≤◌, ◌==◌, true, false, [], drop, length};
-ghost use Rattle.binding_table.proofs.Planned.{is_settled};
+ghost use Rattle.binding_table.specs.Bindings.{is_settled};
 ghost use Rattle.twice_translate.specs.Renamed.{CanGoOn, datagram_of};
 ghost use Rattle.gate_world.specs.Frame as kinds;
 ghost use Rattle.gate_world.specs.Inner.{inner_number, is_unknown};
@@ -13,12 +13,10 @@ use crate::addresses::{Way, lacks_alias};
 use crate::plain::ICMP_HOLD;
 use crate::tracked::{TrackedSession, key_of};
 use binding_table::Table;
-use gate_base::{Addr, Refusal, Side};
+use gate_base::{Addr, Refusal, Side, TCP};
 use gate_outbox::Outbox;
 use icmp_errors::{Inner, inner_of};
 use session_table::SessionTable;
-
-const TCP: u8 = 6;
 
 /// The number that the sender of the datagram inside gave it, where a session tells; None inside that where the session sent
 /// no such number.

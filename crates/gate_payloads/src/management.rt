@@ -1,6 +1,6 @@
 // SNMP messages (RFC 2962).
 ghost use Rattle.std.specs.Prelude.{◌≡◌, ◌*◌, ◌^◌, ◌<◌, ◌≤◌, true, [], drop, length};
-ghost use Rattle.binding_table.proofs.Planned.{is_settled};
+ghost use Rattle.binding_table.specs.Bindings.{is_settled};
 ghost use Rattle.twice_translate.specs.Renamed.{CanGoOn, datagram_of};
 ghost use Rattle.gate_world.specs.Frame as kinds;
 ghost use Rattle.gate_world.specs.World.{World};

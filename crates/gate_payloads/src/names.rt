@@ -2,9 +2,8 @@
 ghost use Rattle.std.specs.Prelude.{◌≡◌, ◌≢◌, ◌+◌, ◌*◌, ◌^◌, ◌<◌, ◌≤◌, [], ◌∷◌, List, drop, length, map, option_map, unwrap_or, true, false, All, IfOk, IfSome, OnErr, is_some};
 ghost use Rattle.std.specs.List.{list_any};
 ghost use Rattle.gate_base.specs.Side.{other};
-ghost use Rattle.binding_table.specs.Bindings.{cross, in_pool, free};
+ghost use Rattle.binding_table.specs.Bindings.{cross, in_pool, free, is_settled};
 ghost use Rattle.binding_table.specs.Plan.{Use, needed, after_uses, images_after};
-ghost use Rattle.binding_table.proofs.Planned.{is_settled};
 ghost use Rattle.dns_gateway.specs.Addresses.{message_addresses};
 ghost use Rattle.dns_messages.specs.Reading.{message_at};
 ghost use Rattle.dns_messages.specs.Suits.{MessageSuits};

@@ -1,7 +1,7 @@
 // Datagrams of which only the header is renamed: other UDP, echoes, and segments that no session takes.
 ghost use Rattle.std.specs.Prelude.{◌≡◌, ◌+◌, ◌*◌, ◌^◌, ◌<◌, ◌≤◌, [], ◌∷◌, None, length, true};
 ghost use Rattle.binding_table.specs.Plan.{after_uses};
-ghost use Rattle.binding_table.proofs.Planned.{is_settled};
+ghost use Rattle.binding_table.specs.Bindings.{is_settled};
 ghost use Rattle.gate_base.specs.Tests.{first_that_holds};
 ghost use Rattle.twice_translate.specs.Renamed.{CanGoOn, datagram_of, renamed};
 ghost use Rattle.gate_base.specs.declared.refusal.Refusal.TheVariants.{PoolEmpty};

@@ -14,7 +14,7 @@ pub side_short : (side : Side) → length (name_of side) ≤ 5
 side_short Left = omega arith
 side_short Right = omega arith
 
-refusal_short : (r : Refusal) → length (refusal.name_of r) ≤ 12
+refusal_short : (r : Refusal) → length (refusal.name_of r) ≤ 13
 unfolding refusal.name_of
 refusal_short refusals.Snapped = omega arith
 refusal_short refusals.NotIpv4 = omega arith
@@ -22,6 +22,8 @@ refusal_short refusals.BadHeader = omega arith
 refusal_short refusals.BadHeaderSum = omega arith
 refusal_short refusals.Fragment = omega arith
 refusal_short refusals.IpOptions = omega arith
+refusal_short refusals.BadFragment = omega arith
+refusal_short refusals.FragmentsFull = omega arith
 refusal_short refusals.TtlSpent = omega arith
 refusal_short refusals.NotUnicast = omega arith
 refusal_short refusals.Protocol = omega arith
@@ -48,6 +50,6 @@ refusal_short refusals.Backlog = omega arith
 refusal_short refusals.SessionsFull = omega arith
 refusal_short refusals.PoolEmpty = omega arith
 
-pub verdict_short : (verdict : Verdict) → length (verdict_name verdict) ≤ 12
+pub verdict_short : (verdict : Verdict) → length (verdict_name verdict) ≤ 13
 verdict_short Pass = omega arith
 verdict_short (Refused r) = refusal_short r

@@ -8,15 +8,10 @@ ghost use Rattle.gate_workload.specs.Datagrams.{ip_model, udp_header, udp_datagr
 
 use crate::capture::{RECORD_HEAD, record_head};
 use crate::flow::Flow;
-use gate_base::{OutOfMemory, put_u16};
+use gate_base::{OutOfMemory, TCP, UDP, put_u16};
 use inet_sum::pseudo_sum;
 use ipv4_frames::put_head;
 use tcp_segments::put_segment;
-
-/// The protocol numbers of TCP and UDP.
-const TCP: u8 = 6;
-
-const UDP: u8 = 17;
 
 /// The octets of an IPv4 header and of a UDP header.
 const IP_HEAD: usize = 20;

@@ -25,6 +25,13 @@ impl Octets {
         Octets { items }
     }
 
+    /// The list itself.
+    pub fn into_vec(self) -> Vec<u8>
+        ensures { result.items ≡ self }
+    {
+        self.items
+    }
+
     /// The octets in their order.
     pub fn items(&self) -> &[u8]
         ensures { result.now ≡ self.now }

@@ -13,9 +13,10 @@ use Rattle.gate_world.specs.Verdict.{verdict}
 use Rattle.gate_world.proofs.Related.{related_verdict, related_out, related_next, opening_related}
 use Rattle.kept_world.specs.Kept.{KeptSession, kept_rules, StandsFor}
 use Rattle.kept_world.proofs.Agreed.{agreed, pending_related}
+use Rattle.gate_report.specs.declared.line.Line.{Line}
 use Rattle.gateway.specs.declared.report.Totals.{Totals}
 use Rattle.gateway.specs.Pieces.{Piece}
-use Rattle.gateway.specs.Machine.{State, counted, opening, after_one, after, sent, event_piece, given_by, ended_by, last_line}
+use Rattle.gateway.specs.Machine.{State, counted, opening, after_one, after, sent, event_piece, given_by, ended_by, line_piece, done_line, line_after}
 
 -- the world of what is kept stands for the other, and both are counted alike
 pub record AreAlike (v : State KeptSession) (w : State Session) : Type 0 where
@@ -52,7 +53,9 @@ same_given settings v w e h =
     ∙ ap (λ (x : Verdict). gives w.totals x (out kept_rules v.world e)) (same_verdict v w e h)
     ∙ ap (gives w.totals (verdict whole_rules w.world e)) (same_out v w e h)
 
+pub same_line : (v : State KeptSession) (w : State Session) → AreAlike v w → done_line v.totals v.world.pending ≡ line_after w
+same_line v w h = ap (λ (t : Totals). done_line t v.world.pending) h.totals ∙ ap (done_line w.totals) (pending_related w.world v.world h.related)
+
 pub same_end : (settings : GateSettings) (v : State KeptSession) (w : State Session) (ending : Ending) → AreAlike v w → ended_by settings v ending ≡ ended_by settings w ending
-same_end settings v w Done h =
-    ap (λ (t : Totals). last_line settings.json t v.world.pending) h.totals ∙ ap (last_line settings.json w.totals) (pending_related w.world v.world h.related)
+same_end settings v w Done h = ap (λ (l : Line). line_piece settings.json l ∷ []) (same_line v w h)
 same_end settings v w (Fault side fault place) h = refl

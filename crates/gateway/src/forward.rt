@@ -4,46 +4,32 @@ ghost use Rattle.gate_desk.specs.declared.slot.Slot.TheVariants.{LeftIn, RightIn
 ghost use Rattle.gate_desk.specs.Outside.{CanRead, CanWrite, Grows};
 ghost use Rattle.pcap_merge.specs.Merge.{work, AtEnds};
 ghost use Rattle.gate_world.specs.World.{opening_world};
-ghost use Rattle.gateway.specs.Machine.{last_line};
 ghost use Rattle.gateway.specs.Phases.{Forwards, Finishes};
 
 use crate::Status;
 use crate::event::{LONGEST_FRAME, handle};
-use crate::report::{LINE, Totals, put_line};
+use crate::report::{LINE, Totals, last_line, put_line};
 use crate::stops::status_of_merge;
 use gate_core::{Gate, Outbox};
 use gate_desk::Desk;
 use gate_report::Line;
 use pcap_merge::Merge;
 
-/// Writes the last line of the report.
-fn finish<D: Desk>(
-    desk: &mut D,
-    text: &mut Vec<u8>,
-    json: bool,
-    totals: Totals,
-    pending: u64,
-) -> Status
+/// Writes the last line of the report, and answers it.
+fn finish<D: Desk>(desk: &mut D, text: &mut Vec<u8>, json: bool, line: Line) -> Result<Line, Status>
     requires can { CanWrite (D.outside desk.old) Report }
     requires room { LINE ≤ vec_capacity text.old }
-    requires passed { totals.passed ≤ totals.events }
-    ensures { Finishes result (last_line json totals pending) (D.outside desk.old) (D.outside desk.new) }
+    ensures answer { Finishes result json line (D.outside desk.old) (D.outside desk.new) }
+    ensures room { LINE ≤ vec_capacity text.new }
 {
-    let line = Line::Done {
-        events: totals.events,
-        passed: totals.passed,
-        refused: totals.events - totals.passed,
-        to_left: totals.to_left,
-        to_right: totals.to_right,
-        pending,
-    };
     match put_line(desk, text, json, &line) {
-        Ok(()) => Status::Done,
-        Err(status) => status,
+        Ok(()) => Ok(line),
+        Err(status) => Err(status),
     }
 }
 
-/// Takes the events of both captures: the frames and the line of each are written before the next record is read.
+/// Takes the events of both captures: the frames and the line of each are written before the next record is read. It answers
+/// the last line of the report, once that is written.
 pub fn forward<D: Desk>(
     desk: &mut D,
     merge: &mut Merge,
@@ -51,7 +37,7 @@ pub fn forward<D: Desk>(
     outbox: &mut Outbox,
     room: &mut [u8],
     text: &mut Vec<u8>,
-) -> Status
+) -> Result<Line, Status>
     requires left_in { CanRead (D.outside desk.old) LeftIn }
     requires right_in { CanRead (D.outside desk.old) RightIn }
     requires left_out { CanWrite (D.outside desk.old) LeftOut }
@@ -66,6 +52,7 @@ pub fn forward<D: Desk>(
     ensures answer { Forwards result gate.old.settings merge.old (D.outside desk.old) (D.outside desk.new) }
     ensures starts { (D.outside desk.new).starts ≡ (D.outside desk.old).starts }
     ensures counts { Grows (D.outside desk.old) (D.outside desk.new) }
+    ensures room { LINE ≤ vec_capacity text.new }
 {
     let mut totals = Totals {
         events: 0,
@@ -76,14 +63,15 @@ pub fn forward<D: Desk>(
     'events: loop {
         let more = match merge.advance(desk) {
             Ok(more) => more,
-            Err(stop) => return status_of_merge(stop),
+            Err(stop) => return Err(status_of_merge(stop)),
         };
         if !more {
-            return finish(desk, text, gate.settings().json, totals, gate.pending());
+            let line = last_line(totals, gate.pending());
+            return finish(desk, text, gate.settings().json, line);
         }
         match handle(desk, gate, outbox, room, text, totals, merge.event()) {
             Ok(next) => totals = next,
-            Err(status) => return status,
+            Err(status) => return Err(status),
         }
     }
 }

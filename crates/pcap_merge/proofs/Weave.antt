@@ -33,9 +33,9 @@ stop_given : (s side : Side) (f : CaptureFault) (place : ℕ) (p : Packet) → S
 stop_given s side f place p e = cc
 
 -- a left record that is given stands first on its side, and its stamp isn't greater than the next right one
-left_first : (left right : List Packet) (left_end right_end : CaptureEnding) (p : Packet) → turn_of (front_by left left_end) (front_by right right_end) ≡ Gives Left p → (left ≡ p ∷ without_first left) × ComesBefore Left p right
+left_first : (left right : List Packet) (left_end right_end : CaptureEnding) (p : Packet) → turn_of (front_by left left_end) (front_by right right_end) ≡ Gives Left p → (left ≡ p ∷ without_first left) × ComesBefore Left p right right_end
 left_first [] right left_end right_end p e = absurd (omega (arith, left_has_none (front_by right right_end) left_end p e))
-left_first (l ∷ left) [] left_end Whole p e = (ap (λ (t : Turn). given_or p t ∷ left) e, tt)
+left_first (l ∷ left) [] left_end Whole p e = (ap (λ (t : Turn). given_or p t ∷ left) e, refl)
 left_first (l ∷ left) [] left_end (CaptureEndsFaulty f place) p e = absurd (omega (arith, stop_given Right Left f place p e))
 left_first (l ∷ left) (r ∷ right) left_end right_end p e =
     elim (nat_le l.stamp r.stamp) as (λ b. nat_le l.stamp r.stamp ≡ b → cond b (Gives Left l) (Gives Right r) ≡ Gives Left p → (l ∷ left ≡ p ∷ left) × (p.stamp ≤ r.stamp)) [
@@ -44,9 +44,9 @@ left_first (l ∷ left) (r ∷ right) left_end right_end p e =
     ] refl e
 
 -- a right record that is given stands first on its side, and its stamp is smaller than the next left one
-right_first : (left right : List Packet) (left_end right_end : CaptureEnding) (p : Packet) → turn_of (front_by left left_end) (front_by right right_end) ≡ Gives Right p → (right ≡ p ∷ without_first right) × ComesBefore Right p left
+right_first : (left right : List Packet) (left_end right_end : CaptureEnding) (p : Packet) → turn_of (front_by left left_end) (front_by right right_end) ≡ Gives Right p → (right ≡ p ∷ without_first right) × ComesBefore Right p left left_end
 right_first left [] left_end right_end p e = absurd (omega (arith, right_has_none (front_by left left_end) right_end p e))
-right_first [] (r ∷ right) Whole right_end p e = (ap (λ (t : Turn). given_or p t ∷ right) e, tt)
+right_first [] (r ∷ right) Whole right_end p e = (ap (λ (t : Turn). given_or p t ∷ right) e, refl)
 right_first [] (r ∷ right) (CaptureEndsFaulty f place) right_end p e = absurd (omega (arith, stop_given Left Right f place p e))
 right_first (l ∷ left) (r ∷ right) left_end right_end p e =
     elim (nat_le l.stamp r.stamp) as (λ b. nat_le l.stamp r.stamp ≡ b → cond b (Gives Left l) (Gives Right r) ≡ Gives Right p → (r ∷ right ≡ p ∷ right) × (p.stamp < l.stamp)) [
@@ -72,6 +72,13 @@ shift a Left Right p before = refl
 shift a Right Left p before = refl
 shift a Right Right p before = sym (drop-without_first (length (taken Right before)) a.right.packets)
 
+-- a record that was taken changes no side's end
+same_ending : (a : Ahead) (side s : Side) (p : Packet) → (records (after a side p) s).ending ≡ (records a s).ending
+same_ending a Left Left p = refl
+same_ending a Left Right p = refl
+same_ending a Right Left p = refl
+same_ending a Right Right p = refl
+
 abbrev first_or : Pick → List Pick → Pick
 first_or pick [] = pick
 first_or pick (x ∷ picks) = x
@@ -81,16 +88,17 @@ behind_first_pick [] = []
 behind_first_pick (x ∷ picks) = picks
 
 abbrev InOrder : Ahead → List Pick → List Pick → Pick → Type 0
-InOrder a before behind pick = ComesBefore pick.side pick.packet (drop (length (taken (other pick.side) before)) (records a (other pick.side)).packets)
+InOrder a before behind pick = ComesBefore pick.side pick.packet (drop (length (taken (other pick.side) before)) (records a (other pick.side)).packets) (records a (other pick.side)).ending
 
 -- the order of one more record
-order_on : (a : Ahead) (side : Side) (p : Packet) (picks : List Pick) → ComesBefore side p (records a (other side)).packets
+order_on : (a : Ahead) (side : Side) (p : Packet) (picks : List Pick) → ComesBefore side p (records a (other side)).packets (records a (other side)).ending
     → ((before behind : List Pick) (pick : Pick) → picks ≡ before ++ pick ∷ behind → InOrder (after a side p) before behind pick)
     → (before behind : List Pick) (pick : Pick) → pick_of side p ∷ picks ≡ before ++ pick ∷ behind → InOrder a before behind pick
 order_on a side p picks first h [] behind pick e = subst (λ (x : Pick). InOrder a [] behind x) (ap (first_or pick) e) first
 order_on a side p picks first h (b ∷ before) behind pick e =
     subst (λ (x : Pick). InOrder a (x ∷ before) behind pick) (ap (first_or b) e)
-    (subst (ComesBefore pick.side pick.packet) (shift a side (other pick.side) p before) (h before behind pick (ap behind_first_pick e)))
+    (subst (λ (ps : List Packet). ComesBefore pick.side pick.packet ps (records a (other pick.side)).ending) (shift a side (other pick.side) p before)
+    (subst (ComesBefore pick.side pick.packet (drop (length (taken (other pick.side) before)) (records (after a side p) (other pick.side)).packets)) (same_ending a side (other pick.side) p) (h before behind pick (ap behind_first_pick e))))
 
 abbrev Weaves : Ahead → Merged → Type 0
 Weaves a all = IsMerge a.clock (links a) (records a) all
@@ -162,13 +170,16 @@ ends_by (l ∷ left) [] left_end (CaptureEndsFaulty f place) e = absurd (stop_no
 ends_by (l ∷ left) (r ∷ right) left_end right_end e =
     absurd (elim (nat_le l.stamp r.stamp) as (λ b. cond b (Gives Left l) (Gives Right r) ≡ Ends → ⊥) [ true ↦ λ k. given_not_end Left l k | false ↦ λ k. given_not_end Right r k ] e)
 
--- where it stops, the side is used up and faulty
+not_picked_up : (p : Packet) (packets : List Packet) → p ∷ packets ≡ [] → ⊥
+not_picked_up p packets e = cc
+
+-- where it stops, the side is used up and faulty, and the left one isn't where it is the right one's fault
 stops_by : (left right : List Packet) (left_end right_end : CaptureEnding) (side : Side) (f : CaptureFault) (place : ℕ) → turn_of (front_by left left_end) (front_by right right_end) ≡ Stops side f place → EndsBy (Fault side f place) left left_end right right_end
 stops_by [] right (CaptureEndsFaulty g at) right_end side f place e = subst (λ (x : Ending). EndsBy x [] (CaptureEndsFaulty g at) right right_end) (ap ending_of e) (refl, refl)
-stops_by [] [] Whole (CaptureEndsFaulty g at) side f place e = subst (λ (x : Ending). EndsBy x [] Whole [] (CaptureEndsFaulty g at)) (ap ending_of e) (refl, refl)
+stops_by [] [] Whole (CaptureEndsFaulty g at) side f place e = subst (λ (x : Ending). EndsBy x [] Whole [] (CaptureEndsFaulty g at)) (ap ending_of e) (refl, refl, λ k. refl)
 stops_by [] [] Whole Whole side f place e = absurd (stop_not_end side f place (sym e))
 stops_by [] (r ∷ right) Whole right_end side f place e = absurd (given_not_stop Right r side f place e)
-stops_by (l ∷ left) [] left_end (CaptureEndsFaulty g at) side f place e = subst (λ (x : Ending). EndsBy x (l ∷ left) left_end [] (CaptureEndsFaulty g at)) (ap ending_of e) (refl, refl)
+stops_by (l ∷ left) [] left_end (CaptureEndsFaulty g at) side f place e = subst (λ (x : Ending). EndsBy x (l ∷ left) left_end [] (CaptureEndsFaulty g at)) (ap ending_of e) (refl, refl, λ k. absurd (not_picked_up l left k))
 stops_by (l ∷ left) [] left_end Whole side f place e = absurd (given_not_stop Left l side f place e)
 stops_by (l ∷ left) (r ∷ right) left_end right_end side f place e =
     absurd (elim (nat_le l.stamp r.stamp) as (λ b. cond b (Gives Left l) (Gives Right r) ≡ Stops side f place → ⊥) [ true ↦ λ k. given_not_stop Left l side f place k | false ↦ λ k. given_not_stop Right r side f place k ] e)

@@ -2,13 +2,10 @@ ghost use Rattle.std.specs.Prelude.{◌≡◌, false, ◌≤◌, Ok, length};
 ghost use Rattle.std.specs.Bool.{OnFalse};
 ghost use Rattle.udp_icmp.specs.Udp.{Udp, udp_fields_of, has_bad_length, has_bad_sum, read_udp, sealed_udp};
 
-use gate_base::{Addr, get_u16};
+use gate_base::{Addr, UDP, get_u16};
 use inet_sum::pseudo_sum;
 use ipv4_frames::TransportFault;
 use std::marker::Model;
-
-/// The protocol number of UDP.
-const UDP: u8 = 17;
 
 /// A UDP datagram of at least 8 octets.
 #[derive(Drop)]

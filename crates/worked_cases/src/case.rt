@@ -91,24 +91,36 @@ fn has_fronts(rt: &HostRuntime, name: &str, desk: &CountedDesk) -> io::Result<bo
     Ok(left && right && report)
 }
 
+// Whether a run over this desk answers and writes what the case says.
+fn is_passed(rt: &HostRuntime, name: &str, desk: &mut MemoryDesk) -> io::Result<bool> {
+    let words = words_of(rt.alloc(), WORDS)?;
+    let status = run_gate(rt.alloc(), &words, desk);
+    Ok(has_outputs(rt, name, desk)? && has_status(rt, name, status)?)
+}
+
 /// Whether the run of a case answers and writes what it must, octet for octet.
 pub(crate) fn passes(rt: &HostRuntime, name: &str) -> io::Result<bool> {
-    let mut desk = desk_of(rt, name)?;
+    is_passed(rt, name, &mut desk_of(rt, name)?)
+}
+
+// The status of a run over this desk, and whether each capture and the report is a front of what the case says.
+fn run_in_front(
+    rt: &HostRuntime,
+    name: &str,
+    desk: &mut CountedDesk,
+) -> io::Result<(Status, bool)> {
     let words = words_of(rt.alloc(), WORDS)?;
-    let status = run_gate(rt.alloc(), &words, &mut desk);
-    if !has_outputs(rt, name, &desk)? {
-        return Ok(false);
-    }
-    has_status(rt, name, status)
+    let status = run_gate(rt.alloc(), &words, desk);
+    Ok((status, has_fronts(rt, name, desk)?))
 }
 
 /// The status of the run of a case of which one call of the desk fails, and whether each capture and the report is a front
 /// of what the whole run writes.
 pub(crate) fn run_failing(rt: &HostRuntime, name: &str, call: u64) -> io::Result<(Status, bool)> {
     let failing = vec![in rt.alloc(); call]?;
-    let mut desk = CountedDesk::make(desk_of(rt, name)?, failing);
-    let words = words_of(rt.alloc(), WORDS)?;
-    let status = run_gate(rt.alloc(), &words, &mut desk);
-    let in_front = has_fronts(rt, name, &desk)?;
-    Ok((status, in_front))
+    run_in_front(
+        rt,
+        name,
+        &mut CountedDesk::make(desk_of(rt, name)?, failing),
+    )
 }

@@ -1,12 +1,12 @@
 // Checks beside the worked cases.
 use crate::case::{run_failing, run_gate, words_of};
-use gate_desk::{MemoryDesk, Slot};
+use gate_desk::{Desk, MemoryDesk, Slot};
 use gateway::Status;
 use std::alloc::{AllocError, Global};
 use std::io;
 
-/// More calls than a small case has.
-const MOST_CALLS: u64 = 1_000;
+/// More calls than a case has.
+const MOST_CALLS: u64 = 10_000;
 
 const READ_FAULT: u8 = 5;
 
@@ -38,14 +38,51 @@ pub(crate) fn failing_calls(rt: &HostRuntime, name: &str) -> io::Result<Option<u
     Ok(None)
 }
 
-/// Whether the words of a line, which are no command, are answered by the one usage line.
-pub(crate) fn is_no_command(alloc: Global, line: &str) -> Result<bool, AllocError> {
-    let words = words_of(alloc, line)?;
+// A desk with nothing to be read.
+fn empty_desk(alloc: Global) -> Result<MemoryDesk, AllocError> {
     match MemoryDesk::make(alloc, Vec::new(alloc), Vec::new(alloc), Vec::new(alloc)) {
-        Ok(mut desk) => {
-            let status = run_gate(alloc, &words, &mut desk);
-            Ok(status == Status::Usage && desk.output(Slot::Errors) == USAGE)
-        }
+        Ok(desk) => Ok(desk),
         Err(_) => Err(AllocError),
+    }
+}
+
+// The status of a command over this desk.
+fn status_of<D: Desk>(alloc: Global, line: &str, desk: &mut D) -> Result<Status, AllocError> {
+    let words = words_of(alloc, line)?;
+    Ok(run_gate(alloc, &words, desk))
+}
+
+// Whether these words over this desk are answered by the one usage line.
+fn is_answered(alloc: Global, line: &str, desk: &mut MemoryDesk) -> Result<bool, AllocError> {
+    let status = status_of(alloc, line, desk)?;
+    Ok(status == Status::Usage && desk.output(Slot::Errors) == USAGE)
+}
+
+/// Whether the words of a line, which are no command, are answered by the one usage line.
+pub(crate) fn is_no_command(rt: &HostRuntime, line: &str) -> io::Result<bool> {
+    Ok(is_answered(rt.alloc(), line, &mut empty_desk(rt.alloc())?)?)
+}
+
+// Whether a make over this desk writes just this line, on the report alone.
+fn makes(
+    alloc: Global,
+    words: &str,
+    line: &str,
+    desk: &mut MemoryDesk,
+) -> Result<bool, AllocError> {
+    let status = status_of(alloc, words, desk)?;
+    let captures = desk.output(Slot::LeftOut).len() + desk.output(Slot::RightOut).len();
+    Ok(
+        status == Status::Done
+            && captures == 0
+            && desk.output(Slot::Report).strip_suffix(b"\n") == Some(line.as_bytes()),
+    )
+}
+
+/// Whether the words of a make before an equals sign write the line behind it.
+pub(crate) fn is_made(rt: &HostRuntime, line: &str) -> io::Result<bool> {
+    match line.split_once(" = ") {
+        Some((words, line)) => Ok(makes(rt.alloc(), words, line, &mut empty_desk(rt.alloc())?)?),
+        None => Ok(false),
     }
 }

@@ -1,90 +1,109 @@
-//! Runs worked cases through the gateway's one call over a desk in memory, and compares all that it answers and writes.
+//! Runs worked cases through the gateway's one call over desks in memory and over files, and compares all that it answers and
+//! writes.
 #![tactic(auto)]
 
 mod case;
 mod checks;
 mod damage;
+mod files;
 
 use case::passes;
-use checks::{failing_calls, is_no_command};
+use checks::{failing_calls, is_made, is_no_command};
 use damage::is_told;
+use files::is_run;
 use std::process::ExitCode;
 use std::{fs, io};
 
-/// The names of the cases that the gateway can pass, one a line.
-const PASSING: &str = "passing.txt";
-
-/// Words that are no command, a line each.
-const NO_COMMANDS: &str = "no_commands.txt";
-
-/// Damaged captures, a line each: a case, a place in its left capture, the octets written there or a dash where it ends
-/// there, and the fault with its offset.
-const DAMAGES: &str = "damages.txt";
-
-/// The case that is run again with each call of the desk failing in turn.
-const FIRST: &str = "udp_left_to_right";
-
-fn run_cases(rt: &HostRuntime) -> io::Result<u64> {
-    let names = fs::read_to_string(rt, PASSING)?;
-    let mut failed = 0u64;
-    for name in names.lines() {
-        if passes(rt, name)? {
-            println!(rt; "{name}: ok")?;
-        } else {
-            println!(rt; "{name}: FAILED")?;
-            failed = failed.saturating_add(1);
-        }
-    }
-    Ok(failed)
+/// A file of which each line is one check.
+#[derive(Clone, Copy)]
+enum Table {
+    /// The names of the cases.
+    Cases,
+    /// Words that are no command.
+    Words,
+    /// Damaged captures: a case, a place in its left capture, the octets written there or a dash where it ends there, and the
+    /// fault with its offset.
+    Damages,
+    /// Words of a make, and the line that it writes.
+    Makes,
+    /// The status of a run over files, and its words.
+    Files,
 }
 
-fn run_words(rt: &HostRuntime) -> io::Result<u64> {
-    let lines = fs::read_to_string(rt, NO_COMMANDS)?;
+impl Table {
+    fn file(self) -> &'static str {
+        match self {
+            Table::Cases => "passing.txt",
+            Table::Words => "no_commands.txt",
+            Table::Damages => "damages.txt",
+            Table::Makes => "makes.txt",
+            Table::Files => "files.txt",
+        }
+    }
+
+    fn label(self) -> &'static str {
+        match self {
+            Table::Cases => "case",
+            Table::Words => "no command",
+            Table::Damages => "damage",
+            Table::Makes => "made",
+            Table::Files => "status",
+        }
+    }
+}
+
+/// The cases that are run again with each call of the desk failing in turn.
+const FAILING: &str = "udp_left_to_right a_morning";
+
+fn is_right(rt: &HostRuntime, table: Table, line: &str) -> io::Result<bool> {
+    match table {
+        Table::Cases => passes(rt, line),
+        Table::Words => is_no_command(rt, line),
+        Table::Damages => is_told(rt, line),
+        Table::Makes => is_made(rt, line),
+        Table::Files => is_run(rt, line),
+    }
+}
+
+// How many lines of a table fail.
+fn run_table(rt: &HostRuntime, table: Table) -> io::Result<u64> {
+    let label = table.label();
+    let lines = fs::read_to_string(rt, table.file())?;
     let mut failed = 0u64;
     for line in lines.lines() {
-        if is_no_command(rt.alloc(), line)? {
-            println!(rt; "no command '{line}': ok")?;
+        if is_right(rt, table, line)? {
+            println!(rt; "{label} '{line}': ok")?;
         } else {
-            println!(rt; "no command '{line}': FAILED")?;
+            println!(rt; "{label} '{line}': FAILED")?;
             failed = failed.saturating_add(1);
         }
     }
     Ok(failed)
 }
 
-fn run_damages(rt: &HostRuntime) -> io::Result<u64> {
-    let lines = fs::read_to_string(rt, DAMAGES)?;
-    let mut failed = 0u64;
-    for line in lines.lines() {
-        if is_told(rt, line)? {
-            println!(rt; "damage '{line}': ok")?;
-        } else {
-            println!(rt; "damage '{line}': FAILED")?;
-            failed = failed.saturating_add(1);
-        }
-    }
-    Ok(failed)
-}
-
+// How many cases fail with a call failing.
 fn run_failing_calls(rt: &HostRuntime) -> io::Result<u64> {
-    match failing_calls(rt, FIRST)? {
-        Some(calls) => {
-            println!(rt; "{FIRST} with each of {calls} calls failing: ok")?;
-            Ok(0)
-        }
-        None => {
-            println!(rt; "{FIRST} with a call failing: FAILED")?;
-            Ok(1)
+    let mut failed = 0u64;
+    for name in FAILING.split_whitespace() {
+        match failing_calls(rt, name)? {
+            Some(calls) => println!(rt; "{name} with each of {calls} calls failing: ok")?,
+            None => {
+                println!(rt; "{name} with a call failing: FAILED")?;
+                failed = failed.saturating_add(1);
+            }
         }
     }
+    Ok(failed)
 }
 
 fn run(rt: &HostRuntime) -> io::Result<bool> {
-    let cases = run_cases(rt)?;
-    let words = run_words(rt)?;
-    let damages = run_damages(rt)?;
+    let cases = run_table(rt, Table::Cases)?;
+    let words = run_table(rt, Table::Words)?;
+    let damages = run_table(rt, Table::Damages)?;
+    let makes = run_table(rt, Table::Makes)?;
+    let files = run_table(rt, Table::Files)?;
     let calls = run_failing_calls(rt)?;
-    Ok(cases == 0 && words == 0 && damages == 0 && calls == 0)
+    Ok(cases == 0 && words == 0 && damages == 0 && makes == 0 && files == 0 && calls == 0)
 }
 
 fn main(rt: HostRuntime) -> ExitCode {

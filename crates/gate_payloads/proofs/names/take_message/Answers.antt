@@ -2,9 +2,8 @@ use Rattle.std.proofs.Common.{◌≡◌, ◌∷◌, List, ℕ, Vec, Global, Some
 use Rattle.std.specs.Prelude.{unwrap_or, nat_lt, drop}
 use Rattle.gate_base.specs.Side.{other}
 use Rattle.gate_base.specs.declared.address.Addr.{Addr}
-use Rattle.binding_table.specs.Bindings.{free}
+use Rattle.binding_table.specs.Bindings.{free, is_settled}
 use Rattle.binding_table.specs.Plan.{after_uses, images_after, needed}
-use Rattle.binding_table.proofs.Planned.{is_settled}
 use Rattle.dns_messages.specs.Reading.{message_at}
 use Rattle.twice_translate.specs.Renamed.{datagram_of}
 use Rattle.gate_world.specs.Names.{carried, has_unbound, reply_by}

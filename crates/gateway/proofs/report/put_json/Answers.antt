@@ -6,7 +6,7 @@ use Rattle.gateway.proofs.Pieces.{front_none}
 use Rattle.gateway.proofs.report.put_json.Goals as goal
 
 pub returns-in-Err : goal.returns-in-Err
-returns-in-Err g c = (tt, front_none _ (g.D.Desk.outside c.args.desk.now))
+returns-in-Err g c = (refl, front_none _ (g.D.Desk.outside c.args.desk.now))
 
 pub returns-in-Ok-write_whole : goal.returns-in-Ok-write_whole
 returns-in-Ok-write_whole g c =

@@ -1,0 +1,44 @@
+"""Datagrams and captures, for the scripts that make some."""
+import struct
+
+# The head of a little-endian capture of raw datagrams, with microseconds.
+HEAD = struct.pack("<IHHiIII", 0xA1B2C3D4, 2, 4, 0, 0, 262144, 101)
+
+
+def quad(text):
+    return bytes(int(part) for part in text.split("."))
+
+
+def checksum(octets):
+    octets += bytes(len(octets) % 2)
+    total = sum(struct.unpack(f">{len(octets) // 2}H", octets))
+    while total > 0xFFFF:
+        total = (total & 0xFFFF) + (total >> 16)
+    return total ^ 0xFFFF
+
+
+def datagram(protocol, source, destination, payload, place):
+    """A datagram whose payload has its checksum, or 0 so far, at this place."""
+    pseudo = b"" if protocol == 1 else quad(source) + quad(destination) + struct.pack(">BBH", 0, protocol, len(payload))
+    # A UDP checksum of 0 would say that there is none.
+    total = checksum(pseudo + payload) or (0xFFFF if protocol == 17 else 0)
+    payload = payload[:place] + struct.pack(">H", total) + payload[place + 2:]
+    head = struct.pack(">BBHHHBBH", 0x45, 0, 20 + len(payload), 1, 0, 64, protocol, 0) + quad(source) + quad(destination)
+    return head[:10] + struct.pack(">H", checksum(head)) + head[12:] + payload
+
+
+def udp(source, port, destination, far_port, payload):
+    return datagram(17, source, destination, struct.pack(">HHHH", port, far_port, 8 + len(payload), 0) + payload, 6)
+
+
+def icmp(source, destination, kind, code, rest):
+    return datagram(1, source, destination, struct.pack(">BBH", kind, code, 0) + rest, 2)
+
+
+def tcp(source, port, destination, far_port, flags, sequence, acknowledgement, payload=b""):
+    header = struct.pack(">HHIIBBHHH", port, far_port, sequence, acknowledgement, 0x50, flags, 8192, 0, 0)
+    return datagram(6, source, destination, header + payload, 16)
+
+
+def record(seconds, microseconds, octets):
+    return struct.pack("<IIII", seconds, microseconds, len(octets), len(octets)) + octets

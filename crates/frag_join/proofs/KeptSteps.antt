@@ -1,0 +1,126 @@
+-- A step on lists of fragments, and on what they tell.
+use Rattle.std.proofs.Common.{◌≡◌, ℕ, zero, suc, ◌+◌, Bool, true, false, not, ltb, cond, List, [], ◌∷◌, ◌++◌, map, length, take, drop, Option, Some, None, refl, sym, ap, ◌∙◌}
+use Rattle.std.specs.Prelude.{slice_get}
+use Rattle.std.specs.Option.{option_and_then, option_map}
+use Rattle.std.specs.List.{filter, remove, position, position_or_len}
+use Rattle.std.proofs.lemmas.List.{map-append, take-map, drop-map, map-set, length-map}
+use Rattle.gate_base.specs.Events.{Event}
+use Rattle.gate_base.specs.Tests.{first_that_holds}
+use Rattle.gate_base.specs.declared.refusal.Refusal.{Refusal}
+use Rattle.frag_join.specs.declared.part.Name.{Name}
+use Rattle.frag_join.specs.declared.part.Part.{Part}
+use Rattle.frag_join.specs.declared.taken.Taken.TheVariants.{Plain, Held, Joined}
+use Rattle.frag_join.specs.Fragments.{Fragment, is_fragment, name_in, fragment_in}
+use Rattle.frag_join.specs.Known.{Known, known_by, is_complete, datagram_of}
+use Rattle.frag_join.specs.Joining.{State, Step, by_list, by_known, is_live, live, is_of, place_of, part_of, part_or_new, changed, event_from, tests_by, fragment_tests, settled, with_fragment, taken_unless, fragment_taken, fragment_step, step_by, step, after, part_known, state_known, step_known}
+use Rattle.frag_join.proofs.KnownLemmas.{known-push}
+
+-- ## Lists
+
+filter-map_at : {X Y : Type 0} (b : Bool) (f : X → Y) (x : X) (ys : List Y) (xs : List X) → ys ≡ map f xs → cond b (f x ∷ ys) ys ≡ map f (cond b (x ∷ xs) xs)
+filter-map_at true f x ys xs same = ap (λ rest. f x ∷ rest) same
+filter-map_at false f x ys xs same = same
+
+filter-map : {X Y : Type 0} (test : Y → Bool) (f : X → Y) (xs : List X) → filter test (map f xs) ≡ map f (filter (λ x. test (f x)) xs)
+filter-map test f [] = refl
+filter-map test f (x ∷ xs) = filter-map_at (test (f x)) f x (filter test (map f xs)) (filter (λ y. test (f y)) xs) (filter-map test f xs)
+
+position-map_len : {X Y : Type 0} (test : Y → Bool) (f : X → Y) (xs : List X) → position_or_len test (map f xs) ≡ position_or_len (λ x. test (f x)) xs
+position-map_len test f [] = refl
+position-map_len test f (x ∷ xs) = ap (λ n. cond (not (test (f x))) (1 + n) 0) (position-map_len test f xs)
+
+position-map : {X Y : Type 0} (test : Y → Bool) (f : X → Y) (xs : List X) → position test (map f xs) ≡ position (λ x. test (f x)) xs
+position-map test f xs =
+    ap (λ n. cond (ltb n (length (map f xs))) (Some n) None) (position-map_len test f xs)
+    ∙ ap (λ m. cond (ltb (position_or_len (λ x. test (f x)) xs) m) (Some (position_or_len (λ x. test (f x)) xs)) None) (length-map xs f)
+
+get-map : {X Y : Type 0} (f : X → Y) (xs : List X) (i : ℕ) → slice_get (map f xs) i ≡ option_map f (slice_get xs i)
+get-map f [] i = refl
+get-map f (x ∷ xs) zero = refl
+get-map f (x ∷ xs) (suc i) = get-map f xs i
+
+remove-map : {X Y : Type 0} (f : X → Y) (xs : List X) (i : ℕ) → remove (map f xs) i ≡ map f (remove xs i)
+remove-map f xs i =
+    ap (λ front. front ++ drop (suc i) (map f xs)) (take-map f i xs) ∙ ap (λ rest. map f (take i xs) ++ rest) (drop-map f (suc i) xs)
+    ∙ sym (map-append f (take i xs) (drop (suc i) xs))
+
+-- ## Parts
+
+abbrev Whole : Type 0
+Whole = Part (List Fragment)
+
+live-known : (now : ℕ) (parts : List Whole) → live now (map part_known parts) ≡ map part_known (live now parts)
+live-known now parts = filter-map (is_live now) part_known parts
+
+place-known : (name : Name) (parts : List Whole) → place_of name (map part_known parts) ≡ place_of name parts
+place-known name parts = position-map (is_of name) part_known parts
+
+part-known_at : (parts : List Whole) (place : Option ℕ) → option_and_then (slice_get (map part_known parts)) place ≡ option_map part_known (option_and_then (slice_get parts) place)
+part-known_at parts None = refl
+part-known_at parts (Some place) = get-map part_known parts place
+
+part-known : (name : Name) (parts : List Whole) → part_of name (map part_known parts) ≡ option_map part_known (part_of name parts)
+part-known name parts = ap (option_and_then (slice_get (map part_known parts))) (place-known name parts) ∙ part-known_at parts (place_of name parts)
+
+changed-known : (parts : List Whole) (place : Option ℕ) (part : Option Whole) → changed (map part_known parts) place (option_map part_known part) ≡ map part_known (changed parts place part)
+changed-known parts None None = refl
+changed-known parts None (Some part) = sym (map-append part_known parts (part ∷ []))
+changed-known parts (Some place) None = remove-map part_known parts place
+changed-known parts (Some place) (Some part) = sym (map-set part_known parts place part)
+
+new-known : (e : Event) (part : Option Whole) → part_or_new by_known e (option_map part_known part) ≡ part_known (part_or_new by_list e part)
+new-known e None = refl
+new-known e (Some part) = refl
+
+with-known : (part : Whole) (e : Event) → with_fragment by_known (part_known part) e ≡ part_known (with_fragment by_list part e)
+with-known part e = λ i. record { name = part.name; since = part.since; kept = sym (known-push part.kept (fragment_in e)) i }
+
+tests-known : (parts : List Whole) (e : Event) (known : Known) → first_that_holds (fragment_tests (map part_known parts) e known) ≡ first_that_holds (fragment_tests parts e known)
+tests-known parts e known =
+    ap (λ place. first_that_holds (tests_by e known place (length (map part_known parts)))) (place-known (name_in e) parts)
+    ∙ ap (λ n. first_that_holds (tests_by e known (place_of (name_in e) parts) n)) (length-map parts part_known)
+
+-- ## Steps
+
+pub step_cond : (b : Bool) (one other : Step (List Fragment)) → cond b (step_known one) (step_known other) ≡ step_known (cond b one other)
+step_cond true one other = refl
+step_cond false one other = refl
+
+settled-known : (parts : List Whole) (place : Option ℕ) (e : Event) (part : Whole) → settled by_known (map part_known parts) place e (part_known part) ≡ step_known (settled by_list parts place e part)
+settled-known parts place e part =
+    let event : Event = event_from e.side e.moment (datagram_of (known_by part.kept)) in
+    ap (λ all. cond (is_complete (known_by part.kept)) (record { answer = Joined; state = record { parts = all; joined = Some event } }) (record { answer = Held; state = record { parts = changed (map part_known parts) place (Some (part_known part)); joined = None } })) (changed-known parts place None)
+    ∙ ap (λ all. cond (is_complete (known_by part.kept)) (record { answer = Joined; state = record { parts = map part_known (changed parts place None); joined = Some event } }) (record { answer = Held; state = record { parts = all; joined = None } })) (changed-known parts place (Some part))
+    ∙ step_cond (is_complete (known_by part.kept)) (record { answer = Joined; state = record { parts = changed parts place None; joined = Some event } }) (record { answer = Held; state = record { parts = changed parts place (Some part); joined = None } })
+
+unless-known : (parts : List Whole) (e : Event) (part : Whole) (refusal : Option Refusal) → taken_unless by_known (map part_known parts) e (part_known part) refusal ≡ step_known (taken_unless by_list parts e part refusal)
+unless-known parts e part (Some refusal) = refl
+unless-known parts e part None =
+    ap (λ place. settled by_known (map part_known parts) place e (with_fragment by_known (part_known part) e)) (place-known (name_in e) parts)
+    ∙ ap (settled by_known (map part_known parts) (place_of (name_in e) parts) e) (with-known part e)
+    ∙ settled-known parts (place_of (name_in e) parts) e (with_fragment by_list part e)
+
+taken-known : (parts : List Whole) (e : Event) (part : Whole) → fragment_taken by_known (map part_known parts) e (part_known part) ≡ step_known (fragment_taken by_list parts e part)
+taken-known parts e part =
+    ap (taken_unless by_known (map part_known parts) e (part_known part)) (tests-known parts e (known_by part.kept))
+    ∙ unless-known parts e part (first_that_holds (fragment_tests parts e (known_by part.kept)))
+
+fragment-known : (parts : List Whole) (e : Event) → fragment_step by_known (map part_known parts) e ≡ step_known (fragment_step by_list parts e)
+fragment-known parts e =
+    ap (λ part. fragment_taken by_known (map part_known parts) e (part_or_new by_known e part)) (part-known (name_in e) parts)
+    ∙ ap (fragment_taken by_known (map part_known parts) e) (new-known e (part_of (name_in e) parts))
+    ∙ taken-known parts e (part_or_new by_list e (part_of (name_in e) parts))
+
+by-known : (parts : List Whole) (e : Event) → step_by by_known (map part_known parts) e ≡ step_known (step_by by_list parts e)
+by-known parts e =
+    ap (λ one. cond (is_fragment e) one (record { answer = Plain; state = record { parts = map part_known parts; joined = None } })) (fragment-known parts e)
+    ∙ step_cond (is_fragment e) (fragment_step by_list parts e) (record { answer = Plain; state = record { parts = parts; joined = None } })
+
+-- what the fragments tell is enough for a step
+pub step-known : (state : State (List Fragment)) (e : Event) → step by_known (state_known state) e ≡ step_known (step by_list state e)
+step-known state e = ap (λ parts. step_by by_known parts e) (live-known e.moment state.parts) ∙ by-known (live e.moment state.parts) e
+
+-- and for all that follow
+pub after-known : (state : State (List Fragment)) (events : List Event) → after by_known (state_known state) events ≡ state_known (after by_list state events)
+after-known state [] = refl
+after-known state (e ∷ events) = ap (λ one. after by_known one.state events) (step-known state e) ∙ after-known (step by_list state e).state events

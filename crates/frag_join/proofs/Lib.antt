@@ -1,0 +1,16 @@
+pub mod PlaceLemmas
+pub mod FragmentLemmas
+pub mod BufferLemmas
+pub mod FrameLemmas
+pub mod Splices
+pub mod PutLemmas
+pub mod PartLemmas
+pub mod StepLemmas
+pub mod PutSteps
+pub mod KnownLemmas
+pub mod KeptSteps
+pub mod NameLemmas
+pub mod CutLemmas
+pub mod Found
+pub mod CutSteps
+pub mod Rows

@@ -1,0 +1,17 @@
+//! Fragments of IPv4 datagrams, joined in whatever order they come (RFC 791, 3.2; RFC 815).
+#![tactic(auto)]
+
+mod buffer;
+mod fragment;
+mod joiner;
+mod laws;
+mod part;
+mod taken;
+mod whole;
+
+pub use joiner::Joiner;
+pub use laws::{cuts_are_joined, known_state_suffices};
+pub use taken::Taken;
+
+#[cfg(test)]
+mod tests;

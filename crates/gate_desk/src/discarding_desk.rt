@@ -1,0 +1,73 @@
+// A desk that discards what is written.
+ghost use Rattle.std.specs.Prelude.{◌≡◌, ◌<◌, ◌≤◌, [], IfOk, IsOk, OnOk, OnErr, length, take};
+ghost use Rattle.gate_desk.specs.Memory.{inputs};
+ghost use Rattle.gate_desk.specs.Discarded.{told_by};
+ghost use Rattle.gate_desk.specs.Outside.{Starts, FailsToStart, Takes, AreNext, IsAtEnd, Writes, HasFailed};
+
+use crate::memory::Source;
+use crate::per_slot::{inputs, take_from};
+use crate::{Desk, Failed, PerSlot, Slot, Way};
+use std::alloc::Global;
+use std::marker::Model;
+
+/// A desk that gives octets in memory to be read, and discards what is written. It tells what is left to be read, and nothing
+/// of what is written and started. No call fails.
+#[derive(Drop)]
+pub struct DiscardingDesk {
+    left: PerSlot<Source>,
+}
+
+impl Model for DiscardingDesk {
+    ghost use Rattle.std.specs.Prelude.{List, ℕ};
+    ghost use Rattle.gate_desk.specs.declared.slot.PerSlot.{PerSlot};
+
+    ghost Value = { PerSlot (List ℕ) };
+
+    ghost view = { λ d. d.left };
+}
+
+impl DiscardingDesk {
+    /// A desk with these octets to be read.
+    pub fn make(alloc: Global, settings: Vec<u8>, left: Vec<u8>, right: Vec<u8>) -> DiscardingDesk
+        ensures { result ≡ inputs settings.items left.items right.items }
+    {
+        DiscardingDesk {
+            left: inputs(alloc, settings, left, right),
+        }
+    }
+}
+
+impl Desk for DiscardingDesk {
+    ghost outside = { told_by };
+
+    fn start(&mut self, _slot: Slot, _name: &str, _way: Way) -> Result<(), Failed>
+        ensures ok { OnOk result (Starts _slot _name.now _way (told_by self.old) (told_by self.new)) }
+        ensures err { OnErr result (FailsToStart _slot (told_by self.old) (told_by self.new)) }
+        ensures exact { IsOk result }
+    {
+        Ok(())
+    }
+
+    fn read(&mut self, slot: Slot, buffer: &mut [u8]) -> Result<usize, Failed>
+        ensures fits { IfOk result (λ n. n ≤ length buffer.new) }
+        ensures ok { IfOk result (λ n. Takes slot n (told_by self.old) (told_by self.new)) }
+        ensures octets { IfOk result (λ n. AreNext (take n buffer.new) (told_by self.old) slot) }
+        ensures end { IfOk result (λ n. n ≡ 0 → 0 < length buffer.old → IsAtEnd (told_by self.old) slot) }
+        ensures err { OnErr result (Takes slot 0 (told_by self.old) (told_by self.new)) }
+        ensures cause { OnErr result (HasFailed slot (told_by self.old) (told_by self.new)) }
+        ensures exact { IsOk result }
+    {
+        Ok(take_from(&mut self.left, slot, buffer))
+    }
+
+    fn write(&mut self, slot: Slot, piece: &[u8]) -> Result<usize, Failed>
+        ensures fits { IfOk result (λ n. n ≤ length piece.now) }
+        ensures some { IfOk result (λ n. 0 < length piece.now → 0 < n) }
+        ensures ok { IfOk result (λ n. Writes slot (take n piece.now) (told_by self.old) (told_by self.new)) }
+        ensures err { OnErr result (Writes slot [] (told_by self.old) (told_by self.new)) }
+        ensures cause { OnErr result (HasFailed slot (told_by self.old) (told_by self.new)) }
+        ensures exact { IsOk result }
+    {
+        Ok(piece.len())
+    }
+}

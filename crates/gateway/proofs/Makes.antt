@@ -1,0 +1,123 @@
+-- A run over a workload in memory.
+use Rattle.std.proofs.Common.{◌≡◌, ℕ, List, [], ◌∷◌, Ok, Err, IsTrue, inl, inr, refl, sym, ap, subst, ◌∙◌, arith}
+use Rattle.std.proofs.lemmas.Bool.{false≢true}
+use Rattle.gate_desk.specs.declared.slot.Slot.{Slot}
+use Rattle.gate_desk.specs.declared.slot.Slot.TheVariants.{Settings, LeftIn, RightIn, LeftOut, RightOut, Report, Errors}
+use Rattle.gate_desk.specs.declared.slot.PerSlot.{PerSlot}
+use Rattle.gate_desk.specs.Discarded.{told_by}
+use Rattle.gate_desk.specs.Outside.{Outside, Told, FailsToStart, HasFailed, HasFailedToStart}
+use Rattle.gate_desk.proofs.Laws.{grows_not, grows_on, grows_fails_to_start, failed_since}
+use Rattle.gate_report.specs.declared.line.Line.{Line}
+use Rattle.gateway.specs.Status.{is_settings_fault}
+use Rattle.gateway.specs.declared.status.Status.{Status}
+use Rattle.gateway.specs.declared.status.Status.TheVariants.{Done, Usage, SettingsRefused, CaptureRefused, ReadFault, WriteFault, OpenFault, OutOfMemory}
+use Rattle.gateway.specs.Command.{Names, make_starts}
+use Rattle.gateway.specs.Causes.{StartsAll, Gives}
+use Rattle.gateway.specs.Pieces.{wrote_pieces, WritesAll, IsFront}
+use Rattle.gateway.specs.Making.{workload_in, made_piece, IsLineOf, Rehearses, IsMake}
+use Rattle.gateway.specs.Answers.{Runs, Tells, IsToldMake, AnswersMake}
+use Rattle.gateway.proofs.Causes.{starts_none, starts_all}
+
+-- no count of a desk that discards rises
+never_failed : (s : Slot) (l k : PerSlot (List ℕ)) → HasFailed s (told_by l) (told_by k) → ⊥
+never_failed Settings l k h = omega (arith, h)
+never_failed LeftIn l k h = omega (arith, h)
+never_failed RightIn l k h = omega (arith, h)
+never_failed LeftOut l k h = omega (arith, h)
+never_failed RightOut l k h = omega (arith, h)
+never_failed Report l k h = omega (arith, h)
+never_failed Errors l k h = omega (arith, h)
+
+never_failed_to_start : (s : Slot) (l k : PerSlot (List ℕ)) → HasFailedToStart s (told_by l) (told_by k) → ⊥
+never_failed_to_start Settings l k h = omega (arith, h)
+never_failed_to_start LeftIn l k h = omega (arith, h)
+never_failed_to_start RightIn l k h = omega (arith, h)
+never_failed_to_start LeftOut l k h = omega (arith, h)
+never_failed_to_start RightOut l k h = omega (arith, h)
+never_failed_to_start Report l k h = omega (arith, h)
+never_failed_to_start Errors l k h = omega (arith, h)
+
+-- the run over the workload is done
+pub rehearsed : (line : Line) (names : Names) (number count : ℕ) (k : PerSlot (List ℕ)) → Runs (Ok line) names (told_by (workload_in number count)) (told_by k) → IsLineOf line number count
+rehearsed line names number count k h = record { settings = h.1.0; accepted = h.1.1; ended = h.0.ends.cause.0.2; line_is = h.1.2 }
+
+-- or it isn't
+pub not_rehearsed : (e : Status) (names : Names) (number count : ℕ) (k : PerSlot (List ℕ)) → Runs (Err e) names (told_by (workload_in number count)) (told_by k) → Rehearses e number count
+not_rehearsed Done names number count k h = absurd h
+not_rehearsed Usage names number count k h = absurd h.ends.cause
+not_rehearsed (SettingsRefused f) names number count k h = h.ends.cause
+not_rehearsed (CaptureRefused side f place) names number count k h = h.ends.cause
+not_rehearsed (ReadFault s) names number count k h = never_failed s (workload_in number count) k h.ends.cause.1
+not_rehearsed (WriteFault s) names number count k h = never_failed s (workload_in number count) k h.ends.cause.1
+not_rehearsed (OpenFault s) names number count k h = never_failed_to_start s (workload_in number count) k h.ends.cause.1
+not_rehearsed OutOfMemory names number count k h = tt
+
+-- nothing was started yet
+pub not_started : (number count : ℕ) (report : List ℕ) (a : Outside) → IsMake OutOfMemory number count report a a
+not_started number count report a = record { made = (starts_none (make_starts report) a a refl, refl); left = refl; grows = grows_not a }
+
+-- the report could not be started
+pub not_opened : (number count : ℕ) (report : List ℕ) (a b : Outside) → FailsToStart Report a b → IsMake (OpenFault Report) number count report a b
+not_opened number count report a b h = record { made = (h.cause, h.starts, h.written); left = h.left; grows = grows_fails_to_start Report a b h }
+
+-- the run over the workload isn't done
+pub not_made : (e : Status) (number count : ℕ) (report : List ℕ) (a b : Outside) → Rehearses e number count → StartsAll (make_starts report) a b → IsMake e number count report a b
+not_made OutOfMemory number count report a b r h = record { made = (starts_all (make_starts report) a b h.starts, h.written); left = h.left; grows = h.grows }
+not_made (SettingsRefused f) number count report a b r h = record { made = (r, (h.starts, h.written)); left = h.left; grows = h.grows }
+not_made (CaptureRefused side f place) number count report a b r h = record { made = (r, (h.starts, h.written)); left = h.left; grows = h.grows }
+not_made Done number count report a b r h = absurd r
+not_made Usage number count report a b r h = absurd r
+not_made (ReadFault s) number count report a b r h = absurd r
+not_made (WriteFault s) number count report a b r h = absurd r
+not_made (OpenFault s) number count report a b r h = absurd r
+
+-- the line was written
+pub made : (line : Line) (number count : ℕ) (report : List ℕ) (a b c : Outside) → StartsAll (make_starts report) a b → IsLineOf line number count → WritesAll (made_piece line ∷ []) b c → IsMake Done number count report a c
+made line number count report a b c h is k = record {
+  made = (line, is, k.only.starts ∙ h.starts, k.written ∙ ap (wrote_pieces (made_piece line ∷ [])) h.written);
+  left = k.only.left ∙ h.left;
+  grows = grows_on a b c h.grows k.only.grows;
+}
+
+-- or it wasn't
+pub not_written : (e : Status) (line : Line) (number count : ℕ) (report : List ℕ) (a b c : Outside) → StartsAll (make_starts report) a b → IsLineOf line number count → e ≡ WriteFault Report → Gives (Err e) (made_piece line ∷ []) b c → IsMake e number count report a c
+not_written e line number count report a b c h is same k =
+    let failed = subst (λ (s : Status). Gives (Err s) (made_piece line ∷ []) b c) same k in
+    subst (λ (s : Status). IsMake s number count report a c) (sym same) (record {
+      made = (failed_since Report a b c h.grows failed.0.1, line, is, failed.1.only.starts ∙ h.starts, subst (λ (t : Told). IsFront (made_piece line ∷ []) t c.written) h.written failed.1.front);
+      left = failed.1.only.left ∙ h.left;
+      grows = grows_on a b c h.grows failed.1.only.grows;
+    })
+
+-- ## The line
+
+untold : (e : Status) (number count : ℕ) (report : List ℕ) (a b : Outside) → IsTrue (is_settings_fault e) → IsMake e number count report a b → IsMake OutOfMemory number count report a b
+untold (SettingsRefused f) number count report a b is h = record { made = (starts_all (make_starts report) a b h.made.1.0, h.made.1.1); left = h.left; grows = h.grows }
+untold Done number count report a b is h = absurd (false≢true is)
+untold Usage number count report a b is h = absurd (false≢true is)
+untold (CaptureRefused side f place) number count report a b is h = absurd (false≢true is)
+untold (ReadFault s) number count report a b is h = absurd (false≢true is)
+untold (WriteFault s) number count report a b is h = absurd (false≢true is)
+untold (OpenFault s) number count report a b is h = absurd (false≢true is)
+untold OutOfMemory number count report a b is h = absurd (false≢true is)
+
+told_make : (e answer : Status) (number count : ℕ) (report : List ℕ) (a b c : Outside) → IsMake e number count report a b → Tells e answer b c → IsToldMake answer number count report a c
+told_make e answer number count report a b c h t =
+    elim t.answer_is [
+      | inl same ↦ record { ended = b; make = subst (λ s. IsMake s number count report a b) (sym same) h; line = t.line }
+      | inr memory ↦ record { ended = b; make = subst (λ s. IsMake s number count report a b) (sym memory.0) (untold e number count report a b memory.1 h); line = t.line }
+    ]
+
+not_done : (e : Status) (b c : Outside) → (e ≡ Done → ⊥) → Tells e Done b c → ⊥
+not_done e b c undone t = elim t.answer_is [ inl same ↦ undone (sym same) | inr memory ↦ cc ]
+
+-- what the call answers to the words of a make
+pub answers_make : (e answer : Status) (number count : ℕ) (report : List ℕ) (a b c : Outside) → (e ≡ Done → ⊥) → IsMake e number count report a b → Tells e answer b c → AnswersMake answer number count report a c
+answers_make e Done number count report a b c undone h t = absurd (not_done e b c undone t)
+answers_make e Usage number count report a b c undone h t = told_make e Usage number count report a b c h t
+answers_make e (SettingsRefused f) number count report a b c undone h t = told_make e (SettingsRefused f) number count report a b c h t
+answers_make e (CaptureRefused side f place) number count report a b c undone h t = told_make e (CaptureRefused side f place) number count report a b c h t
+answers_make e (ReadFault s) number count report a b c undone h t = told_make e (ReadFault s) number count report a b c h t
+answers_make e (WriteFault s) number count report a b c undone h t = told_make e (WriteFault s) number count report a b c h t
+answers_make e (OpenFault s) number count report a b c undone h t = told_make e (OpenFault s) number count report a b c h t
+answers_make e OutOfMemory number count report a b c undone h t = told_make e OutOfMemory number count report a b c h t

@@ -1,0 +1,74 @@
+// A run over a workload in memory.
+ghost use Rattle.std.specs.Prelude.{◌≤◌, vec_capacity, MatchResult};
+ghost use Rattle.gateway.specs.Making.{IsMake, IsLineOf, Rehearses};
+
+use crate::Status;
+use crate::command::FileNames;
+use crate::report::{LINE, put_text};
+use crate::run::run;
+use gate_base::OutOfMemory;
+use gate_desk::{Desk, DiscardingDesk, Slot, Way};
+use gate_report::Line;
+use gate_workload::Workload;
+use std::alloc::Global;
+
+/// The names of the slots of a run in memory, which mean nothing.
+const NAMES: FileNames<'static> = FileNames {
+    settings: "settings",
+    left_in: "left",
+    right_in: "right",
+    left_out: "left",
+    right_out: "right",
+    report: "report",
+};
+
+/// Runs over the workload of a number with so many rounds, throws its outputs away, and answers the last line of its report.
+fn rehearse(alloc: Global, text: &mut Vec<u8>, number: u32, count: u32) -> Result<Line, Status>
+    requires { LINE ≤ vec_capacity text.old }
+    ensures answer { MatchResult result (λ line. IsLineOf line number count) (λ status. Rehearses status number count) }
+    ensures room { LINE ≤ vec_capacity text.new }
+{
+    let workload = match gate_workload::make(alloc, number, count) {
+        Ok(workload) => workload,
+        Err(OutOfMemory) => return Err(Status::OutOfMemory),
+    };
+    let Workload {
+        settings,
+        left,
+        right,
+    } = workload;
+    let mut desk = DiscardingDesk::make(
+        alloc,
+        settings.into_vec(),
+        left.into_vec(),
+        right.into_vec(),
+    );
+    run(alloc, &mut desk, NAMES, text)
+}
+
+/// Runs over the workload of a number with so many rounds, and writes the last line of its report as text.
+pub fn make<D: Desk>(
+    alloc: Global,
+    desk: &mut D,
+    text: &mut Vec<u8>,
+    number: u32,
+    count: u32,
+    report: &str,
+) -> Status
+    requires { LINE ≤ vec_capacity text.old }
+    ensures answer { IsMake result number count report.now (D.outside desk.old) (D.outside desk.new) }
+    ensures room { LINE ≤ vec_capacity text.new }
+{
+    match desk.start(Slot::Report, report, Way::Write) {
+        Ok(()) => {}
+        Err(_) => return Status::OpenFault(Slot::Report),
+    }
+    let line = match rehearse(alloc, text, number, count) {
+        Ok(line) => line,
+        Err(status) => return status,
+    };
+    match put_text(desk, text, &line) {
+        Ok(()) => Status::Done,
+        Err(status) => status,
+    }
+}

@@ -1,0 +1,230 @@
+-- Where sub-identifiers end.
+use Rattle.std.proofs.Common.{◌≡◌, ℕ, zero, suc, ◌+◌, ◌-◌, ◌<◌, ◌≤◌, ◌==◌, nat_eq, Bool, true, false, nat_lt, nat_le, if◌then◌else◌, List, [], ◌∷◌, ◌&&◌, get_or, take, drop, length, Option, Some, None, option_map, option_and_then, unwrap_or, is_some, IsSome, IsTrue, refl, ap, sym, ◌∙◌, arith, drop-cons, add-one}
+use Rattle.std.proofs.lemmas.Bool.Decides.{nat_tests}
+use Rattle.std.proofs.lemmas.List.{drop_all}
+use Rattle.std.specs.List.{starts_with, list_all}
+use Rattle.std.specs.Option.{option_or}
+use Rattle.gate_base.specs.Address.{◌>>=◌}
+use Rattle.gate_base.specs.declared.rule.OidRule.{OidRule}
+use Rattle.snmp_ber.proofs.Elements.{some_same}
+use Rattle.snmp_oids.specs.Arcs.{joined, numbers_from, numbers_of, numbers_in, arcs_for, arcs_of, arcs_in, address_of, named_by, named, named_in, small_first, before, is_rule}
+use Rattle.snmp_oids.specs.Identifier.{place_behind}
+use Rattle.snmp_oids.proofs.SubIdentifiers.{all_of, tail_is, some_mapped}
+
+behind_at : (k : ℕ) (xs : List ℕ) (i : ℕ) → i < length xs → place_behind (suc k) (drop i xs) ≡ 1 + (if nat_lt (get_or xs i 0) 128 then place_behind k (drop (i + 1) xs) else place_behind (suc k) (drop (i + 1) xs))
+unfolding place_behind
+behind_at k xs i below = rw (add-one, drop-cons xs i 0)
+
+pub behind_zero : (xs : List ℕ) → place_behind 0 xs ≡ 0
+unfolding place_behind
+behind_zero xs = refl
+
+pub behind_nil : (k : ℕ) → place_behind k [] ≡ 0
+unfolding place_behind
+behind_nil zero = refl
+behind_nil (suc k) = refl
+
+pub behind_end : (left : ℕ) (xs : List ℕ) (i : ℕ) → length xs ≤ i → place_behind left (drop i xs) ≡ 0
+behind_end left xs i past = ap (place_behind left) (drop_all i xs past) ∙ behind_nil left
+
+pub behind_less : (left less : ℕ) (xs : List ℕ) (i : ℕ) → (left ≡ 0 → ⊥) → i < length xs → get_or xs i 0 < 128 → less ≡ left - 1 → place_behind left (drop i xs) ≡ 1 + place_behind less (drop (i + 1) xs)
+behind_less zero less xs i some below ends is = absurd (some refl)
+behind_less (suc k) less xs i some below ends is =
+    let test : nat_lt (get_or xs i 0) 128 ≡ true = grind (arith, nat_tests) in
+    let same : less ≡ k = omega arith in
+    behind_at k xs i below
+    ∙ ap (λ b. 1 + (if b then place_behind k (drop (i + 1) xs) else place_behind (suc k) (drop (i + 1) xs))) test
+    ∙ ap (λ n. 1 + place_behind n (drop (i + 1) xs)) (sym same)
+
+pub behind_same : (left : ℕ) (xs : List ℕ) (i : ℕ) → (left ≡ 0 → ⊥) → i < length xs → 128 ≤ get_or xs i 0 → place_behind left (drop i xs) ≡ 1 + place_behind left (drop (i + 1) xs)
+behind_same zero xs i some below goes = absurd (some refl)
+behind_same (suc k) xs i some below goes =
+    let test : nat_lt (get_or xs i 0) 128 ≡ false = grind (arith, nat_tests) in
+    behind_at k xs i below
+    ∙ ap (λ b. 1 + (if b then place_behind k (drop (i + 1) xs) else place_behind (suc k) (drop (i + 1) xs))) test
+
+-- what numbers begin with, and what stands behind so many of them
+record Cut (o : Option ℕ) (f : ℕ → Option (List ℕ)) (ns : List ℕ) : Type 0 where
+  number : ℕ
+  then_is : f number ≡ Some ns
+
+cut_of : (o : Option ℕ) (f : ℕ → Option (List ℕ)) (ns : List ℕ) → (o >>= f) ≡ Some ns → Cut o f ns
+cut_of None f ns e = cc
+cut_of (Some n) f ns e = record { number = n; then_is = e }
+
+record Split (n : ℕ) (more : Option (List ℕ)) (ns : List ℕ) : Type 0 where
+  rest : List ℕ
+  more_is : more ≡ Some rest
+  is : ns ≡ n ∷ rest
+
+split_of : (n : ℕ) (more : Option (List ℕ)) (ns : List ℕ) → option_map (λ numbers. n ∷ numbers) more ≡ Some ns → Split n more ns
+split_of n None ns e = cc
+split_of n (Some rest) ns e = record { rest = rest; more_is = refl; is = sym (some_same _ _ e) }
+
+ends_empty : (s : ℕ) (ns : List ℕ) → (if s == 0 then Some [] else None) ≡ Some ns → ns ≡ []
+ends_empty zero ns e = sym (some_same _ _ e)
+ends_empty (suc s) ns e = (let no : (suc s == 0) ≡ false = grind (arith, nat_tests) in let wrong = rw no at e in absurd cc)
+
+moved : (octet : ℕ) (more : List ℕ) (n : ℕ) → drop (1 + n) (octet ∷ more) ≡ drop n more
+moved octet more n = let e : 1 + n ≡ suc n = omega arith in ap (λ m. drop m (octet ∷ more)) e
+
+step : (k octet : ℕ) (more ns : List ℕ) (b : Bool) (n : ℕ) → ((j s : ℕ) (ms : List ℕ) → numbers_from s more ≡ Some ms → numbers_from 0 (drop (place_behind (suc j) more) more) ≡ Some (drop (suc j) ms)) → (if b then option_map (λ numbers. n ∷ numbers) (numbers_from 0 more) else numbers_from n more) ≡ Some ns → numbers_from 0 (drop (1 + (if b then place_behind k more else place_behind (suc k) more)) (octet ∷ more)) ≡ Some (drop (suc k) ns)
+step zero octet more ns true n goes e =
+    let split = split_of n (numbers_from 0 more) ns e in
+    ap (numbers_from 0) (moved octet more (place_behind 0 more) ∙ ap (λ m. drop m more) (behind_zero more))
+    ∙ split.more_is
+    ∙ ap (λ xs. Some (drop 1 xs)) (sym split.is)
+step (suc j) octet more ns true n goes e =
+    let split = split_of n (numbers_from 0 more) ns e in
+    ap (numbers_from 0) (moved octet more (place_behind (suc j) more))
+    ∙ goes j 0 split.rest split.more_is
+    ∙ ap (λ xs. Some (drop (suc (suc j)) xs)) (sym split.is)
+step k octet more ns false n goes e = ap (numbers_from 0) (moved octet more (place_behind (suc k) more)) ∙ goes k n ns e
+
+pub behind_numbers : (k s : ℕ) (octets ns : List ℕ) → numbers_from s octets ≡ Some ns → numbers_from 0 (drop (place_behind (suc k) octets) octets) ≡ Some (drop (suc k) ns)
+unfolding numbers_from place_behind
+behind_numbers k s [] ns e = ap (λ xs. Some (drop (suc k) xs)) (sym (ends_empty s ns e))
+behind_numbers k s (octet ∷ more) ns e =
+    let cut = cut_of (joined s octet) _ ns e in
+    step k octet more ns (nat_lt octet 128) cut.number (λ j t ms is. behind_numbers j t more ms is) cut.then_is
+
+-- arcs behind at least two others are numbers
+pub drop_arcs : (k : ℕ) (ns : List ℕ) → drop (suc (suc k)) (arcs_for ns) ≡ drop (suc k) ns
+drop_arcs k [] = refl
+drop_arcs k (n ∷ ns) = refl
+
+pub arcs_are : (content : List ℕ) → IsSome (arcs_of content) → arcs_in content ≡ arcs_for (numbers_in content)
+arcs_are content some = by_numbers (numbers_of content) some
+  where
+    by_numbers : (o : Option (List ℕ)) → IsSome (option_map arcs_for o) → unwrap_or (option_map arcs_for o) [] ≡ arcs_for (unwrap_or o [])
+    by_numbers None some = refl
+    by_numbers (Some ns) some = refl
+
+pub numbers_some : (content : List ℕ) → IsSome (arcs_of content) → IsSome (numbers_of content)
+numbers_some content some = sym (some_mapped arcs_for (numbers_of content)) ∙ some
+
+-- whole sub-identifiers are left behind some of them
+pub behind_some : (content : List ℕ) (count start : ℕ) → IsSome (arcs_of content) → start ≡ place_behind count content → IsSome (numbers_of (take (length content - start) (drop start content)))
+behind_some content count start some is =
+    ap (λ n. is_some (numbers_of (take (length content - n) (drop n content)))) is
+    ∙ ap (λ xs. is_some (numbers_of xs)) (tail_is (place_behind count content) content)
+    ∙ by_count count
+  where
+    by_count : (count : ℕ) → is_some (numbers_of (drop (place_behind count content) content)) ≡ true
+    by_count zero = ap (λ n. is_some (numbers_of (drop n content))) (behind_zero content) ∙ numbers_some content some
+    by_count (suc k) = ap is_some (behind_numbers k 0 content (numbers_in content) (all_of (numbers_of content) (numbers_some content some)))
+
+-- the numbers behind so many arcs
+pub record Behind (content : List ℕ) (before start : ℕ) : Type 0 where
+  pub some : IsSome (numbers_of (take (length content - start) (drop start content)))
+  pub numbers_are : numbers_in (take (length content - start) (drop start content)) ≡ drop before (arcs_in content)
+
+pub behind : (content : List ℕ) (before start : ℕ) → IsSome (arcs_of content) → 2 ≤ before → start ≡ place_behind (before - 1) content → Behind content before start
+behind content zero start some two is = absurd (omega arith)
+behind content (suc zero) start some two is = absurd (omega arith)
+behind content (suc (suc k)) start some two is =
+    let less : suc (suc k) - 1 ≡ suc k = omega arith in
+    let place : start ≡ place_behind (suc k) content = is ∙ ap (λ n. place_behind n content) less in
+    let there = ap (λ xs. numbers_of xs) (tail_is start content) ∙ ap (λ n. numbers_of (drop n content)) place ∙ behind_numbers k 0 content (numbers_in content) (all_of (numbers_of content) (numbers_some content some)) in
+    record {
+      some = ap is_some there;
+      numbers_are = ap (λ o. unwrap_or o []) there ∙ sym (ap (drop (suc (suc k))) (arcs_are content some) ∙ drop_arcs k (numbers_in content));
+    }
+
+both_first : (a b : Bool) → (a && b) ≡ true → a ≡ true
+both_first true b e = refl
+both_first false b e = e
+
+both_second : (a b : Bool) → (a && b) ≡ true → b ≡ true
+both_second true b e = e
+both_second false b e = cc
+
+pub rule_two : (rule : OidRule) → IsTrue (is_rule rule) → 2 ≤ length rule.prefix
+rule_two rule fits =
+    let two : nat_le 2 (length rule.prefix) ≡ true = both_first _ _ (both_first _ _ (both_first _ _ (both_first _ _ fits))) in
+    grind (arith, nat_tests)
+
+pub named_is : (rule : OidRule) (arcs prefix numbers : List ℕ) (r : Option ℕ) → prefix ≡ rule.prefix → starts_with nat_eq arcs prefix ≡ true → r ≡ address_of numbers → numbers ≡ drop (before rule) arcs → r ≡ named_by rule arcs
+named_is rule arcs prefix numbers r same begins is are =
+    is ∙ ap address_of are ∙ sym (ap (λ b. if b then address_of (drop (before rule) arcs) else None) (ap (starts_with nat_eq arcs) (sym same) ∙ begins))
+
+-- what the rules find stands behind at least two arcs
+pub record Stands (arcs : List ℕ) (before address : ℕ) : Type 0 where
+  pub two : 2 ≤ before
+  pub is : address_of (drop before arcs) ≡ Some address
+
+by_rule : (arcs : List ℕ) (place : ℕ) (o : Option ℕ) (rest : Option (ℕ × ℕ)) (found : ℕ × ℕ) → (o ≡ None → Stands arcs found.0 found.1) → 2 ≤ place → ((address : ℕ) → o ≡ Some address → address_of (drop place arcs) ≡ Some address) → option_or (option_map (λ address. (place, address)) o) rest ≡ Some found → Stands arcs found.0 found.1
+by_rule arcs place None rest found later two here e = later refl
+by_rule arcs place (Some address) rest found later two here e =
+    let same = some_same _ _ e in
+    let place_is = ap (λ (p : ℕ × ℕ). p.0) same in
+    let address_is = ap (λ (p : ℕ × ℕ). p.1) same in
+    record { two = omega arith; is = ap (λ n. address_of (drop n arcs)) (sym place_is) ∙ here address refl ∙ ap Some address_is }
+
+by_begin : (b : Bool) (o : Option ℕ) (address : ℕ) → (if b then o else None) ≡ Some address → o ≡ Some address
+by_begin true o address e = e
+by_begin false o address e = cc
+
+pub found_stands : (rules : List OidRule) (arcs : List ℕ) (found : ℕ × ℕ) → IsTrue (list_all is_rule rules) → named rules arcs ≡ Some found → Stands arcs found.0 found.1
+found_stands [] arcs found fit e = cc
+found_stands (rule ∷ rules) arcs found fit e =
+    let two = rule_two rule (both_first _ _ fit) in
+    by_rule arcs (before rule) (named_by rule arcs) (named rules arcs) found
+    (λ none. found_stands rules arcs found (both_second _ _ fit) (sym (ap (λ o. option_or (option_map (λ address. (before rule, address)) o) (named rules arcs)) none) ∙ e))
+    (omega arith)
+    (λ address is. by_begin (starts_with nat_eq arcs rule.prefix) (address_of (drop (before rule) arcs)) address is)
+    e
+
+-- four sub-identifiers take at least four octets
+at_least : (k s : ℕ) (octets ns : List ℕ) → numbers_from s octets ≡ Some ns → k ≤ length ns → k ≤ place_behind k octets
+unfolding numbers_from place_behind
+at_least zero s octets ns e enough = omega arith
+at_least (suc k) s [] ns e enough = (let none = ends_empty s ns e in absurd (omega (arith, ap length none)))
+at_least (suc k) s (octet ∷ more) ns e enough =
+    let cut = cut_of (joined s octet) _ ns e in
+    by_end k octet more ns (nat_lt octet 128) cut.number (λ j t ms is many. at_least j t more ms is many) cut.then_is enough
+  where
+    by_end : (k octet : ℕ) (more ns : List ℕ) (b : Bool) (n : ℕ) → ((j t : ℕ) (ms : List ℕ) → numbers_from t more ≡ Some ms → j ≤ length ms → j ≤ place_behind j more) → (if b then option_map (λ numbers. n ∷ numbers) (numbers_from 0 more) else numbers_from n more) ≡ Some ns → suc k ≤ length ns → suc k ≤ 1 + (if b then place_behind k more else place_behind (suc k) more)
+    by_end k octet more ns true n goes e enough =
+        let split = split_of n (numbers_from 0 more) ns e in
+        let rest = goes k 0 split.rest split.more_is (omega (arith, ap length split.is)) in
+        omega (arith, rest)
+    by_end k octet more ns false n goes e enough = let rest = goes (suc k) n ns e enough in omega (arith, rest)
+
+small_goes : {B : Type 0} (a : ℕ) (arcs : List ℕ) (f : ℕ × List ℕ → Option B) (x : B) → (small_first (a ∷ arcs) >>= f) ≡ Some x → f (a, arcs) ≡ Some x
+small_goes {B} a arcs f x e = by_test (nat_le a 255) e
+  where
+    by_test : (b : Bool) → ((if b then Some (a, arcs) else None) >>= f) ≡ Some x → f (a, arcs) ≡ Some x
+    by_test true e = e
+    by_test false e = cc
+
+enough_by : (arcs : List ℕ) (address : ℕ) → address_of arcs ≡ Some address → 4 ≤ length arcs
+enough_by [] address e = cc
+enough_by (a ∷ []) address e = (let one = small_goes a [] _ address e in absurd cc)
+enough_by (a ∷ b ∷ []) address e = (let one = small_goes a (b ∷ []) _ address e in let two = small_goes b [] _ address one in absurd cc)
+enough_by (a ∷ b ∷ c ∷ []) address e = (let one = small_goes a (b ∷ c ∷ []) _ address e in let two = small_goes b (c ∷ []) _ address one in let three = small_goes c [] _ address two in absurd cc)
+enough_by (a ∷ b ∷ c ∷ d ∷ more) address e = omega arith
+
+-- what is found in content
+pub record Found (content : List ℕ) (before address : ℕ) : Type 0 where
+  pub some : IsSome (arcs_of content)
+  pub stands : Stands (arcs_in content) before address
+
+pub found_in : (rules : List OidRule) (content : List ℕ) (found : ℕ × ℕ) → IsTrue (list_all is_rule rules) → named_in rules content ≡ Some found → Found content found.0 found.1
+found_in rules content found fit e = by_arcs (arcs_of content) refl e
+  where
+    by_arcs : (o : Option (List ℕ)) → arcs_of content ≡ o → option_and_then (named rules) o ≡ Some found → Found content found.0 found.1
+    by_arcs None is e = cc
+    by_arcs (Some arcs) is e = record {
+      some = ap is_some is;
+      stands = found_stands rules (arcs_in content) found fit (ap (λ o. named rules (unwrap_or o [])) is ∙ e);
+    }
+
+-- four sub-identifiers of an address that is found take at least four octets
+pub four : (content : List ℕ) (before address start next : ℕ) → Found content before address → start ≡ place_behind (before - 1) content → next ≡ place_behind 4 (take (length content - start) (drop start content)) → 4 ≤ next
+four content before address start next found start_is next_is =
+    let rest = take (length content - start) (drop start content) in
+    let there = behind content before start found.some found.stands.two start_is in
+    let many = enough_by (drop before (arcs_in content)) address found.stands.is in
+    let least = at_least 4 0 rest (numbers_in rest) (all_of (numbers_of rest) there.some) (omega (arith, ap length there.numbers_are)) in
+    omega arith

@@ -1,0 +1,107 @@
+-- Sub-identifiers one after another.
+use Rattle.std.proofs.Common.{◌≡◌, ℕ, ◌+◌, ◌-◌, ◌<◌, ◌≤◌, ◌==◌, nat_eq, Bool, true, false, nat_lt, if◌then◌else◌, List, [], ◌∷◌, get_or, take, drop, length, ◌&&◌, Option, Some, None, option_map, unwrap_or, is_some, IsSome, IfNone, refl, ap, sym, ◌∙◌, arith, length-drop, drop-cons, add-one}
+use Rattle.std.proofs.lemmas.Bool.Decides.{nat_tests}
+use Rattle.std.proofs.lemmas.List.{drop_all, take_all}
+use Rattle.std.specs.List.{starts_with}
+use Rattle.gate_base.specs.Address.{◌>>=◌}
+use Rattle.snmp_oids.specs.Arcs.{joined, numbers_from, numbers_of}
+
+-- numbers go on with one more octet
+numbers_at : (s : ℕ) (xs : List ℕ) (i : ℕ) → i < length xs → numbers_from s (drop i xs) ≡ (joined s (get_or xs i 0) >>= λ number. if nat_lt (get_or xs i 0) 128 then option_map (λ numbers. number ∷ numbers) (numbers_from 0 (drop (i + 1) xs)) else numbers_from number (drop (i + 1) xs))
+unfolding numbers_from
+numbers_at s xs i below = rw (add-one, drop-cons xs i 0)
+
+by_octet : {A : Type 0} (o : Option ℕ) (f : ℕ → Option A) (r : Option A) → r ≡ (o >>= f) → (p : Option ℕ) → p ≡ o → (v : Option A) → (p >>= f) ≡ v → r ≡ v
+by_octet o f r e p same v is = e ∙ ap (λ o. o >>= f) (sym same) ∙ is
+
+chosen : {A : Type 0} (test : Bool) (value : Bool) (x y : A) → test ≡ value → (if test then x else y) ≡ (if value then x else y)
+chosen test value x y e = ap (λ b. if b then x else y) e
+
+below_128 : (octet : ℕ) → octet < 128 → nat_lt octet 128 ≡ true
+below_128 octet below = grind (arith, nat_tests)
+
+above_128 : (octet : ℕ) → 128 ≤ octet → nat_lt octet 128 ≡ false
+above_128 octet above = grind (arith, nat_tests)
+
+pub numbers_stop : (s : ℕ) (xs : List ℕ) (i : ℕ) (o : Option ℕ) → i < length xs → o ≡ joined s (get_or xs i 0) → o ≡ None → numbers_from s (drop i xs) ≡ None
+numbers_stop s xs i o below found none = by_octet _ _ _ (numbers_at s xs i below) None (sym none ∙ found) _ refl
+
+pub numbers_go : (s : ℕ) (xs : List ℕ) (i : ℕ) (o : Option ℕ) (n : ℕ) → i < length xs → o ≡ joined s (get_or xs i 0) → o ≡ Some n → 128 ≤ get_or xs i 0 → numbers_from s (drop i xs) ≡ numbers_from n (drop (i + 1) xs)
+numbers_go s xs i o n below found is above =
+    by_octet _ _ _ (numbers_at s xs i below) (Some n) (sym is ∙ found) _ (chosen (nat_lt (get_or xs i 0) 128) false _ _ (above_128 (get_or xs i 0) above))
+
+pub numbers_end : (s : ℕ) (xs : List ℕ) (i : ℕ) (o : Option ℕ) (n : ℕ) → i < length xs → o ≡ joined s (get_or xs i 0) → o ≡ Some n → get_or xs i 0 < 128 → numbers_from s (drop i xs) ≡ option_map (λ numbers. n ∷ numbers) (numbers_of (drop (i + 1) xs))
+numbers_end s xs i o n below found is under =
+    by_octet _ _ _ (numbers_at s xs i below) (Some n) (sym is ∙ found) _ (chosen (nat_lt (get_or xs i 0) 128) true _ _ (below_128 (get_or xs i 0) under))
+
+pub numbers_past : (s : ℕ) (xs : List ℕ) (i : ℕ) → length xs ≤ i → numbers_from s (drop i xs) ≡ (if s == 0 then Some [] else None)
+unfolding numbers_from
+numbers_past s xs i past = rw drop_all
+
+pub some_mapped : {A B : Type 0} (f : A → B) (o : Option A) → is_some (option_map f o) ≡ is_some o
+some_mapped f None = refl
+some_mapped f (Some x) = refl
+
+pub some_test : {A : Type 0} (b : Bool) (x : A) → is_some (if b then Some x else None) ≡ b
+some_test true x = refl
+some_test false x = refl
+
+pub test_some : {A : Type 0} (b : Bool) (x : A) → IsSome (if b then Some x else None) → (if b then Some x else None) ≡ Some x
+test_some true x some = refl
+test_some false x some = cc
+
+-- what `&xs[i..]` is
+pub tail_is : (i : ℕ) (xs : List ℕ) → take (length xs - i) (drop i xs) ≡ drop i xs
+tail_is i xs = take_all (length xs - i) (drop i xs) (omega (arith, length-drop i xs))
+
+pub number_found : (s : ℕ) (xs : List ℕ) (i : ℕ) (o : Option ℕ) (n : ℕ) → i < length xs → o ≡ joined s (get_or xs i 0) → o ≡ Some n → get_or xs i 0 < 128 → numbers_from s (drop i xs) ≡ numbers_from 0 xs → numbers_of xs ≡ option_map (λ numbers. n ∷ numbers) (numbers_of (take (length xs - (i + 1)) (drop (i + 1) xs)))
+number_found s xs i o n below found is under same =
+    sym same ∙ numbers_end s xs i o n below found is under ∙ ap (λ ys. option_map (λ numbers. n ∷ numbers) (numbers_of ys)) (sym (tail_is (i + 1) xs))
+
+pub never_none : {A : Type 0} (r : Option A) (o : Option (List ℕ)) → o ≡ None → IfNone r (IsSome o → o ≡ Some [])
+never_none None o none = λ some. cc
+never_none (Some x) o none = tt
+
+pub at_end : (s : ℕ) (o : Option (List ℕ)) → o ≡ (if s == 0 then Some [] else None) → IsSome o → o ≡ Some []
+at_end s o e some = by_test (s == 0) e
+  where
+    by_test : (b : Bool) → o ≡ (if b then Some [] else None) → o ≡ Some []
+    by_test true is = is
+    by_test false is = (let wrong = sym (ap is_some is) ∙ some in cc)
+
+-- one number more
+pub record More (o rest : Option (List ℕ)) (n : ℕ) : Type 0 where
+  pub is : unwrap_or o [] ≡ n ∷ unwrap_or rest []
+  pub some : IsSome rest
+  pub rest_is : rest ≡ Some (unwrap_or rest [])
+  pub all_is : o ≡ Some (n ∷ unwrap_or rest [])
+
+pub one_more : (o rest : Option (List ℕ)) (n : ℕ) → o ≡ option_map (λ numbers. n ∷ numbers) rest → IsSome o → More o rest n
+one_more o None n e some = (let wrong = sym (ap is_some e) ∙ some in absurd cc)
+one_more o (Some ns) n e some = record { is = ap (λ o. unwrap_or o []) e; some = refl; rest_is = refl; all_is = e }
+
+pub none_left : (o : Option (List ℕ)) → o ≡ Some [] → unwrap_or o [] ≡ []
+none_left o e = ap (λ o. unwrap_or o []) e
+
+pub all_of : {A : Type 0} (o : Option (List A)) → IsSome o → o ≡ Some (unwrap_or o [])
+all_of None some = cc
+all_of (Some x) some = refl
+
+-- prefixes
+pub begins_more : (ns : List ℕ) (n : ℕ) (numbers : List ℕ) (i : ℕ) → i < length numbers → starts_with nat_eq (n ∷ ns) (drop i numbers) ≡ (nat_eq (get_or numbers i 0) n && starts_with nat_eq ns (drop (i + 1) numbers))
+begins_more ns n numbers i below = rw (add-one, drop-cons numbers i 0)
+
+pub begins_none : (numbers : List ℕ) (i : ℕ) → i < length numbers → starts_with nat_eq [] (drop i numbers) ≡ false
+begins_none numbers i below = rw (drop-cons numbers i 0)
+
+pub begins_all : (ns numbers : List ℕ) (i : ℕ) → length numbers ≤ i → starts_with nat_eq ns (drop i numbers) ≡ true
+begins_all ns numbers i past = rw drop_all
+
+pub begins_two : (a b : ℕ) (ns prefix : List ℕ) → 2 ≤ length prefix → starts_with nat_eq (a ∷ b ∷ ns) prefix ≡ (nat_eq (get_or prefix 0 0) a && (nat_eq (get_or prefix 1 0) b && starts_with nat_eq ns (drop 2 prefix)))
+begins_two a b ns [] two = absurd (omega arith)
+begins_two a b ns (x ∷ []) two = absurd (omega arith)
+begins_two a b ns (x ∷ y ∷ more) two = refl
+
+pub begins_no : (prefix : List ℕ) → 2 ≤ length prefix → starts_with nat_eq [] prefix ≡ false
+begins_no [] two = absurd (omega arith)
+begins_no (x ∷ more) two = refl

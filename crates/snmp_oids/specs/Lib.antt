@@ -1,0 +1,4 @@
+pub mod Arcs
+pub mod Identifier
+pub mod Elements
+pub mod Written

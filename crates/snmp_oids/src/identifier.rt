@@ -1,0 +1,188 @@
+// Object identifiers, the addresses in them, and other addresses in their place (RFC 2962, 4.2).
+ghost use Rattle.std.specs.Prelude.{◌≡◌, ◌+◌, ◌*◌, ◌^◌, ◌<◌, ◌≤◌, length, option_map, option_and_then, IfSome, IsSome, IsTrue};
+ghost use Rattle.snmp_oids.specs.Arcs.{AreRules, is_rule, named_by, named_in, arcs_of};
+ghost use Rattle.snmp_oids.specs.Identifier.{place_behind, arc_octets, address_octets, change_at, change_of, changed, identifier_renamed};
+ghost use Rattle.snmp_oids.specs.Written.{with_octets};
+
+use crate::arcs::{address_of, arcs_begin, has_arcs};
+use crate::put::put;
+use gate_base::{Addr, OidRule};
+use snmp_gateway::Lookup;
+
+/// The address that is to stand in place of the octets from a start to an end.
+#[derive(Clone, Copy)]
+pub(crate) struct Change {
+    start: usize,
+    end: usize,
+    address: Addr,
+}
+
+/// The address in the content of an OBJECT IDENTIFIER (X.690, 8.19), by rules.
+///
+/// Each rule has 2 to 64 arcs, the first at most 2, the second at most 39 after 0 or 1 and at most 4,294,967,215 after 2, and
+/// skips at most 127. The first rule in order whose arcs begin those of the content, and behind whose arcs and as many as it
+/// skips at least four follow, the first four of them at most 255, names the address of these four. None exactly where no
+/// rule does, as where the content has no arcs: its last octet has the high bit, a sub-identifier begins with 0x80, or one is
+/// above 4,294,967,295.
+pub fn address_in(content: &[u8], rules: &[OidRule]) -> Option<Addr>
+    requires { AreRules rules.now }
+    ensures { option_map (λ a. a.0) result ≡ option_map (λ found. found.1) (named_in rules.now content.now) }
+{
+    let (_, address) = named_in(content, rules)?;
+    Some(address)
+}
+
+// How many arcs stand before the address that the rules name, and that address.
+fn named_in(content: &[u8], rules: &[OidRule]) -> Option<(usize, Addr)>
+    requires { AreRules rules.now }
+    ensures value { option_map (λ p. (p.0, p.1.0)) result ≡ named_in rules.now content.now }
+{
+    for rule in rules {
+        if let Some(address) = named_by(content, rule) {
+            return Some((rule.prefix.items().len() + rule.skip as usize, address));
+        }
+    }
+    None
+}
+
+// The address that a rule names.
+fn named_by(content: &[u8], rule: &OidRule) -> Option<Addr>
+    requires { IsTrue (is_rule rule.now) }
+    ensures { option_map (λ a. a.0) result ≡ option_and_then (named_by rule.now) (arcs_of content.now) }
+{
+    let prefix = rule.prefix.items();
+    if !arcs_begin(content, prefix) || !has_arcs(content) {
+        return None;
+    }
+    let start = place_behind(prefix.len() + rule.skip as usize - 1, content);
+    address_of(&content[start..])
+}
+
+// How many octets so many sub-identifiers take, or fewer of them that fill octets.
+fn place_behind(count: usize, octets: &[u8]) -> usize
+    ensures value { result ≡ place_behind count octets.now }
+    ensures within { result ≤ length octets.now }
+{
+    let mut left = count;
+    for (place, octet) in octets.iter().enumerate() {
+        if left == 0 {
+            return place;
+        }
+        if *octet < 128 {
+            left -= 1;
+        }
+    }
+    octets.len()
+}
+
+// What is to change in content: the address that the rules name, if it has an image.
+fn change_of<L: Lookup>(content: &[u8], rules: &[OidRule], lookup: &L) -> Option<Change>
+    requires { AreRules rules.now }
+    ensures value { result ≡ change_of (L.image_of lookup.now) rules.now content.now }
+    ensures within { IfSome result (λ change. change.start + 4 ≤ change.end × change.end ≤ length content.now) }
+{
+    let (before, address) = named_in(content, rules)?;
+    let address = lookup.image(address)?;
+    let start = place_behind(before - 1, content);
+    let end = start + place_behind(4, &content[start..]);
+    Some(Change {
+        start,
+        end,
+        address,
+    })
+}
+
+// How many octets an arc of at most 255 takes, the fewest.
+fn arc_size(arc: u8) -> usize
+    ensures { result ≡ length (arc_octets arc) }
+{
+    if arc < 128 { 1 } else { 2 }
+}
+
+// How many octets the four arcs of an address take.
+fn address_size(address: Addr) -> usize
+    ensures value { result ≡ length (address_octets address.0) }
+    ensures within { result ≤ 8 }
+{
+    let [a, b, c, d] = address.0.to_be_bytes();
+    arc_size(a) + arc_size(b) + arc_size(c) + arc_size(d)
+}
+
+// Writes an arc of at most 255 in the fewest octets at a place. The result is the place behind it.
+fn put_arc(arc: u8, target: &mut [u8], place: usize) -> usize
+    requires { place + length (arc_octets arc) ≤ length target.old }
+    ensures written { target.new ≡ with_octets place (arc_octets arc) target.old }
+    ensures end { result ≡ place + length (arc_octets arc) }
+{
+    if arc < 128 {
+        put(&[arc], target, place)
+    } else {
+        put(&[128 + arc / 128, arc % 128], target, place)
+    }
+}
+
+// Writes the four arcs of an address at a place. The result is the place behind them.
+fn put_address(address: Addr, target: &mut [u8], place: usize) -> usize
+    requires { place + length (address_octets address.0) ≤ length target.old }
+    ensures written { target.new ≡ with_octets place (address_octets address.0) target.old }
+    ensures end { result ≡ place + length (address_octets address.0) }
+{
+    let [a, b, c, d] = address.0.to_be_bytes();
+    let place = put_arc(a, target, place);
+    let place = put_arc(b, target, place);
+    let place = put_arc(c, target, place);
+    put_arc(d, target, place)
+}
+
+/// Whether content stays as it is: the rules name no address in it that has an image.
+pub(crate) fn keeps_identifier<L: Lookup>(content: &[u8], rules: &[OidRule], lookup: &L) -> bool
+    requires { AreRules rules.now }
+    ensures { IsTrue result → identifier_renamed (L.image_of lookup.now) rules.now content.now ≡ content.now }
+{
+    change_of(content, rules, lookup).is_none()
+}
+
+/// How many octets content has with the image of the address in its place.
+pub(crate) fn identifier_size<L: Lookup>(content: &[u8], rules: &[OidRule], lookup: &L) -> usize
+    requires rules { AreRules rules.now }
+    requires fits { 4 * length content.now < 2 ^ 64 }
+    ensures size { result ≡ length (identifier_renamed (L.image_of lookup.now) rules.now content.now) }
+    ensures within { result ≤ 4 * length content.now }
+{
+    match change_of(content, rules, lookup) {
+        Some(change) => change.start + address_size(change.address) + (content.len() - change.end),
+        None => content.len(),
+    }
+}
+
+/// Writes content at a place, with the image of the address in its place. The result is the place behind it.
+pub(crate) fn put_identifier<L: Lookup>(
+    content: &[u8],
+    rules: &[OidRule],
+    lookup: &L,
+    target: &mut [u8],
+    place: usize,
+) -> usize
+    requires rules { AreRules rules.now }
+    requires room { place + 4 * length content.now ≤ length target.old }
+    ensures written { target.new ≡ with_octets place (identifier_renamed (L.image_of lookup.now) rules.now content.now) target.old }
+    ensures end { result ≡ place + length (identifier_renamed (L.image_of lookup.now) rules.now content.now) }
+{
+    match change_of(content, rules, lookup) {
+        Some(change) => put_changed(content, change, target, place),
+        None => put(content, target, place),
+    }
+}
+
+// Writes content with a change at a place. The result is the place behind it.
+fn put_changed(content: &[u8], change: Change, target: &mut [u8], place: usize) -> usize
+    requires order { change.start ≤ change.end }
+    requires end { change.end ≤ length content.now }
+    requires room { place + length (changed content.now change) ≤ length target.old }
+    ensures written { target.new ≡ with_octets place (changed content.now change) target.old }
+    ensures end { result ≡ place + length (changed content.now change) }
+{
+    let place = put(&content[..change.start], target, place);
+    let place = put_address(change.address, target, place);
+    put(&content[change.end..], target, place)
+}

@@ -1,0 +1,17 @@
+//! The addresses inside object identifiers of SNMP messages, by rules, and their renaming by an advanced gateway (RFC 2962, 4.2).
+#![tactic(auto)]
+
+mod arcs;
+mod elements;
+mod head;
+mod identifier;
+mod laws;
+mod put;
+mod rename;
+
+pub use identifier::address_in;
+pub use laws::no_rule_is_basic;
+pub use rename::rename_into;
+
+#[cfg(test)]
+mod tests;
