@@ -47,42 +47,39 @@ fn empty_desk(alloc: Global) -> Result<MemoryDesk, AllocError> {
 }
 
 // The status of a command over this desk.
-fn status_of<D: Desk>(alloc: Global, line: &str, desk: &mut D) -> Result<Status, AllocError> {
+fn status_of<D: Desk>(alloc: Global, line: &str, desk: &mut D) -> io::Result<Status> {
     let words = words_of(alloc, line)?;
     Ok(run_gate(alloc, &words, desk))
 }
 
 // Whether these words over this desk are answered by the one usage line.
-fn is_answered(alloc: Global, line: &str, desk: &mut MemoryDesk) -> Result<bool, AllocError> {
+fn is_answered(alloc: Global, line: &str, desk: &mut MemoryDesk) -> io::Result<bool> {
     let status = status_of(alloc, line, desk)?;
     Ok(status == Status::Usage && desk.output(Slot::Errors) == USAGE)
 }
 
 /// Whether the words of a line, which are no command, are answered by the one usage line.
 pub(crate) fn is_no_command(rt: &HostRuntime, line: &str) -> io::Result<bool> {
-    Ok(is_answered(rt.alloc(), line, &mut empty_desk(rt.alloc())?)?)
+    is_answered(rt.alloc(), line, &mut empty_desk(rt.alloc())?)
+}
+
+// Whether nothing but this line was written, on the report.
+fn has_line(desk: &MemoryDesk, line: &str) -> bool {
+    desk.output(Slot::LeftOut).is_empty()
+        && desk.output(Slot::RightOut).is_empty()
+        && desk.output(Slot::Report).strip_suffix(b"\n") == Some(line.as_bytes())
 }
 
 // Whether a make over this desk writes just this line, on the report alone.
-fn makes(
-    alloc: Global,
-    words: &str,
-    line: &str,
-    desk: &mut MemoryDesk,
-) -> Result<bool, AllocError> {
+fn makes(alloc: Global, words: &str, line: &str, desk: &mut MemoryDesk) -> io::Result<bool> {
     let status = status_of(alloc, words, desk)?;
-    let captures = desk.output(Slot::LeftOut).len() + desk.output(Slot::RightOut).len();
-    Ok(
-        status == Status::Done
-            && captures == 0
-            && desk.output(Slot::Report).strip_suffix(b"\n") == Some(line.as_bytes()),
-    )
+    Ok(status == Status::Done && has_line(desk, line))
 }
 
 /// Whether the words of a make before an equals sign write the line behind it.
 pub(crate) fn is_made(rt: &HostRuntime, line: &str) -> io::Result<bool> {
     match line.split_once(" = ") {
-        Some((words, line)) => Ok(makes(rt.alloc(), words, line, &mut empty_desk(rt.alloc())?)?),
+        Some((words, line)) => makes(rt.alloc(), words, line, &mut empty_desk(rt.alloc())?),
         None => Ok(false),
     }
 }
