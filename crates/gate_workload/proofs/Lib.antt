@@ -1,3 +1,5 @@
 pub mod Joined
 pub mod Options
 pub mod ReadBack
+pub mod Lengths
+pub mod Whole

@@ -17,7 +17,7 @@ good_length : (field count : ℕ) → field ≡ count → 8 ≤ count → field 
 good_length field count same long small = grind (arith, nat_tests)
 
 -- a checksum takes no room
-sealed_long : (flow : Flow) (payload : List ℕ) → length (sealed_udp flow.source.0 flow.destination.0 (udp_header flow (8 + length payload) ++ payload)) ≡ 8 + length payload
+pub sealed_long : (flow : Flow) (payload : List ℕ) → length (sealed_udp flow.source.0 flow.destination.0 (udp_header flow (8 + length payload) ++ payload)) ≡ 8 + length payload
 unfolding sealed_udp
 sealed_long flow payload = omega arith
 

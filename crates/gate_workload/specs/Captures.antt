@@ -1,6 +1,7 @@
 -- The captures of the workload: bare datagrams, little-endian, fractions in microseconds.
 use Rattle.std.specs.Prelude.{ℕ, ◌+◌, ◌*◌, ◌/◌, ◌%◌, List, [], ◌∷◌, ◌++◌, length}
 use Rattle.gate_base.specs.declared.side.Link.TheVariants.{Raw}
+use Rattle.pcap_files.specs.declared.form.Form.{Form}
 use Rattle.pcap_files.specs.declared.form.Order.TheVariants.{Little}
 use Rattle.pcap_files.specs.declared.form.Precision.TheVariants.{Microseconds}
 use Rattle.pcap_files.specs.Spelling.{spelled_head, spelled_numbers}
@@ -16,3 +17,7 @@ record_head n len = spelled_numbers Little (1000 + n / 1000) (n % 1000 * 1000) l
 -- the record of frame n
 unfoldable pub record_of : ℕ → List ℕ → List ℕ
 record_of n datagram = record_head n (length datagram) ++ datagram
+
+-- what both captures are
+abbrev pub capture_form : Form
+capture_form = record { order = Little; precision = Microseconds; link = Raw }

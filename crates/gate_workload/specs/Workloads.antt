@@ -1,6 +1,8 @@
 -- A whole workload.
-use Rattle.std.specs.Prelude.{ℕ, List, ◌++◌, codes}
+use Rattle.std.specs.Prelude.{◌≡◌, ℕ, List, ◌++◌, codes}
+use Rattle.pcap_files.specs.Capture.{Good, Whole, head_of, capture_of}
 use Rattle.gate_workload.specs.declared.workload.Workload.{Workload}
+use Rattle.gate_workload.specs.Captures.{capture_form}
 use Rattle.gate_workload.specs.Rounds.{made}
 
 -- the settings: both links raw, pools of 254 addresses, and three static bindings
@@ -21,3 +23,7 @@ settings =
 -- the settings, and the captures after so many rounds
 abbrev pub workload : ℕ → ℕ → Workload
 workload number count = record { settings = settings; left = (made number count).left; right = (made number count).right }
+
+-- a capture of the workload that is read to its end without a fault
+abbrev pub IsWhole : List ℕ → Type 0
+IsWhole all = (head_of all ≡ Good capture_form) × ((capture_of all).ending ≡ Whole)

@@ -1,6 +1,6 @@
 // A whole workload.
-ghost use Rattle.std.specs.Prelude.{◌≡◌, IfOk};
-ghost use Rattle.gate_workload.specs.Workloads.{settings, workload};
+ghost use Rattle.std.specs.Prelude.{◌≡◌, ◌≤◌, ℕ, IfOk};
+ghost use Rattle.gate_workload.specs.Workloads.{IsWhole, settings, workload};
 
 use crate::octets::Octets;
 use crate::rounds::Making;
@@ -41,3 +41,9 @@ pub fn make(alloc: Global, number: u32, count: u32) -> Result<Workload, OutOfMem
         right: Octets::of(right),
     })
 }
+
+/// Both captures of a workload of at most 100,000 rounds are read to their ends without a fault.
+pub fn captures_are_whole()
+    ensures left { (number count : ℕ) → count ≤ 100000 → IsWhole (workload number count).left }
+    ensures right { (number count : ℕ) → count ≤ 100000 → IsWhole (workload number count).right }
+{}

@@ -1,5 +1,5 @@
 -- A run over a workload in memory.
-use Rattle.std.proofs.Common.{◌≡◌, ℕ, List, [], ◌∷◌, Ok, Err, IsTrue, inl, inr, refl, sym, ap, subst, ◌∙◌, arith}
+use Rattle.std.proofs.Common.{◌≡◌, ℕ, List, [], ◌∷◌, ◌≤◌, Result, Ok, Err, MatchResult, IsTrue, inl, inr, refl, sym, ap, subst, ◌∙◌, arith}
 use Rattle.std.proofs.lemmas.Bool.{false≢true}
 use Rattle.gate_desk.specs.declared.slot.Slot.{Slot}
 use Rattle.gate_desk.specs.declared.slot.Slot.TheVariants.{Settings, LeftIn, RightIn, LeftOut, RightOut, Report, Errors}
@@ -7,16 +7,20 @@ use Rattle.gate_desk.specs.declared.slot.PerSlot.{PerSlot}
 use Rattle.gate_desk.specs.Discarded.{told_by}
 use Rattle.gate_desk.specs.Outside.{Outside, Told, FailsToStart, HasFailed, HasFailedToStart}
 use Rattle.gate_desk.proofs.Laws.{grows_not, grows_on, grows_fails_to_start, failed_since}
+use Rattle.gate_desk.specs.Memory.{inputs}
 use Rattle.gate_report.specs.declared.line.Line.{Line}
+use Rattle.gate_workload.specs.declared.workload.Workload.{Workload}
+use Rattle.gate_workload.specs.Workloads.{workload}
 use Rattle.gateway.specs.Status.{is_settings_fault}
 use Rattle.gateway.specs.declared.status.Status.{Status}
 use Rattle.gateway.specs.declared.status.Status.TheVariants.{Done, Usage, SettingsRefused, CaptureRefused, ReadFault, WriteFault, OpenFault, OutOfMemory}
 use Rattle.gateway.specs.Command.{Names, make_starts}
 use Rattle.gateway.specs.Causes.{StartsAll, Gives}
 use Rattle.gateway.specs.Pieces.{wrote_pieces, WritesAll, IsFront}
-use Rattle.gateway.specs.Making.{workload_in, made_piece, IsLineOf, Rehearses, IsMake}
+use Rattle.gateway.specs.Making.{workload_in, made_piece, IsLineOf, IsMake}
 use Rattle.gateway.specs.Answers.{Runs, Tells, IsToldMake, AnswersMake}
 use Rattle.gateway.proofs.Causes.{starts_none, starts_all}
+use Rattle.gateway.proofs.Accepted.{never_refused, never_faulty}
 
 -- no count of a desk that discards rises
 never_failed : (s : Slot) (l k : PerSlot (List ℕ)) → HasFailed s (told_by l) (told_by k) → ⊥
@@ -38,19 +42,32 @@ never_failed_to_start Report l k h = omega (arith, h)
 never_failed_to_start Errors l k h = omega (arith, h)
 
 -- the run over the workload is done
-pub rehearsed : (line : Line) (names : Names) (number count : ℕ) (k : PerSlot (List ℕ)) → Runs (Ok line) names (told_by (workload_in number count)) (told_by k) → IsLineOf line number count
+rehearsed : (line : Line) (names : Names) (number count : ℕ) (k : PerSlot (List ℕ)) → Runs (Ok line) names (told_by (workload_in number count)) (told_by k) → IsLineOf line number count
 rehearsed line names number count k h = record { settings = h.1.0; accepted = h.1.1; ended = h.0.ends.cause.0.2; line_is = h.1.2 }
 
--- or it isn't
-pub not_rehearsed : (e : Status) (names : Names) (number count : ℕ) (k : PerSlot (List ℕ)) → Runs (Err e) names (told_by (workload_in number count)) (told_by k) → Rehearses e number count
-not_rehearsed Done names number count k h = absurd h
-not_rehearsed Usage names number count k h = absurd h.ends.cause
-not_rehearsed (SettingsRefused f) names number count k h = h.ends.cause
-not_rehearsed (CaptureRefused side f place) names number count k h = h.ends.cause
-not_rehearsed (ReadFault s) names number count k h = never_failed s (workload_in number count) k h.ends.cause.1
-not_rehearsed (WriteFault s) names number count k h = never_failed s (workload_in number count) k h.ends.cause.1
-not_rehearsed (OpenFault s) names number count k h = never_failed_to_start s (workload_in number count) k h.ends.cause.1
-not_rehearsed OutOfMemory names number count k h = tt
+-- or memory was wanting
+not_rehearsed : (e : Status) (names : Names) (number count : ℕ) (k : PerSlot (List ℕ)) → count ≤ 100000 → Runs (Err e) names (told_by (workload_in number count)) (told_by k) → e ≡ OutOfMemory
+not_rehearsed Done names number count k few h = absurd h
+not_rehearsed Usage names number count k few h = absurd h.ends.cause
+not_rehearsed (SettingsRefused f) names number count k few h = absurd (never_refused f h.ends.cause)
+not_rehearsed (CaptureRefused side f place) names number count k few h = absurd (never_faulty number count side f place few h.ends.cause.2)
+not_rehearsed (ReadFault s) names number count k few h = absurd (never_failed s (workload_in number count) k h.ends.cause.1)
+not_rehearsed (WriteFault s) names number count k few h = absurd (never_failed s (workload_in number count) k h.ends.cause.1)
+not_rehearsed (OpenFault s) names number count k few h = absurd (never_failed_to_start s (workload_in number count) k h.ends.cause.1)
+not_rehearsed OutOfMemory names number count k few h = refl
+
+-- the desk holds the workload
+pub holds_workload : (number count : ℕ) (made : Workload) (desk : PerSlot (List ℕ)) (settings left right : List ℕ) → made ≡ workload number count
+    → desk ≡ inputs settings left right → settings ≡ made.settings → left ≡ made.left → right ≡ made.right → desk ≡ workload_in number count
+holds_workload number count made desk settings left right is holds a b c =
+    holds ∙ ap (λ xs. inputs xs left right) a ∙ ap (λ xs. inputs made.settings xs right) b ∙ ap (λ xs. inputs made.settings made.left xs) c
+    ∙ ap (λ (w : Workload). inputs w.settings w.left w.right) is
+
+-- the run over the workload is done, unless memory is wanting
+pub rehearses : (r : Result Line Status) (names : Names) (number count : ℕ) (desk k : PerSlot (List ℕ)) → count ≤ 100000 → desk ≡ workload_in number count
+    → Runs r names (told_by desk) (told_by k) → MatchResult r (λ line. IsLineOf line number count) (λ status. status ≡ OutOfMemory)
+rehearses (Ok line) names number count desk k few is h = rehearsed line names number count k (subst (λ (d : PerSlot (List ℕ)). Runs (Ok line) names (told_by d) (told_by k)) is h)
+rehearses (Err e) names number count desk k few is h = not_rehearsed e names number count k few (subst (λ (d : PerSlot (List ℕ)). Runs (Err e) names (told_by d) (told_by k)) is h)
 
 -- nothing was started yet
 pub not_started : (number count : ℕ) (report : List ℕ) (a : Outside) → IsMake OutOfMemory number count report a a
@@ -60,16 +77,10 @@ not_started number count report a = record { made = (starts_none (make_starts re
 pub not_opened : (number count : ℕ) (report : List ℕ) (a b : Outside) → FailsToStart Report a b → IsMake (OpenFault Report) number count report a b
 not_opened number count report a b h = record { made = (h.cause, h.starts, h.written); left = h.left; grows = grows_fails_to_start Report a b h }
 
--- the run over the workload isn't done
-pub not_made : (e : Status) (number count : ℕ) (report : List ℕ) (a b : Outside) → Rehearses e number count → StartsAll (make_starts report) a b → IsMake e number count report a b
-not_made OutOfMemory number count report a b r h = record { made = (starts_all (make_starts report) a b h.starts, h.written); left = h.left; grows = h.grows }
-not_made (SettingsRefused f) number count report a b r h = record { made = (r, (h.starts, h.written)); left = h.left; grows = h.grows }
-not_made (CaptureRefused side f place) number count report a b r h = record { made = (r, (h.starts, h.written)); left = h.left; grows = h.grows }
-not_made Done number count report a b r h = absurd r
-not_made Usage number count report a b r h = absurd r
-not_made (ReadFault s) number count report a b r h = absurd r
-not_made (WriteFault s) number count report a b r h = absurd r
-not_made (OpenFault s) number count report a b r h = absurd r
+-- memory was wanting for the run over the workload
+pub not_made : (e : Status) (number count : ℕ) (report : List ℕ) (a b : Outside) → e ≡ OutOfMemory → StartsAll (make_starts report) a b → IsMake e number count report a b
+not_made e number count report a b is h =
+    subst (λ (s : Status). IsMake s number count report a b) (sym is) (record { made = (starts_all (make_starts report) a b h.starts, h.written); left = h.left; grows = h.grows })
 
 -- the line was written
 pub made : (line : Line) (number count : ℕ) (report : List ℕ) (a b c : Outside) → StartsAll (make_starts report) a b → IsLineOf line number count → WritesAll (made_piece line ∷ []) b c → IsMake Done number count report a c
@@ -92,7 +103,7 @@ not_written e line number count report a b c h is same k =
 -- ## The line
 
 untold : (e : Status) (number count : ℕ) (report : List ℕ) (a b : Outside) → IsTrue (is_settings_fault e) → IsMake e number count report a b → IsMake OutOfMemory number count report a b
-untold (SettingsRefused f) number count report a b is h = record { made = (starts_all (make_starts report) a b h.made.1.0, h.made.1.1); left = h.left; grows = h.grows }
+untold (SettingsRefused f) number count report a b is h = absurd h.made
 untold Done number count report a b is h = absurd (false≢true is)
 untold Usage number count report a b is h = absurd (false≢true is)
 untold (CaptureRefused side f place) number count report a b is h = absurd (false≢true is)

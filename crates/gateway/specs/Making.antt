@@ -1,16 +1,15 @@
 -- What a make answers: a run over the workload of two numbers, whose outputs are thrown away, but for the last line.
-use Rattle.std.specs.Prelude.{◌≡◌, ℕ, List, [], ◌∷◌, false, Err}
+use Rattle.std.specs.Prelude.{◌≡◌, ℕ, List, [], ◌∷◌, false}
 use Rattle.gate_desk.specs.declared.slot.PerSlot.{PerSlot}
 use Rattle.gate_desk.specs.declared.slot.Slot.TheVariants.{Report}
 use Rattle.gate_desk.specs.Memory.{inputs}
 use Rattle.gate_desk.specs.Outside.{Outside, Grows, HasFailed, HasFailedToStart}
 use Rattle.gate_settings.specs.declared.settings.Settings.{Settings as GateSettings}
-use Rattle.gate_settings.specs.Cross.{settings_of}
 use Rattle.gate_report.specs.declared.line.Line.{Line}
 use Rattle.gate_workload.specs.Workloads.{workload}
-use Rattle.pcap_merge.specs.Events.{Done as BothEnded, Fault as EndsFaulty}
+use Rattle.pcap_merge.specs.Events.{Done as BothEnded}
 use Rattle.gateway.specs.declared.status.Status.{Status}
-use Rattle.gateway.specs.declared.status.Status.TheVariants.{Done, SettingsRefused, CaptureRefused, WriteFault, OpenFault, OutOfMemory}
+use Rattle.gateway.specs.declared.status.Status.TheVariants.{Done, WriteFault, OpenFault, OutOfMemory}
 use Rattle.gateway.specs.Command.{make_starts}
 use Rattle.gateway.specs.Causes.{started_all, StartsSome}
 use Rattle.gateway.specs.Pieces.{Piece, wrote_pieces, IsFront}
@@ -32,18 +31,7 @@ pub record IsLineOf (line : Line) (number count : ℕ) : Type 0 where
   pub ended : (events_in (workload_in number count)).ending ≡ BothEnded
   pub line_is : line ≡ line_of settings (events_in (workload_in number count))
 
--- the settings or a capture of the workload have this fault
-abbrev pub RefusesWorkload : Status → ℕ → ℕ → Type 0
-RefusesWorkload (SettingsRefused fault) number count = settings_of (workload_in number count).settings ≡ Err fault
-RefusesWorkload (CaptureRefused side fault place) number count =
-    (settings : GateSettings) × IsAccepted settings (workload_in number count) × ((events_in (workload_in number count)).ending ≡ EndsFaulty side fault place)
-RefusesWorkload status number count = ⊥
-
--- the report alone was started, and nothing was written
-abbrev pub StartsReport : List ℕ → Outside → Outside → Type 0
-StartsReport report old new = (new.starts ≡ started_all (make_starts report) old.starts) × (new.written ≡ old.written)
-
--- why a make ended so, and what it started and wrote
+-- why a make ended so, and what it started and wrote: the settings of a workload are accepted and its captures are read to their ends, so that no other status comes
 abbrev pub HasMade : Status → ℕ → ℕ → List ℕ → Outside → Outside → Type 0
 HasMade Done number count report old new =
     (line : Line) × IsLineOf line number count × (new.starts ≡ started_all (make_starts report) old.starts) × (new.written ≡ wrote_pieces (made_piece line ∷ []) old.written)
@@ -51,14 +39,9 @@ HasMade (WriteFault Report) number count report old new =
     HasFailed Report old new × (line : Line) × IsLineOf line number count × (new.starts ≡ started_all (make_starts report) old.starts) × IsFront (made_piece line ∷ []) old.written new.written
 HasMade (OpenFault Report) number count report old new = HasFailedToStart Report old new × (new.starts ≡ old.starts) × (new.written ≡ old.written)
 HasMade OutOfMemory number count report old new = StartsSome (make_starts report) old new × (new.written ≡ old.written)
-HasMade status number count report old new = RefusesWorkload status number count × StartsReport report old new
+HasMade status number count report old new = ⊥
 
 pub record IsMake (status : Status) (number count : ℕ) (report : List ℕ) (old new : Outside) : Type 0 where
   pub made : HasMade status number count report old new
   pub left : new.left ≡ old.left
   pub grows : Grows old new
-
--- what a run over the workload comes to
-abbrev pub Rehearses : Status → ℕ → ℕ → Type 0
-Rehearses OutOfMemory number count = Unit {0}
-Rehearses status number count = RefusesWorkload status number count

@@ -1,5 +1,5 @@
 // The whole call.
-ghost use Rattle.std.specs.Prelude.{◌≡◌, map};
+ghost use Rattle.std.specs.Prelude.{◌≡◌, ◌≤◌, map};
 ghost use Rattle.std.specs.String.{string_bytes};
 ghost use Rattle.gateway.specs.Command.{names_of, command_of};
 ghost use Rattle.gateway.specs.Answers.{Answers, AnswersRun, AnswersMake, IsPromised};
@@ -29,6 +29,7 @@ fn told_run<D: Desk>(alloc: Global, desk: &mut D, names: FileNames<'_>) -> Statu
 
 /// A make, and the line about what went wrong.
 fn told_make<D: Desk>(alloc: Global, desk: &mut D, number: u32, count: u32, report: &str) -> Status
+    requires { count ≤ 100000 }
     ensures { AnswersMake result number count report.now (D.outside desk.old) (D.outside desk.new) }
 {
     let mut text = match Vec::with_capacity(alloc, LINE) {

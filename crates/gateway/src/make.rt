@@ -1,6 +1,6 @@
 // A run over a workload in memory.
-ghost use Rattle.std.specs.Prelude.{◌≤◌, vec_capacity, MatchResult};
-ghost use Rattle.gateway.specs.Making.{IsMake, IsLineOf, Rehearses};
+ghost use Rattle.std.specs.Prelude.{◌≡◌, ◌≤◌, vec_capacity, MatchResult};
+ghost use Rattle.gateway.specs.Making.{IsMake, IsLineOf};
 
 use crate::Status;
 use crate::command::FileNames;
@@ -23,9 +23,11 @@ const NAMES: FileNames<'static> = FileNames {
 };
 
 /// Runs over the workload of a number with so many rounds, throws its outputs away, and answers the last line of its report.
+/// Nothing but memory can be wanting.
 fn rehearse(alloc: Global, text: &mut Vec<u8>, number: u32, count: u32) -> Result<Line, Status>
-    requires { LINE ≤ vec_capacity text.old }
-    ensures answer { MatchResult result (λ line. IsLineOf line number count) (λ status. Rehearses status number count) }
+    requires capacity { LINE ≤ vec_capacity text.old }
+    requires rounds { count ≤ 100000 }
+    ensures answer { MatchResult result (λ line. IsLineOf line number count) (λ status. status ≡ Status.OutOfMemory) }
     ensures room { LINE ≤ vec_capacity text.new }
 {
     let workload = match gate_workload::make(alloc, number, count) {
@@ -55,7 +57,8 @@ pub fn make<D: Desk>(
     count: u32,
     report: &str,
 ) -> Status
-    requires { LINE ≤ vec_capacity text.old }
+    requires capacity { LINE ≤ vec_capacity text.old }
+    requires rounds { count ≤ 100000 }
     ensures answer { IsMake result number count report.now (D.outside desk.old) (D.outside desk.new) }
     ensures room { LINE ≤ vec_capacity text.new }
 {
