@@ -8,7 +8,8 @@ use Rattle.std.specs.Str.{bytes_eq}
 use Rattle.std.proofs.lemmas.Slice.Eq.{bytes_eq-Decides}
 use Rattle.dns_names.proofs.Kept.{found-with_start}
 use Rattle.dns_names.specs.Names.{spelled, IsLabel}
-use Rattle.dns_names.specs.Spelling.{Start, found, pointer, Added, with_start, spell, put_name}
+use Rattle.dns_names.specs.Spelling.{Start, found, pointer, Added, with_start, spell, put_name, BeginsWith}
+use Rattle.dns_names.specs.Writers.{GrewBy}
 
 -- Part of a name was written; its other labels are left.
 pub record Puts (known : List Start) (labels : List (List ℕ)) (out0 : List ℕ) (left out : List ℕ) (now : List Start) : Type 0 where
@@ -137,3 +138,22 @@ module _ (known : List Start) (labels : List (List ℕ)) (out0 : List ℕ) where
 pub put_name-is : (o0 o1 : List ℕ) (s0 s1 : List Start) (ls : List (List ℕ)) → o1 ≡ o0 ++ Added.octets (spell s0 (length o0) ls) → s1 ≡ s0 ++ Added.starts (spell s0 (length o0) ls)
     → record { octets = o1; starts = s1 } ≡ put_name (record { octets = o0; starts = s0 }) ls
 put_name-is o0 o1 s0 s1 ls eo es = rw (eo, es) refl
+
+-- nothing was put yet, and something is put behind what was
+pub grew_none : (known : List Start) (old : List ℕ) → GrewBy known old known old
+grew_none known old = (record { octets = []; starts = [] }, sym (append-nil old), sym (append-nil known))
+
+pub grew_more : (known : List Start) (old : List ℕ) (starts : List Start) (out : List ℕ) (later : List Start) (new : List ℕ) (more : Added) → GrewBy known old starts out → new ≡ out ++ more.octets → later ≡ starts ++ more.starts → GrewBy known old later new
+grew_more known old starts out later new more grew octets_are starts_are =
+    let so_far = grew.0 in (
+      record { octets = so_far.octets ++ more.octets; starts = so_far.starts ++ more.starts },
+      octets_are ∙ ap (λ xs. xs ++ more.octets) grew.1 ∙ append_assoc old so_far.octets more.octets,
+      starts_are ∙ ap (λ xs. xs ++ more.starts) grew.2 ∙ append_assoc known so_far.starts more.starts,
+    )
+
+pub grew_octets : (known : List Start) (old : List ℕ) (starts : List Start) (out : List ℕ) (later : List Start) (new more : List ℕ) → GrewBy known old starts out → new ≡ out ++ more → later ≡ starts → GrewBy known old later new
+grew_octets known old starts out later new more grew octets_are same =
+    grew_more known old starts out later new (record { octets = more; starts = [] }) grew octets_are (same ∙ sym (append-nil starts))
+
+pub BeginsWith-is : (o0 o1 : List ℕ) (s0 s1 : List Start) → GrewBy s0 o0 s1 o1 → BeginsWith (record { octets = o0; starts = s0 }) (record { octets = o1; starts = s1 })
+BeginsWith-is o0 o1 s0 s1 grew = (grew.0, rw (grew.1, grew.2) refl)

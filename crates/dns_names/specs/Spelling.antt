@@ -1,5 +1,5 @@
 -- How names are written: label by label, until a suffix stands already (RFC 1035, 4.1.4).
-use Rattle.std.specs.Prelude.{ℕ, ◌+◌, ◌/◌, ◌%◌, if◌then◌else◌, nat_lt, List, [], ◌∷◌, ◌++◌, length, Option, Some, None}
+use Rattle.std.specs.Prelude.{◌≡◌, ℕ, ◌+◌, ◌/◌, ◌%◌, if◌then◌else◌, nat_lt, List, [], ◌∷◌, ◌++◌, length, Option, Some, None}
 use Rattle.std.specs.Str.{bytes_eq}
 use Rattle.gate_base.specs.Fields.{with_u16}
 use Rattle.dns_names.specs.Names.{spelled}
@@ -50,6 +50,10 @@ put_octets text octets = record { octets = text.octets ++ octets; starts = text.
 -- what a name adds, behind a text
 abbrev pub add : Text → Added → Text
 add text added = record { octets = text.octets ++ added.octets; starts = text.starts ++ added.starts }
+
+-- a text that begins with another one: octets and label starts stand behind those
+abbrev pub BeginsWith : Text → Text → Type 0
+BeginsWith front text = (more : Added) × (text ≡ add front more)
 
 -- a name behind a text
 abbrev pub put_name : Text → List (List ℕ) → Text

@@ -1,12 +1,12 @@
 -- What a writer keeps: a map from octets to the places at which they stand.
-use Rattle.std.specs.Prelude.{◌≡◌, ℕ, ◌<◌, nat_lt, if◌then◌else◌, List, [], ◌∷◌, Option}
+use Rattle.std.specs.Prelude.{◌≡◌, ℕ, ◌<◌, nat_lt, if◌then◌else◌, List, [], ◌∷◌, ◌++◌, Option}
 use Rattle.std.specs.Global.{Vec}
 use Rattle.std.specs.Ordering.{nat_cmp}
 use Rattle.std.specs.Cmp.Lexicographic.{slice_cmp}
 use Rattle.std.specs.BTreeMap.{is_at}
 use Rattle.std.specs.Map.{lookup}
 use Rattle.std.specs.List.{AllByRecursion}
-use Rattle.dns_names.specs.Spelling.{Start, found}
+use Rattle.dns_names.specs.Spelling.{Start, Added, found}
 
 -- a start among others that stand in the order of their places
 abbrev pub put_start : Start → List Start → List Start
@@ -21,6 +21,10 @@ starts_in (e ∷ es) = put_start (record { place = e.1; octets = e.0.items }) (s
 -- the place that a map holds for octets
 abbrev pub place_in : List (Vec ℕ × ℕ) → List ℕ → Option ℕ
 place_in entries octets = lookup (is_at (λ k. slice_cmp nat_cmp octets k.items)) entries
+
+-- octets and label starts stand behind those that stood
+abbrev pub GrewBy : List Start → List ℕ → List Start → List ℕ → Type 0
+GrewBy known old starts new = (more : Added) × (new ≡ old ++ more.octets) × (starts ≡ known ++ more.starts)
 
 -- it can be pointed to, and lies below an end
 abbrev pub IsNear : ℕ → Start → Type 0

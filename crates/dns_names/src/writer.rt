@@ -1,8 +1,8 @@
 // Names one behind the other, each as short as it can be (RFC 1035, 4.1.4).
-ghost use Rattle.std.specs.Prelude.{◌≡◌, ◌+◌, ◌<◌, ◌≤◌, ◌++◌, [], length, OnOk, OnErr, None};
+ghost use Rattle.std.specs.Prelude.{◌≡◌, ◌+◌, ◌<◌, ◌≤◌, ◌++◌, ℕ, List, [], length, OnOk, OnErr, None};
 ghost use Rattle.dns_names.specs.Names.{labels_in, IsSpelled};
 ghost use Rattle.dns_names.specs.Spelling.{pointer, with_start, spell};
-ghost use Rattle.dns_names.specs.Writers.{starts_in, place_in, IsIndex};
+ghost use Rattle.dns_names.specs.Writers.{starts_in, place_in, GrewBy, IsIndex};
 
 use crate::name::Name;
 use gate_base::{OutOfMemory, put_u16};
@@ -26,6 +26,7 @@ fn remember(
     requires absent { place_in places.old.entries octets.now ≡ None }
     requires index { IsIndex places.old.entries place }
     ensures starts { OnOk result (starts_in places.new.entries ≡ starts_in places.old.entries ++ with_start place octets.now []) }
+    ensures kept { OnErr result (starts_in places.new.entries ≡ starts_in places.old.entries) }
     ensures index { IsIndex places.new.entries (place + 1) }
 {
     if place < 16_384 {
@@ -38,6 +39,7 @@ fn remember(
 fn put_pointer(out: &mut Vec<u8>, place: u16) -> Result<(), AllocError>
     requires { place < 16384 }
     ensures octets { OnOk result (out.new.items ≡ out.old.items ++ pointer place) }
+    ensures behind { (more : List ℕ) × (out.new.items ≡ out.old.items ++ more) }
     ensures longer { length out.old.items ≤ length out.new.items }
 {
     out.push(192 + (place / 256) as u8)?;
@@ -46,6 +48,7 @@ fn put_pointer(out: &mut Vec<u8>, place: u16) -> Result<(), AllocError>
 }
 
 /// Writes a name, and keeps its label starts.
+#[tactic(auto, using(crate::proofs::Putting::grew_none, crate::proofs::Putting::grew_octets))]
 fn put_labels(
     places: &mut BTreeMap<Vec<u8>, u16>,
     alloc: Global,
@@ -56,6 +59,7 @@ fn put_labels(
     requires index { IsIndex places.old.entries (length out.old.items) }
     ensures octets { OnOk result (out.new.items ≡ out.old.items ++ (spell (starts_in places.old.entries) (length out.old.items) (labels_in name.now)).octets) }
     ensures starts { OnOk result (starts_in places.new.entries ≡ starts_in places.old.entries ++ (spell (starts_in places.old.entries) (length out.old.items) (labels_in name.now)).starts) }
+    ensures behind { GrewBy (starts_in places.old.entries) out.old.items (starts_in places.new.entries) out.new.items }
     ensures index { IsIndex places.new.entries (length out.new.items) }
 {
     let mut rest = name;
@@ -131,9 +135,10 @@ impl NameWriter {
     }
 
     /// Writes a name label by label, until a suffix of it stands already. Then a pointer to its lowest place ends the name.
-    /// Where memory runs out, a part of it is written.
+    /// Where memory runs out, what was written before stands, and perhaps a part of the name behind it.
     pub fn put_name(&mut self, name: &Name) -> Result<(), OutOfMemory>
         ensures text { OnOk result (self.new ≡ spelling.put_name self.old name.now) }
+        ensures kept { spelling.BeginsWith self.old self.new }
         ensures name { IsName name.now }
     {
         let alloc = *self.octets.allocator();

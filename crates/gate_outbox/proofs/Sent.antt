@@ -11,7 +11,8 @@ use Rattle.tcp_segments.specs.Tcp.{Tcp, IsTcpHeader, tcp_header_with, sealed_tcp
 use Rattle.tcp_segments.proofs.Blanking.{blanks}
 use Rattle.stream_model.specs.Octet.{flags_octet}
 use Rattle.stream_model.specs.Session.{Segment, Outgoing, arrival, place_acknowledged}
-use Rattle.stream_model.specs.Steps.{pieces, pieces_from, empty_piece, syn_out}
+use Rattle.stream_model.specs.Steps.{Piece, pieces, empty_piece, syn_out}
+use Rattle.stream_model.proofs.Cutting.{pieces_from, pieces_are}
 use Rattle.stream_model.specs.declared.numbers.Near.{Near}
 use Rattle.stream_model.specs.declared.verdict.Extent.{Extent}
 use Rattle.stream_kept.specs.Kept.{SenderKept, extent_kept, taken_kept}
@@ -78,7 +79,9 @@ kept_small h new ack g limit old start count fin push some =
     by_tests _ (nat_lt (low_kept old new start) (high_kept old new start count fin)) (sends_end_kept new fin)
   where
     by_tests : (copied : List ℕ) (more ends : Bool) → AreSmall limit (map (outgoing_kept h ack g) (cond more (pieces limit (low_kept old new start + 1) copied ends push) (cond ends (empty_piece (new.ledger.octets_out + 1) true) (empty_piece (bare_offset_kept new start) false))))
-    by_tests copied true ends = pieces_small h ack g limit ((length copied - 1) / limit) (low_kept old new start + 1) copied ends push (let last : length copied - 1 < (length copied - 1) / limit * limit + limit = lt-div-mul-add (omega arith) in omega (arith, last))
+    by_tests copied true ends =
+        subst (λ (ps : List Piece). AreSmall limit (map (outgoing_kept h ack g) ps)) (sym (pieces_are limit (low_kept old new start + 1) copied ends push))
+        (pieces_small h ack g limit ((length copied - 1) / limit) (low_kept old new start + 1) copied ends push (let last : length copied - 1 < (length copied - 1) / limit * limit + limit = lt-div-mul-add (omega arith) in omega (arith, last)))
     by_tests copied false true = (omega arith, tt)
     by_tests copied false false = (omega arith, tt)
 

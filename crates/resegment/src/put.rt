@@ -7,7 +7,7 @@ ghost use Rattle.resegment.specs.Datagrams.{datagrams, ends_from, room_for, flag
 
 use crate::cut::{piece, pieces};
 use gate_base::Addr;
-use tcp_segments::put_segment;
+use tcp_segments::finish_segment;
 
 const FIN: u8 = 1;
 
@@ -28,7 +28,7 @@ pub struct SegmentModel<'a> {
 }
 
 /// Appends each piece of the octets as a whole datagram, and its end in the outbox to `ends`. FIN and PSH stand on the last
-/// piece alone.
+/// piece alone. No octets make one datagram without octets.
 ///
 /// The limit is at least 1, and with the TCP header's options at most 65,495 octets, which is what a datagram holds. Both
 /// lists have room for all of it, so no memory is taken.
@@ -53,9 +53,10 @@ pub fn put_pieces(
     ensures room { vec_capacity outbox.old ≤ vec_capacity outbox.new }
     ensures more { vec_capacity ends.old ≤ vec_capacity ends.new }
 {
-    for index in 0..pieces(octets.len(), limit) {
+    let count = pieces(octets.len(), limit);
+    for index in 0..count {
         let (start, end) = piece(octets.len(), limit, index);
-        let flags = piece_flags(model.flags, end < octets.len());
+        let flags = piece_flags(model.flags, index + 1 < count);
         let sequence = model.sequence.wrapping_add(start as u32);
         put_datagram(outbox, model, sequence, flags, &octets[start..end]);
         ends.push_reserved(outbox.len() as u32);
@@ -101,19 +102,26 @@ fn put_datagram(outbox: &mut Vec<u8>, model: &SegmentModel, sequence: u32, flags
     ensures room { vec_capacity outbox.old ≤ vec_capacity outbox.new }
 {
     let start = outbox.len();
-    let end = start + 20 + model.tcp.len() + octets.len();
-    if outbox.resize(end, 0).is_ok() {
-        put_segment(
-            &mut outbox[start..],
-            model.ip,
-            model.tcp,
-            model.source,
-            model.destination,
-            model.lifetime,
-            sequence,
-            model.acknowledgement,
-            flags,
-            octets,
-        );
-    }
+    append(outbox, model.ip);
+    append(outbox, model.tcp);
+    append(outbox, octets);
+    finish_segment(
+        &mut outbox[start..],
+        model.ip,
+        model.tcp.len(),
+        model.source,
+        model.destination,
+        model.lifetime,
+        sequence,
+        model.acknowledgement,
+        flags,
+    );
+}
+
+fn append(list: &mut Vec<u8>, octets: &[u8])
+    requires { length list.old.items + length octets.now ≤ vec_capacity list.old }
+    ensures items { list.new.items ≡ list.old.items ++ octets.now }
+    ensures room { vec_capacity list.old ≤ vec_capacity list.new }
+{
+    let _fits = list.extend_from_slice(octets);
 }

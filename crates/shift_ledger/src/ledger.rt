@@ -1,5 +1,5 @@
 // What was pushed, so far as it is needed.
-ghost use Rattle.std.specs.Prelude.{◌≡◌, ◌≤◌, ◌<◌, ◌+◌, ◌^◌, ◌-◌, ℕ, List, [], ◌∷◌, ◌++◌, length, take, drop, filter, nat_lt, nat_le, max, OnOk, OnErr};
+ghost use Rattle.std.specs.Prelude.{◌≡◌, ◌≤◌, ◌<◌, ◌+◌, ◌^◌, ◌-◌, ◌⊎◌, vec_capacity, ℕ, List, [], ◌∷◌, ◌++◌, length, take, drop, filter, nat_lt, nat_le, max, OnOk, OnErr};
 ghost use Rattle.std.specs.VecDeque.{deque_capacity, deque_len};
 ghost use Rattle.dialogue.specs.Places.{Push, open_in};
 ghost use Rattle.dialogue.specs.Places as places;
@@ -178,14 +178,15 @@ impl Ledger {
         forget_front(&mut self.changed, count);
     }
 
-    /// Writes the image from place `lo` to below `hi`, where the sender's octets from place `start` on are `octets`. These
+    /// Appends the image from place `lo` to below `hi`, where the sender's octets from place `start` on are `octets`. These
     /// have all octets of that part of the image that stand as they are, and none of it lies before the first octet of which
-    /// not the whole image is acknowledged.
-    pub fn copy(&self, lo: u64, hi: u64, start: u64, octets: &[u8], target: &mut [u8])
+    /// not the whole image is acknowledged. The target has room for it, so no memory is taken.
+    pub fn copy(&self, lo: u64, hi: u64, start: u64, octets: &[u8], target: &mut Vec<u8>)
         requires order { lo ≤ hi }
         requires within { hi ≤ self.now.octets_out }
-        requires room { lo + length target.old ≡ hi }
-        ensures { (pushes : List Push) (acknowledged : ℕ) → StandsFor self.now pushes acknowledged → fore_of pushes (back_of pushes acknowledged) ≤ lo → NeedsOnly pushes lo hi start (start + length octets.now) → target.new ≡ copied pushes lo hi start octets.now }
+        requires room { length target.old.items + (hi - lo) ≤ vec_capacity target.old }
+        ensures image { (pushes : List Push) (acknowledged : ℕ) → StandsFor self.now pushes acknowledged → fore_of pushes (back_of pushes acknowledged) ≤ lo → NeedsOnly pushes lo hi start (start + length octets.now) → target.new.items ≡ target.old.items ++ copied pushes lo hi start octets.now }
+        ensures room { vec_capacity target.old ≤ vec_capacity target.new }
     {
         let mut at = lo;
         let mut next = self.whole_below(lo);
@@ -194,23 +195,15 @@ impl Ledger {
         {
             let stop = unit.at.max(at).min(hi);
             let index = place_before(unit.start, unit.at, at).saturating_sub(start);
-            copy_part(
-                octets,
-                index,
-                &mut target[(at - lo) as usize..(stop - lo) as usize],
-            );
+            append_part(octets, index, stop - at, target);
             let end = (unit.at + unit.image.len() as u64).max(stop).min(hi);
             let index = stop.saturating_sub(unit.at);
-            copy_part(
-                &unit.image,
-                index,
-                &mut target[(stop - lo) as usize..(end - lo) as usize],
-            );
+            append_part(&unit.image, index, end - stop, target);
             at = end;
             next += 1;
         }
         let index = place_before(self.octets_in, self.octets_out, at).saturating_sub(start);
-        copy_part(octets, index, &mut target[(at - lo) as usize..]);
+        append_part(octets, index, hi - at, target);
     }
 
     /// How many of the kept units have no octet from `p` on.
@@ -256,14 +249,21 @@ fn place_before(mark: u64, other: u64, place: u64) -> u64
     mark.saturating_sub(other.saturating_sub(place))
 }
 
-/// Fills the target with the octets from an index on, where there are so many.
-fn copy_part(octets: &[u8], index: u64, target: &mut [u8])
-    ensures { index + length target.new ≤ length octets.now → target.new ≡ take (length target.new) (drop index octets.now) }
+/// Appends so many octets from an index on, where there are so many.
+fn append_part(octets: &[u8], index: u64, count: u64, target: &mut Vec<u8>)
+    requires { length target.old.items + count ≤ vec_capacity target.old }
+    ensures part { count ≡ 0 ⊎ index + count ≤ length octets.now → target.new.items ≡ target.old.items ++ take count (drop index octets.now) }
+    ensures few { length target.new.items ≤ length target.old.items + count }
+    ensures room { vec_capacity target.old ≤ vec_capacity target.new }
 {
-    let len = target.len();
+    if count == 0 {
+        return;
+    }
     if let Some(rest) = (octets.len() as u64).checked_sub(index)
-        && len as u64 <= rest
+        && count <= rest
     {
-        target.copy_from_slice(&octets[index as usize..index as usize + len]);
+        let _fits = target.extend_from_slice(
+            &octets[index as usize..index as usize + count as usize],
+        );
     }
 }

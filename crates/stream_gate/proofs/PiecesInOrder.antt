@@ -1,19 +1,15 @@
--- Pieces by their index are pieces one after the other.
-use Rattle.std.proofs.Common.{◌≡◌, ◌≤◌, ◌<◌, ◌+◌, ◌-◌, ◌*◌, ℕ, zero, suc, Bool, true, false, List, [], ◌∷◌, ◌++◌, length, take, drop, refl, sym, ◌∙◌, ap, subst, arith, inl, inr}
-use Rattle.std.specs.Prelude.{◌/◌, ◌%◌, ◌^◌, min, map, nat_lt, bit_and, slice_range}
+-- The datagrams of pieces are those of what goes out.
+use Rattle.std.proofs.Common.{◌≡◌, ◌≤◌, ◌<◌, ◌+◌, ◌*◌, ℕ, zero, suc, Bool, true, false, List, [], ◌∷◌, ◌++◌, length, refl, sym, ◌∙◌, ap, arith}
+use Rattle.std.specs.Prelude.{◌%◌, ◌^◌, not, ◌&&◌, map, bit_and}
 use Rattle.std.specs.List.{flat_map, range_with_len}
-use Rattle.std.proofs.Math.Nat.{div-mul-le_self, lt-div-mul-add}
 use Rattle.std.proofs.lemmas.Nat.{and_block, and_mask}
-use Rattle.std.proofs.lemmas.List.{append-nil, take_all, length-drop, drop-drop}
-use Rattle.std.proofs.lemmas.Bool.{cases_lt, lt-ltb, le-ltb}
 use Rattle.tcp_segments.specs.Tcp.{spelled_segment, datagram_of}
 use Rattle.resegment.specs.declared.put.SegmentModel.{SegmentModel}
 use Rattle.resegment.specs.Datagrams.{flags_of, piece_datagram, datagrams}
-use Rattle.resegment.specs.Pieces.{piece_count, cut_at, piece_octets}
-use Rattle.resegment.proofs.PieceLemmas.{all_counted, times_less}
+use Rattle.resegment.specs.Pieces.{piece_count, cut_at, more_follow, piece_octets}
 use Rattle.stream_model.specs.Numbers.{number_after, one_if}
 use Rattle.stream_model.specs.Session.{Segment, Outgoing}
-use Rattle.stream_model.specs.Steps.{Piece, pieces, pieces_from}
+use Rattle.stream_model.specs.Steps.{Piece, piece_at, pieces}
 use Rattle.stream_model.specs.declared.verdict.Flags.{Flags}
 use Rattle.stream_model.specs.Octet.{flags_octet}
 use Rattle.stream_gate.specs.Segments.{datagram}
@@ -99,71 +95,30 @@ flags_more f small =
 abbrev sent : ℕ → ℕ → Segment → Piece → Outgoing
 sent initial ack g p = record { sequence = number_after initial p.offset; acknowledgement = ack; flags = record g.flags { fin = p.fin; push = p.push }; octets = p.octets }
 
-abbrev one : SegmentModel → ℕ → ℕ → List ℕ → List ℕ
-one m sequence flags octets = datagram_of m.ip.now m.source.0 m.destination.0 m.lifetime (spelled_segment m.tcp.now m.source.0 m.destination.0 sequence m.acknowledgement flags octets)
+abbrev one : SegmentModel → ℕ → ℕ → ℕ → List ℕ → List ℕ
+one m sequence acknowledgement flags octets = datagram_of m.ip.now m.source.0 m.destination.0 m.lifetime (spelled_segment m.tcp.now m.source.0 m.destination.0 sequence acknowledgement flags octets)
 
--- from a piece on
-from_piece : (m : SegmentModel) (initial : ℕ) (g : Segment) (limit offset : ℕ) (octets : List ℕ) (fin push : Bool) → g.flags.ecn ≤ 3 → 1 ≤ limit → m.sequence ≡ number_after initial offset → m.flags ≡ flags_octet (record g.flags { fin = fin; push = push }) → (whole index at : ℕ) → at ≡ index * limit → at + whole * limit < length octets → length octets ≤ at + whole * limit + limit → map (piece_datagram m octets limit) (range_with_len index (suc whole)) ≡ map (datagram (way_of m)) (map (sent initial m.acknowledgement g) (pieces_from whole limit (offset + at) (drop at octets) fin push))
-from_piece m initial g limit offset octets fin push ecn one_more sequence flags zero index at is low high =
-    let next : (index + 1) * limit ≡ at + limit = grind arith in
-    let here : cut_at (length octets) limit index ≡ at = omega (arith, is) in
-    let end : cut_at (length octets) limit (index + 1) ≡ length octets = omega (arith, next) in
-    let last : nat_lt (cut_at (length octets) limit (index + 1)) (length octets) ≡ false = le-ltb _ _ (omega (arith, end)) in
-    let number : (m.sequence + cut_at (length octets) limit index) % 2 ^ 32 ≡ number_after initial (offset + at) = omega (arith, sequence, here) in
-    let rest : piece_octets octets limit index ≡ drop at octets =
-    ap (λ (n : ℕ). slice_range octets n (cut_at (length octets) limit (index + 1))) here ∙ ap (slice_range octets at) end ∙ take_all (length octets - at) (drop at octets) (omega (arith, length-drop at octets)) in
-    ap (λ (n : ℕ). one m n (flags_of m.flags (nat_lt (cut_at (length octets) limit (index + 1)) (length octets))) (piece_octets octets limit index) ∷ []) number
-    ∙ ap (λ (b : Bool). one m (number_after initial (offset + at)) (flags_of m.flags b) (piece_octets octets limit index) ∷ []) last
-    ∙ ap (λ (n : ℕ). one m (number_after initial (offset + at)) n (piece_octets octets limit index) ∷ []) flags
-    ∙ ap (λ (xs : List ℕ). one m (number_after initial (offset + at)) (flags_octet (record g.flags { fin = fin; push = push })) xs ∷ []) rest
-from_piece m initial g limit offset octets fin push ecn one_more sequence flags (suc whole) index at is low high =
-    let next : (index + 1) * limit ≡ at + limit = grind arith in
-    let times : suc whole * limit ≡ limit + whole * limit = grind arith in
-    let here : cut_at (length octets) limit index ≡ at = omega (arith, is) in
-    let end : cut_at (length octets) limit (index + 1) ≡ at + limit = omega (arith, next, times) in
-    let more : nat_lt (cut_at (length octets) limit (index + 1)) (length octets) ≡ true = lt-ltb _ _ (omega (arith, end, times)) in
-    let number : (m.sequence + cut_at (length octets) limit index) % 2 ^ 32 ≡ number_after initial (offset + at) = omega (arith, sequence, here) in
-    let some : piece_octets octets limit index ≡ take limit (drop at octets) =
-    ap (λ (n : ℕ). slice_range octets n (cut_at (length octets) limit (index + 1))) here ∙ ap (slice_range octets at) end ∙ ap (λ (n : ℕ). take n (drop at octets)) (omega arith) in
-    let flagged : flags_of m.flags true ≡ flags_octet (record g.flags { fin = false; push = false }) = ap (λ (n : ℕ). bit_and n 246) flags ∙ flags_more (record g.flags { fin = fin; push = push }) ecn in
-    ap (λ (n : ℕ). one m n (flags_of m.flags (nat_lt (cut_at (length octets) limit (index + 1)) (length octets))) (piece_octets octets limit index) ∷ map (piece_datagram m octets limit) (range_with_len (index + 1) (suc whole))) number
-    ∙ ap (λ (b : Bool). one m (number_after initial (offset + at)) (flags_of m.flags b) (piece_octets octets limit index) ∷ map (piece_datagram m octets limit) (range_with_len (index + 1) (suc whole))) more
-    ∙ ap (λ (n : ℕ). one m (number_after initial (offset + at)) n (piece_octets octets limit index) ∷ map (piece_datagram m octets limit) (range_with_len (index + 1) (suc whole))) flagged
-    ∙ ap (λ (xs : List ℕ). one m (number_after initial (offset + at)) (flags_octet (record g.flags { fin = false; push = false })) xs ∷ map (piece_datagram m octets limit) (range_with_len (index + 1) (suc whole))) some
-    ∙ ap (λ (xs : List (List ℕ)). one m (number_after initial (offset + at)) (flags_octet (record g.flags { fin = false; push = false })) (take limit (drop at octets)) ∷ xs)
-    (from_piece m initial g limit offset octets fin push ecn one_more sequence flags whole (index + 1) (at + limit) (sym next) (omega (arith, times)) (omega (arith, times))
-    ∙ ap (λ (n : ℕ). map (datagram (way_of m)) (map (sent initial m.acknowledgement g) (pieces_from whole limit n (drop (at + limit) octets) fin push))) (omega arith)
-    ∙ ap (λ (xs : List ℕ). map (datagram (way_of m)) (map (sent initial m.acknowledgement g) (pieces_from whole limit (offset + at + limit) xs fin push))) (ap (λ (n : ℕ). drop n octets) (omega arith) ∙ sym (drop-drop limit at octets)))
-
-pub pieces_datagrams : (m : SegmentModel) (initial ack : ℕ) (g : Segment) (limit offset : ℕ) (octets : List ℕ) (fin push : Bool) → g.flags.ecn ≤ 3 → 1 ≤ length octets → 1 ≤ limit → m.sequence ≡ number_after initial offset → m.acknowledgement ≡ ack → m.flags ≡ flags_octet (record g.flags { fin = fin; push = push }) → datagrams m octets limit ≡ map (datagram (way_of m)) (map (sent initial ack g) (pieces limit offset octets fin push))
-pieces_datagrams m initial ack g limit offset octets fin push ecn some least sequence acknowledgement flags =
-    let whole : ℕ = (length octets - 1) / limit in
-    let counted = all_counted (length octets) limit least in
-    let parts = divided (length octets - 1) limit least in
-    let count : piece_count (length octets) limit ≡ suc ((length octets - 1) / limit) = same (piece_count (length octets) limit) ((length octets - 1) / limit) (length octets) limit least some counted.0 counted.1 parts.0 parts.1 in
-    ap (λ (n : ℕ). map (piece_datagram m octets limit) (range_with_len 0 n)) count
-    ∙ from_piece m initial g limit offset octets fin push ecn least sequence flags ((length octets - 1) / limit) 0 0 (grind arith) (omega (arith, parts.0)) (omega (arith, parts.1))
-    ∙ ap (λ (n : ℕ). map (datagram (way_of m)) (map (sent initial m.acknowledgement g) (pieces_from ((length octets - 1) / limit) limit n octets fin push))) (omega arith)
-    ∙ ap (λ (k : ℕ). map (datagram (way_of m)) (map (sent initial k g) (pieces limit offset octets fin push))) acknowledgement
+-- one piece
+one_piece : (m : SegmentModel) (initial ack : ℕ) (g : Segment) (limit offset : ℕ) (octets : List ℕ) (fin push : Bool) (index : ℕ) → g.flags.ecn ≤ 3 → m.sequence ≡ number_after initial offset → m.acknowledgement ≡ ack → m.flags ≡ flags_octet (record g.flags { fin = fin; push = push }) → (more : Bool) → more_follow (length octets) limit index ≡ more → piece_datagram m octets limit index ≡ datagram (way_of m) (sent initial ack g (piece_at limit offset octets fin push index))
+one_piece m initial ack g limit offset octets fin push index ecn sequence acknowledgement flags more is =
+    let number : (m.sequence + cut_at (length octets) limit index) % 2 ^ 32 ≡ number_after initial (offset + cut_at (length octets) limit index) = omega (arith, sequence) in
+    ap (λ (n : ℕ). one m n m.acknowledgement (flags_of m.flags (more_follow (length octets) limit index)) (piece_octets octets limit index)) number
+    ∙ ap (λ (n : ℕ). one m (number_after initial (offset + cut_at (length octets) limit index)) n (flags_of m.flags (more_follow (length octets) limit index)) (piece_octets octets limit index)) acknowledgement
+    ∙ ap (λ (n : ℕ). one m (number_after initial (offset + cut_at (length octets) limit index)) ack n (piece_octets octets limit index))
+    (ap (flags_of m.flags) is ∙ flagged more ∙ ap (λ (b : Bool). flags_octet (record g.flags { fin = not b && fin; push = not b && push })) (sym is))
   where
-    divided : (n l : ℕ) → 1 ≤ l → (n / l * l ≤ n) × (n < n / l * l + l)
-    divided n l some = (div-mul-le_self n l, lt-div-mul-add (omega arith))
+    flagged : (b : Bool) → flags_of m.flags b ≡ flags_octet (record g.flags { fin = not b && fin; push = not b && push })
+    flagged true = ap (λ (n : ℕ). bit_and n 246) flags ∙ flags_more (record g.flags { fin = fin; push = push }) ecn
+    flagged false = flags
 
-    same : (a b n l : ℕ) → 1 ≤ l → 1 ≤ n → n ≤ a * l → a * l < n + l → b * l ≤ n - 1 → n - 1 < b * l + l → a ≡ suc b
-    same a b n l low some p q r s =
-        let next : suc b * l ≡ b * l + l = grind arith in
-        elim (cases_lt a (suc b)) [
-          | inl less ↦
-              elim (cases_lt a b) [
-                | inl below ↦ absurd (omega (arith, p, r, times_less a b l below))
-                | inr above ↦ let e : a ≡ b = omega arith in absurd (omega (arith, p, r, ap (λ k. k * l) e))
-              ]
-          | inr up ↦
-              elim (cases_lt (suc b) a) [
-                | inl above ↦ absurd (omega (arith, q, s, next, times_less (suc b) a l above))
-                | inr here ↦ omega arith
-              ]
-        ]
+pub pieces_datagrams : (m : SegmentModel) (initial ack : ℕ) (g : Segment) (limit offset : ℕ) (octets : List ℕ) (fin push : Bool) → g.flags.ecn ≤ 3 → m.sequence ≡ number_after initial offset → m.acknowledgement ≡ ack → m.flags ≡ flags_octet (record g.flags { fin = fin; push = push }) → datagrams m octets limit ≡ map (datagram (way_of m)) (map (sent initial ack g) (pieces limit offset octets fin push))
+pieces_datagrams m initial ack g limit offset octets fin push ecn sequence acknowledgement flags = from 0 (piece_count (length octets) limit)
+  where
+    from : (index count : ℕ) → map (piece_datagram m octets limit) (range_with_len index count) ≡ map (datagram (way_of m)) (map (sent initial ack g) (map (piece_at limit offset octets fin push) (range_with_len index count)))
+    from index zero = refl
+    from index (suc count) =
+        ap (λ (d : List ℕ). d ∷ map (piece_datagram m octets limit) (range_with_len (index + 1) count)) (one_piece m initial ack g limit offset octets fin push index ecn sequence acknowledgement flags (more_follow (length octets) limit index) refl)
+        ∙ ap (λ (ds : List (List ℕ)). datagram (way_of m) (sent initial ack g (piece_at limit offset octets fin push index)) ∷ ds) (from (index + 1) count)
 
 -- datagrams one behind the other
 pub flat-map : {X : Type 0} → (f : X → List ℕ) (xs : List X) → flat_map (λ d. d) (map f xs) ≡ flat_map f xs

@@ -393,15 +393,13 @@ impl<D: Dialogue> Direction<D> {
         ensures room { vec_capacity scratch.old ≤ vec_capacity scratch.new }
     {
         let known = self.recent.octets();
-        if scratch.resize((high - low) as usize, 0).is_ok() {
-            self.ledger.copy(
-                low,
-                high,
-                self.octets() - known.len() as u64,
-                known,
-                scratch,
-            );
-        }
+        self.ledger.copy(
+            low,
+            high,
+            self.octets() - known.len() as u64,
+            known,
+            scratch,
+        );
     }
 
     /// This host's number for a number of its image.

@@ -1,15 +1,15 @@
 -- At most 65,536 octets are recent.
-use Rattle.std.proofs.Common.{◌≡◌, ◌≤◌, ◌<◌, ◌+◌, ◌-◌, ℕ, Bool, true, false, cond, List, [], ◌∷◌, ◌++◌, length, drop, refl, sym, ◌∙◌, ap, subst, arith, inl, inr}
+use Rattle.std.proofs.Common.{◌≡◌, ◌≤◌, ◌<◌, ◌+◌, ◌-◌, ℕ, Bool, true, false, List, [], ◌∷◌, length, drop, sym, subst, arith, inl, inr}
 use Rattle.std.specs.Prelude.{◌^◌, max, nat_lt, ◌&&◌, ◌||◌, None}
 use Rattle.std.proofs.lemmas.List.{length-append, length-drop}
-use Rattle.std.proofs.lemmas.Bool.{cases_Bool, cases_lt, cond-true, cond-false, and_cases, ltb-false, or_parts}
-use Rattle.dialogue.specs.Meaning.{Meaning, IsLawful}
+use Rattle.std.proofs.lemmas.Bool.{cases_Bool, cond-true, cond-false, and_cases, ltb-false, or_parts}
+use Rattle.dialogue.specs.Meaning.{IsLawful}
 use Rattle.dialogue.specs.Stream.{image, due, back}
 use Rattle.dialogue.proofs.Laws.{back-mono, length-due-le}
 use Rattle.stream_model.specs.Numbers.{one_if}
 use Rattle.stream_model.specs.Session.{Sender, Session, Segment, own, recent, due_in, extent, arrival, start_of, place_acknowledged}
 use Rattle.stream_model.specs.Verdict.{is_data, session_verdict}
-use Rattle.stream_model.specs.Steps.{taken, acknowledged, own_after, other_after, session_next}
+use Rattle.stream_model.specs.Steps.{taken, acknowledged, other_after, session_next}
 use Rattle.stream_model.specs.History.{Event, Facts, next, after, AllPass}
 use Rattle.stream_model.proofs.PassLemmas.{Passes, IsData, passes, data_is, second_false, ack_within}
 use Rattle.stream_model.proofs.SessionAcked.{Acked, acked_step, back_stays}

@@ -1,7 +1,8 @@
-use Rattle.std.proofs.Common.{◌≡◌, ◌∙◌, arith, length, sym}
+use Rattle.std.proofs.Common.{◌≡◌, ◌∷◌, ◌∙◌, arith, length, sym, [], refl}
 use Rattle.std.proofs.lemmas.Result.{on_ok_weaker}
 use Rattle.dns_names.proofs.Kept.{found-near, IsIndex-later}
-use Rattle.dns_names.proofs.Putting.{Left-end, Left-pointer, Left-within, Left-label}
+use Rattle.dns_names.proofs.Putting.{Left-end, Left-pointer, Left-within, Left-label, grew_more, grew_octets}
+use Rattle.dns_names.specs.Spelling.{with_start}
 use Rattle.dns_names.proofs.writer.put_labels.Goals as goal
 
 pub put_pointer-requires : goal.put_pointer-requires
@@ -34,6 +35,7 @@ labels-preserved c =
     let len : c.len-place.result ≡ length c.labels.out.items = omega (arith, c.labels.out.ok.0) in (
       rw (c.split_at.ensures.back, c.in_ok-extend_from_slice.ensures.items, c.split_at.ensures.front, c.in_ok-remember.ensures.starts, len) put,
       IsIndex-later _ _ _ c.in_ok-remember.ensures.index (omega (arith, c.labels.out.ok.0, c.in_ok-extend_from_slice.ensures.len)),
+      grew_more _ _ _ _ _ _ (record { octets = c.split_at.result.0.now; starts = with_start c.len-place.result c.labels.rest.now [] }) c.labels.invariant.2 c.in_ok-extend_from_slice.ensures.items c.in_ok-remember.ensures.starts,
     )
 
 pub returns-clause-octets : goal.returns-clause-octets
@@ -44,3 +46,12 @@ returns-clause-starts c = (Left-end _ _ _ c.labels.rest.now c.labels.out.items _
 
 pub returns-clause-index : goal.returns-clause-index
 returns-clause-index c = IsIndex-later _ _ _ c.labels.invariant.1 (omega (arith, c.in_ok-push.ensures.len))
+
+pub returns-in-Some-clause-behind : goal.returns-in-Some-clause-behind
+returns-in-Some-clause-behind c = grew_octets _ _ _ _ _ _ c.put_pointer.ensures.behind.0 c.labels.invariant.2 c.put_pointer.ensures.behind.1 refl
+
+pub returns-in_err-remember-clause-behind : goal.returns-in_err-remember-clause-behind
+returns-in_err-remember-clause-behind c = grew_octets _ _ _ _ _ _ c.split_at.result.0.now c.labels.invariant.2 c.in_ok-extend_from_slice.ensures.items c.in_err-remember.ensures.kept
+
+pub returns-clause-behind : goal.returns-clause-behind
+returns-clause-behind c = grew_octets _ _ _ _ _ _ (0 ∷ []) c.labels.invariant.2 c.in_ok-push.ensures.items refl

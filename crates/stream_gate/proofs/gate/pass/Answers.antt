@@ -1,5 +1,4 @@
-use Rattle.std.proofs.Common.{◌≡◌, ℕ, Bool, true, false, sym, ◌∙◌, ap, subst}
-use Rattle.std.specs.Prelude.{◌&&◌}
+use Rattle.std.proofs.Common.{◌≡◌, ℕ, true, sym, ◌∙◌, ap, subst}
 use Rattle.std.proofs.lemmas.Bool.{and_left}
 use Rattle.stream_model.specs.Octet.{flags_of}
 use Rattle.stream_gate.proofs.gate.pass.Goals as goal

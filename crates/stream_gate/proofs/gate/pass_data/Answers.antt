@@ -1,4 +1,4 @@
-use Rattle.std.proofs.Common.{◌≡◌, ◌≤◌, ◌+◌, ◌-◌, ℕ, Bool, List, ◌++◌, length, drop, arith, refl, sym, ◌∙◌, ap}
+use Rattle.std.proofs.Common.{◌≡◌, ◌-◌, ℕ, Bool, List, ◌++◌, length, drop, arith, ◌∙◌, ap}
 use Rattle.std.specs.Prelude.{min, max}
 use Rattle.std.specs.List.{flat_map}
 use Rattle.std.proofs.lemmas.List.{length-drop}
@@ -8,7 +8,7 @@ use Rattle.stream_model.specs.Session.{Segment, arrival, start_at, place_acknowl
 use Rattle.stream_model.specs.declared.numbers.Near.{Near}
 use Rattle.stream_model.specs.declared.verdict.Extent.{Extent}
 use Rattle.stream_model.specs.declared.verdict.Flags.{Flags}
-use Rattle.stream_gate.specs.Directions.{DirectionKept, taken_by}
+use Rattle.stream_gate.specs.Directions.{taken_by}
 use Rattle.stream_gate.specs.Gates.{way_of}
 use Rattle.stream_model.specs.Octet.{flags_of}
 use Rattle.stream_gate.specs.Segments.{segment_of, datagram, datagram_ends}

@@ -1,4 +1,4 @@
-use Rattle.std.proofs.Common.{◌<◌, ◌≤◌, ℕ, Bool, true, false, List, [], length, arith}
+use Rattle.std.proofs.Common.{◌<◌, ◌≤◌, ℕ, Bool, true, false, [], length, arith}
 use Rattle.std.specs.Prelude.{◌^◌}
 use Rattle.dialogue.specs.Meaning.{Meaning}
 use Rattle.stream_model.specs.Session.{own, recent}
