@@ -13,3 +13,6 @@ mod store;
 pub use row::Row;
 pub use rows::Rows;
 pub use seed::Seed;
+
+#[cfg(test)]
+mod tests;
