@@ -142,7 +142,7 @@ module _ {T : Type 0} where
           subst P (sym (h.0)) (own end (ap (λ (found : Row T). found.end) (same_Some new row (h.1)) ∙ ends))
       | inr h ↦
           let before = indexed.watched other row end (h.1) ends in
-          let P : ℕ → Type 0 = λ look. (look ≤ end) × Contains alarms' (alarm look other) in
+          let P : ℕ → Type 0 = λ ring. (ring ≤ end) × Contains alarms' (alarm ring other) in
           subst P (sym (same other (h.0))) (before.0, more (alarm (slice_index moments other) other) (before.1))
     ];
   }

@@ -22,21 +22,21 @@ pub contains_rest : (one first : Reverse (ℕ × ℕ)) (alarms : List (Reverse (
 contains_rest one first alarms h = Contains-append_right (first ∷ []) alarms one h
 
 -- the earlier alarms stay
-pub rung_keeps : (end : Option ℕ) (place : ℕ) (old new : List (Reverse (ℕ × ℕ))) (one : Reverse (ℕ × ℕ)) → HasAlarm end place old new → Contains old one → Contains new one
-rung_keeps None place old new one alarmed h = let P : List (Reverse (ℕ × ℕ)) → Type 0 = λ alarms. Contains alarms one in subst P (sym alarmed) h
-rung_keeps (Some end) place old new one alarmed h = Contains-permutation (alarm end place ∷ old) new one alarmed (contains_rest one (alarm end place) old h)
+pub alarm_stays : (end : Option ℕ) (place : ℕ) (old new : List (Reverse (ℕ × ℕ))) (one : Reverse (ℕ × ℕ)) → HasAlarm end place old new → Contains old one → Contains new one
+alarm_stays None place old new one alarmed h = let P : List (Reverse (ℕ × ℕ)) → Type 0 = λ alarms. Contains alarms one in subst P (sym alarmed) h
+alarm_stays (Some end) place old new one alarmed h = Contains-permutation (alarm end place ∷ old) new one alarmed (contains_rest one (alarm end place) old h)
 
-pub rung_adds : (end : Option ℕ) (moment place : ℕ) (old new : List (Reverse (ℕ × ℕ))) → HasAlarm end place old new → end ≡ Some moment → Contains new (alarm (first_moment end) place)
-rung_adds None moment place old new alarmed is = absurd (none-some moment is)
-rung_adds (Some end) moment place old new alarmed is = Contains-permutation (alarm end place ∷ old) new (alarm end place) alarmed (contains_front (alarm end place) old)
+pub alarm_added : (end : Option ℕ) (moment place : ℕ) (old new : List (Reverse (ℕ × ℕ))) → HasAlarm end place old new → end ≡ Some moment → Contains new (alarm (first_moment end) place)
+alarm_added None moment place old new alarmed is = absurd (none-some moment is)
+alarm_added (Some end) moment place old new alarmed is = Contains-permutation (alarm end place ∷ old) new (alarm end place) alarmed (contains_front (alarm end place) old)
 
 pub alarmed_length : (end : Option ℕ) (place : ℕ) (old new : List (Reverse (ℕ × ℕ))) → HasAlarm end place old new → length new ≤ length old + 1
 alarmed_length None place old new alarmed = omega (arith, ap length alarmed)
 alarmed_length (Some end) place old new alarmed = omega (arith, length_permutation (alarm end place ∷ old) new alarmed)
 
-look_is : (end : Option ℕ) (moment : ℕ) → end ≡ Some moment → first_moment end ≤ moment
-look_is None moment is = absurd (none-some moment is)
-look_is (Some end) moment is = let e : end ≡ moment = cc in omega arith
+moment_is : (end : Option ℕ) (moment : ℕ) → end ≡ Some moment → first_moment end ≤ moment
+moment_is None moment is = absurd (none-some moment is)
+moment_is (Some end) moment is = let e : end ≡ moment = cc in omega arith
 
 module _ {T : Type 0} where
   -- one more row can be found
@@ -54,15 +54,15 @@ module _ {T : Type 0} where
           | inl h ↦
               let same : slice_index (moments ++ first_moment new.end ∷ []) place ≡ slice_index moments place = get_or_append_left moments (first_moment new.end ∷ []) 0 place (omega (arith, h.0, indexed.watches)) in
               let before = indexed.watched place row end (h.1) ends in
-              let P : ℕ → Type 0 = λ look. (look ≤ end) × Contains alarms' (alarm look place) in
-              subst P (sym same) (before.0, rung_keeps new.end (length moments) alarms alarms' (alarm (slice_index moments place) place) alarmed (before.1))
+              let P : ℕ → Type 0 = λ ring. (ring ≤ end) × Contains alarms' (alarm ring place) in
+              subst P (sym same) (before.0, alarm_stays new.end (length moments) alarms alarms' (alarm (slice_index moments place) place) alarmed (before.1))
           | inr h ↦
               let at_end : length moments ≡ place = indexed.watches ∙ sym (h.0) in
               let same : slice_index (moments ++ first_moment new.end ∷ []) place ≡ first_moment new.end = get_or_push moments (first_moment new.end) 0 place at_end in
               let ends' : new.end ≡ Some end = ap (λ (found : Row T). found.end) (same_Some new row (h.1)) ∙ ends in
-              let P : ℕ → Type 0 = λ look. (look ≤ end) × Contains alarms' (alarm look place) in
+              let P : ℕ → Type 0 = λ ring. (ring ≤ end) × Contains alarms' (alarm ring place) in
               let Q : ℕ → Type 0 = λ there. Contains alarms' (alarm (first_moment new.end) there) in
-              subst P (sym same) (look_is new.end end ends', subst Q at_end (rung_adds new.end end (length moments) alarms alarms' alarmed ends'))
+              subst P (sym same) (moment_is new.end end ends', subst Q at_end (alarm_added new.end end (length moments) alarms alarms' alarmed ends'))
         ];
   }
 

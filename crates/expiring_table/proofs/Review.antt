@@ -72,19 +72,19 @@ module _ {T : Type 0} where
     links = indexed.links;
     hashed = indexed.hashed;
     watched = λ other next moment' at_other ends_other.
-        let P : ℕ → Type 0 = λ look. (look ≤ moment') × Contains alarms' (alarm look other) in
+        let P : ℕ → Type 0 = λ ring. (ring ≤ moment') × Contains alarms' (alarm ring other) in
         elim (eqb_tells other place) [
           | inl h ↦
               let here : other ≡ place = h.1 in
-              let look : slice_index (set moments place end) other ≡ end = ap (slice_index (set moments place end)) here ∙ get_or-set_same moments place end 0 (omega (arith, indexed.watches)) in
+              let ring : slice_index (set moments place end) other ≡ end = ap (slice_index (set moments place end)) here ∙ get_or-set_same moments place end 0 (omega (arith, indexed.watches)) in
               let found : row ≡ next = same_Some row next (sym at ∙ ap (row_at cells) (sym here) ∙ at_other) in
               let end_is : end ≡ moment' = same_Some end moment' (sym ends ∙ ap (λ (one : Row T). one.end) found ∙ ends_other) in
               let Q : ℕ → Type 0 = λ there. Contains alarms' (alarm end there) in
-              subst P (sym look) (omega arith, subst Q (sym here) (Contains-permutation (alarm end place ∷ alarms) alarms' (alarm end place) pushed (contains_front (alarm end place) alarms)))
+              subst P (sym ring) (omega arith, subst Q (sym here) (Contains-permutation (alarm end place ∷ alarms) alarms' (alarm end place) pushed (contains_front (alarm end place) alarms)))
           | inr h ↦
-              let look : slice_index (set moments place end) other ≡ slice_index moments other = get_or-set_other moments place other end 0 (h.1) in
+              let ring : slice_index (set moments place end) other ≡ slice_index moments other = get_or-set_other moments place other end 0 (h.1) in
               let watch = indexed.watched other next moment' at_other ends_other in
-              subst P (sym look) (
+              subst P (sym ring) (
                 watch.0,
                 elim (first_or_rest (alarm moment place) (alarm (slice_index moments other) other) alarms (watch.1)) [
                   | inl same ↦ absurd (h.1 (sym (ap (λ (one : Reverse (ℕ × ℕ)). one.0.1) same)))

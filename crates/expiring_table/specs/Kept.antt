@@ -29,6 +29,7 @@ abbrev pub count_due : ℕ → List (Reverse (ℕ × ℕ)) → ℕ
 count_due now alarms = sum_by (λ one. cond (nat_le one.0.0 now) 1 0) alarms
 
 module _ {T : Type 0} where
+  -- the row in the cell, if there is one, has this key
   abbrev pub is_cell_of : ℕ → Option (Row T) → Bool
   is_cell_of key None = false
   is_cell_of key (Some row) = row.key == key
@@ -48,9 +49,10 @@ module _ {T : Type 0} where
   IsPlaceOf key cells None = (place : ℕ) (row : Row T) → row_at cells place ≡ Some row → row.key ≢ key
   IsPlaceOf key cells (Some place) = (place < length cells) × ((row : Row T) × (row_at cells place ≡ Some row) × (row.key ≡ key))
 
+  -- the row had an end, and its alarm is no later than another end
   abbrev pub is_watched : ℕ → ℕ → Option (Row T) → Bool
-  is_watched look end None = false
-  is_watched look end (Some row) = is_some row.end && nat_le look end
+  is_watched moment end None = false
+  is_watched moment end (Some row) = is_some row.end && nat_le moment end
 
   -- each row's place is in the bucket of its key
   abbrev pub AreHashed : List (Option (Row T)) → Chained → Type 0
@@ -90,7 +92,7 @@ module _ {T : Type 0} where
     pub counted : store.count ≡ length (rows_in store.cells.items)
     pub few : store.count ≤ most
 
-  -- a store from which an alarm was taken out, at whose place no one has looked yet
+  -- a store from which an alarm was taken out, whose row was not looked at yet
   pub record IsOpen (most moment place : ℕ) (store : Store T) : Type 0 where
     pub room : HasRoom most store
     pub indexed : IsIndexed store.cells.items store.moments.items store.chains (alarm moment place ∷ store.alarms.alarms)

@@ -34,7 +34,7 @@ impl Model for Chains {
 }
 
 impl Chains {
-    /// No places, of which there may be so many, in so many buckets.
+    /// No places, and room for so many in so many buckets; the error is that there is too little memory.
     pub fn make(alloc: Global, seed: Seed, width: usize, room: usize) -> Result<Chains, AllocError>
         requires { room ≤ 2 ^ 32 }
         ensures { IfOk result (λ chains. chains ≡ no_places seed width room) }

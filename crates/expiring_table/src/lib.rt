@@ -1,4 +1,4 @@
-//! Rows under keys, in the order in which they were put in, each of which may end at a moment. A look-up costs a constant, and
+//! Rows under keys, in the order in which they were put in, each of which may end at a moment. A look-up costs a constant on the mean, and
 //! what ends is found without a look at the rest.
 #![tactic(auto)]
 

@@ -206,24 +206,21 @@ impl<T: Copy> Store<T> {
     fn row_at(&self, place: usize) -> Option<Row<T>>
         ensures { result ≡ row_at self.now.cells.items place }
     {
-        if place < self.cells.len() {
-            self.cells[place]
-        } else {
-            None
-        }
+        self.cells.get(place).copied().unwrap_or(None)
     }
 }
 
-// Whether the place of a row that had an end is looked at before another end.
-fn is_watched<T: Copy>(cell: Option<Row<T>>, look: u64, end: u64) -> bool
-    ensures { result ≡ is_watched look end cell }
+// Whether a row had an end, and its alarm is no later than another end.
+fn is_watched<T: Copy>(cell: Option<Row<T>>, alarm: u64, end: u64) -> bool
+    ensures { result ≡ is_watched alarm end cell }
 {
     match cell {
-        Some(row) => row.end.is_some() && look <= end,
+        Some(row) => row.end.is_some() && alarm <= end,
         None => false,
     }
 }
 
+// The moment of the first alarm of a row with this end.
 fn first_moment(end: Option<u64>) -> u64
     ensures { result ≡ first_moment end }
 {

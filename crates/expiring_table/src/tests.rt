@@ -60,7 +60,12 @@ fn pass_by(rows: &mut Rows<u64>, rounds: u64) -> u64
     let mut good = 0;
     for round in 0..rounds {
         drop_ended(rows, round);
-        put(rows, u128::from(round), Some(round.saturating_add(3)), round);
+        put(
+            rows,
+            u128::from(round),
+            Some(round.saturating_add(3)),
+            round,
+        );
         if rows.len() == 3 {
             good += 1;
         }

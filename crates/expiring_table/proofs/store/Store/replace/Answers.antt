@@ -45,11 +45,11 @@ returns-then-is_watched-clause-whole g c =
       room = room_kept c.args.most c.args.self.now _ whole.room (length-set cells c.args.place (Some c.args.row)) refl refl refl (omega arith) whole.room.alarmed;
       indexed = indexed_set cells moments moments c.args.self.now.chains alarms alarms c.args.place place.1.0 c.args.row place.0 place.1.1 place.1.2 whole.indexed refl
           (λ other not_here. refl) (λ one there. there) (λ end ends.
-          let look = get_or_read moments c.args.place c.index.result.now (omega (arith, place.0, whole.indexed.watches)) c.index.ensures 0 in
+          let ring = get_or_read moments c.args.place c.index.result.now (omega (arith, place.0, whole.indexed.watches)) c.index.ensures 0 in
           let was = get_or_read cells c.args.place c.index-was.result.now place.0 c.index-was.ensures None in
           let end_is : c.in-Some.end ≡ end = same_Some c.in-Some.end end (sym c.in-Some.is ∙ ends) in
           watched_then cells moments alarms c.args.place c.index-was.result.now end whole.indexed.watched (sym was)
-          (ap (λ one. is_watched one end c.index-was.result.now) (sym look) ∙ ap (λ one. is_watched c.index.result.now one c.index-was.result.now) (sym end_is) ∙ sym c.is_watched.ensures ∙ c.if-is_watched.true));
+          (ap (λ one. is_watched one end c.index-was.result.now) (sym ring) ∙ ap (λ one. is_watched c.index.result.now one c.index-was.result.now) (sym end_is) ∙ sym c.is_watched.ensures ∙ c.if-is_watched.true));
       once = once_set cells c.args.place place.1.0 c.args.row place.0 whole.once place.1.1 place.1.2;
       counted = whole.counted ∙ sym (count_set cells c.args.place place.1.0 c.args.row place.1.1);
       few = whole.few;
@@ -71,7 +71,7 @@ returns-clause-whole g c =
           (λ other not_here. get_or-set_other moments c.args.place other end 0 not_here)
           (λ one there. Contains-permutation (alarm end c.args.place ∷ alarms) alarms' one c.push.ensures.alarms (contains_rest one (alarm end c.args.place) alarms there))
           (λ other ends.
-          let P : ℕ → Type 0 = λ look. (look ≤ other) × Contains alarms' (alarm look c.args.place) in
+          let P : ℕ → Type 0 = λ ring. (ring ≤ other) × Contains alarms' (alarm ring c.args.place) in
           let end_is : end ≡ other = same_Some end other (sym c.in-Some.is ∙ ends) in
           subst P (sym (get_or-set_same moments c.args.place end 0 within)) (omega arith, Contains-permutation (alarm end c.args.place ∷ alarms) alarms' (alarm end c.args.place) c.push.ensures.alarms (contains_front (alarm end c.args.place) alarms)));
       once = once_set cells c.args.place place.1.0 c.args.row place.0 whole.once place.1.1 place.1.2;

@@ -66,8 +66,8 @@ returns-then-index-moment-clause-whole g c =
     whole_dropped c.args.most c.args.moment c.args.place c.args.self.now c.requires.open (λ row end at ends.
     let moments = c.args.self.now.moments.items in
     let within = row_within c.args.self.now.cells.items c.args.place row at in
-    let look = get_or_read moments c.args.place c.index.result.now (omega (arith, within, c.requires.open.indexed.watches)) c.index.ensures 0 in
-    λ same. c.if-index-moment.true (look ∙ same))
+    let ring = get_or_read moments c.args.place c.index.result.now (omega (arith, within, c.requires.open.indexed.watches)) c.index.ensures 0 in
+    λ same. c.if-index-moment.true (ring ∙ same))
 
 pub returns-clause-whole : goal.returns-clause-whole
 returns-clause-whole g c =
