@@ -1,11 +1,12 @@
 -- The first free place, and the address that stands there.
-use Rattle.std.proofs.Common.{cond, ◌≡◌, ℕ, ◌+◌, ◌-◌, ◌<◌, ◌≤◌, Bool, true, false, not, IsTrue, nat_le, nat_lt, List, length, drop, get_or, position, Option, Some, None, option_map, IfSome, IfNone, refl, sym, ◌∙◌, ap, arith, inl, inr}
+use Rattle.std.proofs.Common.{cond, ◌≡◌, ℕ, ◌+◌, ◌-◌, ◌<◌, ◌≤◌, Bool, true, false, not, IsTrue, nat_le, nat_lt, List, length, drop, replicate, get_or, position, Option, Some, None, option_map, IfSome, IfNone, refl, sym, ◌∙◌, ap, arith, inl, inr}
 use Rattle.std.specs.List.{position_or_len}
-use Rattle.std.proofs.lemmas.List.{get_or-drop, length-drop, get_or_default}
+use Rattle.std.proofs.lemmas.List.{get_or-drop, length-drop, get_or_default, get_or_past, get_or-replicate, length-replicate}
 use Rattle.std.proofs.lemmas.List.Quantifiers.{position-Some}
 use Rattle.std.proofs.lemmas.List.Sums.{fails_before_first, passes_at_first, position_or_len_is, prefix_len-le-length}
 use Rattle.std.proofs.lemmas.Bool.{lt-ltb, le-ltb, cases_Bool, cases_lt, false≢true, not-false, and_parts, and_from, not-true, not_from_false, not_from_true, leb-true, le-leb, ltb-false}
 use Rattle.gate_base.specs.declared.address.Addr.{Addr}
+use Rattle.realm_pools.specs.Places.{bit_of, one_if, IsFirst}
 use Rattle.realm_pools.specs.Addresses.{Range, Addresses, is_in, is_free, free_from, place_of, IsLeastFree, IsNoneFree}
 
 abbrev address_of : ℕ → Addr
@@ -109,3 +110,54 @@ from_low range taken low within all =
     let at : low + more < length taken → not (get_or taken (low + more) true) ≡ true = λ less. ap not (sym (get_or-drop low taken more true)) ∙ passes_at_first not (drop low taken) true (omega arith) in
     let first_place = position_or_len_is not taken (low + more) true (omega arith) below at in
     address_at range.first low (position_or_len not taken) more (length taken) (length (drop low taken)) first_place (omega arith)
+
+-- ## The first bit, and the first place
+
+free_here : (taken : Bool) → one_if (not taken) ≡ 1 → taken ≡ false
+free_here true is = let bad : ⊥ = cc in absurd bad
+free_here false is = refl
+
+taken_here : (taken : Bool) → one_if (not taken) ≡ 0 → not taken ≡ false
+taken_here true is = refl
+taken_here false is = let bad : ⊥ = cc in absurd bad
+
+position_at : (flags : List Bool) (n : ℕ) → n ≤ length flags → ((k : ℕ) → k < n → not (get_or flags k true) ≡ false) → (n < length flags → not (get_or flags n true) ≡ true) → position not flags ≡ cond (nat_lt n (length flags)) (Some n) None
+position_at flags n within below at = ap (λ i. cond (nat_lt i (length flags)) (Some i) None) (position_or_len_is not flags n true within below at)
+
+-- a bit is 1 where the place is free
+abbrev pub AreFree : List ℕ → List Bool → Type 0
+AreFree words taken = (place : ℕ) → bit_of words place ≡ one_if (not (get_or taken place true))
+
+pub place_within : (words : List ℕ) (taken : List Bool) (place : ℕ) → AreFree words taken → bit_of words place ≡ 1 → place < length taken
+place_within words taken place bits one = elim (cases_lt place (length taken)) [
+  | inl h ↦ h
+  | inr h ↦ absurd (false≢true (sym (free_here (get_or taken place true) (sym (bits place) ∙ one)) ∙ get_or_past taken place true h))
+]
+
+pub first_place : (range : Range) (words : List ℕ) (taken : List Bool) (place : ℕ) (first : Option ℕ) → AreFree words taken → IsFirst (bit_of words) place first → option_map (λ n. address_of (range.first + n)) first ≡ free_from place (record { range = range; taken = taken })
+first_place range words taken place None bits none =
+    let rest = drop place taken in
+    let below : (k : ℕ) → k < length rest → not (get_or rest k true) ≡ false = λ k less.
+    ap not (get_or-drop place taken k true) ∙ taken_here (get_or taken (place + k) true) (sym (bits (place + k)) ∙ none (place + k) (omega arith))
+    in
+    sym (ap (option_map (λ more. address_of (range.first + (place + more)))) (position_at rest (length rest) (omega arith) below (λ less. absurd (omega arith)) ∙ ap (λ b. cond b (Some (length rest)) None) (le-ltb (length rest) (length rest) (omega arith))))
+first_place range words taken place (Some found) bits first =
+    let rest = drop place taken in
+    let more : ℕ = found - place in
+    let is : found ≡ place + more = omega (arith, first.0) in
+    let within : more < length rest = omega (arith, place_within words taken found bits (first.1), first.0, length-drop place taken) in
+    let below : (k : ℕ) → k < more → not (get_or rest k true) ≡ false = λ k less.
+    ap not (get_or-drop place taken k true) ∙ taken_here (get_or taken (place + k) true) (sym (bits (place + k)) ∙ first.2 (place + k) (omega arith) (omega arith))
+    in
+    let at : not (get_or rest more true) ≡ true =
+    ap not (get_or-drop place taken more true ∙ ap (λ n. get_or taken n true) (sym is) ∙ free_here (get_or taken found true) (sym (bits found) ∙ first.1))
+    in
+    ap (λ n. Some (address_of (range.first + n))) is
+    ∙ sym (ap (option_map (λ more. address_of (range.first + (place + more)))) (position_at rest more (omega arith) below (λ less. at) ∙ ap (λ b. cond b (Some more) None) (lt-ltb more (length rest) within)))
+
+-- the places below the size of an unused pool are free
+pub free_below : (size place : ℕ) → one_if (nat_lt place size) ≡ one_if (not (get_or (replicate size false) place true))
+free_below size place = ap one_if (elim (cases_lt place size) [
+  | inl less ↦ lt-ltb place size less ∙ sym (ap not (get_or-replicate size place false true less))
+  | inr more ↦ le-ltb place size more ∙ sym (ap not (get_or_past (replicate size false) place true (omega (arith, length-replicate size false))))
+])

@@ -1,6 +1,7 @@
-ghost use Rattle.std.specs.Prelude.{◌≡◌, ◌+◌, ◌-◌, ◌<◌, ◌≤◌, IsTrue, IfOk, IfSome, IfNone, true, false, not, length, position, count_by};
+ghost use Rattle.std.specs.Prelude.{◌≡◌, ◌+◌, ◌-◌, ◌<◌, ◌≤◌, IsTrue, IfOk, IfSome, IfNone, true, false, not, length, count_by};
 ghost use Rattle.realm_pools.specs.Addresses as addresses;
 
+use crate::places::Places;
 use gate_base::{Addr, OutOfMemory};
 use std::alloc::Global;
 use std::marker::Model;
@@ -14,8 +15,8 @@ pub struct Pool {
     taken: Vec<bool>,
     // how many are free
     free: u32,
-    // all addresses at the places below are taken
-    low: usize,
+    // the places of those that are free
+    places: Places,
 }
 
 impl Model for Pool {
@@ -44,7 +45,7 @@ impl Pool {
             last: last.0,
             taken: vec![in alloc; false; size as usize]?,
             free: size,
-            low: 0,
+            places: Places::make(alloc, size as usize)?,
         })
     }
 
@@ -68,7 +69,7 @@ impl Pool {
         ensures least { IfSome result (addresses.IsLeastFree 0 self.now) }
         ensures none { IfNone result (addresses.IsNoneFree 0 self.now) }
     {
-        self.free_from(self.low)
+        self.free_from(0)
     }
 
     /// The least free address above another, and None exactly where none above it is free.
@@ -95,9 +96,7 @@ impl Pool {
         let place = (address.0 - self.first) as usize;
         self.taken[place] = true;
         self.free -= 1;
-        if place == self.low {
-            self.low += 1;
-        }
+        self.places.set(place, false);
     }
 
     /// Makes a taken address free.
@@ -108,24 +107,18 @@ impl Pool {
         let place = (address.0 - self.first) as usize;
         self.taken[place] = false;
         self.free += 1;
-        if place < self.low {
-            self.low = place;
-        }
+        self.places.set(place, true);
     }
 
     // The first free address from a place on.
     fn free_from(&self, place: usize) -> Option<Addr>
         requires { place ≤ length self.now.taken }
-        ensures { result ≡ addresses.free_from place self.now }
+        ensures value { result ≡ addresses.free_from place self.now }
+        ensures range { self.now.range.first + length self.now.taken ≡ self.now.range.last + 1 }
     {
-        let more = first_free(&self.taken[place..])?;
-        Some(Addr(self.first + (place + more) as u32))
+        match self.places.first_from(place) {
+            Some(found) => Some(Addr(self.first + found as u32)),
+            None => None,
+        }
     }
-}
-
-fn first_free(taken: &[bool]) -> Option<usize>
-    ensures value { result ≡ position not taken.now }
-    ensures within { IfSome result (λ place. place < length taken.now) }
-{
-    taken.iter().position(|taken| !*taken)
 }
