@@ -57,6 +57,25 @@ torn_head form place n head (Some all) some few fits h =
     let same : n ≡ length (take 16 all) = sym size ∙ ap length h in
     few_octets form place all (omega (arith, same, length-take 16 all)) (omega (arith, same, length-take 16 all))
 
+-- what a fault says of octets, whether or not they are told
+pub some_is : {P : List ℕ → Type 0} (o : Option (List ℕ)) → ((octets : List ℕ) → P octets) → IfSome o P
+some_is None h = tt
+some_is (Some octets) h = h octets
+
+-- a whole head was there
+pub enough_left : (n : ℕ) (head : List ℕ) (o : Option (List ℕ)) → 16 ≤ n → n ≤ length head → IfSome o (λ all. take n head ≡ take 16 all) → IfSome o (λ all. 16 ≤ length all)
+enough_left n head None enough fits h = tt
+enough_left n head (Some all) enough fits h =
+    let size : length (take n head) ≡ n = length-take-le n head fits in
+    omega (arith, size, ap length h, length-take 16 all)
+
+-- of a torn head all that was left was taken
+pub all_left : (n : ℕ) (head : List ℕ) (o : Option (List ℕ)) → n < 16 → n ≤ length head → IfSome o (λ all. take n head ≡ take 16 all) → IfSome o (λ all. n ≡ length all)
+all_left n head None few fits h = tt
+all_left n head (Some all) few fits h =
+    let size : length (take n head) ≡ n = length-take-le n head fits in
+    omega (arith, size, ap length h, length-take 16 all)
+
 -- a whole head was read
 pub by_the_head : (form : Form) (place n : ℕ) (head : List ℕ) (P : List ℕ → Next) (o : Option (List ℕ)) → length head ≡ 16 → 16 ≤ n → IfSome o (λ all. take n head ≡ take 16 all)
     → ((rest : List ℕ) → after_head form place head rest ≡ P rest) → IfSome o (λ all. next_at form place all ≡ P (drop 16 all))
@@ -83,6 +102,13 @@ torn_body form place n stamp kept whole buffer (Some all) few fits h k =
     let size : length (take n buffer) ≡ n = length-take-le n buffer fits in
     let same : n ≡ length (take kept (drop 16 all)) = sym size ∙ ap length k in
     h ∙ torn-of stamp kept whole (drop 16 all) (omega (arith, same, length-take kept (drop 16 all)))
+
+-- of a torn record all that was left was taken
+pub all_left_behind : (kept n : ℕ) (buffer : List ℕ) (o : Option (List ℕ)) → n < kept → n ≤ length buffer → IfSome o (λ all. 16 ≤ length all) → IfSome o (λ all. take n buffer ≡ take kept (drop 16 all)) → IfSome o (λ all. 16 + n ≡ length all)
+all_left_behind kept n buffer None few fits h k = tt
+all_left_behind kept n buffer (Some all) few fits h k =
+    let size : length (take n buffer) ≡ n = length-take-le n buffer fits in
+    omega (arith, size, ap length k, length-take kept (drop 16 all), length-drop 16 all, h, few)
 
 -- as many octets as the head says were read
 pub whole_body : (form : Form) (place n stamp kept : ℕ) (whole : Bool) (buffer : List ℕ) (o : Option (List ℕ)) → kept ≡ n → n ≤ length buffer → IfSome o (λ all. next_at form place all ≡ body_of stamp whole kept (drop 16 all))

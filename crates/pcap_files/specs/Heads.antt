@@ -9,7 +9,7 @@ use Rattle.pcap_files.specs.declared.fault.ReadStop.TheVariants.{Fault, Desk, Ou
 use Rattle.pcap_files.specs.declared.form.Form.{Form}
 use Rattle.pcap_files.specs.declared.record.RecordHead.{RecordHead}
 use Rattle.pcap_files.specs.Capture.{Head, Good, Bad, head_of, Next, next_at, Ended, Broken, Came, seconds_of, nanoseconds_of, kept_of, original_of}
-use Rattle.pcap_files.specs.Reader.{TakesNoRecord}
+use Rattle.pcap_files.specs.Reader.{fault_size, TakesToFault, TakesToFailure}
 
 -- a head, or its fault
 abbrev pub head_answer : Result Form CaptureFault → Head
@@ -36,14 +36,13 @@ pub record Fits (place : ℕ) (h : RecordHead) : Type 0 where
 
 -- the head's fault, or what it says
 abbrev pub Judges : Result RecordHead CaptureFault → Form → ℕ → List ℕ → Type 0
-Judges (Err f) form place head = (rest : List ℕ) → after_head form place head rest ≡ Broken f
+Judges (Err f) form place head = ((left : ℕ) → fault_size f left ≡ 16) × ((rest : List ℕ) → after_head form place head rest ≡ Broken f)
 Judges (Ok h) form place head = Fits place h × ((rest : List ℕ) → after_head form place head rest ≡ body_of h.stamp h.whole h.kept rest)
 
 -- what stops the reading of a record
 abbrev pub StopsAt : ReadStop → Form → ℕ → Slot → Outside → Outside → Type 0
-StopsAt (Fault f at) form place slot old new = (at ≡ place) × ((n : ℕ) × Takes slot n old new) × IfSome (told_at old.left slot) (λ octets. next_at form place octets ≡ Broken f)
-StopsAt (Desk s) form place slot old new = (s ≡ slot) × HasFailed slot old new
-    × ((n : ℕ) × Takes slot n old new × IfSome (told_at old.left slot) (λ octets. TakesNoRecord (next_at form place octets) n))
+StopsAt (Fault f at) form place slot old new = (at ≡ place) × TakesToFault slot place f old new × IfSome (told_at old.left slot) (λ octets. next_at form place octets ≡ Broken f)
+StopsAt (Desk s) form place slot old new = (s ≡ slot) × HasFailed slot old new × TakesToFailure slot form place old new
 StopsAt OutOfMemory form place slot old new = ⊥
 
 -- what reading a record's head answers
@@ -51,6 +50,7 @@ abbrev pub TakesHead : Result (Option RecordHead) ReadStop → Form → ℕ → 
 TakesHead (Ok None) form place slot old new = Takes slot 0 old new × IfSome (told_at old.left slot) (λ octets. next_at form place octets ≡ Ended)
 TakesHead (Ok (Some h)) form place slot old new = Fits place h × Takes slot 16 old new
     × IfSome (told_at old.left slot) (λ octets. next_at form place octets ≡ body_of h.stamp h.whole h.kept (drop 16 octets))
+    × IfSome (told_at old.left slot) (λ octets. 16 ≤ length octets)
 TakesHead (Err e) form place slot old new = StopsAt e form place slot old new
 
 -- what reading a record answers, its octets standing in the buffer
@@ -63,6 +63,6 @@ TakesRecord (Err e) form place slot buffer old new = StopsAt e form place slot o
 -- what reading a capture's head answers
 abbrev pub TakesCaptureHead : Result Form ReadStop → Slot → Outside → Outside → Type 0
 TakesCaptureHead (Ok form) slot old new = Takes slot 24 old new × IfSome (told_at old.left slot) (λ octets. head_of octets ≡ Good form)
-TakesCaptureHead (Err (Fault f place)) slot old new = (place ≡ 0) × ((n : ℕ) × Takes slot n old new) × IfSome (told_at old.left slot) (λ octets. head_of octets ≡ Bad f)
+TakesCaptureHead (Err (Fault f place)) slot old new = (place ≡ 0) × ((n : ℕ) × (n ≤ 24) × Takes slot n old new) × IfSome (told_at old.left slot) (λ octets. head_of octets ≡ Bad f)
 TakesCaptureHead (Err (Desk s)) slot old new = (s ≡ slot) × HasFailed slot old new × ((n : ℕ) × (n < 24) × Takes slot n old new)
 TakesCaptureHead (Err OutOfMemory) slot old new = ⊥

@@ -1,5 +1,6 @@
 -- The records that were taken whole of each side, and the events that were given for them.
-use Rattle.std.proofs.Common.{◌≡◌, inl, inr, ℕ, ◌+◌, ◌-◌, List, [], ◌∷◌, ◌++◌, Bool, true, false, cond, Option, Some, None, IfSome, IsSome, option_map, nat_le, drop, length, refl, sym, ap, subst, ◌∙◌, append_assoc, length-append, zero-add, arith}
+use Rattle.std.proofs.Common.{◌≡◌, inl, inr, ◌≤◌, ℕ, ◌+◌, ◌-◌, List, [], ◌∷◌, ◌++◌, Bool, true, false, cond, Option, Some, None, IfSome, IsSome, option_map, nat_le, drop, length, refl, sym, ap, subst, ◌∙◌, append_assoc, length-append, zero-add, arith}
+use Rattle.std.specs.Prelude.{◌^◌}
 use Rattle.std.proofs.lemmas.Bool.{false≢true, le-leb, lt-leb}
 use Rattle.std.proofs.lemmas.List.{drop-drop}
 use Rattle.std.proofs.lemmas.List.Sums.{sum_by-append}
@@ -12,16 +13,16 @@ use Rattle.gate_desk.specs.declared.slot.Slot.TheVariants.{LeftIn, RightIn}
 use Rattle.gate_desk.proofs.Laws.{told_at-took, told_at-took_other}
 use Rattle.pcap_files.specs.declared.form.Form.{Form}
 use Rattle.pcap_files.specs.Capture.{Packet, Records, Next, Ended, Broken, Came, size, next_at, Good, head_of, capture_of, records_from}
-use Rattle.pcap_files.specs.Reader.{Reading, TakesNoRecord}
+use Rattle.pcap_files.specs.Reader.{Reading, TakesNoRecord, TakesToFailure}
 use Rattle.pcap_files.proofs.Records.{records-came, records-ended, records-broken, capture-good}
 use Rattle.pcap_merge.specs.declared.order.Last.{Last}
 use Rattle.pcap_merge.specs.declared.order.Last.TheVariants.{Nothing, Event as LastEvent}
 use Rattle.pcap_merge.specs.declared.stop.MergeStop.{MergeStop}
 use Rattle.pcap_merge.specs.Order.{is_unread}
-use Rattle.pcap_merge.specs.Given.{whole_in, whole_records, count_of_side, EndsOn, EndsAtTaken, total, with_records, one_held, HasRead, IsLast}
+use Rattle.pcap_merge.specs.Given.{whole_in, whole_records, count_of_side, EndsOn, EndsAtTaken, HasTakenFew, TakenFor, total, with_records, one_held, HasRead, IsLast}
 use Rattle.pcap_merge.specs.Sides.{Readies, ComesTo, held_size, one_for}
 use Rattle.pcap_merge.specs.Stops.{slot_of}
-use Rattle.pcap_merge.specs.Merge.{merging, event_given, reading_of, HasGiven}
+use Rattle.pcap_merge.specs.Merge.{merging, event_given, reading_of, HasGiven, TakesFew}
 
 -- ## Records that lie whole in so many octets
 
@@ -155,6 +156,7 @@ given_more l l' r r' clock clock' last e stop start old mid new events held_left
         | Left ↦ same_left k.count mid new k.takes ∙ side_stands Left (is_unread Left last) l l' (told_at start.left LeftIn) old mid h (given.stands Left)
         | Right ↦ side_stands Right (is_unread Right last) r r' (told_at start.left RightIn) mid new k right_told
       ];
+      near = λ side. elim side as (λ (x : Side). (reading_of x (merging l' r' clock' (LastEvent e.side) stop)).place ≤ 2 ^ 40) [ Left ↦ h.near (given.near Left) | Right ↦ k.near (given.near Right) ];
       before = λ side. elim side as (λ (x : Side). IfSome (told_at start.left (slot_of x)) (HasRead (reading_of x (merging l' r' clock' (LastEvent e.side) stop)) (is_unread x (LastEvent e.side)) (count_of_side x (events ++ e ∷ [])))) [
         | Left ↦ subst (λ (n : ℕ). IfSome (told_at start.left LeftIn) (HasRead l' (same_side e.side Left) n)) (sym (one_more Left events e)) left
         | Right ↦ subst (λ (n : ℕ). IfSome (told_at start.left RightIn) (HasRead r' (same_side e.side Right) n)) (sym (one_more Right events e)) right
@@ -200,9 +202,103 @@ given_none l r clock stop old mid new left_place right_place h k left right = re
     | Left ↦ same_left 24 mid new k ∙ ap (λ t. told_at t LeftIn) h.left ∙ told_at-took LeftIn 24 old.left ∙ ap (λ (n : ℕ). option_map (drop n) (told_at old.left LeftIn)) (sym left_place)
     | Right ↦ ap (λ t. told_at t RightIn) k.left ∙ told_at-took RightIn 24 mid.left ∙ ap (option_map (drop 24)) (same_right 24 old mid h) ∙ ap (λ (n : ℕ). option_map (drop n) (told_at old.left RightIn)) (sym right_place)
   ];
+  near = λ side. elim side as (λ (x : Side). (reading_of x (merging l r clock Nothing stop)).place ≤ 2 ^ 40) [ Left ↦ omega (arith, left_place) | Right ↦ omega (arith, right_place) ];
   before = λ side. elim side as (λ (x : Side). IfSome (told_at old.left (slot_of x)) (HasRead (reading_of x (merging l r clock Nothing stop)) true 0)) [
     | Left ↦ nothing_read l (told_at old.left LeftIn) left_place left
     | Right ↦ nothing_read r (told_at old.left RightIn) right_place (subst (λ t. IfSome t (λ all. head_of all ≡ Good r.form)) (same_right 24 old mid h) right)
   ];
   last = refl;
 }
+
+-- ## What was taken, at most
+
+whole_zero : (packets : List Packet) → whole_in 0 packets ≡ 0
+whole_zero [] = refl
+whole_zero (p ∷ packets) = ap (λ (b : Bool). cond b (1 + whole_in (0 - size p) packets) 0) (lt-leb (size p) 0 (omega arith))
+
+-- the records before a reader
+read_few : (r : Reading) (unread : Bool) (given : ℕ) (all : List ℕ) → HasRead r unread given all → whole_records r.place all ≤ given + 1
+unfolding whole_records
+read_few r unread given all h =
+    let rest = records_from r.form r.place (drop r.place all) in
+    let count : r.place - 24 ≡ total h.before + 0 = omega (arith, h.place_is) in
+    let whole : whole_in (r.place - 24) (capture_of all).packets ≡ whole_in (total h.before + 0) (h.before ++ rest.packets) = ap (λ (k : ℕ). whole_in k (capture_of all).packets) count ∙ ap (λ (x : Records). whole_in (total h.before + 0) x.packets) h.records in
+    omega (arith, whole, whole_front h.before rest.packets 0, whole_zero rest.packets, h.count, held_few unread r.packet)
+  where
+    held_few : (u : Bool) (p : Option Packet) → one_held u p ≤ 1
+    held_few true p = omega arith
+    held_few false None = omega arith
+    held_few false (Some p) = omega arith
+
+few_of : (r : Reading) (unread : Bool) (given : ℕ) (o : Option (List ℕ)) → IfSome o (HasRead r unread given) → IfSome o (λ all. whole_records r.place all ≤ given + 1)
+few_of r unread given None h = tt
+few_of r unread given (Some all) h = read_few r unread given all h
+
+exactly : (given count : ℕ) (o : Option (List ℕ)) → IfSome o (λ all. whole_records count all ≡ given) → IfSome o (λ all. whole_records count all ≤ given + 1)
+exactly given count None h = tt
+exactly given count (Some all) h = omega (arith, h)
+
+-- a side of which nothing more was taken
+few_still : (side : Side) (r : Reading) (unread : Bool) (given : ℕ) (start now : Outside) → told_at now.left (slot_of side) ≡ option_map (drop r.place) (told_at start.left (slot_of side)) → r.place ≤ 2 ^ 40 → IfSome (told_at start.left (slot_of side)) (HasRead r unread given) → HasTakenFew side start now given
+few_still side r unread given start now stands near before = record { count = r.place; taken = stands; near = omega (arith, near); few = few_of r unread given (told_at start.left (slot_of side)) before }
+
+-- a side that stands at its next record or at its end
+few_ready : (side : Side) (unread : Bool) (r s : Reading) (given : ℕ) (start old new : Outside) → Readies side unread r s old new → told_at old.left (slot_of side) ≡ option_map (drop r.place) (told_at start.left (slot_of side)) → r.place ≤ 2 ^ 40 → IfSome (told_at start.left (slot_of side)) (HasRead r unread given) → HasTakenFew side start new given
+few_ready side unread r s given start old new h stands near before =
+    few_still side s false given start new (side_stands side unread r s (told_at start.left (slot_of side)) old new h stands) (h.near near)
+    (side_before side unread r s given (told_at start.left (slot_of side)) old new h stands before)
+
+-- a side that was to be read, and couldn't be
+few_stopped : (side : Side) (r : Reading) (unread : Bool) (given : ℕ) (start old new : Outside) → unread ≡ true → TakesToFailure (slot_of side) r.form r.place old new → told_at old.left (slot_of side) ≡ option_map (drop r.place) (told_at start.left (slot_of side)) → IfSome (told_at start.left (slot_of side)) (HasRead r unread given) → HasTakenFew side start new given
+few_stopped side r unread given start old new to_read h stands before = record {
+  count = r.place + h.count;
+  taken = ap (λ t. told_at t (slot_of side)) h.takes.left ∙ told_at-took (slot_of side) h.count old.left ∙ ap (option_map (drop h.count)) stands ∙ dropped (told_at start.left (slot_of side)) h.count r.place;
+  near = h.near;
+  few = exactly given (r.place + h.count) (told_at start.left (slot_of side)) (whole_told r given h.count (told_at start.left (slot_of side)) (told_at old.left (slot_of side)) stands h.none (subst (λ (u : Bool). IfSome (told_at start.left (slot_of side)) (HasRead r u given)) to_read before));
+}
+
+few_later : (side : Side) (start a b : Outside) (given : ℕ) → told_at b.left (slot_of side) ≡ told_at a.left (slot_of side) → HasTakenFew side start a given → HasTakenFew side start b given
+few_later side start a b given same h = record { count = h.count; taken = same ∙ h.taken; near = h.near; few = h.few }
+
+-- both sides stand at their next records or at their ends
+pub both_ready : (l l' r r' : Reading) (clock : ℕ) (last : Last) (stop : Option MergeStop) (old mid new : Outside) → Readies Left (is_unread Left last) l l' old mid → Readies Right (is_unread Right last) r r' mid new → TakesFew (merging l r clock last stop) old new
+both_ready l l' r r' clock last stop old mid new h k start events given side = elim side as (λ (x : Side). HasTakenFew x start new (count_of_side x events)) [
+  | Left ↦ few_later Left start mid new (count_of_side Left events) (same_left k.count mid new k.takes) (few_ready Left (is_unread Left last) l l' (count_of_side Left events) start old mid h (given.stands Left) (given.near Left) (given.before Left))
+  | Right ↦ few_ready Right (is_unread Right last) r r' (count_of_side Right events) start mid new k (same_right h.count old mid h.takes ∙ given.stands Right) (given.near Right) (given.before Right)
+]
+
+-- the left side couldn't be read
+pub left_stopped : (l r : Reading) (clock : ℕ) (last : Last) (stop : Option MergeStop) (old new : Outside) → is_unread Left last ≡ true → TakesToFailure LeftIn l.form l.place old new → TakesFew (merging l r clock last stop) old new
+left_stopped l r clock last stop old new to_read h start events given side = elim side as (λ (x : Side). HasTakenFew x start new (count_of_side x events)) [
+  | Left ↦ few_stopped Left l (is_unread Left last) (count_of_side Left events) start old new to_read h (given.stands Left) (given.before Left)
+  | Right ↦ few_still Right r (is_unread Right last) (count_of_side Right events) start new (same_right h.count old new h.takes ∙ given.stands Right) (given.near Right) (given.before Right)
+]
+
+-- the right side couldn't be read
+pub right_stopped : (l l' r : Reading) (clock : ℕ) (last : Last) (stop : Option MergeStop) (old mid new : Outside) → Readies Left (is_unread Left last) l l' old mid → is_unread Right last ≡ true → TakesToFailure RightIn r.form r.place mid new → TakesFew (merging l r clock last stop) old new
+right_stopped l l' r clock last stop old mid new h to_read k start events given side = elim side as (λ (x : Side). HasTakenFew x start new (count_of_side x events)) [
+  | Left ↦ few_later Left start mid new (count_of_side Left events) (same_left k.count mid new k.takes) (few_ready Left (is_unread Left last) l l' (count_of_side Left events) start old mid h (given.stands Left) (given.near Left) (given.before Left))
+  | Right ↦ few_stopped Right r (is_unread Right last) (count_of_side Right events) start mid new to_read k (same_right h.count old mid h.takes ∙ given.stands Right) (given.before Right)
+]
+
+-- no record lies in so few octets of a capture
+no_record : (count : ℕ) (o : Option (List ℕ)) → count ≤ 24 → IfSome o (λ all. whole_records count all ≤ 1)
+unfolding whole_records
+no_record count None few = tt
+no_record count (Some all) few =
+    let none : count - 24 ≡ 0 = omega arith in
+    omega (arith, ap (λ (k : ℕ). whole_in k (capture_of all).packets) none ∙ whole_zero (capture_of all).packets)
+
+-- of both captures their heads were taken, or less
+pub heads_few : (m n : ℕ) (old mid new : Outside) → m ≤ 24 → n ≤ 24 → Takes LeftIn m old mid → Takes RightIn n mid new → TakenFor [] old new
+heads_few m n old mid new left right h k side = elim side as (λ (x : Side). HasTakenFew x old new (count_of_side x [])) [
+  | Left ↦ record { count = m; taken = same_left n mid new k ∙ ap (λ t. told_at t LeftIn) h.left ∙ told_at-took LeftIn m old.left; near = omega (arith, left); few = no_record m (told_at old.left LeftIn) left }
+  | Right ↦ record { count = n; taken = ap (λ t. told_at t RightIn) k.left ∙ told_at-took RightIn n mid.left ∙ ap (option_map (drop n)) (same_right m old mid h); near = omega (arith, right); few = no_record n (told_at old.left RightIn) right }
+]
+
+-- what is taken while events are given
+pub given_few : (start : Outside) (l r : Reading) (clock : ℕ) (last : Last) (stop : Option MergeStop) (now : Outside) (events : List Event) → HasGiven start (merging l r clock last stop) now events → TakenFor events start now
+given_few start l r clock last stop now events given side = elim side as (λ (x : Side). HasTakenFew x start now (count_of_side x events)) [
+  | Left ↦ few_still Left l (is_unread Left last) (count_of_side Left events) start now (given.stands Left) (given.near Left) (given.before Left)
+  | Right ↦ few_still Right r (is_unread Right last) (count_of_side Right events) start now (given.stands Right) (given.near Right) (given.before Right)
+]

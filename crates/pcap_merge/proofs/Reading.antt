@@ -2,13 +2,14 @@
 use Rattle.std.proofs.Common.{◌≡◌, inl, inr, ℕ, ◌+◌, ◌^◌, ◌<◌, ◌≤◌, List, [], Bool, true, false, Option, Some, None, Ok, Err, IfSome, drop, refl, sym, ap, subst, ◌∙◌, arith}
 use Rattle.std.proofs.lemmas.Bool.{false≢true, true≢false}
 use Rattle.gate_base.specs.declared.side.Side.{Side}
+use Rattle.gate_desk.specs.declared.slot.Slot.{Slot}
 use Rattle.gate_desk.specs.Outside.{Outside, Takes, told_at}
 use Rattle.gate_desk.proofs.Laws.{takes_none}
 use Rattle.pcap_files.specs.declared.fault.ReadStop.{ReadStop}
 use Rattle.pcap_files.specs.declared.fault.ReadStop.TheVariants.{Fault, Desk, OutOfMemory}
 use Rattle.pcap_files.specs.declared.fault.CaptureFault.{CaptureFault}
-use Rattle.pcap_files.specs.Capture.{Packet, Ended, Broken, Came, size, next_at, Records, Fault as EndsFaulty, records_from}
-use Rattle.pcap_files.specs.Reader.{Reading, IsSmall, Advances, TakesNoRecord}
+use Rattle.pcap_files.specs.Capture.{Packet, Next, Ended, Broken, Came, size, next_at, Records, Fault as EndsFaulty, records_from}
+use Rattle.pcap_files.specs.Reader.{Reading, IsSmall, Advances, TakesNoRecord, TakesToFault, TakesToFailure}
 use Rattle.pcap_files.proofs.Records.{records-came, records-ended, records-broken, ended_is_empty}
 use Rattle.pcap_merge.specs.Sides.{Readies, ReadsSide, records_ahead, IsSpent, side_work, one_for}
 use Rattle.pcap_merge.specs.Stops.{slot_of, stop_of}
@@ -31,6 +32,7 @@ not_read side r o e = record {
   slot = refl;
   form = refl;
   place = omega arith;
+  near = λ h. h;
   size_is = λ h. absurd (false≢true h);
   comes = λ h. absurd (false≢true h);
   stop = e;
@@ -82,6 +84,7 @@ came side r p old new e small fits takes there = record {
   slot = refl;
   form = refl;
   place = refl;
+  near = λ h. fits;
   size_is = λ h. refl;
   comes = λ h. there;
   stop = e;
@@ -101,6 +104,7 @@ ended side r old new e takes there = record {
   slot = refl;
   form = refl;
   place = omega arith;
+  near = λ h. h;
   size_is = λ h. refl;
   comes = λ h. there;
   stop = e;
@@ -125,6 +129,19 @@ broken : (r : Reading) (f : CaptureFault) (place : ℕ) (o : Option (List ℕ)) 
 broken r f place None e h = tt
 broken r f place (Some octets) e h = records-broken r.form r.place octets f h ∙ ap (λ (n : ℕ). let x : Records = record { packets = []; ending = EndsFaulty f n } in x) (sym e)
 
+-- what was taken to a fault is no record
+to_fault : (slot : Slot) (r : Reading) (f : CaptureFault) (old new : Outside) → r.slot ≡ slot → TakesToFault r.slot r.place f old new → IfSome (told_at old.left r.slot) (λ octets. next_at r.form r.place octets ≡ Broken f) → TakesToFailure slot r.form r.place old new
+to_fault slot r f old new at h there = subst (λ s. TakesToFailure s r.form r.place old new) at (record {
+  count = h.count;
+  takes = h.takes;
+  near = h.near;
+  none = no_record (told_at old.left r.slot) there;
+})
+  where
+    no_record : (o : Option (List ℕ)) → IfSome o (λ octets. next_at r.form r.place octets ≡ Broken f) → IfSome o (λ octets. TakesNoRecord (next_at r.form r.place octets) h.count)
+    no_record None e = tt
+    no_record (Some octets) e = subst (λ (x : Next). TakesNoRecord x h.count) (sym e) tt
+
 -- a side whose reading stopped
 pub has_stopped : (side : Side) (stop : ReadStop) (r s : Reading) (old new : Outside) → r.slot ≡ slot_of side → Advances (Err stop) r s old new → ReadsSide (Err (stop_of side stop)) side true r s old new
 has_stopped side (Fault f place) r s old new at h = (
@@ -132,7 +149,7 @@ has_stopped side (Fault f place) r s old new at h = (
   refl,
   ap (λ (x : Reading). x.slot) h.1,
   ap (λ (x : Reading). x.packet) h.1,
-  (h.2.0, subst (λ slot. Takes slot h.2.0 old new) at h.2.1),
+  to_fault (slot_of side) r f old new at h.2 h.3,
   broken r f place (told_at old.left (slot_of side)) h.0 (subst (λ slot. IfSome (told_at old.left slot) (λ octets. next_at r.form r.place octets ≡ Broken f)) at h.3),
 )
 has_stopped side (Desk slot) r s old new at h = (
@@ -141,6 +158,6 @@ has_stopped side (Desk slot) r s old new at h = (
   ap (λ (x : Reading). x.slot) h.1,
   ap (λ (x : Reading). x.packet) h.1,
   h.2,
-  (h.3.0, subst (λ slot. Takes slot h.3.0 old new) at h.3.1, subst (λ slot. IfSome (told_at old.left slot) (λ octets. TakesNoRecord (next_at r.form r.place octets) h.3.0)) at h.3.2),
+  subst (λ slot. TakesToFailure slot r.form r.place old new) at h.3,
 )
 has_stopped side OutOfMemory r s old new at h = absurd h

@@ -17,7 +17,7 @@ use Rattle.pcap_merge.specs.Events.{Merged, Fault as EndsFaulty, merge_from, are
 use Rattle.pcap_merge.specs.Merge.{Merging, merging, all_events, ahead, sides_ahead, HasBegun, Begins}
 use Rattle.pcap_merge.specs.Sides.{IsSpent}
 use Rattle.pcap_merge.proofs.Reading.{one_at_most}
-use Rattle.pcap_merge.proofs.Given.{given_none}
+use Rattle.pcap_merge.proofs.Given.{given_none, heads_few}
 use Rattle.pcap_merge.proofs.Steps.{reads_of, left_told, right_told, both, sides}
 
 all_events_are : (o : Told) (y : Merged) → IfSome o (λ all. events_of all.left_in all.right_in ≡ y) → IfSome (all_events o) (λ x. x ≡ y)
@@ -67,25 +67,27 @@ both_good a b l r h k = ap (λ (x : Head). are_good x (head_of b)) h ∙ ap (are
 -- the left capture didn't begin
 pub stops_left : (stop : ReadStop) (old new : Outside) → BeginsReader (Err stop) LeftIn old new → Begins (Err (stop_of Left stop)) old new
 stops_left (Fault f place) old new h = (
-  reads_of h.1.0 0 old new new h.1.1 (takes_none RightIn new),
+  reads_of h.1.0 0 old new new h.1.2 (takes_none RightIn new),
   all_events_are old.left _ (both old.left _ _ _ (left_told old.left (λ octets. head_of octets ≡ Bad f) h.2) (left_told old.left (λ octets. head_of octets ≡ Bad f) h.2) (λ all e same. no_left_head all.left_in all.right_in f place h.0 e)),
   both old.left _ _ _ (left_told old.left (λ octets. head_of octets ≡ Bad f) h.2) (left_told old.left (λ octets. head_of octets ≡ Bad f) h.2) (λ all e same. no_left_good all.left_in all.right_in f e),
+  heads_few h.1.0 0 old new new h.1.1 (omega arith) h.1.2 (takes_none RightIn new),
 )
-stops_left (Desk slot) old new h = (Left, h.0, subst (λ s. HasFailed s old new) (sym h.0) h.1, (reads_of h.2.0 0 old new new h.2.2 (takes_none RightIn new), h.2.1))
-stops_left OutOfMemory old new h = reads_of 24 0 old new new h.1 (takes_none RightIn new)
+stops_left (Desk slot) old new h = (Left, h.0, subst (λ s. HasFailed s old new) (sym h.0) h.1, (reads_of h.2.0 0 old new new h.2.2 (takes_none RightIn new), h.2.1), heads_few h.2.0 0 old new new (omega (arith, h.2.1)) (omega arith) h.2.2 (takes_none RightIn new))
+stops_left OutOfMemory old new h = (reads_of 24 0 old new new h.1 (takes_none RightIn new), heads_few 24 0 old new new (omega arith) (omega arith) h.1 (takes_none RightIn new))
 
 -- the right capture didn't begin
 pub stops_right : (stop : ReadStop) (l : Reading) (old mid new : Outside) → BeginsReader (Ok l) LeftIn old mid → BeginsReader (Err stop) RightIn mid new → Begins (Err (stop_of Right stop)) old new
 stops_right (Fault f place) l old mid new h k =
     let left = left_told old.left (λ octets. head_of octets ≡ Good h.0) h.3 in
     let right = right_told 24 old mid (λ octets. head_of octets ≡ Bad f) h.2 k.2 in (
-      reads_of 24 k.1.0 old mid new h.2 k.1.1,
+      reads_of 24 k.1.0 old mid new h.2 k.1.2,
       all_events_are old.left _ (both old.left _ _ _ left right (λ all e f'. no_right_head all.left_in all.right_in h.0 f place k.0 e f')),
       both old.left _ _ _ left right (λ all e f'. no_right_good all.left_in all.right_in h.0 f e f'),
+      heads_few 24 k.1.0 old mid new (omega arith) k.1.1 h.2 k.1.2,
     )
 stops_right (Desk slot) l old mid new h k =
-    (Right, k.0, subst (λ s. HasFailed s old new) (sym k.0) (failed_since RightIn old mid new (grows_takes LeftIn 24 old mid h.2) k.1), (reads_of 24 k.2.0 old mid new h.2 k.2.2, k.2.1))
-stops_right OutOfMemory l old mid new h k = reads_of 24 24 old mid new h.2 k.1
+    (Right, k.0, subst (λ s. HasFailed s old new) (sym k.0) (failed_since RightIn old mid new (grows_takes LeftIn 24 old mid h.2) k.1), (reads_of 24 k.2.0 old mid new h.2 k.2.2, k.2.1), heads_few 24 k.2.0 old mid new (omega arith) (omega (arith, k.2.1)) h.2 k.2.2)
+stops_right OutOfMemory l old mid new h k = (reads_of 24 24 old mid new h.2 k.1, heads_few 24 24 old mid new (omega arith) (omega arith) h.2 k.1)
 
 -- both captures began
 pub begins : (l r : Reading) (old mid new : Outside) → BeginsReader (Ok l) LeftIn old mid → BeginsReader (Ok r) RightIn mid new → HasBegun (merging l r 0 Nothing None) old new

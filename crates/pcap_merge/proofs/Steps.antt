@@ -23,7 +23,7 @@ use Rattle.pcap_merge.specs.Events.{Merged, Done, Fault as EndsFaulty, Ahead, Gi
 use Rattle.pcap_merge.specs.Sides.{Readies, ReadsSide, ReadsSides, records_ahead, held_before, IsSpent, side_work}
 use Rattle.pcap_merge.specs.Merge.{Merging, merging, event_given, HoldsLast, IsSound, Reads, ahead, sides_ahead, Gives, Finishes, StopsBy}
 use Rattle.pcap_merge.proofs.Merged.{merge-gives, merge-ends, merge-stops}
-use Rattle.pcap_merge.proofs.Given.{same_right, given_more, ends_taken}
+use Rattle.pcap_merge.proofs.Given.{same_right, given_more, ends_taken, both_ready, left_stopped, right_stopped}
 
 -- what was taken from both captures
 abbrev pub reads_of : (m n : ℕ) (old mid new : Outside) → Takes LeftIn m old mid → Takes RightIn n mid new → Reads old new
@@ -243,6 +243,7 @@ gives_at l l' r r' clock time last side p stop old mid new sound running h k nex
           (keeps_ends-of old.left is.reads.left_count is.reads.right_count l l' r r' last (LastEvent side) is.spent_left is.spent_right e);
       given = λ start events given. given_more l l' r r' clock (max clock p.stamp) last event stop start old mid new events
           (held_left side l'.packet r'.packet p next.held) (held_right side l'.packet r'.packet p next.held) (shown l' r' (max clock p.stamp) side p next.held) h k given;
+      few = both_ready l l' r r' clock last stop old mid new h k;
     }
 
 -- the merge came to an event
@@ -296,6 +297,7 @@ finishes l l' r r' clock last stop old mid new running h k e =
           (left_end old.left is.reads.left_count is.reads.right_count (is_unread Left last) l l' (IsSpent (is_unread Right last) r.packet) none.0 is.spent_left ends);
       right = λ ends. subst (λ o. IfSome (told_at o RightIn) (λ all. length all ≡ 0)) (sym is.reads.left)
           (right_end old.left is.reads.left_count is.reads.right_count (is_unread Right last) r r' (IsSpent (is_unread Left last) l.packet) none.1 is.spent_right ends);
+      few = both_ready l l' r r' clock last stop old mid new h k;
     }
 
 abbrev torn : CaptureFault → ℕ → Records
@@ -338,17 +340,19 @@ stops_left : (stop : MergeStop) (l l' r : Reading) (clock : ℕ) (last : Last) (
     → StopsBy stop (merging l r clock last stopped) old new
 stops_left (Fault side f place) l l' r clock last stopped old new h =
     let left = left_told old.left (λ octets. records_from l.form l.place octets ≡ torn f place) h.5 in (
-      reads_of h.4.0 0 old new new h.4.1 (takes_none RightIn new),
+      reads_of h.4.count 0 old new new h.4.takes (takes_none RightIn new),
       subst (λ s. IfSome (ahead (merging l r clock last stopped) old.left) (λ x. x ≡ record { events = []; ending = EndsFaulty s f place })) (sym h.0)
           (ahead_is (merging l r clock last stopped) old.left _ (both old.left _ _ _ left left (λ all e same. left_fault l r clock last stopped f place all.left_in all.right_in h.1 e))),
+      left_stopped l r clock last stopped old new h.1 h.4,
     )
 stops_left (Desk slot) l l' r clock last stopped old new h = (
   Left,
   h.0,
   record {
     cause = subst (λ s. HasFailed s old new) h.0 h.4;
-    reads = reads_of h.5.0 0 old new new h.5.1 (takes_none RightIn new);
-    given = λ start events given. ends_taken Left l (is_unread Left last) h.5.0 start old new (event_given last l r clock) events h.1 h.5.1 h.5.2 (given.stands Left) (given.before Left) given.last (given_side Left last l r clock h.1);
+    reads = reads_of h.5.count 0 old new new h.5.takes (takes_none RightIn new);
+    few = left_stopped l r clock last stopped old new h.1 h.5;
+    given = λ start events given. ends_taken Left l (is_unread Left last) h.5.count start old new (event_given last l r clock) events h.1 h.5.takes h.5.none (given.stands Left) (given.before Left) given.last (given_side Left last l r clock h.1);
   },
 )
 stops_left OutOfMemory l l' r clock last stopped old new h = absurd h
@@ -358,17 +362,19 @@ stops_right : (stop : MergeStop) (l l' r r' : Reading) (clock : ℕ) (last : Las
 stops_right (Fault side f place) l l' r r' clock last stopped old mid new h k =
     let left = left_told old.left (λ octets. records_ahead (is_unread Left last) l octets ≡ records_ahead false l' (drop h.count octets)) h.records in
     let right = right_told h.count old mid (λ octets. records_from r.form r.place octets ≡ torn f place) h.takes k.5 in (
-      reads_of h.count k.4.0 old mid new h.takes k.4.1,
+      reads_of h.count k.4.count old mid new h.takes k.4.takes,
       subst (λ s. IfSome (ahead (merging l r clock last stopped) old.left) (λ x. x ≡ record { events = []; ending = EndsFaulty s f place })) (sym k.0)
           (ahead_is (merging l r clock last stopped) old.left _ (both old.left _ _ _ left right (λ all e fault. right_fault l l' r clock last stopped f place all.left_in all.right_in _ e k.1 fault))),
+      right_stopped l l' r clock last stopped old mid new h k.1 k.4,
     )
 stops_right (Desk slot) l l' r r' clock last stopped old mid new h k = (
   Right,
   k.0,
   record {
     cause = subst (λ s. HasFailed s old new) k.0 (failed_since slot old mid new (grows_takes LeftIn h.count old mid h.takes) k.4);
-    reads = reads_of h.count k.5.0 old mid new h.takes k.5.1;
-    given = λ start events given. ends_taken Right r (is_unread Right last) k.5.0 start mid new (event_given last l r clock) events k.1 k.5.1 k.5.2 (same_right h.count old mid h.takes ∙ given.stands Right) (given.before Right) given.last
+    reads = reads_of h.count k.5.count old mid new h.takes k.5.takes;
+    few = right_stopped l l' r clock last stopped old mid new h k.1 k.5;
+    given = λ start events given. ends_taken Right r (is_unread Right last) k.5.count start mid new (event_given last l r clock) events k.1 k.5.takes k.5.none (same_right h.count old mid h.takes ∙ given.stands Right) (given.before Right) given.last
         (given_side Right last l r clock k.1);
   },
 )

@@ -1,5 +1,5 @@
 -- Which records of each side were taken whole, and which events were given for them.
-use Rattle.std.specs.Prelude.{◌≡◌, ◌⊎◌, ℕ, ◌+◌, ◌-◌, List, [], ◌∷◌, ◌++◌, Bool, true, false, Option, Some, None, IfSome, if◌then◌else◌, nat_le, option_map, drop, length, count_by}
+use Rattle.std.specs.Prelude.{◌≡◌, ◌≤◌, ◌⊎◌, ℕ, ◌+◌, ◌-◌, ◌^◌, List, [], ◌∷◌, ◌++◌, Bool, true, false, Option, Some, None, IfSome, if◌then◌else◌, nat_le, option_map, drop, length, count_by}
 use Rattle.gate_base.specs.declared.side.Side.{Side}
 use Rattle.gate_base.specs.Side.{same_side}
 use Rattle.gate_base.specs.Events.{Event}
@@ -32,6 +32,17 @@ pub record EndsAtTaken (side : Side) (start now : Outside) (events : List Event)
   pub taken : told_at now.left (slot_of side) ≡ option_map (drop count) (told_at start.left (slot_of side))
   pub whole : IfSome (told_at start.left (slot_of side)) (λ all. whole_records count all ≡ count_of_side side events)
   pub last : EndsOn side events
+
+-- of a side's capture no more whole records were taken since the captures began than those of so many events and one more, and it was read no further than a capture may be and the head of a record
+pub record HasTakenFew (side : Side) (start now : Outside) (given : ℕ) : Type 0 where
+  pub count : ℕ
+  pub taken : told_at now.left (slot_of side) ≡ option_map (drop count) (told_at start.left (slot_of side))
+  pub near : count ≤ 2 ^ 40 + 16
+  pub few : IfSome (told_at start.left (slot_of side)) (λ all. whole_records count all ≤ given + 1)
+
+-- the same of both sides and these events
+abbrev pub TakenFor : List Event → Outside → Outside → Type 0
+TakenFor events start now = (side : Side) → HasTakenFew side start now (count_of_side side events)
 
 -- how many octets these records have
 abbrev pub total : List Packet → ℕ

@@ -16,7 +16,7 @@ use Rattle.pcap_merge.specs.Order.{is_unread}
 use Rattle.pcap_merge.specs.Stops.{slot_of}
 use Rattle.pcap_merge.specs.Events.{Merged, Done, Fault as EndsFaulty, Ahead, merge_from, have_good_heads, events_of, event_at, with_event}
 use Rattle.pcap_merge.specs.Sides.{records_ahead, IsSpent, side_work}
-use Rattle.pcap_merge.specs.Given.{HasRead, IsLast, EndsAtTaken, count_of_side}
+use Rattle.pcap_merge.specs.Given.{HasRead, IsLast, EndsAtTaken, TakenFor, count_of_side}
 
 -- a merge: the readers of both sides, the greatest stamp of the events so far, what the last advance answered, the event to which it came, and the stop to which it came
 pub record Merging : Type 0 where
@@ -122,8 +122,13 @@ HeadsAre good told = IfSome told (λ all. have_good_heads all.left_in all.right_
 -- these events were given since the captures began, and of each side the records of its events, with one that is held, and nothing else were taken
 pub record HasGiven (start : Outside) (m : Merging) (now : Outside) (events : List Event) : Type 0 where
   pub stands : (side : Side) → told_at now.left (slot_of side) ≡ option_map (drop (reading_of side m).place) (told_at start.left (slot_of side))
+  pub near : (side : Side) → (reading_of side m).place ≤ 2 ^ 40
   pub before : (side : Side) → IfSome (told_at start.left (slot_of side)) (HasRead (reading_of side m) (is_unread side m.last) (count_of_side side events))
   pub last : IsLast m.event events
+
+-- from both captures no more was taken, since they began, than the events that were given need, and one record more of each
+abbrev pub TakesFew : Merging → Outside → Outside → Type 0
+TakesFew m old new = (start : Outside) (events : List Event) → HasGiven start m old events → TakenFor events start new
 
 -- a merge that has just begun: the two heads alone were taken, and all events are still to come
 pub record HasBegun (m : Merging) (old new : Outside) : Type 0 where
@@ -142,9 +147,9 @@ pub record HasBegun (m : Merging) (old new : Outside) : Type 0 where
 -- what a beginning answers: the desk fails before a whole head was taken from that slot
 abbrev pub Begins : Result Merging MergeStop → Outside → Outside → Type 0
 Begins (Ok m) old new = HasBegun m old new
-Begins (Err (Fault side f place)) old new = Reads old new × IfSome (all_events old.left) (λ x. x ≡ record { events = []; ending = EndsFaulty side f place }) × HeadsAre false old.left
-Begins (Err (Desk slot)) old new = (side : Side) × (slot ≡ slot_of side) × HasFailed slot old new × ((reads : Reads old new) × (count_of side reads < 24))
-Begins (Err OutOfMemory) old new = Reads old new
+Begins (Err (Fault side f place)) old new = Reads old new × IfSome (all_events old.left) (λ x. x ≡ record { events = []; ending = EndsFaulty side f place }) × HeadsAre false old.left × TakenFor [] old new
+Begins (Err (Desk slot)) old new = (side : Side) × (slot ≡ slot_of side) × HasFailed slot old new × ((reads : Reads old new) × (count_of side reads < 24)) × TakenFor [] old new
+Begins (Err OutOfMemory) old new = Reads old new × TakenFor [] old new
 
 -- the merge came to this event
 pub record Gives (e : Event) (m m' : Merging) (old new : Outside) : Type 0 where
@@ -159,6 +164,7 @@ pub record Gives (e : Event) (m m' : Merging) (old new : Outside) : Type 0 where
   pub events : ahead m old.left ≡ option_map (with_event e) (ahead m' new.left)
   pub ends : AtEnds m old → AtEnds m' new
   pub given : (start : Outside) (events : List Event) → HasGiven start m old events → HasGiven start m' new (events ++ e ∷ [])
+  pub few : TakesFew m old new
 
 -- the merge came to the end of both captures
 pub record Finishes (m m' : Merging) (old new : Outside) : Type 0 where
@@ -167,16 +173,18 @@ pub record Finishes (m m' : Merging) (old new : Outside) : Type 0 where
   pub events : IfSome (ahead m old.left) (λ x. x ≡ record { events = []; ending = Done })
   pub left : AtEnds m old → IsAtEnd new LeftIn
   pub right : AtEnds m old → IsAtEnd new RightIn
+  pub few : TakesFew m old new
 
 -- the desk failed to read a side: the last event is that of the last record that was taken whole from it
 pub record FailsAt (side : Side) (m : Merging) (old new : Outside) : Type 0 where
   pub cause : HasFailed (slot_of side) old new
   pub reads : Reads old new
   pub given : (start : Outside) (events : List Event) → HasGiven start m old events → EndsAtTaken side start new events
+  pub few : TakesFew m old new
 
 -- why a merge stops
 abbrev pub StopsBy : MergeStop → Merging → Outside → Outside → Type 0
-StopsBy (Fault side f place) m old new = Reads old new × IfSome (ahead m old.left) (λ x. x ≡ record { events = []; ending = EndsFaulty side f place })
+StopsBy (Fault side f place) m old new = Reads old new × IfSome (ahead m old.left) (λ x. x ≡ record { events = []; ending = EndsFaulty side f place }) × TakesFew m old new
 StopsBy (Desk slot) m old new = (side : Side) × (slot ≡ slot_of side) × FailsAt side m old new
 StopsBy OutOfMemory m old new = ⊥
 

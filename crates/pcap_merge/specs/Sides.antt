@@ -4,7 +4,7 @@ use Rattle.gate_base.specs.declared.side.Side.{Side}
 use Rattle.gate_base.specs.declared.side.Side.TheVariants.{Left, Right}
 use Rattle.gate_desk.specs.Outside.{Outside, Takes, HasFailed, told_at}
 use Rattle.pcap_files.specs.Capture.{Packet, Records, Whole, Fault as EndsFaulty, Ended, Came, size, next_at, records_from}
-use Rattle.pcap_files.specs.Reader.{Reading, IsSmall, TakesNoRecord}
+use Rattle.pcap_files.specs.Reader.{Reading, IsSmall, TakesToFailure}
 use Rattle.pcap_merge.specs.declared.order.Last.{Last}
 use Rattle.pcap_merge.specs.declared.stop.MergeStop.{MergeStop}
 use Rattle.pcap_merge.specs.declared.stop.MergeStop.TheVariants.{Fault, Desk, OutOfMemory}
@@ -54,6 +54,7 @@ pub record Readies (side : Side) (unread : Bool) (r s : Reading) (old new : Outs
   pub slot : s.slot ≡ r.slot
   pub form : s.form ≡ r.form
   pub place : s.place ≡ r.place + count
+  pub near : r.place ≤ 2 ^ 40 → s.place ≤ 2 ^ 40
   pub size_is : unread ≡ true → count ≡ held_size s.packet
   pub comes : unread ≡ true → IfSome (told_at old.left (slot_of side)) (ComesTo s.packet r)
   pub stop : s.stop ≡ None
@@ -66,10 +67,10 @@ pub record Readies (side : Side) (unread : Bool) (r s : Reading) (old new : Outs
 -- what reading a side answers
 abbrev pub ReadsSide : Result (Unit {0}) MergeStop → Side → Bool → Reading → Reading → Outside → Outside → Type 0
 ReadsSide (Ok u) side unread r s old new = Readies side unread r s old new
-ReadsSide (Err (Fault stopped f place)) side unread r s old new = (stopped ≡ side) × (unread ≡ true) × (s.slot ≡ r.slot) × (s.packet ≡ None) × ((n : ℕ) × Takes (slot_of side) n old new)
+ReadsSide (Err (Fault stopped f place)) side unread r s old new = (stopped ≡ side) × (unread ≡ true) × (s.slot ≡ r.slot) × (s.packet ≡ None) × TakesToFailure (slot_of side) r.form r.place old new
     × IfSome (told_at old.left (slot_of side)) (λ octets. records_from r.form r.place octets ≡ record { packets = []; ending = EndsFaulty f place })
 ReadsSide (Err (Desk slot)) side unread r s old new = (slot ≡ slot_of side) × (unread ≡ true) × (s.slot ≡ r.slot) × (s.packet ≡ None) × HasFailed slot old new
-    × ((n : ℕ) × Takes (slot_of side) n old new × IfSome (told_at old.left (slot_of side)) (λ octets. TakesNoRecord (next_at r.form r.place octets) n))
+    × TakesToFailure (slot_of side) r.form r.place old new
 ReadsSide (Err OutOfMemory) side unread r s old new = ⊥
 
 -- what reading both sides answers

@@ -1,8 +1,8 @@
-use Rattle.std.proofs.Common.{◌≡◌, take, subst, refl, arith, IfSome}
+use Rattle.std.proofs.Common.{◌≡◌, take, length, subst, refl, arith, IfSome}
 use Rattle.gate_desk.specs.Outside.{told_at}
 use Rattle.pcap_files.specs.Capture.{Broken}
 use Rattle.pcap_files.specs.Heads.{body_of}
-use Rattle.pcap_files.proofs.Steps.{ended, torn_head, by_the_head}
+use Rattle.pcap_files.proofs.Steps.{ended, torn_head, by_the_head, all_left, enough_left, some_is}
 use Rattle.pcap_files.proofs.record.read_head.Goals as goal
 
 pub returns-then-n-eq0 : goal.returns-then-n-eq0
@@ -14,7 +14,7 @@ returns-then-n-eq0 g c =
 pub returns-then-n-lt-RECORD_HEAD : goal.returns-then-n-lt-RECORD_HEAD
 returns-then-n-lt-RECORD_HEAD g c =
     let told = told_at (g.D.Desk.outside c.args.desk.now).left c.args.slot in
-    (refl, (c.in-Ok.n, c.in-Ok.ensures.ok), torn_head c.args.form c.args.place c.in-Ok.n c.read_full.new.buffer told (omega arith) (omega arith) (omega arith) c.in-Ok.ensures.octets)
+    (refl, record { count = c.in-Ok.n; takes = c.in-Ok.ensures.ok; near = omega (arith, c.requires.small); exact = all_left c.in-Ok.n c.read_full.new.buffer told (omega arith) (omega arith) c.in-Ok.ensures.octets }, torn_head c.args.form c.args.place c.in-Ok.n c.read_full.new.buffer told (omega arith) (omega arith) (omega arith) c.in-Ok.ensures.octets)
 
 pub returns-in-Ok-judge : goal.returns-in-Ok-judge
 returns-in-Ok-judge g c =
@@ -24,12 +24,18 @@ returns-in-Ok-judge g c =
       c.in-Ok-judge.ensures.0,
       rw e at c.in-Ok.ensures.ok,
       by_the_head c.args.form c.args.place c.in-Ok.n c.read_full.new.buffer (body_of h.stamp h.whole h.kept) told (omega arith) (omega arith) c.in-Ok.ensures.octets c.in-Ok-judge.ensures.1,
+      enough_left c.in-Ok.n c.read_full.new.buffer told (omega arith) (omega arith) c.in-Ok.ensures.octets,
     )
 
 pub returns-in-Err-judge : goal.returns-in-Err-judge
 returns-in-Err-judge g c =
     let told = told_at (g.D.Desk.outside c.args.desk.now).left c.args.slot in (
       refl,
-      (c.in-Ok.n, c.in-Ok.ensures.ok),
-      by_the_head c.args.form c.args.place c.in-Ok.n c.read_full.new.buffer (λ rest. Broken c.in-Err-judge.fault) told (omega arith) (omega arith) c.in-Ok.ensures.octets c.in-Err-judge.ensures,
+      record {
+        count = c.in-Ok.n;
+        takes = c.in-Ok.ensures.ok;
+        near = omega (arith, c.in-Ok.ensures.fits, c.requires.small);
+        exact = some_is told (λ octets. omega (arith, c.in-Ok.ensures.fits, c.in-Err-judge.ensures.0 (length octets)));
+      },
+      by_the_head c.args.form c.args.place c.in-Ok.n c.read_full.new.buffer (λ rest. Broken c.in-Err-judge.fault) told (omega arith) (omega arith) c.in-Ok.ensures.octets c.in-Err-judge.ensures.1,
     )
