@@ -21,8 +21,10 @@ ghost use Rattle.gate_world.specs.Ranges.{InRange};
 ghost use Rattle.gate_world.specs.Step.{next, out};
 ghost use Rattle.gate_world.specs.Verdict.{tests, verdict, verdict_of, world_tests};
 
+use crate::salt::salt_of;
 use crate::stream::{Segment, take_segment};
 use binding_table::Table;
+use expiring_table::Seed;
 use gate_base::{
     DNS_PORT, Event, Moment, OutOfMemory, Refusal, SNMP_PORT, Side, TRAP_PORT, Verdict,
 };
@@ -58,6 +60,8 @@ pub struct Gate {
     gone: Vec<usize>,
     // empty between calls
     scratch: Vec<u8>,
+    // what the tables spread their keys by besides, until the first event
+    salt: Option<u64>,
 }
 
 impl Model for Gate {
@@ -78,14 +82,17 @@ impl Gate {
         requires forms { HasForms settings }
         ensures { IfOk result (λ gate. gate ≡ record { settings = settings; world = opening_world settings }) }
     {
+        let salt = salt_of(&settings);
+        let seed = Seed::from_number(salt);
         Ok(Gate {
             alloc,
             clock: Moment(0),
-            table: Table::make(alloc, &settings)?,
-            connections: SessionTable::make(alloc)?,
+            table: Table::make(alloc, &settings, seed)?,
+            connections: SessionTable::make(alloc, seed)?,
             pending: 0,
             gone: Vec::with_capacity(alloc, SESSIONS)?,
             scratch: Vec::with_capacity(alloc, SCRATCH)?,
+            salt: Some(salt),
             settings,
         })
     }
@@ -109,6 +116,31 @@ impl Gate {
     /// may end, and changes nothing else; nor does one for which memory runs out. That happens only at a datagram of DNS, at
     /// the first segment of a session, and at a segment that completes a line that bears an address.
     pub fn step(&mut self, event: &Event<'_>, outbox: &mut Outbox) -> Result<Verdict, OutOfMemory>
+        requires moment { event.now.moment.0 < 2 ^ 32 * 1000000000 }
+        ensures verdict { IfOk result (λ v. v ≡ verdict kept_rules self.old.world (event_of event.now)) }
+        ensures next { OnOk result (self.new ≡ record self.old { world = next kept_rules self.old.world (event_of event.now) }) }
+        ensures out { OnOk result (outbox.new ≡ out kept_rules self.old.world (event_of event.now)) }
+        ensures memory { OnErr result ((self.new ≡ record self.old { world = at_moment self.old.world event.now.moment.0 }) × (outbox.new ≡ [])) }
+        ensures wants { OnErr result (MayWant (at_moment self.old.world event.now.moment.0) event.now.side (datagram_in (event_of event.now))) }
+    {
+        self.spread_keys(event.moment);
+        self.take_event(event, outbox)
+    }
+
+    // Before the first event, spreads the keys of both tables by its moment too, which no sender knows before.
+    fn spread_keys(&mut self, moment: Moment)
+        ensures { self.new ≡ self.old }
+    {
+        let Some(salt) = self.salt else {
+            return;
+        };
+        let seed = Seed::from_number(salt ^ moment.0);
+        self.table.reseed(seed);
+        self.connections.reseed(seed);
+        self.salt = None;
+    }
+
+    fn take_event(&mut self, event: &Event<'_>, outbox: &mut Outbox) -> Result<Verdict, OutOfMemory>
         requires moment { event.now.moment.0 < 2 ^ 32 * 1000000000 }
         ensures verdict { IfOk result (λ v. v ≡ verdict kept_rules self.old.world (event_of event.now)) }
         ensures next { OnOk result (self.new ≡ record self.old { world = next kept_rules self.old.world (event_of event.now) }) }

@@ -3,6 +3,7 @@
 #![tactic(auto)]
 
 mod gate;
+mod salt;
 mod stream;
 
 pub use gate::Gate;

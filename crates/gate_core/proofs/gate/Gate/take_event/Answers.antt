@@ -13,7 +13,7 @@ use Rattle.gate_core.specs.Memory.{MayWant}
 use Rattle.gate_core.specs.contracts.gate.Gate.{the_view}
 use Rattle.gate_core.proofs.Stepping.{stepped, live_range}
 use Rattle.gate_core.proofs.SteppedSessions.{on_err}
-use Rattle.gate_core.proofs.gate.Gate.step.Goals as goal
+use Rattle.gate_core.proofs.gate.Gate.take_event.Goals as goal
 
 pub take_frame-requires-clause-range : goal.take_frame-requires-clause-range
 take_frame-requires-clause-range c =
