@@ -1,5 +1,6 @@
 pub mod Bindings
 pub mod Lawful
+pub mod AliasesInside
 pub mod Inside
 pub mod Plan
 pub mod Steps

@@ -1,8 +1,8 @@
 //! The bindings of hosts to the addresses by which the other realm knows them (RFC 2663, 4.3).
 #![tactic(auto)]
 
+mod aliases;
 mod binding;
-mod entries;
 mod laws;
 mod plan;
 mod table;

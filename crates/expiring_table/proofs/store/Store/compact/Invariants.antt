@@ -1,0 +1,9 @@
+use Rattle.std.proofs.Common.{◌≡◌}
+use Rattle.expiring_table.specs.Kept.{IsListed}
+use Rattle.expiring_table.proofs.store.Store.compact.Given as goal
+
+abbrev pub invariant-loop-place : goal.invariant-loop-place
+invariant-loop-place g l = record {
+  listed : IsListed l.most l.place l.self;
+  cells : l.self.cells ≡ l.initial.self.cells;
+}

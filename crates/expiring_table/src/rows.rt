@@ -1,0 +1,111 @@
+// Rows under keys.
+ghost use Rattle.std.specs.Prelude.{◌≡◌, ◌*◌, ◌<◌, ◌≤◌, ◌^◌, ◌++◌, ◌∷◌, [], length, None, IsSome, IfOk, IfSome, IfNone, option_copied};
+ghost use Rattle.expiring_table.specs.Rows.{no_rows, row_of, with_row, without, living, AreDistinct, IsTakenOut};
+
+use crate::row::Row;
+use crate::seed::Seed;
+use crate::store::Store;
+use std::alloc::{AllocError, Global};
+use std::marker::Model;
+
+/// Rows with distinct keys, in the order in which they were put in. A look-up costs a constant on the mean, and what ended is
+/// found without a look at the rest. No call after `make` takes memory.
+#[derive(Drop)]
+pub struct Rows<T> {
+    most: usize,
+    store: Store<T>,
+}
+
+impl<T> Model for Rows<T> {
+    ghost use Rattle.expiring_table.specs.Rows.{Table};
+
+    ghost Value = { Table T };
+
+    ghost use Rattle.expiring_table.specs.Kept.{rows_in, IsWhole};
+
+    ghost view = { λ table. record { most = table.most; rows = rows_in table.store.cells.items } };
+
+    ghost invariant = { λ table. IsWhole table.most table.store };
+}
+
+impl<T: Copy> Rows<T> {
+    /// No rows, and room for so many, from 1 to 2^31 - 1; the error is that there is too little memory.
+    pub fn make(alloc: Global, most: usize, seed: Seed) -> Result<Rows<T>, AllocError>
+        requires some { 0 < most }
+        requires few { 2 * most < 2 ^ 32 }
+        ensures { IfOk result (λ table. table ≡ no_rows most) }
+    {
+        Ok(Rows {
+            most,
+            store: Store::make(alloc, most, seed)?,
+        })
+    }
+
+    /// The row with a key.
+    pub fn find(&self, key: u128) -> Option<&Row<T>>
+        ensures { option_copied result ≡ row_of key self.now.rows }
+    {
+        match self.store.place_of(self.most, key) {
+            Some(place) => self.store.cells[place].as_ref(),
+            None => None,
+        }
+    }
+
+    /// The number of rows. No two of them have one key.
+    pub fn len(&self) -> usize
+        ensures value { result ≡ length self.now.rows }
+        ensures few { result ≤ self.now.most }
+        ensures distinct { AreDistinct self.now.rows }
+    {
+        self.store.count
+    }
+
+    /// Puts a row with a new key behind the others, of which there are fewer than the most.
+    pub fn push(&mut self, row: Row<T>)
+        requires room { length self.old.rows < self.old.most }
+        requires new { row_of row.key self.old.rows ≡ None }
+        ensures { self.new ≡ record self.old { rows = self.old.rows ++ row ∷ [] } }
+    {
+        self.store.make_room(self.most);
+        self.store.append(self.most, row);
+    }
+
+    /// Puts a row in the place of the one with its key, which is there.
+    pub fn set(&mut self, row: Row<T>)
+        requires { IsSome (row_of row.key self.old.rows) }
+        ensures { self.new ≡ record self.old { rows = with_row row self.old.rows } }
+    {
+        self.store.make_room(self.most);
+        match self.store.place_of(self.most, row.key) {
+            Some(place) => self.store.replace(self.most, place, row),
+            None => {}
+        }
+    }
+
+    /// Drops the row with a key, if there is one.
+    pub fn remove(&mut self, key: u128)
+        ensures { self.new ≡ record self.old { rows = without key self.old.rows } }
+    {
+        match self.store.place_of(self.most, key) {
+            Some(place) => self.store.clear_at(self.most, place, key),
+            None => {}
+        }
+    }
+
+    /// Takes out a row whose end has come at a moment, if there is one; which of them is left open.
+    pub fn next_ended(&mut self, now: u64) -> Option<Row<T>>
+        ensures some { IfSome result (IsTakenOut now self.old self.new) }
+        ensures none { IfNone result (self.new ≡ self.old) }
+        ensures live { IfNone result (living now self.new.rows ≡ self.new.rows) }
+        ensures distinct { AreDistinct self.old.rows }
+    {
+        self.store.next_ended(self.most, now)
+    }
+
+    /// Spreads the keys by another seed, at the cost of a look at all rows. What the rows are stays as it is.
+    pub fn reseed(&mut self, seed: Seed)
+        ensures { self.new ≡ self.old }
+    {
+        self.store.compact(self.most, seed);
+    }
+}
