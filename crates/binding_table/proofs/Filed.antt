@@ -8,10 +8,16 @@ use Rattle.gate_base.specs.declared.event.Moment.{Moment}
 use Rattle.gate_base.specs.declared.side.Side.{Side}
 use Rattle.gate_base.specs.declared.side.Side.TheVariants.{Left, Right}
 use Rattle.expiring_table.specs.declared.row.Row.{Row}
-use Rattle.expiring_table.specs.Rows.{row_of, with_row, without, lives, living}
+use Rattle.expiring_table.specs.Rows.{Table, row_of, with_row, without, lives, living}
 use Rattle.binding_table.specs.declared.binding.Binding.{Binding}
 use Rattle.binding_table.specs.Bindings.{is_live, is_of_host}
 use Rattle.binding_table.specs.Steps.{entries_in, filed, number_of}
+
+abbrev table_of : {T : Type 0} → ℕ → List (Row T) → Table T
+table_of most rows = record { most = most; rows = rows }
+
+pub same_table : {T : Type 0} (one two : Table T) → one.most ≡ two.most → one.rows ≡ two.rows → one ≡ two
+same_table one two p q = ap (λ (most : ℕ). table_of most one.rows) p ∙ ap (table_of two.most) q
 
 number_tells : (one two : Side) (m n : ℕ) → (number_of one m == number_of two n) ≡ (same_side one two && m == n)
 number_tells Left Left m n = grind (arith, nat_tests)

@@ -9,5 +9,6 @@ pub mod Opening
 pub mod Fresh
 pub mod Planned
 pub mod Once
+pub mod Places
 pub mod Back
 pub mod Rows

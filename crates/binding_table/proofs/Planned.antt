@@ -370,7 +370,7 @@ step_settled table later side earlier rest given image address until p settled h
       h ∙ ap image_of (sym (settled_stays later (used later side one) side address (used_follows later side one) settled)),
     )
 
-none_among : (earlier : List Addr) (address : Addr) → position (is_address address) earlier ≡ None → is_among earlier address ≡ false
+pub none_among : (earlier : List Addr) (address : Addr) → position (is_address address) earlier ≡ None → is_among earlier address ≡ false
 none_among earlier address none = list_any_none (is_address address) earlier (λ k d within. elim (cases_Bool (nat_lt (position_or_len (is_address address) earlier) (length earlier))) [
   | inl holds ↦ cc (rw holds at none)
   | inr ends ↦ fails_before_first (is_address address) earlier k d (omega (arith, ltb-false))

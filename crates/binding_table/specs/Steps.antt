@@ -1,7 +1,8 @@
 -- What the table's inner calls need and give.
-use Rattle.std.specs.Prelude.{◌≡◌, ℕ, ◌+◌, ◌-◌, ◌*◌, true, false, if◌then◌else◌, List, [], map, replicate, position, slice_index_or, slice_set, Option, Some, None, is_some, All, AllPairs}
+use Rattle.std.specs.Prelude.{◌≡◌, ℕ, ◌+◌, ◌-◌, ◌*◌, ◌<◌, length, IfSome, Bool, true, false, if◌then◌else◌, List, [], map, replicate, position, slice_index_or, slice_set, Option, Some, None, is_some, All, AllPairs}
 use Rattle.std.specs.List.{range_with_len}
 use Rattle.expiring_table.specs.declared.row.Row.{Row}
+use Rattle.expiring_table.specs.Rows.{Table, row_of}
 use Rattle.gate_base.specs.Side.{other, same_side}
 use Rattle.gate_base.specs.declared.address.Addr.{Addr}
 use Rattle.gate_base.specs.declared.side.Side.{Side}
@@ -10,9 +11,9 @@ use Rattle.realm_pools.specs.Addresses.{Range, Addresses, unused, place_of, with
 use Rattle.binding_table.specs.declared.binding.Binding.{Binding}
 use Rattle.binding_table.specs.declared.binding.Crossing.{Crossing}
 use Rattle.binding_table.specs.declared.binding.Crossing.TheVariants.{Same, Known}
-use Rattle.binding_table.specs.Bindings.{Bindings, in_pool, range_of, host_of, pool_with}
+use Rattle.binding_table.specs.Bindings.{Bindings, cross, in_pool, range_of, host_of, pool_with}
 use Rattle.binding_table.specs.Lawful.{IsInPlace, collides}
-use Rattle.binding_table.specs.Plan.{is_address}
+use Rattle.binding_table.specs.Plan.{is_address, needs_binding}
 
 -- ## Bindings that come and go
 
@@ -98,3 +99,18 @@ abbrev pub planned_by : Addresses → List Addr → List (Option Addr) → Optio
 planned_by pool earlier images given address Same = (None, given)
 planned_by pool earlier images given address (Known image) = (Some image, given)
 planned_by pool earlier images given address _ = given_image pool images given (position (is_address address) earlier)
+
+-- whether an address of the realm needs a binding
+abbrev pub needing : Bindings → Side → Addr → Bool
+needing table side address = needs_binding (cross table side address)
+
+-- a row that is taken out whenever rows that ended are
+abbrev pub EndsAtOnce : Row ℕ → Type 0
+EndsAtOnce row = row.end ≡ Some 0
+
+-- the rows have the places at which earlier addresses stand first: all of those that need a binding, as long as there is room for a row more
+pub record AreFirsts (needs : Addr → Bool) (earlier : List Addr) (firsts : Table ℕ) : Type 0 where
+  pub most : firsts.most ≡ 8192
+  pub ends : All EndsAtOnce firsts.rows
+  pub found : (address : Addr) → needs address ≡ true → IfSome (row_of address.0 firsts.rows) (λ row. position (is_address address) earlier ≡ Some row.value)
+  pub lacks : (address : Addr) → needs address ≡ true → row_of address.0 firsts.rows ≡ None → length firsts.rows < firsts.most → position (is_address address) earlier ≡ None

@@ -65,10 +65,7 @@ impl Aliases {
         requires { is_in alias self.now.pool.range ≡ true }
         ensures { result ≡ slice_index_or self.now.hosts (place_of alias self.now.pool) None }
     {
-        match self.hosts.get((alias.0 - self.first) as usize) {
-            Some(host) => *host,
-            None => None,
-        }
+        address_at(&self.hosts, (alias.0 - self.first) as usize)
     }
 
     /// Lets a free address stand for a host.
@@ -87,5 +84,15 @@ impl Aliases {
     {
         self.pool.give_back(alias);
         self.hosts[(alias.0 - self.first) as usize] = None;
+    }
+}
+
+/// The address at a place, if there is one.
+pub fn address_at(addresses: &[Option<Addr>], place: usize) -> Option<Addr>
+    ensures { result ≡ slice_index_or addresses.now place None }
+{
+    match addresses.get(place) {
+        Some(address) => *address,
+        None => None,
     }
 }

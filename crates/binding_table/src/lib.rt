@@ -3,11 +3,13 @@
 
 mod aliases;
 mod binding;
+mod firsts;
 mod laws;
 mod plan;
 mod table;
 
 pub use binding::Crossing;
+pub use firsts::Firsts;
 pub use laws::{crosses_back, keeps_apart};
 pub use table::Table;
 

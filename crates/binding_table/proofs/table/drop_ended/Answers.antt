@@ -8,7 +8,7 @@ use Rattle.binding_table.specs.declared.binding.Binding.{Binding}
 use Rattle.binding_table.specs.Bindings.{is_live}
 use Rattle.binding_table.specs.Steps.{entries_in, filed}
 use Rattle.binding_table.proofs.Dropped.{dropped, rows_left, same_with}
-use Rattle.binding_table.proofs.Filed.{entries_are}
+use Rattle.binding_table.proofs.Filed.{entries_are, same_table}
 use Rattle.binding_table.proofs.table.drop_ended.Goals as goal
 
 pub give_back_alias-requires-clause-left : goal.give_back_alias-requires-clause-left
@@ -38,12 +38,6 @@ loop-row-preserved c =
       live = less.live ∙ before.live;
       most = taken.0 ∙ before.most;
     })
-
-abbrev made : ℕ → List (Row Binding) → Table Binding
-made most rows = record { most = most; rows = rows }
-
-same_table : (one two : Table Binding) → one.most ≡ two.most → one.rows ≡ two.rows → one ≡ two
-same_table one two p q = ap (λ (most : ℕ). made most one.rows) p ∙ ap (made two.most) q
 
 -- where no row ended, the rows are those that lived at the start
 left : (now : Moment) (old new : Table Binding) (before : List (Row Binding)) → new ≡ old → living now.0 new.rows ≡ new.rows → old.rows ≡ map filed (entries_in old.rows) → filter (is_live now) (entries_in old.rows) ≡ filter (is_live now) (entries_in before) → old.rows ≡ map filed (filter (is_live now) (entries_in before))
