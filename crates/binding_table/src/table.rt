@@ -54,7 +54,11 @@ impl Table {
         Ok(table)
     }
 
-    fn without_bindings(alloc: Global, settings: &Settings, seed: Seed) -> Result<Table, OutOfMemory>
+    fn without_bindings(
+        alloc: Global,
+        settings: &Settings,
+        seed: Seed,
+    ) -> Result<Table, OutOfMemory>
         requires sound { IsSound settings.now }
         requires forms { HasForms settings.now }
         ensures { IfOk result (λ table. table ≡ tables.without_bindings settings.now) }

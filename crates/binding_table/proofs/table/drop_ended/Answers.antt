@@ -1,4 +1,4 @@
-use Rattle.std.proofs.Common.{◌≡◌, ℕ, ◌∙◌, List, map, ap, sym}
+use Rattle.std.proofs.Common.{◌≡◌, ◌∙◌, List, map, ap, sym}
 use Rattle.std.specs.List.{filter}
 use Rattle.gate_base.specs.declared.event.Moment.{Moment}
 use Rattle.gate_base.specs.declared.side.Side.TheVariants.{Left, Right}

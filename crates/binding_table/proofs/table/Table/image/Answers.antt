@@ -1,4 +1,4 @@
-use Rattle.std.proofs.Common.{◌≡◌, ◌≢◌, ℕ, true, Option, Some, None, position, ap, sym, ◌∙◌}
+use Rattle.std.proofs.Common.{◌≡◌, ◌≢◌, true, Option, Some, None, position, ap, sym, ◌∙◌}
 use Rattle.gate_base.specs.Side.{other}
 use Rattle.gate_base.specs.declared.side.Side.{Side}
 use Rattle.realm_pools.specs.Addresses.{Addresses}

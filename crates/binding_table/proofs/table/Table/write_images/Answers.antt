@@ -1,4 +1,4 @@
-use Rattle.std.proofs.Common.{◌≡◌, ℕ, ◌++◌, ◌∷◌, [], List, length, take, ap, sym, subst, arith}
+use Rattle.std.proofs.Common.{◌≡◌, ℕ, [], List, length, sym, subst, arith}
 use Rattle.std.proofs.lemmas.List.{take_more}
 use Rattle.gate_base.specs.Side.{other}
 use Rattle.gate_base.specs.declared.address.Addr.{Addr}
