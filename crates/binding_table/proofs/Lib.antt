@@ -8,6 +8,7 @@ pub mod Bind
 pub mod Opening
 pub mod Fresh
 pub mod Planned
+pub mod Used
 pub mod Once
 pub mod Places
 pub mod Back
