@@ -1,22 +1,25 @@
 -- What changes of a table keep.
-use Rattle.std.proofs.Common.{◌⊎◌, ◌==◌, ◌≡◌, ℕ, ◌+◌, ◌<◌, ◌≤◌, Bool, true, false, ◌&&◌, ◌||◌, List, [], ◌∷◌, ◌++◌, length, map, get_or, take, drop, All, IsTrue, refl, sym, ◌∙◌, ap, subst, arith, inl, inr, drop-cons, add-one}
-use Rattle.std.specs.List.{AllPairs, filter}
-use Rattle.std.proofs.lemmas.List.{get_or_default, append-nil, append_assoc, get_or-take, get_or-drop, get_or-map, length-take, length-drop, length-map}
+use Rattle.std.proofs.Common.{◌⊎◌, ◌==◌, ◌≡◌, ℕ, suc, not, ◌+◌, ◌<◌, ◌≤◌, Bool, true, false, ◌&&◌, ◌||◌, List, [], ◌∷◌, ◌++◌, length, length-append, map, get_or, Some, None, option_map, All, IsTrue, refl, sym, ◌∙◌, ap, subst, arith, inl, inr}
+use Rattle.std.specs.List.{AllPairs, filter, find}
+use Rattle.std.proofs.Math.Seq.{get_or-append_seam}
+use Rattle.std.proofs.lemmas.List.{get_or_append_left, get_or-append-add, append-nil, get_or-map, length-map}
 use Rattle.std.proofs.lemmas.List.Folds.{list_any_none}
-use Rattle.std.proofs.lemmas.List.Elements.{All-head, All-tail, All-weaker, All-append, All-filter, All-map, All-push, filter_more}
+use Rattle.std.proofs.lemmas.List.Elements.{All-head, All-tail, All-weaker, All-append, All-filter, All-map, All-push, filter-append}
 use Rattle.std.proofs.lemmas.List.Kept.{AllPairs-filter}
 use Rattle.std.proofs.lemmas.List.Quantifiers.{all_pairs_push}
-use Rattle.std.proofs.lemmas.Bool.{or_left, or_right, lt-ltb, cases_Bool}
+use Rattle.std.proofs.lemmas.Bool.{cases_Bool}
 use Rattle.gate_base.specs.Side.{other, same_side}
 use Rattle.gate_base.specs.declared.address.Addr.{Addr}
 use Rattle.gate_base.specs.declared.event.Moment.{Moment}
 use Rattle.gate_base.specs.declared.side.Side.{Side}
 use Rattle.realm_pools.specs.Addresses.{Range, is_in, is_free, is_taken}
-use Rattle.binding_table.specs.Steps.{AreTaken, CanHold, changed}
+use Rattle.binding_table.specs.Steps.{AreTaken, CanHold, aliases_of, aliases_with, changed, filed, plain_table}
+use Rattle.binding_table.proofs.Filed.{found_filed, others}
+use Rattle.expiring_table.specs.Rows.{row_of}
 use Rattle.binding_table.specs.declared.binding.Binding.{Binding}
-use Rattle.binding_table.specs.Bindings.{Bindings, is_of_alias, is_used, is_live, in_pool, range_of, pool_with, pool_of, with_binding, expired, extend_through, is_through}
+use Rattle.binding_table.specs.Bindings.{Bindings, is_of_host, host_of, is_of_alias, is_used, is_live, in_pool, range_of, pool_with, pool_of, with_binding, expired, extend_through, is_through, lasting}
 use Rattle.binding_table.specs.Lawful.{IsLawful, IsInPlace, collides}
-use Rattle.binding_table.proofs.Pools.{IsLone, flagged, same_flags, same_side-true, other_other, other_alias, collides-sym, changed_true, changed_false, used_alias, free_alias, taken_alias}
+use Rattle.binding_table.proofs.Pools.{IsLone, same_aliases, same_side-true, other_other, other_alias, collides-sym, changed_some, changed_none, used_alias, free_alias, taken_alias}
 
 -- where a binding has its place doesn't depend on the others
 pub in_place_too : (table : Bindings) (entries : List Binding) (binding : Binding) → IsInPlace table binding → IsInPlace (record table { entries = entries }) binding
@@ -47,10 +50,31 @@ free_for table binding side can h =
     let l = lone table binding side can h in
     free_alias (range_of table side) side table.entries binding.alias l.within l.unused
 
-pub pool_push : (table : Bindings) (binding : Binding) (side : Side) → CanHold table binding → changed side binding true (pool_of table side) ≡ pool_with (range_of table side) side (table.entries ++ binding ∷ [])
-pool_push table binding side can =
-    let P : List Binding → Type 0 = λ entries. changed side binding true (pool_with (range_of table side) side entries) ≡ pool_with (range_of table side) side (table.entries ++ binding ∷ []) in
-    subst P (append-nil table.entries) (changed_true (range_of table side) side table.entries [] binding (λ h. rw append-nil (lone table binding side can h)))
+-- where a binding comes behind the others, its alias stands for its host
+pub aliases_push : (table : Bindings) (binding : Binding) (side : Side) → CanHold table binding → changed side binding (Some binding.host) (aliases_of table side) ≡ aliases_with (range_of table side) side (table.entries ++ binding ∷ [])
+aliases_push table binding side can =
+    let P : List Binding → Type 0 = λ entries. changed side binding (Some binding.host) (aliases_with (range_of table side) side entries) ≡ aliases_with (range_of table side) side (table.entries ++ binding ∷ []) in
+    subst P (append-nil table.entries) (changed_some (range_of table side) side table.entries [] binding (λ h. rw append-nil (lone table binding side can h)))
+
+both_false : (same hosts aliases : Bool) → (same && (hosts || aliases)) ≡ false → ((same && hosts) ≡ false) × ((same && aliases) ≡ false)
+both_false false hosts aliases h = (refl, refl)
+both_false true false false h = (refl, refl)
+both_false true false true h = cc
+both_false true true aliases h = cc
+
+-- a binding that doesn't collide with one has another host
+pub other_host : (binding one : Binding) → collides binding one ≡ false → is_of_host binding.side binding.host.0 one ≡ false
+other_host binding one apart = (both_false (same_side one.side binding.side) (one.host.0 == binding.host.0) (one.alias.0 == binding.alias.0) apart).0
+
+find_none : (test : Binding → Bool) (entries : List Binding) → All (λ binding. test binding ≡ false) entries → find test entries ≡ None
+find_none test [] h = refl
+find_none test (binding ∷ rest) h = rw (All-head (λ one. test one ≡ false) binding rest h) (find_none test rest (All-tail (λ one. test one ≡ false) binding rest h))
+
+-- a binding that the table can hold has a host of its own
+pub unfiled : (entries : List Binding) (binding : Binding) → All (λ earlier. collides binding earlier ≡ false) entries → row_of (filed binding).key (map filed entries) ≡ None
+unfiled entries binding apart =
+    found_filed binding.side binding.host.0 entries
+    ∙ ap (option_map filed) (find_none (is_of_host binding.side binding.host.0) entries (All-weaker (λ earlier. collides binding earlier ≡ false) (λ earlier. is_of_host binding.side binding.host.0 earlier ≡ false) (other_host binding) entries apart))
 
 pub lawful_push : (table : Bindings) (binding : Binding) → IsLawful table → CanHold table binding → IsLawful (with_binding table binding)
 lawful_push table binding lawful can = record {
@@ -62,62 +86,89 @@ lawful_push table binding lawful can = record {
 
 -- ## Bindings that end
 
--- the bindings before a place that pass, and all others but the one at the place, don't collide with that one
-others_apart : (test : Binding → Bool) (entries : List Binding) (place : ℕ) (d : Binding) → place < length entries → AllPairs (λ earlier later. collides later earlier ≡ false) entries → All (λ earlier. collides (get_or entries place d) earlier ≡ false) (filter test (take place entries) ++ drop (place + 1) entries)
-others_apart test entries place d within once =
-    let here : Binding = get_or entries place d in
-    let P : Binding → Type 0 = λ earlier. collides here earlier ≡ false in
-    let before : All P (take place entries) = λ k e less.
-    let short : k < place = omega (arith, length-take place entries) in
-    let Q : Binding → Type 0 = λ binding. collides binding (get_or entries k e) ≡ false in
-    subst P (sym (get_or-take place entries k e short)) (subst Q (get_or_default entries place e d within) (once k place e short within)) in
-    let after : All P (drop (place + 1) entries) = λ k e less.
-    let far : place + 1 + k < length entries = omega (arith, length-drop (place + 1) entries) in
-    let Q : Binding → Type 0 = λ binding. collides binding (get_or entries (place + 1 + k) e) ≡ false in
-    let apart = collides-sym (get_or entries place e) (get_or entries (place + 1 + k) e) ∙ once place (place + 1 + k) e (omega arith) far in
-    subst P (sym (get_or-drop (place + 1) entries k e)) (subst Q (get_or_default entries place e d within) apart) in
-    All-append P (filter test (take place entries)) (drop (place + 1) entries) (All-filter test P (take place entries) before) after
+-- a list all of which passes
+filter_all : (test : Binding → Bool) (entries : List Binding) → All (λ binding. test binding ≡ true) entries → filter test entries ≡ entries
+filter_all test [] h = refl
+filter_all test (binding ∷ rest) h = rw (All-head (λ one. test one ≡ true) binding rest h) (ap (λ more. binding ∷ more) (filter_all test rest (All-tail (λ one. test one ≡ true) binding rest h)))
 
--- the alias of the binding at a place is that of no other binding that is left
-lone_at : (test : Binding → Bool) (table : Bindings) (side : Side) (place : ℕ) (d : Binding) → AreTaken table → place < length table.entries → same_side (get_or table.entries place d).side (other side) ≡ true → IsLone (range_of table side) side (filter test (take place table.entries) ++ drop (place + 1) table.entries) (get_or table.entries place d)
-lone_at test table side place d are within h = record {
-  within = alias_within table (get_or table.entries place d) side (are.aliases place d within) h;
-  unused = unused_by_all side _ (get_or table.entries place d) h (others_apart test table.entries place d within are.once);
+abbrev pub AreApart : List Binding → Type 0
+AreApart entries = AllPairs (λ earlier later. collides later earlier ≡ false) entries
+
+-- a binding between those before and those behind it, all of which have other hosts
+pub record IsBetween (entries : List Binding) (binding : Binding) : Type 0 where
+  pub before : List Binding
+  pub after : List Binding
+  pub all : entries ≡ before ++ binding ∷ after
+  pub rest : others binding entries ≡ before ++ after
+
+pub between : (entries : List Binding) (binding : Binding) → AreApart entries → find (is_of_host binding.side binding.host.0) entries ≡ Some binding → IsBetween entries binding
+between [] binding apart found = cc
+between (one ∷ rest) binding apart found = elim (cases_Bool (is_of_host binding.side binding.host.0 one)) [
+  | inl passes ↦
+      let same : one ≡ binding = (let s = rw passes at found in cc) in
+      let P : Binding → Binding → Type 0 = λ earlier later. is_of_host earlier.side earlier.host.0 later ≡ false in
+      let differ : All (λ later. not (is_of_host binding.side binding.host.0 later) ≡ true) rest = λ k d within.
+      ap not (subst (λ (earlier : Binding). P earlier (get_or rest k d)) same (other_host one (get_or rest k d) (collides-sym one (get_or rest k d) ∙ apart 0 (suc k) d (omega arith) (omega arith)))) in
+      record { before = []; after = rest; all = ap (λ first. first ∷ rest) same; rest = rw passes (filter_all _ rest differ) }
+  | inr fails ↦
+      let later = between rest binding (λ i j d less within. apart (suc i) (suc j) d (omega arith) (omega arith)) (rw fails at found) in
+      record { before = one ∷ later.before; after = later.after; all = ap (λ more. one ∷ more) later.all; rest = rw fails (ap (λ more. one ∷ more) later.rest) }
+]
+
+-- the others don't collide with it
+others_apart : (before after : List Binding) (binding : Binding) → AreApart (before ++ binding ∷ after) → All (λ earlier. collides binding earlier ≡ false) (before ++ after)
+others_apart before after binding apart =
+    let P : Binding → Type 0 = λ earlier. collides binding earlier ≡ false in
+    let entries = before ++ binding ∷ after in
+    let long = length-append before (binding ∷ after) in
+    let n = length before in
+    let front : All P before = λ k d less.
+    let Q : Binding → Type 0 = λ one. collides one (get_or before k d) ≡ false in
+    let R : Binding → Type 0 = λ one. collides (get_or entries n d) one ≡ false in
+    subst Q (get_or-append_seam before binding after d) (subst R (get_or_append_left before (binding ∷ after) d k less) (apart k n d less (omega (arith, long)))) in
+    let back : All P after = λ k d less.
+    let Q : Binding → Type 0 = λ one. collides (get_or after k d) one ≡ false in
+    let R : Binding → Type 0 = λ one. collides one (get_or entries n d) ≡ false in
+    collides-sym binding (get_or after k d) ∙ subst Q (get_or-append_seam before binding after d) (subst R (get_or-append-add before (binding ∷ after) (suc k) d) (apart n (n + suc k) d (omega arith) (omega (arith, long)))) in
+    All-append P before after front back
+
+-- the alias of a binding is that of no other one
+pub lone_between : (table : Bindings) (side : Side) (binding : Binding) (before after : List Binding) → AreTaken table → table.entries ≡ before ++ binding ∷ after → same_side binding.side (other side) ≡ true → IsLone (range_of table side) side (before ++ after) binding
+lone_between table side binding before after are all h =
+    let P : Binding → Type 0 = λ one. in_pool table (other one.side) one.alias ≡ true in
+    let here : get_or table.entries (length before) binding ≡ binding = ap (λ (list : List Binding). get_or list (length before) binding) all ∙ get_or-append_seam before binding after binding in
+    let long = ap length all ∙ length-append before (binding ∷ after) in
+    record {
+      within = alias_within table binding side (subst P here (are.aliases (length before) binding (omega (arith, long)))) h;
+      unused = unused_by_all side (before ++ after) binding h (others_apart before after binding (subst AreApart all are.once));
+    }
+
+-- where a binding goes, its alias stands for none
+pub aliases_gone : (table : Bindings) (side : Side) (binding : Binding) → AreTaken table → IsBetween table.entries binding → changed side binding None (aliases_with (range_of table side) side table.entries) ≡ aliases_with (range_of table side) side (others binding table.entries)
+aliases_gone table side binding are b =
+    ap (λ (list : List Binding). changed side binding None (aliases_with (range_of table side) side list)) b.all
+    ∙ changed_none (range_of table side) side b.before b.after binding (lone_between table side binding b.before b.after are b.all)
+    ∙ ap (λ (list : List Binding). aliases_with (range_of table side) side list) (sym b.rest)
+
+-- the alias of a binding is taken
+pub taken_between : (table : Bindings) (side : Side) (binding : Binding) → AreTaken table → IsBetween table.entries binding → same_side binding.side (other side) ≡ true → IsTrue (is_taken binding.alias (pool_with (range_of table side) side table.entries))
+taken_between table side binding are b h =
+    taken_alias (range_of table side) side table.entries binding.alias (lone_between table side binding b.before b.after are b.all h).within (ap (λ (list : List Binding). is_used side list binding.alias.0) b.all ∙ used_alias side b.before b.after binding h)
+
+pub taken_filter : (test : Binding → Bool) (left right : Range) (entries : List Binding) → AreTaken (plain_table left right entries) → AreTaken (plain_table left right (filter test entries))
+taken_filter test left right entries are = record {
+  once = AllPairs-filter (λ earlier later. collides later earlier ≡ false) test entries are.once;
+  aliases = All-filter test (λ binding. in_pool (plain_table left right entries) (other binding.side) binding.alias ≡ true) entries are.aliases;
 }
 
--- the bindings that are left before a place
-abbrev pub left_at : (Binding → Bool) → List Binding → ℕ → List Binding
-left_at test entries place = filter test (take place entries) ++ drop place entries
+-- those that live stay where one goes that doesn't
+pub live_others : (now : Moment) (entries : List Binding) (binding : Binding) → is_live now binding ≡ false → IsBetween entries binding → filter (is_live now) (others binding entries) ≡ filter (is_live now) entries
+live_others now entries binding ended b =
+    ap (filter (is_live now)) b.rest ∙ filter-append (is_live now) b.before b.after
+    ∙ sym (ap (filter (is_live now)) b.all ∙ filter-append (is_live now) b.before (binding ∷ b.after) ∙ rw ended refl)
 
-left_here : (test : Binding → Bool) (entries : List Binding) (place : ℕ) (d : Binding) → place < length entries → left_at test entries place ≡ filter test (take place entries) ++ get_or entries place d ∷ drop (place + 1) entries
-left_here test entries place d within = ap (λ rest. filter test (take place entries) ++ rest) (rw add-one (drop-cons entries place d within))
-
-left_gone : (test : Binding → Bool) (entries : List Binding) (place : ℕ) (d : Binding) → place < length entries → test (get_or entries place d) ≡ false → left_at test entries (place + 1) ≡ filter test (take place entries) ++ drop (place + 1) entries
-left_gone test entries place d within h = ap (λ front. front ++ drop (place + 1) entries) (filter_more test entries place d within ∙ rw h (append-nil (filter test (take place entries))))
-
--- a binding that passes is left
-pub left_kept : (test : Binding → Bool) (entries : List Binding) (place : ℕ) (d : Binding) → place < length entries → test (get_or entries place d) ≡ true → left_at test entries (place + 1) ≡ left_at test entries place
-left_kept test entries place d within h =
-    ap (λ front. front ++ drop (place + 1) entries) (filter_more test entries place d within ∙ rw h refl)
-    ∙ append_assoc (filter test (take place entries)) (get_or entries place d ∷ []) (drop (place + 1) entries) ∙ sym (left_here test entries place d within)
-
--- the alias of a binding that doesn't pass becomes free
-pub left_changed : (test : Binding → Bool) (table : Bindings) (side : Side) (place : ℕ) (d : Binding) → AreTaken table → place < length table.entries → test (get_or table.entries place d) ≡ false → changed side (get_or table.entries place d) false (pool_with (range_of table side) side (left_at test table.entries place)) ≡ pool_with (range_of table side) side (left_at test table.entries (place + 1))
-left_changed test table side place d are within h =
-    let range = range_of table side in
-    let binding = get_or table.entries place d in
-    let front = filter test (take place table.entries) in
-    let back = drop (place + 1) table.entries in
-    ap (λ entries. changed side binding false (pool_with range side entries)) (left_here test table.entries place d within)
-    ∙ changed_false range side front back binding (lone_at test table side place d are within)
-    ∙ ap (λ entries. pool_with range side entries) (sym (left_gone test table.entries place d within h))
-
--- the alias of a binding that is left is taken
-pub taken_at : (test : Binding → Bool) (table : Bindings) (side : Side) (place : ℕ) (d : Binding) → AreTaken table → place < length table.entries → same_side (get_or table.entries place d).side (other side) ≡ true → IsTrue (is_taken (get_or table.entries place d).alias (pool_with (range_of table side) side (left_at test table.entries place)))
-taken_at test table side place d are within h =
-    let binding = get_or table.entries place d in
-    let used = ap (λ entries. is_used side entries binding.alias.0) (left_here test table.entries place d within) ∙ used_alias side (filter test (take place table.entries)) (drop (place + 1) table.entries) binding h in
-    taken_alias (range_of table side) side (left_at test table.entries place) binding.alias (alias_within table binding side (are.aliases place d within) h) used
+pub others_fewer : (entries : List Binding) (binding : Binding) → IsBetween entries binding → length (others binding entries) < length entries
+others_fewer entries binding b = omega (arith, ap length b.rest, ap length b.all, length-append b.before b.after, length-append b.before (binding ∷ b.after))
 
 pub lawful_expired : (table : Bindings) (now : Moment) → IsLawful table → IsLawful (expired table now)
 lawful_expired table now lawful = record {
@@ -127,19 +178,6 @@ lawful_expired table now lawful = record {
   pools = lawful.pools;
 }
 
--- a list all of which passes
-filter_all : (test : Binding → Bool) (entries : List Binding) → All (λ binding. test binding ≡ true) entries → filter test entries ≡ entries
-filter_all test [] h = refl
-filter_all test (binding ∷ rest) h = rw (All-head (λ one. test one ≡ true) binding rest h) (ap (λ more. binding ∷ more) (filter_all test rest (All-tail (λ one. test one ≡ true) binding rest h)))
-
--- before the least end all live
-pub all_live : (now : Moment) (least : ℕ) (entries : List Binding) → now.0 < least → All (λ binding. (binding.fixed ≡ true) ⊎ (least ≤ binding.until.0)) entries → filter (is_live now) entries ≡ entries
-all_live now least entries early ends =
-    filter_all (is_live now) entries (All-weaker (λ binding. (binding.fixed ≡ true) ⊎ (least ≤ binding.until.0)) (λ binding. is_live now binding ≡ true) (λ binding end. elim end [
-      | inl fixed ↦ or_left _ _ fixed
-      | inr later ↦ or_right _ _ (lt-ltb now.0 binding.until.0 (omega arith))
-    ]) entries ends)
-
 -- ## Bindings that last
 
 -- an extended binding is of the same host and alias
@@ -148,9 +186,12 @@ pub record IsSamePair (one two : Binding) : Type 0 where
   pub host : one.host ≡ two.host
   pub alias : one.alias ≡ two.alias
 
+pub lasting_pair : (until : Moment) (binding : Binding) → IsSamePair (lasting until binding) binding
+lasting_pair until binding = elim (cases_Bool binding.fixed) [ inl f ↦ rw f (record { side = refl; host = refl; alias = refl }) | inr f ↦ rw f (record { side = refl; host = refl; alias = refl }) ]
+
 pub same_pair : (from_pool : Bool) (side : Side) (address : Addr) (until : Moment) (binding : Binding) → IsSamePair (extend_through from_pool side address until binding) binding
 same_pair from_pool side address until binding = elim (cases_Bool (is_through from_pool side address binding)) [
-  | inl h ↦ elim (cases_Bool binding.fixed) [ inl f ↦ rw (h, f) (record { side = refl; host = refl; alias = refl }) | inr f ↦ rw (h, f) (record { side = refl; host = refl; alias = refl }) ]
+  | inl h ↦ rw h (lasting_pair until binding)
   | inr h ↦ rw h (record { side = refl; host = refl; alias = refl })
 ]
 
@@ -180,8 +221,20 @@ used_map f same side (binding ∷ rest) k =
     same_or (is_of_alias side k (f binding)) (is_of_alias side k binding) (is_used side (map f rest) k) (is_used side rest k)
     (same_aliasing (f binding).side binding.side (other side) (f binding).alias binding.alias k p.side p.alias) (used_map f same side rest k)
 
-pub pool_map : (f : Binding → Binding) → ((binding : Binding) → IsSamePair (f binding) binding) → (range : Range) (side : Side) (entries : List Binding) → pool_with range side entries ≡ pool_with range side (map f entries)
-pool_map f same range side entries = ap (λ flags. flagged range flags) (same_flags (is_used side entries) (is_used side (map f entries)) range (λ k. sym (used_map f same side entries k)))
+-- ## What is found among changed bindings
+
+pub found_map : (view : Binding → Addr) (test : Binding → Bool) (f : Binding → Binding) → ((binding : Binding) → test (f binding) ≡ test binding) → ((binding : Binding) → view (f binding) ≡ view binding) → (entries : List Binding) → option_map view (find test (map f entries)) ≡ option_map view (find test entries)
+found_map view test f tests views [] = refl
+found_map view test f tests views (binding ∷ rest) = elim (cases_Bool (test binding)) [
+  | inl passes ↦ rw (tests binding ∙ passes, passes) (ap (λ (one : Addr). Some one) (views binding))
+  | inr fails ↦ rw (tests binding ∙ fails, fails) (found_map view test f tests views rest)
+]
+
+pub host_map : (f : Binding → Binding) → ((binding : Binding) → IsSamePair (f binding) binding) → (side : Side) (address : Addr) (entries : List Binding) → host_of side address (map f entries) ≡ host_of side address entries
+host_map f same side address = found_map (λ binding. binding.host) (is_of_alias side address.0) f (λ binding. same_aliasing (f binding).side binding.side (other side) (f binding).alias binding.alias address.0 (same binding).side (same binding).alias) (λ binding. (same binding).host)
+
+pub aliases_map : (f : Binding → Binding) → ((binding : Binding) → IsSamePair (f binding) binding) → (range : Range) (side : Side) (entries : List Binding) → aliases_with range side entries ≡ aliases_with range side (map f entries)
+aliases_map f same range side entries = same_aliases range side entries (map f entries) (λ k. sym (used_map f same side entries k)) (λ k. sym (host_map f same side (record { 0 = k }) entries))
 
 place_same : (table : Bindings) (one two : Binding) → IsSamePair one two → IsInPlace table two → IsInPlace table one
 place_same table one two p place = record {

@@ -1,10 +1,15 @@
 pub mod Pools
+pub mod Filed
 pub mod Kept
+pub mod Dropped
 pub mod Room
 pub mod Whole
 pub mod Bind
 pub mod Opening
 pub mod Fresh
 pub mod Planned
+pub mod Used
+pub mod Once
+pub mod Places
 pub mod Back
 pub mod Rows

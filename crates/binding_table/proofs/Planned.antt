@@ -18,14 +18,14 @@ use Rattle.gate_settings.specs.Cross.{is_in_same}
 use Rattle.gate_settings.specs.declared.settings.Block.{Block}
 use Rattle.realm_pools.specs.Addresses.{Range, Addresses, is_in, least_free, free_from}
 use Rattle.realm_pools.proofs.Free.{from_low}
-use Rattle.binding_table.specs.Steps.{given_image, next_alias, planned_by}
+use Rattle.binding_table.specs.Steps.{Aliases, given_image, next_alias, planned_by}
 use Rattle.binding_table.specs.declared.binding.Binding.{Binding}
 use Rattle.binding_table.specs.declared.binding.Crossing.{Crossing}
 use Rattle.binding_table.specs.declared.binding.Crossing.TheVariants.{Same, Known, New, Unbound, Empty}
 use Rattle.binding_table.specs.Bindings.{is_settled, Bindings, is_same, is_of_host, is_of_alias, is_used, in_pool, range_of, pool_with, pool_of, alias_of, host_of, known_or, new_or_empty, cross, seen_by, with_binding, extended, extend_through}
 use Rattle.binding_table.specs.Plan.{images_after, Use, used, used_by, after_uses, unless_same, image_after, needs_binding, is_address, is_among, is_fresh, fresh_after}
 use Rattle.binding_table.proofs.Pools.{IsLone, numbers, other_other, same_side-itself, used_elsewhere, used_alias, free_parts, free_alias}
-use Rattle.binding_table.proofs.Kept.{used_map, IsSamePair, same_pair, same_aliasing, pool_map}
+use Rattle.binding_table.proofs.Kept.{used_map, IsSamePair, same_pair, same_aliasing, found_map, host_map, aliases_map}
 use Rattle.binding_table.proofs.Room.{free_in, free_less}
 use Rattle.binding_table.proofs.Bind.{HasNoBinding, least_parts, unbound_cross, fresh_is}
 use Rattle.binding_table.proofs.Fresh.{fresh_cons}
@@ -90,13 +90,6 @@ settled_stays table later side address follows settled =
 
 -- ## What is found among changed bindings
 
-found_map : (view : Binding → Addr) (test : Binding → Bool) (f : Binding → Binding) → ((binding : Binding) → test (f binding) ≡ test binding) → ((binding : Binding) → view (f binding) ≡ view binding) → (entries : List Binding) → option_map view (find test (map f entries)) ≡ option_map view (find test entries)
-found_map view test f tests views [] = refl
-found_map view test f tests views (binding ∷ rest) = elim (cases_Bool (test binding)) [
-  | inl passes ↦ rw (tests binding ∙ passes, passes) (ap (λ (one : Addr). Some one) (views binding))
-  | inr fails ↦ rw (tests binding ∙ fails, fails) (found_map view test f tests views rest)
-]
-
 found_push : (view : Binding → Addr) (test : Binding → Bool) (entries : List Binding) (binding : Binding) → option_map view (find test (entries ++ binding ∷ [])) ≡ option_or (option_map view (find test entries)) (if test binding then Some (view binding) else None)
 found_push view test [] binding = elim (cases_Bool (test binding)) [ inl passes ↦ rw passes refl | inr fails ↦ rw fails refl ]
 found_push view test (one ∷ rest) binding = elim (cases_Bool (test one)) [
@@ -106,9 +99,6 @@ found_push view test (one ∷ rest) binding = elim (cases_Bool (test one)) [
 
 alias_map : (f : Binding → Binding) → ((binding : Binding) → IsSamePair (f binding) binding) → (side : Side) (address : Addr) (entries : List Binding) → alias_of side address (map f entries) ≡ alias_of side address entries
 alias_map f same side address = found_map (λ binding. binding.alias) (is_of_host side address.0) f (λ binding. same_aliasing (f binding).side binding.side side (f binding).host binding.host address.0 (same binding).side (same binding).host) (λ binding. (same binding).alias)
-
-host_map : (f : Binding → Binding) → ((binding : Binding) → IsSamePair (f binding) binding) → (side : Side) (address : Addr) (entries : List Binding) → host_of side address (map f entries) ≡ host_of side address entries
-host_map f same side address = found_map (λ binding. binding.host) (is_of_alias side address.0) f (λ binding. same_aliasing (f binding).side binding.side (other side) (f binding).alias binding.alias address.0 (same binding).side (same binding).alias) (λ binding. (same binding).host)
 
 pub extended_follows : (table : Bindings) (side : Side) (address : Addr) (until : Moment) → Follows table side (extended table side address until)
 extended_follows table side address until =
@@ -286,7 +276,7 @@ planned_extended table later side earlier rest given address until p =
         below = λ number from to. uses number ∙ p.used.below number from to;
         above = λ number from. uses number ∙ p.used.above number from;
       };
-      room = rw (ap (λ (pool : Addresses). count_by not pool.taken) (sym (pool_map f pair range (other side) later.entries))) p.room;
+      room = rw (ap (λ (pool : Addresses). count_by not pool.taken) (sym (ap (λ (aliases : Aliases). aliases.pool) (aliases_map f pair range (other side) later.entries)))) p.room;
     }
 
 -- ## The next address
@@ -380,7 +370,7 @@ step_settled table later side earlier rest given image address until p settled h
       h ∙ ap image_of (sym (settled_stays later (used later side one) side address (used_follows later side one) settled)),
     )
 
-none_among : (earlier : List Addr) (address : Addr) → position (is_address address) earlier ≡ None → is_among earlier address ≡ false
+pub none_among : (earlier : List Addr) (address : Addr) → position (is_address address) earlier ≡ None → is_among earlier address ≡ false
 none_among earlier address none = list_any_none (is_address address) earlier (λ k d within. elim (cases_Bool (nat_lt (position_or_len (is_address address) earlier) (length earlier))) [
   | inl holds ↦ cc (rw holds at none)
   | inr ends ↦ fails_before_first (is_address address) earlier k d (omega (arith, ltb-false))

@@ -1,5 +1,5 @@
 -- Pools in which the aliases of bindings are taken.
-use Rattle.std.proofs.Common.{IsTrue, replicate, ◌≡◌, ◌≢◌, ℕ, ◌+◌, ◌-◌, ◌<◌, ◌≤◌, Bool, true, false, not, ◌&&◌, ◌||◌, ◌==◌, nat_le, List, [], ◌∷◌, ◌++◌, length, map, set, get_or, refl, sym, ◌∙◌, ap, arith, inl, inr}
+use Rattle.std.proofs.Common.{IsTrue, replicate, ◌≡◌, ◌≢◌, ℕ, ◌+◌, ◌-◌, ◌<◌, ◌≤◌, Bool, true, false, not, ◌&&◌, ◌||◌, ◌==◌, nat_le, List, [], ◌∷◌, ◌++◌, length, map, set, get_or, Option, Some, None, is_some, refl, sym, ◌∙◌, ap, arith, inl, inr}
 use Rattle.std.specs.List.{range_with_len}
 use Rattle.std.proofs.lemmas.List.{length-replicate, get_or-replicate, same_lists, get_or-set_same, get_or-set_other, length-set}
 use Rattle.std.proofs.lemmas.List.FromFn.{get_or-map-range_with_len, length-map-range_with_len}
@@ -10,10 +10,10 @@ use Rattle.gate_base.specs.Side.{other, same_side}
 use Rattle.gate_base.specs.declared.address.Addr.{Addr}
 use Rattle.gate_base.specs.declared.side.Side.{Side}
 use Rattle.gate_base.specs.declared.side.Side.TheVariants.{Left, Right}
-use Rattle.realm_pools.specs.Addresses.{Range, Addresses, is_in, is_free, is_taken}
-use Rattle.binding_table.specs.Steps.{changed}
+use Rattle.realm_pools.specs.Addresses.{Range, is_in, is_free, is_taken}
+use Rattle.binding_table.specs.Steps.{Aliases, aliases_with, changed, host_at, no_hosts, with_host}
 use Rattle.binding_table.specs.declared.binding.Binding.{Binding}
-use Rattle.binding_table.specs.Bindings.{is_of_alias, is_used, pool_with}
+use Rattle.binding_table.specs.Bindings.{host_of, is_of_alias, is_used, pool_with}
 use Rattle.binding_table.specs.Lawful.{collides}
 
 -- ## Sides
@@ -64,13 +64,10 @@ collides-sym one two = same_both (same_side two.side one.side) (same_side one.si
 
 -- ## The flags of a pool
 
-abbrev pub flagged : Range → List Bool → Addresses
-flagged range flags = record { range = range; taken = flags }
-
 abbrev pub numbers : Range → List ℕ
 numbers range = range_with_len range.first (range.last + 1 - range.first)
 
-pub same_flags : (f g : ℕ → Bool) (range : Range) → ((k : ℕ) → f k ≡ g k) → map f (numbers range) ≡ map g (numbers range)
+same_flags : {X : Type 0} (f g : ℕ → X) (range : Range) → ((k : ℕ) → f k ≡ g k) → map f (numbers range) ≡ map g (numbers range)
 same_flags f g range same =
     let n : ℕ = range.last + 1 - range.first in
     let long = length-map-range_with_len f range.first n in
@@ -79,7 +76,7 @@ same_flags f g range same =
     get_or-map-range_with_len f range.first n k (range.first + k) d less refl ∙ same (range.first + k) ∙ sym (get_or-map-range_with_len g range.first n k (range.first + k) d less refl))
 
 -- one number of the range has another flag
-set_flag : (f g : ℕ → Bool) (range : Range) (number : ℕ) (value : Bool) → range.first ≤ number → number ≤ range.last → g number ≡ value → ((k : ℕ) → k ≢ number → f k ≡ g k) → set (map f (numbers range)) (number - range.first) value ≡ map g (numbers range)
+set_flag : {X : Type 0} (f g : ℕ → X) (range : Range) (number : ℕ) (value : X) → range.first ≤ number → number ≤ range.last → g number ≡ value → ((k : ℕ) → k ≢ number → f k ≡ g k) → set (map f (numbers range)) (number - range.first) value ≡ map g (numbers range)
 set_flag f g range number value low high here there =
     let n : ℕ = range.last + 1 - range.first in
     let long = length-map-range_with_len f range.first n in
@@ -97,16 +94,35 @@ set_flag f g range number value low high here there =
           get_or-set_other flags place k value d differs ∙ get_or-map-range_with_len f range.first n k (range.first + k) d less refl ∙ there (range.first + k) (λ e. differs (omega arith)) ∙ sym right
     ])
 
--- no address is taken where there is no binding
-pub none_used : (range : Range) (side : Side) → range.first ≤ range.last → map (is_used side []) (numbers range) ≡ replicate (range.last - range.first + 1) false
-none_used range side some =
+-- all numbers of a range have one flag
+all_flags : {X : Type 0} (f : ℕ → X) (range : Range) (value : X) → range.first ≤ range.last → ((k : ℕ) → f k ≡ value) → map f (numbers range) ≡ replicate (range.last - range.first + 1) value
+all_flags f range value some is =
     let n : ℕ = range.last + 1 - range.first in
-    let long = length-map-range_with_len (is_used side []) range.first n in
+    let long = length-map-range_with_len f range.first n in
     let m : ℕ = range.last - range.first + 1 in
-    let short : length (replicate m false) ≡ m = length-replicate m false in
+    let short : length (replicate m value) ≡ m = length-replicate m value in
     same_lists _ _ (omega (arith, long, short)) (λ k d within.
     let less : k < n = omega (arith, long) in
-    get_or-map-range_with_len (is_used side []) range.first n k (range.first + k) d less refl ∙ sym (get_or-replicate m k false d (omega arith)))
+    get_or-map-range_with_len f range.first n k (range.first + k) d less refl ∙ is (range.first + k) ∙ sym (get_or-replicate m k value d (omega arith)))
+
+abbrev aliased : Range → List Bool → List (Option Addr) → Aliases
+aliased range flags hosts = record { pool = record { range = range; taken = flags }; hosts = hosts }
+
+same_aliased : (range : Range) (flags flags' : List Bool) (hosts hosts' : List (Option Addr)) → flags ≡ flags' → hosts ≡ hosts' → aliased range flags hosts ≡ aliased range flags' hosts'
+same_aliased range flags flags' hosts hosts' p q = cc
+
+-- where there is no binding, no address is taken
+pub none_used : (range : Range) (side : Side) → range.first ≤ range.last → map (is_used side []) (numbers range) ≡ replicate (range.last - range.first + 1) false
+none_used range side some = all_flags (is_used side []) range false some (λ k. refl)
+
+pub none_standing : (first last : Addr) (side : Side) → first.0 ≤ last.0 → no_hosts first last ≡ aliases_with (record { first = first.0; last = last.0 }) side []
+none_standing first last side some =
+    let range : Range = record { first = first.0; last = last.0 } in
+    same_aliased range _ _ _ _ (sym (none_used range side some)) (sym (all_flags (host_at side []) range None some (λ k. refl)))
+
+-- where the same addresses are taken and stand for the same hosts
+pub same_aliases : (range : Range) (side : Side) (xs ys : List Binding) → ((k : ℕ) → is_used side xs k ≡ is_used side ys k) → ((k : ℕ) → host_at side xs k ≡ host_at side ys k) → aliases_with range side xs ≡ aliases_with range side ys
+same_aliases range side xs ys used hosts = same_aliased range _ _ _ _ (same_flags (is_used side xs) (is_used side ys) range used) (same_flags (host_at side xs) (host_at side ys) range hosts)
 
 -- ## A binding among others
 
@@ -131,29 +147,62 @@ used_elsewhere side xs ys binding k differs =
 used_as_before : (side : Side) (xs ys : List Binding) (binding : Binding) (k : ℕ) → same_side binding.side (other side) ≡ false → is_used side (xs ++ binding ∷ ys) k ≡ is_used side (xs ++ ys) k
 used_as_before side xs ys binding k h = used_among side xs ys binding k ∙ ap (λ b. b || is_used side (xs ++ ys) k) (and_left _ _ h)
 
+-- the host that is found first
+host_among : (side : Side) (xs ys : List Binding) (binding : Binding) (k : ℕ) → is_of_alias side k binding ≡ false → host_at side (xs ++ binding ∷ ys) k ≡ host_at side (xs ++ ys) k
+host_among side [] ys binding k other = rw other refl
+host_among side (one ∷ xs) ys binding k other = elim (cases_Bool (is_of_alias side k one)) [
+  | inl passes ↦ rw passes refl
+  | inr fails ↦ rw fails (host_among side xs ys binding k other)
+]
+
+host_here : (side : Side) (xs ys : List Binding) (binding : Binding) (k : ℕ) → is_of_alias side k binding ≡ true → is_used side (xs ++ ys) k ≡ false → host_at side (xs ++ binding ∷ ys) k ≡ Some binding.host
+host_here side [] ys binding k here unused = rw here refl
+host_here side (one ∷ xs) ys binding k here unused =
+    let parts = or_parts (is_of_alias side k one) (is_used side (xs ++ ys) k) unused in
+    rw parts.0 (host_here side xs ys binding k here parts.1)
+
+pub no_host : (side : Side) (entries : List Binding) (k : ℕ) → is_used side entries k ≡ false → host_at side entries k ≡ None
+no_host side [] k unused = refl
+no_host side (one ∷ rest) k unused =
+    let parts = or_parts (is_of_alias side k one) (is_used side rest k) unused in
+    rw parts.0 (no_host side rest k parts.1)
+
 -- an address of the range that no binding has
 pub record IsLone (range : Range) (side : Side) (entries : List Binding) (binding : Binding) : Type 0 where
   pub within : is_in binding.alias range ≡ true
   pub unused : is_used side entries binding.alias.0 ≡ false
 
--- where a binding comes among others, its alias becomes taken
-pub changed_true : (range : Range) (side : Side) (xs ys : List Binding) (binding : Binding) → (same_side binding.side (other side) ≡ true → IsLone range side (xs ++ ys) binding) → changed side binding true (pool_with range side (xs ++ ys)) ≡ pool_with range side (xs ++ binding ∷ ys)
-changed_true range side xs ys binding lone =
+has_alias : (side : Side) (binding : Binding) → same_side binding.side (other side) ≡ true → is_of_alias side binding.alias.0 binding ≡ true
+has_alias side binding h = and_from _ _ h (eq-eqb binding.alias.0 binding.alias.0 refl)
+
+has_other : (side : Side) (binding : Binding) (k : ℕ) → k ≢ binding.alias.0 → is_of_alias side k binding ≡ false
+has_other side binding k differs = and_right _ _ (ne_eqb binding.alias.0 k (λ e. differs (sym e)))
+
+-- one address stands for the host of a binding, or for none
+set_aliases : (range : Range) (side : Side) (xs ys : List Binding) (binding : Binding) (host : Option Addr) → is_in binding.alias range ≡ true → is_used side ys binding.alias.0 ≡ is_some host → host_at side ys binding.alias.0 ≡ host → ((k : ℕ) → k ≢ binding.alias.0 → is_used side xs k ≡ is_used side ys k) → ((k : ℕ) → k ≢ binding.alias.0 → host_at side xs k ≡ host_at side ys k) → with_host binding.alias host (aliases_with range side xs) ≡ aliases_with range side ys
+set_aliases range side xs ys binding host within used stands others hosts =
+    let bounds = and_parts (nat_le range.first binding.alias.0) (nat_le binding.alias.0 range.last) within in
+    let low = leb-true _ _ bounds.0 in
+    let high = leb-true _ _ bounds.1 in
+    same_aliased range _ _ _ _ (set_flag (is_used side xs) (is_used side ys) range binding.alias.0 (is_some host) low high used others) (set_flag (host_at side xs) (host_at side ys) range binding.alias.0 host low high stands hosts)
+
+-- where a binding comes among others, its alias stands for its host
+pub changed_some : (range : Range) (side : Side) (xs ys : List Binding) (binding : Binding) → (same_side binding.side (other side) ≡ true → IsLone range side (xs ++ ys) binding) → changed side binding (Some binding.host) (aliases_with range side (xs ++ ys)) ≡ aliases_with range side (xs ++ binding ∷ ys)
+changed_some range side xs ys binding lone =
     elim (cases_Bool (same_side binding.side (other side))) [
       | inl h ↦
-          let bounds = and_parts (nat_le range.first binding.alias.0) (nat_le binding.alias.0 range.last) (lone h).within in
-          rw h (ap (λ flags. flagged range flags) (set_flag (is_used side (xs ++ ys)) (is_used side (xs ++ binding ∷ ys)) range binding.alias.0 true (leb-true _ _ bounds.0) (leb-true _ _ bounds.1) (used_alias side xs ys binding h) (λ k differs. sym (used_elsewhere side xs ys binding k differs))))
-      | inr h ↦ rw h (ap (λ flags. flagged range flags) (same_flags (is_used side (xs ++ ys)) (is_used side (xs ++ binding ∷ ys)) range (λ k. sym (used_as_before side xs ys binding k h))))
+          rw h (set_aliases range side (xs ++ ys) (xs ++ binding ∷ ys) binding (Some binding.host) (lone h).within (used_alias side xs ys binding h) (host_here side xs ys binding binding.alias.0 (has_alias side binding h) (lone h).unused)
+          (λ k differs. sym (used_elsewhere side xs ys binding k differs)) (λ k differs. sym (host_among side xs ys binding k (has_other side binding k differs))))
+      | inr h ↦ rw h (same_aliases range side (xs ++ ys) (xs ++ binding ∷ ys) (λ k. sym (used_as_before side xs ys binding k h)) (λ k. sym (host_among side xs ys binding k (and_left _ _ h))))
     ]
 
--- where a binding goes from among others, its alias becomes free
-pub changed_false : (range : Range) (side : Side) (xs ys : List Binding) (binding : Binding) → (same_side binding.side (other side) ≡ true → IsLone range side (xs ++ ys) binding) → changed side binding false (pool_with range side (xs ++ binding ∷ ys)) ≡ pool_with range side (xs ++ ys)
-changed_false range side xs ys binding lone =
+-- where a binding goes from among others, its alias stands for none
+pub changed_none : (range : Range) (side : Side) (xs ys : List Binding) (binding : Binding) → (same_side binding.side (other side) ≡ true → IsLone range side (xs ++ ys) binding) → changed side binding None (aliases_with range side (xs ++ binding ∷ ys)) ≡ aliases_with range side (xs ++ ys)
+changed_none range side xs ys binding lone =
     elim (cases_Bool (same_side binding.side (other side))) [
       | inl h ↦
-          let bounds = and_parts (nat_le range.first binding.alias.0) (nat_le binding.alias.0 range.last) (lone h).within in
-          rw h (ap (λ flags. flagged range flags) (set_flag (is_used side (xs ++ binding ∷ ys)) (is_used side (xs ++ ys)) range binding.alias.0 false (leb-true _ _ bounds.0) (leb-true _ _ bounds.1) (lone h).unused (λ k differs. used_elsewhere side xs ys binding k differs)))
-      | inr h ↦ rw h (ap (λ flags. flagged range flags) (same_flags (is_used side (xs ++ binding ∷ ys)) (is_used side (xs ++ ys)) range (λ k. used_as_before side xs ys binding k h)))
+          rw h (set_aliases range side (xs ++ binding ∷ ys) (xs ++ ys) binding None (lone h).within (lone h).unused (no_host side (xs ++ ys) binding.alias.0 (lone h).unused) (used_elsewhere side xs ys binding) (λ k differs. host_among side xs ys binding k (has_other side binding k differs)))
+      | inr h ↦ rw h (same_aliases range side (xs ++ binding ∷ ys) (xs ++ ys) (λ k. used_as_before side xs ys binding k h) (λ k. host_among side xs ys binding k (and_left _ _ h)))
     ]
 
 -- the flag of an address of the range
@@ -175,3 +224,11 @@ pub free_parts : (range : Range) (side : Side) (entries : List Binding) (address
 free_parts range side entries address free =
     let parts = and_parts (is_in address range) _ free in
     (parts.0, sym (flag_at range side entries address true parts.0) ∙ not-true _ parts.1)
+
+-- the host for which an address of the pool stands
+pub host_there : (range : Range) (side : Side) (entries : List Binding) (address : Addr) → is_in address range ≡ true → get_or (map (host_at side entries) (numbers range)) (address.0 - range.first) None ≡ host_of side address entries
+host_there range side entries address within =
+    let bounds = and_parts (nat_le range.first address.0) (nat_le address.0 range.last) within in
+    let low = leb-true range.first address.0 bounds.0 in
+    let high = leb-true address.0 range.last bounds.1 in
+    get_or-map-range_with_len (host_at side entries) range.first (range.last + 1 - range.first) (address.0 - range.first) address.0 None (omega arith) (omega arith)

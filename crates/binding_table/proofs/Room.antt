@@ -2,20 +2,20 @@
 use Rattle.std.proofs.Common.{◌++◌, ◌≡◌, ℕ, suc, ◌+◌, ◌-◌, ◌<◌, ◌≤◌, Bool, true, false, not, cond, nat_le, List, [], ◌∷◌, length, map, set, get_or, refl, sym, ◌∙◌, ap, arith, inl, inr, ◌⊎◌}
 use Rattle.std.specs.List.{count_by}
 use Rattle.std.proofs.lemmas.List.FromFn.{length-map-range_with_len}
-use Rattle.std.proofs.lemmas.List.Elements.{All-weaker, All-head, All-tail}
+use Rattle.std.proofs.lemmas.List.Elements.{All-weaker, All-tail}
 use Rattle.std.proofs.lemmas.List.Folds.{sum_by-replicate}
 use Rattle.std.proofs.lemmas.List.Sums.{sum_by-set}
 use Rattle.std.proofs.lemmas.Bool.{and_parts, leb-true}
 use Rattle.gate_base.specs.Side.{other, same_side}
 use Rattle.gate_base.specs.declared.side.Side.{Side}
 use Rattle.gate_base.specs.declared.side.Side.TheVariants.{Left, Right}
-use Rattle.realm_pools.specs.Addresses.{Range, Addresses}
-use Rattle.binding_table.specs.Steps.{AreTaken, CanHold, plain_table}
+use Rattle.realm_pools.specs.Addresses.{Range}
+use Rattle.binding_table.specs.Steps.{Aliases, AreTaken, CanHold, plain_table}
 use Rattle.binding_table.specs.declared.binding.Binding.{Binding}
-use Rattle.binding_table.specs.Bindings.{Bindings, is_used, in_pool, range_of, pool_with}
+use Rattle.binding_table.specs.Bindings.{Bindings, is_used, in_pool, pool_with}
 use Rattle.binding_table.specs.Lawful.{IsLawful, IsInPlace}
-use Rattle.binding_table.proofs.Pools.{IsLone, numbers, flag_at, none_used, collides-sym, changed_true}
-use Rattle.binding_table.proofs.Kept.{lone, alias_within, unused_by_all}
+use Rattle.binding_table.proofs.Pools.{IsLone, numbers, flag_at, none_used, changed_some}
+use Rattle.binding_table.proofs.Kept.{lone, lone_between}
 
 abbrev pub free_in : Range → Side → List Binding → ℕ
 free_in range side entries = count_by not (pool_with range side entries).taken
@@ -35,13 +35,13 @@ free_less range side xs ys binding h lone =
     let low = leb-true range.first binding.alias.0 bounds.0 in
     let high = leb-true binding.alias.0 range.last bounds.1 in
     let long = length-map-range_with_len (is_used side (xs ++ ys)) range.first (range.last + 1 - range.first) in
-    let e = ap (λ (pool : Addresses). count_by not pool.taken) (rw h at (changed_true range side xs ys binding (λ _. lone))) in
+    let e = ap (λ (aliases : Aliases). count_by not aliases.pool.taken) (rw h at (changed_some range side xs ys binding (λ _. lone))) in
     let less = count_set flags (binding.alias.0 - range.first) (omega (arith, long)) (flag_at range side (xs ++ ys) binding.alias false lone.within ∙ lone.unused) in
     ap (λ (n : ℕ). n + 1) (sym e) ∙ less
 
 free_same : (range : Range) (side : Side) (rest : List Binding) (binding : Binding) → same_side binding.side (other side) ≡ false → free_in range side (binding ∷ rest) ≡ free_in range side rest
 free_same range side rest binding h =
-    sym (ap (λ (pool : Addresses). count_by not pool.taken) (rw h at (changed_true range side [] rest binding (λ holds. cc (h, holds)))))
+    sym (ap (λ (aliases : Aliases). count_by not aliases.pool.taken) (rw h at (changed_some range side [] rest binding (λ holds. cc (h, holds)))))
 
 none_free : (range : Range) (side : Side) → range.first ≤ range.last → free_in range side [] ≡ range.last + 1 - range.first
 none_free range side some =
@@ -59,12 +59,6 @@ tail_taken left right binding rest are = record {
   aliases = All-tail (λ one. in_pool (plain_table left right rest) (other one.side) one.alias ≡ true) binding rest are.aliases;
 }
 
-head_lone : (left right : Range) (binding : Binding) (rest : List Binding) (side : Side) → AreTaken (plain_table left right (binding ∷ rest)) → same_side binding.side (other side) ≡ true → IsLone (range_of (plain_table left right rest) side) side rest binding
-head_lone left right binding rest side are h = record {
-  within = alias_within (plain_table left right rest) binding side (All-head (λ one. in_pool (plain_table left right rest) (other one.side) one.alias ≡ true) binding rest are.aliases) h;
-  unused = unused_by_all side rest binding h (λ k d less. collides-sym binding (get_or rest k d) ∙ are.once 0 (suc k) d (omega arith) (omega arith));
-}
-
 -- the bindings and the free addresses of both pools are as many as the addresses of both pools
 pub total : (left right : Range) (entries : List Binding) → AreTaken (plain_table left right entries) → left.first ≤ left.last → right.first ≤ right.last → length entries + free_in left Left entries + free_in right Right entries ≡ (left.last + 1 - left.first) + (right.last + 1 - right.first)
 total left right [] are some many = omega (arith, none_free left Left some, none_free right Right many)
@@ -72,12 +66,12 @@ total left right (binding ∷ rest) are some many =
     let before = total left right rest (tail_taken left right binding rest are) some many in
     elim (side_cases binding.side) [
       | inl h ↦
-          let one = free_less left Left [] rest binding h.0 (head_lone left right binding rest Left are h.0) in
+          let one = free_less left Left [] rest binding h.0 (lone_between (plain_table left right (binding ∷ rest)) Left binding [] rest are refl h.0) in
           let two = free_same right Right rest binding h.1 in
           omega (arith, before, one, two)
       | inr h ↦
           let one = free_same left Left rest binding h.0 in
-          let two = free_less right Right [] rest binding h.1 (head_lone left right binding rest Right are h.1) in
+          let two = free_less right Right [] rest binding h.1 (lone_between (plain_table left right (binding ∷ rest)) Right binding [] rest are refl h.1) in
           omega (arith, before, one, two)
     ]
 

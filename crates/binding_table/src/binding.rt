@@ -1,7 +1,9 @@
 ghost use Rattle.std.specs.Prelude.{◌≡◌};
 ghost use Rattle.binding_table.specs.Bindings as tables;
 ghost use Rattle.binding_table.specs.Plan.{needs_binding};
+ghost use Rattle.binding_table.specs.Steps.{filed, number_of};
 
+use expiring_table::Row;
 use gate_base::{Addr, Moment, Side};
 use gate_settings::Fixed;
 
@@ -21,20 +23,6 @@ pub struct Binding {
 }
 
 impl Binding {
-    /// Whether the binding is that of a host of the realm.
-    pub fn is_of_host(&self, side: Side, host: Addr) -> bool
-        ensures { result ≡ tables.is_of_host side host.0 self.now }
-    {
-        self.side == side && self.host.0 == host.0
-    }
-
-    /// Whether the binding is that of the host for which an address of the realm's pool stands.
-    pub fn is_of_alias(&self, side: Side, alias: Addr) -> bool
-        ensures { result ≡ tables.is_of_alias side alias.0 self.now }
-    {
-        self.side == side.other() && self.alias.0 == alias.0
-    }
-
     /// A static binding.
     pub fn of_static(fixed: &Fixed) -> Binding
         ensures { result ≡ tables.fixed_binding fixed.now }
@@ -48,25 +36,37 @@ impl Binding {
         }
     }
 
-    /// Lets the binding live at least until a moment, if it is the one through which the address crosses.
-    pub fn extend_through(&mut self, from_pool: bool, side: Side, address: Addr, until: Moment)
-        ensures { self.new ≡ tables.extend_through from_pool side address until self.old }
+    /// The binding, living at least until a moment. A fixed one stays as it is.
+    pub fn lasting(self, until: Moment) -> Binding
+        ensures { result ≡ tables.lasting until self }
     {
-        let is_through = if from_pool {
-            self.is_of_alias(side, address)
-        } else {
-            self.is_of_host(side, address)
-        };
-        if is_through && !self.fixed && self.until.0 < until.0 {
-            self.until = until;
+        let mut lasting = self;
+        if !self.fixed && self.until.0 < until.0 {
+            lasting.until = until;
         }
+        lasting
     }
 
-    /// Whether the binding lives.
-    pub fn is_live(&self, now: Moment) -> bool
-        ensures { result ≡ tables.is_live now self.now }
+    /// The binding as a row of the table: under the number of its host, with its end, if it has one.
+    pub fn filed(self) -> Row<Binding>
+        ensures { result ≡ filed self }
     {
-        self.fixed || now.0 < self.until.0
+        Row {
+            key: number_of(self.side, self.host),
+            end: if self.fixed { None } else { Some(self.until.0) },
+            value: self,
+        }
+    }
+}
+
+/// The number of a host of a realm: no two hosts have the same.
+pub fn number_of(side: Side, host: Addr) -> u128
+    ensures { result ≡ number_of side host.0 }
+{
+    let even = 2 * u128::from(host.0);
+    match side {
+        Side::Left => even,
+        Side::Right => even + 1,
     }
 }
 

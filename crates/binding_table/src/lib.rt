@@ -1,14 +1,16 @@
 //! The bindings of hosts to the addresses by which the other realm knows them (RFC 2663, 4.3).
 #![tactic(auto)]
 
+mod aliases;
 mod binding;
-mod entries;
+mod firsts;
 mod laws;
 mod plan;
 mod table;
 
 pub use binding::Crossing;
-pub use laws::{crosses_back, keeps_apart};
+pub use firsts::Firsts;
+pub use laws::{crosses_back, keeps_apart, keeps_known, sees_used};
 pub use table::Table;
 
 #[cfg(test)]

@@ -1,31 +1,30 @@
 // The table of bindings.
-ghost use Rattle.std.specs.Prelude.{◌≡◌, ◌+◌, ◌-◌, ◌≤◌, ◌⊎◌, true, false, map, length, vec_capacity, IfOk, IsTrue, All};
-ghost use Rattle.std.specs.List.{filter};
-ghost use Rattle.binding_table.specs.Steps.{changed, AreTaken, CanHold, plain_table};
+ghost use Rattle.std.specs.Prelude.{◌≡◌, true, false, Some, None, map, length, IfOk, IsTrue};
+ghost use Rattle.std.specs.List.{find, filter};
+ghost use Rattle.binding_table.specs.Steps.{aliases_of, aliases_with, changed, entries_in, filed, AreKept, CanHold};
 ghost use Rattle.binding_table.specs.Bindings as tables;
 ghost use Rattle.binding_table.specs.Lawful.{IsLawful};
-ghost use Rattle.gate_settings.specs.Cross.{is_in_same, is_bad_pool};
+ghost use Rattle.gate_settings.specs.Cross.{is_in_same};
 ghost use Rattle.gate_settings.specs.Sound.{IsSound};
 ghost use Rattle.gate_settings.specs.Forms.{HasForms};
-ghost use Rattle.realm_pools.specs.Addresses.{unused, is_free, is_taken};
+ghost use Rattle.realm_pools.specs.Addresses.{is_free, is_taken};
 
-use crate::binding::{Binding, Crossing};
-use crate::entries::{earlier_end, extend_all, find_alias, find_host, least_end, retain_live};
+use crate::aliases::Aliases;
+use crate::binding::{Binding, Crossing, number_of};
+use expiring_table::{Rows, Seed};
 use gate_base::{Addr, Moment, OutOfMemory, Side, is_unicast};
-use gate_settings::{Block, Blocks, Settings, SideSettings};
+use gate_settings::{Block, Blocks, Settings};
 use realm_pools::Pool;
 use std::alloc::Global;
 use std::marker::Model;
 
-/// The bindings between the hosts of two realms. A call after `make` takes no memory.
+/// The bindings between the hosts of two realms. A call after `make` takes no memory, and costs the same however many there are.
 #[derive(Drop)]
 pub struct Table {
     same: Blocks,
-    left: Pool,
-    right: Pool,
-    bindings: Vec<Binding>,
-    // a moment before which no binding ends
-    least_end: u64,
+    left: Aliases,
+    right: Aliases,
+    bindings: Rows<Binding>,
 }
 
 impl Model for Table {
@@ -42,35 +41,45 @@ impl Model for Table {
 
 impl Table {
     /// The table of the static bindings in their order, for settings as `read_settings` gives them. It takes all the memory that the
-    /// table ever needs; the error is that there is too little.
-    pub fn make(alloc: Global, settings: &Settings) -> Result<Table, OutOfMemory>
+    /// table ever needs; the error is that there is too little. The seed spreads the hosts, and changes no answer.
+    pub fn make(alloc: Global, settings: &Settings, seed: Seed) -> Result<Table, OutOfMemory>
         requires sound { IsSound settings.now }
         requires forms { HasForms settings.now }
         ensures { IfOk result (λ table. table ≡ tables.opening settings.now) }
     {
-        let mut table = Table::without_bindings(alloc, settings)?;
+        let mut table = Table::without_bindings(alloc, settings, seed)?;
         for fixed in settings.statics.items() {
             table.append(Binding::of_static(fixed));
         }
         Ok(table)
     }
 
-    fn without_bindings(alloc: Global, settings: &Settings) -> Result<Table, OutOfMemory>
+    fn without_bindings(
+        alloc: Global,
+        settings: &Settings,
+        seed: Seed,
+    ) -> Result<Table, OutOfMemory>
         requires sound { IsSound settings.now }
         requires forms { HasForms settings.now }
         ensures { IfOk result (λ table. table ≡ tables.without_bindings settings.now) }
     {
-        let left = pool_of(alloc, &settings.left)?;
-        let right = pool_of(alloc, &settings.right)?;
+        let left = Aliases::make(alloc, &settings.left)?;
+        let right = Aliases::make(alloc, &settings.right)?;
         let same = Blocks::of(Vec::from_slice(alloc, settings.same.items())?);
-        let room = size_of(&settings.left) + size_of(&settings.right);
+        let room = left.len() + right.len();
         Ok(Table {
             same,
             left,
             right,
-            bindings: Vec::with_capacity(alloc, room)?,
-            least_end: u64::MAX,
+            bindings: Rows::make(alloc, room, seed)?,
         })
+    }
+
+    /// Spreads the hosts by another seed.
+    pub fn reseed(&mut self, seed: Seed)
+        ensures { self.new ≡ self.old }
+    {
+        self.bindings.reseed(seed);
     }
 
     /// What an address, as it is written in one realm, is called in the other.
@@ -88,9 +97,10 @@ impl Table {
     }
 
     fn pool_crossing(&self, side: Side, address: Addr) -> Crossing
+        requires { tables.in_pool self.now side address ≡ true }
         ensures { result ≡ tables.pool_crossing self.now side address }
     {
-        match find_host(&self.bindings, side, address) {
+        match self.host_of(side, address) {
             Some(host) => Crossing::Known(host),
             None => Crossing::Unbound,
         }
@@ -99,12 +109,42 @@ impl Table {
     fn host_crossing(&self, side: Side, address: Addr) -> Crossing
         ensures { result ≡ tables.host_crossing self.now side address }
     {
-        match find_alias(&self.bindings, side, address) {
-            Some(alias) => Crossing::Known(alias),
+        match self.binding_of(side, address) {
+            Some(binding) => Crossing::Known(binding.alias),
             None => match self.pool(side.other()).least_free() {
                 Some(alias) => Crossing::New(alias),
                 None => Crossing::Empty,
             },
+        }
+    }
+
+    // The host for which an address of the realm's pool stands.
+    fn host_of(&self, side: Side, alias: Addr) -> Option<Addr>
+        requires { tables.in_pool self.now side alias ≡ true }
+        ensures { result ≡ tables.host_of side alias self.now.entries }
+    {
+        self.aliases(side).host(alias)
+    }
+
+    // The binding of a host of the realm.
+    fn binding_of(&self, side: Side, host: Addr) -> Option<Binding>
+        ensures { result ≡ find (tables.is_of_host side host.0) self.now.entries }
+    {
+        match self.bindings.find(number_of(side, host)).copied() {
+            Some(row) => Some(row.value),
+            None => None,
+        }
+    }
+
+    // The binding through which an address of the realm crosses.
+    fn binding_through(&self, side: Side, address: Addr) -> Option<Binding>
+        ensures { result ≡ find (tables.is_through (tables.in_pool self.now side address) side address) self.now.entries }
+    {
+        if self.pool(side).contains(address) {
+            let host = self.host_of(side, address)?;
+            self.binding_of(side.other(), host)
+        } else {
+            self.binding_of(side, address)
         }
     }
 
@@ -123,10 +163,7 @@ impl Table {
     pub fn in_pool(&self, side: Side, address: Addr) -> bool
         ensures { result ≡ tables.in_pool self.now side address }
     {
-        match side {
-            Side::Left => self.left.contains(address),
-            Side::Right => self.right.contains(address),
-        }
+        self.pool(side).contains(address)
     }
 
     /// Whether the address lies in a block whose addresses mean the same host in both realms.
@@ -171,8 +208,7 @@ impl Table {
         ensures { self.new ≡ tables.with_binding self.old binding }
     {
         take_alias(&mut self.left, &mut self.right, &binding);
-        self.least_end = earlier_end(self.least_end, &binding);
-        self.bindings.push_reserved(binding);
+        self.bindings.push(binding.filed());
     }
 
     /// Lets the binding through which an address crosses live at least until a moment. A fixed one stays as it is.
@@ -180,30 +216,28 @@ impl Table {
         requires { tables.IsKnown (tables.cross self.old side address) }
         ensures { self.new ≡ tables.extended self.old side address until }
     {
-        let from_pool = self.in_pool(side, address);
-        extend_all(&mut self.bindings, from_pool, side, address, until);
-    }
-
-    /// Drops the bindings that don't live, and makes their aliases free. It looks at none before the first moment at which
-    /// one may end.
-    pub fn expire(&mut self, now: Moment)
-        ensures { self.new ≡ tables.expired self.old now }
-    {
-        if self.least_end <= now.0 {
-            self.drop_ended(now);
+        match self.binding_through(side, address) {
+            Some(binding) => self.bindings.set(binding.lasting(until).filed()),
+            None => {}
         }
     }
 
-    fn drop_ended(&mut self, now: Moment)
+    /// Drops the bindings that don't live, and makes their aliases free. It looks at no other.
+    pub fn expire(&mut self, now: Moment)
         ensures { self.new ≡ tables.expired self.old now }
     {
-        give_back_ended(&mut self.left, &mut self.right, &self.bindings, now);
-        retain_live(&mut self.bindings, now);
-        self.least_end = least_end(&self.bindings);
+        drop_ended(&mut self.bindings, &mut self.left, &mut self.right, now);
     }
 
     pub(crate) fn pool(&self, side: Side) -> &Pool
         ensures value { result.now ≡ tables.pool_of self.now side }
+        ensures lawful { IsLawful self.now }
+    {
+        self.aliases(side).pool()
+    }
+
+    fn aliases(&self, side: Side) -> &Aliases
+        ensures value { result.now ≡ aliases_of self.now side }
         ensures lawful { IsLawful self.now }
     {
         match side {
@@ -213,38 +247,23 @@ impl Table {
     }
 }
 
-fn pool_of(alloc: Global, side: &SideSettings) -> Result<Pool, OutOfMemory>
-    requires { is_bad_pool side.now ≡ false }
-    ensures { IfOk result (λ pool. pool ≡ unused side.now.first side.now.last) }
-{
-    Pool::make(alloc, side.first, side.last)
-}
-
-fn size_of(side: &SideSettings) -> usize
-    requires { is_bad_pool side.now ≡ false }
-    ensures size { result ≡ side.now.last.0 - side.now.first.0 + 1 }
-    ensures small { result ≤ 65536 }
-{
-    (side.last.0 - side.first.0) as usize + 1
-}
-
-fn take_alias(left: &mut Pool, right: &mut Pool, binding: &Binding)
-    requires left { binding.now.side ≡ Side.Right → IsTrue (is_free binding.now.alias left.old) }
-    requires right { binding.now.side ≡ Side.Left → IsTrue (is_free binding.now.alias right.old) }
-    ensures left { left.new ≡ changed Side.Left binding.now true left.old }
-    ensures right { right.new ≡ changed Side.Right binding.now true right.old }
+fn take_alias(left: &mut Aliases, right: &mut Aliases, binding: &Binding)
+    requires left { binding.now.side ≡ Side.Right → IsTrue (is_free binding.now.alias left.old.pool) }
+    requires right { binding.now.side ≡ Side.Left → IsTrue (is_free binding.now.alias right.old.pool) }
+    ensures left { left.new ≡ changed Side.Left binding.now (Some binding.now.host) left.old }
+    ensures right { right.new ≡ changed Side.Right binding.now (Some binding.now.host) right.old }
 {
     match binding.side {
-        Side::Left => right.take(binding.alias),
-        Side::Right => left.take(binding.alias),
+        Side::Left => right.take(binding.alias, binding.host),
+        Side::Right => left.take(binding.alias, binding.host),
     }
 }
 
-fn give_back_alias(left: &mut Pool, right: &mut Pool, binding: &Binding)
-    requires left { binding.now.side ≡ Side.Right → IsTrue (is_taken binding.now.alias left.old) }
-    requires right { binding.now.side ≡ Side.Left → IsTrue (is_taken binding.now.alias right.old) }
-    ensures left { left.new ≡ changed Side.Left binding.now false left.old }
-    ensures right { right.new ≡ changed Side.Right binding.now false right.old }
+fn give_back_alias(left: &mut Aliases, right: &mut Aliases, binding: &Binding)
+    requires left { binding.now.side ≡ Side.Right → IsTrue (is_taken binding.now.alias left.old.pool) }
+    requires right { binding.now.side ≡ Side.Left → IsTrue (is_taken binding.now.alias right.old.pool) }
+    ensures left { left.new ≡ changed Side.Left binding.now None left.old }
+    ensures right { right.new ≡ changed Side.Right binding.now None right.old }
 {
     match binding.side {
         Side::Left => right.give_back(binding.alias),
@@ -252,17 +271,15 @@ fn give_back_alias(left: &mut Pool, right: &mut Pool, binding: &Binding)
     }
 }
 
-fn give_back_ended(left: &mut Pool, right: &mut Pool, bindings: &[Binding], now: Moment)
-    requires taken { AreTaken (plain_table left.old.range right.old.range bindings.now) }
-    requires left { left.old ≡ tables.pool_with left.old.range Side.Left bindings.now }
-    requires right { right.old ≡ tables.pool_with right.old.range Side.Right bindings.now }
-    ensures left { left.new ≡ tables.pool_with left.old.range Side.Left (filter (tables.is_live now) bindings.now) }
-    ensures right { right.new ≡ tables.pool_with right.old.range Side.Right (filter (tables.is_live now) bindings.now) }
+// Takes out the bindings that don't live, and makes their aliases free.
+fn drop_ended(bindings: &mut Rows<Binding>, left: &mut Aliases, right: &mut Aliases, now: Moment)
+    requires { AreKept left.old right.old bindings.old.rows }
+    ensures rows { bindings.new ≡ record bindings.old { rows = map filed (filter (tables.is_live now) (entries_in bindings.old.rows)) } }
+    ensures left { left.new ≡ aliases_with left.old.pool.range Side.Left (filter (tables.is_live now) (entries_in bindings.old.rows)) }
+    ensures right { right.new ≡ aliases_with right.old.pool.range Side.Right (filter (tables.is_live now) (entries_in bindings.old.rows)) }
 {
-    for binding in bindings {
-        if !binding.is_live(now) {
-            give_back_alias(left, right, binding);
-        }
+    while let Some(row) = bindings.next_ended(now.0) {
+        give_back_alias(left, right, &row.value);
     }
 }
 

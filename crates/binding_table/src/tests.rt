@@ -1,5 +1,6 @@
 // A pool of one address.
 use super::{Crossing, Table};
+use expiring_table::Seed;
 use gate_base::{Addr, Moment, Side};
 use gate_settings::read_settings;
 use std::test::Fail;
@@ -43,7 +44,7 @@ fn pool_of_one(rt: HostRuntime) -> Result<(), Fail> {
         assert!(rt; false, "settings");
         return Ok(());
     };
-    let Ok(mut table) = Table::make(rt.alloc(), &settings) else {
+    let Ok(mut table) = Table::make(rt.alloc(), &settings, Seed::from_number(1)) else {
         assert!(rt; false, "table");
         return Ok(());
     };

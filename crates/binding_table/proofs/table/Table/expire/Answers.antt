@@ -1,11 +1,20 @@
-use Rattle.std.proofs.Common.{◌≡◌, ap, subst, sym}
+use Rattle.std.proofs.Common.{◌∙◌, refl, ap, arith}
+use Rattle.expiring_table.specs.Rows.{Table}
+use Rattle.binding_table.specs.declared.binding.Binding.{Binding}
 use Rattle.binding_table.specs.Bindings.{Bindings, expired}
 use Rattle.binding_table.specs.Inside.{bindings_of}
-use Rattle.binding_table.proofs.Kept.{all_live}
+use Rattle.binding_table.proofs.Kept.{lawful_expired}
+use Rattle.binding_table.proofs.Whole.{view_by, whole_by, room_of}
 use Rattle.binding_table.proofs.table.Table.expire.Goals as goal
 
-pub returns-else-self-now : goal.returns-else-self-now
-returns-else-self-now c =
+pub invariant_of-self : goal.invariant_of-self
+invariant_of-self c =
     let table = bindings_of c.self.inside in
-    let P : Bindings → Type 0 = λ t. t ≡ expired t c.args.now in
-    subst P c.self.view_is (ap (λ entries. record table { entries = entries }) (sym (all_live c.args.now c.self.inside.least_end table.entries c.if-self-now.false c.self.invariant.ends)))
+    let whole = c.self.invariant in
+    whole_by _ (expired table c.args.now) refl c.drop_ended.ensures.left c.drop_ended.ensures.right (ap (λ (t : Table Binding). t.rows) c.drop_ended.ensures.rows) (lawful_expired table c.args.now whole.lawful)
+    (omega (arith, room_of c.self.inside whole, ap (λ (t : Table Binding). t.most) c.drop_ended.ensures.rows))
+
+pub returns : goal.returns
+returns c =
+    let table = bindings_of c.self.inside in
+    view_by (record c.self.inside { left = c.drop_ended.new.left; right = c.drop_ended.new.right; bindings = c.drop_ended.new.bindings }) (expired table c.args.now) refl c.drop_ended.ensures.left c.drop_ended.ensures.right (ap (λ (t : Table Binding). t.rows) c.drop_ended.ensures.rows) ∙ ap (λ (t : Bindings). expired t c.args.now) c.self.view_is

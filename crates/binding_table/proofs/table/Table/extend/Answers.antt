@@ -1,25 +1,54 @@
-use Rattle.std.proofs.Common.{length, ◌≡◌, ◌∙◌, refl, ap, sym, map}
-use Rattle.std.proofs.lemmas.List.{with_items_is, length-map}
-use Rattle.std.proofs.lemmas.List.Elements.{All-map, All-weaker}
+use Rattle.std.proofs.Common.{◌≡◌, ◌∙◌, Option, Some, List, refl, ap, sym, subst, arith, IsSome}
+use Rattle.std.specs.List.{find}
+use Rattle.expiring_table.specs.declared.row.Row.{Row}
+use Rattle.expiring_table.specs.Rows.{Table, row_of}
+use Rattle.gate_base.specs.declared.address.Addr.{Addr}
+use Rattle.gate_base.specs.declared.side.Side.{Side}
 use Rattle.gate_base.specs.declared.side.Side.TheVariants.{Left, Right}
-use Rattle.std.specs.Vec.{with_items}
-use Rattle.binding_table.specs.Bindings.{extend_through}
+use Rattle.binding_table.specs.declared.binding.Binding.{Binding}
+use Rattle.binding_table.specs.Bindings.{Bindings, extend_through, extended, in_pool, is_through, lasting}
 use Rattle.binding_table.specs.Inside.{bindings_of}
-use Rattle.binding_table.proofs.Kept.{same_pair, pool_map, lawful_map, ends_extended}
-use Rattle.binding_table.proofs.Whole.{EndsFrom, whole_by, room_of}
+use Rattle.binding_table.specs.Steps.{filed}
+use Rattle.binding_table.proofs.Filed.{entries_are}
+use Rattle.binding_table.proofs.Kept.{same_pair, lasting_pair, aliases_map, lawful_map}
+use Rattle.binding_table.proofs.Once.{through_found, rows_extended, none_through, row_found}
+use Rattle.binding_table.proofs.Whole.{whole_by, room_of}
 use Rattle.binding_table.proofs.table.Table.extend.Goals as goal
+
+-- the binding through which the address crosses, in the table as it is kept
+known : (inside table : Bindings) (side : Side) (address : Addr) (found : Option Binding) (binding : Binding) → inside ≡ table → found ≡ find (is_through (in_pool table side address) side address) table.entries → found ≡ Some binding → find (is_through (in_pool inside side address) side address) inside.entries ≡ Some binding
+known inside table side address found binding same is some = ap (λ (t : Bindings). find (is_through (in_pool t side address) side address) t.entries) same ∙ sym is ∙ some
+
+pub set-requires : goal.set-requires
+set-requires c =
+    let table = bindings_of c.self.inside in
+    let binding = c.in-Some.binding in
+    let found = through_found table (in_pool table c.args.side c.args.address) c.args.side c.args.address binding c.self.invariant.lawful (known table c.args.self.now c.args.side c.args.address c.binding_through.result binding c.self.view_is c.binding_through.ensures c.in-Some.is) in
+    let row = row_found table.entries c.self.inside.bindings.rows binding (lasting c.args.until binding) c.self.invariant.rows (lasting_pair c.args.until binding) found in
+    let P : Option (Row Binding) → Type 0 = λ one. IsSome one in
+    subst P (sym (ap (λ (one : Row Binding). row_of one.key c.self.inside.bindings.rows) (c.filed.ensures ∙ ap filed c.lasting.ensures) ∙ row)) refl
 
 pub invariant_of-self : goal.invariant_of-self
 invariant_of-self c =
     let table = bindings_of c.self.inside in
     let whole = c.self.invariant in
-    let from_pool = c.in_pool-from_pool.result in
+    let from_pool = in_pool table c.args.side c.args.address in
+    let found = known table c.args.self.now c.args.side c.args.address c.binding_through.result c.in-Some.binding c.self.view_is c.binding_through.ensures c.in-Some.is in
+    let put = ap (λ (t : Table Binding). t.rows) c.set.ensures ∙ rows_extended table from_pool c.args.side c.args.address c.args.until c.in-Some.binding c.filed.result c.self.inside.bindings.rows whole.lawful found (c.filed.ensures ∙ ap filed c.lasting.ensures) whole.rows in
     let f = extend_through from_pool c.args.side c.args.address c.args.until in
     let same = same_pair from_pool c.args.side c.args.address c.args.until in
-    let least = c.self.inside.least_end in
-    let left = whole.left ∙ pool_map f same table.left Left table.entries in
-    let right = whole.right ∙ pool_map f same table.right Right table.entries in
-    let items = c.extend_all.ensures ∙ ap (λ entries. map f entries) c.deref_mut.ensures.value in
-    let long : length c.extend_all.new.bindings ≡ c.self.inside.bindings.len = ap length items ∙ length-map table.entries f ∙ sym c.self.inside.bindings.ok.0 in
-    let ends = All-map (EndsFrom least) f table.entries (All-weaker (EndsFrom least) (λ binding. EndsFrom least (f binding)) (ends_extended least from_pool c.args.side c.args.address c.args.until) table.entries whole.ends) in
-    whole_by (record c.self.inside { bindings = with_items c.self.inside.bindings c.extend_all.new.bindings }) (record table { entries = map f table.entries }) refl left right (with_items_is c.self.inside.bindings c.extend_all.new.bindings long ∙ items) (lawful_map f same table whole.lawful) (room_of c.self.inside whole) ends
+    whole_by _ (extended table c.args.side c.args.address c.args.until) refl (whole.left ∙ aliases_map f same table.left Left table.entries) (whole.right ∙ aliases_map f same table.right Right table.entries) put (lawful_map f same table whole.lawful)
+    (omega (arith, room_of c.self.inside whole, ap (λ (t : Table Binding). t.most) c.set.ensures))
+
+pub returns-in-Some : goal.returns-in-Some
+returns-in-Some c =
+    let table = bindings_of c.self.inside in
+    let found = known table c.args.self.now c.args.side c.args.address c.binding_through.result c.in-Some.binding c.self.view_is c.binding_through.ensures c.in-Some.is in
+    let put = ap (λ (t : Table Binding). t.rows) c.set.ensures ∙ rows_extended table (in_pool table c.args.side c.args.address) c.args.side c.args.address c.args.until c.in-Some.binding c.filed.result c.self.inside.bindings.rows c.self.invariant.lawful found (c.filed.ensures ∙ ap filed c.lasting.ensures) c.self.invariant.rows in
+    ap (λ (entries : List Binding). record table { entries = entries }) (entries_are c.set.new.self.rows (extended table c.args.side c.args.address c.args.until).entries put)
+    ∙ ap (λ (t : Bindings). extended t c.args.side c.args.address c.args.until) c.self.view_is
+
+pub returns-in-None : goal.returns-in-None
+returns-in-None c =
+    let table = c.args.self.now in
+    sym (ap (λ (entries : List Binding). record table { entries = entries }) (none_through (in_pool table c.args.side c.args.address) c.args.side c.args.address c.args.until table.entries (sym c.binding_through.ensures ∙ c.in-None.is)))

@@ -1,0 +1,47 @@
+use Rattle.std.proofs.Common.{◌≡◌, ◌≢◌, true, Option, Some, None, position, ap, sym, ◌∙◌}
+use Rattle.gate_base.specs.Side.{other}
+use Rattle.gate_base.specs.declared.side.Side.{Side}
+use Rattle.realm_pools.specs.Addresses.{Addresses}
+use Rattle.binding_table.specs.Bindings.{cross, pool_of}
+use Rattle.gate_base.specs.declared.address.Addr.{Addr}
+use Rattle.binding_table.specs.declared.binding.Crossing.{Crossing}
+use Rattle.binding_table.specs.declared.binding.Crossing.TheVariants.{Same, Known, Unbound}
+use Rattle.binding_table.specs.Plan.{is_address, needs_binding}
+use Rattle.binding_table.specs.Steps.{given_image, needing, next_alias}
+use Rattle.binding_table.proofs.Places.{needs_of, planned_fresh}
+use Rattle.binding_table.proofs.table.Table.image.Goals as goal
+
+-- the address needs a binding
+fresh : (found crossing : Crossing) → found ≡ crossing → (found ≡ Same → ⊥) → ((image : Addr) → found ≡ Known image → ⊥) → crossing ≢ Unbound → needs_binding crossing ≡ true
+fresh found crossing e same known bound = ap needs_binding (sym e) ∙ needs_of found same known (λ u. bound (sym e ∙ u))
+
+pub returns-in-Some : goal.returns-in-Some
+returns-in-Some c =
+    let table = c.args.self.now in
+    let side = c.args.side in
+    let pool = pool_of table (other side) in
+    let earlier = c.args.earlier.now in
+    let images = c.args.images.now in
+    let needs = fresh c.cross.result (cross table side c.args.address) c.cross.ensures c.in_default.not-Same c.in_default.not-Known c.requires.bound in
+    let place : position (is_address c.args.address) earlier ≡ Some c.in-Some.place = sym (c.first_place.ensures.place (needing table side) c.requires.firsts needs) ∙ c.in-Some.is in
+    record {
+      value = ap (λ (image : Option Addr). (image, c.args.given)) c.address_at.ensures
+          ∙ sym (planned_fresh pool earlier images c.args.given c.args.address (cross table side c.args.address) needs ∙ ap (given_image pool images c.args.given) place);
+      firsts = c.first_place.ensures.firsts (needing table side) c.requires.firsts needs;
+    }
+
+pub returns-in-None : goal.returns-in-None
+returns-in-None c =
+    let table = c.args.self.now in
+    let side = c.args.side in
+    let pool = pool_of table (other side) in
+    let earlier = c.args.earlier.now in
+    let images = c.args.images.now in
+    let needs = fresh c.cross.result (cross table side c.args.address) c.cross.ensures c.in_default.not-Same c.in_default.not-Known c.requires.bound in
+    let none : position (is_address c.args.address) earlier ≡ None = sym (c.first_place.ensures.place (needing table side) c.requires.firsts needs) ∙ c.in-None.is in
+    let given = c.next_alias-alias.ensures ∙ ap (λ (one : Addresses). next_alias one c.args.given) (c.pool.ensures.value ∙ ap (λ (s : Side). pool_of table s) c.other.ensures) in
+    record {
+      value = ap (λ (image : Option Addr). (image, image)) given
+          ∙ sym (planned_fresh pool earlier images c.args.given c.args.address (cross table side c.args.address) needs ∙ ap (given_image pool images c.args.given) none);
+      firsts = c.first_place.ensures.firsts (needing table side) c.requires.firsts needs;
+    }

@@ -1,7 +1,0 @@
-use Rattle.std.proofs.Common.{◌≡◌, ◌+◌, length, take, drop}
-use Rattle.binding_table.specs.Plan.{fresh_after, needed}
-use Rattle.binding_table.proofs.table.Table.needed.Given as goal
-
--- those so far and those of what is left are all
-abbrev pub invariant-loop-place : goal.invariant-loop-place
-invariant-loop-place l = l.count + length (fresh_after l.self l.side (take l.place l.addresses) (drop l.place l.addresses)) ≡ needed l.self l.side l.addresses

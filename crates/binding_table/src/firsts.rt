@@ -1,0 +1,84 @@
+// Where addresses stand first.
+ghost use Rattle.std.specs.Prelude.{◌≡◌, ◌++◌, ◌∷◌, [], true, All, Bool, Some, IfOk, length, position};
+ghost use Rattle.expiring_table.specs.Rows.{no_rows};
+ghost use Rattle.gate_base.specs.declared.address.Addr.{Addr};
+ghost use Rattle.binding_table.specs.Plan.{is_address};
+ghost use Rattle.binding_table.specs.Steps.{AreFirsts, EndsAtOnce};
+
+use expiring_table::{Row, Rows, Seed};
+use gate_base::{Addr, OutOfMemory};
+use std::alloc::Global;
+use std::marker::Model;
+
+/// How many distinct addresses are noted: more than a datagram can name.
+const MOST: usize = 8_192;
+
+/// Room in which `Table::needed` and `Table::plan` note where the addresses of a list stand first, so that each costs the same
+/// however many come before it, as long as no more than 8,192 distinct ones need a binding. They leave it empty.
+#[derive(Drop)]
+pub struct Firsts {
+    pub(crate) rows: Rows<usize>,
+}
+
+impl Model for Firsts {
+    ghost use Rattle.std.specs.Prelude.{◌≡◌};
+    ghost use Rattle.expiring_table.specs.Rows.{no_rows};
+
+    ghost Value = { Unit {0} };
+
+    ghost view = { λ _. tt };
+
+    ghost invariant = { λ firsts. firsts.rows ≡ no_rows 8192 };
+}
+
+impl Firsts {
+    /// The room. The error is that there is too little memory. The seed spreads the addresses, and changes no answer.
+    pub fn make(alloc: Global, seed: Seed) -> Result<Firsts, OutOfMemory> {
+        Ok(Firsts {
+            rows: Rows::make(alloc, MOST, seed)?,
+        })
+    }
+
+    /// Spreads the addresses by another seed.
+    pub fn reseed(&mut self, seed: Seed) {
+        self.rows.reseed(seed);
+    }
+}
+
+/// The place at which an address that needs a binding stands first among earlier ones, and None where it is the first, which is then
+/// noted.
+pub fn first_place(firsts: &mut Rows<usize>, earlier: &[Addr], address: Addr) -> Option<usize>
+    requires { firsts.old.most ≡ 8192 }
+    ensures place { (needs : Addr → Bool) → AreFirsts needs earlier.now firsts.old → needs address ≡ true → result ≡ position (is_address address) earlier.now }
+    ensures firsts { (needs : Addr → Bool) → AreFirsts needs earlier.now firsts.old → needs address ≡ true → AreFirsts needs (earlier.now ++ address ∷ []) firsts.new }
+{
+    let key = u128::from(address.0);
+    match firsts.find(key).copied() {
+        Some(row) => Some(row.value),
+        None => {
+            if MOST <= firsts.len() {
+                return place_of(earlier, address);
+            }
+            firsts.push(Row {
+                key,
+                end: Some(0),
+                value: earlier.len(),
+            });
+            None
+        }
+    }
+}
+
+fn place_of(addresses: &[Addr], address: Addr) -> Option<usize>
+    ensures { result ≡ position (is_address address) addresses.now }
+{
+    addresses.iter().position(|one| one.0 == address.0)
+}
+
+/// Takes out all that was noted.
+pub fn forget(firsts: &mut Rows<usize>)
+    requires { All EndsAtOnce firsts.old.rows }
+    ensures { firsts.new ≡ no_rows firsts.old.most }
+{
+    while let Some(_) = firsts.next_ended(0) {}
+}
