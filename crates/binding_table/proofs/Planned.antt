@@ -23,7 +23,7 @@ use Rattle.binding_table.specs.declared.binding.Binding.{Binding}
 use Rattle.binding_table.specs.declared.binding.Crossing.{Crossing}
 use Rattle.binding_table.specs.declared.binding.Crossing.TheVariants.{Same, Known, New, Unbound, Empty}
 use Rattle.binding_table.specs.Bindings.{is_settled, Bindings, is_same, is_of_host, is_of_alias, is_used, in_pool, range_of, pool_with, pool_of, alias_of, host_of, known_or, new_or_empty, cross, seen_by, with_binding, extended, extend_through}
-use Rattle.binding_table.specs.Plan.{images_after, Use, used, used_by, after_uses, unless_same, image_after, needs_binding, is_address, is_among, is_fresh, fresh_after}
+use Rattle.binding_table.specs.Plan.{images_after, Use, AreUsesOf, used, used_by, after_uses, unless_same, image_after, needs_binding, is_address, is_among, is_fresh, fresh_after}
 use Rattle.binding_table.proofs.Pools.{IsLone, numbers, other_other, same_side-itself, used_elsewhere, used_alias, free_parts, free_alias}
 use Rattle.binding_table.proofs.Kept.{used_map, IsSamePair, same_pair, same_aliasing, found_map, host_map, aliases_map}
 use Rattle.binding_table.proofs.Room.{free_in, free_less}
@@ -308,8 +308,8 @@ used_by_follows table side address until Same = record { same = refl; left = ref
 used_by_follows table side address until Unbound = record { same = refl; left = refl; right = refl; hosts = λ one. refl; kept = λ one alias h. h }
 used_by_follows table side address until Empty = record { same = refl; left = refl; right = refl; hosts = λ one. refl; kept = λ one alias h. h }
 
-pub used_follows : (table : Bindings) (side : Side) (one : Use) → Follows table side (used table side one)
-used_follows table side one = used_by_follows table side one.address one.until (cross table side one.address)
+pub used_follows : (table : Bindings) (one : Use) → Follows table one.side (used table one)
+used_follows table one = used_by_follows table one.side one.address one.until (cross table one.side one.address)
 
 settle_by : (table later : Bindings) (side : Side) (earlier rest : List Addr) (given : Option Addr) (address : Addr) (until : Moment) (crossing : Crossing) → cross later side address ≡ crossing → is_settled crossing ≡ true → IsPlanned table later side earlier (address ∷ rest) given → IsPlanned table (used_by later side address until crossing) side (earlier ++ address ∷ []) rest given
 settle_by table later side earlier rest given address until Same e h p = planned_settled table later side earlier rest given address p (ap is_settled e)
@@ -360,14 +360,14 @@ AreImages later side earlier images = (place : ℕ) (d : Addr) → place < lengt
 -- what a step gives: the plan goes on, and the image is that of the table after the use
 abbrev IsStep : Bindings → Bindings → Side → List Addr → List Addr → Addr → Moment → Option Addr × Option Addr → Type 0
 IsStep table later side earlier rest address until step =
-    let last = used later side (record { address = address; until = until }) in
+    let last = used later (record { side = side; address = address; until = until }) in
     (IsPlanned table last side (earlier ++ address ∷ []) rest step.1) × (step.0 ≡ image_of (cross last side address))
 
 step_settled : (table later : Bindings) (side : Side) (earlier rest : List Addr) (given image : Option Addr) (address : Addr) (until : Moment) → IsPlanned table later side earlier (address ∷ rest) given → is_settled (cross later side address) ≡ true → image ≡ image_of (cross later side address) → IsStep table later side earlier rest address until (image, given)
 step_settled table later side earlier rest given image address until p settled h =
-    let one : Use = record { address = address; until = until } in (
+    let one : Use = record { side = side; address = address; until = until } in (
       settle_by table later side earlier rest given address until (cross later side address) refl settled p,
-      h ∙ ap image_of (sym (settled_stays later (used later side one) side address (used_follows later side one) settled)),
+      h ∙ ap image_of (sym (settled_stays later (used later one) side address (used_follows later one) settled)),
     )
 
 pub none_among : (earlier : List Addr) (address : Addr) → position (is_address address) earlier ≡ None → is_among earlier address ≡ false
@@ -463,8 +463,8 @@ address_of one = one.address
 
 -- a plan up to a place, whatever the moments of the uses
 pub record IsAt (table : Bindings) (side : Side) (addresses : List Addr) (place : ℕ) (images : List (Option Addr)) (given : Option Addr) (uses : List Use) : Type 0 where
-  pub plan : IsPlanned table (after_uses table side (take place uses)) side (take place addresses) (drop place addresses) given
-  pub images_are : AreImages (after_uses table side (take place uses)) side (take place addresses) images
+  pub plan : IsPlanned table (after_uses table (take place uses)) side (take place addresses) (drop place addresses) given
+  pub images_are : AreImages (after_uses table (take place uses)) side (take place addresses) images
 
 pub at_start : (table : Bindings) (side : Side) (addresses : List Addr) (images : List (Option Addr)) (uses : List Use) → length (fresh_after table side [] addresses) ≤ free_in (range_of table (other side)) (other side) table.entries → IsAt table side addresses 0 images None uses
 at_start table side addresses images uses room = record {
@@ -473,47 +473,52 @@ at_start table side addresses images uses room = record {
 }
 
 abbrev nobody : Use
-nobody = record { address = record { 0 = 0 }; until = record { 0 = 0 } }
+nobody = record { side = Left; address = record { 0 = 0 }; until = record { 0 = 0 } }
 
-use_at : (uses : List Use) (addresses : List Addr) (place : ℕ) (d : Addr) → map address_of uses ≡ addresses → place < length addresses → (get_or uses place nobody).address ≡ get_or addresses place d
-use_at uses addresses place d e within =
-    let less : place < length uses = omega (arith, ap length e, length-map uses address_of) in
-    sym (get_or-map address_of uses place nobody d less) ∙ ap (λ list. get_or list place d) e
+-- the use at a place, by its moment
+use_at : (side : Side) (uses : List Use) (addresses : List Addr) (place : ℕ) (d : Addr) → AreUsesOf side addresses uses → place < length addresses →
+    get_or uses place nobody ≡ (let one : Use = record { side = side; address = get_or addresses place d; until = (get_or uses place nobody).until } in one)
+use_at side uses addresses place d e within =
+    let less : place < length uses = omega (arith, ap length e.each, length-map uses address_of) in
+    let until : Moment = (get_or uses place nobody).until in
+    let address : (get_or uses place nobody).address ≡ get_or addresses place d = sym (get_or-map address_of uses place nobody d less) ∙ ap (λ list. get_or list place d) e.each in
+    ap (λ (s : Side). let one : Use = record { side = s; address = (get_or uses place nobody).address; until = until } in one) (e.sides place nobody less)
+    ∙ ap (λ (a : Addr). let one : Use = record { side = side; address = a; until = until } in one) address
 
-pub at_step : (table : Bindings) (side : Side) (addresses : List Addr) (place : ℕ) (images : List (Option Addr)) (given : Option Addr) (uses : List Use) (d : Addr) → (range_of table (other side)).first ≤ (range_of table (other side)).last → map address_of uses ≡ addresses → place < length addresses → length images ≡ length addresses → cross table side (get_or addresses place d) ≢ Unbound → IsAt table side addresses place images given uses
+pub at_step : (table : Bindings) (side : Side) (addresses : List Addr) (place : ℕ) (images : List (Option Addr)) (given : Option Addr) (uses : List Use) (d : Addr) → (range_of table (other side)).first ≤ (range_of table (other side)).last → AreUsesOf side addresses uses → place < length addresses → length images ≡ length addresses → cross table side (get_or addresses place d) ≢ Unbound → IsAt table side addresses place images given uses
     → IsAt table side addresses (place + 1) (set images place (planned table side (take place addresses) images given (get_or addresses place d)).0) (planned table side (take place addresses) images given (get_or addresses place d)).1 uses
 at_step table side addresses place images given uses d ordered e within long bound at =
     let address : Addr = get_or addresses place d in
     let earlier = take place addresses in
     let rest = drop (place + 1) addresses in
-    let later = after_uses table side (take place uses) in
+    let later = after_uses table (take place uses) in
     let until : Moment = (get_or uses place nobody).until in
-    let one : Use = record { address = address; until = until } in
-    let last = used later side one in
-    let less : place < length uses = omega (arith, ap length e, length-map uses address_of) in
+    let one : Use = record { side = side; address = address; until = until } in
+    let last = used later one in
+    let less : place < length uses = omega (arith, ap length e.each, length-map uses address_of) in
     let from : drop place addresses ≡ address ∷ rest = rw add-one (drop-cons addresses place d within) in
     let to : take (place + 1) addresses ≡ earlier ++ address ∷ [] = take_more addresses place d within in
-    let same : get_or uses place nobody ≡ one = ap (λ (a : Addr). let u : Use = record { address = a; until = until } in u) (use_at uses addresses place d e within) in
-    let after : after_uses table side (take (place + 1) uses) ≡ last = fold_more (λ now u. used now side u) table uses place nobody less ∙ ap (λ (u : Use). used later side u) same in
+    let same : get_or uses place nobody ≡ one = use_at side uses addresses place d e within in
+    let after : after_uses table (take (place + 1) uses) ≡ last = fold_more used table uses place nobody less ∙ ap (used later) same in
     let P : List Addr → Type 0 = λ list. IsPlanned table later side earlier list given in
     let plan = subst P from at.plan in
     let step = planned_step table later side earlier rest images given address until ordered plan at.images_are bound in
     let count : length earlier ≡ place = length-take-le place addresses (omega arith) in
     let image = (planned table side earlier images given address).0 in
-    let are = images_step later last side earlier address images image (used_follows later side one) plan.settled at.images_are (omega (arith, count)) step.1 in
+    let are = images_step later last side earlier address images image (used_follows later one) plan.settled at.images_are (omega (arith, count)) step.1 in
     let wide = rw count at are in
     record {
       plan = rw (after, to) step.0;
       images_are = rw (after, to) wide;
     }
 
-pub at_end : (table : Bindings) (side : Side) (addresses : List Addr) (images : List (Option Addr)) (given : Option Addr) (uses : List Use) → map address_of uses ≡ addresses → length images ≡ length addresses → IsAt table side addresses (length addresses) images given uses → images ≡ images_after table side uses
+pub at_end : (table : Bindings) (side : Side) (addresses : List Addr) (images : List (Option Addr)) (given : Option Addr) (uses : List Use) → AreUsesOf side addresses uses → length images ≡ length addresses → IsAt table side addresses (length addresses) images given uses → images ≡ images_after table uses
 at_end table side addresses images given uses e long at =
-    let after = after_uses table side uses in
-    let count : length uses ≡ length addresses = sym (length-map uses address_of) ∙ ap length e in
+    let after = after_uses table uses in
+    let count : length uses ≡ length addresses = sym (length-map uses address_of) ∙ ap length e.each in
     let whole : take (length addresses) uses ≡ uses = take_all (length addresses) uses (omega arith) in
     let all : take (length addresses) addresses ≡ addresses = take_all (length addresses) addresses (omega arith) in
-    let f : Use → Option Addr = λ one. image_after table after side one.address in
+    let f : Use → Option Addr = λ one. image_after table after one.side one.address in
     let follows = (rw whole at at.plan).follows in
     let are = rw (whole, all) at at.images_are in
     same_lists images (map f uses) (long ∙ sym count ∙ sym (length-map uses f)) (λ k d within.
@@ -521,6 +526,5 @@ at_end table side addresses images given uses e long at =
     let inside : k < length addresses = omega arith in
     let zero_address : Addr = record { 0 = 0 } in
     get_or_default images k d None within ∙ are k zero_address inside
-    ∙ ap (λ (a : Addr). image_of (cross after side a)) (sym (use_at uses addresses k zero_address e inside))
-    ∙ sym (image_is table after side (get_or uses k nobody).address follows)
-    ∙ sym (get_or-map f uses k nobody d less))
+    ∙ sym (image_is table after side (get_or addresses k zero_address) follows)
+    ∙ sym (get_or-map f uses k nobody d less ∙ ap f (use_at side uses addresses k zero_address e inside)))

@@ -18,7 +18,7 @@ use Rattle.binding_table.specs.declared.binding.Crossing.TheVariants.{Same, Know
 use Rattle.binding_table.specs.Bindings.{Bindings, is_same, is_settled, is_of_host, in_pool, cross, seen, seen_by, with_binding, extend_through, extended, free}
 use Rattle.binding_table.specs.Lasting.{IsBoundTo, IsKnownAs}
 use Rattle.binding_table.specs.Lawful.{IsLawful}
-use Rattle.binding_table.specs.Plan.{Use, used, used_by, after_uses, is_address, needed}
+use Rattle.binding_table.specs.Plan.{Use, AreUsesOf, used, used_by, after_uses, is_address, needed}
 use Rattle.binding_table.proofs.Kept.{same_pair, ends_extended}
 use Rattle.binding_table.proofs.Planned.{IsAt, address_of, at_start, at_step, used_follows, planned}
 
@@ -62,21 +62,21 @@ bound_used_by table side host alias until from address later (New image) h = bou
 bound_used_by table side host alias until from address later Unbound h = h
 bound_used_by table side host alias until from address later Empty h = h
 
-pub same_used : (table : Bindings) (from : Side) (one : Use) (address : Addr) → is_same (used table from one) address ≡ is_same table address
-same_used table from one address = ap (λ (blocks : List Block). not (is_unicast_number address.0) || is_in_same address blocks) (used_follows table from one).same
+pub same_used : (table : Bindings) (one : Use) (address : Addr) → is_same (used table one) address ≡ is_same table address
+same_used table one address = ap (λ (blocks : List Block). not (is_unicast_number address.0) || is_in_same address blocks) (used_follows table one).same
 
-pub known_used : (table : Bindings) (side : Side) (host alias until : ℕ) (from : Side) (one : Use) → IsKnownAs table side host alias until → IsKnownAs (used table from one) side host alias until
-known_used table side host alias until from one (inl same) = inl (same_used table from one (record { 0 = host }) ∙ same.0, same.1)
-known_used table side host alias until from one (inr h) = inr (bound_used_by table side host alias until from one.address one.until (cross table from one.address) h)
+pub known_used : (table : Bindings) (side : Side) (host alias until : ℕ) (one : Use) → IsKnownAs table side host alias until → IsKnownAs (used table one) side host alias until
+known_used table side host alias until one (inl same) = inl (same_used table one (record { 0 = host }) ∙ same.0, same.1)
+known_used table side host alias until one (inr h) = inr (bound_used_by table side host alias until one.side one.address one.until (cross table one.side one.address) h)
 
-pub known_after : (uses : List Use) (table : Bindings) (side : Side) (host alias until : ℕ) (from : Side) → IsKnownAs table side host alias until → IsKnownAs (after_uses table from uses) side host alias until
-known_after [] table side host alias until from h = h
-known_after (one ∷ uses) table side host alias until from h = known_after uses (used table from one) side host alias until from (known_used table side host alias until from one h)
+pub known_after : (uses : List Use) (table : Bindings) (side : Side) (host alias until : ℕ) → IsKnownAs table side host alias until → IsKnownAs (after_uses table uses) side host alias until
+known_after [] table side host alias until h = h
+known_after (one ∷ uses) table side host alias until h = known_after uses (used table one) side host alias until (known_used table side host alias until one h)
 
 -- ## What is used is seen
 
 -- the rest of a plan
-reach : (n : ℕ) (table : Bindings) (side : Side) (addresses : List Addr) (uses : List Use) (place : ℕ) (images : List (Option Addr)) (given : Option Addr) → IsLawful table → map address_of uses ≡ addresses → All (λ address. cross table side address ≢ Unbound) addresses → place + n ≡ length addresses → length images ≡ length addresses → IsAt table side addresses place images given uses → (last : List (Option Addr)) × (alias : Option Addr) × IsAt table side addresses (length addresses) last alias uses
+reach : (n : ℕ) (table : Bindings) (side : Side) (addresses : List Addr) (uses : List Use) (place : ℕ) (images : List (Option Addr)) (given : Option Addr) → IsLawful table → AreUsesOf side addresses uses → All (λ address. cross table side address ≢ Unbound) addresses → place + n ≡ length addresses → length images ≡ length addresses → IsAt table side addresses place images given uses → (last : List (Option Addr)) × (alias : Option Addr) × IsAt table side addresses (length addresses) last alias uses
 reach zero table side addresses uses place images given lawful e bound left long at =
     let done : place ≡ length addresses = omega arith in
     (images, given, subst (λ (k : ℕ). IsAt table side addresses k images given uses) done at)
@@ -95,14 +95,14 @@ settled_seen address Unbound h = cc
 settled_seen address Empty h = cc
 
 -- once they are used, each of the addresses is called something
-pub all_seen : (table : Bindings) (side : Side) (addresses : List Addr) (uses : List Use) → IsLawful table → map address_of uses ≡ addresses → All (λ address. cross table side address ≢ Unbound) addresses → needed table side addresses ≤ free table (other side) → All (λ address. IsSome (seen (after_uses table side uses) side address)) addresses
+pub all_seen : (table : Bindings) (side : Side) (addresses : List Addr) (uses : List Use) → IsLawful table → AreUsesOf side addresses uses → All (λ address. cross table side address ≢ Unbound) addresses → needed table side addresses ≤ free table (other side) → All (λ address. IsSome (seen (after_uses table uses) side address)) addresses
 all_seen table side addresses uses lawful e bound room = λ k d within.
     let images : List (Option Addr) = map (λ address. None) addresses in
     let start = at_start table side addresses images uses room in
     let (last, alias, at) = reach (length addresses) table side addresses uses 0 images None lawful e bound (omega arith) (length-map addresses (λ address. None)) start in
-    let count : length uses ≡ length addresses = sym (length-map uses address_of) ∙ ap length e in
+    let count : length uses ≡ length addresses = sym (length-map uses address_of) ∙ ap length e.each in
     let whole : take (length addresses) uses ≡ uses = take_all (length addresses) uses (omega arith) in
     let all : take (length addresses) addresses ≡ addresses = take_all (length addresses) addresses (omega arith) in
     let one : Addr = get_or addresses k d in
     let settled = (rw (whole, all) at at.plan).settled one (list_any_at (is_address one) addresses k d within (eq-eqb one.0 one.0 refl)) in
-    settled_seen one (cross (after_uses table side uses) side one) settled
+    settled_seen one (cross (after_uses table uses) side one) settled

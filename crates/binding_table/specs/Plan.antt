@@ -1,5 +1,5 @@
 -- What addresses are called once they have been used in their order.
-use Rattle.std.specs.Prelude.{ℕ, Bool, true, false, not, ◌&&◌, ◌==◌, if◌then◌else◌, List, [], ◌∷◌, ◌++◌, length, map, Option, None}
+use Rattle.std.specs.Prelude.{◌≡◌, All, ℕ, Bool, true, false, not, ◌&&◌, ◌==◌, if◌then◌else◌, List, [], ◌∷◌, ◌++◌, length, map, Option, None}
 use Rattle.std.specs.List.{fold, list_any}
 use Rattle.gate_base.specs.declared.address.Addr.{Addr}
 use Rattle.gate_base.specs.declared.event.Moment.{Moment}
@@ -10,8 +10,9 @@ use Rattle.binding_table.specs.Bindings.{Bindings, cross, seen, extended, bound_
 
 -- ## Uses
 
--- an address that is used, and the moment until which its binding then lives at least
+-- an address that is used, the realm from which it crosses, and the moment until which its binding then lives at least
 pub record Use : Type 0 where
+  pub side : Side
   pub address : Addr
   pub until : Moment
 
@@ -20,13 +21,18 @@ abbrev pub used_by : Bindings → Side → Addr → Moment → Crossing → Bind
 used_by table side address until (Known image) = extended table side address until
 used_by table side address until crossing = bound_by table side address until crossing
 
--- the table after an address of the realm was used: its binding lasts longer, or a new host is bound
-abbrev pub used : Bindings → Side → Use → Bindings
-used table side one = used_by table side one.address one.until (cross table side one.address)
+-- the table after an address was used: its binding lasts longer, or a new host is bound
+abbrev pub used : Bindings → Use → Bindings
+used table one = used_by table one.side one.address one.until (cross table one.side one.address)
 
--- the table after addresses of the realm were used in their order
-abbrev pub after_uses : Bindings → Side → List Use → Bindings
-after_uses table side uses = fold (λ now one. used now side one) table uses
+-- the table after addresses, of whichever realm each, were used in their order
+abbrev pub after_uses : Bindings → List Use → Bindings
+after_uses table uses = fold used table uses
+
+-- the uses are of these addresses of the realm, in their order
+pub record AreUsesOf (side : Side) (addresses : List Addr) (uses : List Use) : Type 0 where
+  pub sides : All (λ one. one.side ≡ side) uses
+  pub each : map (λ one. one.address) uses ≡ addresses
 
 -- ## Images
 
@@ -40,8 +46,8 @@ abbrev pub image_after : Bindings → Bindings → Side → Addr → Option Addr
 image_after table after side address = unless_same (cross table side address) (seen after side address)
 
 -- what the used addresses are called after all of them
-abbrev pub images_after : Bindings → Side → List Use → List (Option Addr)
-images_after table side uses = map (λ one. image_after table (after_uses table side uses) side one.address) uses
+abbrev pub images_after : Bindings → List Use → List (Option Addr)
+images_after table uses = map (λ one. image_after table (after_uses table uses) one.side one.address) uses
 
 -- ## Addresses that need a binding
 

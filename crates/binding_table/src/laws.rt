@@ -1,10 +1,10 @@
 // What is true of every table.
-ghost use Rattle.std.specs.Prelude.{◌≡◌, ◌≢◌, ◌≤◌, ℕ, List, map, All, IsSome};
+ghost use Rattle.std.specs.Prelude.{◌≡◌, ◌≢◌, ◌≤◌, ℕ, List, All, IsSome};
 ghost use Rattle.gate_base.specs.Side.{other};
 ghost use Rattle.binding_table.specs.Bindings.{Bindings, cross, free, seen};
 ghost use Rattle.binding_table.specs.Lasting.{IsKnownAs};
 ghost use Rattle.binding_table.specs.Lawful.{IsLawful};
-ghost use Rattle.binding_table.specs.Plan.{Use, after_uses, needed};
+ghost use Rattle.binding_table.specs.Plan.{Use, AreUsesOf, after_uses, needed};
 
 use crate::binding::Crossing;
 use crate::table::Table;
@@ -32,12 +32,12 @@ pub fn crosses_back(table: &Table, side: Side, address: Addr, image: Addr)
 pub fn sees_used(table: &Table, side: Side, addresses: &[Addr])
     requires bound { All (λ address. cross table.now side address ≢ Crossing.Unbound) addresses.now }
     requires room { needed table.now side addresses.now ≤ free table.now (other side) }
-    ensures { (uses : List Use) → map (λ one. one.address) uses ≡ addresses.now → All (λ address. IsSome (seen (after_uses table.now side uses) side address)) addresses.now }
+    ensures { (uses : List Use) → AreUsesOf side addresses.now uses → All (λ address. IsSome (seen (after_uses table.now uses) side address)) addresses.now }
 {
     keeps_apart(table);
 }
 
 /// No use of addresses of either realm changes what a host is called, or shortens the time for which it is bound.
 pub fn keeps_known()
-    ensures { (table : Bindings) (from : Side) (uses : List Use) (side : Side) (host alias until : ℕ) → IsKnownAs table side host alias until → IsKnownAs (after_uses table from uses) side host alias until }
+    ensures { (table : Bindings) (uses : List Use) (side : Side) (host alias until : ℕ) → IsKnownAs table side host alias until → IsKnownAs (after_uses table uses) side host alias until }
 {}

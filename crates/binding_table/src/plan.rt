@@ -1,5 +1,5 @@
 // What addresses will be called once they are used.
-ghost use Rattle.std.specs.Prelude.{◌≡◌, ◌≢◌, ◌≤◌, ◌++◌, ◌∷◌, [], List, map, length, All};
+ghost use Rattle.std.specs.Prelude.{◌≡◌, ◌≢◌, ◌≤◌, ◌++◌, ◌∷◌, [], List, length, All};
 ghost use Rattle.expiring_table.specs.Rows.{no_rows};
 ghost use Rattle.gate_base.specs.Side.{other};
 ghost use Rattle.binding_table.specs.Bindings as tables;
@@ -69,7 +69,7 @@ impl Table {
         requires lengths { length images.old ≡ length addresses.now }
         requires bound { All (λ address. tables.cross self.now side address ≢ Crossing.Unbound) addresses.now }
         requires room { plans.needed self.now side addresses.now ≤ tables.free self.now (other side) }
-        ensures { (uses : List plans.Use) → map (λ one. one.address) uses ≡ addresses.now → images.new ≡ plans.images_after self.now side uses }
+        ensures { (uses : List plans.Use) → plans.AreUsesOf side addresses.now uses → images.new ≡ plans.images_after self.now uses }
     {
         self.write_images(side, addresses, images, &mut firsts.rows);
         forget(&mut firsts.rows);
@@ -86,7 +86,7 @@ impl Table {
         requires lengths { length images.old ≡ length addresses.now }
         requires bound { All (λ address. tables.cross self.now side address ≢ Crossing.Unbound) addresses.now }
         requires room { plans.needed self.now side addresses.now ≤ tables.free self.now (other side) }
-        ensures images { (uses : List plans.Use) → map (λ one. one.address) uses ≡ addresses.now → images.new ≡ plans.images_after self.now side uses }
+        ensures images { (uses : List plans.Use) → plans.AreUsesOf side addresses.now uses → images.new ≡ plans.images_after self.now uses }
         ensures most { firsts.new.most ≡ 8192 }
         ensures ends { All EndsAtOnce firsts.new.rows }
     {

@@ -37,12 +37,12 @@ use Rattle.gate_core.proofs.SegmentTests.{IsJoined, joined_refusal, found_joined
 
 -- ## What both addresses are called
 
-pub source_is : (live : World KeptSession) (side : Side) (d : Datagram) (way : Way) (until : ℕ) → IsWayOf live side d way → is_empty way.of_source ≡ false → image_by way.of_source way.source ≡ called (after_uses live.table side (uses_until until (source_of d ∷ destination_of d ∷ []))) side (source_of d)
+pub source_is : (live : World KeptSession) (side : Side) (d : Datagram) (way : Way) (until : ℕ) → IsWayOf live side d way → is_empty way.of_source ≡ false → image_by way.of_source way.source ≡ called (after_uses live.table (uses_until side until (source_of d ∷ destination_of d ∷ []))) side (source_of d)
 source_is live side d way until w room =
     let s = of_source_is live side d way w in
     ap (λ c. image_by c way.source) s ∙ ap (image_by (cross live.table side (source_of d))) w.source_is ∙ sym (source_called live.table side (source_of d) (destination_of d) (record { 0 = until }) w.outside (ap is_empty (sym s) ∙ room))
 
-pub destination_is : (live : World KeptSession) (side : Side) (d : Datagram) (way : Way) (until : ℕ) → IsWayOf live side d way → image_by way.of_destination way.destination ≡ called (after_uses live.table side (uses_until until (source_of d ∷ destination_of d ∷ []))) side (destination_of d)
+pub destination_is : (live : World KeptSession) (side : Side) (d : Datagram) (way : Way) (until : ℕ) → IsWayOf live side d way → image_by way.of_destination way.destination ≡ called (after_uses live.table (uses_until side until (source_of d ∷ destination_of d ∷ []))) side (destination_of d)
 destination_is live side d way until w =
     let t = of_destination_is live side d way w in
     ap (λ c. image_by c way.destination) t ∙ ap (image_by (cross live.table side (destination_of d))) w.destination_is ∙ sym (destination_called live.table side (source_of d) (destination_of d) (record { 0 = until }) (ap is_settled (sym t) ∙ w.settled))
@@ -51,7 +51,7 @@ destination_is live side d way until w =
 
 pub passed_is : (live : World KeptSession) (side : Side) (d : Datagram) (way : Way) (hold : ℕ) (taker : Option (Tracked KeptSession)) (table : Bindings) (connections : List (Connection (Tracked KeptSession))) (pending : ℕ) (sent : List (List ℕ)) →
     IsWayOf live side d way → is_empty way.of_source ≡ false → stream_hold kept_rules live side d ≡ hold → taker_in kept_rules live side live.clock d ≡ taker → None ≡ stream_refusal live side d →
-    table ≡ after_uses live.table way.side (uses_until (way.moment.0 + hold) (way.source ∷ way.destination ∷ [])) →
+    table ≡ after_uses live.table (uses_until way.side (way.moment.0 + hold) (way.source ∷ way.destination ∷ [])) →
     connections ≡ connections_with live side d (connection_after kept_rules live side live.clock d taker) →
     pending ≡ max live.pending (pending_in kept_rules (connection_after kept_rules live side live.clock d taker)) →
     sent ≡ stream_out kept_rules side d (image_by way.of_source way.source).0 (image_by way.of_destination way.destination).0 taker →
@@ -71,7 +71,7 @@ passed_is live side d way hold taker table connections pending sent w room h t n
 }
   where
     bound : table ≡ table_after kept_rules live side live.clock d Stream
-    bound = one ∙ uses_are live side d way hold w ∙ ap (λ (n : ℕ). after_uses live.table side (uses_until (live.clock + n) (source_of d ∷ destination_of d ∷ []))) (sym h)
+    bound = one ∙ uses_are live side d way hold w ∙ ap (λ (n : ℕ). after_uses live.table (uses_until side (live.clock + n) (source_of d ∷ destination_of d ∷ []))) (sym h)
 
 -- ## A segment that no session takes
 
@@ -82,7 +82,7 @@ pub untracked_taken : (way : Way) (table : Bindings) (connections : List (Connec
     let live = world_of way.moment.0 table connections pending in let key = key_in table way.side d in let flags = (tcp_of d).flags in
     IsWayOf live way.side d way → IsJoined live way.side d None full → session_in (found_in live way.side d) ≡ None →
     refusal ≡ first_that_holds (room_tests full (is_empty way.of_source)) →
-    table_new ≡ table_by refusal (after_uses table way.side (uses_until (way.moment.0 + hold_of connections key way.side flags) (way.source ∷ way.destination ∷ []))) table →
+    table_new ≡ table_by refusal (after_uses table (uses_until way.side (way.moment.0 + hold_of connections key way.side flags) (way.source ∷ way.destination ∷ []))) table →
     connections_new ≡ connections_by refusal (noted connections key way.side flags None way.moment) connections →
     sent ≡ out_by refusal (renamed d (image_by way.of_source way.source).0 (image_by way.of_destination way.destination).0 ∷ []) →
     IsSegmentTaken live way.side d refusal (world_of way.moment.0 table_new connections_new pending) sent
@@ -108,7 +108,7 @@ pub untracked_by : (way : Way) (table : Bindings) (connections : List (Connectio
     let live = world_of way.moment.0 table connections pending in
     IsWayOf live way.side d way → key ≡ key_in table way.side d → tcp ≡ tcp_of d → datagram_of octets ≡ d → lacks_place connections (connection_of key connections) tcp.flags ≡ full → IsJoined live way.side d None full → session_in (found_in live way.side d) ≡ None →
     refusal ≡ first_that_holds (room_tests (lacks_place connections (connection_of key connections) tcp.flags) (is_empty way.of_source)) →
-    table_new ≡ table_by refusal (after_uses table way.side (uses_until (way.moment.0 + hold_of connections key way.side tcp.flags) (way.source ∷ way.destination ∷ []))) table →
+    table_new ≡ table_by refusal (after_uses table (uses_until way.side (way.moment.0 + hold_of connections key way.side tcp.flags) (way.source ∷ way.destination ∷ []))) table →
     connections_new ≡ connections_by refusal (noted connections key way.side tcp.flags None way.moment) connections →
     sent ≡ out_by refusal (renamed (datagram_of octets) (image_by way.of_source way.source).0 (image_by way.of_destination way.destination).0 ∷ []) →
     IsSegmentTaken live way.side d refusal (world_of way.moment.0 table_new connections_new pending) sent
@@ -120,7 +120,7 @@ untracked_by way table connections pending d key tcp octets full refusal table_n
     (g ∙ ap (λ (x : Datagram). out_by refusal (renamed x (image_by way.of_source way.source).0 (image_by way.of_destination way.destination).0 ∷ [])) o)
   where
     T : ConnKey → Tcp → Bindings
-    T x y = table_by refusal (after_uses table way.side (uses_until (way.moment.0 + hold_of connections x way.side y.flags) (way.source ∷ way.destination ∷ []))) table
+    T x y = table_by refusal (after_uses table (uses_until way.side (way.moment.0 + hold_of connections x way.side y.flags) (way.source ∷ way.destination ∷ []))) table
 
     C : ConnKey → Tcp → List (Connection (Tracked KeptSession))
     C x y = connections_by refusal (noted connections x way.side y.flags None way.moment) connections
@@ -152,7 +152,7 @@ passes live side d way taker full w j verdict few room =
 pub session_goes_on : (way : Way) (table : Bindings) (connections : List (Connection (Tracked KeptSession))) (pending : ℕ) (d : Datagram) (t : Tracked KeptSession) (waiting : ℕ) (table_new : Bindings) (connections_new : List (Connection (Tracked KeptSession))) (sent : List (List ℕ)) →
     let live = world_of way.moment.0 table connections pending in let key = key_in table way.side d in let flags = (tcp_of d).flags in
     IsWayOf live way.side d way → has_port dns_port d ≡ false → session_in (found_in live way.side d) ≡ Some t → session_refusal kept_rules way.side d (Some t) ≡ None → is_empty way.of_source ≡ false → Some waiting ≡ waiting_after way.side d t →
-    table_new ≡ after_uses table way.side (uses_until (way.moment.0 + hold_of connections key way.side flags) (way.source ∷ way.destination ∷ [])) →
+    table_new ≡ after_uses table (uses_until way.side (way.moment.0 + hold_of connections key way.side flags) (way.source ∷ way.destination ∷ [])) →
     connections_new ≡ noted (replaced connections key (stepped kept_rules way.side d t)) key way.side flags None way.moment →
     sent ≡ stream_out kept_rules way.side d (image_by way.of_source way.source).0 (image_by way.of_destination way.destination).0 (Some t) →
     IsSegmentTaken live way.side d None (world_of way.moment.0 table_new connections_new (max pending waiting)) sent
@@ -175,7 +175,7 @@ session_goes_on way table connections pending d t waiting table_new connections_
 pub session_is_over : (way : Way) (table : Bindings) (connections : List (Connection (Tracked KeptSession))) (pending : ℕ) (d : Datagram) (t : Tracked KeptSession) (table_new : Bindings) (connections_new : List (Connection (Tracked KeptSession))) (sent : List (List ℕ)) →
     let live = world_of way.moment.0 table connections pending in let key = key_in table way.side d in
     IsWayOf live way.side d way → has_port dns_port d ≡ false → session_in (found_in live way.side d) ≡ Some t → session_refusal kept_rules way.side d (Some t) ≡ None → is_empty way.of_source ≡ false → None ≡ waiting_after way.side d t →
-    table_new ≡ after_uses table way.side (uses_until (way.moment.0 + short_hold) (way.source ∷ way.destination ∷ [])) →
+    table_new ≡ after_uses table (uses_until way.side (way.moment.0 + short_hold) (way.source ∷ way.destination ∷ [])) →
     connections_new ≡ without (replaced connections key (stepped kept_rules way.side d t)) key →
     sent ≡ stream_out kept_rules way.side d (image_by way.of_source way.source).0 (image_by way.of_destination way.destination).0 (Some t) →
     IsSegmentTaken live way.side d None (world_of way.moment.0 table_new connections_new pending) sent
@@ -198,13 +198,13 @@ session_is_over way table connections pending d t table_new connections_new sent
 -- ## The first segment of a session
 
 -- the pair by the bindings afterwards is that of the way
-pub pair_is : (live : World KeptSession) (side : Side) (d : Datagram) (way : Way) (until : ℕ) → IsWayOf live side d way → is_empty way.of_source ≡ false → pair_in (after_uses live.table side (uses_until until (source_of d ∷ destination_of d ∷ []))) side d ≡ pair_on way
+pub pair_is : (live : World KeptSession) (side : Side) (d : Datagram) (way : Way) (until : ℕ) → IsWayOf live side d way → is_empty way.of_source ≡ false → pair_in (after_uses live.table (uses_until side until (source_of d ∷ destination_of d ∷ []))) side d ≡ pair_on way
 pair_is live side d way until w room =
     let P : Addr → Addr → Addr → Addr → Pair = λ a b x y. record { client = a; client_alias = b; server = x; server_alias = y } in
     let s = source_is live side d way until w room in
     let t = destination_is live side d way until w in
-    ap (λ (a : Addr). P a (called (after_uses live.table side (uses_until until (source_of d ∷ destination_of d ∷ []))) side (source_of d)) (called (after_uses live.table side (uses_until until (source_of d ∷ destination_of d ∷ []))) side (destination_of d)) (destination_of d)) (sym w.source_is)
-    ∙ ap (λ (a : Addr). P way.source a (called (after_uses live.table side (uses_until until (source_of d ∷ destination_of d ∷ []))) side (destination_of d)) (destination_of d)) (sym s)
+    ap (λ (a : Addr). P a (called (after_uses live.table (uses_until side until (source_of d ∷ destination_of d ∷ []))) side (source_of d)) (called (after_uses live.table (uses_until side until (source_of d ∷ destination_of d ∷ []))) side (destination_of d)) (destination_of d)) (sym w.source_is)
+    ∙ ap (λ (a : Addr). P way.source a (called (after_uses live.table (uses_until side until (source_of d ∷ destination_of d ∷ []))) side (destination_of d)) (destination_of d)) (sym s)
     ∙ ap (λ (a : Addr). P way.source (image_by way.of_source way.source) a (destination_of d)) (sym t)
     ∙ ap (P way.source (image_by way.of_source way.source) (image_by way.of_destination way.destination)) (sym w.destination_is)
 
@@ -216,7 +216,7 @@ pub session_begins : (way : Way) (table : Bindings) (connections : List (Connect
     let live = world_of way.moment.0 table connections pending in let key = key_in table way.side d in let flags = (tcp_of d).flags in let t = made_on way (tcp_of d) in
     IsWayOf live way.side d way → found_in live way.side d ≡ None → IsJoined live way.side d (Some (made_by kept_rules (table_after kept_rules live way.side live.clock d Stream) way.side d)) full → full ≡ false →
     session_refusal kept_rules way.side d (Some (made_by kept_rules (table_after kept_rules live way.side live.clock d Stream) way.side d)) ≡ None → has_rst flags ≡ false → is_empty way.of_source ≡ false → waiting ≡ waiting_after way.side d t →
-    table_new ≡ after_uses table way.side (uses_until (way.moment.0 + hold_of connections key way.side flags) (way.source ∷ way.destination ∷ [])) →
+    table_new ≡ after_uses table (uses_until way.side (way.moment.0 + hold_of connections key way.side flags) (way.source ∷ way.destination ∷ [])) →
     connections_new ≡ noted connections key way.side flags (Some (stepped kept_rules way.side d t)) way.moment →
     sent ≡ stream_out kept_rules way.side d (image_by way.of_source way.source).0 (image_by way.of_destination way.destination).0 (Some t) →
     IsSegmentTaken live way.side d None (world_of way.moment.0 table_new connections_new (max pending (unwrap_or waiting 0))) sent

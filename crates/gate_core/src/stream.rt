@@ -220,7 +220,7 @@ fn take_untracked(
     requires few { length segment.now.octets.now ≤ 65535 }
     requires can { CanGoOn segment.now.octets.now }
     ensures refusal { result ≡ first_that_holds (room_tests (lacks_place connections.old (connection_of key.now connections.old) segment.now.tcp.now.flags) (is_empty way.now.of_source)) }
-    ensures table { table.new ≡ table_by result (after_uses table.old way.now.side (uses_until (way.now.moment.0 + hold_of connections.old key.now way.now.side segment.now.tcp.now.flags) (way.now.source ∷ way.now.destination ∷ []))) table.old }
+    ensures table { table.new ≡ table_by result (after_uses table.old (uses_until way.now.side (way.now.moment.0 + hold_of connections.old key.now way.now.side segment.now.tcp.now.flags) (way.now.source ∷ way.now.destination ∷ []))) table.old }
     ensures connections { connections.new ≡ connections_by result (noted connections.old key.now way.now.side segment.now.tcp.now.flags None way.now.moment) connections.old }
     ensures out { outbox.new ≡ out_by result (renamed (datagram_of segment.now.octets.now) (image_by way.now.of_source way.now.source).0 (image_by way.now.of_destination way.now.destination).0 ∷ []) }
 {

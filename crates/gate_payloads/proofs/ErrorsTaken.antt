@@ -91,12 +91,12 @@ inner_is live side d inner source destination number k =
     ∙ ap (λ (i : Inner). W (called live.table side i.source) (called live.table side i.destination) (inner_number kept_rules live side i)) k.read.fields
 
 pub error_passes : (live : World KeptSession) (side : Side) (d : Datagram) (way : Way) (inner : Inner) (source destination : Addr) (number : Option (Option ℕ)) (table : Bindings) (sent : List (List ℕ)) → IsWayOf live side d way → IsKnown live side d inner source destination number → is_unknown number ≡ false → is_empty way.of_source ≡ false
-    → table ≡ after_uses live.table way.side (uses_until (way.moment.0 + icmp_hold) (way.source ∷ way.destination ∷ []))
+    → table ≡ after_uses live.table (uses_until way.side (way.moment.0 + icmp_hold) (way.source ∷ way.destination ∷ []))
     → sent ≡ renamed (with_inside d (inner_with (inside d) source.0 destination.0 (option_and_then (λ n. n) number))) (image_by way.of_source way.source).0 (image_by way.of_destination way.destination).0 ∷ []
     → IsTaken live side d Error None table sent
 error_passes live side d way inner source destination number table sent w k known room t s =
     let images = are_images live side d way (live.clock + icmp_hold) w room in
-    let after = after_uses live.table side (uses_until (live.clock + icmp_hold) (source_of d ∷ destination_of d ∷ [])) in
+    let after = after_uses live.table (uses_until side (live.clock + icmp_hold) (source_of d ∷ destination_of d ∷ [])) in
     let R : List ℕ → Addr → Addr → List (List ℕ) = λ octets a b. renamed (with_inside d octets) a.0 b.0 ∷ [] in
     record {
       answer = ap (first_by true false) (sym room) ∙ ap (λ (b : Bool). first_by true b (is_empty way.of_source)) (sym known) ∙ first_is live side d way inner source destination number w k;

@@ -33,8 +33,8 @@ of_destination_is live side d way w = w.crossings.destination ∙ ap (λ (x : Si
 
 -- the images of both addresses are what they are called after both uses
 pub record AreImages (live : World KeptSession) (side : Side) (d : Datagram) (until : ℕ) (way : Way) : Type 0 where
-  pub source : image_by way.of_source way.source ≡ called (after_uses live.table side (uses_until until (source_of d ∷ destination_of d ∷ []))) side (source_of d)
-  pub destination : image_by way.of_destination way.destination ≡ called (after_uses live.table side (uses_until until (source_of d ∷ destination_of d ∷ []))) side (destination_of d)
+  pub source : image_by way.of_source way.source ≡ called (after_uses live.table (uses_until side until (source_of d ∷ destination_of d ∷ []))) side (source_of d)
+  pub destination : image_by way.of_destination way.destination ≡ called (after_uses live.table (uses_until side until (source_of d ∷ destination_of d ∷ []))) side (destination_of d)
 
 pub are_images : (live : World KeptSession) (side : Side) (d : Datagram) (way : Way) (until : ℕ) → IsWayOf live side d way → is_empty way.of_source ≡ false → AreImages live side d until way
 are_images live side d way until w room =
@@ -47,11 +47,11 @@ are_images live side d way until w room =
 
 pub images_are : (live : World KeptSession) (side : Side) (d : Datagram) (way : Way) (until : ℕ) → IsWayOf live side d way → is_empty way.of_source ≡ false →
     renamed d (image_by way.of_source way.source).0 (image_by way.of_destination way.destination).0 ∷ []
-    ≡ (let after = after_uses live.table side (uses_until until (source_of d ∷ destination_of d ∷ [])) in renamed d (called after side (source_of d)).0 (called after side (destination_of d)).0 ∷ [])
+    ≡ (let after = after_uses live.table (uses_until side until (source_of d ∷ destination_of d ∷ [])) in renamed d (called after side (source_of d)).0 (called after side (destination_of d)).0 ∷ [])
 images_are live side d way until w room =
     let images = are_images live side d way until w room in
     let R : Addr → Addr → List (List ℕ) = λ a b. renamed d a.0 b.0 ∷ [] in
-    let after = after_uses live.table side (uses_until until (source_of d ∷ destination_of d ∷ [])) in
+    let after = after_uses live.table (uses_until side until (source_of d ∷ destination_of d ∷ [])) in
     ap (λ (a : Addr). R a (image_by way.of_destination way.destination)) images.source ∙ ap (R (called after side (source_of d))) images.destination
 
 pub empty_is : (live : World KeptSession) (side : Side) (d : Datagram) (way : Way) → IsWayOf live side d way → is_empty way.of_source ≡ is_pool_empty live.table side d Udp
@@ -61,15 +61,15 @@ empty_is live side d way w =
 
 -- the uses of a way are those of its datagram
 pub uses_are : (live : World KeptSession) (side : Side) (d : Datagram) (way : Way) (hold : ℕ) → IsWayOf live side d way →
-    after_uses live.table way.side (uses_until (way.moment.0 + hold) (way.source ∷ way.destination ∷ [])) ≡ after_uses live.table side (uses_until (live.clock + hold) (source_of d ∷ destination_of d ∷ []))
+    after_uses live.table (uses_until way.side (way.moment.0 + hold) (way.source ∷ way.destination ∷ [])) ≡ after_uses live.table (uses_until side (live.clock + hold) (source_of d ∷ destination_of d ∷ []))
 uses_are live side d way hold w =
-    ap (λ (x : Side). after_uses live.table x (uses_until (way.moment.0 + hold) (way.source ∷ way.destination ∷ []))) w.side_is
-    ∙ ap (λ (m : ℕ). after_uses live.table side (uses_until (m + hold) (way.source ∷ way.destination ∷ []))) w.moment_is
-    ∙ ap (λ (a : Addr). after_uses live.table side (uses_until (live.clock + hold) (a ∷ way.destination ∷ []))) w.source_is
-    ∙ ap (λ (a : Addr). after_uses live.table side (uses_until (live.clock + hold) (source_of d ∷ a ∷ []))) w.destination_is
+    ap (λ (x : Side). after_uses live.table (uses_until x (way.moment.0 + hold) (way.source ∷ way.destination ∷ []))) w.side_is
+    ∙ ap (λ (m : ℕ). after_uses live.table (uses_until side (m + hold) (way.source ∷ way.destination ∷ []))) w.moment_is
+    ∙ ap (λ (a : Addr). after_uses live.table (uses_until side (live.clock + hold) (a ∷ way.destination ∷ []))) w.source_is
+    ∙ ap (λ (a : Addr). after_uses live.table (uses_until side (live.clock + hold) (source_of d ∷ a ∷ []))) w.destination_is
 
 pub udp_taken : (live : World KeptSession) (side : Side) (d : Datagram) (way : Way) (r : Option Refusal) (table : Bindings) (sent : List (List ℕ)) → IsWayOf live side d way → r ≡ first_that_holds ((is_empty way.of_source, PoolEmpty) ∷ [])
-    → table ≡ table_by r (after_uses live.table way.side (uses_until (way.moment.0 + udp_hold) (way.source ∷ way.destination ∷ []))) live.table
+    → table ≡ table_by r (after_uses live.table (uses_until way.side (way.moment.0 + udp_hold) (way.source ∷ way.destination ∷ []))) live.table
     → sent ≡ out_by r (renamed d (image_by way.of_source way.source).0 (image_by way.of_destination way.destination).0 ∷ []) → IsTaken live side d Udp r table sent
 udp_taken live side d way r table sent w e t o = record {
   answer = e ∙ ap (λ (b : Bool). first_that_holds ((b, PoolEmpty) ∷ [])) (empty_is live side d way w);
@@ -78,7 +78,7 @@ udp_taken live side d way r table sent w e t o = record {
 }
 
 pub echo_taken : (live : World KeptSession) (side : Side) (d : Datagram) (way : Way) (r : Option Refusal) (table : Bindings) (sent : List (List ℕ)) → IsWayOf live side d way → r ≡ first_that_holds ((is_empty way.of_source, PoolEmpty) ∷ [])
-    → table ≡ table_by r (after_uses live.table way.side (uses_until (way.moment.0 + icmp_hold) (way.source ∷ way.destination ∷ []))) live.table
+    → table ≡ table_by r (after_uses live.table (uses_until way.side (way.moment.0 + icmp_hold) (way.source ∷ way.destination ∷ []))) live.table
     → sent ≡ out_by r (renamed d (image_by way.of_source way.source).0 (image_by way.of_destination way.destination).0 ∷ []) → IsTaken live side d Echo r table sent
 echo_taken live side d way r table sent w e t o = record {
   answer = e ∙ ap (λ (b : Bool). first_that_holds ((b, PoolEmpty) ∷ [])) (empty_is live side d way w);
@@ -95,5 +95,5 @@ pub udp_plain : (d : Datagram) (p q : ℕ) → p ≡ u16_at 0 d.payload → q �
 udp_plain d p q e f x y z = rw (← e, ← f, x, y, z) refl
 
 -- over the same table
-pub over_table : (r : Option Refusal) (side : Side) (uses : List Use) (one two table : Bindings) → two ≡ one → table ≡ table_by r (after_uses one side uses) one → table ≡ table_by r (after_uses two side uses) two
-over_table r side uses one two table e t = t ∙ ap (λ (x : Bindings). table_by r (after_uses x side uses) x) (sym e)
+pub over_table : (r : Option Refusal) (uses : List Use) (one two table : Bindings) → two ≡ one → table ≡ table_by r (after_uses one uses) one → table ≡ table_by r (after_uses two uses) two
+over_table r uses one two table e t = t ∙ ap (λ (x : Bindings). table_by r (after_uses x uses) x) (sym e)

@@ -48,12 +48,12 @@ message_empty live side d way table sent w good empty t s = record {
 }
 
 pub message_passes : (live : World KeptSession) (side : Side) (d : Datagram) (way : Way) (table : Bindings) (sent : List (List ℕ)) → IsWayOf live side d way → is_bad_snmp d ≡ false → is_empty way.of_source ≡ false
-    → table ≡ after_uses live.table way.side (uses_until (way.moment.0 + udp_hold) (way.source ∷ way.destination ∷ []))
+    → table ≡ after_uses live.table (uses_until way.side (way.moment.0 + udp_hold) (way.source ∷ way.destination ∷ []))
     → sent ≡ renamed (with_payload d (renamed_message (number_seen table side) (places_of (carried d)) (carried d))) (image_by way.of_source way.source).0 (image_by way.of_destination way.destination).0 ∷ []
     → IsTaken live side d Snmp None table sent
 message_passes live side d way table sent w good room t s =
     let images = are_images live side d way (live.clock + udp_hold) w room in
-    let after = after_uses live.table side (uses_until (live.clock + udp_hold) (source_of d ∷ destination_of d ∷ [])) in
+    let after = after_uses live.table (uses_until side (live.clock + udp_hold) (source_of d ∷ destination_of d ∷ [])) in
     let bound = t ∙ uses_are live side d way udp_hold w in
     let R : Bindings → Addr → Addr → List (List ℕ) = λ x a b. renamed (with_payload d (management_after x side d)) a.0 b.0 ∷ [] in
     record {

@@ -14,7 +14,7 @@ use Rattle.gate_base.specs.declared.side.Side.{Side}
 use Rattle.binding_table.specs.declared.binding.Crossing.{Crossing}
 use Rattle.binding_table.specs.declared.binding.Crossing.TheVariants.{Unbound}
 use Rattle.binding_table.specs.Bindings.{Bindings, cross, in_pool, free, is_settled}
-use Rattle.binding_table.specs.Plan.{Use, used, after_uses, image_after, images_after, needed, needs_binding}
+use Rattle.binding_table.specs.Plan.{Use, AreUsesOf, used, after_uses, image_after, images_after, needed, needs_binding}
 use Rattle.binding_table.proofs.Fresh.{fresh_cons}
 use Rattle.dns_messages.specs.declared.message.Message.{Message}
 use Rattle.ipv4_frames.specs.Ipv4.{Datagram, total_length_of}
@@ -32,7 +32,7 @@ use Rattle.gate_payloads.specs.Named.{named_uses}
 use Rattle.gate_payloads.specs.Taken.{IsTaken, IsWayOf}
 use Rattle.gate_payloads.specs.Ways.{image_by, is_empty}
 use Rattle.gate_payloads.specs.declared.addresses.Way.{Way}
-use Rattle.gate_payloads.proofs.Passes.{IsCalled, of_crossing, used_called, still_called, host_bound, free_is}
+use Rattle.gate_payloads.proofs.Passes.{of_crossing, used_called, still_after, called_is, host_bound, free_is}
 use Rattle.gate_payloads.proofs.HeadersOnly.{of_source_is, of_destination_is}
 
 -- ## Addresses and their uses
@@ -49,22 +49,38 @@ pub named_ok : {V E : Type 0} (items_of : V → List Addr) (numbers : List ℕ) 
 named_ok items_of numbers (Ok v) h = sym (by_numbers (items_of v)) ∙ ap (map address_by) h
 named_ok items_of numbers (Err e) h = tt
 
-pub used_addresses : (until : ℕ) (addresses : List Addr) → map (λ (one : Use). one.address) (uses_until until addresses) ≡ addresses
-used_addresses until [] = refl
-used_addresses until (address ∷ rest) = ap (λ more. address ∷ more) (used_addresses until rest)
+used_addresses : (side : Side) (until : ℕ) (addresses : List Addr) → map (λ (one : Use). one.address) (uses_until side until addresses) ≡ addresses
+used_addresses side until [] = refl
+used_addresses side until (address ∷ rest) = ap (λ more. address ∷ more) (used_addresses side until rest)
 
-images_used : (f : Addr → Option Addr) (until : ℕ) (addresses : List Addr) → map (λ (one : Use). f one.address) (uses_until until addresses) ≡ map f addresses
-images_used f until [] = refl
-images_used f until (address ∷ rest) = ap (λ more. f address ∷ more) (images_used f until rest)
+-- a use is of the realm
+abbrev IsOf : Side → Use → Type 0
+IsOf side one = one.side ≡ side
+
+used_sides : (side : Side) (until : ℕ) (addresses : List Addr) → All (IsOf side) (uses_until side until addresses)
+used_sides side until [] = All-nil (IsOf side)
+used_sides side until (address ∷ rest) = All-cons (IsOf side) (record { side = side; address = address; until = record { 0 = until } }) (uses_until side until rest) refl (used_sides side until rest)
+
+images_used : (f : Side → Addr → Option Addr) (side : Side) (until : ℕ) (addresses : List Addr) → map (λ (one : Use). f one.side one.address) (uses_until side until addresses) ≡ map (f side) addresses
+images_used f side until [] = refl
+images_used f side until (address ∷ rest) = ap (λ more. f side address ∷ more) (images_used f side until rest)
 
 -- the uses are those of all addresses
-pub all_used : (moment : ℕ) (source destination : Addr) (named addresses : List Addr) → addresses ≡ source ∷ destination ∷ named → map (λ (one : Use). one.address) (named_uses moment source destination named) ≡ addresses
-all_used moment source destination named addresses e = ap (λ more. source ∷ destination ∷ more) (used_addresses (moment + named_hold) named) ∙ sym e
+pub all_used : (side : Side) (moment : ℕ) (source destination : Addr) (named addresses : List Addr) → addresses ≡ source ∷ destination ∷ named → AreUsesOf side addresses (named_uses side moment source destination named)
+all_used side moment source destination named addresses e =
+    let until : Moment = record { 0 = moment + udp_hold } in
+    let rest = uses_until side (moment + named_hold) named in
+    let one : Use = record { side = side; address = source; until = until } in
+    let two : Use = record { side = side; address = destination; until = until } in
+    record {
+      sides = All-cons (IsOf side) one (two ∷ rest) refl (All-cons (IsOf side) two rest refl (used_sides side (moment + named_hold) named));
+      each = ap (λ more. source ∷ destination ∷ more) (used_addresses side (moment + named_hold) named) ∙ sym e;
+    }
 
 -- the images of those in the message, once all are used
-images_named : (t : Bindings) (side : Side) (moment : ℕ) (source destination : Addr) (named : List Addr) → let uses = named_uses moment source destination named in
-    drop 2 (images_after t side uses) ≡ map (image_after t (after_uses t side uses) side) named
-images_named t side moment source destination named = images_used (image_after t (after_uses t side (named_uses moment source destination named)) side) (moment + named_hold) named
+images_named : (t : Bindings) (side : Side) (moment : ℕ) (source destination : Addr) (named : List Addr) → let uses = named_uses side moment source destination named in
+    drop 2 (images_after t uses) ≡ map (image_after t (after_uses t uses) side) named
+images_named t side moment source destination named = images_used (image_after t (after_uses t (named_uses side moment source destination named))) side (moment + named_hold) named
 
 -- ## None of them is unbound
 
@@ -108,23 +124,21 @@ has_room t side address rest room =
 
 -- ## What both addresses are called after all uses
 
-called_after : (t : Bindings) (side : Side) (address image : Addr) (uses : List Use) → IsCalled t side address image → called (after_uses t side uses) side address ≡ image
-called_after t side address image [] h = ap (λ (o : Option Addr). unwrap_or o address) h.seen
-called_after t side address image (one ∷ uses) h = called_after (used t side one) side address image uses (still_called t side address image one h)
-
 source_goes : (t : Bindings) (side : Side) (moment : ℕ) (source destination : Addr) (named : List Addr) → in_pool t side source ≡ false → nat_lt (free t (other side)) (needed t side (source ∷ destination ∷ named)) ≡ false →
-    called (after_uses t side (named_uses moment source destination named)) side source ≡ image_by (cross t side source) source
+    called (after_uses t (named_uses side moment source destination named)) side source ≡ image_by (cross t side source) source
 source_goes t side moment source destination named outside room =
     let until : Moment = record { 0 = moment + udp_hold } in
-    called_after (used t side (record { address = source; until = until })) side source (image_by (cross t side source) source)
-    (record { address = destination; until = until } ∷ uses_until (moment + named_hold) named)
-    (used_called t side source until (cross t side source) refl (host_bound t side source outside) (has_room t side source (destination ∷ named) room))
+    let one : Use = record { side = side; address = source; until = until } in
+    let first = used_called t side source until (cross t side source) refl (host_bound t side source outside) (has_room t side source (destination ∷ named) room) in
+    let header = still_after (used t one) side source _ until.0 (destination ∷ []) first in
+    called_is (still_after (after_uses t (uses_until side until.0 (source ∷ destination ∷ []))) side source _ (moment + named_hold) named header)
 
 destination_goes : (t : Bindings) (side : Side) (moment : ℕ) (source destination : Addr) (named : List Addr) → is_settled (cross t side destination) ≡ true →
-    called (after_uses t side (named_uses moment source destination named)) side destination ≡ image_by (cross t side destination) destination
+    called (after_uses t (named_uses side moment source destination named)) side destination ≡ image_by (cross t side destination) destination
 destination_goes t side moment source destination named settled =
-    called_after t side destination (image_by (cross t side destination) destination) (named_uses moment source destination named)
-    (of_crossing t side destination (cross t side destination) refl settled)
+    let until : ℕ = moment + udp_hold in
+    let header = still_after t side destination _ until (source ∷ destination ∷ []) (of_crossing t side destination (cross t side destination) refl settled) in
+    called_is (still_after (after_uses t (uses_until side until (source ∷ destination ∷ []))) side destination _ (moment + named_hold) named header)
 
 -- ## A payload that stays
 
@@ -183,12 +197,12 @@ abbrev lacks : Bindings → Side → Addr → Addr → List Addr → Bool
 lacks t side source destination named = nat_lt (free t (other side)) (needed t side (source ∷ destination ∷ named))
 
 uses_are : (live : World KeptSession) (side : Side) (d : Datagram) (way : Way) (named : List Addr) → IsWayOf live side d way → named ≡ named_in (message_in d) →
-    named_uses way.moment.0 way.source way.destination named ≡ named_uses live.clock (source_of d) (destination_of d) (named_in (message_in d))
+    named_uses side way.moment.0 way.source way.destination named ≡ named_uses side live.clock (source_of d) (destination_of d) (named_in (message_in d))
 uses_are live side d way named w n =
-    ap (λ (moment : ℕ). named_uses moment way.source way.destination named) w.moment_is
-    ∙ ap (λ (a : Addr). named_uses live.clock a way.destination named) w.source_is
-    ∙ ap (λ (a : Addr). named_uses live.clock (source_of d) a named) w.destination_is
-    ∙ ap (named_uses live.clock (source_of d) (destination_of d)) n
+    ap (λ (moment : ℕ). named_uses side moment way.source way.destination named) w.moment_is
+    ∙ ap (λ (a : Addr). named_uses side live.clock a way.destination named) w.source_is
+    ∙ ap (λ (a : Addr). named_uses side live.clock (source_of d) a named) w.destination_is
+    ∙ ap (named_uses side live.clock (source_of d) (destination_of d)) n
 
 room_is : (live : World KeptSession) (side : Side) (d : Datagram) (way : Way) (named : List Addr) → IsWayOf live side d way → named ≡ named_in (message_in d) →
     lacks live.table side way.source way.destination named ≡ lacks live.table side (source_of d) (destination_of d) (named_in (message_in d))
@@ -201,8 +215,8 @@ room_is live side d way named w n =
 passed : (live : World KeptSession) (side : Side) (d : Datagram) (m : Message) (named : List Addr) (way : Way) (table : Bindings) (reply : List ℕ) (sent : List (List ℕ)) → IsWayOf live side d way → message_in d ≡ Some m → named ≡ named_in (Some m)
     → has_unbound live.table side named ≡ false
     → lacks live.table side way.source way.destination named ≡ false
-    → table ≡ after_uses live.table side (named_uses way.moment.0 way.source way.destination named)
-    → reply ≡ reply_by (drop 2 (images_after live.table side (named_uses way.moment.0 way.source way.destination named))) (carried d) (Some m)
+    → table ≡ after_uses live.table (named_uses side way.moment.0 way.source way.destination named)
+    → reply ≡ reply_by (drop 2 (images_after live.table (named_uses side way.moment.0 way.source way.destination named))) (carried d) (Some m)
     → sent ≡ rebuilt d (image_by way.of_source way.source).0 (image_by way.of_destination way.destination).0 reply ∷ [] → IsTaken live side d Dns None table sent
 passed live side d m named way table reply sent w e h unbound full bound answer out =
     let n : named ≡ named_in (message_in d) = h ∙ ap named_in (sym e) in
@@ -211,12 +225,12 @@ passed live side d m named way table reply sent w e h unbound full bound answer 
     let all = named_in (message_in d) in
     let uses = uses_are live side d way named w n in
     let room : lacks live.table side s t all ≡ false = sym (room_is live side d way named w n) ∙ full in
-    let after = after_uses live.table side (named_uses live.clock s t all) in
+    let after = after_uses live.table (named_uses side live.clock s t all) in
     let message : is_none (message_in d) ≡ false = ap is_none e in
     let none : has_unbound live.table side all ≡ false = ap (has_unbound live.table side) (sym n) ∙ unbound in
     let octets : reply ≡ reply_by (map (image_after live.table after side) all) (carried d) (message_in d) =
     answer
-    ∙ ap (λ (us : List Use). reply_by (drop 2 (images_after live.table side us)) (carried d) (Some m)) uses
+    ∙ ap (λ (us : List Use). reply_by (drop 2 (images_after live.table us)) (carried d) (Some m)) uses
     ∙ ap (λ (images : List (Option Addr)). reply_by images (carried d) (Some m)) (images_named live.table side live.clock s t all)
     ∙ ap (reply_by (map (image_after live.table after side) all) (carried d)) (sym e) in
     let of_source = of_source_is live side d way w in
@@ -227,7 +241,7 @@ passed live side d m named way table reply sent w e h unbound full bound answer 
     ap (λ (c : Crossing). image_by c way.destination) of_destination ∙ ap (image_by (cross live.table side t)) w.destination_is ∙ sym (destination_goes live.table side live.clock s t all (ap is_settled (sym of_destination) ∙ w.settled)) in
     record {
       answer = rw (message, none, room) refl;
-      bound = bound ∙ ap (after_uses live.table side) uses;
+      bound = bound ∙ ap (after_uses live.table) uses;
       gone =
           out
           ∙ ap (λ (xs : List ℕ). rebuilt d (image_by way.of_source way.source).0 (image_by way.of_destination way.destination).0 xs ∷ []) octets
@@ -239,14 +253,14 @@ passed live side d m named way table reply sent w e h unbound full bound answer 
 pub names_passed : (live : World KeptSession) (side : Side) (d : Datagram) (m : Message) (named : List Addr) (way : Way) (old table : Bindings) (reply : List ℕ) (sent : List (List ℕ)) → live.table ≡ old → IsWayOf live side d way → message_in d ≡ Some m → named ≡ named_in (Some m)
     → has_unbound old side named ≡ false
     → nat_lt (free old (other side)) (needed old side (way.source ∷ way.destination ∷ named)) ≡ false
-    → table ≡ after_uses old side (named_uses way.moment.0 way.source way.destination named)
-    → reply ≡ reply_by (drop 2 (images_after old side (named_uses way.moment.0 way.source way.destination named))) (carried d) (Some m)
+    → table ≡ after_uses old (named_uses side way.moment.0 way.source way.destination named)
+    → reply ≡ reply_by (drop 2 (images_after old (named_uses side way.moment.0 way.source way.destination named))) (carried d) (Some m)
     → sent ≡ rebuilt d (image_by way.of_source way.source).0 (image_by way.of_destination way.destination).0 reply ∷ [] → IsTaken live side d Dns None table sent
 names_passed live side d m named way old table reply sent same w e h =
     let P : Bindings → Type 0 = λ t.
     has_unbound t side named ≡ false
     → lacks t side way.source way.destination named ≡ false
-    → table ≡ after_uses t side (named_uses way.moment.0 way.source way.destination named)
-    → reply ≡ reply_by (drop 2 (images_after t side (named_uses way.moment.0 way.source way.destination named))) (carried d) (Some m)
+    → table ≡ after_uses t (named_uses side way.moment.0 way.source way.destination named)
+    → reply ≡ reply_by (drop 2 (images_after t (named_uses side way.moment.0 way.source way.destination named))) (carried d) (Some m)
     → sent ≡ rebuilt d (image_by way.of_source way.source).0 (image_by way.of_destination way.destination).0 reply ∷ [] → IsTaken live side d Dns None table sent in
     subst P same (passed live side d m named way table reply sent w e h)

@@ -15,11 +15,11 @@ use Rattle.binding_table.specs.declared.binding.Binding.{Binding}
 use Rattle.binding_table.specs.declared.binding.Crossing.{Crossing}
 use Rattle.binding_table.specs.declared.binding.Crossing.TheVariants.{Same, Known, New, Unbound, Empty}
 use Rattle.binding_table.specs.Bindings.{Bindings, is_same, in_pool, is_of_host, alias_of, host_of, pool_of, free, cross, seen, seen_by, known_or, new_or_empty, with_binding, extended, IsNew, is_settled}
-use Rattle.binding_table.specs.Plan.{Use, used, used_by, needed, needs_binding}
+use Rattle.binding_table.specs.Plan.{Use, used, used_by, after_uses, needed, needs_binding}
 use Rattle.binding_table.proofs.Pools.{same_side-itself}
 use Rattle.binding_table.proofs.Bind.{HasNoBinding, unbound_of}
 use Rattle.binding_table.proofs.Planned.{settled_stays, extended_follows, used_follows, flags_free}
-use Rattle.gate_world.specs.Verdict.{is_reachable}
+use Rattle.gate_world.specs.Verdict.{is_reachable, uses_until}
 use Rattle.gate_world.specs.World.{called}
 use Rattle.gate_world.proofs.BoundTables.{new_is_least}
 use Rattle.gate_payloads.specs.Ways.{image_by, is_empty}
@@ -68,10 +68,19 @@ used_called t side address until Unbound e u m = absurd (u refl)
 used_called t side address until Empty e u m = absurd (false≢true (sym m))
 
 -- and after another use
-pub still_called : (t : Bindings) (side : Side) (address image : Addr) (one : Use) → IsCalled t side address image → IsCalled (used t side one) side address image
-still_called t side address image one h =
-    let same = settled_stays t (used t side one) side address (used_follows t side one) h.settled in
+pub still_called : (t : Bindings) (address image : Addr) (one : Use) → IsCalled t one.side address image → IsCalled (used t one) one.side address image
+still_called t address image one h =
+    let same = settled_stays t (used t one) one.side address (used_follows t one) h.settled in
     record { settled = ap is_settled same ∙ h.settled; seen = ap (seen_by address) same ∙ h.seen }
+
+-- and after uses of addresses of the realm
+pub still_after : (t : Bindings) (side : Side) (address image : Addr) (until : ℕ) (addresses : List Addr) → IsCalled t side address image → IsCalled (after_uses t (uses_until side until addresses)) side address image
+still_after t side address image until [] h = h
+still_after t side address image until (other_one ∷ rest) h =
+    let one : Use = record { side = side; address = other_one; until = record { 0 = until } } in still_after (used t one) side address image until rest (still_called t address image one h)
+
+pub called_is : {t : Bindings} {side : Side} {address image : Addr} → IsCalled t side address image → called t side address ≡ image
+called_is {address = address} h = ap (λ (o : Option Addr). unwrap_or o address) h.seen
 
 -- ## What the tests say
 
@@ -184,14 +193,13 @@ pool_empty_is t side source destination h =
 -- ## Both addresses after both uses
 
 pub source_called : (t : Bindings) (side : Side) (source destination : Addr) (until : Moment) → in_pool t side source ≡ false → is_empty (cross t side source) ≡ false →
-    called (used (used t side (record { address = source; until = until })) side (record { address = destination; until = until })) side source ≡ image_by (cross t side source) source
+    called (after_uses t (uses_until side until.0 (source ∷ destination ∷ []))) side source ≡ image_by (cross t side source) source
 source_called t side source destination until outside room =
     let first = used_called t side source until (cross t side source) refl (host_bound t side source outside) room in
-    ap (λ (o : Option Addr). unwrap_or o source) (still_called (used t side (record { address = source; until = until })) side source _ (record { address = destination; until = until }) first).seen
+    called_is (still_after (used t (record { side = side; address = source; until = until })) side source _ until.0 (destination ∷ []) first)
 
 pub destination_called : (t : Bindings) (side : Side) (source destination : Addr) (until : Moment) → is_settled (cross t side destination) ≡ true →
-    called (used (used t side (record { address = source; until = until })) side (record { address = destination; until = until })) side destination ≡ image_by (cross t side destination) destination
+    called (after_uses t (uses_until side until.0 (source ∷ destination ∷ []))) side destination ≡ image_by (cross t side destination) destination
 destination_called t side source destination until settled =
     let now = of_crossing t side destination (cross t side destination) refl settled in
-    let first = still_called t side destination _ (record { address = source; until = until }) now in
-    ap (λ (o : Option Addr). unwrap_or o destination) (still_called (used t side (record { address = source; until = until })) side destination _ (record { address = destination; until = until }) first).seen
+    called_is (still_after t side destination _ until.0 (source ∷ destination ∷ []) now)

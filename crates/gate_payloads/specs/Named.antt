@@ -1,9 +1,10 @@
 -- What a datagram with a DNS message uses.
 use Rattle.std.specs.Prelude.{ℕ, ◌+◌, List, [], ◌∷◌, ◌++◌}
 use Rattle.gate_base.specs.declared.address.Addr.{Addr}
+use Rattle.gate_base.specs.declared.side.Side.{Side}
 use Rattle.binding_table.specs.Plan.{Use}
 use Rattle.gate_world.specs.Verdict.{uses_until, udp_hold, named_hold}
 
 -- the uses of both addresses by the header, and of those in the message
-abbrev pub named_uses : ℕ → Addr → Addr → List Addr → List Use
-named_uses moment source destination named = uses_until (moment + udp_hold) (source ∷ destination ∷ []) ++ uses_until (moment + named_hold) named
+abbrev pub named_uses : Side → ℕ → Addr → Addr → List Addr → List Use
+named_uses side moment source destination named = uses_until side (moment + udp_hold) (source ∷ destination ∷ []) ++ uses_until side (moment + named_hold) named

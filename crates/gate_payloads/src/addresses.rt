@@ -56,7 +56,7 @@ impl Way {
         requires settled { is_settled self.now.of_destination ≡ true }
         requires moment { self.now.moment.0 < 2 ^ 32 * 1000000000 }
         requires hold { hold ≤ 7440 * 1000000000 }
-        ensures { table.new ≡ after_uses table.old self.now.side (uses_until (self.now.moment.0 + hold) (self.now.source ∷ self.now.destination ∷ [])) }
+        ensures { table.new ≡ after_uses table.old (uses_until self.now.side (self.now.moment.0 + hold) (self.now.source ∷ self.now.destination ∷ [])) }
     {
         let until = Moment(self.moment.0 + hold);
         use_by(self.of_source, table, self.side, self.source, until);
@@ -82,7 +82,7 @@ fn image_by(crossing: Crossing, address: Addr) -> Addr
 
 fn use_by(crossing: Crossing, table: &mut Table, side: Side, address: Addr, until: Moment)
     requires { crossing ≡ cross table.old side address }
-    ensures { table.new ≡ used table.old side (record { address = address; until = until }) }
+    ensures { table.new ≡ used table.old (record { side = side; address = address; until = until }) }
 {
     match crossing {
         Crossing::Known(_) => table.extend(side, address, until),
@@ -93,7 +93,7 @@ fn use_by(crossing: Crossing, table: &mut Table, side: Side, address: Addr, unti
 
 /// Uses an address: a binding that is there lasts at least until a moment, and a new host is bound.
 pub fn use_address(table: &mut Table, side: Side, address: Addr, until: Moment)
-    ensures { table.new ≡ used table.old side (record { address = address; until = until }) }
+    ensures { table.new ≡ used table.old (record { side = side; address = address; until = until }) }
 {
     use_by(table.cross(side, address), table, side, address, until);
 }

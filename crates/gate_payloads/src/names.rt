@@ -1,9 +1,9 @@
 // DNS messages over UDP (RFC 2694).
-ghost use Rattle.std.specs.Prelude.{◌≡◌, ◌≢◌, ◌+◌, ◌*◌, ◌^◌, ◌<◌, ◌≤◌, [], ◌∷◌, List, drop, length, map, option_map, unwrap_or, true, false, All, IfOk, IfSome, OnErr, is_some};
+ghost use Rattle.std.specs.Prelude.{◌≡◌, ◌≢◌, ◌+◌, ◌*◌, ◌^◌, ◌<◌, ◌≤◌, [], ◌∷◌, List, drop, length, option_map, unwrap_or, true, false, All, IfOk, IfSome, OnErr, is_some};
 ghost use Rattle.std.specs.List.{list_any};
 ghost use Rattle.gate_base.specs.Side.{other};
 ghost use Rattle.binding_table.specs.Bindings.{cross, in_pool, free, is_settled};
-ghost use Rattle.binding_table.specs.Plan.{Use, needed, after_uses, images_after};
+ghost use Rattle.binding_table.specs.Plan.{Use, AreUsesOf, needed, after_uses, images_after};
 ghost use Rattle.dns_gateway.specs.Addresses.{message_addresses};
 ghost use Rattle.dns_messages.specs.Reading.{message_at};
 ghost use Rattle.dns_messages.specs.Suits.{MessageSuits};
@@ -118,7 +118,7 @@ fn planned_reply(
     requires room { needed table.now side addresses.now ≤ free table.now (other side) }
     requires suits { MessageSuits message.now }
     requires few { length payload.now ≤ 65507 }
-    ensures is { (uses : List Use) → map (λ one. one.address) uses ≡ addresses.now → IfOk result (λ reply. unwrap_or (option_map (λ v. v.items) reply) payload.now ≡ reply_by (drop 2 (images_after table.now side uses)) payload.now (Some message.now)) }
+    ensures is { (uses : List Use) → AreUsesOf side addresses.now uses → IfOk result (λ reply. unwrap_or (option_map (λ v. v.items) reply) payload.now ≡ reply_by (drop 2 (images_after table.now uses)) payload.now (Some message.now)) }
     ensures fits { IfOk result (λ reply. IfSome reply (λ v. 28 + length v.items ≤ 65535)) }
 {
     let mut images = vec![in alloc; None; addresses.len()]?;
@@ -128,7 +128,7 @@ fn planned_reply(
 
 /// Uses addresses in their order.
 fn use_all(table: &mut Table, side: Side, addresses: &[Addr], until: Moment)
-    ensures { table.new ≡ after_uses table.old side (uses_until until.0 addresses.now) }
+    ensures { table.new ≡ after_uses table.old (uses_until side until.0 addresses.now) }
 {
     for address in addresses {
         use_address(table, side, *address, until);
@@ -173,7 +173,7 @@ fn pass_names(
     requires can { CanGoOn octets.now }
     requires protocol { (datagram_of octets.now).protocol ≡ 17 }
     requires fits { IfSome reply.now (λ v. 28 + length v.items ≤ 65535) }
-    ensures table { table.new ≡ after_uses table.old way.now.side (named_uses way.now.moment.0 way.now.source way.now.destination named.now) }
+    ensures table { table.new ≡ after_uses table.old (named_uses way.now.side way.now.moment.0 way.now.source way.now.destination named.now) }
     ensures out { outbox.new ≡ rebuilt (datagram_of octets.now) (image_by way.now.of_source way.now.source).0 (image_by way.now.of_destination way.now.destination).0 (unwrap_or (option_map (λ v. v.items) reply.now) (carried (datagram_of octets.now))) ∷ [] }
 {
     way.use_both(table, UDP_HOLD);

@@ -28,7 +28,7 @@ pub fn pass_plain(table: &mut Table, way: &Way, hold: u64, octets: &[u8], outbox
     requires empty { outbox.old ≡ [] }
     requires few { length octets.now ≤ 65535 }
     requires can { CanGoOn octets.now }
-    ensures table { table.new ≡ after_uses table.old way.now.side (uses_until (way.now.moment.0 + hold) (way.now.source ∷ way.now.destination ∷ [])) }
+    ensures table { table.new ≡ after_uses table.old (uses_until way.now.side (way.now.moment.0 + hold) (way.now.source ∷ way.now.destination ∷ [])) }
     ensures out { outbox.new ≡ renamed (datagram_of octets.now) (image_by way.now.of_source way.now.source).0 (image_by way.now.of_destination way.now.destination).0 ∷ [] }
 {
     way.use_both(table, hold);
@@ -51,7 +51,7 @@ pub fn take_plain(
     requires few { length octets.now ≤ 65535 }
     requires can { CanGoOn octets.now }
     ensures refusal { result ≡ first_that_holds ((is_empty way.now.of_source, PoolEmpty) ∷ []) }
-    ensures table { table.new ≡ table_by result (after_uses table.old way.now.side (uses_until (way.now.moment.0 + hold) (way.now.source ∷ way.now.destination ∷ []))) table.old }
+    ensures table { table.new ≡ table_by result (after_uses table.old (uses_until way.now.side (way.now.moment.0 + hold) (way.now.source ∷ way.now.destination ∷ []))) table.old }
     ensures out { outbox.new ≡ out_by result (renamed (datagram_of octets.now) (image_by way.now.of_source way.now.source).0 (image_by way.now.of_destination way.now.destination).0 ∷ []) }
 {
     if lacks_alias(way) {

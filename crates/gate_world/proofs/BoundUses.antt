@@ -13,6 +13,7 @@ use Rattle.realm_pools.specs.Addresses.{least_free}
 use Rattle.binding_table.specs.declared.binding.Binding.{Binding}
 use Rattle.binding_table.specs.declared.binding.Crossing.TheVariants.{Known, New, Empty}
 use Rattle.binding_table.specs.Bindings.{Bindings, is_same, is_of_host, is_of_alias, in_pool, alias_of, host_of, pool_of, free, cross, seen, known_or, new_or_empty, lasting, is_through, extend_through, extended}
+use Rattle.binding_table.specs.Lasting.{IsBoundTo, IsKnownAs}
 use Rattle.binding_table.specs.Lawful.{IsInPlace, IsLawful}
 use Rattle.binding_table.specs.Plan.{Use, used, after_uses, is_fresh, needed}
 use Rattle.binding_table.proofs.Pools.{other_other, same_side-true, same_side-itself}
@@ -21,13 +22,13 @@ use Rattle.binding_table.proofs.Bind.{HasNoBinding, unbound_cross}
 use Rattle.binding_table.proofs.Back.{crosses_back}
 use Rattle.binding_table.proofs.Planned.{flags_free}
 use Rattle.binding_table.proofs.Fresh.{fresh_cons}
+use Rattle.binding_table.proofs.Used.{find_map, host_same, known_used, known_after, same_used}
 use Rattle.gate_world.specs.World.{called}
 use Rattle.gate_world.specs.Verdict.{is_reachable}
-use Rattle.gate_world.specs.Held.{IsBoundTo, IsKnownAs}
-use Rattle.gate_world.proofs.BoundTables.{find_passes, find_all, find_map, host_same, found_alias, none_alias, host_is, placed, bound_crosses, known_used, known_after, same_used, lawful_used}
+use Rattle.gate_world.proofs.BoundTables.{find_passes, find_all, found_alias, none_alias, host_is, placed, bound_crosses, lawful_used}
 
-abbrev use_of : ℕ → ℕ → Use
-use_of address until = record { address = record { 0 = address }; until = record { 0 = until } }
+abbrev use_of : Side → ℕ → ℕ → Use
+use_of side address until = record { side = side; address = record { 0 = address }; until = record { 0 = until } }
 
 -- ## A binding lasts by a use of its host, and by a use of its alias
 
@@ -49,7 +50,7 @@ extended_lasts table side host alias sooner from address until h through =
       lasts = through_lasts pool from address until h.binding through;
     }
 
-pub host_lasts : (table : Bindings) (side : Side) (host alias sooner until : ℕ) → IsLawful table → IsBoundTo table side host alias sooner → IsBoundTo (used table side (use_of host until)) side host alias until
+pub host_lasts : (table : Bindings) (side : Side) (host alias sooner until : ℕ) → IsLawful table → IsBoundTo table side host alias sooner → IsBoundTo (used table (use_of side host until)) side host alias until
 host_lasts table side host alias sooner until lawful h =
     let p = placed table side host alias sooner lawful h in
     let passes = find_passes (is_of_host side host) table.entries h.binding h.found in
@@ -64,7 +65,7 @@ alias_through table side host alias sooner lawful h =
     let sides : same_side h.binding.side (other side) ≡ true = ap (λ (s : Side). same_side s (other side)) is.0 ∙ same_side-itself (other side) in
     rw pool (and_from (same_side h.binding.side (other side)) (h.binding.alias.0 == alias) sides (eq-eqb h.binding.alias.0 alias h.alias_is))
 
-pub alias_lasts : (table : Bindings) (side : Side) (host alias sooner until : ℕ) → IsLawful table → IsBoundTo table (other side) host alias sooner → IsBoundTo (used table side (use_of alias until)) (other side) host alias until
+pub alias_lasts : (table : Bindings) (side : Side) (host alias sooner until : ℕ) → IsLawful table → IsBoundTo table (other side) host alias sooner → IsBoundTo (used table (use_of side alias until)) (other side) host alias until
 alias_lasts table side host alias sooner until lawful h =
     let back : cross table side (record { 0 = alias }) ≡ Known (record { 0 = host }) =
     ap (λ s. cross table s (record { 0 = alias })) (sym (other_other side)) ∙ crosses_back table (other side) (record { 0 = host }) (record { 0 = alias }) lawful (bound_crosses table (other side) host alias sooner lawful h) in
@@ -105,16 +106,16 @@ none_free table side host rest none room empty =
     first_none None h = refl
     first_none (Some one) h = cc
 
-pub source_bound : (table : Bindings) (side : Side) (host until : ℕ) (rest : List Addr) → IsLawful table → in_pool table side (record { 0 = host }) ≡ false → nat_lt (free table (other side)) (needed table side (record { 0 = host } ∷ rest)) ≡ false → (alias : ℕ) × IsKnownAs (used table side (use_of host until)) side host alias until
+pub source_bound : (table : Bindings) (side : Side) (host until : ℕ) (rest : List Addr) → IsLawful table → in_pool table side (record { 0 = host }) ≡ false → nat_lt (free table (other side)) (needed table side (record { 0 = host } ∷ rest)) ≡ false → (alias : ℕ) × IsKnownAs (used table (use_of side host until)) side host alias until
 source_bound table side host until rest lawful outside room = elim (crosses_so table side host outside) [
-  | inl same ↦ (host, inl (same_used table side (use_of host until) (record { 0 = host }) ∙ same, refl))
+  | inl same ↦ (host, inl (same_used table (use_of side host until) (record { 0 = host }) ∙ same, refl))
   | inr k ↦ elim k [
     | inl known ↦ (known.0, inr (host_lasts table side host known.0 0 until lawful (bound_from table side host known.0 known.1)))
     | inr none ↦ by_least none (least_free (pool_of table (other side))) refl
   ]
 ]
   where
-    by_least : HasNoBinding table side (record { 0 = host }) → (o : Option Addr) → least_free (pool_of table (other side)) ≡ o → (alias : ℕ) × IsKnownAs (used table side (use_of host until)) side host alias until
+    by_least : HasNoBinding table side (record { 0 = host }) → (o : Option Addr) → least_free (pool_of table (other side)) ≡ o → (alias : ℕ) × IsKnownAs (used table (use_of side host until)) side host alias until
     by_least none None e = absurd (none_free table side host rest none room e)
     by_least none (Some alias) e =
         let one : Binding = record { side = side; host = record { 0 = host }; alias = alias; until = record { 0 = until }; fixed = false } in
@@ -169,11 +170,11 @@ far_known table side address lawful reach = elim (or_cases _ _ reach) [
 
 -- ## All uses of a frame
 
-abbrev pub header_uses : ℕ → ℕ → ℕ → List Use
-header_uses source destination until = use_of source until ∷ use_of destination until ∷ []
+abbrev pub header_uses : Side → ℕ → ℕ → ℕ → List Use
+header_uses side source destination until = use_of side source until ∷ use_of side destination until ∷ []
 
-far_lasts : (table : Bindings) (side : Side) (far address until : ℕ) → IsLawful table → IsKnownAs table (other side) far address 0 → IsKnownAs (used table side (use_of address until)) (other side) far address until
-far_lasts table side far address until lawful (inl same) = inl (same_used table side (use_of address until) (record { 0 = far }) ∙ same.0, same.1)
+far_lasts : (table : Bindings) (side : Side) (far address until : ℕ) → IsLawful table → IsKnownAs table (other side) far address 0 → IsKnownAs (used table (use_of side address until)) (other side) far address until
+far_lasts table side far address until lawful (inl same) = inl (same_used table (use_of side address until) (record { 0 = far }) ∙ same.0, same.1)
 far_lasts table side far address until lawful (inr h) = inr (alias_lasts table side far address 0 until lawful h)
 
 -- both hosts of a frame are bound for as long as its header says: the source to some alias, and the host behind the destination to that
@@ -183,18 +184,18 @@ pub record BothKnown (table after : Bindings) (side : Side) (source destination 
   pub far : IsKnownAs after (other side) (called table side (record { 0 = destination })).0 destination until
 
 pub both_known : (table : Bindings) (side : Side) (source destination until : ℕ) (rest : List Addr) (uses : List Use) → IsLawful table → in_pool table side (record { 0 = source }) ≡ false → is_reachable table side (record { 0 = destination }) ≡ true
-    → nat_lt (free table (other side)) (needed table side (record { 0 = source } ∷ rest)) ≡ false → BothKnown table (after_uses table side (header_uses source destination until ++ uses)) side source destination until
+    → nat_lt (free table (other side)) (needed table side (record { 0 = source } ∷ rest)) ≡ false → BothKnown table (after_uses table (header_uses side source destination until ++ uses)) side source destination until
 both_known table side source destination until rest uses lawful outside reach room =
-    let one = use_of source until in
-    let two = use_of destination until in
-    let first = used table side one in
-    let second = used first side two in
-    let lawful_first = lawful_used table side one lawful in
+    let one = use_of side source until in
+    let two = use_of side destination until in
+    let first = used table one in
+    let second = used first two in
+    let lawful_first = lawful_used table one lawful in
     let own = source_bound table side source until rest lawful outside room in
     let far_now = (called table side (record { 0 = destination })).0 in
-    let far : IsKnownAs first (other side) far_now destination 0 = known_used table (other side) far_now destination 0 side one (far_known table side destination lawful reach) in
+    let far : IsKnownAs first (other side) far_now destination 0 = known_used table (other side) far_now destination 0 one (far_known table side destination lawful reach) in
     record {
       alias = own.0;
-      own = known_after uses second side source own.0 until side (known_used first side source own.0 until side two own.1);
-      far = known_after uses second (other side) far_now destination until side (far_lasts first side far_now destination until lawful_first far);
+      own = known_after uses second side source own.0 until (known_used first side source own.0 until two own.1);
+      far = known_after uses second (other side) far_now destination until (far_lasts first side far_now destination until lawful_first far);
     }

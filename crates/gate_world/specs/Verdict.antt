@@ -52,17 +52,17 @@ payload_addresses d Error = []
 payload_addresses d Snmp = []
 payload_addresses d Stream = []
 
--- uses of addresses, each until a moment
-abbrev pub uses_until : ℕ → List Addr → List Use
-uses_until moment addresses = map (λ address. let one : Use = record { address = address; until = record { 0 = moment } } in one) addresses
+-- uses of addresses of the realm, each until a moment
+abbrev pub uses_until : Side → ℕ → List Addr → List Use
+uses_until side moment addresses = map (λ address. let one : Use = record { side = side; address = address; until = record { 0 = moment } } in one) addresses
 
 -- the uses of a frame that passes: its source, its destination, and the addresses of its DNS message in order
 abbrev pub uses_of : {S : Type 0} → SessionRules S → World S → Side → ℕ → Datagram → Kind → List Use
-uses_of rules live side moment d kind = uses_until (moment + hold_by rules live side d kind) (addresses_of d) ++ uses_until (moment + named_hold) (payload_addresses d kind)
+uses_of rules live side moment d kind = uses_until side (moment + hold_by rules live side d kind) (addresses_of d) ++ uses_until side (moment + named_hold) (payload_addresses d kind)
 
 -- the bindings after these uses
 abbrev pub table_after : {S : Type 0} → SessionRules S → World S → Side → ℕ → Datagram → Kind → Bindings
-table_after rules live side moment d kind = after_uses live.table side (uses_of rules live side moment d kind)
+table_after rules live side moment d kind = after_uses live.table (uses_of rules live side moment d kind)
 
 -- ## Tests, each of which means something only where no earlier one holds
 

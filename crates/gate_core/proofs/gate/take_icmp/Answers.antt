@@ -15,6 +15,6 @@ returns c = record {
       subst (λ (k : Kind). IsTaken live way.side d k r c.take_plain.new.table c.take_plain.new.outbox)
       (sym (echo_kind d (ap (λ v. v.is_error) (sym c.requires.view) ∙ sym c.is_error.ensures ∙ c.if-is_error.false)))
       (echo_taken live way.side d way r c.take_plain.new.table c.take_plain.new.outbox w c.take_plain.ensures.refusal
-      (over_table r way.side (uses_until (way.moment.0 + icmp_hold) (way.source ∷ way.destination ∷ [])) c.args.table.now live.table c.take_plain.new.table t c.take_plain.ensures.table)
+      (over_table r (uses_until way.side (way.moment.0 + icmp_hold) (way.source ∷ way.destination ∷ [])) c.args.table.now live.table c.take_plain.new.table t c.take_plain.ensures.table)
       c.take_plain.ensures.out);
 }

@@ -16,5 +16,5 @@ returns-clause-taken c = λ live t w.
     (sym c.has_port.ensures ∙ c.if-has_port.false) (sym c.has_port-2.ensures ∙ c.if-has_port-2.false) (sym c.has_port-else-has_port-2.ensures ∙ c.if-has_port-3.false) in
     subst (λ (k : Kind). IsTaken live way.side d k r c.take_plain.new.table c.take_plain.new.outbox) (sym kind)
     (udp_taken live way.side d way r c.take_plain.new.table c.take_plain.new.outbox w c.take_plain.ensures.refusal
-    (over_table r way.side (uses_until (way.moment.0 + udp_hold) (way.source ∷ way.destination ∷ [])) c.args.table.now live.table c.take_plain.new.table t c.take_plain.ensures.table)
+    (over_table r (uses_until way.side (way.moment.0 + udp_hold) (way.source ∷ way.destination ∷ [])) c.args.table.now live.table c.take_plain.new.table t c.take_plain.ensures.table)
     c.take_plain.ensures.out)

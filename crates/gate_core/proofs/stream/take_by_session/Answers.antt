@@ -63,7 +63,7 @@ returns-in-Some-clause-done c =
     (session_goes_on way c.args.table.now c.args.connections.now c.args.pending.now d t.0 c.in-Some.waiting c.use_both.new.table c.note.new.self c.step_session.new.outbox c.requires.way c.requires.dns found
     (ap (session_refusal kept_rules side d) (sym t.1) ∙ c.requires.passes)
     (sym c.lacks_alias.ensures ∙ c.if-lacks_alias.false) (sym c.in-Some.is ∙ c.in_ok-waiting.ensures.waits t.0 t.1)
-    (c.use_both.ensures ∙ ap (λ (n : ℕ). after_uses c.args.table.now side (uses_until (way.moment.0 + n) (way.source ∷ way.destination ∷ []))) hold)
+    (c.use_both.ensures ∙ ap (λ (n : ℕ). after_uses c.args.table.now (uses_until side (way.moment.0 + n) (way.source ∷ way.destination ∷ []))) hold)
     (c.note.ensures
     ∙ ap (λ (x : List (Connection (Tracked KeptSession))). noted x c.args.key.now side c.flags-flags.result None way.moment) (c.in_ok-waiting.ensures.next t.0 t.1)
     ∙ ap (λ (k : ConnKey). noted (replaced c.args.connections.now k s) k side c.flags-flags.result None way.moment) c.requires.key

@@ -79,7 +79,7 @@ returns-clause-done c =
     (ap (λ (b : Bool). not b && nat_le 65536 (length c.args.connections.now) || nat_le 4096 (count_by is_tracked c.args.connections.now)) plain ∙ sym c.is_full.ensures ∙ c.if-is_full.false)
     (begun_refusal (table_after kept_rules live side live.clock d Stream) side tcp d c.requires.tcp ∙ verdict)
     plain (sym c.lacks_alias.ensures ∙ c.if-lacks_alias.false) (c.in_ok-waiting.ensures.waits ∙ ap (waiting_after side d) tracked)
-    (c.use_both.ensures ∙ ap (λ (n : ℕ). after_uses c.args.table.now side (uses_until (way.moment.0 + n) (way.source ∷ way.destination ∷ []))) hold)
+    (c.use_both.ensures ∙ ap (λ (n : ℕ). after_uses c.args.table.now (uses_until side (way.moment.0 + n) (way.source ∷ way.destination ∷ []))) hold)
     (c.open.ensures
     ∙ ap (λ (k : ConnKey). noted c.args.connections.now k side c.flags-flags.result (Some c.step_tracked.new.tracked) way.moment) c.requires.key
     ∙ ap (λ (n : ℕ). noted c.args.connections.now (key_in c.args.table.now side d) side n (Some c.step_tracked.new.tracked) way.moment) flags

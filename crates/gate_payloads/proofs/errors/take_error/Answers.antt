@@ -62,7 +62,7 @@ returns c = record {
       } in
       let R : Option ℕ → Addr → Addr → List (List ℕ) = λ n a b. renamed (with_inside d (inner_with (inside d) c.in-Some.source.0 c.in-Some-seen.destination.0 n)) a.0 b.0 ∷ [] in
       error_passes live side d way c.in-Ok.inner c.in-Some.source c.in-Some-seen.destination number c.use_both.new.table c.put_error.new.self w known (sym c.is_unknown.ensures ∙ c.if-is_unknown.false) (sym c.lacks_alias.ensures ∙ c.if-lacks_alias.false)
-      (c.use_both.ensures ∙ ap (λ (x : Bindings). after_uses x side (uses_until (way.moment.0 + icmp_hold) (way.source ∷ way.destination ∷ []))) (sym t))
+      (c.use_both.ensures ∙ ap (λ (x : Bindings). after_uses x (uses_until side (way.moment.0 + icmp_hold) (way.source ∷ way.destination ∷ []))) (sym t))
       (c.put_error.ensures
       ∙ ap (λ (n : Option ℕ). R n c.source_image.result c.destination_image.result) (c.flatten.ensures ∙ flatten_is number)
       ∙ ap (λ (a : Addr). R (option_and_then (λ n. n) number) a c.destination_image.result) c.source_image.ensures

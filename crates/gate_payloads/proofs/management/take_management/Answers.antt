@@ -27,7 +27,7 @@ returns c = record {
       let good = good_is d c.args.payload.now c.check.result c.is_none.result c.requires.payload c.check.ensures c.is_none.ensures c.if-is_none.false in
       let R : Addr → Addr → List (List ℕ) = λ a b. renamed (with_payload d (management_after table side d)) a.0 b.0 ∷ [] in
       message_passes live side d way table c.put_management.new.self w good (sym c.lacks_alias.ensures ∙ c.if-lacks_alias.false)
-      (c.use_both.ensures ∙ ap (λ (x : Bindings). after_uses x side (uses_until (way.moment.0 + udp_hold) (way.source ∷ way.destination ∷ []))) (sym t))
+      (c.use_both.ensures ∙ ap (λ (x : Bindings). after_uses x (uses_until side (way.moment.0 + udp_hold) (way.source ∷ way.destination ∷ []))) (sym t))
       (c.put_management.ensures
       ∙ ap (λ (a : Addr). R a c.destination_image.result) c.source_image.ensures
       ∙ ap (R (image_by way.of_source way.source)) c.destination_image.ensures);

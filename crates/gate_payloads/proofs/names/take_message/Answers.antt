@@ -30,15 +30,15 @@ returns-clause-taken c = λ live same w.
     let d = datagram_of c.args.octets.now in
     let m = c.args.message.now in
     let named = c.in_ok-named.named.items in
-    let uses = named_uses way.moment.0 way.source way.destination named in
+    let uses = named_uses way.side way.moment.0 way.source way.destination named in
     let addresses = c.in_ok-addresses.ensures ∙ ap (λ (xs : List Addr). way.source ∷ way.destination ∷ xs) c.deref-2.ensures.value in
     let none = ap (has_unbound table way.side) (sym c.deref.ensures.value) ∙ sym c.has_unbound.ensures ∙ c.if-has_unbound.false in
     let room = ap (λ (xs : List Addr). nat_lt (free table (other way.side)) (needed table way.side xs)) (sym (c.deref-3.ensures.value ∙ addresses)) ∙ sym c.lacks_aliases.ensures ∙ c.if-lacks_aliases.false in
     let octets : List ℕ → List ℕ = λ payload. unwrap_or (option_map (λ (v : Vec ℕ Global). v.items) c.in_ok-reply.reply) payload in
-    let P : List ℕ → Type 0 = λ payload. octets payload ≡ reply_by (drop 2 (images_after table way.side uses)) payload (Some m) in
+    let P : List ℕ → Type 0 = λ payload. octets payload ≡ reply_by (drop 2 (images_after table uses)) payload (Some m) in
     let message = ap message_at (sym c.requires.payload) ∙ c.requires.message in
-    let answer = subst P c.requires.payload (c.in_ok-reply.ensures.is uses (all_used way.moment.0 way.source way.destination named c.deref-4.result.now (c.deref-4.ensures.value ∙ addresses))) in
+    let answer = subst P c.requires.payload (c.in_ok-reply.ensures.is uses (all_used way.side way.moment.0 way.source way.destination named c.deref-4.result.now (c.deref-4.ensures.value ∙ addresses))) in
     names_passed live way.side d m named way table c.pass_names.new.table (octets (carried d)) c.pass_names.new.outbox same w message c.in_ok-named.ensures none room
-    (c.pass_names.ensures.table ∙ ap (λ (xs : List Addr). after_uses table way.side (named_uses way.moment.0 way.source way.destination xs)) c.deref-5.ensures.value)
+    (c.pass_names.ensures.table ∙ ap (λ (xs : List Addr). after_uses table (named_uses way.side way.moment.0 way.source way.destination xs)) c.deref-5.ensures.value)
     answer
     c.pass_names.ensures.out
