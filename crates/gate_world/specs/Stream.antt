@@ -1,5 +1,5 @@
 -- TCP segments, their connections and their sessions.
-use Rattle.std.specs.Prelude.{ℕ, ◌+◌, ◌-◌, ◌*◌, ◌/◌, ◌%◌, Bool, false, not, ◌&&◌, ◌||◌, ◌==◌, nat_le, if◌then◌else◌, List, take, drop, length, count_by, Option, Some, None, option_map, option_and_then, is_none}
+use Rattle.std.specs.Prelude.{ℕ, ◌-◌, Bool, false, not, ◌&&◌, ◌||◌, ◌==◌, nat_le, if◌then◌else◌, List, take, drop, length, count_by, Option, Some, None, option_map, option_and_then, is_none}
 use Rattle.gate_base.specs.declared.address.Addr.{Addr}
 use Rattle.gate_base.specs.declared.event.Pair.{Pair}
 use Rattle.gate_base.specs.declared.refusal.Refusal.{Refusal}
@@ -10,7 +10,7 @@ use Rattle.ipv4_frames.specs.Ipv4.{Datagram}
 use Rattle.stream_model.specs.Octet.{flags_of, flags_octet}
 use Rattle.stream_model.specs.Session.{Segment, Outgoing}
 use Rattle.tcp_segments.specs.Tcp.{Tcp, tcp_fields_of, tcp_header_length_of, spelled_segment, datagram_of}
-use Rattle.tcp_tracker.specs.Connections.{has_fin, has_syn, has_rst, has_ack, is_tracked, place_of, connection_of, hold_of, short_hold, after, changed}
+use Rattle.tcp_tracker.specs.Connections.{has_syn, has_rst, has_ack, is_tracked, place_of, connection_of, hold_of, short_hold, after, changed}
 use Rattle.tcp_tracker.specs.declared.connection.ConnKey.{ConnKey}
 use Rattle.tcp_tracker.specs.declared.connection.Connection.{Connection}
 use Rattle.gate_world.specs.Frame.{control_port}
