@@ -1,4 +1,4 @@
-use Rattle.std.proofs.Common.{◌≡◌, List, take}
+use Rattle.std.proofs.Common.{List, take}
 use Rattle.binding_table.specs.Plan.{Use, AreUsesOf}
 use Rattle.binding_table.specs.Steps.{AreFirsts, needing}
 use Rattle.binding_table.proofs.Planned.{IsAt}
