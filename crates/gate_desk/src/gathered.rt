@@ -66,8 +66,7 @@ impl<A: Allocator> Gathered<A> {
         ensures none { OnOk result (self.new ≡ []) }
         ensures err { OnErr result (self.new ≡ self.old) }
     {
-        file.write_all(&self.octets)
-            .map_err(|_: io::Error| Failed)?;
+        file.write_all(&self.octets).map_err(|_: io::Error| Failed)?;
         self.octets.clear();
         Ok(())
     }
