@@ -237,7 +237,8 @@ fn write_errors<R: Runtime>(
 }
 
 impl<R: Runtime> FileDesk<R> {
-    ghost use Rattle.gate_desk.specs.Untold.{all_written, all_dropped};
+    ghost use Rattle.gate_desk.specs.Outside.{HasFailed};
+    ghost use Rattle.gate_desk.specs.Untold.{told_by, all_written, all_dropped};
 
     /// A desk none of whose slots is started. It keeps the runtime, through which it reaches files and the standard streams.
     pub fn make(rt: R) -> FileDesk<R>
@@ -258,6 +259,7 @@ impl<R: Runtime> FileDesk<R> {
         ensures ok { OnOk result (self.new ≡ all_written self.old) }
         ensures none { OnOk result (self.old.refused ≡ None) }
         ensures err { IfErr result (λ slot. self.new ≡ all_dropped slot self.old) }
+        ensures cause { IfErr result (λ slot. HasFailed slot (told_by self.old) (told_by self.new)) }
         ensures named { IfSome self.old.refused (λ slot. IsErrOf result slot) }
     {
         let _ = hand_out(&self.rt, &mut self.places, &mut self.refused);
