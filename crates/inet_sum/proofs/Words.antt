@@ -191,6 +191,6 @@ total_pseudo source destination protocol count octets s d n =
       low_word count,
     )
 
-pub length-with : (place value : ℕ) (octets : List ℕ) → place + 2 ≤ length octets → length (with_u16 place value octets) ≡ length octets
-length-with place value octets within =
+pub length-with_u16 : (place value : ℕ) (octets : List ℕ) → place + 2 ≤ length octets → length (with_u16 place value octets) ≡ length octets
+length-with_u16 place value octets within =
     omega (arith, length-append (take place octets) (value / 256 % 256 ∷ value % 256 ∷ []), length-append (take place octets ++ (value / 256 % 256 ∷ value % 256 ∷ [])) (drop (place + 2) octets), length-take-le place octets (omega arith), length-drop (place + 2) octets)

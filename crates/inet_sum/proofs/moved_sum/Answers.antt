@@ -1,7 +1,7 @@
 use Rattle.std.proofs.Common.{◌≡◌, ◌++◌, ◌+◌, ◌-◌, ap, ◌∙◌, sym, arith, length, take, drop}
 use Rattle.gate_base.specs.Fields.{u16_at, with_u16}
 use Rattle.inet_sum.specs.Sum.{fold_of, pseudo_header, total}
-use Rattle.inet_sum.proofs.Words.{total_pseudo, total_at, total_with, fold_moved, length-with}
+use Rattle.inet_sum.proofs.Words.{total_pseudo, total_at, total_with, fold_moved, length-with_u16}
 use Rattle.inet_sum.proofs.moved_sum.Goals as goal
 
 pub returns : goal.returns
@@ -11,7 +11,7 @@ returns c =
     let from = c.halves.result + c.halves-2.result in
     let to = c.halves-3.result + c.halves-4.result in
     let empty = with_u16 c.args.place 0 s in
-    let same : length empty ≡ length s = length-with c.args.place 0 s c.requires.within in
+    let same : length empty ≡ length s = length-with_u16 c.args.place 0 s c.requires.within in
     let rest = (p + length s) + (total (take c.args.place s) + total (drop (c.args.place + 2) s)) in
     let field : c.from-field.result ≡ u16_at c.args.place s = c.from-field.ensures ∙ c.get_u16.ensures in
     let before : total (pseudo_header c.args.from.0.0 c.args.from.1.0 p (length s) ++ s) ≡ from + (c.from-field.result + rest) =
