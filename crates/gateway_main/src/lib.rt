@@ -77,7 +77,7 @@ fn finish<R: Runtime>(desk: &mut FileDesk<R>, code: u8) -> u8
 }
 
 /// Carries out the command of these words over real files, and answers the exit status.
-fn carry_out<R: Runtime>(alloc: Global, words: &[String], desk: &mut FileDesk<R>) -> u8
+pub fn carry_out<R: Runtime>(alloc: Global, words: &[String], desk: &mut FileDesk<R>) -> u8
     ensures exit { IsFinished result (command_of (map string_bytes words.now)) (told_by desk.old) (told_by desk.new) }
     ensures code { IsCode result }
 {
