@@ -7,11 +7,11 @@ use Rattle.tcp_segments.specs.Tcp.{spelled_segment, datagram_of}
 use Rattle.resegment.specs.declared.put.SegmentModel.{SegmentModel}
 use Rattle.resegment.specs.Datagrams.{flags_of, piece_datagram, datagrams}
 use Rattle.resegment.specs.Pieces.{piece_count, cut_at, more_follow, piece_octets}
-use Rattle.stream_model.specs.Numbers.{number_after, one_if}
+use Rattle.stream_model.specs.Numbers.{number_after}
 use Rattle.stream_model.specs.Session.{Segment, Outgoing}
 use Rattle.stream_model.specs.Steps.{Piece, piece_at, pieces}
-use Rattle.stream_model.specs.declared.verdict.Flags.{Flags}
-use Rattle.stream_model.specs.Octet.{flags_octet}
+use Rattle.tcp_segments.specs.declared.flags.Flags.{Flags}
+use Rattle.tcp_segments.specs.Flags.{one_if, flags_octet}
 use Rattle.stream_gate.specs.Segments.{datagram}
 use Rattle.stream_gate.specs.Gates.{way_of}
 

@@ -13,7 +13,7 @@ use Rattle.stream_model.specs.declared.numbers.Near.{Near}
 use Rattle.stream_model.specs.declared.verdict.Extent.{Extent}
 use Rattle.stream_kept.specs.Kept.{SenderKept, extent_kept, recent_start, went_on, closed, taken_kept}
 use Rattle.stream_kept.specs.Outs.{start_kept, low_kept, high_kept, sends_end_kept, pieces_kept, outgoing_kept, acknowledgement_kept, limit_kept, data_kept, bare_offset_kept}
-use Rattle.stream_model.specs.Octet.{flags_octet}
+use Rattle.tcp_segments.specs.Flags.{flags_octet}
 use Rattle.stream_gate.specs.Segments.{datagram}
 use Rattle.stream_gate.specs.Gates.{way_of}
 use Rattle.stream_gate.proofs.PiecesInOrder.{pieces_datagrams}

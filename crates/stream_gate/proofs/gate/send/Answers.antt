@@ -11,10 +11,10 @@ use Rattle.resegment.specs.Datagrams.{ends_from}
 use Rattle.resegment.specs.Pieces.{piece_count}
 use Rattle.stream_kept.specs.Kept.{SenderKept, recent_start}
 use Rattle.stream_kept.specs.Outs.{low_kept, high_kept, sends_end_kept, pieces_kept, outgoing_kept, bare_offset_kept}
-use Rattle.stream_model.specs.declared.verdict.Flags.{Flags}
+use Rattle.tcp_segments.specs.declared.flags.Flags.{Flags}
 use Rattle.resegment.specs.declared.put.SegmentModel.{SegmentModel}
 use Rattle.stream_gate.specs.Gates.{CanCopy, way_of}
-use Rattle.stream_model.specs.Octet.{flags_of, flags_octet}
+use Rattle.tcp_segments.specs.Flags.{flags_of, flags_octet}
 use Rattle.stream_gate.specs.Segments.{segment_of, datagram}
 use Rattle.stream_gate.proofs.GateLemmas.{few_pieces, few_octets}
 use Rattle.stream_gate.proofs.PiecesInOrder.{flat-map}
