@@ -23,7 +23,7 @@ use Rattle.binding_table.proofs.Pools.{same_side-true}
 use Rattle.binding_table.proofs.Kept.{same_pair, lawful_map, lawful_push, ends_extended}
 use Rattle.binding_table.proofs.Bind.{HasNoBinding, fresh_is, unbound_cross, least_is_free, can_bind}
 use Rattle.binding_table.proofs.Planned.{used_follows}
-use Rattle.gate_world.specs.Held.{IsBoundTo, IsKnownAs}
+use Rattle.binding_table.specs.Lasting.{IsBoundTo, IsKnownAs}
 
 -- ## What is found
 
@@ -52,14 +52,6 @@ find_filter {A = A} p q (y ∷ ys) x e k = by_tests (p y) (q y) (λ h. find_filt
     by_tests true false more h i e = let same : y ≡ x = cc in absurd (true≢false (sym k ∙ ap q (sym same) ∙ i))
     by_tests false true more h i e = rw h (more e)
     by_tests false false more h i e = more e
-
-pub find_map : {A : Type 0} (p : A → Bool) (f : A → A) → ((x : A) → p (f x) ≡ p x) → (xs : List A) (x : A) → find p xs ≡ Some x → find p (map f xs) ≡ Some (f x)
-find_map p f same [] x e = cc
-find_map {A = A} p f same (y ∷ ys) x e = rw (same y) (by_test (p y) (λ k. find_map p f same ys x k) e)
-  where
-    by_test : (b : Bool) → (find p ys ≡ Some x → find p (map f ys) ≡ Some (f x)) → cond b (Some y) (find p ys) ≡ Some x → cond b (Some (f y)) (find p (map f ys)) ≡ Some (f x)
-    by_test true more e = let is : y ≡ x = cc in ap (λ (z : A). Some (f z)) is
-    by_test false more e = more e
 
 pub found_alias : (o : Option Binding) (alias : Addr) → option_map (λ (b : Binding). b.alias) o ≡ Some alias → (b : Binding) × (o ≡ Some b) × (b.alias ≡ alias)
 found_alias None alias e = absurd (cc)
@@ -91,49 +83,6 @@ known_earlier table side host alias until sooner le (inr h) = inr (record { bind
     by : (h.binding.fixed ≡ true) ⊎ (until ≤ h.binding.until.0) → (h.binding.fixed ≡ true) ⊎ (sooner ≤ h.binding.until.0)
     by (inl fixed) = inl fixed
     by (inr later) = inr (omega arith)
-
--- ## Uses
-
-pub host_same : (side : Side) (host : ℕ) (from_pool : Bool) (from : Side) (address : Addr) (until : Moment) (b : Binding) → is_of_host side host (extend_through from_pool from address until b) ≡ is_of_host side host b
-host_same side host from_pool from address until b =
-    let p = same_pair from_pool from address until b in
-    ap (λ (s : Side). same_side s side && (extend_through from_pool from address until b).host.0 == host) p.side ∙ ap (λ (a : Addr). same_side b.side side && a.0 == host) p.host
-
-bound_extended : (table : Bindings) (side : Side) (host alias until : ℕ) (from : Side) (address : Addr) (later : Moment) → IsBoundTo table side host alias until → IsBoundTo (extended table from address later) side host alias until
-bound_extended table side host alias until from address later h =
-    let pool = in_pool table from address in
-    record {
-      binding = extend_through pool from address later h.binding;
-      found = find_map (is_of_host side host) (extend_through pool from address later) (host_same side host pool from address later) table.entries h.binding h.found;
-      alias_is = ap (λ (a : Addr). a.0) (same_pair pool from address later h.binding).alias ∙ h.alias_is;
-      lasts = ends_extended until pool from address later h.binding h.lasts;
-    }
-
-bound_pushed : (table : Bindings) (side : Side) (host alias until : ℕ) (one : Binding) → IsBoundTo table side host alias until → IsBoundTo (with_binding table one) side host alias until
-bound_pushed table side host alias until one h = record {
-  binding = h.binding;
-  found = find-append (is_of_host side host) table.entries (one ∷ []) ∙ ap (λ o. option_or o (find (is_of_host side host) (one ∷ []))) h.found;
-  alias_is = h.alias_is;
-  lasts = h.lasts;
-}
-
-bound_used_by : (table : Bindings) (side : Side) (host alias until : ℕ) (from : Side) (address : Addr) (later : Moment) (c : Crossing) → IsBoundTo table side host alias until → IsBoundTo (used_by table from address later c) side host alias until
-bound_used_by table side host alias until from address later Same h = h
-bound_used_by table side host alias until from address later (Known image) h = bound_extended table side host alias until from address later h
-bound_used_by table side host alias until from address later (New image) h = bound_pushed table side host alias until (record { side = from; host = address; alias = image; until = later; fixed = false }) h
-bound_used_by table side host alias until from address later Unbound h = h
-bound_used_by table side host alias until from address later Empty h = h
-
-pub same_used : (table : Bindings) (from : Side) (one : Use) (address : Addr) → is_same (used table from one) address ≡ is_same table address
-same_used table from one address = ap (λ (blocks : List Block). not (is_unicast_number address.0) || is_in_same address blocks) (used_follows table from one).same
-
-pub known_used : (table : Bindings) (side : Side) (host alias until : ℕ) (from : Side) (one : Use) → IsKnownAs table side host alias until → IsKnownAs (used table from one) side host alias until
-known_used table side host alias until from one (inl same) = inl (same_used table from one (record { 0 = host }) ∙ same.0, same.1)
-known_used table side host alias until from one (inr h) = inr (bound_used_by table side host alias until from one.address one.until (cross table from one.address) h)
-
-pub known_after : (uses : List Use) (table : Bindings) (side : Side) (host alias until : ℕ) (from : Side) → IsKnownAs table side host alias until → IsKnownAs (after_uses table from uses) side host alias until
-known_after [] table side host alias until from h = h
-known_after (one ∷ uses) table side host alias until from h = known_after uses (used table from one) side host alias until from (known_used table side host alias until from one h)
 
 -- ## Lawful tables
 

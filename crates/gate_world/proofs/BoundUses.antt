@@ -23,8 +23,9 @@ use Rattle.binding_table.proofs.Planned.{flags_free}
 use Rattle.binding_table.proofs.Fresh.{fresh_cons}
 use Rattle.gate_world.specs.World.{called}
 use Rattle.gate_world.specs.Verdict.{is_reachable}
-use Rattle.gate_world.specs.Held.{IsBoundTo, IsKnownAs}
-use Rattle.gate_world.proofs.BoundTables.{find_passes, find_all, find_map, host_same, found_alias, none_alias, host_is, placed, bound_crosses, known_used, known_after, same_used, lawful_used}
+use Rattle.binding_table.specs.Lasting.{IsBoundTo, IsKnownAs}
+use Rattle.gate_world.proofs.BoundTables.{find_passes, find_all, found_alias, none_alias, host_is, placed, bound_crosses, lawful_used}
+use Rattle.binding_table.proofs.Used.{find_map, host_same, known_used, known_after, same_used}
 
 abbrev use_of : ℕ → ℕ → Use
 use_of address until = record { address = record { 0 = address }; until = record { 0 = until } }
