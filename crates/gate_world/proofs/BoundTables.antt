@@ -1,28 +1,22 @@
 -- Bindings that stay, and last longer by uses.
-use Rattle.std.proofs.Common.{◌≡◌, ◌≤◌, ◌<◌, ◌⊎◌, ℕ, Bool, true, false, not, ◌&&◌, ◌||◌, ◌==◌, nat_lt, cond, List, [], ◌∷◌, map, All, Option, Some, None, option_map, refl, sym, ◌∙◌, ap, subst, arith, inl, inr}
+use Rattle.std.proofs.Common.{◌≡◌, ◌≤◌, ◌<◌, ◌⊎◌, ℕ, Bool, true, false, ◌||◌, ◌==◌, nat_lt, cond, List, [], ◌∷◌, All, Option, Some, None, option_map, refl, sym, ◌∙◌, ap, subst, arith, inl, inr}
 use Rattle.std.specs.List.{find, filter}
-use Rattle.std.specs.Option.{option_or}
 use Rattle.std.proofs.lemmas.Bool.{and_parts, or_left, or_right, eqb-true, lt-ltb, true≢false}
-use Rattle.std.proofs.lemmas.List.Folds.{find-append}
 use Rattle.std.proofs.lemmas.List.Elements.{All-head, All-tail}
-use Rattle.gate_base.specs.Address.{is_unicast_number}
 use Rattle.gate_base.specs.Side.{other, same_side}
 use Rattle.gate_base.specs.declared.address.Addr.{Addr}
 use Rattle.gate_base.specs.declared.event.Moment.{Moment}
 use Rattle.gate_base.specs.declared.side.Side.{Side}
-use Rattle.gate_settings.specs.Cross.{is_in_same}
-use Rattle.gate_settings.specs.declared.settings.Block.{Block}
 use Rattle.realm_pools.specs.Addresses.{least_free}
 use Rattle.binding_table.specs.declared.binding.Binding.{Binding}
 use Rattle.binding_table.specs.declared.binding.Crossing.{Crossing}
 use Rattle.binding_table.specs.declared.binding.Crossing.TheVariants.{Same, Known, New, Unbound, Empty}
-use Rattle.binding_table.specs.Bindings.{Bindings, is_same, is_of_host, in_pool, alias_of, pool_of, cross, seen, seen_by, new_or_empty, with_binding, extend_through, extended, is_live, expired}
+use Rattle.binding_table.specs.Bindings.{Bindings, is_same, is_of_host, in_pool, alias_of, pool_of, cross, seen, seen_by, new_or_empty, extend_through, is_live, expired}
 use Rattle.binding_table.specs.Lawful.{IsInPlace, IsLawful}
 use Rattle.binding_table.specs.Plan.{Use, used, used_by, after_uses, needs_binding}
 use Rattle.binding_table.proofs.Pools.{same_side-true}
-use Rattle.binding_table.proofs.Kept.{same_pair, lawful_map, lawful_push, ends_extended}
+use Rattle.binding_table.proofs.Kept.{same_pair, lawful_map, lawful_push}
 use Rattle.binding_table.proofs.Bind.{HasNoBinding, fresh_is, unbound_cross, least_is_free, can_bind}
-use Rattle.binding_table.proofs.Planned.{used_follows}
 use Rattle.binding_table.specs.Lasting.{IsBoundTo, IsKnownAs}
 
 -- ## What is found

@@ -1,10 +1,7 @@
 -- What is promised holds for every list of events.
-use Rattle.std.proofs.Common.{◌≡◌, ◌≤◌, ℕ, List, [], ◌∷◌, length, Option, Some, None, refl, sym, ap, subst, ◌∙◌}
-use Rattle.std.specs.List.{fold}
+use Rattle.std.proofs.Common.{◌≡◌, ℕ, List, [], ◌∷◌, None, refl, sym, ap, ◌∙◌}
 use Rattle.gate_base.specs.Events.{Event}
-use Rattle.gate_base.specs.declared.event.Verdict.{Verdict}
 use Rattle.gate_base.specs.declared.event.Verdict.TheVariants.{Pass, Refused}
-use Rattle.gate_base.specs.declared.refusal.Refusal.{Refusal}
 use Rattle.gate_base.specs.declared.side.Side.{Side}
 use Rattle.gate_settings.specs.declared.settings.Settings.{Settings}
 use Rattle.binding_table.specs.Bindings.{Bindings}
@@ -12,13 +9,13 @@ use Rattle.ipv4_frames.specs.Ipv4.{Datagram}
 use Rattle.stream_model.specs.Session.{Session}
 use Rattle.twice_translate.specs.Renamed.{renamed}
 use Rattle.gate_world.specs.Frame.{Kind, Udp, Echo, Error, Dns, Snmp, Stream, datagram_in, kind_of}
-use Rattle.gate_world.specs.Promise.{known_after, told_after, reason, IsPlain, renaming, FrameIs, Promised}
+use Rattle.gate_world.specs.Promise.{known_after, told_after, reason, FrameIs, Promised}
 use Rattle.gate_world.specs.Reading.{world_as}
 use Rattle.gate_world.specs.Rules.{whole_rules}
 use Rattle.gate_world.specs.Step.{out, out_by, out_between, stream_out, taker_in, translated}
 use Rattle.gate_world.specs.Told.{Told, told_rules}
 use Rattle.gate_world.specs.Verdict.{table_after, verdict, verdict_of}
-use Rattle.gate_world.specs.World.{Tracked, World, at_moment, called, source_of, destination_of, opening_world}
+use Rattle.gate_world.specs.World.{World, at_moment, called, source_of, destination_of, opening_world}
 use Rattle.gate_world.proofs.GoesOn.{goes_on, whole_answers}
 use Rattle.gate_world.proofs.HostsKept.{run_hosts}
 use Rattle.gate_world.proofs.HostsOpen.{opening_hosts, pairs_cross}
