@@ -23,7 +23,7 @@ ghost use Rattle.gate_world.specs.Verdict.{tests, verdict, verdict_of, world_tes
 
 use crate::salt::salt_of;
 use crate::stream::{Segment, take_segment};
-use binding_table::Table;
+use binding_table::{Firsts, Table};
 use expiring_table::Seed;
 use gate_base::{
     DNS_PORT, Event, Moment, OutOfMemory, Refusal, SNMP_PORT, Side, TRAP_PORT, Verdict,
@@ -60,6 +60,8 @@ pub struct Gate {
     gone: Vec<usize>,
     // empty between calls
     scratch: Vec<u8>,
+    // empty between calls
+    firsts: Firsts,
     // what the tables spread their keys by besides, until the first event
     salt: Option<u64>,
 }
@@ -92,6 +94,7 @@ impl Gate {
             pending: 0,
             gone: Vec::with_capacity(alloc, SESSIONS)?,
             scratch: Vec::with_capacity(alloc, SCRATCH)?,
+            firsts: Firsts::make(alloc, seed)?,
             salt: Some(salt),
             settings,
         })
@@ -127,7 +130,7 @@ impl Gate {
         self.take_event(event, outbox)
     }
 
-    // Before the first event, spreads the keys of both tables by its moment too, which no sender knows before.
+    // Before the first event, spreads the keys of the tables by its moment too, which no sender knows before.
     fn spread_keys(&mut self, moment: Moment)
         ensures { self.new ≡ self.old }
     {
@@ -137,6 +140,7 @@ impl Gate {
         let seed = Seed::from_number(salt ^ moment.0);
         self.table.reseed(seed);
         self.connections.reseed(seed);
+        self.firsts.reseed(seed);
         self.salt = None;
     }
 
@@ -158,6 +162,7 @@ impl Gate {
             &mut self.connections,
             &mut self.pending,
             &mut self.scratch,
+            &mut self.firsts,
             event,
             outbox,
         )?;
@@ -181,6 +186,7 @@ fn take_frame(
     connections: &mut SessionTable<TrackedSession>,
     pending: &mut u64,
     scratch: &mut Vec<u8>,
+    firsts: &mut Firsts,
     event: &Event<'_>,
     outbox: &mut Outbox,
 ) -> Result<Option<Refusal>, OutOfMemory>
@@ -204,6 +210,7 @@ fn take_frame(
             connections,
             pending,
             scratch,
+            firsts,
             event.side,
             event.moment,
             &frame,
@@ -220,6 +227,7 @@ fn take(
     connections: &mut SessionTable<TrackedSession>,
     pending: &mut u64,
     scratch: &mut Vec<u8>,
+    firsts: &mut Firsts,
     side: Side,
     moment: Moment,
     frame: &Judged<'_>,
@@ -251,7 +259,7 @@ fn take(
         return Ok(Some(refusal));
     }
     match &frame.content {
-        Content::Udp(view) => take_udp(alloc, table, &way, frame.octets, view, outbox),
+        Content::Udp(view) => take_udp(alloc, table, firsts, &way, frame.octets, view, outbox),
         Content::Icmp(view) => Ok(take_icmp(table, connections, &way, frame.octets, view, outbox)),
         Content::Tcp(view) => take_segment(
             alloc,
@@ -274,6 +282,7 @@ fn take(
 fn take_udp(
     alloc: Global,
     table: &mut Table,
+    firsts: &mut Firsts,
     way: &Way,
     octets: &[u8],
     view: &UdpView<'_>,
@@ -294,7 +303,7 @@ fn take_udp(
 {
     let ports = view.ports();
     if has_port(ports, DNS_PORT) {
-        return take_names(alloc, table, way, octets, view.payload(), outbox);
+        return take_names(alloc, table, firsts, way, octets, view.payload(), outbox);
     }
     if has_port(ports, SNMP_PORT) || has_port(ports, TRAP_PORT) {
         return Ok(take_management(table, way, octets, view.payload(), outbox));

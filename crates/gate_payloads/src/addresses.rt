@@ -7,7 +7,7 @@ ghost use Rattle.gate_base.specs.Tests.{first_that_holds};
 ghost use Rattle.gate_world.specs.Verdict.{is_reachable, uses_until};
 ghost use Rattle.gate_payloads.specs.Ways.{IsWay, image_by, is_empty, way_tests};
 
-use binding_table::{Crossing, Table};
+use binding_table::{Crossing, Firsts, Table};
 use gate_base::{Addr, Moment, Refusal, Side};
 
 /// A datagram's way: the realm from which it comes, the moment, both addresses, and how they cross.
@@ -134,8 +134,8 @@ pub fn lacks_alias(way: &Way) -> bool
 }
 
 /// More of these addresses need a binding than the other realm's pool has addresses for.
-pub fn lacks_aliases(table: &Table, side: Side, addresses: &[Addr]) -> bool
+pub fn lacks_aliases(table: &Table, side: Side, addresses: &[Addr], firsts: &mut Firsts) -> bool
     ensures { result ≡ nat_lt (free table.now (other side)) (needed table.now side addresses.now) }
 {
-    table.free(side.other()) < table.needed(side, addresses)
+    table.free(side.other()) < table.needed(side, addresses, firsts)
 }

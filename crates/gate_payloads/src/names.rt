@@ -19,7 +19,7 @@ ghost use Rattle.gate_payloads.specs.Taken.{IsTaken, IsWayOf};
 
 use crate::addresses::{Way, lacks_aliases, use_address};
 use crate::plain::UDP_HOLD;
-use binding_table::{Crossing, Table};
+use binding_table::{Crossing, Firsts, Table};
 use dns_gateway::{addresses_of, rename, reply};
 use dns_messages::{Message, read_message};
 use dns_names::NameStop;
@@ -110,6 +110,7 @@ fn planned_reply(
     message: &Message,
     addresses: &[Addr],
     payload: &[u8],
+    firsts: &mut Firsts,
 ) -> Result<Option<Vec<u8>>, OutOfMemory>
     requires both { 2 ≤ length addresses.now }
     requires named { drop 2 addresses.now ≡ named_in (Some message.now) }
@@ -121,7 +122,7 @@ fn planned_reply(
     ensures fits { IfOk result (λ reply. IfSome reply (λ v. 28 + length v.items ≤ 65535)) }
 {
     let mut images = vec![in alloc; None; addresses.len()]?;
-    table.plan(side, addresses, &mut images);
+    table.plan(side, addresses, &mut images, firsts);
     reply_by(alloc, message, &images[2..], payload)
 }
 
@@ -186,6 +187,7 @@ fn take_message(
     alloc: Global,
     message: &Message,
     table: &mut Table,
+    firsts: &mut Firsts,
     way: &Way,
     octets: &[u8],
     payload: &[u8],
@@ -210,10 +212,10 @@ fn take_message(
         return Ok(Some(Refusal::DnsUnbound));
     }
     let addresses = all_addresses(alloc, way, &named)?;
-    if lacks_aliases(table, way.side, &addresses) {
+    if lacks_aliases(table, way.side, &addresses, firsts) {
         return Ok(Some(Refusal::PoolEmpty));
     }
-    let reply = planned_reply(alloc, table, way.side, message, &addresses, payload)?;
+    let reply = planned_reply(alloc, table, way.side, message, &addresses, payload, firsts)?;
     pass_names(table, way, &named, octets, &reply, outbox);
     Ok(None)
 }
@@ -222,6 +224,7 @@ fn take_message(
 pub fn take_names(
     alloc: Global,
     table: &mut Table,
+    firsts: &mut Firsts,
     way: &Way,
     octets: &[u8],
     payload: &[u8],
@@ -241,6 +244,6 @@ pub fn take_names(
 {
     match message_in(alloc, payload)? {
         None => Ok(Some(Refusal::BadDns)),
-        Some(message) => take_message(alloc, &message, table, way, octets, payload, outbox),
+        Some(message) => take_message(alloc, &message, table, firsts, way, octets, payload, outbox),
     }
 }
