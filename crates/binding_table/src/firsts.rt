@@ -10,7 +10,7 @@ use gate_base::{Addr, OutOfMemory};
 use std::alloc::Global;
 use std::marker::Model;
 
-/// How many distinct addresses are noted: more than a datagram can name.
+/// How many distinct addresses are noted: more than a datagram names.
 const MOST: usize = 8_192;
 
 /// Room in which `Table::needed` and `Table::plan` note where the addresses of a list stand first, so that each costs the same

@@ -18,7 +18,8 @@ use realm_pools::Pool;
 use std::alloc::Global;
 use std::marker::Model;
 
-/// The bindings between the hosts of two realms. A call after `make` takes no memory, and costs the same however many there are.
+/// The bindings between the hosts of two realms. A call after `make` takes no memory. But for `reseed`, and for a tidying of the rows
+/// once in very many changes, none looks at all bindings.
 #[derive(Drop)]
 pub struct Table {
     same: Blocks,
@@ -222,7 +223,7 @@ impl Table {
         }
     }
 
-    /// Drops the bindings that don't live, and makes their aliases free. It looks at no other.
+    /// Drops the bindings that don't live, and makes their aliases free, without a walk over the others.
     pub fn expire(&mut self, now: Moment)
         ensures { self.new ≡ tables.expired self.old now }
     {

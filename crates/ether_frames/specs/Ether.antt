@@ -1,7 +1,9 @@
 -- Ethernet frames (RFC 894).
-use Rattle.std.specs.Prelude.{ℕ, nat_lt, if◌then◌else◌, List, ◌++◌, drop, length, Option, Some, None}
+use Rattle.std.specs.Prelude.{ℕ, ◌==◌, nat_lt, if◌then◌else◌, List, [], ◌++◌, drop, length, Option, Some, None}
 use Rattle.byteorder.specs.Endian.{big_bytes}
 use Rattle.gate_base.specs.Fields.{u16_at}
+use Rattle.gate_base.specs.declared.side.Link.{Link}
+use Rattle.gate_base.specs.declared.side.Link.TheVariants.{Ethernet, Raw}
 
 -- an Ethernet frame: what it carries, and what stands behind its head of 14 octets
 pub record Ether : Type 0 where
@@ -19,6 +21,16 @@ read_frame octets = if nat_lt (length octets) 14 then None else Some (fields_of 
 -- the type of frames that carry IPv4
 abbrev pub ipv4_type : ℕ
 ipv4_type = 0x0800
+
+-- the payload of a frame that carries IPv4, and else nothing
+abbrev pub carried : Option Ether → List ℕ
+carried None = []
+carried (Some frame) = if frame.kind == ipv4_type then frame.payload else []
+
+-- the octets in which the datagram of a frame of this link stands
+abbrev pub octets_in : Link → List ℕ → List ℕ
+octets_in Raw octets = octets
+octets_in Ethernet octets = carried (read_frame octets)
 
 -- the head of a frame that carries IPv4: the receiver's address, the sender's, and the type
 abbrev pub ipv4_head : List ℕ → List ℕ → List ℕ

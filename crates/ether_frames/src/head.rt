@@ -4,7 +4,7 @@ ghost use Rattle.ether_frames.specs.Ether.{ipv4_head, ipv4_type, read_frame};
 use gate_base::put_u16;
 
 /// The type of frames that carry IPv4 (RFC 894).
-const IPV4: u16 = 0x0800;
+pub(crate) const IPV4: u16 = 0x0800;
 
 /// Writes the head of a frame that carries IPv4 into the first 14 octets of a target, and leaves the rest.
 pub fn put_head(destination: &[u8; 6], source: &[u8; 6], target: &mut [u8])

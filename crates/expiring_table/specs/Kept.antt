@@ -8,7 +8,6 @@ use Rattle.expiring_table.specs.declared.store.Store.{Store}
 use Rattle.expiring_table.specs.Buckets.{bucket_in}
 use Rattle.expiring_table.specs.Chained.{Chained}
 use Rattle.expiring_table.specs.Armed.{alarm}
-use Rattle.expiring_table.specs.Rows.{}
 
 -- the bucket of a key
 abbrev pub bucket_of : Chained → ℕ → ℕ

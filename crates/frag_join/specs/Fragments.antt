@@ -1,28 +1,16 @@
 -- Fragments of datagrams (RFC 791, 2.3 and 3.2).
-use Rattle.std.specs.Prelude.{ℕ, ◌+◌, ◌-◌, ◌*◌, ◌/◌, ◌%◌, ◌^◌, Bool, true, false, ◌&&◌, ◌==◌, nat_lt, nat_le, if◌then◌else◌, List, [], take, length, slice_index, slice_range, Option, Some, None, Result, Ok, Err}
+use Rattle.std.specs.Prelude.{ℕ, ◌+◌, ◌-◌, ◌*◌, ◌/◌, ◌%◌, ◌^◌, Bool, true, false, ◌&&◌, ◌==◌, nat_lt, nat_le, if◌then◌else◌, List, take, length, slice_index, slice_range, Option, Some, None, Result, Ok, Err}
 use Rattle.gate_base.specs.Events.{Event}
 use Rattle.gate_base.specs.Fields.{u16_at, u32_at}
 use Rattle.gate_base.specs.Side.{same_side}
 use Rattle.gate_base.specs.declared.side.Side.{Side}
-use Rattle.gate_base.specs.declared.side.Link.{Link}
-use Rattle.gate_base.specs.declared.side.Link.TheVariants.{Ethernet, Raw}
-use Rattle.ether_frames.specs.Ether.{Ether, ipv4_type, read_frame}
+use Rattle.ether_frames.specs.Ether.{octets_in}
 use Rattle.ipv4_frames.specs.Ipv4.{Datagram, read_datagram, total_length_of}
 use Rattle.ipv4_frames.specs.declared.fault.IpFault.{IpFault}
 use Rattle.ipv4_frames.specs.declared.fault.IpFault.TheVariants.{NotIpv4, BadHeader, BadHeaderSum, Fragment as IsFragment, IpOptions}
 use Rattle.frag_join.specs.declared.part.Name.{Name}
 
 -- ## In a frame
-
--- the payload of an Ethernet frame that carries IPv4, and else nothing
-abbrev pub carried : Option Ether → List ℕ
-carried None = []
-carried (Some frame) = if frame.kind == ipv4_type then frame.payload else []
-
--- the octets in which the datagram stands
-abbrev pub octets_in : Link → List ℕ → List ℕ
-octets_in Raw octets = octets
-octets_in Ethernet octets = carried (read_frame octets)
 
 abbrev pub octets_of : Event → List ℕ
 octets_of e = octets_in e.link e.octets

@@ -1,19 +1,15 @@
 // Fragments, as views of the frames that carry them.
 ghost use Rattle.std.specs.Prelude.{◌≡◌, ◌≤◌, ◌+◌, ◌%◌, ◌<◌, IfSome, true, false, is_some, length, slice_index};
 ghost use Rattle.gate_base.specs.Events.{event_of};
-ghost use Rattle.ether_frames.specs.Ether.{read_frame};
 ghost use Rattle.ipv4_frames.specs.Ipv4.{has_bad_header, has_options};
 ghost use Rattle.frag_join.specs.Fragments as fragments;
 ghost use Rattle.frag_join.specs.Known.{is_torn};
 
 use crate::part::Name;
-use ether_frames::EtherView;
-use gate_base::{Addr, Event, Link, Side, get_u16, get_u32};
+use ether_frames::octets_in;
+use gate_base::{Addr, Event, Side, get_u16, get_u32};
 use ipv4_frames::{IpFault, IpView};
 use std::marker::Model;
-
-/// The type of frames that carry IPv4 (RFC 894).
-const IPV4: u16 = 0x0800;
 
 /// A fragment: its header without options, the place of the datagram's payload at which its own payload starts, that
 /// payload, and whether more fragments follow behind it (RFC 791, 3.1).
@@ -120,31 +116,6 @@ fn is_fragment(octets: &[u8]) -> bool
     ensures { result ≡ fragments.is_fragment_at octets.now }
 {
     matches!(IpView::of(octets), Err(IpFault::Fragment))
-}
-
-fn octets_in<'a>(event: &Event<'a>) -> &'a [u8]
-    ensures { result.now ≡ fragments.octets_of (event_of event.now) }
-{
-    match event.link {
-        Link::Raw => event.octets,
-        Link::Ethernet => carried(event.octets),
-    }
-}
-
-// The payload of an Ethernet frame that carries IPv4, and else nothing.
-fn carried(octets: &[u8]) -> &[u8]
-    ensures { result.now ≡ fragments.carried (read_frame octets.now) }
-{
-    match EtherView::of(octets) {
-        Some(frame) => {
-            if frame.kind() == IPV4 {
-                frame.payload()
-            } else {
-                &[]
-            }
-        }
-        None => &[],
-    }
 }
 
 /// What a fragment has in common with the others of its datagram.

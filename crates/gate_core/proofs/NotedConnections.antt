@@ -7,7 +7,8 @@ use Rattle.std.proofs.lemmas.List.Quantifiers.{position-Some}
 use Rattle.gate_base.specs.declared.event.Moment.{Moment}
 use Rattle.gate_base.specs.declared.side.Side.{Side}
 use Rattle.gate_base.specs.declared.side.Side.TheVariants.{Left, Right}
-use Rattle.tcp_tracker.specs.Connections.{is_of, place_of, connection_of, has_rst, has_syn, has_ack, is_reset, starts_anew, unused, kept, with_flags, held, after, changed, noted, without}
+use Rattle.tcp_segments.specs.Flags.{flags_of}
+use Rattle.tcp_tracker.specs.Connections.{is_of, place_of, connection_of, is_reset, starts_anew, unused, kept, with_flags, held, after, changed, noted, without}
 use Rattle.tcp_tracker.specs.declared.connection.ConnKey.{ConnKey}
 use Rattle.tcp_tracker.specs.declared.connection.Connection.{Connection}
 use Rattle.session_table.specs.Joined.{replaced, with_session as with_other}
@@ -99,7 +100,7 @@ without_replaced key all t s e =
 
 -- a connection with a session is neither reset nor starts anew
 kept_tracked : {S : Type 0} (flags : ℕ) (c : Connection S) → is_some c.session ≡ true → kept flags c ≡ Some c
-kept_tracked {S = S} flags c e = rw e (by_tests (has_rst flags) c.closing (has_syn flags && not (has_ack flags || has_rst flags)))
+kept_tracked {S = S} flags c e = rw e (by_tests (flags_of flags).reset c.closing ((flags_of flags).syn && not ((flags_of flags).ack || (flags_of flags).reset)))
   where
     by_tests : (a b x : Bool) → (if a && false then None else if (b && false) && x then Some (unused {S = S} c.key None) else Some c) ≡ Some c
     by_tests true true x = refl
@@ -143,7 +144,7 @@ untracked_same : {S : Type 0} (c : Connection (Tracked S)) → c.session ≡ Non
 untracked_same {S = S} c e = ap (λ (o : Option (Tracked S)). let x : Connection (Tracked S) = record c { session = o } in x) (sym e)
 
 untracked_after : {S : Type 0} (key : ConnKey) (side : Side) (flags : ℕ) (now : Moment) (found : Option (Connection (Tracked S))) → session_in found ≡ None → option_map (with_session None) (after key side flags None now found) ≡ after key side flags None now found
-untracked_after {S = S} key side flags now None e = by_test (has_rst flags)
+untracked_after {S = S} key side flags now None e = by_test (flags_of flags).reset
   where
     by_test : (b : Bool) → option_map (with_session None) (option_map (passed side flags now) (if b then None else Some (unused {S = Tracked S} key None))) ≡ option_map (passed side flags now) (if b then None else Some (unused {S = Tracked S} key None))
     by_test true = refl
@@ -160,11 +161,11 @@ pub noted_untracked : {S : Type 0} (key : ConnKey) (all : List (Connection (Trac
 noted_untracked key all side flags now e = ap (changed all (place_of key all)) (sym (untracked_after key side flags now (connection_of key all) e))
 
 -- a session that begins stands in the connection that its segment makes
-pub noted_begun : {S : Type 0} (key : ConnKey) (all : List (Connection (Tracked S))) (t s : Tracked S) (side : Side) (flags : ℕ) (now : Moment) → connection_of key all ≡ None → has_rst flags ≡ false →
+pub noted_begun : {S : Type 0} (key : ConnKey) (all : List (Connection (Tracked S))) (t s : Tracked S) (side : Side) (flags : ℕ) (now : Moment) → connection_of key all ≡ None → (flags_of flags).reset ≡ false →
     noted all key side flags (Some s) now ≡ changed all (place_of key all) (option_map (with_session (Some s)) (after key side flags (Some t) now (connection_of key all)))
 noted_begun {S = S} key all t s side flags now none plain =
     ap (λ (o : Option (Connection (Tracked S))). changed all (place_of key all) (after key side flags (Some s) now o)) none
-    ∙ ap (changed all (place_of key all)) (by_test (has_rst flags) plain)
+    ∙ ap (changed all (place_of key all)) (by_test (flags_of flags).reset plain)
     ∙ ap (λ (o : Option (Connection (Tracked S))). changed all (place_of key all) (option_map (with_session (Some s)) (after key side flags (Some t) now o))) (sym none)
   where
     by_test : (b : Bool) → b ≡ false → option_map (passed side flags now) (if b then None else Some (unused key (Some s))) ≡ option_map (with_session (Some s)) (option_map (passed side flags now) (if b then None else Some (unused key (Some t))))
@@ -176,7 +177,7 @@ pub session_left : {S : Type 0} (key : ConnKey) (t s : Tracked S) (side : Side) 
 session_left key t s side flags taker now None e = absurd (cc)
 session_left {S = S} key t s side flags taker now (Some c) e = ap (λ (o : Option (Connection (Tracked S))). session_in (option_map (with_session (Some s)) o)) (after_tracked key side flags taker now c (ap is_some e))
 
-pub session_begun : {S : Type 0} (key : ConnKey) (t s : Tracked S) (side : Side) (flags : ℕ) (now : Moment) (found : Option (Connection (Tracked S))) → found ≡ None → has_rst flags ≡ false → session_in (option_map (with_session (Some s)) (after key side flags (Some t) now found)) ≡ Some s
+pub session_begun : {S : Type 0} (key : ConnKey) (t s : Tracked S) (side : Side) (flags : ℕ) (now : Moment) (found : Option (Connection (Tracked S))) → found ≡ None → (flags_of flags).reset ≡ false → session_in (option_map (with_session (Some s)) (after key side flags (Some t) now found)) ≡ Some s
 session_begun {S = S} key t s side flags now found none plain =
     ap (λ (o : Option (Connection (Tracked S))). session_in (option_map (with_session (Some s)) (after key side flags (Some t) now o))) none
     ∙ ap (λ (b : Bool). session_in (option_map (with_session (Some s)) (option_map (passed side flags now) (if b then None else Some (unused key (Some t)))))) plain
@@ -204,10 +205,10 @@ no_place {S = S} key all e = by_place (place_of key all) refl e
     by_place (Some i) p n = absurd (by_element i (slice_get all i) refl p n)
 
 -- an RST of it changes nothing
-pub noted_reset : {S : Type 0} (key : ConnKey) (all : List (Connection S)) (side : Side) (flags : ℕ) (now : Moment) → (is_none (connection_of key all) && has_rst flags) ≡ true → noted all key side flags None now ≡ all
-noted_reset {S = S} key all side flags now e = by_connection (connection_of key all) (has_rst flags) refl refl e
+pub noted_reset : {S : Type 0} (key : ConnKey) (all : List (Connection S)) (side : Side) (flags : ℕ) (now : Moment) → (is_none (connection_of key all) && (flags_of flags).reset) ≡ true → noted all key side flags None now ≡ all
+noted_reset {S = S} key all side flags now e = by_connection (connection_of key all) (flags_of flags).reset refl refl e
   where
-    by_connection : (o : Option (Connection S)) (b : Bool) → connection_of key all ≡ o → has_rst flags ≡ b → (is_none o && b) ≡ true → noted all key side flags None now ≡ all
+    by_connection : (o : Option (Connection S)) (b : Bool) → connection_of key all ≡ o → (flags_of flags).reset ≡ b → (is_none o && b) ≡ true → noted all key side flags None now ≡ all
     by_connection (Some c) b f r h = absurd (cc)
     by_connection None false f r h = absurd (cc)
     by_connection None true f r h =

@@ -11,7 +11,8 @@ use Rattle.binding_table.specs.Bindings.{Bindings}
 use Rattle.binding_table.proofs.Pools.{same_side-itself}
 use Rattle.ipv4_frames.specs.Ipv4.{Datagram}
 use Rattle.tcp_segments.specs.Tcp.{Tcp}
-use Rattle.tcp_tracker.specs.Connections.{has_rst, has_syn, has_ack, is_tracked}
+use Rattle.tcp_segments.specs.Flags.{flags_of}
+use Rattle.tcp_tracker.specs.Connections.{is_tracked}
 use Rattle.tcp_tracker.specs.declared.connection.Connection.{Connection}
 use Rattle.gate_base.specs.Tests.{first_that_holds}
 use Rattle.stream_kept.specs.Kept.{unlike_kept}
@@ -121,12 +122,12 @@ new_joined live side d dns none lacks other = record {
 
 -- the session that it makes takes the segment
 pub begun_joined : (live : World KeptSession) (side : Side) (d : Datagram) → has_port dns_port d ≡ false → found_in live side d ≡ None → (is_opening (tcp_of d).flags && (tcp_of d).destination_port == control_port) ≡ true →
-    IsJoined live side d (Some (made_by kept_rules (table_after kept_rules live side live.clock d Stream) side d)) (not (has_rst (tcp_of d).flags) && nat_le 65536 (length live.connections) || nat_le 4096 (count_by is_tracked live.connections))
+    IsJoined live side d (Some (made_by kept_rules (table_after kept_rules live side live.clock d Stream) side d)) (not (flags_of (tcp_of d).flags).reset && nat_le 65536 (length live.connections) || nat_le 4096 (count_by is_tracked live.connections))
 begun_joined live side d dns none begun = record {
   dns = dns;
   begins = ap (λ (o : Option (Connection (Tracked KeptSession))). lacks_session o d) none ∙ ap (λ (b : Bool). ((tcp_of d).source_port == control_port || (tcp_of d).destination_port == control_port) && not b) (and_parts (is_opening (tcp_of d).flags) ((tcp_of d).destination_port == control_port) begun).0 ∙ and_false _;
   taker_is = ap (λ (o : Option (Connection (Tracked KeptSession))). taker_by kept_rules (table_after kept_rules live side live.clock d Stream) side d o) none ∙ ap (λ (b : Bool). if b then Some (made_by kept_rules (table_after kept_rules live side live.clock d Stream) side d) else None) begun;
-  full_is = ap (λ (o : Option (Connection (Tracked KeptSession))). is_full live.connections o d) none ∙ ap (λ (b : Bool). not (has_rst (tcp_of d).flags) && nat_le 65536 (length live.connections) || (b && nat_le 4096 (count_by is_tracked live.connections))) begun;
+  full_is = ap (λ (o : Option (Connection (Tracked KeptSession))). is_full live.connections o d) none ∙ ap (λ (b : Bool). not (flags_of (tcp_of d).flags).reset && nat_le 65536 (length live.connections) || (b && nat_le 4096 (count_by is_tracked live.connections))) begun;
 }
   where
     and_false : (a : Bool) → (a && false) ≡ false
@@ -149,10 +150,10 @@ syn_held : (syn ack : Bool) → (syn && not ack) ≡ true → syn ≡ true
 syn_held true ack e = refl
 syn_held false ack e = e
 
-pub opens_plain : (tcp : Tcp) → is_opening tcp.flags ≡ true → kept_verdict true (kept_made tcp.sequence tcp.mss nothing_pushed nothing_pushed) (of_tcp tcp) ≡ None → has_rst tcp.flags ≡ false
+pub opens_plain : (tcp : Tcp) → is_opening tcp.flags ≡ true → kept_verdict true (kept_made tcp.sequence tcp.mss nothing_pushed nothing_pushed) (of_tcp tcp) ≡ None → (flags_of tcp.flags).reset ≡ false
 opens_plain tcp opens none =
     let h = kept_made tcp.sequence tcp.mss nothing_pushed nothing_pushed in
-    syn_alone true h.client h.server (of_tcp tcp) (unlike_kept h.client (of_tcp tcp)) none (syn_held (has_syn tcp.flags) (has_ack tcp.flags) opens)
+    syn_alone true h.client h.server (of_tcp tcp) (unlike_kept h.client (of_tcp tcp)) none (syn_held (flags_of tcp.flags).syn (flags_of tcp.flags).ack opens)
 
 -- ## What is refused
 

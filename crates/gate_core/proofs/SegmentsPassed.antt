@@ -11,7 +11,8 @@ use Rattle.binding_table.specs.Bindings.{Bindings, cross, is_settled}
 use Rattle.binding_table.specs.Plan.{after_uses}
 use Rattle.ipv4_frames.specs.Ipv4.{Datagram}
 use Rattle.tcp_segments.specs.Tcp.{Tcp}
-use Rattle.tcp_tracker.specs.Connections.{connection_of, has_rst, hold_of, short_hold, noted, without, changed, place_of, after}
+use Rattle.tcp_segments.specs.Flags.{flags_of}
+use Rattle.tcp_tracker.specs.Connections.{connection_of, hold_of, short_hold, noted, without, changed, place_of, after}
 use Rattle.tcp_tracker.specs.declared.connection.ConnKey.{ConnKey}
 use Rattle.tcp_tracker.specs.declared.connection.Connection.{Connection}
 use Rattle.session_table.specs.Joined.{replaced}
@@ -215,7 +216,7 @@ made_is live d way w room =
 pub session_begins : (way : Way) (table : Bindings) (connections : List (Connection (Tracked KeptSession))) (pending : ℕ) (d : Datagram) (waiting : Option ℕ) (full : Bool) (table_new : Bindings) (connections_new : List (Connection (Tracked KeptSession))) (sent : List (List ℕ)) →
     let live = world_of way.moment.0 table connections pending in let key = key_in table way.side d in let flags = (tcp_of d).flags in let t = made_on way (tcp_of d) in
     IsWayOf live way.side d way → found_in live way.side d ≡ None → IsJoined live way.side d (Some (made_by kept_rules (table_after kept_rules live way.side live.clock d Stream) way.side d)) full → full ≡ false →
-    session_refusal kept_rules way.side d (Some (made_by kept_rules (table_after kept_rules live way.side live.clock d Stream) way.side d)) ≡ None → has_rst flags ≡ false → is_empty way.of_source ≡ false → waiting ≡ waiting_after way.side d t →
+    session_refusal kept_rules way.side d (Some (made_by kept_rules (table_after kept_rules live way.side live.clock d Stream) way.side d)) ≡ None → (flags_of flags).reset ≡ false → is_empty way.of_source ≡ false → waiting ≡ waiting_after way.side d t →
     table_new ≡ after_uses table (uses_until way.side (way.moment.0 + hold_of connections key way.side flags) (way.source ∷ way.destination ∷ [])) →
     connections_new ≡ noted connections key way.side flags (Some (stepped kept_rules way.side d t)) way.moment →
     sent ≡ stream_out kept_rules way.side d (image_by way.of_source way.source).0 (image_by way.of_destination way.destination).0 (Some t) →

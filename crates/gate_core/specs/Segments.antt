@@ -8,7 +8,7 @@ use Rattle.gate_base.specs.declared.side.Side.{Side}
 use Rattle.ipv4_frames.specs.Ipv4.{Datagram}
 use Rattle.ftp_lines.specs.Renaming.{client_lines, server_lines}
 use Rattle.tcp_segments.specs.Tcp.{Tcp}
-use Rattle.tcp_tracker.specs.Connections.{has_rst}
+use Rattle.tcp_segments.specs.Flags.{flags_of}
 use Rattle.tcp_tracker.specs.declared.connection.Connection.{Connection}
 use Rattle.stream_gate.specs.Memory.{KeptCompletes}
 use Rattle.gate_base.specs.Tests.{first_that_holds}
@@ -55,7 +55,7 @@ room_tests full empty = (full, SessionsFull) ∷ (empty, PoolEmpty) ∷ []
 
 -- it would make a connection, and the most of them live
 abbrev pub lacks_place : List (Connection (Tracked KeptSession)) → Option (Connection (Tracked KeptSession)) → ℕ → Bool
-lacks_place all found flags = is_none found && (not (has_rst flags) && nat_le most_connections (length all))
+lacks_place all found flags = is_none found && (not (flags_of flags).reset && nat_le most_connections (length all))
 
 -- why a session refuses it, if it does, where there is a session
 abbrev pub session_verdict : Side → Datagram → Option (Tracked KeptSession) → Option (Option Refusal)

@@ -4,7 +4,8 @@ ghost use Rattle.binding_table.specs.Bindings.{is_settled};
 ghost use Rattle.binding_table.specs.Plan.{after_uses};
 ghost use Rattle.twice_translate.specs.Renamed.{CanGoOn, datagram_of, renamed};
 ghost use Rattle.ipv4_frames.specs.Ipv4.{Datagram};
-ghost use Rattle.tcp_tracker.specs.Connections.{connection_of, hold_of, noted, has_rst, is_tracked};
+ghost use Rattle.tcp_segments.specs.Flags.{flags_of};
+ghost use Rattle.tcp_tracker.specs.Connections.{connection_of, hold_of, noted, is_tracked};
 ghost use Rattle.session_table.specs.Joined.{replaced};
 ghost use Rattle.gate_world.specs.Frame as kinds;
 ghost use Rattle.gate_world.specs.Stream as streams;
@@ -32,8 +33,7 @@ use session_table::SessionTable;
 use shift_ledger::Recent;
 use std::alloc::Global;
 use stream_gate::StreamGate;
-use stream_model::flags_of;
-use tcp_segments::TcpView;
+use tcp_segments::{TcpView, flags_of};
 use tcp_tracker::ConnKey;
 
 /// The most connections and the most sessions that live at once.
@@ -256,7 +256,7 @@ fn note_untracked(
 
 /// An RST of a connection that doesn't live.
 fn is_stray_reset(connections: &SessionTable<TrackedSession>, key: &ConnKey, flags: u8) -> bool
-    ensures { result ≡ (is_none (connection_of key.now connections.now) && has_rst flags) }
+    ensures { result ≡ (is_none (connection_of key.now connections.now) && (flags_of flags).reset) }
 {
     flags_of(flags).reset && !connections.contains(key)
 }

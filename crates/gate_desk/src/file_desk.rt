@@ -1,47 +1,49 @@
 // A desk over real files: the trusted edge of the program.
-ghost use Rattle.std.specs.Prelude.{◌≡◌, ◌<◌, ◌≤◌, [], length, take, IfOk, OnOk, OnErr};
-ghost use Rattle.gate_desk.specs.Counts.{counts_after};
+ghost use Rattle.std.specs.Prelude.{◌≡◌, ◌<◌, ◌≤◌, [], None, length, take, IfOk, IfErr, IfSome, IsSome, IsErr, IsErrOf, OnOk, OnErr};
+ghost use Rattle.gate_desk.specs.Counts.{counts_after, raised};
+ghost use Rattle.gate_desk.specs.Gathering.{waiting_in, gathered_after, Waits};
 ghost use Rattle.gate_desk.specs.Memory.{each};
+ghost use Rattle.gate_desk.specs.Slots.{at, put};
 
+use crate::gathered::Gathering;
 use crate::per_slot::{no_counts, raise};
+use crate::place::{Place, open_place, write_out};
 use crate::{Desk, Failed, PerSlot, Slot, Way};
 use std::alloc::Allocator;
-use std::fs;
-use std::io::{self, BufReader, Read, Write};
+use std::io::{self, Read};
 use std::marker::Model;
 use std::rt::Runtime;
 
-/// How many octets of a file are read ahead.
-const READ_AHEAD: usize = 1 << 16;
-
-/// Where a slot leads.
-#[derive(Drop)]
-enum Place<F: Read + Drop, A: Allocator> {
-    Nowhere,
-    Input(BufReader<F, A>),
-    Output(F),
-    StandardOutput,
-}
-
 /// A desk over files, which tells no contents and no starts. A start for reading opens a file, and one for writing creates or
 /// empties it; the name `-` on the report is standard output. What is written on the slot of errors goes to standard error.
+///
+/// A write that is answered was taken, which doesn't say that the system got it: octets are gathered for each slot. All that
+/// is gathered is written out, first of the captures and then of the report, before the system is asked for more octets of
+/// an input, before a start, before a line of errors, where there is no room for a piece, and by `finish`, which alone says
+/// that the system got all. Once the system refuses a gathered octet each start, read and write fails, that of a line of
+/// errors too, until `finish` names the slot, drops what is gathered and closes all slots.
 #[derive(Drop)]
 pub struct FileDesk<R: Runtime> {
     rt: R,
     places: PerSlot<Place<R::File, R::A>>,
+    // the slot of which the system refused a gathered octet
+    refused: Option<Slot>,
     faults: PerSlot<u64>,
     start_faults: PerSlot<u64>,
 }
 
 impl<R: Runtime> Model for FileDesk<R> {
-    ghost use Rattle.gate_desk.specs.Untold.{Counts};
+    ghost use Rattle.gate_desk.specs.Untold.{Files};
+    ghost use Rattle.gate_desk.specs.Gathering.{waiting_in};
 
-    ghost Value = { Counts };
+    ghost Value = { Files };
 
-    ghost view = { λ d. record { faults = d.faults; start_faults = d.start_faults } };
+    ghost view = { λ d. record { waiting = waiting_in d.places; refused = d.refused; faults = d.faults; start_faults = d.start_faults } };
 }
 
-fn nowhere<F: Read + Drop, A: Allocator>() -> PerSlot<Place<F, A>> {
+fn nowhere<F: Read + Drop, A: Allocator>() -> PerSlot<Place<F, A>>
+    ensures { waiting_in result ≡ each [] }
+{
     PerSlot {
         settings: Place::Nowhere,
         left_in: Place::Nowhere,
@@ -53,118 +55,178 @@ fn nowhere<F: Read + Drop, A: Allocator>() -> PerSlot<Place<F, A>> {
     }
 }
 
-fn set_place<F: Read + Drop, A: Allocator>(
+// The place of a slot.
+#[inline(always)]
+fn place_mut<F: Read + Drop, A: Allocator>(
     places: &mut PerSlot<Place<F, A>>,
     slot: Slot,
-    place: Place<F, A>,
-) {
+) -> &mut Place<F, A> {
     match slot {
-        Slot::Settings => places.settings = place,
-        Slot::LeftIn => places.left_in = place,
-        Slot::RightIn => places.right_in = place,
-        Slot::LeftOut => places.left_out = place,
-        Slot::RightOut => places.right_out = place,
-        Slot::Report => places.report = place,
-        Slot::Errors => places.errors = place,
+        Slot::Settings => &mut places.settings,
+        Slot::LeftIn => &mut places.left_in,
+        Slot::RightIn => &mut places.right_in,
+        Slot::LeftOut => &mut places.left_out,
+        Slot::RightOut => &mut places.right_out,
+        Slot::Report => &mut places.report,
+        Slot::Errors => &mut places.errors,
     }
 }
 
-fn open_place<R: Runtime>(
+// Gathers a whole piece for a slot, or nothing of it.
+#[inline(always)]
+fn gather<F: Read + Drop, A: Allocator>(
+    places: &mut PerSlot<Place<F, A>>,
+    slot: Slot,
+    piece: &[u8],
+) -> Gathering
+    ensures { waiting_in places.new ≡ put (waiting_in places.old) slot (gathered_after result piece.now (at (waiting_in places.old) slot)) }
+{
+    match slot {
+        Slot::Settings => places.settings.gather(piece),
+        Slot::LeftIn => places.left_in.gather(piece),
+        Slot::RightIn => places.right_in.gather(piece),
+        Slot::LeftOut => places.left_out.gather(piece),
+        Slot::RightOut => places.right_out.gather(piece),
+        Slot::Report => places.report.gather(piece),
+        Slot::Errors => places.errors.gather(piece),
+    }
+}
+
+// Writes out all that is gathered, the report last, so that no line comes before its frame. The error is the slot that failed.
+fn write_out_all<R: Runtime>(rt: &R, places: &mut PerSlot<Place<R::File, R::A>>) -> Result<(), Slot>
+    ensures { OnOk result (waiting_in places.new ≡ each []) }
+{
+    write_out(rt, &mut places.settings).map_err(|_: Failed| Slot::Settings)?;
+    write_out(rt, &mut places.left_in).map_err(|_: Failed| Slot::LeftIn)?;
+    write_out(rt, &mut places.right_in).map_err(|_: Failed| Slot::RightIn)?;
+    write_out(rt, &mut places.left_out).map_err(|_: Failed| Slot::LeftOut)?;
+    write_out(rt, &mut places.right_out).map_err(|_: Failed| Slot::RightOut)?;
+    write_out(rt, &mut places.report).map_err(|_: Failed| Slot::Report)?;
+    write_out(rt, &mut places.errors).map_err(|_: Failed| Slot::Errors)
+}
+
+// Writes out all that is gathered, or keeps the slot of which the system refused an octet.
+#[inline(never)]
+fn hand_out<R: Runtime>(
     rt: &R,
+    places: &mut PerSlot<Place<R::File, R::A>>,
+    refused: &mut Option<Slot>,
+) -> Result<(), Failed>
+    ensures all { OnOk result (waiting_in places.new ≡ each []) }
+    ensures none { OnOk result (refused.new ≡ None) }
+    ensures err { OnErr result (IsSome refused.new) }
+    ensures kept { IsSome refused.old → refused.new ≡ refused.old }
+{
+    if refused.is_some() {
+        return Err(Failed);
+    }
+    match write_out_all(rt, places) {
+        Ok(()) => Ok(()),
+        Err(slot) => {
+            *refused = Some(slot);
+            Err(Failed)
+        }
+    }
+}
+
+// Opens a slot's file, once all that is gathered is written out.
+#[inline(never)]
+fn start_slot<R: Runtime>(
+    rt: &R,
+    places: &mut PerSlot<Place<R::File, R::A>>,
+    refused: &mut Option<Slot>,
     slot: Slot,
     name: &str,
     way: Way,
-) -> io::Result<Place<R::File, R::A>> {
-    match way {
-        Way::Read => {
-            let file = fs::open(rt, name)?;
-            let reader = BufReader::with_capacity(rt.alloc(), READ_AHEAD, file)?;
-            Ok(Place::Input(reader))
-        }
-        Way::Write => {
-            if slot == Slot::Report && name == "-" {
-                Ok(Place::StandardOutput)
-            } else {
-                Ok(Place::Output(fs::create(rt, name)?))
-            }
+) -> Result<(), Failed>
+    ensures { IsSome refused.old → IsErr result }
+{
+    hand_out(rt, places, refused)?;
+    *place_mut(places, slot) = open_place(rt, slot, name, way).map_err(|_: io::Error| Failed)?;
+    Ok(())
+}
+
+// Reads a slot. Before the system is asked for octets, all that is gathered is written out.
+#[inline(always)]
+fn read_slot<R: Runtime>(
+    rt: &R,
+    places: &mut PerSlot<Place<R::File, R::A>>,
+    refused: &mut Option<Slot>,
+    slot: Slot,
+    buffer: &mut [u8],
+) -> Result<usize, Failed>
+    ensures fits { IfOk result (λ n. n ≤ length buffer.new) }
+    ensures refused { IsSome refused.old → IsErr result }
+{
+    if refused.is_some() {
+        return Err(Failed);
+    }
+    match place_mut(places, slot).take_ahead(buffer) {
+        Some(n) => Ok(n),
+        None => {
+            hand_out(rt, places, refused)?;
+            place_mut(places, slot).read(buffer)
         }
     }
 }
 
-fn read_place<F: Read + Drop, A: Allocator>(
-    place: &mut Place<F, A>,
-    buffer: &mut [u8],
+// Takes a whole piece of a slot.
+#[inline(always)]
+fn write_slot<R: Runtime>(
+    rt: &R,
+    places: &mut PerSlot<Place<R::File, R::A>>,
+    refused: &mut Option<Slot>,
+    slot: Slot,
+    piece: &[u8],
 ) -> Result<usize, Failed>
-    ensures { IfOk result (λ n. n ≤ length buffer.new) }
+    ensures whole { IfOk result (λ n. n ≡ length piece.now) }
+    ensures waits { OnOk result (Waits slot piece.now (waiting_in places.old) (waiting_in places.new)) }
+    ensures refused { IsSome refused.old → IsErr result }
 {
-    match place {
-        Place::Input(reader) => reader.read(buffer).map_err(|_: io::Error| Failed),
+    if slot == Slot::Errors {
+        return write_errors(rt, places, refused, piece);
+    }
+    if refused.is_some() {
+        return Err(Failed);
+    }
+    match gather(places, slot, piece) {
+        Gathering::Gathered => Ok(piece.len()),
+        Gathering::NoRoom => gather_alone(rt, places, refused, slot, piece),
+        Gathering::Refused => Err(Failed),
+    }
+}
+
+// Takes a whole piece of a slot, once all that is gathered is written out.
+#[inline(never)]
+fn gather_alone<R: Runtime>(
+    rt: &R,
+    places: &mut PerSlot<Place<R::File, R::A>>,
+    refused: &mut Option<Slot>,
+    slot: Slot,
+    piece: &[u8],
+) -> Result<usize, Failed>
+    ensures whole { IfOk result (λ n. n ≡ length piece.now) }
+    ensures waits { OnOk result (Waits slot piece.now (waiting_in places.old) (waiting_in places.new)) }
+{
+    hand_out(rt, places, refused)?;
+    match gather(places, slot, piece) {
+        Gathering::Gathered => Ok(piece.len()),
         _ => Err(Failed),
     }
 }
 
-fn read_slot<F: Read + Drop, A: Allocator>(
-    places: &mut PerSlot<Place<F, A>>,
-    slot: Slot,
-    buffer: &mut [u8],
-) -> Result<usize, Failed>
-    ensures { IfOk result (λ n. n ≤ length buffer.new) }
-{
-    match slot {
-        Slot::Settings => read_place(&mut places.settings, buffer),
-        Slot::LeftIn => read_place(&mut places.left_in, buffer),
-        Slot::RightIn => read_place(&mut places.right_in, buffer),
-        Slot::LeftOut => read_place(&mut places.left_out, buffer),
-        Slot::RightOut => read_place(&mut places.right_out, buffer),
-        Slot::Report => read_place(&mut places.report, buffer),
-        Slot::Errors => read_place(&mut places.errors, buffer),
-    }
-}
-
-// A write that takes nothing of a piece that isn't empty has failed.
-fn write_place<R: Runtime>(
-    rt: &R,
-    place: &mut Place<R::File, R::A>,
-    piece: &[u8],
-) -> Result<usize, Failed>
-    ensures fits { IfOk result (λ n. n ≤ length piece.now) }
-    ensures some { IfOk result (λ n. 0 < length piece.now → 0 < n) }
-{
-    let n = match place {
-        Place::Output(file) => file.write(piece).map_err(|_: io::Error| Failed)?,
-        Place::StandardOutput => rt.write_some(piece).map_err(|_: io::Error| Failed)?,
-        _ => return Err(Failed),
-    };
-    if n == 0 && !piece.is_empty() {
-        return Err(Failed);
-    }
-    Ok(n)
-}
-
-fn write_slot<R: Runtime>(
+// Writes a line of errors, once all that is gathered is written out.
+#[inline(never)]
+fn write_errors<R: Runtime>(
     rt: &R,
     places: &mut PerSlot<Place<R::File, R::A>>,
-    slot: Slot,
+    refused: &mut Option<Slot>,
     piece: &[u8],
 ) -> Result<usize, Failed>
-    ensures fits { IfOk result (λ n. n ≤ length piece.now) }
-    ensures some { IfOk result (λ n. 0 < length piece.now → 0 < n) }
+    ensures whole { IfOk result (λ n. n ≡ length piece.now) }
+    ensures refused { IsSome refused.old → IsErr result }
 {
-    match slot {
-        Slot::Settings => write_place(rt, &mut places.settings, piece),
-        Slot::LeftIn => write_place(rt, &mut places.left_in, piece),
-        Slot::RightIn => write_place(rt, &mut places.right_in, piece),
-        Slot::LeftOut => write_place(rt, &mut places.left_out, piece),
-        Slot::RightOut => write_place(rt, &mut places.right_out, piece),
-        Slot::Report => write_place(rt, &mut places.report, piece),
-        Slot::Errors => write_errors(rt, piece),
-    }
-}
-
-fn write_errors<R: Runtime>(rt: &R, piece: &[u8]) -> Result<usize, Failed>
-    ensures fits { IfOk result (λ n. n ≤ length piece.now) }
-    ensures some { IfOk result (λ n. 0 < length piece.now → 0 < n) }
-{
+    hand_out(rt, places, refused)?;
     let Ok(text) = str::from_utf8(piece) else {
         return Err(Failed);
     };
@@ -175,15 +237,40 @@ fn write_errors<R: Runtime>(rt: &R, piece: &[u8]) -> Result<usize, Failed>
 }
 
 impl<R: Runtime> FileDesk<R> {
+    ghost use Rattle.gate_desk.specs.Outside.{HasFailed};
+    ghost use Rattle.gate_desk.specs.Untold.{told_by, all_written, all_dropped};
+
     /// A desk none of whose slots is started. It keeps the runtime, through which it reaches files and the standard streams.
     pub fn make(rt: R) -> FileDesk<R>
-        ensures { result ≡ record { faults = each 0; start_faults = each 0 } }
+        ensures { result ≡ record { waiting = each []; refused = None; faults = each 0; start_faults = each 0 } }
     {
         FileDesk {
             rt,
             places: nowhere(),
+            refused: None,
             faults: no_counts(),
             start_faults: no_counts(),
+        }
+    }
+
+    /// Writes out all that is gathered. The error is the slot of which the system refused octets that had been taken, now or
+    /// before; that counts as a failed write of it, what is left of all slots is dropped, and all are closed.
+    pub fn finish(&mut self) -> Result<(), Slot>
+        ensures ok { OnOk result (self.new ≡ all_written self.old) }
+        ensures none { OnOk result (self.old.refused ≡ None) }
+        ensures err { IfErr result (λ slot. self.new ≡ all_dropped slot self.old) }
+        ensures cause { IfErr result (λ slot. HasFailed slot (told_by self.old) (told_by self.new)) }
+        ensures named { IfSome self.old.refused (λ slot. IsErrOf result slot) }
+    {
+        let _ = hand_out(&self.rt, &mut self.places, &mut self.refused);
+        match self.refused {
+            None => Ok(()),
+            Some(slot) => {
+                self.refused = None;
+                self.places = nowhere();
+                raise(&mut self.faults, slot);
+                Err(slot)
+            }
         }
     }
 }
@@ -198,19 +285,26 @@ impl<R: Runtime> Desk for FileDesk<R> {
         ensures ok { OnOk result (Starts slot name.now way (told_by self.old) (told_by self.new)) }
         ensures err { OnErr result (FailsToStart slot (told_by self.old) (told_by self.new)) }
         ensures counts { self.new.start_faults ≡ counts_after result slot self.old.start_faults }
+        ensures refused { IsSome self.old.refused → IsErr result }
     {
-        match open_place(&self.rt, slot, name, way) {
-            Ok(place) => {
-                set_place(&mut self.places, slot, place);
-                Ok(())
-            }
-            Err(_) => {
+        let started = start_slot(
+            &self.rt,
+            &mut self.places,
+            &mut self.refused,
+            slot,
+            name,
+            way,
+        );
+        match started {
+            Ok(()) => Ok(()),
+            Err(e) => {
                 raise(&mut self.start_faults, slot);
-                Err(Failed)
+                Err(e)
             }
         }
     }
 
+    #[inline(always)]
     fn read(&mut self, slot: Slot, buffer: &mut [u8]) -> Result<usize, Failed>
         ensures fits { IfOk result (λ n. n ≤ length buffer.new) }
         ensures ok { IfOk result (λ n. Takes slot n (told_by self.old) (told_by self.new)) }
@@ -219,8 +313,9 @@ impl<R: Runtime> Desk for FileDesk<R> {
         ensures err { OnErr result (Takes slot 0 (told_by self.old) (told_by self.new)) }
         ensures cause { OnErr result (HasFailed slot (told_by self.old) (told_by self.new)) }
         ensures counts { self.new.faults ≡ counts_after result slot self.old.faults }
+        ensures refused { IsSome self.old.refused → IsErr result }
     {
-        match read_slot(&mut self.places, slot, buffer) {
+        match read_slot(&self.rt, &mut self.places, &mut self.refused, slot, buffer) {
             Ok(n) => Ok(n),
             Err(e) => {
                 raise(&mut self.faults, slot);
@@ -229,6 +324,7 @@ impl<R: Runtime> Desk for FileDesk<R> {
         }
     }
 
+    #[inline(always)]
     fn write(&mut self, slot: Slot, piece: &[u8]) -> Result<usize, Failed>
         ensures fits { IfOk result (λ n. n ≤ length piece.now) }
         ensures some { IfOk result (λ n. 0 < length piece.now → 0 < n) }
@@ -236,8 +332,11 @@ impl<R: Runtime> Desk for FileDesk<R> {
         ensures err { OnErr result (Writes slot [] (told_by self.old) (told_by self.new)) }
         ensures cause { OnErr result (HasFailed slot (told_by self.old) (told_by self.new)) }
         ensures counts { self.new.faults ≡ counts_after result slot self.old.faults }
+        ensures whole { IfOk result (λ n. n ≡ length piece.now) }
+        ensures waits { OnOk result (Waits slot piece.now self.old.waiting self.new.waiting) }
+        ensures refused { IsSome self.old.refused → IsErr result }
     {
-        match write_slot(&self.rt, &mut self.places, slot, piece) {
+        match write_slot(&self.rt, &mut self.places, &mut self.refused, slot, piece) {
             Ok(n) => Ok(n),
             Err(e) => {
                 raise(&mut self.faults, slot);

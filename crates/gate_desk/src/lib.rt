@@ -5,10 +5,12 @@ mod counted_desk;
 mod desk;
 mod discarding_desk;
 mod file_desk;
+mod gathered;
 mod log;
 mod memory;
 mod memory_desk;
 mod per_slot;
+mod place;
 mod slot;
 mod whole;
 

@@ -14,6 +14,7 @@ pub enum TakeStop {
 }
 
 /// Writes the whole piece. After a failure a prefix of it was written.
+#[inline(always)]
 pub fn write_whole<D: Desk>(desk: &mut D, slot: Slot, piece: &[u8]) -> Result<(), Failed>
     requires { CanWrite (D.outside desk.old) slot }
     ensures ok { OnOk result (Writes slot piece.now (D.outside desk.old) (D.outside desk.new)) }
@@ -29,6 +30,7 @@ pub fn write_whole<D: Desk>(desk: &mut D, slot: Slot, piece: &[u8]) -> Result<()
 }
 
 /// Fills the buffer from a slot, or takes what is left there.
+#[inline(always)]
 pub fn read_full<D: Desk>(desk: &mut D, slot: Slot, buffer: &mut [u8]) -> Result<usize, Failed>
     requires { CanRead (D.outside desk.old) slot }
     ensures fits { IfOk result (λ n. n ≤ length buffer.old) }

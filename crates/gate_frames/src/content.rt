@@ -1,20 +1,16 @@
 // A frame by itself: the datagram in it, and the reasons to refuse it that ask for nothing that is known.
 ghost use Rattle.std.specs.Prelude.{◌≡◌, ◌≤◌, None, Ok, length, IfOk};
 ghost use Rattle.gate_base.specs.Events.{event_of};
-ghost use Rattle.ether_frames.specs.Ether.{read_frame};
+ghost use Rattle.ether_frames.specs.Ether.{octets_in};
 ghost use Rattle.ipv4_frames.specs.Ipv4.{read_datagram};
 ghost use Rattle.gate_base.specs.Tests.{first_that_holds};
 ghost use Rattle.gate_world.specs.Frame as frame;
 ghost use Rattle.gate_frames.specs.Judged.{ip_refusal, transport_refusal, judged, Carries};
 
-use ether_frames::EtherView;
-use gate_base::{Event, ICMP, Link, Refusal, TCP, UDP, is_unicast};
+use gate_base::{Event, ICMP, Refusal, TCP, UDP, is_unicast};
 use ipv4_frames::{IpFault, IpView, TransportFault};
 use tcp_segments::TcpView;
 use udp_icmp::{IcmpView, UdpView};
-
-/// The type of Ethernet frames that carry IPv4 (RFC 894).
-const IPV4: u16 = 0x0800;
 
 /// What a datagram carries.
 #[derive(Drop)]
@@ -22,32 +18,6 @@ pub enum Content<'a> {
     Udp(UdpView<'a>),
     Icmp(IcmpView<'a>),
     Tcp(TcpView<'a>),
-}
-
-/// The payload of an Ethernet frame that carries IPv4, and else nothing.
-fn carried(octets: &[u8]) -> &[u8]
-    ensures { result.now ≡ frame.carried (read_frame octets.now) }
-{
-    match EtherView::of(octets) {
-        Some(frame) => {
-            if frame.kind() == IPV4 {
-                frame.payload()
-            } else {
-                &[]
-            }
-        }
-        None => &[],
-    }
-}
-
-/// The octets in which the datagram stands.
-pub fn octets_in<'a>(event: &Event<'a>) -> &'a [u8]
-    ensures { result.now ≡ frame.octets_in (event_of event.now).link (event_of event.now).octets }
-{
-    match event.link {
-        Link::Raw => event.octets,
-        Link::Ethernet => carried(event.octets),
-    }
 }
 
 fn ip_refusal(fault: IpFault) -> Refusal
@@ -73,7 +43,7 @@ fn transport_refusal(fault: TransportFault) -> Refusal
 
 /// The datagram of a frame, or why its header is refused.
 pub fn datagram_in<'a>(event: &Event<'a>, octets: &'a [u8]) -> Result<IpView<'a>, Refusal>
-    requires { octets.now ≡ frame.octets_in (event_of event.now).link (event_of event.now).octets }
+    requires { octets.now ≡ octets_in (event_of event.now).link (event_of event.now).octets }
     ensures judged { result ≡ judged (first_that_holds (frame.header_tests (event_of event.now))) (frame.datagram_in (event_of event.now)) }
     ensures read { IfOk result (λ d. read_datagram octets.now ≡ Ok d) }
 {

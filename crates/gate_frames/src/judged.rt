@@ -2,7 +2,8 @@
 ghost use Rattle.gate_base.specs.Events.{event_of};
 ghost use Rattle.gate_frames.specs.Frames.{JudgedBy};
 
-use crate::content::{Content, content_of, datagram_in, datagram_refusal, octets_in};
+use crate::content::{Content, content_of, datagram_in, datagram_refusal};
+use ether_frames::octets_in;
 use gate_base::{Event, Refusal, get_u16};
 use ipv4_frames::IpView;
 

@@ -20,7 +20,7 @@ use std::alloc::Global;
 use std::marker::Model;
 use stream_gate::StreamGate;
 use tcp_segments::TcpView;
-use twice_translate::{rebuild, translate};
+use twice_translate::{rebuild, translate, translate_accepted};
 
 /// The octets, and the datagrams, that one event gives at most.
 const OCTETS: usize = 524_288;
@@ -91,7 +91,7 @@ impl Outbox {
         ensures { self.new ≡ renamed (datagram_of octets.now) source.0 destination.0 ∷ [] }
     {
         copy_to(&mut self.octets, octets);
-        translate(&mut self.octets, source, destination);
+        translate_accepted(&mut self.octets, source, destination);
         self.ends.push_reserved(octets.len() as u32);
     }
 

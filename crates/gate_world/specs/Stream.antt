@@ -7,10 +7,10 @@ use Rattle.gate_base.specs.declared.side.Side.{Side}
 use Rattle.gate_base.specs.declared.side.Side.TheVariants.{Left, Right}
 use Rattle.binding_table.specs.Bindings.{Bindings}
 use Rattle.ipv4_frames.specs.Ipv4.{Datagram}
-use Rattle.stream_model.specs.Octet.{flags_of, flags_octet}
+use Rattle.tcp_segments.specs.Flags.{flags_of, flags_octet}
 use Rattle.stream_model.specs.Session.{Segment, Outgoing}
 use Rattle.tcp_segments.specs.Tcp.{Tcp, tcp_fields_of, tcp_header_length_of, spelled_segment, datagram_of}
-use Rattle.tcp_tracker.specs.Connections.{has_syn, has_rst, has_ack, is_tracked, place_of, connection_of, hold_of, short_hold, after, changed}
+use Rattle.tcp_tracker.specs.Connections.{is_tracked, place_of, connection_of, hold_of, short_hold, after, changed}
 use Rattle.tcp_tracker.specs.declared.connection.ConnKey.{ConnKey}
 use Rattle.tcp_tracker.specs.declared.connection.Connection.{Connection}
 use Rattle.gate_world.specs.Frame.{control_port}
@@ -36,7 +36,7 @@ segment_of d = let tcp = tcp_of d in record {
 
 -- a SYN without ACK
 abbrev pub is_opening : ℕ → Bool
-is_opening flags = has_syn flags && not (has_ack flags)
+is_opening flags = (flags_of flags).syn && not (flags_of flags).ack
 
 -- ## Its connection
 
@@ -110,7 +110,7 @@ most_sessions = 4096
 -- the segment would make a connection or a session, and the most of them live
 abbrev pub is_full : {S : Type 0} → List (Connection (Tracked S)) → Option (Connection (Tracked S)) → Datagram → Bool
 is_full all found d =
-    is_none found && (not (has_rst (tcp_of d).flags) && nat_le most_connections (length all))
+    is_none found && (not (flags_of (tcp_of d).flags).reset && nat_le most_connections (length all))
     || (begins found d && nat_le most_sessions (count_by is_tracked all))
 
 -- ## After a segment that passes

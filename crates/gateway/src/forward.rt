@@ -1,10 +1,10 @@
 // The events of a run.
-ghost use Rattle.std.specs.Prelude.{◌≡◌, ◌≤◌, ◌^◌, None, length, vec_capacity};
+ghost use Rattle.std.specs.Prelude.{◌≡◌, ◌≤◌, ◌^◌, None, length, vec_capacity, OnErr};
 ghost use Rattle.gate_desk.specs.declared.slot.Slot.TheVariants.{LeftIn, RightIn, LeftOut, RightOut, Report};
 ghost use Rattle.gate_desk.specs.Outside.{CanRead, CanWrite, Grows};
 ghost use Rattle.pcap_merge.specs.Merge.{work, AtEnds};
 ghost use Rattle.gate_world.specs.World.{opening_world};
-ghost use Rattle.gateway.specs.Phases.{Forwards, Finishes};
+ghost use Rattle.gateway.specs.Phases.{Forwards, Finishes, TookFew};
 
 use crate::Status;
 use crate::event::{LONGEST_FRAME, handle};
@@ -50,6 +50,7 @@ pub fn forward<D: Desk>(
     requires ends { AtEnds merge.old (D.outside desk.old) }
     requires world { gate.old.world ≡ opening_world gate.old.settings }
     ensures answer { Forwards result gate.old.settings merge.old (D.outside desk.old) (D.outside desk.new) }
+    ensures taken { OnErr result (TookFew gate.old.settings merge.old (D.outside desk.old) (D.outside desk.new)) }
     ensures starts { (D.outside desk.new).starts ≡ (D.outside desk.old).starts }
     ensures counts { Grows (D.outside desk.old) (D.outside desk.new) }
     ensures room { LINE ≤ vec_capacity text.new }

@@ -1,7 +1,7 @@
 // A run over files.
-ghost use Rattle.std.specs.Prelude.{◌≤◌, vec_capacity};
+ghost use Rattle.std.specs.Prelude.{◌≤◌, vec_capacity, OnErr};
 ghost use Rattle.gateway.specs.Command.{names_of};
-ghost use Rattle.gateway.specs.Answers.{Runs};
+ghost use Rattle.gateway.specs.Answers.{Runs, TookForWritten};
 
 use crate::Status;
 use crate::command::FileNames;
@@ -25,6 +25,7 @@ pub fn run<D: Desk>(
 ) -> Result<Line, Status>
     requires { LINE ≤ vec_capacity text.old }
     ensures answer { Runs result (names_of names.entry) (D.outside desk.old) (D.outside desk.new) }
+    ensures taken { OnErr result (TookForWritten (D.outside desk.old) (D.outside desk.new)) }
     ensures room { LINE ≤ vec_capacity text.new }
 {
     let (mut merge, mut gate) = match prepare(alloc, desk, names) {

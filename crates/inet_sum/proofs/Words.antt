@@ -1,9 +1,9 @@
 -- The sums of joined octets.
-use Rattle.std.proofs.Common.{◌==◌, take, append_assoc, length-drop, suc, get_or, drop, ◌≡◌, ℕ, ◌+◌, ◌-◌, ◌*◌, ◌/◌, ◌%◌, ◌^◌, ◌<◌, ◌≤◌, List, [], ◌∷◌, ◌++◌, length, sum, refl, ap, ◌∙◌, sym, arith}
+use Rattle.std.proofs.Common.{◌==◌, take, append_assoc, length-append, length-drop, suc, get_or, drop, ◌≡◌, ℕ, ◌+◌, ◌-◌, ◌*◌, ◌/◌, ◌%◌, ◌^◌, ◌<◌, ◌≤◌, List, [], ◌∷◌, ◌++◌, length, sum, refl, ap, ◌∙◌, sym, arith}
 use Rattle.std.proofs.lemmas.Bool.Decides.{nat_tests}
 use Rattle.std.proofs.lemmas.List.Sums.{sum_by-append, sum_by-cons}
 use Rattle.std.proofs.lemmas.List.{take-append-drop, drop-drop, length-take-le}
-use Rattle.byteorder.specs.Endian.{big_number, big_bytes}
+use Rattle.byteorder.specs.Endian.{big_number, big_bytes, little_number}
 use Rattle.gate_base.specs.Fields.{u16_at, with_u16}
 use Rattle.inet_sum.specs.Sum.{is_right, checksum, IsRight, pseudo_header, words, total, fold_of}
 
@@ -68,6 +68,25 @@ remainder_short [] short = refl
 remainder_short (x ∷ []) short = refl
 remainder_short (x ∷ y ∷ rest) short = absurd (omega arith)
 
+-- what is left over when octets are cut into fours
+abbrev pub remainder_of_four : List ℕ → List ℕ
+remainder_of_four octets = drop (length octets - length octets % 4) octets
+
+pub remainder_four : (four rest : List ℕ) → length four ≡ 4 → remainder_of_four (four ++ rest) ≡ remainder_of_four rest
+remainder_four [] rest same = cc
+remainder_four (x ∷ []) rest same = cc
+remainder_four (x ∷ y ∷ []) rest same = cc
+remainder_four (x ∷ y ∷ z ∷ []) rest same = cc
+remainder_four (x ∷ y ∷ z ∷ w ∷ []) rest same =
+    let four : suc (suc (suc (suc (length rest)))) - suc (suc (suc (suc (length rest)))) % 4 ≡ suc (suc (suc (suc (length rest - length rest % 4)))) = omega arith in
+    ap (λ n. drop n (x ∷ y ∷ z ∷ w ∷ rest)) four
+remainder_four (x ∷ y ∷ z ∷ w ∷ v ∷ more) rest same = absurd (omega arith)
+
+pub remainder_few : (octets : List ℕ) → length octets < 4 → remainder_of_four octets ≡ octets
+remainder_few octets few =
+    let none : length octets - length octets % 4 ≡ 0 = omega arith in
+    ap (λ n. drop n octets) none
+
 pub fold_again : (a b : ℕ) → fold_of (fold_of a + b) ≡ fold_of (a + b)
 unfolding fold_of
 fold_again a b = grind (arith, nat_tests)
@@ -79,6 +98,41 @@ fold_small n = grind (arith, nat_tests)
 pub fold_complement : (n : ℕ) → fold_of (n + (65535 - fold_of n)) ≡ 65535
 unfolding fold_of
 fold_complement n = grind (arith, nat_tests)
+
+-- 65535 more make no difference, but to nothing
+fold_more : (a q : ℕ) → (a ≡ 0 → q ≡ 0) → fold_of (a + 65535 * q) ≡ fold_of a
+unfolding fold_of
+fold_more a q none = grind (arith, nat_tests)
+
+-- numbers that fold the same
+pub fold_same : (s a b : ℕ) → fold_of a ≡ fold_of b → fold_of (s + a) ≡ fold_of (s + b)
+fold_same s a b same =
+    let left : s + a ≡ a + s = omega arith in
+    let right : b + s ≡ s + b = omega arith in
+    ap fold_of left ∙ sym (fold_again a s) ∙ ap (λ n. fold_of (n + s)) same ∙ fold_again b s ∙ ap fold_of right
+
+pub fold_scaled : (a t : ℕ) → fold_of (256 * fold_of a + t) ≡ fold_of (256 * a + t)
+unfolding fold_of
+fold_scaled a t = grind (arith, nat_tests)
+
+-- four octets, the lowest first
+pub four_octets : (s : ℕ) (four rest : List ℕ) → length four ≡ 4 → fold_of (256 * (s + little_number 4 four) + total rest) ≡ fold_of (256 * s + total (four ++ rest))
+four_octets s [] rest same = cc
+four_octets s (a ∷ []) rest same = cc
+four_octets s (a ∷ b ∷ []) rest same = cc
+four_octets s (a ∷ b ∷ c ∷ []) rest same = cc
+four_octets s (a ∷ b ∷ c ∷ d ∷ []) rest same =
+    let words = 256 * s + total (a ∷ b ∷ c ∷ d ∷ rest) in
+    let more = b + (256 * c + 65537 * d) in
+    let are : words ≡ 256 * s + ((a * 256 + b) + ((c * 256 + d) + total rest)) = omega (arith, total_pair a b (c ∷ d ∷ rest), total_pair c d rest) in
+    let sum : 256 * (s + little_number 4 (a ∷ b ∷ c ∷ d ∷ [])) + total rest ≡ words + 65535 * more = omega (arith, are) in
+    ap fold_of sum ∙ fold_more words more (λ none. omega (arith, are, none))
+four_octets s (a ∷ b ∷ c ∷ d ∷ e ∷ more) rest same = absurd (omega arith)
+
+-- a right sum, of which a part is replaced
+pub fold_moved : (a b f t : ℕ) → a ≤ 262140 → f ≤ 65535 → 0 < t → fold_of (a + (f + t)) ≡ 65535 → fold_of ((b + (327675 - a)) + (65535 - f)) ≡ fold_of (b + t)
+unfolding fold_of
+fold_moved a b f t = grind (arith, nat_tests)
 
 -- a checksum of 0 says that the one in the list is right
 pub zero_if_right : (octets : List ℕ) → (checksum octets == 0) ≡ is_right octets
@@ -136,3 +190,7 @@ total_pseudo source destination protocol count octets s d n =
       total_pair (count / 256 % 256) (count % 256) octets,
       low_word count,
     )
+
+pub length-with_u16 : (place value : ℕ) (octets : List ℕ) → place + 2 ≤ length octets → length (with_u16 place value octets) ≡ length octets
+length-with_u16 place value octets within =
+    omega (arith, length-append (take place octets) (value / 256 % 256 ∷ value % 256 ∷ []), length-append (take place octets ++ (value / 256 % 256 ∷ value % 256 ∷ [])) (drop (place + 2) octets), length-take-le place octets (omega arith), length-drop (place + 2) octets)

@@ -5,7 +5,8 @@ ghost use Rattle.std.specs.Prelude.{◌≡◌, ◌==◌, ◌+◌, ◌/◌, ◌%�
 ghost use Rattle.gate_base.specs.Fields.{u16_at, with_u16};
 ghost use Rattle.inet_sum.specs.Sum.{words, total, fold_of, checksum, IsRight, is_right, pseudo_header};
 
-use gate_base::Addr;
+use byteorder::{ByteOrder, LittleEndian};
+use gate_base::{Addr, get_u16};
 
 /// The octets that are added up before the total is folded: an even number, so that no word is cut.
 const BLOCK: usize = 65_536;
@@ -27,8 +28,29 @@ pub fn pseudo_sum(source: Addr, destination: Addr, protocol: u8, octets: &[u8]) 
     ensures right { (result == 0) ≡ is_right (pseudo_header source.0 destination.0 protocol (length octets.now) ++ octets.now) }
 {
     let addresses = halves(source.0) + halves(destination.0);
-    let header = addresses + u32::from(protocol) + octets.len() as u32;
+    let header = addresses + u64::from(protocol) + octets.len() as u64;
     65_535 - folded_with(header, octets)
+}
+
+/// The checksum of a segment for other addresses, where the checksum in its field is right for these: the field is adjusted,
+/// and no other octet is read (RFC 1624, 3).
+pub fn moved_sum(
+    segment: &[u8],
+    place: usize,
+    protocol: u8,
+    from: (Addr, Addr),
+    to: (Addr, Addr),
+) -> u16
+    requires even { place % 2 ≡ 0 }
+    requires within { place + 2 ≤ length segment.now }
+    requires short { length segment.now ≤ 65535 }
+    requires right { IsRight (pseudo_header from.0.0 from.1.0 protocol (length segment.now) ++ segment.now) }
+    ensures { let empty = with_u16 place 0 segment.now in result ≡ checksum (pseudo_header to.0.0 to.1.0 protocol (length empty) ++ empty) }
+{
+    let field = u64::from(get_u16(segment, place));
+    let old = halves(from.0.0) + halves(from.1.0);
+    let new = halves(to.0.0) + halves(to.1.0);
+    65_535 - fold(new + (5 * 65_535 - old) + (65_535 - field))
 }
 
 /// A list with its checksum in a field that was 0 has the sum FFFF, and so is right.
@@ -46,15 +68,15 @@ pub fn any_order(octets: &[u8], others: &[u8])
 {}
 
 // The sum of both words of an address.
-fn halves(address: u32) -> u32
+fn halves(address: u32) -> u64
     ensures words { result ≡ address / 65536 + address % 65536 }
     ensures fits { address < 2 ^ 32 }
 {
-    address / 65_536 + address % 65_536
+    u64::from(address / 65_536 + address % 65_536)
 }
 
 // The one's complement sum of a number and the words of octets.
-fn folded_with(start: u32, octets: &[u8]) -> u16
+fn folded_with(start: u64, octets: &[u8]) -> u16
     requires { start < 2 ^ 30 }
     ensures { result ≡ fold_of (start + total octets.now) }
 {
@@ -62,14 +84,30 @@ fn folded_with(start: u32, octets: &[u8]) -> u16
     let mut rest = octets;
     while rest.len() > BLOCK {
         let (block, more) = rest.split_at(BLOCK);
-        sum = u32::from(fold(sum + block_total(block)));
+        sum = u64::from(fold(sum + block_sum(block)));
         rest = more;
     }
-    fold(sum + block_total(rest))
+    fold(sum + block_sum(rest))
+}
+
+// A number that folds as the words of octets do. They are added up four octets at a time, the lowest octet first: 256 times
+// such a number folds as its words do (RFC 1071, 2, (B)).
+fn block_sum(block: &[u8]) -> u64
+    requires { length block.now ≤ BLOCK }
+    ensures folds { fold_of result ≡ fold_of (total block.now) }
+    ensures small { result < 2 ^ 31 + 2 ^ 24 }
+{
+    let fours = block.chunks_exact(4);
+    let last = fours.remainder();
+    let mut sum: u64 = 0;
+    for four in fours {
+        sum += u64::from(LittleEndian::read_u32(four));
+    }
+    256 * u64::from(fold(sum)) + u64::from(pair_total(last))
 }
 
 #[tactic(auto, unfolding(crate::specs::Sum::fold_of))]
-fn fold(sum: u32) -> u16
+fn fold(sum: u64) -> u16
     ensures { result ≡ fold_of sum }
 {
     if sum == 0 {
@@ -79,7 +117,7 @@ fn fold(sum: u32) -> u16
     }
 }
 
-fn block_total(block: &[u8]) -> u32
+fn pair_total(block: &[u8]) -> u32
     requires { length block.now ≤ BLOCK }
     ensures total { result ≡ total block.now }
     ensures small { result < 2 ^ 31 }

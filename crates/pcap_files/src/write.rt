@@ -9,9 +9,6 @@ use byteorder::{ByteOrder, LittleEndian};
 use gate_base::{Link, Moment};
 use gate_desk::{Desk, Failed, Slot, write_whole};
 
-/// The most octets of a record that is written with its head in one piece.
-const TOGETHER: usize = 2032;
-
 fn link_octet(link: Link) -> u8
     ensures { result ≡ link_number link }
 {
@@ -68,42 +65,7 @@ pub fn write_packet<D: Desk>(
     ensures cause { OnErr result (HasFailed slot (D.outside desk.old) (D.outside desk.new)) }
 {
     let head = head_of_record(moment, octets.len() as u32);
-    if octets.len() <= TOGETHER {
-        write_together(desk, slot, &head, octets)
-    } else {
-        write_apart(desk, slot, &head, octets)
-    }
-}
-
-/// Writes a head and the octets behind it in one piece.
-fn write_together<D: Desk>(
-    desk: &mut D,
-    slot: Slot,
-    head: &[u8],
-    octets: &[u8],
-) -> Result<(), Failed>
-    requires can { CanWrite (D.outside desk.old) slot }
-    requires head_len { length head.now ≡ 16 }
-    requires short { length octets.now ≤ 2032 }
-    ensures ok { OnOk result (Writes slot (head.now ++ octets.now) (D.outside desk.old) (D.outside desk.new)) }
-    ensures err { OnErr result (WritesPart slot (head.now ++ octets.now) (D.outside desk.old) (D.outside desk.new)) }
-    ensures cause { OnErr result (HasFailed slot (D.outside desk.old) (D.outside desk.new)) }
-{
-    let mut record = [0; RECORD_HEAD + TOGETHER];
-    let len = join(&mut record, head, octets);
-    write_whole(desk, slot, &record[..len])
-}
-
-/// Puts two pieces, one behind the other, at the front of a buffer, and answers their length.
-fn join(buffer: &mut [u8], first: &[u8], second: &[u8]) -> usize
-    requires { length first.now + length second.now ≤ length buffer.old }
-    ensures len { result ≡ length first.now + length second.now }
-    ensures octets { take result buffer.new ≡ first.now ++ second.now }
-{
-    let len = first.len() + second.len();
-    buffer[..first.len()].copy_from_slice(first);
-    buffer[first.len()..len].copy_from_slice(second);
-    len
+    write_apart(desk, slot, &head, octets)
 }
 
 /// Writes a head, and then the octets behind it.

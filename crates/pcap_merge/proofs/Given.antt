@@ -22,7 +22,7 @@ use Rattle.pcap_merge.specs.Order.{is_unread}
 use Rattle.pcap_merge.specs.Given.{whole_in, whole_records, count_of_side, EndsOn, EndsAtTaken, HasTakenFew, TakenFor, total, with_records, one_held, HasRead, IsLast}
 use Rattle.pcap_merge.specs.Sides.{Readies, ComesTo, held_size, one_for}
 use Rattle.pcap_merge.specs.Stops.{slot_of}
-use Rattle.pcap_merge.specs.Merge.{merging, event_given, reading_of, HasGiven, TakesFew}
+use Rattle.pcap_merge.specs.Merge.{Merging, merging, event_given, reading_of, HasGiven, TakesFew}
 
 -- ## Records that lie whole in so many octets
 
@@ -296,9 +296,34 @@ heads_few m n old mid new left right h k side = elim side as (λ (x : Side). Has
   | Right ↦ record { count = n; taken = ap (λ t. told_at t RightIn) k.left ∙ told_at-took RightIn n mid.left ∙ ap (option_map (drop n)) (same_right m old mid h); near = omega (arith, right); few = no_record n (told_at old.left RightIn) right }
 ]
 
--- what is taken while events are given
-pub given_few : (start : Outside) (l r : Reading) (clock : ℕ) (last : Last) (stop : Option MergeStop) (now : Outside) (events : List Event) → HasGiven start (merging l r clock last stop) now events → TakenFor events start now
-given_few start l r clock last stop now events given side = elim side as (λ (x : Side). HasTakenFew x start now (count_of_side x events)) [
-  | Left ↦ few_still Left l (is_unread Left last) (count_of_side Left events) start now (given.stands Left) (given.near Left) (given.before Left)
-  | Right ↦ few_still Right r (is_unread Right last) (count_of_side Right events) start now (given.stands Right) (given.near Right) (given.before Right)
-]
+-- what was taken while these events were given
+pub given_few : (start : Outside) (m : Merging) (now : Outside) (events : List Event) → HasGiven start m now events → TakenFor events start now
+given_few start m now events given side = few_still side (reading_of side m) (is_unread side m.last) (count_of_side side events) start now (given.stands side) (given.near side) (given.before side)
+
+drop_none : (o : Option (List ℕ)) → o ≡ option_map (drop 0) o
+drop_none None = refl
+drop_none (Some all) = refl
+
+-- nothing was taken of either capture
+pub taken_none : (start now : Outside) → ((side : Side) → told_at now.left (slot_of side) ≡ told_at start.left (slot_of side)) → TakenFor [] start now
+taken_none start now same side = record {
+  count = 0;
+  taken = same side ∙ drop_none (told_at start.left (slot_of side));
+  near = omega arith;
+  few = no_record 0 (told_at start.left (slot_of side)) (omega arith);
+}
+
+-- nothing more was taken of either capture
+pub taken_later : (start a b : Outside) (events : List Event) → ((side : Side) → told_at b.left (slot_of side) ≡ told_at a.left (slot_of side)) → TakenFor events start a → TakenFor events start b
+taken_later start a b events same h side = few_later side start a b (count_of_side side events) (same side) (h side)
+
+-- the same since an earlier start that told the same of the captures
+pub taken_since : (start earlier now : Outside) (events : List Event) → ((side : Side) → told_at start.left (slot_of side) ≡ told_at earlier.left (slot_of side)) → TakenFor events start now → TakenFor events earlier now
+taken_since start earlier now events same h side =
+    let taken = h side in
+    record {
+      count = taken.count;
+      taken = taken.taken ∙ ap (option_map (drop taken.count)) (same side);
+      near = taken.near;
+      few = subst (λ (o : Option (List ℕ)). IfSome o (λ all. whole_records taken.count all ≤ count_of_side side events + 1)) (same side) taken.few;
+    }

@@ -1,17 +1,14 @@
 // Pieces as datagrams.
 ghost use Rattle.std.specs.Prelude.{◌≡◌, ◌≤◌, ◌<◌, ◌+◌, ◌-◌, ◌*◌, ◌^◌, ℕ, List, [], ◌∷◌, ◌++◌, length, vec_capacity};
 ghost use Rattle.std.specs.List.{flat_map};
+ghost use Rattle.tcp_segments.specs.Flags.{flags_octet};
 ghost use Rattle.tcp_segments.specs.Tcp.{IsTcpHeader, spelled_segment, datagram_of};
 ghost use Rattle.resegment.specs.Pieces.{piece_count};
-ghost use Rattle.resegment.specs.Datagrams.{datagrams, ends_from, room_for, flags_of};
+ghost use Rattle.resegment.specs.Datagrams.{datagrams, ends_from, room_for, piece_flags};
 
 use crate::cut::{piece, pieces};
 use gate_base::Addr;
-use tcp_segments::finish_segment;
-
-const FIN: u8 = 1;
-
-const PSH: u8 = 8;
+use tcp_segments::{Flags, finish_segment, flags_octet};
 
 /// What all pieces of one segment have from their models: an IPv4 header of 20 octets, a TCP header, and the new fields.
 #[derive(Clone, Copy)]
@@ -24,7 +21,7 @@ pub struct SegmentModel<'a> {
     /// The number of the first piece's first octet.
     pub sequence: u32,
     pub acknowledgement: u32,
-    pub flags: u8,
+    pub flags: Flags,
 }
 
 /// Appends each piece of the octets as a whole datagram, and its end in the outbox to `ends`. FIN and PSH stand on the last
@@ -43,6 +40,7 @@ pub fn put_pieces(
     requires fits { limit + (length model.now.tcp.now - 20) ≤ 65495 }
     requires ip { length model.now.ip.now ≡ 20 }
     requires tcp { IsTcpHeader model.now.tcp.now }
+    requires ecn { model.now.flags.ecn ≤ 3 }
     requires room { length outbox.old.items + room_for model.now (length octets.now) limit ≤ vec_capacity outbox.old }
     requires below { length outbox.old.items + room_for model.now (length octets.now) limit < 2 ^ 32 }
     requires ends { length ends.old.items + piece_count (length octets.now) limit ≤ vec_capacity ends.old }
@@ -67,11 +65,12 @@ pub fn put_pieces(
 pub fn put_empty(outbox: &mut Vec<u8>, ends: &mut Vec<u32>, model: &SegmentModel)
     requires ip { length model.now.ip.now ≡ 20 }
     requires tcp { IsTcpHeader model.now.tcp.now }
+    requires ecn { model.now.flags.ecn ≤ 3 }
     requires fits { 20 + length model.now.tcp.now ≤ 65535 }
     requires room { length outbox.old.items + (20 + length model.now.tcp.now) ≤ vec_capacity outbox.old }
     requires below { length outbox.old.items + (20 + length model.now.tcp.now) < 2 ^ 32 }
     requires ends { length ends.old.items + 1 ≤ vec_capacity ends.old }
-    ensures octets { let m = model.now in outbox.new.items ≡ outbox.old.items ++ datagram_of m.ip.now m.source.0 m.destination.0 m.lifetime (spelled_segment m.tcp.now m.source.0 m.destination.0 m.sequence m.acknowledgement m.flags []) }
+    ensures octets { let m = model.now in outbox.new.items ≡ outbox.old.items ++ datagram_of m.ip.now m.source.0 m.destination.0 m.lifetime (spelled_segment m.tcp.now m.source.0 m.destination.0 m.sequence m.acknowledgement (flags_octet m.flags) []) }
     ensures ends { ends.new.items ≡ ends.old.items ++ length outbox.new.items ∷ [] }
     ensures len { length outbox.new.items ≡ length outbox.old.items + (20 + length model.now.tcp.now) }
     ensures room { vec_capacity outbox.old ≤ vec_capacity outbox.new }
@@ -81,22 +80,29 @@ pub fn put_empty(outbox: &mut Vec<u8>, ends: &mut Vec<u32>, model: &SegmentModel
     ends.push_reserved(outbox.len() as u32);
 }
 
-fn piece_flags(flags: u8, more_follow: bool) -> u8
-    ensures { result ≡ flags_of flags more_follow }
+fn piece_flags(flags: Flags, more_follow: bool) -> Flags
+    ensures { result ≡ piece_flags flags more_follow }
 {
-    if more_follow {
-        flags & !(FIN | PSH)
-    } else {
-        flags
+    Flags {
+        fin: !more_follow && flags.fin,
+        push: !more_follow && flags.push,
+        ..flags
     }
 }
 
-fn put_datagram(outbox: &mut Vec<u8>, model: &SegmentModel, sequence: u32, flags: u8, octets: &[u8])
+fn put_datagram(
+    outbox: &mut Vec<u8>,
+    model: &SegmentModel,
+    sequence: u32,
+    flags: Flags,
+    octets: &[u8],
+)
     requires ip { length model.now.ip.now ≡ 20 }
     requires tcp { IsTcpHeader model.now.tcp.now }
+    requires ecn { flags.ecn ≤ 3 }
     requires fits { 20 + (length model.now.tcp.now + length octets.now) ≤ 65535 }
     requires room { length outbox.old.items + (20 + (length model.now.tcp.now + length octets.now)) ≤ vec_capacity outbox.old }
-    ensures octets { let m = model.now in let segment = spelled_segment m.tcp.now m.source.0 m.destination.0 sequence m.acknowledgement flags octets.now in
+    ensures octets { let m = model.now in let segment = spelled_segment m.tcp.now m.source.0 m.destination.0 sequence m.acknowledgement (flags_octet flags) octets.now in
         outbox.new.items ≡ outbox.old.items ++ datagram_of m.ip.now m.source.0 m.destination.0 m.lifetime segment }
     ensures len { length outbox.new.items ≡ length outbox.old.items + (20 + (length model.now.tcp.now + length octets.now)) }
     ensures room { vec_capacity outbox.old ≤ vec_capacity outbox.new }
@@ -114,7 +120,7 @@ fn put_datagram(outbox: &mut Vec<u8>, model: &SegmentModel, sequence: u32, flags
         model.lifetime,
         sequence,
         model.acknowledgement,
-        flags,
+        flags_octet(flags),
     );
 }
 

@@ -8,11 +8,9 @@ use Rattle.std.proofs.lemmas.List.Kept.{AllPairs-cons}
 use Rattle.std.proofs.lemmas.List.Sorted.{list_any-IsPermutation, length_permutation, sum_by-IsPermutation}
 use Rattle.std.proofs.lemmas.List.Sums.{sum_by-cons}
 use Rattle.slab.specs.Slab.{Slab, get}
+use Rattle.tcp_segments.specs.Flags.{one_if}
 use Rattle.session_table.specs.Joined.{IsCleared}
 use Rattle.session_table.proofs.Replacing.{head_apart, tail_apart}
-
-abbrev one_if : Bool → ℕ
-one_if b = cond b 1 0
 
 -- how often a slot stands in a list
 abbrev times : ℕ → List ℕ → ℕ

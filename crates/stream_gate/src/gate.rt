@@ -12,7 +12,7 @@ ghost use Rattle.dialogue.specs.Meaning.{HoldsAtMost};
 ghost use Rattle.stream_gate.specs.Directions.{nothing_pushed};
 ghost use Rattle.stream_gate.specs.Gates.{CanPass, CanSend, way_of};
 ghost use Rattle.stream_gate.specs.Memory.{OneBears, units_ended, CompletesBy, KeptCompletes};
-ghost use Rattle.stream_model.specs.Octet.{flags_of};
+ghost use Rattle.tcp_segments.specs.Flags.{flags_of};
 ghost use Rattle.stream_gate.specs.Segments.{segment_of, datagram, datagram_ends};
 
 use crate::direction::Direction;
@@ -23,10 +23,8 @@ use resegment::{SegmentModel, put_empty, put_pieces};
 use shift_ledger::Recent;
 use std::alloc::Global;
 use std::marker::Model;
-use stream_model::{
-    Extent, Flags, Near, flags_octet, flags_of, place_acknowledged, refusal, start_at,
-};
-use tcp_segments::TcpView;
+use stream_model::{Extent, Near, place_acknowledged, refusal, start_at};
+use tcp_segments::{Flags, TcpView, flags_of};
 
 /// The largest payload that fits a datagram.
 const PAYLOAD: usize = 65_495;
@@ -148,7 +146,7 @@ impl<C: Dialogue, S: Dialogue> StreamGate<C, S> {
             lifetime,
             sequence: segment.sequence(),
             acknowledgement: segment.acknowledgement(),
-            flags: segment.flags(),
+            flags: flags_of(segment.flags()),
         };
         if from_client {
             return pass(
@@ -446,7 +444,7 @@ fn send<A: Dialogue>(
         let model = SegmentModel {
             sequence: own.number(low + 1),
             acknowledgement,
-            flags: flags_octet(Flags { fin, ..flags }),
+            flags: Flags { fin, ..flags },
             ..*way
         };
         own.copy_image(low, high, scratch);
@@ -496,7 +494,7 @@ fn put_bare(
     let model = SegmentModel {
         sequence,
         acknowledgement,
-        flags: flags_octet(flags),
+        flags,
         ..*way
     };
     put_empty(outbox, ends, &model);

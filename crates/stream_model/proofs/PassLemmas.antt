@@ -3,7 +3,8 @@ use Rattle.std.proofs.Common.{◌≡◌, ◌≤◌, ◌+◌, ℕ, Bool, true, fa
 use Rattle.std.specs.Prelude.{not, ◌&&◌, nat_lt, Option, Some, None, is_some, is_none, ◌⊎◌}
 use Rattle.std.proofs.lemmas.List.{drop_all}
 use Rattle.std.proofs.lemmas.Bool.{cases_Bool, ltb-false, or_parts, or_cases, and_parts, and_cases, and_left, and_from, cond-false, not-false, eqb-true, true≢false}
-use Rattle.stream_model.specs.Numbers.{is_number, one_if}
+use Rattle.tcp_segments.specs.Flags.{one_if}
+use Rattle.stream_model.specs.Numbers.{is_number}
 use Rattle.stream_model.specs.Session.{Sender, Segment, extent, arrival, acknowledged_at, place_acknowledged, start_of, repeats_unlike}
 use Rattle.gate_base.specs.Tests.{first_that_holds}
 use Rattle.stream_model.specs.Verdict.{is_data, no_session, syn_data, opens, syn_in_session, no_ack, gap, past_end_at, past_end, ack_ahead, stream_limit, backlog, tests}

@@ -6,7 +6,7 @@ use Rattle.std.proofs.lemmas.Bool.{cases_Bool, cond-true, cond-false, and_cases,
 use Rattle.dialogue.specs.Meaning.{IsLawful}
 use Rattle.dialogue.specs.Stream.{image, due, back}
 use Rattle.dialogue.proofs.Laws.{back-mono, length-due-le}
-use Rattle.stream_model.specs.Numbers.{one_if}
+use Rattle.tcp_segments.specs.Flags.{one_if}
 use Rattle.stream_model.specs.Session.{Sender, Session, Segment, own, recent, due_in, extent, arrival, start_of, place_acknowledged}
 use Rattle.stream_model.specs.Verdict.{is_data, session_verdict}
 use Rattle.stream_model.specs.Steps.{taken, acknowledged, other_after, session_next}

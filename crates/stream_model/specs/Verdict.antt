@@ -3,7 +3,8 @@ use Rattle.std.specs.Prelude.{◌+◌, ◌-◌, ◌^◌, Bool, true, false, not,
 use Rattle.gate_base.specs.Tests.{first_that_holds}
 use Rattle.gate_base.specs.declared.refusal.Refusal.{Refusal}
 use Rattle.gate_base.specs.declared.refusal.Refusal.TheVariants.{NoSession, SynData, SynInSession, NoAck, Gap, PastEnd, AckAhead, Unlike, StreamLimit, Backlog}
-use Rattle.stream_model.specs.Numbers.{number_at, known, is_number, one_if}
+use Rattle.tcp_segments.specs.Flags.{one_if}
+use Rattle.stream_model.specs.Numbers.{number_at, known, is_number}
 use Rattle.stream_model.specs.Session.{Session, Segment, own, other, extent, arrival, start_at, acknowledged_at, repeats_unlike}
 use Rattle.stream_model.specs.declared.numbers.Near.{Near}
 use Rattle.stream_model.specs.declared.verdict.Arrival.{Arrival}

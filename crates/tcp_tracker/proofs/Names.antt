@@ -14,7 +14,8 @@ use Rattle.tcp_tracker.specs.declared.connection.Connection.{Connection}
 use Rattle.gate_base.specs.declared.event.Moment.{Moment}
 use Rattle.gate_base.specs.declared.side.Side.{Side}
 use Rattle.gate_base.specs.declared.side.Side.TheVariants.{Left, Right}
-use Rattle.tcp_tracker.specs.Connections.{is_of, place_of, connection_of, AreNamedOnce, changed, after, held, with_flags, unused, has_rst, is_reset, starts_anew}
+use Rattle.tcp_segments.specs.Flags.{flags_of}
+use Rattle.tcp_tracker.specs.Connections.{is_of, place_of, connection_of, AreNamedOnce, changed, after, held, with_flags, unused, is_reset, starts_anew}
 use Rattle.tcp_tracker.specs.Filed.{IsKey, IsFiled, number_of, filed}
 
 -- ## Names and numbers
@@ -275,7 +276,7 @@ name_kept key from now false false c flags is = name_flags key from flags c is
 
 -- a segment leaves the name as it is
 pub name_after : (key : ConnKey) (from : Side) (flags : ℕ) (session : Option ℕ) (now : Moment) (found : Option (Connection ℕ)) → IfSome found (λ c. c.key ≡ key) → IfSome (after key from flags session now found) (λ c. c.key ≡ key)
-name_after key from flags session now None is = name_begun key from now (has_rst flags) (unused key session) flags refl
+name_after key from flags session now None is = name_begun key from now (flags_of flags).reset (unused key session) flags refl
 name_after key from flags session now (Some c) is = name_kept key from now (is_reset flags c) (starts_anew flags c) c flags is
 
 pub named_once : (rows : List (Row (Connection ℕ))) → All IsFiled rows → AreDistinct rows → AreNamedOnce (connections_in rows)

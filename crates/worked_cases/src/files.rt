@@ -1,8 +1,8 @@
 // Runs over real files.
-use crate::case::{is_part, run_gate, words_of};
+use crate::case::{is_part, words_of};
 use gate_base::read_number;
 use gate_desk::FileDesk;
-use gateway::Status;
+use gateway_main::carry_out;
 use std::{fs, io};
 
 /// A device that takes nothing.
@@ -14,9 +14,9 @@ const OUTPUTS: [&str; 3] = ["left_out.pcap", "right_out.pcap", "report.txt"];
 /// Where a run writes its outputs, before their names.
 const WRITTEN: &str = "written.";
 
-fn status_of(rt: &HostRuntime, words: &str) -> io::Result<Status> {
+fn exit_status(rt: &HostRuntime, words: &str) -> io::Result<u8> {
     let words = words_of(rt.alloc(), words)?;
-    Ok(run_gate(rt.alloc(), &words, &mut FileDesk::make(*rt)))
+    Ok(carry_out(rt.alloc(), &words, &mut FileDesk::make(*rt)))
 }
 
 // Whether a file that was written is that of the case.
@@ -46,8 +46,7 @@ fn ends_with(rt: &HostRuntime, code: u8, case: &str, words: &str) -> io::Result<
     if lacks_device(rt, words) {
         return Ok(true);
     }
-    let status = status_of(rt, words)?;
-    if status.code() != code {
+    if exit_status(rt, words)? != code {
         return Ok(false);
     }
     if code == 0 {

@@ -1,7 +1,7 @@
 use Rattle.std.proofs.Common.{◌≡◌, ◌+◌, ◌%◌, ◌≤◌, List, ℕ, length, take, drop, ap, ◌∙◌, sym, arith}
 use Rattle.std.proofs.lemmas.List.{take-append-drop, length-take-le}
 use Rattle.inet_sum.specs.Sum.{total, fold_of}
-use Rattle.inet_sum.proofs.Words.{total-append, fold_again}
+use Rattle.inet_sum.proofs.Words.{total-append, fold_again, fold_same}
 use Rattle.inet_sum.proofs.folded_with.Goals as goal
 
 -- a block, and what follows
@@ -12,11 +12,18 @@ total_block octets long =
 
 pub loop-rest-preserved : goal.loop-rest-preserved
 loop-rest-preserved c =
-    let cut : c.loop-rest.sum + total c.loop-rest.rest.now ≡ (c.loop-rest.sum + c.block_total.result) + total c.split_at.result.1.now =
-    omega (arith, total_block c.loop-rest.rest.now (omega arith), c.block_total.ensures.total, ap total c.split_at.ensures.front, ap total c.split_at.ensures.back)
+    let more = total c.split_at.result.1.now in
+    let start = c.loop-rest.sum + more in
+    let folds : fold_of (start + c.block_sum.result) ≡ fold_of (start + total c.split_at.result.0.now) = fold_same start c.block_sum.result (total c.split_at.result.0.now) c.block_sum.ensures.folds in
+    let cut : c.loop-rest.sum + total c.loop-rest.rest.now ≡ start + total c.split_at.result.0.now =
+    omega (arith, total_block c.loop-rest.rest.now (omega arith), ap total c.split_at.ensures.front, ap total c.split_at.ensures.back)
     in
+    let turned : (c.loop-rest.sum + c.block_sum.result) + more ≡ start + c.block_sum.result = omega arith in
     record {
       small = omega arith;
-      so_far = ap (λ n. fold_of (n + total c.split_at.result.1.now)) (c.from-sum.ensures ∙ c.fold.ensures)
-          ∙ fold_again (c.loop-rest.sum + c.block_total.result) (total c.split_at.result.1.now) ∙ ap fold_of (sym cut) ∙ c.loop-rest.invariant.so_far;
+      so_far = ap (λ n. fold_of (n + more)) (c.from-sum.ensures ∙ c.fold.ensures)
+          ∙ fold_again (c.loop-rest.sum + c.block_sum.result) more ∙ ap fold_of turned ∙ folds ∙ ap fold_of (sym cut) ∙ c.loop-rest.invariant.so_far;
     }
+
+pub returns : goal.returns
+returns c = c.fold-2.ensures ∙ fold_same c.loop-rest.sum c.block_sum-2.result (total c.loop-rest.rest.now) c.block_sum-2.ensures.folds ∙ c.loop-rest.invariant.so_far

@@ -1,7 +1,8 @@
 use Rattle.std.proofs.Common.{◌==◌, ◌+◌, max, nat_le, not, ◌&&◌, ◌||◌, Bool, Some, None, [], ◌∷◌, length, count_by, sym, ap, subst, refl, ◌∙◌, ℕ}
 use Rattle.std.proofs.lemmas.Bool.{and_parts}
 use Rattle.tcp_segments.specs.Tcp.{Tcp}
-use Rattle.tcp_tracker.specs.Connections.{connection_of, hold_of, noted, has_rst, is_tracked}
+use Rattle.tcp_segments.specs.Flags.{flags_of}
+use Rattle.tcp_tracker.specs.Connections.{connection_of, hold_of, noted, is_tracked}
 use Rattle.tcp_tracker.specs.declared.connection.ConnKey.{ConnKey}
 use Rattle.binding_table.specs.Plan.{after_uses}
 use Rattle.gate_world.specs.Frame.{Stream}
@@ -39,7 +40,7 @@ returns-then-lacks_alias-clause-done c =
     let none = ap (λ (k : ConnKey). connection_of k c.args.connections.now) (sym c.requires.key) ∙ c.requires.absent in
     let j = begun_joined live side d c.requires.dns none (ap (λ (t : Tcp). is_opening t.flags && t.destination_port == 21) (sym c.requires.tcp) ∙ c.requires.first) in
     let verdict = sym c.first_verdict.ensures ∙ c.in_default.is in
-    let plain = ap (λ (t : Tcp). has_rst t.flags) (sym c.requires.tcp) ∙ opens_plain tcp (and_parts (is_opening c.args.segment.now.tcp.now.flags) (c.args.segment.now.tcp.now.destination_port == 21) c.requires.first).0 verdict in
+    let plain = ap (λ (t : Tcp). (flags_of t.flags).reset) (sym c.requires.tcp) ∙ opens_plain tcp (and_parts (is_opening c.args.segment.now.tcp.now.flags) (c.args.segment.now.tcp.now.destination_port == 21) c.requires.first).0 verdict in
     record {
       answer = empty_refused live side d c.args.way.now _ _ c.requires.way j (begun_refusal (table_after kept_rules live side live.clock d Stream) side tcp d c.requires.tcp ∙ verdict)
           (ap (λ (b : Bool). not b && nat_le 65536 (length c.args.connections.now) || nat_le 4096 (count_by is_tracked c.args.connections.now)) plain ∙ sym c.is_full.ensures ∙ c.if-is_full.false)
@@ -58,7 +59,7 @@ step_tracked-requires-clause-passes c =
     ∙ c.in_default.is
 
 pub open-requires-clause-flags : goal.open-requires-clause-flags
-open-requires-clause-flags c = ap has_rst c.flags-flags.ensures ∙ opens_plain c.args.segment.now.tcp.now (and_parts (is_opening c.args.segment.now.tcp.now.flags) (c.args.segment.now.tcp.now.destination_port == 21) c.requires.first).0 (sym c.first_verdict.ensures ∙ c.in_default.is)
+open-requires-clause-flags c = ap (λ (n : ℕ). (flags_of n).reset) c.flags-flags.ensures ∙ opens_plain c.args.segment.now.tcp.now (and_parts (is_opening c.args.segment.now.tcp.now.flags) (c.args.segment.now.tcp.now.destination_port == 21) c.requires.first).0 (sym c.first_verdict.ensures ∙ c.in_default.is)
 
 pub returns-clause-done : goal.returns-clause-done
 returns-clause-done c =
@@ -70,7 +71,7 @@ returns-clause-done c =
     let none = ap (λ (k : ConnKey). connection_of k c.args.connections.now) (sym c.requires.key) ∙ c.requires.absent in
     let j = begun_joined live side d c.requires.dns none (ap (λ (t : Tcp). is_opening t.flags && t.destination_port == 21) (sym c.requires.tcp) ∙ c.requires.first) in
     let verdict = sym c.first_verdict.ensures ∙ c.in_default.is in
-    let plain = ap (λ (t : Tcp). has_rst t.flags) (sym c.requires.tcp) ∙ opens_plain tcp (and_parts (is_opening c.args.segment.now.tcp.now.flags) (c.args.segment.now.tcp.now.destination_port == 21) c.requires.first).0 verdict in
+    let plain = ap (λ (t : Tcp). (flags_of t.flags).reset) (sym c.requires.tcp) ∙ opens_plain tcp (and_parts (is_opening c.args.segment.now.tcp.now.flags) (c.args.segment.now.tcp.now.destination_port == 21) c.requires.first).0 verdict in
     let flags = c.flags-flags.ensures ∙ ap (λ (t : Tcp). t.flags) c.requires.tcp in
     let tracked = c.in_ok-tracked.ensures ∙ ap (made_on way) c.requires.tcp in
     let hold = c.hold_of-hold.ensures.is ∙ ap (λ (k : ConnKey). hold_of c.args.connections.now k side c.flags-flags.result) c.requires.key ∙ ap (hold_of c.args.connections.now (key_in c.args.table.now side d) side) flags in

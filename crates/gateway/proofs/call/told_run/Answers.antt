@@ -1,7 +1,8 @@
-use Rattle.std.proofs.Common.{sym, subst}
+use Rattle.std.proofs.Common.{refl, sym, subst}
 use Rattle.gateway.specs.Command.{names_of}
 use Rattle.gateway.specs.Answers.{AnswersRun}
 use Rattle.gateway.proofs.Runs.{not_begun, answers_run}
+use Rattle.gateway.proofs.Took.{kept_left, took_unwritten}
 use Rattle.gateway.proofs.call.told_run.Goals as goal
 
 pub returns-in-Err : goal.returns-in-Err
@@ -9,8 +10,8 @@ returns-in-Err g c =
     let old = g.D.Desk.outside c.args.desk.now in
     let new = g.D.Desk.outside c.tell_out_of_memory.new.desk in
     subst (λ s. AnswersRun s (names_of c.args.names) old new) (sym c.tell_out_of_memory.ensures.is)
-    (record { ended = old; run = not_begun (names_of c.args.names) old; line = c.tell_out_of_memory.ensures.line })
+    (record { ended = old; run = not_begun (names_of c.args.names) old; taken = took_unwritten old old (kept_left old old refl); line = c.tell_out_of_memory.ensures.line })
 
 pub returns : goal.returns
 returns g c =
-    answers_run c.in-Err-run.status c.tell.result (names_of c.args.names) (g.D.Desk.outside c.args.desk.now) (g.D.Desk.outside c.run.new.desk) (g.D.Desk.outside c.tell.new.desk) c.in-Err-run.ensures.answer c.tell.ensures
+    answers_run c.in-Err-run.status c.tell.result (names_of c.args.names) (g.D.Desk.outside c.args.desk.now) (g.D.Desk.outside c.run.new.desk) (g.D.Desk.outside c.tell.new.desk) c.in-Err-run.ensures.answer c.in-Err-run.ensures.taken c.tell.ensures

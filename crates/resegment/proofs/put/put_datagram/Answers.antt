@@ -1,5 +1,6 @@
 use Rattle.std.proofs.Common.{rules, ◌≡◌, ◌-◌, ◌++◌, length, take, drop, refl, sym, ap, subst, ◌∙◌, append_assoc, ◌≤◌}
 use Rattle.std.proofs.lemmas.List.{take_at, drop_at}
+use Rattle.tcp_segments.specs.Flags.{flags_octet}
 use Rattle.tcp_segments.specs.Tcp.{IsTcpHeader, spelled_segment, datagram_of}
 use Rattle.resegment.proofs.PieceLemmas.{parts_behind, written_behind}
 use Rattle.resegment.proofs.put.put_datagram.Goals as goal
@@ -20,10 +21,11 @@ returns-clause-octets c =
     let whole = parts_behind c.args.outbox.now.items m.ip.now m.tcp.now c.args.octets.now c.deref_mut.result.now c.len-start.result start c.requires.ip items in
     let tcp = ap (take (length m.tcp.now)) whole ∙ take_at m.tcp.now c.args.octets.now (length m.tcp.now) refl in
     let octets = ap (drop (length m.tcp.now)) whole ∙ drop_at m.tcp.now c.args.octets.now (length m.tcp.now) refl in
-    let target : c.finish_segment.new.target ≡ datagram_of m.ip.now m.source.0 m.destination.0 m.lifetime (spelled_segment m.tcp.now m.source.0 m.destination.0 c.args.sequence m.acknowledgement c.args.flags c.args.octets.now) =
+    let target : c.finish_segment.new.target ≡ datagram_of m.ip.now m.source.0 m.destination.0 m.lifetime (spelled_segment m.tcp.now m.source.0 m.destination.0 c.args.sequence m.acknowledgement (flags_octet c.args.flags) c.args.octets.now) =
     c.finish_segment.ensures
-    ∙ ap (λ xs. datagram_of m.ip.now m.source.0 m.destination.0 m.lifetime (spelled_segment xs m.source.0 m.destination.0 c.args.sequence m.acknowledgement c.args.flags (drop (length m.tcp.now) (drop 20 (take (length c.deref_mut.result.now - c.len-start.result) (drop c.len-start.result c.deref_mut.result.now)))))) tcp
-    ∙ ap (λ xs. datagram_of m.ip.now m.source.0 m.destination.0 m.lifetime (spelled_segment m.tcp.now m.source.0 m.destination.0 c.args.sequence m.acknowledgement c.args.flags xs)) octets in
+    ∙ ap (λ xs. datagram_of m.ip.now m.source.0 m.destination.0 m.lifetime (spelled_segment xs m.source.0 m.destination.0 c.args.sequence m.acknowledgement c.flags_octet.result (drop (length m.tcp.now) (drop 20 (take (length c.deref_mut.result.now - c.len-start.result) (drop c.len-start.result c.deref_mut.result.now)))))) tcp
+    ∙ ap (λ xs. datagram_of m.ip.now m.source.0 m.destination.0 m.lifetime (spelled_segment m.tcp.now m.source.0 m.destination.0 c.args.sequence m.acknowledgement c.flags_octet.result xs)) octets
+    ∙ ap (λ n. datagram_of m.ip.now m.source.0 m.destination.0 m.lifetime (spelled_segment m.tcp.now m.source.0 m.destination.0 c.args.sequence m.acknowledgement n c.args.octets.now)) c.flags_octet.ensures in
     let size : c.append-3.new.list.len ≡ length c.deref_mut.result.now = search rules in
     let front : take c.len-start.result c.deref_mut.result.now ≡ c.args.outbox.now.items =
     ap (take c.len-start.result) (items ∙ append_assoc (c.args.outbox.now.items ++ m.ip.now) m.tcp.now c.args.octets.now ∙ append_assoc c.args.outbox.now.items m.ip.now (m.tcp.now ++ c.args.octets.now))

@@ -2,7 +2,7 @@ use Rattle.std.proofs.Common.{◌≡◌, ◌+◌}
 use Rattle.std.specs.Slice.Iter.{chunks_exact_rest, chunks_exact_size}
 use Rattle.inet_sum.specs.Sum.{total}
 use Rattle.inet_sum.proofs.Words.{remainder}
-use Rattle.inet_sum.proofs.block_total.Given as goal
+use Rattle.inet_sum.proofs.pair_total.Given as goal
 
 abbrev pub invariant-loop-pair : goal.invariant-loop-pair
 invariant-loop-pair l = record {

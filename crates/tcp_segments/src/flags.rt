@@ -1,8 +1,18 @@
 // The flags of a segment and the octet in which they stand (RFC 9293, 3.1).
 ghost use Rattle.std.specs.Prelude.{◌≡◌, ◌≤◌};
-ghost use Rattle.stream_model.specs.Octet.{flags_of, flags_octet};
+ghost use Rattle.tcp_segments.specs.Flags.{flags_of, flags_octet};
 
-use crate::verdict::Flags;
+/// The flags of a segment (RFC 9293, 3.1). URG is not here, since it is cleared.
+#[derive(Clone, Copy, Debug, PartialEq, Eq)]
+pub struct Flags {
+    pub fin: bool,
+    pub syn: bool,
+    pub reset: bool,
+    pub push: bool,
+    pub ack: bool,
+    /// The two bits of congestion notification (RFC 3168), which are copied: from 0 to 3.
+    pub ecn: u8,
+}
 
 /// The flags in an octet.
 pub fn flags_of(octet: u8) -> Flags

@@ -2,7 +2,7 @@ use Rattle.std.proofs.Common.{rules, Fits, w8, List, get_or, ℕ, ◌≡◌, ◌
 use Rattle.std.specs.Slice.Iter.{chunks_exact_rest}
 use Rattle.inet_sum.specs.Sum.{total}
 use Rattle.inet_sum.proofs.Words.{remainder, total-append, total_small, remainder_pair, remainder_short}
-use Rattle.inet_sum.proofs.block_total.Goals as goal
+use Rattle.inet_sum.proofs.pair_total.Goals as goal
 
 summed : (c : goal.After-word-total) → c.word-total.result + total (chunks_exact_rest c.next.new.self) ≡ total (chunks_exact_rest c.loop-pair.pair-iterator)
 summed c =

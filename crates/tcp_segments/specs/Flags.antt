@@ -1,7 +1,11 @@
 -- Flags and the octet in which they stand (RFC 9293, 3.1).
-use Rattle.std.specs.Prelude.{ℕ, ◌+◌, ◌*◌, ◌/◌, ◌%◌, ◌==◌}
-use Rattle.stream_model.specs.Numbers.{one_if}
-use Rattle.stream_model.specs.declared.verdict.Flags.{Flags}
+use Rattle.std.specs.Prelude.{ℕ, ◌+◌, ◌*◌, ◌/◌, ◌%◌, Bool, true, false, ◌==◌}
+use Rattle.tcp_segments.specs.declared.flags.Flags.{Flags}
+
+-- 1 if so
+abbrev pub one_if : Bool → ℕ
+one_if true = 1
+one_if false = 0
 
 -- the flags in an octet: FIN is 1, SYN 2, RST 4, PSH 8, ACK 16, and from 64 on the two bits of congestion notification; URG (32) is left out
 abbrev pub flags_of : ℕ → Flags

@@ -1,0 +1,73 @@
+// Octets on their way to a file.
+ghost use Rattle.std.specs.Prelude.{◌≡◌, ◌++◌, [], IfOk, OnOk, OnErr};
+ghost use Rattle.std.specs.Io.KnownBytes.{Appends};
+ghost use Rattle.gate_desk.specs.Gathering.{gathered_after};
+
+use crate::Failed;
+use std::alloc::{AllocError, Allocator};
+use std::io::{self, Write};
+use std::marker::Model;
+
+/// How many octets are gathered before they are written out: more than a piece of the gateway has.
+const GATHER: usize = 1 << 17;
+
+/// What became of a piece.
+#[derive(Clone, Copy, Debug, PartialEq, Eq)]
+pub enum Gathering {
+    /// All of it is gathered.
+    Gathered,
+    /// There is no room behind what is gathered.
+    NoRoom,
+    /// It can't be gathered.
+    Refused,
+}
+
+/// Octets that were taken for a file, and that aren't written out yet.
+#[derive(Drop)]
+pub struct Gathered<A: Allocator> {
+    octets: Vec<u8, A>,
+}
+
+impl<A: Allocator> Model for Gathered<A> {
+    ghost use Rattle.std.specs.Prelude.{ℕ, List};
+
+    ghost Value = { List ℕ };
+
+    ghost view = { λ d. d.octets.items };
+}
+
+impl<A: Allocator> Gathered<A> {
+    /// None, with their room. The error is want of memory.
+    pub fn make(alloc: A) -> Result<Gathered<A>, AllocError>
+        ensures { IfOk result (λ none. none ≡ []) }
+    {
+        let octets = Vec::with_capacity(alloc, GATHER)?;
+        Ok(Gathered { octets })
+    }
+
+    /// Takes a whole piece, or nothing of it. A piece that is greater than the room is taken where nothing else is gathered.
+    #[inline(always)]
+    pub fn take(&mut self, piece: &[u8]) -> Gathering
+        ensures { self.new ≡ gathered_after result piece.now self.old }
+    {
+        let room = GATHER.saturating_sub(self.octets.len());
+        if room < piece.len() && !self.octets.is_empty() {
+            return Gathering::NoRoom;
+        }
+        match self.octets.extend_from_slice(piece) {
+            Ok(()) => Gathering::Gathered,
+            Err(_) => Gathering::Refused,
+        }
+    }
+
+    /// Writes all of them to a file. After an error they stay, though the file may have got some.
+    pub fn write_out<W: Write>(&mut self, file: &mut W) -> Result<(), Failed>
+        ensures written { OnOk result (Appends (W.contents file.old) (W.contents file.new) self.old) }
+        ensures none { OnOk result (self.new ≡ []) }
+        ensures err { OnErr result (self.new ≡ self.old) }
+    {
+        file.write_all(&self.octets).map_err(|_: io::Error| Failed)?;
+        self.octets.clear();
+        Ok(())
+    }
+}

@@ -1,0 +1,123 @@
+// Where a slot of the desk over files leads.
+ghost use Rattle.std.specs.Prelude.{◌≡◌, ◌≤◌, [], length, IfOk, IfSome, OnOk};
+ghost use Rattle.gate_desk.specs.Gathering.{waiting, gathered_after};
+
+use crate::gathered::{Gathered, Gathering};
+use crate::{Failed, Slot, Way};
+use std::alloc::Allocator;
+use std::fs;
+use std::io::{self, BufRead, BufReader, Read, Write};
+use std::rt::Runtime;
+
+/// How many octets of a file are read ahead.
+const READ_AHEAD: usize = 1 << 16;
+
+/// Where a slot leads, and what is gathered on its way there.
+#[derive(Drop)]
+pub enum Place<F: Read + Drop, A: Allocator> {
+    Nowhere,
+    Input(BufReader<F, A>),
+    Output(F, Gathered<A>),
+    StandardOutput(Gathered<A>),
+}
+
+/// The place of a file of this name. The name `-` of a report is standard output.
+#[inline(never)]
+pub fn open_place<R: Runtime>(
+    rt: &R,
+    slot: Slot,
+    name: &str,
+    way: Way,
+) -> io::Result<Place<R::File, R::A>>
+    ensures { IfOk result (λ place. waiting place ≡ []) }
+{
+    match way {
+        Way::Read => {
+            let file = fs::open(rt, name)?;
+            let reader = BufReader::with_capacity(rt.alloc(), READ_AHEAD, file)?;
+            Ok(Place::Input(reader))
+        }
+        Way::Write => {
+            let gathered = Gathered::make(rt.alloc())?;
+            if slot == Slot::Report && name == "-" {
+                Ok(Place::StandardOutput(gathered))
+            } else {
+                Ok(Place::Output(fs::create(rt, name)?, gathered))
+            }
+        }
+    }
+}
+
+impl<F: Read + Drop, A: Allocator> Place<F, A> {
+    /// Takes octets that were read ahead, where there are some, so that the system isn't asked.
+    #[inline(always)]
+    pub fn take_ahead(&mut self, buffer: &mut [u8]) -> Option<usize>
+        ensures fits { IfSome result (λ n. n ≤ length buffer.new) }
+        ensures waiting { waiting self.new ≡ waiting self.old }
+    {
+        match self {
+            Place::Input(reader) => {
+                let ahead = reader.buffer();
+                if ahead.is_empty() {
+                    return None;
+                }
+                let n = ahead.len().min(buffer.len());
+                buffer[..n].copy_from_slice(&ahead[..n]);
+                reader.consume(n);
+                Some(n)
+            }
+            _ => None,
+        }
+    }
+
+    /// Asks the system for octets. The error is that it fails, or that the place isn't read.
+    #[inline(never)]
+    pub fn read(&mut self, buffer: &mut [u8]) -> Result<usize, Failed>
+        ensures fits { IfOk result (λ n. n ≤ length buffer.new) }
+        ensures waiting { waiting self.new ≡ waiting self.old }
+    {
+        match self {
+            Place::Input(reader) => reader.read(buffer).map_err(|_: io::Error| Failed),
+            _ => Err(Failed),
+        }
+    }
+
+    /// Gathers a whole piece, or nothing of it.
+    #[inline(always)]
+    pub fn gather(&mut self, piece: &[u8]) -> Gathering
+        ensures { waiting self.new ≡ gathered_after result piece.now (waiting self.old) }
+    {
+        match self {
+            Place::Output(_, gathered) => gathered.take(piece),
+            Place::StandardOutput(gathered) => gathered.take(piece),
+            _ => Gathering::Refused,
+        }
+    }
+}
+
+// Standard output as a file.
+#[derive(Drop)]
+struct StandardOutput<'a, R: Runtime> {
+    rt: &'a R,
+}
+
+impl<'a, R: Runtime> Write for StandardOutput<'a, R> {
+    fn write(&mut self, octets: &[u8]) -> io::Result<usize> {
+        self.rt.write_some(octets)
+    }
+
+    fn flush(&mut self) -> io::Result<()> {
+        Ok(())
+    }
+}
+
+/// Writes out all that is gathered for a place. After an error it stays, though the system may have got some of it.
+pub fn write_out<R: Runtime>(rt: &R, place: &mut Place<R::File, R::A>) -> Result<(), Failed>
+    ensures { OnOk result (waiting place.new ≡ []) }
+{
+    match place {
+        Place::Output(file, gathered) => gathered.write_out(file),
+        Place::StandardOutput(gathered) => gathered.write_out(&mut StandardOutput { rt }),
+        _ => Ok(()),
+    }
+}

@@ -1,0 +1,146 @@
+-- What a run took of the captures where it ended early.
+use Rattle.std.proofs.Common.{◌≡◌, ◌⊎◌, ℕ, inl, inr, List, [], ◌++◌, Result, Ok, Err, Option, Some, None, IfSome, OnErr, option_map, length, refl, sym, ap, subst, ◌∙◌}
+use Rattle.gate_base.specs.declared.side.Side.{Side}
+use Rattle.gate_base.specs.Events.{Event}
+use Rattle.gate_desk.specs.declared.slot.Slot.TheVariants.{Settings}
+use Rattle.gate_desk.specs.declared.slot.PerSlot.{PerSlot}
+use Rattle.gate_desk.specs.Outside.{Outside, Told, Start, Takes, told_at, took}
+use Rattle.gate_report.specs.declared.line.Line.{Line}
+use Rattle.gate_settings.specs.declared.settings.Settings.{Settings as GateSettings}
+use Rattle.pcap_merge.specs.declared.stop.MergeStop.{MergeStop}
+use Rattle.pcap_merge.specs.declared.stop.MergeStop.TheVariants as merges
+use Rattle.pcap_merge.specs.Events.{Merged, with_event}
+use Rattle.pcap_merge.specs.Given.{TakenFor}
+use Rattle.pcap_merge.specs.Merge.{Merging, Begins, HasGiven, Gives as GivesEvent, Finishes as FinishesMerge, StopsBy, TakesFew, ahead}
+use Rattle.pcap_merge.specs.Stops.{slot_of}
+use Rattle.pcap_merge.proofs.Given.{given_few, taken_none, taken_later, taken_since}
+use Rattle.kept_world.specs.Kept.{KeptSession, kept_rules}
+use Rattle.gate_core.specs.Gates.{Gateway}
+use Rattle.gateway.specs.declared.report.Totals.{Totals}
+use Rattle.gateway.specs.declared.status.Status.{Status}
+use Rattle.gateway.specs.declared.status.Status.TheVariants.{Done, Usage, SettingsRefused, CaptureRefused, ReadFault, WriteFault, OpenFault, OutOfMemory}
+use Rattle.gateway.specs.Answers.{TookForWritten}
+use Rattle.gateway.specs.Causes.{Gives}
+use Rattle.gateway.specs.Command.{Names, first_starts, output_starts}
+use Rattle.gateway.specs.Machine.{State, heads, given_by, opening, last_line, done_line}
+use Rattle.gateway.specs.Phases.{Settled, Prepared, Readied, StandWritten, TookFew, Finishes, Handles, OfEvents}
+use Rattle.gateway.specs.Pieces.{Piece, WritesFront, IsFront, wrote_pieces}
+use Rattle.gateway.proofs.Phases.{if_some, told_before}
+use Rattle.gateway.proofs.Pieces.{is_front_all, is_front_none, wrote_pieces-nil}
+use Rattle.gateway.proofs.Progress.{Progress, with_front, given_all, given_kept, failed_only}
+use Rattle.gateway.proofs.Runs.{of_events, heads_written}
+
+-- ## Before the events
+
+-- nothing was read
+pub kept_left : (a b : Outside) → b.left ≡ a.left → TakenFor [] a b
+kept_left a b e = taken_none a b (λ side. ap (λ (t : Told). told_at t (slot_of side)) e)
+
+-- the settings alone were read
+pub settings_only : (n : ℕ) (a b c : Outside) → b.left ≡ a.left → Takes Settings n b c → TakenFor [] a c
+settings_only n a b c e t = taken_none a c (λ side. ap (λ (u : Told). told_at u (slot_of side)) t.left ∙ told_before side n b.left ∙ ap (λ (u : Told). told_at u (slot_of side)) e)
+
+-- a head could not be read
+pub not_begun_few : (stop : MergeStop) (a b c : Outside) → b.left ≡ a.left → Begins (Err stop) b c → TakenFor [] a c
+not_begun_few (merges.Fault side f place) a b c e k = taken_since b a c [] (λ side'. ap (λ (t : Told). told_at t (slot_of side')) e) k.3
+not_begun_few (merges.Desk slot) a b c e k = taken_since b a c [] (λ side. ap (λ (t : Told). told_at t (slot_of side)) e) k.4
+not_begun_few merges.OutOfMemory a b c e k = taken_since b a c [] (λ side. ap (λ (t : Told). told_at t (slot_of side)) e) k.1
+
+-- the same behind the settings
+pub settled_few : (settings : GateSettings) (xs : List Start) (a b c : Outside) → Settled settings xs a b → TakenFor [] b c → TakenFor [] a c
+settled_few settings xs a b c h k = taken_since b a c [] (λ side. ap (λ (t : Told). told_at t (slot_of side)) h.left ∙ told_before side h.count a.left) k
+
+pub gives_left : (r : Result (Unit {0}) Status) (ps : List Piece) (a b : Outside) → Gives r ps a b → b.left ≡ a.left
+gives_left (Ok u) ps a b h = h.only.left
+gives_left (Err e) ps a b h = h.1.only.left
+
+-- ## At an event
+
+stand_of : (settings : GateSettings) (done : List Event) (behind : List Piece) (o : Option Merged) (a b c : Told) → b ≡ wrote_pieces (given_all settings (opening settings) done) a → IsFront behind b c → IfSome (option_map (with_front done) o) (λ all. StandWritten settings done all.events a c)
+stand_of settings done behind None a b c written front = tt
+stand_of settings done behind (Some x) a b c written front = record { others = x.events; split = refl; behind = behind; written = subst (λ (t : Told). IsFront behind t c) written front }
+
+-- the events that were handled stand written, and a front of more
+stands : (settings : GateSettings) (m0 m : Merging) (old now : Outside) (s : State KeptSession) (behind : List Piece) (new : Outside) → (h : Progress settings m0 old now m s) → IsFront behind now.written new.written → OfEvents m0 old (λ all. StandWritten settings h.done all.events old.written new.written)
+stands settings m0 m old now s behind new h front =
+    subst (λ o. IfSome o (λ all. StandWritten settings h.done all.events old.written new.written)) (sym h.others) (stand_of settings h.done behind (ahead m now.left) old.written now.written new.written h.written front)
+
+few_stop : (stop : MergeStop) (m : Merging) (now new : Outside) → StopsBy stop m now new → TakesFew m now new × (new.written ≡ now.written)
+few_stop (merges.Fault side f place) m now new k = (k.2, k.0.written)
+few_stop (merges.Desk slot) m now new k = (k.2.few, k.2.reads.written)
+few_stop merges.OutOfMemory m now new k = absurd k
+
+-- the merge stopped
+pub took_stop : (stop : MergeStop) (settings : GateSettings) (m0 m : Merging) (old now new : Outside) (s : State KeptSession) → Progress settings m0 old now m s → StopsBy stop m now new → TookFew settings m0 old new
+took_stop stop settings m0 m old now new s h k =
+    let stopped = few_stop stop m now new k in
+    record {
+      handled = h.done;
+      few = λ start given. stopped.0 start h.done (h.given start given);
+      stand = stands settings m0 m old now s [] new h (is_front_all [] now.written new.written (stopped.1 ∙ sym (wrote_pieces-nil now.written)));
+    }
+
+-- the last line was not written
+pub took_end : (r : Result Line Status) (settings : GateSettings) (m0 m m' : Merging) (old now mid new : Outside) (s : State KeptSession) (line : Line) → Progress settings m0 old now m s → FinishesMerge m m' now mid → Finishes r settings.json line mid new → OnErr r (TookFew settings m0 old new)
+took_end (Ok done) settings m0 m m' old now mid new s line h k f = tt
+took_end (Err e) settings m0 m m' old now mid new s line h k f =
+    let front = line_front e f in
+    record {
+      handled = h.done;
+      few = λ start given. taken_later start mid new h.done (λ side. ap (λ (t : Told). told_at t (slot_of side)) front.1.only.left) (k.few start h.done (h.given start given));
+      stand = stands settings m0 m old now s front.0 new h (subst (λ (t : Told). IsFront front.0 t new.written) k.reads.written front.1.front);
+    }
+  where
+    line_front : (e : Status) → Finishes (Err e) settings.json line mid new → (behind : List Piece) × WritesFront behind mid new
+    line_front OutOfMemory f = (_, f.1)
+    line_front Done f = (_, f.1)
+    line_front Usage f = (_, f.1)
+    line_front (SettingsRefused x) f = (_, f.1)
+    line_front (CaptureRefused x y z) f = (_, f.1)
+    line_front (ReadFault x) f = (_, f.1)
+    line_front (WriteFault x) f = (_, f.1)
+    line_front (OpenFault x) f = (_, f.1)
+
+event_front : (e : Status) (gate gate' : Gateway) (totals : Totals) (event : Event) (mid new : Outside) → Handles (Err e) gate gate' totals event mid new → (behind : List Piece) × IsFront behind mid.written new.written
+event_front OutOfMemory gate gate' totals event mid new k = elim k as (λ x. (behind : List Piece) × IsFront behind mid.written new.written) [
+  | inl wants ↦ ([], is_front_all [] mid.written new.written (ap (λ (o : Outside). o.written) wants.1 ∙ sym (wrote_pieces-nil mid.written)))
+  | inr json ↦ (_, json.1.front)
+]
+event_front Done gate gate' totals event mid new k = (_, k.1.front)
+event_front Usage gate gate' totals event mid new k = (_, k.1.front)
+event_front (SettingsRefused x) gate gate' totals event mid new k = (_, k.1.front)
+event_front (CaptureRefused x y z) gate gate' totals event mid new k = (_, k.1.front)
+event_front (ReadFault x) gate gate' totals event mid new k = (_, k.1.front)
+event_front (WriteFault x) gate gate' totals event mid new k = (_, k.1.front)
+event_front (OpenFault x) gate gate' totals event mid new k = (_, k.1.front)
+
+-- an event was not handled to its end
+pub took_fail : (e : Status) (settings : GateSettings) (gate gate' : Gateway) (totals : Totals) (m0 m m' : Merging) (old now mid new : Outside) (s : State KeptSession) (event : Event) → Progress settings m0 old now m s → GivesEvent event m m' now mid → Handles (Err e) gate gate' totals event mid new → TookFew settings m0 old new
+took_fail e settings gate gate' totals m0 m m' old now mid new s event h gives k =
+    let front = event_front e gate gate' totals event mid new k in
+    record {
+      handled = h.done;
+      few = λ start given. taken_later start mid new h.done (λ side. ap (λ (t : Told). told_at t (slot_of side)) (failed_only e gate gate' totals event mid new k).left) (gives.few start h.done (h.given start given));
+      stand = stands settings m0 m old now s front.0 new h (subst (λ (t : Told). IsFront front.0 t new.written) gives.reads.written front.1);
+    }
+
+-- ## The whole run
+
+pub took_unwritten : (a b : Outside) → TakenFor [] a b → TookForWritten a b
+took_unwritten a b few = record { handled = []; few = few; stand = inl refl }
+
+-- nothing was read behind both heads
+pub took_prepared : (gate : Gateway) (m : Merging) (xs : List Start) (a b c : Outside) → Prepared gate m xs a b → c.left ≡ b.left → TookForWritten a c
+took_prepared gate m xs a b c h e = took_unwritten a c (taken_later a b c [] (λ side. ap (λ (t : Told). told_at t (slot_of side)) e) (given_few a m b [] h.given))
+
+took_events : (gate : Gateway) (m : Merging) (names : Names) (a b c d : Outside) → Prepared gate m (first_starts names) a b → Readied gate.settings (output_starts names) b c → TookFew gate.settings m c d → TookForWritten a d
+took_events gate m names a b c d h k f = record {
+  handled = f.handled;
+  few = f.few a (given_kept a m b c [] k.left h.given);
+  stand = inr (of_events gate m names a b c (λ s all. StandWritten s f.handled all.events (wrote_pieces (heads s) a.written) d.written) h k.left
+      (if_some (ahead m c.left) _ _ f.stand (λ all p. subst (λ (t : Told). StandWritten gate.settings f.handled all.events t d.written) (heads_written gate m names a b c h k) p)));
+}
+
+pub took_forwards : (r : Result Line Status) (gate : Gateway) (m : Merging) (names : Names) (a b c d : Outside) → Prepared gate m (first_starts names) a b → Readied gate.settings (output_starts names) b c → OnErr r (TookFew gate.settings m c d) → OnErr r (TookForWritten a d)
+took_forwards (Ok line) gate m names a b c d h k f = tt
+took_forwards (Err e) gate m names a b c d h k f = took_events gate m names a b c d h k f
