@@ -1,20 +1,18 @@
 -- What a run took of the captures where it ended early.
-use Rattle.std.proofs.Common.{◌≡◌, ◌⊎◌, ℕ, inl, inr, List, [], ◌++◌, Result, Ok, Err, Option, Some, None, IfSome, OnErr, option_map, length, refl, sym, ap, subst, ◌∙◌}
-use Rattle.gate_base.specs.declared.side.Side.{Side}
+use Rattle.std.proofs.Common.{◌≡◌, ℕ, inl, inr, List, [], Result, Ok, Err, Option, Some, None, IfSome, OnErr, option_map, refl, sym, ap, subst, ◌∙◌}
 use Rattle.gate_base.specs.Events.{Event}
 use Rattle.gate_desk.specs.declared.slot.Slot.TheVariants.{Settings}
-use Rattle.gate_desk.specs.declared.slot.PerSlot.{PerSlot}
-use Rattle.gate_desk.specs.Outside.{Outside, Told, Start, Takes, told_at, took}
+use Rattle.gate_desk.specs.Outside.{Outside, Told, Start, Takes, told_at}
 use Rattle.gate_report.specs.declared.line.Line.{Line}
 use Rattle.gate_settings.specs.declared.settings.Settings.{Settings as GateSettings}
 use Rattle.pcap_merge.specs.declared.stop.MergeStop.{MergeStop}
 use Rattle.pcap_merge.specs.declared.stop.MergeStop.TheVariants as merges
-use Rattle.pcap_merge.specs.Events.{Merged, with_event}
+use Rattle.pcap_merge.specs.Events.{Merged}
 use Rattle.pcap_merge.specs.Given.{TakenFor}
-use Rattle.pcap_merge.specs.Merge.{Merging, Begins, HasGiven, Gives as GivesEvent, Finishes as FinishesMerge, StopsBy, TakesFew, ahead}
+use Rattle.pcap_merge.specs.Merge.{Merging, Begins, Gives as GivesEvent, Finishes as FinishesMerge, StopsBy, TakesFew, ahead}
 use Rattle.pcap_merge.specs.Stops.{slot_of}
 use Rattle.pcap_merge.proofs.Given.{given_few, taken_none, taken_later, taken_since}
-use Rattle.kept_world.specs.Kept.{KeptSession, kept_rules}
+use Rattle.kept_world.specs.Kept.{KeptSession}
 use Rattle.gate_core.specs.Gates.{Gateway}
 use Rattle.gateway.specs.declared.report.Totals.{Totals}
 use Rattle.gateway.specs.declared.status.Status.{Status}
@@ -22,11 +20,11 @@ use Rattle.gateway.specs.declared.status.Status.TheVariants.{Done, Usage, Settin
 use Rattle.gateway.specs.Answers.{TookForWritten}
 use Rattle.gateway.specs.Causes.{Gives}
 use Rattle.gateway.specs.Command.{Names, first_starts, output_starts}
-use Rattle.gateway.specs.Machine.{State, heads, given_by, opening, last_line, done_line}
+use Rattle.gateway.specs.Machine.{State, heads, opening}
 use Rattle.gateway.specs.Phases.{Settled, Prepared, Readied, StandWritten, TookFew, Finishes, Handles, OfEvents}
 use Rattle.gateway.specs.Pieces.{Piece, WritesFront, IsFront, wrote_pieces}
 use Rattle.gateway.proofs.Phases.{if_some, told_before}
-use Rattle.gateway.proofs.Pieces.{is_front_all, is_front_none, wrote_pieces-nil}
+use Rattle.gateway.proofs.Pieces.{is_front_all, wrote_pieces-nil}
 use Rattle.gateway.proofs.Progress.{Progress, with_front, given_all, given_kept, failed_only}
 use Rattle.gateway.proofs.Runs.{of_events, heads_written}
 
