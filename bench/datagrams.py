@@ -42,3 +42,21 @@ def tcp(source, port, destination, far_port, flags, sequence, acknowledgement, p
 
 def record(seconds, microseconds, octets):
     return struct.pack("<IIII", seconds, microseconds, len(octets), len(octets)) + octets
+
+
+def write_run(folder, settings, records):
+    """Writes the settings, a left capture of these records, and a right one without any."""
+    with open(f"{folder}/settings.toml", "w") as out:
+        out.write(settings)
+    with open(f"{folder}/right.pcap", "wb") as out:
+        out.write(HEAD)
+    with open(f"{folder}/left.pcap", "wb") as out:
+        out.write(HEAD)
+        out.writelines(records)
+
+
+def paced(frames, second):
+    """Records of frames, so many of them a second."""
+    for number, frame in enumerate(frames):
+        seconds, fraction = divmod(number, second)
+        yield record(seconds + 1, fraction, frame)

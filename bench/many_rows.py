@@ -4,7 +4,7 @@ KIND is hosts (UDP, each frame from the next of so many hosts), connections (TCP
 many connections), or both (TCP, each frame from the next host, on a connection of its own)."""
 import sys
 
-from datagrams import HEAD, record, tcp, udp
+from datagrams import paced, tcp, udp, write_run
 
 kind, rows, frames, folder = sys.argv[1], int(sys.argv[2]), int(sys.argv[3]), sys.argv[4]
 SETTINGS = """
@@ -26,12 +26,4 @@ def frame(number):
     return tcp(source, 1024 + row % 60000, "192.168.0.1", 8000 + row // 60000, 16, row, 0, bytes(20))
 
 
-with open(f"{folder}/settings.toml", "w") as out:
-    out.write(SETTINGS)
-with open(f"{folder}/right.pcap", "wb") as out:
-    out.write(HEAD)
-with open(f"{folder}/left.pcap", "wb") as out:
-    out.write(HEAD)
-    for number in range(frames):
-        seconds, fraction = divmod(number, 100000)
-        out.write(record(seconds + 1, fraction, frame(number)))
+write_run(folder, SETTINGS, paced(map(frame, range(frames)), 100000))

@@ -1,7 +1,7 @@
 """udp_frames.py FRAMES FOLDER: writes settings and two raw captures, the left one with so many UDP frames."""
 import sys
 
-from datagrams import HEAD, record, udp
+from datagrams import paced, udp, write_run
 
 frames, folder = int(sys.argv[1]), sys.argv[2]
 SETTINGS = """
@@ -19,12 +19,4 @@ def frame(length):
 
 
 kinds = [frame(60), frame(576), frame(60), frame(1400)]
-with open(f"{folder}/settings.toml", "w") as out:
-    out.write(SETTINGS)
-with open(f"{folder}/right.pcap", "wb") as out:
-    out.write(HEAD)
-with open(f"{folder}/left.pcap", "wb") as out:
-    out.write(HEAD)
-    for number in range(frames):
-        seconds, fraction = divmod(number, 1000000)
-        out.write(record(seconds + 1, fraction, kinds[number % 4]))
+write_run(folder, SETTINGS, paced((kinds[number % 4] for number in range(frames)), 1000000))
