@@ -19,4 +19,5 @@ pub mod RangesKept
 pub mod SegmentsTaken
 mod RowsFull
 mod RowsMore
+mod RowsHeld
 pub mod Promises
