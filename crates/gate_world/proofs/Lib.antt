@@ -19,5 +19,6 @@ pub mod RangesKept
 pub mod SegmentsTaken
 mod RowsFull
 mod RowsMore
+mod RowsRepeats
 mod RowsHeld
 pub mod Promises
