@@ -1,5 +1,5 @@
 -- What changes of a table keep.
-use Rattle.std.proofs.Common.{◌⊎◌, ◌==◌, ◌≡◌, ℕ, suc, not, ◌+◌, ◌<◌, ◌≤◌, Bool, true, false, ◌&&◌, ◌||◌, List, [], ◌∷◌, ◌++◌, length, length-append, map, get_or, Some, None, option_map, All, IsTrue, refl, sym, ◌∙◌, ap, subst, arith, inl, inr}
+use Rattle.std.proofs.Common.{max, ◌⊎◌, ◌==◌, ◌≡◌, ℕ, suc, not, ◌+◌, ◌<◌, ◌≤◌, Bool, true, false, ◌&&◌, ◌||◌, List, [], ◌∷◌, ◌++◌, length, length-append, map, get_or, Some, None, option_map, All, IsTrue, refl, sym, ◌∙◌, ap, subst, arith, inl, inr}
 use Rattle.std.specs.List.{AllPairs, filter, find}
 use Rattle.std.proofs.Math.Seq.{get_or-append_seam}
 use Rattle.std.proofs.lemmas.List.{get_or_append_left, get_or-append-add, append-nil, get_or-map, length-map}
@@ -7,13 +7,13 @@ use Rattle.std.proofs.lemmas.List.Folds.{list_any_none}
 use Rattle.std.proofs.lemmas.List.Elements.{All-head, All-tail, All-weaker, All-append, All-filter, All-map, All-push, filter-append}
 use Rattle.std.proofs.lemmas.List.Kept.{AllPairs-filter}
 use Rattle.std.proofs.lemmas.List.Quantifiers.{all_pairs_push}
-use Rattle.std.proofs.lemmas.Bool.{cases_Bool}
+use Rattle.std.proofs.lemmas.Bool.{cases_Bool, leb-true}
 use Rattle.gate_base.specs.Side.{other, same_side}
 use Rattle.gate_base.specs.declared.address.Addr.{Addr}
 use Rattle.gate_base.specs.declared.event.Moment.{Moment}
 use Rattle.gate_base.specs.declared.side.Side.{Side}
 use Rattle.realm_pools.specs.Addresses.{Range, is_in, is_free, is_taken}
-use Rattle.binding_table.specs.Steps.{AreTaken, CanHold, aliases_of, aliases_with, changed, filed, plain_table}
+use Rattle.binding_table.specs.Steps.{AreTaken, CanHold, aliases_of, aliases_with, changed, filed, lasts, plain_table}
 use Rattle.binding_table.proofs.Filed.{found_filed, others}
 use Rattle.expiring_table.specs.Rows.{row_of}
 use Rattle.binding_table.specs.declared.binding.Binding.{Binding}
@@ -188,6 +188,15 @@ pub record IsSamePair (one two : Binding) : Type 0 where
 
 pub lasting_pair : (until : Moment) (binding : Binding) → IsSamePair (lasting until binding) binding
 lasting_pair until binding = elim (cases_Bool binding.fixed) [ inl f ↦ rw f (record { side = refl; host = refl; alias = refl }) | inr f ↦ rw f (record { side = refl; host = refl; alias = refl }) ]
+
+pub lasting_same : (until : Moment) (binding : Binding) → lasts until binding ≡ true → lasting until binding ≡ binding
+lasting_same until binding stays = elim (cases_Bool binding.fixed) [
+  | inl f ↦ rw f refl
+  | inr f ↦
+      let no_later : until.0 ≤ binding.until.0 = leb-true until.0 binding.until.0 (rw f at stays) in
+      let same : max binding.until.0 until.0 ≡ binding.until.0 = omega arith in
+      rw (f, same) refl
+]
 
 pub same_pair : (from_pool : Bool) (side : Side) (address : Addr) (until : Moment) (binding : Binding) → IsSamePair (extend_through from_pool side address until binding) binding
 same_pair from_pool side address until binding = elim (cases_Bool (is_through from_pool side address binding)) [

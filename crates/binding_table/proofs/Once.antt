@@ -2,7 +2,7 @@
 use Rattle.std.proofs.Common.{◌≡◌, ◌≢◌, ℕ, zero, suc, ◌<◌, Bool, true, false, ◌&&◌, ◌||◌, ◌==◌, List, [], ◌∷◌, length, map, get_or, Some, None, option_map, refl, sym, ◌∙◌, ap, arith, inl, inr}
 use Rattle.std.specs.List.{find}
 use Rattle.std.proofs.lemmas.Bool.{cases_Bool, cases_eq, cases_lt, and_parts, and_from, or_left, or_right, eqb-true, eq-eqb}
-use Rattle.std.proofs.lemmas.List.{get_or-map, length-map, same_lists}
+use Rattle.std.proofs.lemmas.List.{get_or-map, get_or_default, length-map, same_lists}
 use Rattle.gate_base.specs.Side.{other, same_side}
 use Rattle.gate_base.specs.declared.address.Addr.{Addr}
 use Rattle.gate_base.specs.declared.event.Moment.{Moment}
@@ -12,9 +12,9 @@ use Rattle.expiring_table.specs.Rows.{row_of, with_row}
 use Rattle.binding_table.specs.declared.binding.Binding.{Binding}
 use Rattle.binding_table.specs.Bindings.{Bindings, extend_through, host_of, is_of_alias, is_of_host, is_through, lasting}
 use Rattle.binding_table.specs.Lawful.{IsLawful, collides}
-use Rattle.binding_table.specs.Steps.{filed, number_of}
+use Rattle.binding_table.specs.Steps.{filed, lasts, number_of}
 use Rattle.binding_table.proofs.Filed.{found_filed, replaced, with_filed}
-use Rattle.binding_table.proofs.Kept.{IsSamePair, lasting_pair}
+use Rattle.binding_table.proofs.Kept.{IsSamePair, lasting_pair, lasting_same}
 use Rattle.binding_table.proofs.Pools.{same_side-true, same_side-itself}
 
 -- ## What is found
@@ -155,6 +155,23 @@ row_found entries rows binding one kept pair found =
 pub rows_extended : (table : Bindings) (from_pool : Bool) (side : Side) (address : Addr) (until : Moment) (binding : Binding) (row : Row Binding) (rows : List (Row Binding)) → IsLawful table → find (is_through from_pool side address) table.entries ≡ Some binding → row ≡ filed (lasting until binding) → rows ≡ map filed table.entries → with_row row rows ≡ map filed (map (extend_through from_pool side address until) table.entries)
 rows_extended table from_pool side address until binding row rows lawful known is kept =
     ap (λ (one : Row Binding). with_row one rows) is ∙ ap (with_row (filed (lasting until binding))) kept ∙ with_filed (lasting until binding) table.entries ∙ ap (map filed) (through_extended table from_pool side address until binding lawful known)
+
+-- where it lasts already, nothing changes
+pub through_same : (table : Bindings) (from_pool : Bool) (side : Side) (address : Addr) (until : Moment) (binding : Binding) → IsLawful table → find (is_through from_pool side address) table.entries ≡ Some binding → lasts until binding ≡ true → map (extend_through from_pool side address until) table.entries ≡ table.entries
+through_same table from_pool side address until binding lawful known lasts =
+    let entries = table.entries in
+    let test = is_through from_pool side address in
+    let extend = extend_through from_pool side address until in
+    let found = finds (λ one. one) test entries binding binding (ap (option_map (λ one. one)) known) in
+    let passes : test binding ≡ true = ap test (sym found.gives) ∙ found.passes in
+    let here : extend binding ≡ binding = rw passes (lasting_same until binding lasts) in
+    same_lists (map extend entries) entries (length-map entries extend) (λ k d less.
+    let inside : k < length entries = omega (arith, length-map entries extend) in
+    let same : extend (get_or entries k binding) ≡ get_or entries k binding = elim (cases_eq k found.place) [
+      | inl at ↦ let is : get_or entries k binding ≡ binding = ap (λ (j : ℕ). get_or entries j binding) at ∙ found.gives in rw is here
+      | inr differs ↦ let fails = alone table test (same_through from_pool side address) found.place k binding lawful found.within inside differs found.passes in rw fails refl
+    ] in
+    get_or-map extend entries k binding d inside ∙ same ∙ get_or_default entries k binding d inside)
 
 -- where nothing passes, nothing changes
 pub none_through : (from_pool : Bool) (side : Side) (address : Addr) (until : Moment) (entries : List Binding) → find (is_through from_pool side address) entries ≡ None → map (extend_through from_pool side address until) entries ≡ entries

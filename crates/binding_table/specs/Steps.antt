@@ -1,10 +1,11 @@
 -- What the table's inner calls need and give.
-use Rattle.std.specs.Prelude.{◌≡◌, ℕ, ◌+◌, ◌-◌, ◌*◌, ◌<◌, length, IfSome, Bool, true, false, if◌then◌else◌, List, [], map, replicate, position, slice_index_or, slice_set, Option, Some, None, is_some, All, AllPairs}
+use Rattle.std.specs.Prelude.{◌≡◌, ℕ, ◌+◌, ◌-◌, ◌*◌, ◌<◌, length, nat_le, ◌||◌, IfSome, Bool, true, false, if◌then◌else◌, List, [], map, replicate, position, slice_index_or, slice_set, Option, Some, None, is_some, All, AllPairs}
 use Rattle.std.specs.List.{range_with_len}
 use Rattle.expiring_table.specs.declared.row.Row.{Row}
 use Rattle.expiring_table.specs.Rows.{Table, row_of}
 use Rattle.gate_base.specs.Side.{other, same_side}
 use Rattle.gate_base.specs.declared.address.Addr.{Addr}
+use Rattle.gate_base.specs.declared.event.Moment.{Moment}
 use Rattle.gate_base.specs.declared.side.Side.{Side}
 use Rattle.gate_base.specs.declared.side.Side.TheVariants.{Left, Right}
 use Rattle.realm_pools.specs.Addresses.{Range, Addresses, unused, place_of, with_address, least_free, next_free}
@@ -71,6 +72,14 @@ number_of Right host = 2 * host + 1
 -- the binding under its host's number, with its end, if it has one
 abbrev pub filed : Binding → Row Binding
 filed binding = record { key = number_of binding.side binding.host.0; end = if binding.fixed then None else Some binding.until.0; value = binding }
+
+-- the binding lives at least until a moment already
+abbrev pub lasts : Moment → Binding → Bool
+lasts until binding = binding.fixed || nat_le until.0 binding.until.0
+
+-- a binding that stands behind a place
+abbrev pub second : ℕ × Binding → Binding
+second located = located.1
 
 abbrev pub entries_in : List (Row Binding) → List Binding
 entries_in rows = map (λ row. row.value) rows

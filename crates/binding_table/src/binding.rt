@@ -1,7 +1,7 @@
 ghost use Rattle.std.specs.Prelude.{◌≡◌};
 ghost use Rattle.binding_table.specs.Bindings as tables;
 ghost use Rattle.binding_table.specs.Plan.{needs_binding};
-ghost use Rattle.binding_table.specs.Steps.{filed, number_of};
+ghost use Rattle.binding_table.specs.Steps.{filed, lasts, number_of};
 
 use expiring_table::Row;
 use gate_base::{Addr, Moment, Side};
@@ -34,6 +34,13 @@ impl Binding {
             until: Moment(0),
             fixed: true,
         }
+    }
+
+    /// Whether the binding lives at least until a moment already.
+    pub fn lasts(&self, until: Moment) -> bool
+        ensures { result ≡ lasts until self.now }
+    {
+        self.fixed || until.0 <= self.until.0
     }
 
     /// The binding, living at least until a moment. A fixed one stays as it is.

@@ -1,7 +1,7 @@
 // The table of bindings.
-ghost use Rattle.std.specs.Prelude.{◌≡◌, true, false, Some, None, map, length, IfOk, IsTrue};
+ghost use Rattle.std.specs.Prelude.{◌≡◌, true, false, Some, None, map, option_map, length, IfOk, IsTrue};
 ghost use Rattle.std.specs.List.{find, filter};
-ghost use Rattle.binding_table.specs.Steps.{aliases_of, aliases_with, changed, entries_in, filed, AreKept, CanHold};
+ghost use Rattle.binding_table.specs.Steps.{aliases_of, aliases_with, changed, entries_in, filed, second, AreKept, CanHold};
 ghost use Rattle.binding_table.specs.Bindings as tables;
 ghost use Rattle.binding_table.specs.Lawful.{IsLawful};
 ghost use Rattle.gate_settings.specs.Cross.{is_in_same};
@@ -111,7 +111,7 @@ impl Table {
         ensures { result ≡ tables.host_crossing self.now side address }
     {
         match self.binding_of(side, address) {
-            Some(binding) => Crossing::Known(binding.alias),
+            Some((_, binding)) => Crossing::Known(binding.alias),
             None => match self.pool(side.other()).least_free() {
                 Some(alias) => Crossing::New(alias),
                 None => Crossing::Empty,
@@ -127,19 +127,19 @@ impl Table {
         self.aliases(side).host(alias)
     }
 
-    // The binding of a host of the realm.
-    fn binding_of(&self, side: Side, host: Addr) -> Option<Binding>
-        ensures { result ≡ find (tables.is_of_host side host.0) self.now.entries }
+    // The binding of a host of the realm, and where its row is kept.
+    fn binding_of(&self, side: Side, host: Addr) -> Option<(usize, Binding)>
+        ensures { option_map second result ≡ find (tables.is_of_host side host.0) self.now.entries }
     {
-        match self.bindings.find(number_of(side, host)).copied() {
-            Some(row) => Some(row.value),
+        match self.bindings.locate(number_of(side, host)) {
+            Some((place, row)) => Some((place, row.value)),
             None => None,
         }
     }
 
-    // The binding through which an address of the realm crosses.
-    fn binding_through(&self, side: Side, address: Addr) -> Option<Binding>
-        ensures { result ≡ find (tables.is_through (tables.in_pool self.now side address) side address) self.now.entries }
+    // The binding through which an address of the realm crosses, and where its row is kept.
+    fn binding_through(&self, side: Side, address: Addr) -> Option<(usize, Binding)>
+        ensures { option_map second result ≡ find (tables.is_through (tables.in_pool self.now side address) side address) self.now.entries }
     {
         if self.pool(side).contains(address) {
             let host = self.host_of(side, address)?;
@@ -217,10 +217,13 @@ impl Table {
         requires { tables.IsKnown (tables.cross self.old side address) }
         ensures { self.new ≡ tables.extended self.old side address until }
     {
-        match self.binding_through(side, address) {
-            Some(binding) => self.bindings.set(binding.lasting(until).filed()),
-            None => {}
+        let Some((place, binding)) = self.binding_through(side, address) else {
+            return;
+        };
+        if binding.lasts(until) {
+            return;
         }
+        self.bindings.set_at(place, binding.lasting(until).filed());
     }
 
     /// Drops the bindings that don't live, and makes their aliases free, without a walk over the others.

@@ -8,12 +8,20 @@ use Rattle.std.proofs.lemmas.Option.{none-some, same_Some}
 use Rattle.expiring_table.specs.declared.row.Row.{Row}
 use Rattle.expiring_table.specs.Armed.{alarm}
 use Rattle.expiring_table.specs.Chained.{Chained, without_place}
-use Rattle.std.proofs.Common.{mod-lt}
+use Rattle.std.proofs.Common.{◌*◌, ◌/◌, ◌^◌}
+use Rattle.std.proofs.Math.Nat.{mul-lt-mul_of_pos_left}
+use Rattle.std.proofs.lemmas.Nat.{div_below}
 use Rattle.expiring_table.specs.Buckets.{hash_of}
 use Rattle.expiring_table.proofs.Links.{stays}
 use Rattle.expiring_table.specs.Rows.{without, with_row}
-use Rattle.expiring_table.specs.Kept.{rows_in, row_at, is_watched, bucket_of, AreHashed, AreOnce, AreWatched, IsPlaceOf, IsIndexed, IsWhole, HasRoom}
+use Rattle.expiring_table.specs.Kept.{rows_in, row_at, is_watched, bucket_of, AreHashed, AreOnce, AreWatched, IsPlaceOf, IsIndexed}
 use Rattle.expiring_table.proofs.Cells.{once_tail}
+
+-- a hash drawn down to a number of buckets
+pub bucket_small : (hash width : ℕ) → hash < 2 ^ 32 → 0 < width → hash * width / 2 ^ 32 < width
+bucket_small hash width small some =
+    let less : width * hash < width * 2 ^ 32 = mul-lt-mul_of_pos_left small some in
+    div_below (hash * width) (2 ^ 32) width (omega arith) (omega (arith, less))
 
 module _ {T : Type 0} where
   pub set_cases : (cells : List (Option (Row T))) (place : ℕ) (cell : Option (Row T)) (other : ℕ) (row : Row T) → place < length cells → row_at (set cells place cell) other ≡ Some row → ((other ≡ place) × (cell ≡ Some row)) ⊎ ((other ≢ place) × (row_at cells other ≡ Some row))
@@ -123,7 +131,7 @@ module _ {T : Type 0} where
   -- the place of a row is in a bucket
   pub row_there : (cells : List (Option (Row T))) (chained : Chained) (place : ℕ) (row : Row T) → 0 < chained.width → AreHashed cells chained → row_at cells place ≡ Some row → slice_index chained.buckets place < chained.width
   row_there cells chained place row some hashed at =
-      let small : bucket_of chained row.key < chained.width = mod-lt (hash_of chained.seed row.key) some in
+      let small : bucket_of chained row.key < chained.width = bucket_small (hash_of chained.seed row.key) chained.width (omega arith) some in
       let P : ℕ → Type 0 = λ bucket. bucket < chained.width in subst P (sym (hashed place row at)) small
 
   pub indexed_set : (cells : List (Option (Row T))) (moments moments' : List ℕ) (chained : Chained) (alarms alarms' : List (Reverse (ℕ × ℕ))) (place : ℕ) (was new : Row T) → place < length cells → row_at cells place ≡ Some was → was.key ≡ new.key → IsIndexed cells moments chained alarms → length moments' ≡ length moments → ((other : ℕ) → other ≢ place → slice_index moments' other ≡ slice_index moments other) → ((one : Reverse (ℕ × ℕ)) → Contains alarms one → Contains alarms' one) → ((end : ℕ) → new.end ≡ Some end → (slice_index moments' place ≤ end) × Contains alarms' (alarm (slice_index moments' place) place)) → IsIndexed (set cells place (Some new)) moments' chained alarms'

@@ -1,5 +1,5 @@
 // Which bucket a key is in.
-ghost use Rattle.std.specs.Prelude.{◌≡◌, ◌<◌, ◌≤◌, ◌^◌};
+ghost use Rattle.std.specs.Prelude.{◌≡◌, ◌<◌, ◌^◌};
 ghost use Rattle.expiring_table.specs.Buckets.{hash_of, bucket_in};
 
 use crate::seed::Seed;
@@ -28,11 +28,12 @@ fn hash_of(seed: &Seed, key: u128) -> u32
 }
 
 /// The bucket of a key, of so many.
+#[tactic(auto, using(crate::proofs::Changes::bucket_small))]
 pub(crate) fn bucket_in(seed: &Seed, width: usize, key: u128) -> u32
     requires some { 0 < width }
     requires few { width < 2 ^ 32 }
     ensures value { result ≡ bucket_in seed.now width key }
     ensures within { result < width }
 {
-    hash_of(seed, key) % width as u32
+    (u64::from(hash_of(seed, key)) * width as u64 / 0x1_0000_0000) as u32
 }

@@ -1,5 +1,5 @@
 // Rows under keys.
-ghost use Rattle.std.specs.Prelude.{◌≡◌, ◌*◌, ◌<◌, ◌≤◌, ◌^◌, ◌++◌, ◌∷◌, [], length, None, IsSome, IfOk, IfSome, IfNone, option_copied};
+ghost use Rattle.std.specs.Prelude.{◌≡◌, ◌*◌, ◌<◌, ◌≤◌, ◌^◌, ◌++◌, ◌∷◌, [], length, None, IsSome, IfOk, IfSome, IfNone, option_copied, option_map};
 ghost use Rattle.expiring_table.specs.Rows.{no_rows, row_of, with_row, without, living, AreDistinct, IsTakenOut};
 
 use crate::row::Row;
@@ -51,6 +51,15 @@ impl<T: Copy> Rows<T> {
         }
     }
 
+    /// The row with a key, and the place at which it is kept, by which `set_at` finds it at once.
+    pub fn locate(&self, key: u128) -> Option<(usize, &Row<T>)>
+        ensures { option_map (λ found. found.1.now) result ≡ row_of key self.now.rows }
+    {
+        let place = self.store.place_of(self.most, key)?;
+        let row = self.store.cells[place].as_ref()?;
+        Some((place, row))
+    }
+
     /// The number of rows. No two of them have one key.
     pub fn len(&self) -> usize
         ensures value { result ≡ length self.now.rows }
@@ -70,13 +79,14 @@ impl<T: Copy> Rows<T> {
         self.store.append(self.most, row);
     }
 
-    /// Puts a row in the place of the one with its key, which is there.
-    pub fn set(&mut self, row: Row<T>)
+    /// Puts a row in the place of the one with its key, which is there. It is looked for at a place first, that at which it was
+    /// located; any will do.
+    pub fn set_at(&mut self, place: usize, row: Row<T>)
         requires { IsSome (row_of row.key self.old.rows) }
         ensures { self.new ≡ record self.old { rows = with_row row self.old.rows } }
     {
         self.store.make_room(self.most);
-        match self.store.place_of(self.most, row.key) {
+        match self.store.place_near(self.most, place, row.key) {
             Some(place) => self.store.replace(self.most, place, row),
             None => {}
         }

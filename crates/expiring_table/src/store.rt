@@ -53,6 +53,17 @@ impl<T: Copy> Store<T> {
         None
     }
 
+    /// The same, where a place is looked at first.
+    pub(crate) fn place_near(&self, most: usize, near: usize, key: u128) -> Option<usize>
+        requires { IsWhole most self.now }
+        ensures { IsPlaceOf key self.now.cells.items result }
+    {
+        if near < self.cells.len() && is_cell_of(self.cells[near], key) {
+            return Some(near);
+        }
+        self.place_of(most, key)
+    }
+
     /// Makes room for a row and an alarm more, at the cost of a look at all rows where there is none.
     pub(crate) fn make_room(&mut self, most: usize)
         requires { IsWhole most self.old }

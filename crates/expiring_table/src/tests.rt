@@ -11,8 +11,8 @@ fn put(rows: &mut Rows<u64>, key: u128, end: Option<u64>, value: u64)
     ensures { rows.new.most ≡ 8 }
 {
     let row = Row { key, end, value };
-    if rows.find(key).is_some() {
-        rows.set(row);
+    if let Some((place, _)) = rows.locate(key) {
+        rows.set_at(place, row);
     } else if rows.len() < MOST {
         rows.push(row);
     }

@@ -1,5 +1,5 @@
 // TCP segments, their connections and their sessions.
-ghost use Rattle.std.specs.Prelude.{◌≡◌, ◌+◌, ◌*◌, ◌^◌, ◌<◌, ◌≤◌, ◌||◌, ◌&&◌, ◌++◌, not, nat_le, vec_capacity, ◌==◌, [], ◌∷◌, length, true, false, None, Some, Ok, IfOk, OnErr, OnOk, IsSome, is_none, count_by, if◌then◌else◌};
+ghost use Rattle.std.specs.Prelude.{◌≡◌, ◌+◌, ◌*◌, ◌^◌, ◌<◌, ◌≤◌, ◌||◌, ◌&&◌, ◌++◌, not, nat_le, vec_capacity, ◌==◌, [], ◌∷◌, length, true, false, None, Some, Ok, IfOk, OnErr, OnOk, IsSome, is_none, is_some, count_by, if◌then◌else◌};
 ghost use Rattle.binding_table.specs.Bindings.{is_settled};
 ghost use Rattle.binding_table.specs.Plan.{after_uses};
 ghost use Rattle.twice_translate.specs.Renamed.{CanGoOn, datagram_of, renamed};
@@ -126,7 +126,8 @@ fn take_on_connection(
     ensures scratch { scratch.new.items ≡ [] }
     ensures places { vec_capacity scratch.old ≤ vec_capacity scratch.new }
 {
-    if let Some(verdict) = session_verdict(connections, way, key, segment) {
+    let (lives, verdict) = look_up(connections, way, key, segment);
+    if let Some(verdict) = verdict {
         return match verdict {
             Some(refusal) => Ok(Some(refusal)),
             None => take_by_session(
@@ -141,7 +142,7 @@ fn take_on_connection(
             ),
         };
     }
-    if connections.contains(key) {
+    if lives {
         return Ok(take_untracked(table, connections, way, key, segment, outbox));
     }
     take_beginning(
@@ -231,27 +232,28 @@ fn take_untracked(
     if lacks_alias(way) {
         return Some(Refusal::PoolEmpty);
     }
-    let hold = hold_of(connections, way, key, flags);
-    note_untracked(connections, way, key, flags);
+    let hold = note_untracked(connections, way, key, flags);
     pass_plain(table, way, hold, segment.octets, outbox);
     None
 }
 
-/// A segment passed that no session takes. An RST makes no connection.
+/// A segment passed that no session takes. An RST makes no connection. It answers how long the addresses are held.
 fn note_untracked(
     connections: &mut SessionTable<TrackedSession>,
     way: &Way,
     key: &ConnKey,
     flags: u8,
-)
+) -> u64
     requires place { lacks_place connections.old (connection_of key.now connections.old) flags ≡ false }
     requires moment { way.now.moment.0 < 2 ^ 32 * 1000000000 }
-    ensures { connections.new ≡ noted connections.old key.now way.now.side flags None way.now.moment }
+    ensures noted { connections.new ≡ noted connections.old key.now way.now.side flags None way.now.moment }
+    ensures hold { result ≡ hold_of connections.old key.now way.now.side flags }
+    ensures small { result ≤ 7440 * 1000000000 }
 {
     if is_stray_reset(connections, key, flags) {
-        return;
+        return SHORT_HOLD;
     }
-    connections.note(*key, way.side, flags, way.moment);
+    connections.note(*key, way.side, flags, way.moment)
 }
 
 /// An RST of a connection that doesn't live.
@@ -308,6 +310,7 @@ fn take_by_session(
 }
 
 /// Takes the first segment of a connection that is tracked: it makes the session, and is the first segment that this takes.
+#[inline(never)]
 fn take_first(
     alloc: Global,
     table: &mut Table,
@@ -421,21 +424,32 @@ fn hold_of(connections: &SessionTable<TrackedSession>, way: &Way, key: &ConnKey,
 }
 
 /// Why the session of a connection refuses a segment, if it does; None where the connection has no session.
-fn session_verdict(
+/// Why a session refuses a segment, if it does.
+fn session_verdict(tracked: &TrackedSession, way: &Way, segment: &Segment<'_>) -> Option<Refusal>
+    requires { segment.now.tcp.now ≡ tcp_of segment.now.datagram.now }
+    ensures { result ≡ streams.session_refusal kept_rules way.now.side segment.now.datagram.now (Some tracked.now) }
+{
+    tracked
+        .session
+        .verdict(tracked.is_client(way.side), segment.tcp)
+}
+
+/// Whether the connection with this name lives, and the verdict of its session, if it has one.
+fn look_up(
     connections: &SessionTable<TrackedSession>,
     way: &Way,
     key: &ConnKey,
     segment: &Segment<'_>,
-) -> Option<Option<Refusal>>
+) -> (bool, Option<Option<Refusal>>)
     requires { segment.now.tcp.now ≡ tcp_of segment.now.datagram.now }
-    ensures { result ≡ session_verdict way.now.side segment.now.datagram.now (streams.session_in (connection_of key.now connections.now)) }
+    ensures lives { result.0 ≡ is_some (connection_of key.now connections.now) }
+    ensures verdict { result.1 ≡ session_verdict way.now.side segment.now.datagram.now (streams.session_in (connection_of key.now connections.now)) }
 {
-    let tracked = connections.session(key)?;
-    Some(
-        tracked
-            .session
-            .verdict(tracked.is_client(way.side), segment.tcp),
-    )
+    match connections.find(key) {
+        Some(Some(tracked)) => (true, Some(session_verdict(tracked, way, segment))),
+        Some(None) => (true, None),
+        None => (false, None),
+    }
 }
 
 /// The session of a connection takes a segment: how many changed lines wait in it then; None where it ends.

@@ -7,7 +7,7 @@ mod text;
 
 pub use json::json_line;
 pub use line::Line;
-pub use text::{put_number, put_word, text_line};
+pub use text::{LINE, put_number, put_word, text_line};
 
 #[cfg(test)]
 mod tests;

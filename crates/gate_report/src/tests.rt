@@ -1,4 +1,4 @@
-use super::{Line, json_line, text_line};
+use super::{LINE, Line, json_line, text_line};
 use gate_base::{Moment, Refusal, Side, Verdict};
 use std::test::Fail;
 
@@ -76,9 +76,9 @@ const LINES: [(Line, &[u8], &[u8]); 5] = [
 #[test]
 fn writes_lines(rt: HostRuntime) -> Result<(), Fail> {
     for (line, text, json) in LINES {
-        let mut target = Vec::with_capacity(rt.alloc(), 256)?;
-        text_line(&line, &mut target);
-        assert!(rt; target.as_slice() == text);
+        let mut room = [0u8; LINE];
+        let begin = text_line(&line, &mut room);
+        assert!(rt; room[begin..] == *text);
         let octets = json_line(rt.alloc(), &line)?;
         assert!(rt; octets.as_slice() == json);
     }

@@ -1,16 +1,19 @@
 // Lines in text.
-ghost use Rattle.std.specs.Prelude.{◌≡◌, ◌+◌, ◌≤◌, ◌++◌, drop, length, codes, decimal, vec_capacity};
+ghost use Rattle.std.specs.Prelude.{◌≡◌, ◌+◌, ◌≤◌, ◌++◌, drop, length, decimal, vec_capacity};
 ghost use Rattle.gate_report.specs.Lines.{text_of, event_text, done_text};
 
 use crate::line::Line;
 use gate_base::{Side, Verdict};
 use itoa::{Buffer, write_digits};
 
-/// Appends a line in text, with its line feed, to a target with room for 256 octets more. It takes no memory.
-pub fn text_line(line: &Line, target: &mut Vec<u8>)
-    requires { length target.old.items + 256 ≤ vec_capacity target.old }
-    ensures octets { target.new.items ≡ target.old.items ++ text_of line.now }
-    ensures room { vec_capacity target.old ≤ vec_capacity target.new }
+/// The room in which a line is put together, in octets.
+pub const LINE: usize = 192;
+
+/// Puts a line in text, with its line feed, at the end of a room of 192 octets, and answers where it begins.
+pub fn text_line(line: &Line, room: &mut [u8]) -> usize
+    requires { length room.old ≡ LINE }
+    ensures begin { result ≤ LINE }
+    ensures octets { drop result room.new ≡ text_of line.now }
 {
     match *line {
         Line::Event {
@@ -19,7 +22,7 @@ pub fn text_line(line: &Line, target: &mut Vec<u8>)
             moment,
             verdict,
             frames,
-        } => put_event(target, number, side, moment.0, verdict, frames),
+        } => put_event(room, number, side, moment.0, verdict, frames),
         Line::Done {
             events,
             passed,
@@ -27,35 +30,13 @@ pub fn text_line(line: &Line, target: &mut Vec<u8>)
             to_left,
             to_right,
             pending,
-        } => put_done(target, events, passed, refused, to_left, to_right, pending),
+        } => put_done(room, events, passed, refused, to_left, to_right, pending),
     }
-}
-
-/// The room in which the line of an event is put together, in octets.
-const EVENT_LINE: usize = 96;
-
-/// Appends the line of an event, which is put together by itself first.
-fn put_event(
-    target: &mut Vec<u8>,
-    number: u64,
-    side: Side,
-    moment: u64,
-    verdict: Verdict,
-    frames: u32,
-)
-    requires { length target.old.items + 256 ≤ vec_capacity target.old }
-    ensures octets { target.new.items ≡ target.old.items ++ event_text number side moment verdict frames }
-    ensures room { vec_capacity target.old ≤ vec_capacity target.new }
-{
-    let mut room = [0u8; EVENT_LINE];
-    let begin = put_event_line(&mut room, number, side, moment, verdict, frames);
-    // There is room, so it can't fail.
-    let _ = target.extend_from_slice(&room[begin..]);
 }
 
 /// Puts the line of an event at the end of the room, its last piece first, and answers where it begins.
 #[tactic(auto, using(crate::proofs::Lines::side_short, crate::proofs::Lines::verdict_short))]
-fn put_event_line(
+fn put_event(
     room: &mut [u8],
     number: u64,
     side: Side,
@@ -63,11 +44,11 @@ fn put_event_line(
     verdict: Verdict,
     frames: u32,
 ) -> usize
-    requires { length room.old ≡ EVENT_LINE }
-    ensures begin { result ≤ EVENT_LINE }
+    requires { length room.old ≡ LINE }
+    ensures begin { result ≤ LINE }
     ensures line { drop result room.new ≡ event_text number side moment verdict frames }
 {
-    let end = put_word_before(room, EVENT_LINE, "\n");
+    let end = put_word_before(room, LINE, "\n");
     let end = put_number_before(room, end, u64::from(frames));
     let end = put_word_before(room, end, " ");
     let end = put_word_before(room, end, verdict.name());
@@ -99,37 +80,37 @@ fn put_word_before(room: &mut [u8], end: usize, word: &str) -> usize
     begin
 }
 
+/// Puts the last line at the end of the room, its last piece first, and answers where it begins.
 fn put_done(
-    target: &mut Vec<u8>,
+    room: &mut [u8],
     events: u64,
     passed: u64,
     refused: u64,
     to_left: u64,
     to_right: u64,
     pending: u64,
-)
-    requires { length target.old.items + 256 ≤ vec_capacity target.old }
-    ensures octets { target.new.items ≡ target.old.items ++ done_text events passed refused to_left to_right pending }
-    ensures room { vec_capacity target.old ≤ vec_capacity target.new }
+) -> usize
+    requires { length room.old ≡ LINE }
+    ensures begin { result ≤ LINE }
+    ensures line { drop result room.new ≡ done_text events passed refused to_left to_right pending }
 {
-    put_field(target, "done events=", events);
-    put_field(target, " passed=", passed);
-    put_field(target, " refused=", refused);
-    put_field(target, " to_left=", to_left);
-    put_field(target, " to_right=", to_right);
-    put_field(target, " pending=", pending);
-    put_word(target, "\n");
+    let end = put_word_before(room, LINE, "\n");
+    let end = put_field_before(room, end, " pending=", pending);
+    let end = put_field_before(room, end, " to_right=", to_right);
+    let end = put_field_before(room, end, " to_left=", to_left);
+    let end = put_field_before(room, end, " refused=", refused);
+    let end = put_field_before(room, end, " passed=", passed);
+    put_field_before(room, end, "done events=", events)
 }
 
-/// Appends a label and a number.
-fn put_field(target: &mut Vec<u8>, label: &str, value: u64)
-    requires { length target.old.items + length label.now + 20 ≤ vec_capacity target.old }
-    ensures octets { target.new.items ≡ target.old.items ++ label.now ++ decimal value }
-    ensures short { length target.new.items ≤ length target.old.items + length label.now + 20 }
-    ensures room { vec_capacity target.old ≤ vec_capacity target.new }
+/// Puts a label and a number before a place, and answers where they begin.
+fn put_field_before(room: &mut [u8], end: usize, label: &str, value: u64) -> usize
+    requires { (length label.now + 20 ≤ end) × (end ≤ length room.old) }
+    ensures begin { (end ≤ result + length label.now + 20) × (result ≤ end) }
+    ensures octets { drop result room.new ≡ label.now ++ (decimal value ++ drop end room.old) }
 {
-    put_word(target, label);
-    put_number(target, value);
+    let begin = put_number_before(room, end, value);
+    put_word_before(room, begin, label)
 }
 
 /// Appends a number, to a target with room for 20 octets more. It takes no memory.

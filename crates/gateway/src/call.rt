@@ -1,14 +1,13 @@
 // The whole call.
-ghost use Rattle.std.specs.Prelude.{◌≡◌, ◌≤◌, map};
+ghost use Rattle.std.specs.Prelude.{◌≤◌, map};
 ghost use Rattle.std.specs.String.{string_bytes};
 ghost use Rattle.gateway.specs.Command.{names_of, command_of};
 ghost use Rattle.gateway.specs.Answers.{Answers, AnswersRun, AnswersMake, IsPromised};
 
 use crate::Status;
 use crate::command::{Command, FileNames, read_words};
-use crate::errors::{tell, tell_out_of_memory, tell_usage};
+use crate::errors::{LINE, tell, tell_out_of_memory, tell_usage};
 use crate::make::make;
-use crate::report::LINE;
 use crate::run::run;
 use gate_desk::Desk;
 use std::alloc::Global;
@@ -21,7 +20,7 @@ fn told_run<D: Desk>(alloc: Global, desk: &mut D, names: FileNames<'_>) -> Statu
         Ok(text) => text,
         Err(_) => return tell_out_of_memory(desk),
     };
-    match run(alloc, desk, names, &mut text) {
+    match run(alloc, desk, names) {
         Ok(_) => Status::Done,
         Err(status) => tell(alloc, desk, &mut text, status),
     }
@@ -36,7 +35,7 @@ fn told_make<D: Desk>(alloc: Global, desk: &mut D, number: u32, count: u32, repo
         Ok(text) => text,
         Err(_) => return tell_out_of_memory(desk),
     };
-    match make(alloc, desk, &mut text, number, count, report) {
+    match make(alloc, desk, number, count, report) {
         Status::Done => Status::Done,
         status => tell(alloc, desk, &mut text, status),
     }

@@ -1,5 +1,5 @@
 // One event: its frame is judged, and what it gives is written.
-ghost use Rattle.std.specs.Prelude.{◌≡◌, ◌+◌, ◌*◌, ◌<◌, ◌≤◌, ◌^◌, [], ◌∷◌, IfSome, length, option_map, option_to_list, take, vec_capacity};
+ghost use Rattle.std.specs.Prelude.{◌≡◌, ◌+◌, ◌*◌, ◌<◌, ◌≤◌, ◌^◌, [], ◌∷◌, length, take};
 ghost use Rattle.gate_base.specs.Events.{event_of};
 ghost use Rattle.gate_desk.specs.declared.slot.Slot.TheVariants.{LeftOut, RightOut, Report};
 ghost use Rattle.gate_desk.specs.Outside.{CanWrite};
@@ -7,10 +7,10 @@ ghost use Rattle.pcap_merge.specs.Merge.{IsSmallEvent};
 ghost use Rattle.gate_base.specs.declared.side.Link.TheVariants.{Ethernet};
 ghost use Rattle.gateway.specs.Machine.{out_slot, framed_on, frame_piece, sent};
 ghost use Rattle.gateway.specs.Causes.{Gives};
-ghost use Rattle.gateway.specs.Phases.{Handles};
+ghost use Rattle.gateway.specs.Phases.{Handles, counting};
 
 use crate::Status;
-use crate::report::{LINE, Totals, count, put_line};
+use crate::report::{Totals, count, put_line};
 use ether_frames::put_head;
 use gate_base::{Event, Link, Moment, OutOfMemory, Side};
 use gate_core::{Gate, Outbox};
@@ -18,6 +18,7 @@ use gate_desk::{Desk, Slot};
 use gate_report::Line;
 use gate_settings::{Settings, SideSettings};
 use pcap_files::write_packet;
+use std::alloc::Global;
 
 /// The most octets of a frame: an Ethernet head and a datagram.
 pub const LONGEST_FRAME: usize = 65_549;
@@ -108,28 +109,26 @@ fn send_all<D: Desk>(
     Ok(())
 }
 
-/// Takes an event: its frame goes on, if it passes, and then its line is written.
+/// Takes an event: its frame goes on, if it passes, then its line is written, and it is counted.
 pub fn handle<D: Desk>(
+    alloc: Global,
     desk: &mut D,
     gate: &mut Gate,
     outbox: &mut Outbox,
     room: &mut [u8],
-    text: &mut Vec<u8>,
-    totals: Totals,
+    totals: &mut Totals,
     event: Event<'_>,
-) -> Result<Totals, Status>
+) -> Result<(), Status>
     requires left { CanWrite (D.outside desk.old) LeftOut }
     requires right { CanWrite (D.outside desk.old) RightOut }
     requires report { CanWrite (D.outside desk.old) Report }
     requires room { length room.old ≡ LONGEST_FRAME }
-    requires text { LINE ≤ vec_capacity text.old }
     requires small { IsSmallEvent (event_of event) }
-    requires few { totals.events < 2 ^ 42 }
-    requires passed { totals.passed ≤ totals.events }
-    requires to_left { totals.to_left ≤ 4096 * totals.events }
-    requires to_right { totals.to_right ≤ 4096 * totals.events }
-    ensures answer { Handles result gate.old gate.new totals (event_of event.entry) (D.outside desk.old) (D.outside desk.new) }
-    ensures text { LINE ≤ vec_capacity text.new }
+    requires few { totals.old.events < 2 ^ 42 }
+    requires passed { totals.old.passed ≤ totals.old.events }
+    requires to_left { totals.old.to_left ≤ 4096 * totals.old.events }
+    requires to_right { totals.old.to_right ≤ 4096 * totals.old.events }
+    ensures { Handles (counting totals.new result) gate.old gate.new totals.old (event_of event.entry) (D.outside desk.old) (D.outside desk.new) }
 {
     let verdict = match gate.step(&event, outbox) {
         Ok(verdict) => verdict,
@@ -155,8 +154,10 @@ pub fn handle<D: Desk>(
         verdict,
         frames,
     };
-    match put_line(desk, text, settings.json, &line) {
-        Ok(()) => Ok(count(totals, event.side, verdict, frames)),
-        Err(status) => Err(status),
+    match put_line(alloc, desk, settings.json, &line) {
+        Ok(()) => {}
+        Err(status) => return Err(status),
     }
+    *totals = count(*totals, event.side, verdict, frames);
+    Ok(())
 }

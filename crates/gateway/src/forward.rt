@@ -1,5 +1,5 @@
 // The events of a run.
-ghost use Rattle.std.specs.Prelude.{◌≡◌, ◌≤◌, ◌^◌, None, length, vec_capacity, OnErr};
+ghost use Rattle.std.specs.Prelude.{◌≡◌, ◌≤◌, ◌^◌, None, length, OnErr};
 ghost use Rattle.gate_desk.specs.declared.slot.Slot.TheVariants.{LeftIn, RightIn, LeftOut, RightOut, Report};
 ghost use Rattle.gate_desk.specs.Outside.{CanRead, CanWrite, Grows};
 ghost use Rattle.pcap_merge.specs.Merge.{work, AtEnds};
@@ -8,21 +8,20 @@ ghost use Rattle.gateway.specs.Phases.{Forwards, Finishes, TookFew};
 
 use crate::Status;
 use crate::event::{LONGEST_FRAME, handle};
-use crate::report::{LINE, Totals, last_line, put_line};
+use crate::report::{Totals, last_line, put_line};
 use crate::stops::status_of_merge;
 use gate_core::{Gate, Outbox};
 use gate_desk::Desk;
 use gate_report::Line;
 use pcap_merge::Merge;
+use std::alloc::Global;
 
 /// Writes the last line of the report, and answers it.
-fn finish<D: Desk>(desk: &mut D, text: &mut Vec<u8>, json: bool, line: Line) -> Result<Line, Status>
-    requires can { CanWrite (D.outside desk.old) Report }
-    requires room { LINE ≤ vec_capacity text.old }
-    ensures answer { Finishes result json line (D.outside desk.old) (D.outside desk.new) }
-    ensures room { LINE ≤ vec_capacity text.new }
+fn finish<D: Desk>(alloc: Global, desk: &mut D, json: bool, line: Line) -> Result<Line, Status>
+    requires { CanWrite (D.outside desk.old) Report }
+    ensures { Finishes result json line (D.outside desk.old) (D.outside desk.new) }
 {
-    match put_line(desk, text, json, &line) {
+    match put_line(alloc, desk, json, &line) {
         Ok(()) => Ok(line),
         Err(status) => Err(status),
     }
@@ -31,12 +30,12 @@ fn finish<D: Desk>(desk: &mut D, text: &mut Vec<u8>, json: bool, line: Line) -> 
 /// Takes the events of both captures: the frames and the line of each are written before the next record is read. It answers
 /// the last line of the report, once that is written.
 pub fn forward<D: Desk>(
+    alloc: Global,
     desk: &mut D,
     merge: &mut Merge,
     gate: &mut Gate,
     outbox: &mut Outbox,
     room: &mut [u8],
-    text: &mut Vec<u8>,
 ) -> Result<Line, Status>
     requires left_in { CanRead (D.outside desk.old) LeftIn }
     requires right_in { CanRead (D.outside desk.old) RightIn }
@@ -44,7 +43,6 @@ pub fn forward<D: Desk>(
     requires right_out { CanWrite (D.outside desk.old) RightOut }
     requires report { CanWrite (D.outside desk.old) Report }
     requires room { length room.old ≡ LONGEST_FRAME }
-    requires text { LINE ≤ vec_capacity text.old }
     requires stop { merge.old.stop ≡ None }
     requires work { work merge.old ≤ 2 ^ 41 }
     requires ends { AtEnds merge.old (D.outside desk.old) }
@@ -53,7 +51,6 @@ pub fn forward<D: Desk>(
     ensures taken { OnErr result (TookFew gate.old.settings merge.old (D.outside desk.old) (D.outside desk.new)) }
     ensures starts { (D.outside desk.new).starts ≡ (D.outside desk.old).starts }
     ensures counts { Grows (D.outside desk.old) (D.outside desk.new) }
-    ensures room { LINE ≤ vec_capacity text.new }
 {
     let mut totals = Totals {
         events: 0,
@@ -68,10 +65,10 @@ pub fn forward<D: Desk>(
         };
         if !more {
             let line = last_line(totals, gate.pending());
-            return finish(desk, text, gate.settings().json, line);
+            return finish(alloc, desk, gate.settings().json, line);
         }
-        match handle(desk, gate, outbox, room, text, totals, merge.event()) {
-            Ok(next) => totals = next,
+        match handle(alloc, desk, gate, outbox, room, &mut totals, merge.event()) {
+            Ok(()) => {}
             Err(status) => return Err(status),
         }
     }

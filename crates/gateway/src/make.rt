@@ -1,10 +1,10 @@
 // A run over a workload in memory.
-ghost use Rattle.std.specs.Prelude.{◌≡◌, ◌≤◌, vec_capacity, MatchResult};
+ghost use Rattle.std.specs.Prelude.{◌≡◌, ◌≤◌, MatchResult};
 ghost use Rattle.gateway.specs.Making.{IsMake, IsLineOf};
 
 use crate::Status;
 use crate::command::FileNames;
-use crate::report::{LINE, put_text};
+use crate::report::put_text;
 use crate::run::run;
 use gate_base::OutOfMemory;
 use gate_desk::{Desk, DiscardingDesk, Slot, Way};
@@ -24,11 +24,9 @@ const NAMES: FileNames<'static> = FileNames {
 
 /// Runs over the workload of a number with so many rounds, throws its outputs away, and answers the last line of its report.
 /// Nothing but memory can be wanting.
-fn rehearse(alloc: Global, text: &mut Vec<u8>, number: u32, count: u32) -> Result<Line, Status>
-    requires capacity { LINE ≤ vec_capacity text.old }
-    requires rounds { count ≤ 100000 }
-    ensures answer { MatchResult result (λ line. IsLineOf line number count) (λ status. status ≡ Status.OutOfMemory) }
-    ensures room { LINE ≤ vec_capacity text.new }
+fn rehearse(alloc: Global, number: u32, count: u32) -> Result<Line, Status>
+    requires { count ≤ 100000 }
+    ensures { MatchResult result (λ line. IsLineOf line number count) (λ status. status ≡ Status.OutOfMemory) }
 {
     let workload = match gate_workload::make(alloc, number, count) {
         Ok(workload) => workload,
@@ -45,32 +43,23 @@ fn rehearse(alloc: Global, text: &mut Vec<u8>, number: u32, count: u32) -> Resul
         left.into_vec(),
         right.into_vec(),
     );
-    run(alloc, &mut desk, NAMES, text)
+    run(alloc, &mut desk, NAMES)
 }
 
 /// Runs over the workload of a number with so many rounds, and writes the last line of its report as text.
-pub fn make<D: Desk>(
-    alloc: Global,
-    desk: &mut D,
-    text: &mut Vec<u8>,
-    number: u32,
-    count: u32,
-    report: &str,
-) -> Status
-    requires capacity { LINE ≤ vec_capacity text.old }
-    requires rounds { count ≤ 100000 }
-    ensures answer { IsMake result number count report.now (D.outside desk.old) (D.outside desk.new) }
-    ensures room { LINE ≤ vec_capacity text.new }
+pub fn make<D: Desk>(alloc: Global, desk: &mut D, number: u32, count: u32, report: &str) -> Status
+    requires { count ≤ 100000 }
+    ensures { IsMake result number count report.now (D.outside desk.old) (D.outside desk.new) }
 {
     match desk.start(Slot::Report, report, Way::Write) {
         Ok(()) => {}
         Err(_) => return Status::OpenFault(Slot::Report),
     }
-    let line = match rehearse(alloc, text, number, count) {
+    let line = match rehearse(alloc, number, count) {
         Ok(line) => line,
         Err(status) => return status,
     };
-    match put_text(desk, text, &line) {
+    match put_text(desk, &line) {
         Ok(()) => Status::Done,
         Err(status) => status,
     }

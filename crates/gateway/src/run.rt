@@ -1,5 +1,5 @@
 // A run over files.
-ghost use Rattle.std.specs.Prelude.{◌≤◌, vec_capacity, OnErr};
+ghost use Rattle.std.specs.Prelude.{OnErr};
 ghost use Rattle.gateway.specs.Command.{names_of};
 ghost use Rattle.gateway.specs.Answers.{Runs, TookForWritten};
 
@@ -9,24 +9,16 @@ use crate::event::LONGEST_FRAME;
 use crate::forward::forward;
 use crate::prepare::prepare;
 use crate::ready::ready;
-use crate::report::LINE;
 use gate_base::OutOfMemory;
 use gate_core::Outbox;
 use gate_desk::Desk;
 use gate_report::Line;
 use std::alloc::Global;
 
-/// A run over these files, whose lines are put together in the text's room. It answers the last line of its report.
-pub fn run<D: Desk>(
-    alloc: Global,
-    desk: &mut D,
-    names: FileNames<'_>,
-    text: &mut Vec<u8>,
-) -> Result<Line, Status>
-    requires { LINE ≤ vec_capacity text.old }
+/// A run over these files. It answers the last line of its report.
+pub fn run<D: Desk>(alloc: Global, desk: &mut D, names: FileNames<'_>) -> Result<Line, Status>
     ensures answer { Runs result (names_of names.entry) (D.outside desk.old) (D.outside desk.new) }
     ensures taken { OnErr result (TookForWritten (D.outside desk.old) (D.outside desk.new)) }
-    ensures room { LINE ≤ vec_capacity text.new }
 {
     let (mut merge, mut gate) = match prepare(alloc, desk, names) {
         Ok(prepared) => prepared,
@@ -41,7 +33,7 @@ pub fn run<D: Desk>(
         Err(OutOfMemory) => return Err(Status::OutOfMemory),
     };
     match ready(desk, names, gate.settings()) {
-        Ok(()) => forward(desk, &mut merge, &mut gate, &mut outbox, &mut room, text),
+        Ok(()) => forward(alloc, desk, &mut merge, &mut gate, &mut outbox, &mut room),
         Err(status) => Err(status),
     }
 }

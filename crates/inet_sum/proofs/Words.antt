@@ -1,9 +1,11 @@
 -- The sums of joined octets.
-use Rattle.std.proofs.Common.{◌==◌, take, append_assoc, length-append, length-drop, suc, get_or, drop, ◌≡◌, ℕ, ◌+◌, ◌-◌, ◌*◌, ◌/◌, ◌%◌, ◌^◌, ◌<◌, ◌≤◌, List, [], ◌∷◌, ◌++◌, length, sum, refl, ap, ◌∙◌, sym, arith}
+use Rattle.std.proofs.Common.{◌==◌, take, append_assoc, length-append, length-drop, zero, suc, get_or, drop, ◌≡◌, ℕ, ◌+◌, ◌-◌, ◌*◌, ◌/◌, ◌%◌, ◌^◌, ◌<◌, ◌≤◌, List, [], ◌∷◌, ◌++◌, length, sum, refl, ap, ◌∙◌, sym, arith}
 use Rattle.std.proofs.lemmas.Bool.Decides.{nat_tests}
 use Rattle.std.proofs.lemmas.List.Sums.{sum_by-append, sum_by-cons}
 use Rattle.std.proofs.lemmas.List.{take-append-drop, drop-drop, length-take-le}
-use Rattle.byteorder.specs.Endian.{big_number, big_bytes, little_number}
+use Rattle.std.proofs.Math.Nat.{add-mod_left, mod-le, mod-eq_of_lt}
+use Rattle.std.proofs.Math.Seq.{drop-append-add}
+use Rattle.byteorder.specs.Endian.{big_number, big_bytes, little_number, little_from}
 use Rattle.gate_base.specs.Fields.{u16_at, with_u16}
 use Rattle.inet_sum.specs.Sum.{is_right, checksum, IsRight, pseudo_header, words, total, fold_of}
 
@@ -20,6 +22,13 @@ words-append (x ∷ y ∷ rest) back even = ap (λ ws. (x * 256 + y) ∷ ws) (wo
 
 pub total-append : (front back : List ℕ) → length front % 2 ≡ 0 → total (front ++ back) ≡ total front + total back
 total-append front back even = ap sum (words-append front back even) ∙ sum_by-append (λ x. x) (words front) (words back)
+
+-- the total before an even place, and that behind it
+pub total_cut : (place : ℕ) (octets : List ℕ) → place % 2 ≡ 0 → place ≤ length octets
+    → total octets ≡ total (take place octets) + total (drop place octets)
+total_cut place octets even within =
+    let front : length (take place octets) % 2 ≡ 0 = rw (length-take-le place octets within) even in
+    ap total (sym (take-append-drop place octets)) ∙ total-append (take place octets) (drop place octets) front
 
 pub total_one : (x : ℕ) → total (x ∷ []) ≡ x * 256
 unfolding words
@@ -51,41 +60,22 @@ total_small [] small = omega (arith, total_none)
 total_small (x ∷ []) small = omega (arith, total_one x, small 0)
 total_small (x ∷ y ∷ rest) small = omega (arith, total_pair x y rest, small 0, small 1, total_small rest (λ k. small (suc (suc k))))
 
--- what is left over when octets are cut into pairs
-abbrev pub remainder : List ℕ → List ℕ
-remainder octets = drop (length octets - length octets % 2) octets
+-- what is left over when octets are cut into parts of n
+abbrev pub remainder : ℕ → List ℕ → List ℕ
+remainder n octets = drop (length octets - length octets % n) octets
 
-pub remainder_pair : (pair rest : List ℕ) → length pair ≡ 2 → remainder (pair ++ rest) ≡ remainder rest
-remainder_pair [] rest two = cc
-remainder_pair (x ∷ []) rest two = cc
-remainder_pair (x ∷ y ∷ []) rest two =
-    let same : suc (suc (length rest)) - suc (suc (length rest)) % 2 ≡ suc (suc (length rest - length rest % 2)) = omega arith in
-    ap (λ n. drop n (x ∷ y ∷ rest)) same
-remainder_pair (x ∷ y ∷ z ∷ more) rest two = absurd (omega arith)
+pub remainder_behind : (n : ℕ) (part rest : List ℕ) → length part ≡ n → remainder n (part ++ rest) ≡ remainder n rest
+remainder_behind n part rest same =
+    let left : length (part ++ rest) % n ≡ length rest % n = rw (length-append part rest, same) (add-mod_left n (length rest)) in
+    let cut : length (part ++ rest) - length (part ++ rest) % n ≡ length part + (length rest - length rest % n) =
+    omega (arith, left, length-append part rest, mod-le (length rest) n)
+    in
+    ap (λ k. drop k (part ++ rest)) cut ∙ drop-append-add part rest (length rest - length rest % n)
 
-pub remainder_short : (octets : List ℕ) → length octets < 2 → remainder octets ≡ octets
-remainder_short [] short = refl
-remainder_short (x ∷ []) short = refl
-remainder_short (x ∷ y ∷ rest) short = absurd (omega arith)
-
--- what is left over when octets are cut into fours
-abbrev pub remainder_of_four : List ℕ → List ℕ
-remainder_of_four octets = drop (length octets - length octets % 4) octets
-
-pub remainder_four : (four rest : List ℕ) → length four ≡ 4 → remainder_of_four (four ++ rest) ≡ remainder_of_four rest
-remainder_four [] rest same = cc
-remainder_four (x ∷ []) rest same = cc
-remainder_four (x ∷ y ∷ []) rest same = cc
-remainder_four (x ∷ y ∷ z ∷ []) rest same = cc
-remainder_four (x ∷ y ∷ z ∷ w ∷ []) rest same =
-    let four : suc (suc (suc (suc (length rest)))) - suc (suc (suc (suc (length rest)))) % 4 ≡ suc (suc (suc (suc (length rest - length rest % 4)))) = omega arith in
-    ap (λ n. drop n (x ∷ y ∷ z ∷ w ∷ rest)) four
-remainder_four (x ∷ y ∷ z ∷ w ∷ v ∷ more) rest same = absurd (omega arith)
-
-pub remainder_few : (octets : List ℕ) → length octets < 4 → remainder_of_four octets ≡ octets
-remainder_few octets few =
-    let none : length octets - length octets % 4 ≡ 0 = omega arith in
-    ap (λ n. drop n octets) none
+pub remainder_few : (n : ℕ) (octets : List ℕ) → length octets < n → remainder n octets ≡ octets
+remainder_few n octets few =
+    let none : length octets - length octets % n ≡ 0 = omega (arith, mod-eq_of_lt few) in
+    ap (λ k. drop k octets) none
 
 pub fold_again : (a b : ℕ) → fold_of (fold_of a + b) ≡ fold_of (a + b)
 unfolding fold_of
@@ -111,23 +101,76 @@ fold_same s a b same =
     let right : b + s ≡ s + b = omega arith in
     ap fold_of left ∙ sym (fold_again a s) ∙ ap (λ n. fold_of (n + s)) same ∙ fold_again b s ∙ ap fold_of right
 
+pub fold_both : (a b c d : ℕ) → fold_of a ≡ fold_of c → fold_of b ≡ fold_of d → fold_of (a + b) ≡ fold_of (c + d)
+fold_both a b c d first second = sym (fold_again a b) ∙ ap (λ n. fold_of (n + b)) first ∙ fold_again c b ∙ fold_same c b d second
+
 pub fold_scaled : (a t : ℕ) → fold_of (256 * fold_of a + t) ≡ fold_of (256 * a + t)
 unfolding fold_of
 fold_scaled a t = grind (arith, nat_tests)
 
--- four octets, the lowest first
-pub four_octets : (s : ℕ) (four rest : List ℕ) → length four ≡ 4 → fold_of (256 * (s + little_number 4 four) + total rest) ≡ fold_of (256 * s + total (four ++ rest))
-four_octets s [] rest same = cc
-four_octets s (a ∷ []) rest same = cc
-four_octets s (a ∷ b ∷ []) rest same = cc
-four_octets s (a ∷ b ∷ c ∷ []) rest same = cc
-four_octets s (a ∷ b ∷ c ∷ d ∷ []) rest same =
-    let words = 256 * s + total (a ∷ b ∷ c ∷ d ∷ rest) in
-    let more = b + (256 * c + 65537 * d) in
-    let are : words ≡ 256 * s + ((a * 256 + b) + ((c * 256 + d) + total rest)) = omega (arith, total_pair a b (c ∷ d ∷ rest), total_pair c d rest) in
-    let sum : 256 * (s + little_number 4 (a ∷ b ∷ c ∷ d ∷ [])) + total rest ≡ words + 65535 * more = omega (arith, are) in
-    ap fold_of sum ∙ fold_more words more (λ none. omega (arith, are, none))
-four_octets s (a ∷ b ∷ c ∷ d ∷ e ∷ more) rest same = absurd (omega arith)
+-- the halves of a number
+pub fold_halves : (n : ℕ) → fold_of (n / 4294967296 + n % 4294967296) ≡ fold_of n
+fold_halves n =
+    let halves = n / 4294967296 + n % 4294967296 in
+    let parts : halves + 65535 * (65537 * (n / 4294967296)) ≡ n = omega arith in
+    sym (fold_more halves (65537 * (n / 4294967296)) (λ none. omega (arith, none))) ∙ ap fold_of parts
+
+little_behind : (i n x : ℕ) (octets : List ℕ) → little_from (suc i) n (x ∷ octets) ≡ little_from i n octets
+little_behind i zero x octets = refl
+little_behind i (suc n) x octets = ap (λ m. get_or octets i 0 + 256 * m) (little_behind (suc i) n x octets)
+
+-- an even number of octets, the lowest first, and what follows
+pub lowest_first : (n : ℕ) (octets : List ℕ) → n % 2 ≡ 0 → n ≤ length octets
+    → fold_of (256 * little_number n octets + total (drop n octets)) ≡ fold_of (total octets)
+lowest_first zero octets even long = ap fold_of (omega arith)
+lowest_first (suc zero) octets even long = absurd (omega arith)
+lowest_first (suc (suc n)) [] even long = absurd (omega arith)
+lowest_first (suc (suc n)) (x ∷ []) even long = absurd (omega arith)
+lowest_first (suc (suc n)) (x ∷ y ∷ rest) even long =
+    let low = 256 * little_number n rest in
+    let behind : little_from 2 n (x ∷ y ∷ rest) ≡ little_number n rest = little_behind 1 n x (y ∷ rest) ∙ little_behind 0 n y rest in
+    let word = x * 256 + y in
+    let words = word + (low + total (drop n rest)) in
+    let parts : 256 * little_number (suc (suc n)) (x ∷ y ∷ rest) + total (drop n rest) ≡ words + 65535 * (y + low) =
+    omega (arith, behind)
+    in
+    ap fold_of parts ∙ fold_more words (y + low) (λ none. omega (arith, none))
+    ∙ fold_same word (low + total (drop n rest)) (total rest) (lowest_first n rest (omega arith) (omega arith))
+    ∙ ap fold_of (sym (total_pair x y rest))
+
+-- one number of an even number of octets
+pub number_folds : (n : ℕ) (octets : List ℕ) → n % 2 ≡ 0 → length octets ≡ n
+    → fold_of (256 * little_number n octets) ≡ fold_of (total octets)
+number_folds n octets even same =
+    let none = no_octet (drop n octets) (omega (arith, length-drop n octets)) in
+    ap fold_of (omega (arith, none)) ∙ lowest_first n octets even (omega arith)
+
+-- both numbers of half a line
+pub half_folds : (half : List ℕ) → length half ≡ 16
+    → fold_of (256 * (little_number 8 half + little_number 8 (drop 8 half))) ≡ fold_of (total half)
+half_folds half same =
+    let one = 256 * little_number 8 half in
+    let two = 256 * little_number 8 (drop 8 half) in
+    let parts : 256 * (little_number 8 half + little_number 8 (drop 8 half)) ≡ one + two = omega arith in
+    let behind = number_folds 8 (drop 8 half) refl (omega (arith, length-drop 8 half)) in
+    ap fold_of parts ∙ fold_same one two (total (drop 8 half)) behind ∙ lowest_first 8 half refl (omega arith)
+
+-- the sums of both halves of a line
+pub line_folds : (a b : ℕ) (line : List ℕ) → length line ≡ 32 → fold_of (256 * a) ≡ fold_of (total (take 16 line))
+    → fold_of (256 * b) ≡ fold_of (total (drop 16 line)) → fold_of (256 * (a + b)) ≡ fold_of (total line)
+line_folds a b line same front back =
+    let parts : 256 * (a + b) ≡ 256 * a + 256 * b = omega arith in
+    ap fold_of parts ∙ fold_both (256 * a) (256 * b) (total (take 16 line)) (total (drop 16 line)) front back
+    ∙ ap fold_of (sym (total_cut 16 line refl (omega arith)))
+
+-- one more part, that folds as its words do, and what follows
+pub part_more : (s n : ℕ) (part rest : List ℕ) → length part % 2 ≡ 0 → fold_of (256 * n) ≡ fold_of (total part)
+    → fold_of (256 * (s + n) + total rest) ≡ fold_of (256 * s + total (part ++ rest))
+part_more s n part rest even folds =
+    let before = 256 * s + total rest in
+    let left : 256 * (s + n) + total rest ≡ before + 256 * n = omega arith in
+    let right : before + total part ≡ 256 * s + total (part ++ rest) = omega (arith, total-append part rest even) in
+    ap fold_of left ∙ fold_same before (256 * n) (total part) folds ∙ ap fold_of right
 
 -- a right sum, of which a part is replaced
 pub fold_moved : (a b f t : ℕ) → a ≤ 262140 → f ≤ 65535 → 0 < t → fold_of (a + (f + t)) ≡ 65535 → fold_of ((b + (327675 - a)) + (65535 - f)) ≡ fold_of (b + t)
@@ -147,9 +190,8 @@ first_word (x ∷ y ∷ rest) two = total_pair x y rest ∙ omega arith
 -- the word at an even place, and the total of the rest
 pub total_at : (place : ℕ) (octets : List ℕ) → place % 2 ≡ 0 → place + 2 ≤ length octets → total octets ≡ total (take place octets) + (u16_at place octets + total (drop (place + 2) octets))
 total_at place octets even within =
-    let front : length (take place octets) % 2 ≡ 0 = rw (length-take-le place octets (omega arith)) even in
     let long : 2 ≤ length (drop place octets) = omega (arith, length-drop place octets) in
-    ap total (sym (take-append-drop place octets)) ∙ total-append (take place octets) (drop place octets) front
+    total_cut place octets even (omega arith)
     ∙ ap (λ n. total (take place octets) + n) (first_word (drop place octets) long ∙ ap (λ back. u16_at place octets + total back) (drop-drop 2 place octets))
 
 pub total_with : (place value : ℕ) (octets : List ℕ) → value < 2 ^ 16 → place % 2 ≡ 0 → place + 2 ≤ length octets → total (with_u16 place value octets) ≡ total (take place octets) + (value + total (drop (place + 2) octets))

@@ -1,7 +1,7 @@
 //! The Internet checksum: the complement of the one's complement sum of 16-bit words (RFC 1071).
 #![tactic(auto)]
 
-ghost use Rattle.std.specs.Prelude.{◌≡◌, ◌==◌, ◌+◌, ◌/◌, ◌%◌, ◌^◌, ◌<◌, ◌≤◌, ◌++◌, length, IsPermutation};
+ghost use Rattle.std.specs.Prelude.{◌≡◌, ◌==◌, ◌+◌, ◌*◌, ◌/◌, ◌%◌, ◌^◌, ◌<◌, ◌≤◌, ◌++◌, length, IsPermutation};
 ghost use Rattle.gate_base.specs.Fields.{u16_at, with_u16};
 ghost use Rattle.inet_sum.specs.Sum.{words, total, fold_of, checksum, IsRight, is_right, pseudo_header};
 
@@ -10,6 +10,9 @@ use gate_base::{Addr, get_u16};
 
 /// The octets that are added up before the total is folded: an even number, so that no word is cut.
 const BLOCK: usize = 65_536;
+
+/// The octets that are added up at a turn: as many as fill four numbers of 64 bits.
+const LINE: usize = 32;
 
 /// The checksum of octets (RFC 1071, 1). It is 0 exactly where they hold their right checksum.
 #[tactic(auto, using(crate::proofs::Words::zero_if_right))]
@@ -90,20 +93,66 @@ fn folded_with(start: u64, octets: &[u8]) -> u16
     fold(sum + block_sum(rest))
 }
 
-// A number that folds as the words of octets do. They are added up four octets at a time, the lowest octet first: 256 times
+// A number that folds as the words of octets do. Most are added up several octets at a time, the lowest octet first: 256 times
 // such a number folds as its words do (RFC 1071, 2, (B)).
 fn block_sum(block: &[u8]) -> u64
     requires { length block.now ≤ BLOCK }
     ensures folds { fold_of result ≡ fold_of (total block.now) }
-    ensures small { result < 2 ^ 31 + 2 ^ 24 }
+    ensures small { result < 2 ^ 32 }
 {
-    let fours = block.chunks_exact(4);
-    let last = fours.remainder();
+    let (fours, last) = block.split_at(block.len() / 4 * 4);
+    256 * u64::from(fold(lines_sum(fours))) + u64::from(pair_total(last))
+}
+
+// The sum of octets as numbers of eight octets, and of four behind the last line, in 64 bits. Each half of a line has a sum of
+// its own, so that neither waits for the carries of the other.
+fn lines_sum(octets: &[u8]) -> u64
+    requires fours { length octets.now % 4 ≡ 0 }
+    requires short { length octets.now ≤ BLOCK }
+    ensures { fold_of (256 * result) ≡ fold_of (total octets.now) }
+{
+    let lines = octets.chunks_exact(LINE);
+    let rest = lines.remainder();
+    let mut front: u128 = 0;
+    let mut back: u128 = 0;
+    for line in lines {
+        front += half_sum(&line[..16]);
+        back += half_sum(&line[16..]);
+    }
+    narrowed(front + back) + fours_sum(rest)
+}
+
+// The sum of both numbers of eight octets in half a line.
+fn half_sum(half: &[u8]) -> u128
+    requires { length half.now ≡ 16 }
+    ensures folds { fold_of (256 * result) ≡ fold_of (total half.now) }
+    ensures small { result < 2 ^ 65 }
+{
+    u128::from(LittleEndian::read_u64(half)) + u128::from(LittleEndian::read_u64(&half[8..]))
+}
+
+// A number of 64 bits that folds as this one: 2^32 folds as 1.
+#[tactic(auto, using(crate::proofs::Words::fold_halves))]
+fn narrowed(sum: u128) -> u64
+    requires { sum < 2 ^ 80 }
+    ensures folds { fold_of result ≡ fold_of sum }
+    ensures small { result < 2 ^ 49 }
+{
+    (sum / 4_294_967_296 + sum % 4_294_967_296) as u64
+}
+
+// The sum of octets as numbers of four octets.
+fn fours_sum(octets: &[u8]) -> u64
+    requires fours { length octets.now % 4 ≡ 0 }
+    requires short { length octets.now < LINE }
+    ensures folds { fold_of (256 * result) ≡ fold_of (total octets.now) }
+    ensures small { result < 2 ^ 36 }
+{
     let mut sum: u64 = 0;
-    for four in fours {
+    for four in octets.chunks_exact(4) {
         sum += u64::from(LittleEndian::read_u32(four));
     }
-    256 * u64::from(fold(sum)) + u64::from(pair_total(last))
+    sum
 }
 
 #[tactic(auto, unfolding(crate::specs::Sum::fold_of))]

@@ -1,14 +1,7 @@
-use Rattle.std.proofs.Common.{◌≡◌, ◌+◌, ◌%◌, ◌≤◌, List, ℕ, length, take, drop, ap, ◌∙◌, sym, arith}
-use Rattle.std.proofs.lemmas.List.{take-append-drop, length-take-le}
+use Rattle.std.proofs.Common.{refl, ◌≡◌, ◌+◌, ap, ◌∙◌, sym, arith}
 use Rattle.inet_sum.specs.Sum.{total, fold_of}
-use Rattle.inet_sum.proofs.Words.{total-append, fold_again, fold_same}
+use Rattle.inet_sum.proofs.Words.{total_cut, fold_again, fold_same}
 use Rattle.inet_sum.proofs.folded_with.Goals as goal
-
--- a block, and what follows
-total_block : (octets : List ℕ) → 65536 ≤ length octets → total octets ≡ total (take 65536 octets) + total (drop 65536 octets)
-total_block octets long =
-    let even : length (take 65536 octets) % 2 ≡ 0 = rw (length-take-le 65536 octets long) in
-    ap total (sym (take-append-drop 65536 octets)) ∙ total-append (take 65536 octets) (drop 65536 octets) even
 
 pub loop-rest-preserved : goal.loop-rest-preserved
 loop-rest-preserved c =
@@ -16,7 +9,8 @@ loop-rest-preserved c =
     let start = c.loop-rest.sum + more in
     let folds : fold_of (start + c.block_sum.result) ≡ fold_of (start + total c.split_at.result.0.now) = fold_same start c.block_sum.result (total c.split_at.result.0.now) c.block_sum.ensures.folds in
     let cut : c.loop-rest.sum + total c.loop-rest.rest.now ≡ start + total c.split_at.result.0.now =
-    omega (arith, total_block c.loop-rest.rest.now (omega arith), ap total c.split_at.ensures.front, ap total c.split_at.ensures.back)
+    let parts = total_cut 65536 c.loop-rest.rest.now refl (omega arith) in
+    omega (arith, parts, ap total c.split_at.ensures.front, ap total c.split_at.ensures.back)
     in
     let turned : (c.loop-rest.sum + c.block_sum.result) + more ≡ start + c.block_sum.result = omega arith in
     record {

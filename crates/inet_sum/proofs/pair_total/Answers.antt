@@ -1,7 +1,7 @@
 use Rattle.std.proofs.Common.{rules, Fits, w8, List, get_or, ℕ, ◌≡◌, ◌+◌, ◌%◌, ◌<◌, ◌≤◌, ◌^◌, ap, ◌∙◌, sym, arith, length}
 use Rattle.std.specs.Slice.Iter.{chunks_exact_rest}
 use Rattle.inet_sum.specs.Sum.{total}
-use Rattle.inet_sum.proofs.Words.{remainder, total-append, total_small, remainder_pair, remainder_short}
+use Rattle.inet_sum.proofs.Words.{remainder, total-append, total_small, remainder_behind, remainder_few}
 use Rattle.inet_sum.proofs.pair_total.Goals as goal
 
 summed : (c : goal.After-word-total) → c.word-total.result + total (chunks_exact_rest c.next.new.self) ≡ total (chunks_exact_rest c.loop-pair.pair-iterator)
@@ -26,13 +26,14 @@ loop-pair-preserved c =
       is_finite = tt;
       pairs = c.in-Some.ensures.steps.0 ∙ c.loop-pair.invariant.pairs;
       so_far = omega (arith, summed c);
-      left_over = c.loop-pair.invariant.left_over ∙ ap remainder cut.0 ∙ remainder_pair c.in-Some.pair.now (chunks_exact_rest c.next.new.self) (cut.1 ∙ c.loop-pair.invariant.pairs);
+      left_over = c.loop-pair.invariant.left_over ∙ ap (remainder 2) cut.0
+          ∙ remainder_behind 2 c.in-Some.pair.now (chunks_exact_rest c.next.new.self) (cut.1 ∙ c.loop-pair.invariant.pairs);
     }
 
 at_end : (c : goal.After-word) → c.loop-pair.total + c.word.result ≡ total c.args.block.now
 at_end c =
     let short : length (chunks_exact_rest c.loop-pair.pair-iterator) < 2 = omega (arith, c.in-None.ensures.steps.1.0, c.loop-pair.invariant.pairs) in
-    let left = c.loop-pair.invariant.left_over ∙ remainder_short (chunks_exact_rest c.loop-pair.pair-iterator) short in
+    let left = c.loop-pair.invariant.left_over ∙ remainder_few 2 (chunks_exact_rest c.loop-pair.pair-iterator) short in
     omega (arith, c.loop-pair.invariant.so_far, ap total left, c.word.ensures.total)
 
 pub overflow_add-result : goal.overflow_add-result

@@ -10,5 +10,5 @@ invariant-loop-pair l = record {
   is_finite : (goal.iterator-loop-pair).is_finite l.pair-iterator;
   pairs : chunks_exact_size l.pair-iterator ≡ 2;
   so_far : l.total + total (chunks_exact_rest l.pair-iterator) ≡ total l.fn.block;
-  left_over : l.last ≡ remainder (chunks_exact_rest l.pair-iterator);
+  left_over : l.last ≡ remainder 2 (chunks_exact_rest l.pair-iterator);
 }

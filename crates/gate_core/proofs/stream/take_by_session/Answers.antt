@@ -64,7 +64,7 @@ returns-in-Some-clause-done c =
     (ap (session_refusal kept_rules side d) (sym t.1) ∙ c.requires.passes)
     (sym c.lacks_alias.ensures ∙ c.if-lacks_alias.false) (sym c.in-Some.is ∙ c.in_ok-waiting.ensures.waits t.0 t.1)
     (c.use_both.ensures ∙ ap (λ (n : ℕ). after_uses c.args.table.now (uses_until side (way.moment.0 + n) (way.source ∷ way.destination ∷ []))) hold)
-    (c.note.ensures
+    (c.note.ensures.noted
     ∙ ap (λ (x : List (Connection (Tracked KeptSession))). noted x c.args.key.now side c.flags-flags.result None way.moment) (c.in_ok-waiting.ensures.next t.0 t.1)
     ∙ ap (λ (k : ConnKey). noted (replaced c.args.connections.now k s) k side c.flags-flags.result None way.moment) c.requires.key
     ∙ ap (λ (n : ℕ). noted (replaced c.args.connections.now (key_in c.args.table.now side d) s) (key_in c.args.table.now side d) side n None way.moment) flags)

@@ -12,4 +12,4 @@ returns-in-Err g c =
 
 pub returns : goal.returns
 returns g c =
-    answers_make c.make.result c.tell.result c.args.number c.args.count c.args.report.now (g.D.Desk.outside c.args.desk.now) (g.D.Desk.outside c.make.new.desk) (g.D.Desk.outside c.tell.new.desk) c.in_default.not-Done c.make.ensures.answer c.tell.ensures
+    answers_make c.make.result c.tell.result c.args.number c.args.count c.args.report.now (g.D.Desk.outside c.args.desk.now) (g.D.Desk.outside c.make.new.desk) (g.D.Desk.outside c.tell.new.desk) c.in_default.not-Done c.make.ensures c.tell.ensures

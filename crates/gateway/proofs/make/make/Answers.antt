@@ -5,23 +5,23 @@ use Rattle.gateway.proofs.Causes.{opens_one}
 use Rattle.gateway.proofs.Makes.{not_made, made, not_written}
 use Rattle.gateway.proofs.make.make.Goals as goal
 
-pub returns-in-Err-rehearse-clause-answer : goal.returns-in-Err-rehearse-clause-answer
-returns-in-Err-rehearse-clause-answer g c =
+pub returns-in-Err-rehearse : goal.returns-in-Err-rehearse
+returns-in-Err-rehearse g c =
     let old = g.D.Desk.outside c.args.desk.now in
     let mid = g.D.Desk.outside c.start.new.self in
-    not_made c.in-Err-rehearse.status c.args.number c.args.count c.args.report.now old mid c.in-Err-rehearse.ensures.answer (opens_one Report c.args.report.now Write old mid c.in-Ok.ensures.ok)
+    not_made c.in-Err-rehearse.status c.args.number c.args.count c.args.report.now old mid c.in-Err-rehearse.ensures (opens_one Report c.args.report.now Write old mid c.in-Ok.ensures.ok)
 
-pub put_text-requires-clause-can : goal.put_text-requires-clause-can
-put_text-requires-clause-can g c = can_write_started Report c.args.report.now (g.D.Desk.outside c.args.desk.now) (g.D.Desk.outside c.start.new.self) c.in-Ok.ensures.ok
+pub put_text-requires : goal.put_text-requires
+put_text-requires g c = can_write_started Report c.args.report.now (g.D.Desk.outside c.args.desk.now) (g.D.Desk.outside c.start.new.self) c.in-Ok.ensures.ok
 
-pub returns-in-Ok-put_text-clause-answer : goal.returns-in-Ok-put_text-clause-answer
-returns-in-Ok-put_text-clause-answer g c =
+pub returns-in-Ok-put_text : goal.returns-in-Ok-put_text
+returns-in-Ok-put_text g c =
     let old = g.D.Desk.outside c.args.desk.now in
     let mid = g.D.Desk.outside c.start.new.self in
-    made c.in-Ok-rehearse.line c.args.number c.args.count c.args.report.now old mid (g.D.Desk.outside c.put_text.new.desk) (opens_one Report c.args.report.now Write old mid c.in-Ok.ensures.ok) c.in-Ok-rehearse.ensures.answer c.in-Ok-put_text.ensures.answer
+    made c.in-Ok-rehearse.line c.args.number c.args.count c.args.report.now old mid (g.D.Desk.outside c.put_text.new.desk) (opens_one Report c.args.report.now Write old mid c.in-Ok.ensures.ok) c.in-Ok-rehearse.ensures c.in-Ok-put_text.ensures.answer
 
-pub returns-in-Err-put_text-clause-answer : goal.returns-in-Err-put_text-clause-answer
-returns-in-Err-put_text-clause-answer g c =
+pub returns-in-Err-put_text : goal.returns-in-Err-put_text
+returns-in-Err-put_text g c =
     let old = g.D.Desk.outside c.args.desk.now in
     let mid = g.D.Desk.outside c.start.new.self in
-    not_written c.in-Err-put_text.status c.in-Ok-rehearse.line c.args.number c.args.count c.args.report.now old mid (g.D.Desk.outside c.put_text.new.desk) (opens_one Report c.args.report.now Write old mid c.in-Ok.ensures.ok) c.in-Ok-rehearse.ensures.answer c.in-Err-put_text.ensures.slot c.in-Err-put_text.ensures.answer
+    not_written c.in-Err-put_text.status c.in-Ok-rehearse.line c.args.number c.args.count c.args.report.now old mid (g.D.Desk.outside c.put_text.new.desk) (opens_one Report c.args.report.now Write old mid c.in-Ok.ensures.ok) c.in-Ok-rehearse.ensures c.in-Err-put_text.ensures.slot c.in-Err-put_text.ensures.answer

@@ -11,8 +11,8 @@ use Rattle.tcp_tracker.proofs.tracker.Tracker.change.Goals as goal
 named : (key : ConnKey) (next : Option (Connection ℕ)) (connection : Connection ℕ) → IfSome next (λ one. one.key ≡ key) → next ≡ Some connection → connection.key ≡ key
 named key next connection name is = let P : Option (Connection ℕ) → Type 0 = λ one. IfSome one (λ one. one.key ≡ key) in subst P is name
 
-pub set-requires : goal.set-requires
-set-requires c =
+pub set_at-requires : goal.set_at-requires
+set_at-requires c =
     let name = named c.args.key.now c.args.next c.in-true-Some.connection c.requires.name c.in-true-Some.is-1 in
     row_there c.args.key.now c.in-true-Some.connection c.filed.result c.self.inside.rows.rows c.args.self.now c.args.there c.filed.ensures.value c.filed.ensures.filed name c.self.invariant.filed c.self.view_is c.requires.there
     ∙ c.in-true-Some.is-0
@@ -38,7 +38,7 @@ push-requires-clause-room c =
 pub invariant_of-self : goal.invariant_of-self
 invariant_of-self c =
     let P : Table (Connection ℕ) → Type 0 = λ table. IsWhole table in
-    subst P (sym c.set.ensures) (record { most = c.self.invariant.most; filed = filed_set c.filed.result c.self.inside.rows.rows c.filed.ensures.filed c.self.invariant.filed })
+    subst P (sym c.set_at.ensures) (record { most = c.self.invariant.most; filed = filed_set c.filed.result c.self.inside.rows.rows c.filed.ensures.filed c.self.invariant.filed })
 
 pub returns-in-true-Some : goal.returns-in-true-Some
 returns-in-true-Some c =
@@ -46,7 +46,7 @@ returns-in-true-Some c =
     let rows = c.self.inside.rows.rows in
     let name = named key c.args.next c.in-true-Some.connection c.requires.name c.in-true-Some.is-1 in
     let there = row_there key c.in-true-Some.connection c.filed.result rows c.args.self.now c.args.there c.filed.ensures.value c.filed.ensures.filed name c.self.invariant.filed c.self.view_is c.requires.there ∙ c.in-true-Some.is-0 in
-    ap (λ (table : Table (Connection ℕ)). connections_in table.rows) c.set.ensures
+    ap (λ (table : Table (Connection ℕ)). connections_in table.rows) c.set_at.ensures
     ∙ set_in key c.in-true-Some.connection c.filed.result rows c.filed.ensures.value c.filed.ensures.filed name c.self.invariant.filed c.len.ensures.distinct there
     ∙ ap (λ all. changed all (place_of key all) (Some c.in-true-Some.connection)) c.self.view_is ∙ sym (ap (changed c.args.self.now (place_of key c.args.self.now)) c.in-true-Some.is-1)
 

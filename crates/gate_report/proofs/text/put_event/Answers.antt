@@ -3,7 +3,7 @@ use Rattle.std.proofs.lemmas.List.{append-nil, drop_all}
 use Rattle.gate_base.specs.Refusal.{verdict_name}
 use Rattle.gate_base.specs.Side.{name_of}
 use Rattle.gate_report.specs.Lines.{event_text}
-use Rattle.gate_report.proofs.text.put_event_line.Goals as goal
+use Rattle.gate_report.proofs.text.put_event.Goals as goal
 
 -- pieces that were put before one another
 joined : (a b c d e f g h i j : List ℕ) → a ++ (b ++ (c ++ (d ++ (e ++ (f ++ (g ++ (h ++ (i ++ (j ++ []))))))))) ≡ a ++ b ++ c ++ d ++ e ++ f ++ g ++ h ++ i ++ j
@@ -18,7 +18,7 @@ returns-clause-line c =
     let moment = decimal c.args.moment in
     let verdict = c.name.result.now in
     let frames = decimal c.from.result in
-    let last : drop 96 c.args.room.now ≡ [] = drop_all 96 c.args.room.now (omega (arith, c.requires)) in
+    let last : drop 192 c.args.room.now ≡ [] = drop_all 192 c.args.room.now (omega (arith, c.requires)) in
     let pieces = c.put_number_before.ensures.octets
     ∙ ap (λ xs. number ++ xs) (c.put_word_before-end-7.ensures.octets
     ∙ ap (λ xs. space ++ xs) (c.put_word_before-end-6.ensures.octets

@@ -2,7 +2,7 @@ use Rattle.std.proofs.Common.{◌≡◌, ◌∙◌, ap, sym, IsSome, subst, Opti
 use Rattle.expiring_table.specs.declared.row.Row.{Row}
 use Rattle.expiring_table.specs.Rows.{Table, row_of}
 use Rattle.expiring_table.proofs.Cells.{none_found}
-use Rattle.expiring_table.proofs.rows.Rows.set.Goals as goal
+use Rattle.expiring_table.proofs.rows.Rows.set_at.Goals as goal
 
 pub returns-in-None : goal.returns-in-None
 returns-in-None g c =
