@@ -78,7 +78,7 @@ fn writes_lines(rt: HostRuntime) -> Result<(), Fail> {
     for (line, text, json) in LINES {
         let mut room = [0u8; LINE];
         let begin = text_line(&line, &mut room);
-        assert!(rt; room[begin..] == *text);
+        assert!(rt; &room[begin..] == text);
         let octets = json_line(rt.alloc(), &line)?;
         assert!(rt; octets.as_slice() == json);
     }
