@@ -144,6 +144,7 @@ impl Gate {
         self.salt = None;
     }
 
+    #[inline(always)]
     fn take_event(&mut self, event: &Event<'_>, outbox: &mut Outbox) -> Result<Verdict, OutOfMemory>
         requires moment { event.now.moment.0 < 2 ^ 32 * 1000000000 }
         ensures verdict { IfOk result (λ v. v ≡ verdict kept_rules self.old.world (event_of event.now)) }

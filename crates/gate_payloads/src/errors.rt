@@ -49,6 +49,7 @@ fn is_unknown(number: Option<Option<u32>>) -> bool
 }
 
 /// Takes an ICMP error.
+#[inline(never)]
 pub fn take_error(
     table: &mut Table,
     connections: &SessionTable<TrackedSession>,

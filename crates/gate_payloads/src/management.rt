@@ -33,6 +33,7 @@ impl<'a> Lookup for Seen<'a> {
 }
 
 /// Takes a datagram with an SNMP message.
+#[inline(never)]
 pub fn take_management(
     table: &mut Table,
     way: &Way,

@@ -221,6 +221,7 @@ fn take_message(
 }
 
 /// Takes a datagram with a DNS message.
+#[inline(never)]
 pub fn take_names(
     alloc: Global,
     table: &mut Table,

@@ -1,11 +1,11 @@
 // One event: its frame is judged, and what it gives is written.
-ghost use Rattle.std.specs.Prelude.{◌≡◌, ◌+◌, ◌*◌, ◌<◌, ◌≤◌, ◌^◌, [], ◌∷◌, length, take};
+ghost use Rattle.std.specs.Prelude.{◌≡◌, ◌+◌, ◌*◌, ◌<◌, ◌≤◌, ◌^◌, ◌++◌, [], ◌∷◌, length};
 ghost use Rattle.gate_base.specs.Events.{event_of};
 ghost use Rattle.gate_desk.specs.declared.slot.Slot.TheVariants.{LeftOut, RightOut, Report};
 ghost use Rattle.gate_desk.specs.Outside.{CanWrite};
 ghost use Rattle.pcap_merge.specs.Merge.{IsSmallEvent};
-ghost use Rattle.gate_base.specs.declared.side.Link.TheVariants.{Ethernet};
-ghost use Rattle.gateway.specs.Machine.{out_slot, framed_on, frame_piece, sent};
+ghost use Rattle.ether_frames.specs.Ether.{ipv4_head};
+ghost use Rattle.gateway.specs.Machine.{out_slot, frame_piece, sent};
 ghost use Rattle.gateway.specs.Causes.{Gives};
 ghost use Rattle.gateway.specs.Phases.{Handles, counting};
 
@@ -15,13 +15,13 @@ use ether_frames::put_head;
 use gate_base::{Event, Link, Moment, OutOfMemory, Side};
 use gate_core::{Gate, Outbox};
 use gate_desk::{Desk, Slot};
-use gate_report::Line;
+use gate_report::{LINE, Line};
 use gate_settings::{Settings, SideSettings};
 use pcap_files::write_packet;
 use std::alloc::Global;
 
-/// The most octets of a frame: an Ethernet head and a datagram.
-pub const LONGEST_FRAME: usize = 65_549;
+/// The octets of an Ethernet head.
+const HEAD: usize = 14;
 
 fn out_slot(side: Side) -> Slot
     ensures { result ≡ out_slot side }
@@ -32,40 +32,41 @@ fn out_slot(side: Side) -> Slot
     }
 }
 
-/// Writes a frame to a realm's capture.
+/// Writes a datagram behind its frame's head to a realm's capture.
+#[inline(always)]
 fn write_frame<D: Desk>(
     desk: &mut D,
     side: Side,
     moment: Moment,
-    frame: &[u8],
+    head: &[u8],
+    datagram: &[u8],
 ) -> Result<(), Status>
     requires left { CanWrite (D.outside desk.old) LeftOut }
     requires right { CanWrite (D.outside desk.old) RightOut }
     requires early { moment.0 < 2 ^ 32 * 1000000000 }
-    requires short { length frame.now ≤ 65549 }
-    ensures { Gives result (frame_piece side moment.0 frame.now ∷ []) (D.outside desk.old) (D.outside desk.new) }
+    requires head { length head.now ≤ HEAD }
+    requires short { length datagram.now ≤ 65535 }
+    ensures { Gives result (frame_piece side moment.0 (head.now ++ datagram.now) ∷ []) (D.outside desk.old) (D.outside desk.new) }
 {
     let slot = out_slot(side);
-    match write_packet(desk, slot, moment, frame) {
+    match write_packet(desk, slot, moment, head, datagram) {
         Ok(()) => Ok(()),
         Err(_) => Err(Status::WriteFault(slot)),
     }
 }
 
-/// Puts an Ethernet frame from the gateway to the next router or host together.
-fn put_frame(room: &mut [u8], side: &SideSettings, datagram: &[u8])
-    requires room { length room.old ≡ LONGEST_FRAME }
-    requires short { length datagram.now ≤ 65535 }
-    ensures { take (14 + length datagram.now) room.new ≡ framed_on Ethernet side.now datagram.now }
+/// The head of an Ethernet frame from the gateway to the next router or host of a realm.
+fn head_to(realm: &SideSettings) -> [u8; HEAD]
+    ensures { result ≡ ipv4_head realm.now.next_mac realm.now.gateway_mac }
 {
-    put_head(&side.next_mac, &side.gateway_mac, room);
-    room[14..14 + datagram.len()].copy_from_slice(datagram);
+    let mut head = [0; HEAD];
+    put_head(&realm.next_mac, &realm.gateway_mac, &mut head);
+    head
 }
 
 /// Sends a datagram to a realm.
 fn send<D: Desk>(
     desk: &mut D,
-    room: &mut [u8],
     settings: &Settings,
     side: Side,
     moment: Moment,
@@ -73,25 +74,20 @@ fn send<D: Desk>(
 ) -> Result<(), Status>
     requires left { CanWrite (D.outside desk.old) LeftOut }
     requires right { CanWrite (D.outside desk.old) RightOut }
-    requires room { length room.old ≡ LONGEST_FRAME }
     requires early { moment.0 < 2 ^ 32 * 1000000000 }
     requires short { length datagram.now ≤ 65535 }
     ensures { Gives result (sent settings.now side moment.0 (datagram.now ∷ [])) (D.outside desk.old) (D.outside desk.new) }
 {
     let realm = settings.side(side);
     match realm.link {
-        Link::Raw => write_frame(desk, side, moment, datagram),
-        Link::Ethernet => {
-            put_frame(room, realm, datagram);
-            write_frame(desk, side, moment, &room[..14 + datagram.len()])
-        }
+        Link::Raw => write_frame(desk, side, moment, &[], datagram),
+        Link::Ethernet => write_frame(desk, side, moment, &head_to(realm), datagram),
     }
 }
 
 /// Sends the datagrams of an outbox to a realm, in their order.
 fn send_all<D: Desk>(
     desk: &mut D,
-    room: &mut [u8],
     settings: &Settings,
     side: Side,
     moment: Moment,
@@ -99,17 +95,16 @@ fn send_all<D: Desk>(
 ) -> Result<(), Status>
     requires left { CanWrite (D.outside desk.old) LeftOut }
     requires right { CanWrite (D.outside desk.old) RightOut }
-    requires room { length room.old ≡ LONGEST_FRAME }
     requires early { moment.0 < 2 ^ 32 * 1000000000 }
     ensures { Gives result (sent settings.now side moment.0 outbox.now) (D.outside desk.old) (D.outside desk.new) }
 {
     for place in 0..outbox.len() {
-        send(desk, room, settings, side, moment, outbox.datagram(place))?;
+        send(desk, settings, side, moment, outbox.datagram(place))?;
     }
     Ok(())
 }
 
-/// Takes an event: its frame goes on, if it passes, then its line is written, and it is counted.
+/// Takes an event: its frame goes on, if it passes, then its line is written, for which there is a room, and it is counted.
 pub fn handle<D: Desk>(
     alloc: Global,
     desk: &mut D,
@@ -122,7 +117,7 @@ pub fn handle<D: Desk>(
     requires left { CanWrite (D.outside desk.old) LeftOut }
     requires right { CanWrite (D.outside desk.old) RightOut }
     requires report { CanWrite (D.outside desk.old) Report }
-    requires room { length room.old ≡ LONGEST_FRAME }
+    requires room { length room.old ≡ LINE }
     requires small { IsSmallEvent (event_of event) }
     requires few { totals.old.events < 2 ^ 42 }
     requires passed { totals.old.passed ≤ totals.old.events }
@@ -136,14 +131,7 @@ pub fn handle<D: Desk>(
     };
     let frames = outbox.len() as u32;
     let settings = gate.settings();
-    match send_all(
-        desk,
-        room,
-        settings,
-        event.side.other(),
-        event.moment,
-        outbox,
-    ) {
+    match send_all(desk, settings, event.side.other(), event.moment, outbox) {
         Ok(()) => {}
         Err(status) => return Err(status),
     }
@@ -154,7 +142,7 @@ pub fn handle<D: Desk>(
         verdict,
         frames,
     };
-    match put_line(alloc, desk, settings.json, &line) {
+    match put_line(alloc, desk, room, settings.json, &line) {
         Ok(()) => {}
         Err(status) => return Err(status),
     }

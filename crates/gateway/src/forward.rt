@@ -7,21 +7,28 @@ ghost use Rattle.gate_world.specs.World.{opening_world};
 ghost use Rattle.gateway.specs.Phases.{Forwards, Finishes, TookFew};
 
 use crate::Status;
-use crate::event::{LONGEST_FRAME, handle};
+use crate::event::handle;
 use crate::report::{Totals, last_line, put_line};
 use crate::stops::status_of_merge;
 use gate_core::{Gate, Outbox};
 use gate_desk::Desk;
-use gate_report::Line;
+use gate_report::{LINE, Line};
 use pcap_merge::Merge;
 use std::alloc::Global;
 
 /// Writes the last line of the report, and answers it.
-fn finish<D: Desk>(alloc: Global, desk: &mut D, json: bool, line: Line) -> Result<Line, Status>
-    requires { CanWrite (D.outside desk.old) Report }
+fn finish<D: Desk>(
+    alloc: Global,
+    desk: &mut D,
+    room: &mut [u8],
+    json: bool,
+    line: Line,
+) -> Result<Line, Status>
+    requires can { CanWrite (D.outside desk.old) Report }
+    requires room { length room.old ≡ LINE }
     ensures { Finishes result json line (D.outside desk.old) (D.outside desk.new) }
 {
-    match put_line(alloc, desk, json, &line) {
+    match put_line(alloc, desk, room, json, &line) {
         Ok(()) => Ok(line),
         Err(status) => Err(status),
     }
@@ -29,6 +36,7 @@ fn finish<D: Desk>(alloc: Global, desk: &mut D, json: bool, line: Line) -> Resul
 
 /// Takes the events of both captures: the frames and the line of each are written before the next record is read. It answers
 /// the last line of the report, once that is written.
+#[inline(never)]
 pub fn forward<D: Desk>(
     alloc: Global,
     desk: &mut D,
@@ -42,7 +50,7 @@ pub fn forward<D: Desk>(
     requires left_out { CanWrite (D.outside desk.old) LeftOut }
     requires right_out { CanWrite (D.outside desk.old) RightOut }
     requires report { CanWrite (D.outside desk.old) Report }
-    requires room { length room.old ≡ LONGEST_FRAME }
+    requires room { length room.old ≡ LINE }
     requires stop { merge.old.stop ≡ None }
     requires work { work merge.old ≤ 2 ^ 41 }
     requires ends { AtEnds merge.old (D.outside desk.old) }
@@ -65,7 +73,7 @@ pub fn forward<D: Desk>(
         };
         if !more {
             let line = last_line(totals, gate.pending());
-            return finish(alloc, desk, gate.settings().json, line);
+            return finish(alloc, desk, room, gate.settings().json, line);
         }
         match handle(alloc, desk, gate, outbox, room, &mut totals, merge.event()) {
             Ok(()) => {}

@@ -8,7 +8,7 @@ use crate::report::put_text;
 use crate::run::run;
 use gate_base::OutOfMemory;
 use gate_desk::{Desk, DiscardingDesk, Slot, Way};
-use gate_report::Line;
+use gate_report::{LINE, Line};
 use gate_workload::Workload;
 use std::alloc::Global;
 
@@ -59,7 +59,7 @@ pub fn make<D: Desk>(alloc: Global, desk: &mut D, number: u32, count: u32, repor
         Ok(line) => line,
         Err(status) => return status,
     };
-    match put_text(desk, &line) {
+    match put_text(desk, &mut [0; LINE], &line) {
         Ok(()) => Status::Done,
         Err(status) => status,
     }

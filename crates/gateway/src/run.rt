@@ -5,14 +5,13 @@ ghost use Rattle.gateway.specs.Answers.{Runs, TookForWritten};
 
 use crate::Status;
 use crate::command::FileNames;
-use crate::event::LONGEST_FRAME;
 use crate::forward::forward;
 use crate::prepare::prepare;
 use crate::ready::ready;
 use gate_base::OutOfMemory;
 use gate_core::Outbox;
 use gate_desk::Desk;
-use gate_report::Line;
+use gate_report::{LINE, Line};
 use std::alloc::Global;
 
 /// A run over these files. It answers the last line of its report.
@@ -24,14 +23,11 @@ pub fn run<D: Desk>(alloc: Global, desk: &mut D, names: FileNames<'_>) -> Result
         Ok(prepared) => prepared,
         Err(status) => return Err(status),
     };
-    let mut room = match vec![in alloc; 0; LONGEST_FRAME] {
-        Ok(room) => room,
-        Err(_) => return Err(Status::OutOfMemory),
-    };
     let mut outbox = match Outbox::make(alloc) {
         Ok(outbox) => outbox,
         Err(OutOfMemory) => return Err(Status::OutOfMemory),
     };
+    let mut room = [0; LINE];
     match ready(desk, names, gate.settings()) {
         Ok(()) => forward(alloc, desk, &mut merge, &mut gate, &mut outbox, &mut room),
         Err(status) => Err(status),

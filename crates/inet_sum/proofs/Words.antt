@@ -3,8 +3,6 @@ use Rattle.std.proofs.Common.{◌==◌, take, append_assoc, length-append, lengt
 use Rattle.std.proofs.lemmas.Bool.Decides.{nat_tests}
 use Rattle.std.proofs.lemmas.List.Sums.{sum_by-append, sum_by-cons}
 use Rattle.std.proofs.lemmas.List.{take-append-drop, drop-drop, length-take-le}
-use Rattle.std.proofs.Math.Nat.{add-mod_left, mod-le, mod-eq_of_lt}
-use Rattle.std.proofs.Math.Seq.{drop-append-add}
 use Rattle.byteorder.specs.Endian.{big_number, big_bytes, little_number, little_from}
 use Rattle.gate_base.specs.Fields.{u16_at, with_u16}
 use Rattle.inet_sum.specs.Sum.{is_right, checksum, IsRight, pseudo_header, words, total, fold_of}
@@ -38,44 +36,19 @@ pub total_none : total [] ≡ 0
 unfolding words
 total_none = refl
 
--- the total of up to two octets
-pub two_octets : (octets : List ℕ) → length octets ≡ 2 → total octets ≡ get_or octets 0 0 * 256 + get_or octets 1 0
-two_octets [] two = cc
-two_octets (x ∷ []) two = cc
-two_octets (x ∷ y ∷ []) two = total_pair x y [] ∙ omega (arith, total_none)
-two_octets (x ∷ y ∷ z ∷ more) two = absurd (omega arith)
-
 pub one_octet : (octets : List ℕ) → length octets ≡ 1 → total octets ≡ get_or octets 0 0 * 256
 one_octet [] one = cc
 one_octet (x ∷ []) one = total_one x
 one_octet (x ∷ y ∷ more) one = absurd (omega arith)
 
+pub third_octet : (octets : List ℕ) → length octets ≡ 3 → total (drop 2 octets) ≡ get_or octets 2 0 * 256
+third_octet [] three = absurd (omega (arith, three))
+third_octet (x ∷ []) three = absurd (omega (arith, three))
+third_octet (x ∷ y ∷ rest) three = one_octet rest (omega (arith, three))
+
 pub no_octet : (octets : List ℕ) → length octets < 1 → total octets ≡ 0
 no_octet [] none = total_none
 no_octet (x ∷ more) none = absurd (omega arith)
-
--- the total of octets is at most that of as many octets FF
-pub total_small : (octets : List ℕ) → ((k : ℕ) → get_or octets k 0 < 256) → 2 * total octets ≤ 65535 * (length octets + 1)
-total_small [] small = omega (arith, total_none)
-total_small (x ∷ []) small = omega (arith, total_one x, small 0)
-total_small (x ∷ y ∷ rest) small = omega (arith, total_pair x y rest, small 0, small 1, total_small rest (λ k. small (suc (suc k))))
-
--- what is left over when octets are cut into parts of n
-abbrev pub remainder : ℕ → List ℕ → List ℕ
-remainder n octets = drop (length octets - length octets % n) octets
-
-pub remainder_behind : (n : ℕ) (part rest : List ℕ) → length part ≡ n → remainder n (part ++ rest) ≡ remainder n rest
-remainder_behind n part rest same =
-    let left : length (part ++ rest) % n ≡ length rest % n = rw (length-append part rest, same) (add-mod_left n (length rest)) in
-    let cut : length (part ++ rest) - length (part ++ rest) % n ≡ length part + (length rest - length rest % n) =
-    omega (arith, left, length-append part rest, mod-le (length rest) n)
-    in
-    ap (λ k. drop k (part ++ rest)) cut ∙ drop-append-add part rest (length rest - length rest % n)
-
-pub remainder_few : (n : ℕ) (octets : List ℕ) → length octets < n → remainder n octets ≡ octets
-remainder_few n octets few =
-    let none : length octets - length octets % n ≡ 0 = omega (arith, mod-eq_of_lt few) in
-    ap (λ k. drop k octets) none
 
 pub fold_again : (a b : ℕ) → fold_of (fold_of a + b) ≡ fold_of (a + b)
 unfolding fold_of
@@ -104,11 +77,21 @@ fold_same s a b same =
 pub fold_both : (a b c d : ℕ) → fold_of a ≡ fold_of c → fold_of b ≡ fold_of d → fold_of (a + b) ≡ fold_of (c + d)
 fold_both a b c d first second = sym (fold_again a b) ∙ ap (λ n. fold_of (n + b)) first ∙ fold_again c b ∙ fold_same c b d second
 
-pub fold_scaled : (a t : ℕ) → fold_of (256 * fold_of a + t) ≡ fold_of (256 * a + t)
+scaled : (a : ℕ) → fold_of (256 * fold_of a) ≡ fold_of (256 * a)
 unfolding fold_of
-fold_scaled a t = grind (arith, nat_tests)
+scaled a = grind (arith, nat_tests)
 
--- the halves of a number
+-- a number times 256
+pub fold_scaled : (a b : ℕ) → fold_of a ≡ fold_of b → fold_of (256 * a) ≡ fold_of (256 * b)
+fold_scaled a b same = sym (scaled a) ∙ ap (λ n. fold_of (256 * n)) same ∙ scaled b
+
+-- the halves of a number, of 128 bits and of 64
+pub fold_wide : (n : ℕ) → fold_of (n / 18446744073709551616 + n % 18446744073709551616) ≡ fold_of n
+fold_wide n =
+    let halves = n / 18446744073709551616 + n % 18446744073709551616 in
+    let parts : halves + 65535 * (281479271743489 * (n / 18446744073709551616)) ≡ n = omega arith in
+    sym (fold_more halves (281479271743489 * (n / 18446744073709551616)) (λ none. omega (arith, none))) ∙ ap fold_of parts
+
 pub fold_halves : (n : ℕ) → fold_of (n / 4294967296 + n % 4294967296) ≡ fold_of n
 fold_halves n =
     let halves = n / 4294967296 + n % 4294967296 in
@@ -144,24 +127,6 @@ pub number_folds : (n : ℕ) (octets : List ℕ) → n % 2 ≡ 0 → length octe
 number_folds n octets even same =
     let none = no_octet (drop n octets) (omega (arith, length-drop n octets)) in
     ap fold_of (omega (arith, none)) ∙ lowest_first n octets even (omega arith)
-
--- both numbers of half a line
-pub half_folds : (half : List ℕ) → length half ≡ 16
-    → fold_of (256 * (little_number 8 half + little_number 8 (drop 8 half))) ≡ fold_of (total half)
-half_folds half same =
-    let one = 256 * little_number 8 half in
-    let two = 256 * little_number 8 (drop 8 half) in
-    let parts : 256 * (little_number 8 half + little_number 8 (drop 8 half)) ≡ one + two = omega arith in
-    let behind = number_folds 8 (drop 8 half) refl (omega (arith, length-drop 8 half)) in
-    ap fold_of parts ∙ fold_same one two (total (drop 8 half)) behind ∙ lowest_first 8 half refl (omega arith)
-
--- the sums of both halves of a line
-pub line_folds : (a b : ℕ) (line : List ℕ) → length line ≡ 32 → fold_of (256 * a) ≡ fold_of (total (take 16 line))
-    → fold_of (256 * b) ≡ fold_of (total (drop 16 line)) → fold_of (256 * (a + b)) ≡ fold_of (total line)
-line_folds a b line same front back =
-    let parts : 256 * (a + b) ≡ 256 * a + 256 * b = omega arith in
-    ap fold_of parts ∙ fold_both (256 * a) (256 * b) (total (take 16 line)) (total (drop 16 line)) front back
-    ∙ ap fold_of (sym (total_cut 16 line refl (omega arith)))
 
 -- one more part, that folds as its words do, and what follows
 pub part_more : (s n : ℕ) (part rest : List ℕ) → length part % 2 ≡ 0 → fold_of (256 * n) ≡ fold_of (total part)

@@ -8,12 +8,6 @@ ghost use Rattle.inet_sum.specs.Sum.{words, total, fold_of, checksum, IsRight, i
 use byteorder::{ByteOrder, LittleEndian};
 use gate_base::{Addr, get_u16};
 
-/// The octets that are added up before the total is folded: an even number, so that no word is cut.
-const BLOCK: usize = 65_536;
-
-/// The octets that are added up at a turn: as many as fill four numbers of 64 bits.
-const LINE: usize = 32;
-
 /// The checksum of octets (RFC 1071, 1). It is 0 exactly where they hold their right checksum.
 #[tactic(auto, using(crate::proofs::Words::zero_if_right))]
 pub fn sum(octets: &[u8]) -> u16
@@ -78,81 +72,72 @@ fn halves(address: u32) -> u64
     u64::from(address / 65_536 + address % 65_536)
 }
 
-// The one's complement sum of a number and the words of octets.
+// The one's complement sum of a number and the words of octets. Eight octets are added up at a time, the lowest first: 256 times
+// such a number folds as its words do (RFC 1071, 2, (B)).
 fn folded_with(start: u64, octets: &[u8]) -> u16
     requires { start < 2 ^ 30 }
     ensures { result ≡ fold_of (start + total octets.now) }
 {
-    let mut sum = start;
-    let mut rest = octets;
-    while rest.len() > BLOCK {
-        let (block, more) = rest.split_at(BLOCK);
-        sum = u64::from(fold(sum + block_sum(block)));
-        rest = more;
-    }
-    fold(sum + block_sum(rest))
+    let (eights, last) = octets.split_at(octets.len() / 8 * 8);
+    fold(start + 256 * (narrowed(eights_sum(eights)) + last_sum(last)))
 }
 
-// A number that folds as the words of octets do. Most are added up several octets at a time, the lowest octet first: 256 times
-// such a number folds as its words do (RFC 1071, 2, (B)).
-fn block_sum(block: &[u8]) -> u64
-    requires { length block.now ≤ BLOCK }
-    ensures folds { fold_of result ≡ fold_of (total block.now) }
-    ensures small { result < 2 ^ 32 }
-{
-    let (fours, last) = block.split_at(block.len() / 4 * 4);
-    256 * u64::from(fold(lines_sum(fours))) + u64::from(pair_total(last))
-}
-
-// The sum of octets as numbers of eight octets, and of four behind the last line, in 64 bits. Each half of a line has a sum of
-// its own, so that neither waits for the carries of the other.
-fn lines_sum(octets: &[u8]) -> u64
-    requires fours { length octets.now % 4 ≡ 0 }
-    requires short { length octets.now ≤ BLOCK }
+// The sum of octets as numbers of eight octets.
+fn eights_sum(octets: &[u8]) -> u128
+    requires { length octets.now % 8 ≡ 0 }
     ensures { fold_of (256 * result) ≡ fold_of (total octets.now) }
 {
-    let lines = octets.chunks_exact(LINE);
-    let rest = lines.remainder();
-    let mut front: u128 = 0;
-    let mut back: u128 = 0;
-    for line in lines {
-        front += half_sum(&line[..16]);
-        back += half_sum(&line[16..]);
-    }
-    narrowed(front + back) + fours_sum(rest)
-}
-
-// The sum of both numbers of eight octets in half a line.
-fn half_sum(half: &[u8]) -> u128
-    requires { length half.now ≡ 16 }
-    ensures folds { fold_of (256 * result) ≡ fold_of (total half.now) }
-    ensures small { result < 2 ^ 65 }
-{
-    u128::from(LittleEndian::read_u64(half)) + u128::from(LittleEndian::read_u64(&half[8..]))
-}
-
-// A number of 64 bits that folds as this one: 2^32 folds as 1.
-#[tactic(auto, using(crate::proofs::Words::fold_halves))]
-fn narrowed(sum: u128) -> u64
-    requires { sum < 2 ^ 80 }
-    ensures folds { fold_of result ≡ fold_of sum }
-    ensures small { result < 2 ^ 49 }
-{
-    (sum / 4_294_967_296 + sum % 4_294_967_296) as u64
-}
-
-// The sum of octets as numbers of four octets.
-fn fours_sum(octets: &[u8]) -> u64
-    requires fours { length octets.now % 4 ≡ 0 }
-    requires short { length octets.now < LINE }
-    ensures folds { fold_of (256 * result) ≡ fold_of (total octets.now) }
-    ensures small { result < 2 ^ 36 }
-{
-    let mut sum: u64 = 0;
-    for four in octets.chunks_exact(4) {
-        sum += u64::from(LittleEndian::read_u32(four));
+    let mut sum: u128 = 0;
+    for eight in octets.chunks_exact(8) {
+        sum += u128::from(LittleEndian::read_u64(eight));
     }
     sum
+}
+
+// A number of 64 bits that folds as this one: 2^64 folds as 1.
+fn narrowed(sum: u128) -> u64
+    ensures folds { fold_of result ≡ fold_of sum }
+    ensures small { result < 2 ^ 34 }
+{
+    let high = (sum / 18_446_744_073_709_551_616) as u64;
+    let low = (sum % 18_446_744_073_709_551_616) as u64;
+    shortened(high) + shortened(low)
+}
+
+// A number of 33 bits that folds as this one: 2^32 folds as 1.
+#[tactic(auto, using(crate::proofs::Words::fold_halves))]
+fn shortened(sum: u64) -> u64
+    ensures folds { fold_of result ≡ fold_of sum }
+    ensures small { result < 2 ^ 33 }
+{
+    sum / 4_294_967_296 + sum % 4_294_967_296
+}
+
+// The sum of fewer than eight octets, as a number of four and one of the rest.
+fn last_sum(octets: &[u8]) -> u64
+    requires { length octets.now < 8 }
+    ensures folds { fold_of (256 * result) ≡ fold_of (total octets.now) }
+    ensures small { result < 2 ^ 33 }
+{
+    if octets.len() < 4 {
+        return few_sum(octets);
+    }
+    let (four, few) = octets.split_at(4);
+    u64::from(LittleEndian::read_u32(four)) + few_sum(few)
+}
+
+// The sum of fewer than four octets.
+fn few_sum(octets: &[u8]) -> u64
+    requires { length octets.now < 4 }
+    ensures folds { fold_of (256 * result) ≡ fold_of (total octets.now) }
+    ensures small { result < 2 ^ 17 }
+{
+    match octets {
+        [low, high, last] => u64::from(*low) + 256 * u64::from(*high) + u64::from(*last),
+        [low, high] => u64::from(*low) + 256 * u64::from(*high),
+        [last] => u64::from(*last),
+        _ => 0,
+    }
 }
 
 #[tactic(auto, unfolding(crate::specs::Sum::fold_of))]
@@ -163,33 +148,6 @@ fn fold(sum: u64) -> u16
         0
     } else {
         ((sum - 1) % 65_535 + 1) as u16
-    }
-}
-
-fn pair_total(block: &[u8]) -> u32
-    requires { length block.now ≤ BLOCK }
-    ensures total { result ≡ total block.now }
-    ensures small { result < 2 ^ 31 }
-{
-    let pairs = block.chunks_exact(2);
-    let last = pairs.remainder();
-    let mut total = 0;
-    for pair in pairs {
-        total += word(pair);
-    }
-    total + word(last)
-}
-
-#[tactic(auto, using(crate::proofs::Words::two_octets, crate::proofs::Words::one_octet, crate::proofs::Words::no_octet))]
-fn word(octets: &[u8]) -> u32
-    requires { length octets.now ≤ 2 }
-    ensures total { result ≡ total octets.now }
-    ensures small { result < 2 ^ 16 }
-{
-    match octets {
-        [high, low] => u32::from(*high) * 256 + u32::from(*low),
-        [last] => u32::from(*last) * 256,
-        _ => 0,
     }
 }
 

@@ -50,7 +50,13 @@ fn copy_first<D: Desk>(alloc: Global, desk: &mut D) -> Result<(), ReadStop> {
         return Ok(());
     }
     let packet = reader.packet();
-    match write_packet(desk, Slot::RightOut, Moment(packet.stamp), packet.octets) {
+    match write_packet(
+        desk,
+        Slot::RightOut,
+        Moment(packet.stamp),
+        &[],
+        packet.octets,
+    ) {
         Ok(()) => Ok(()),
         Err(_) => Err(ReadStop::Desk(Slot::RightOut)),
     }

@@ -49,23 +49,41 @@ fn head_of_record(moment: Moment, kept: u32) -> [u8; 16]
     head
 }
 
-/// Writes a frame as a record at a moment: a moment below 2^32 times 10^9, at most 262,144 octets. Failed comes only where the count of the slot rose; a prefix of the record was written then.
-#[tactic(auto, unfolding(crate::specs::Spelling::record_octets))]
+/// Writes a frame, the head of its link and what that carries, as a record at a moment: a moment below 2^32 times 10^9, at most
+/// 262,144 octets. Failed comes only where the count of the slot rose; a prefix of the record was written then.
 pub fn write_packet<D: Desk>(
     desk: &mut D,
     slot: Slot,
     moment: Moment,
+    head: &[u8],
     octets: &[u8],
 ) -> Result<(), Failed>
     requires can { CanWrite (D.outside desk.old) slot }
     requires early { moment.0 < 2 ^ 32 * 1000000000 }
-    requires short { length octets.now ≤ 262144 }
-    ensures ok { OnOk result (Writes slot (record_octets moment.0 octets.now) (D.outside desk.old) (D.outside desk.new)) }
-    ensures err { OnErr result (WritesPart slot (record_octets moment.0 octets.now) (D.outside desk.old) (D.outside desk.new)) }
+    requires short { length head.now + length octets.now ≤ 262144 }
+    ensures ok { OnOk result (Writes slot (record_octets moment.0 (head.now ++ octets.now)) (D.outside desk.old) (D.outside desk.new)) }
+    ensures err { OnErr result (WritesPart slot (record_octets moment.0 (head.now ++ octets.now)) (D.outside desk.old) (D.outside desk.new)) }
     ensures cause { OnErr result (HasFailed slot (D.outside desk.old) (D.outside desk.new)) }
 {
-    let head = head_of_record(moment, octets.len() as u32);
-    write_apart(desk, slot, &head, octets)
+    let front = head_of_record(moment, (head.len() + octets.len()) as u32);
+    write_behind(desk, slot, &front, head, octets)
+}
+
+/// Writes the head of a record, and then the two parts of a frame behind it.
+fn write_behind<D: Desk>(
+    desk: &mut D,
+    slot: Slot,
+    front: &[u8],
+    head: &[u8],
+    octets: &[u8],
+) -> Result<(), Failed>
+    requires { CanWrite (D.outside desk.old) slot }
+    ensures ok { OnOk result (Writes slot (front.now ++ (head.now ++ octets.now)) (D.outside desk.old) (D.outside desk.new)) }
+    ensures err { OnErr result (WritesPart slot (front.now ++ (head.now ++ octets.now)) (D.outside desk.old) (D.outside desk.new)) }
+    ensures cause { OnErr result (HasFailed slot (D.outside desk.old) (D.outside desk.new)) }
+{
+    write_whole(desk, slot, front)?;
+    write_apart(desk, slot, head, octets)
 }
 
 /// Writes a head, and then the octets behind it.

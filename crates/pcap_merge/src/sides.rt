@@ -12,6 +12,7 @@ use gate_desk::Desk;
 use pcap_files::CaptureReader;
 
 /// Reads the next record of a side, where it is to be read.
+#[inline(always)]
 fn read_side<D: Desk>(
     desk: &mut D,
     side: Side,

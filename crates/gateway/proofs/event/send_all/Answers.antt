@@ -8,7 +8,7 @@ use Rattle.gateway.proofs.Pieces.{writes_none}
 use Rattle.gateway.proofs.event.send_all.Goals as goal
 
 pub loop-place-init : goal.loop-place-init
-loop-place-init g c = record { written = writes_none (g.D.Desk.outside c.args.desk.now); room = c.requires.room; left = c.requires.left; right = c.requires.right }
+loop-place-init g c = record { written = writes_none (g.D.Desk.outside c.args.desk.now); left = c.requires.left; right = c.requires.right }
 
 pub returns-in_err-send : goal.returns-in_err-send
 returns-in_err-send g c =
@@ -27,7 +27,6 @@ loop-place-preserved g c =
     let next = sends_next c.args.settings.now c.args.side c.args.moment.0 c.args.outbox.now c.loop-place.place c.datagram.result.now old mid new (omega (arith, c.loop-place-test.true, c.len-place-end.ensures.count)) c.datagram.ensures.octets c.loop-place.invariant.written c.in_ok-send.ensures in
     record {
       written = next;
-      room = c.send.auto.room ∙ c.loop-place.invariant.room;
       left = can_still_write LeftOut mid new c.in_ok-send.ensures.only.starts c.loop-place.invariant.left;
       right = can_still_write RightOut mid new c.in_ok-send.ensures.only.starts c.loop-place.invariant.right;
     }

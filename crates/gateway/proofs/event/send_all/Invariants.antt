@@ -1,4 +1,4 @@
-use Rattle.std.proofs.Common.{◌≡◌, take, length}
+use Rattle.std.proofs.Common.{take}
 use Rattle.gate_desk.specs.declared.slot.Slot.TheVariants.{LeftOut, RightOut}
 use Rattle.gate_desk.specs.Outside.{CanWrite}
 use Rattle.gateway.specs.Machine.{sent}
@@ -8,7 +8,6 @@ use Rattle.gateway.proofs.event.send_all.Given as goal
 abbrev pub invariant-loop-place : goal.invariant-loop-place
 invariant-loop-place g l = record {
   written : WritesAll (sent l.settings l.side l.moment.0 (take l.place l.outbox)) (g.D.Desk.outside l.initial.desk) (g.D.Desk.outside l.desk);
-  room : length l.room ≡ 65549;
   left : CanWrite (g.D.Desk.outside l.desk) LeftOut;
   right : CanWrite (g.D.Desk.outside l.desk) RightOut;
 }

@@ -11,8 +11,8 @@ returns-in-Err-rehearse g c =
     let mid = g.D.Desk.outside c.start.new.self in
     not_made c.in-Err-rehearse.status c.args.number c.args.count c.args.report.now old mid c.in-Err-rehearse.ensures (opens_one Report c.args.report.now Write old mid c.in-Ok.ensures.ok)
 
-pub put_text-requires : goal.put_text-requires
-put_text-requires g c = can_write_started Report c.args.report.now (g.D.Desk.outside c.args.desk.now) (g.D.Desk.outside c.start.new.self) c.in-Ok.ensures.ok
+pub put_text-requires-clause-can : goal.put_text-requires-clause-can
+put_text-requires-clause-can g c = can_write_started Report c.args.report.now (g.D.Desk.outside c.args.desk.now) (g.D.Desk.outside c.start.new.self) c.in-Ok.ensures.ok
 
 pub returns-in-Ok-put_text : goal.returns-in-Ok-put_text
 returns-in-Ok-put_text g c =

@@ -12,9 +12,6 @@ use Rattle.gateway.proofs.run.run.Goals as goal
 pub returns-in-Err-clause-answer : goal.returns-in-Err-clause-answer
 returns-in-Err-clause-answer g c = run_unwritten c.in-Err.status (names_of c.args.names) (g.D.Desk.outside c.args.desk.now) (g.D.Desk.outside c.prepare.new.desk) c.in-Err.ensures.answer
 
-pub returns-in-Err-vec-clause-answer : goal.returns-in-Err-vec-clause-answer
-returns-in-Err-vec-clause-answer g c = run_no_memory c.in-Ok.prepared.1 c.in-Ok.prepared.0 (names_of c.args.names) (g.D.Desk.outside c.args.desk.now) (g.D.Desk.outside c.prepare.new.desk) c.in-Ok.ensures.answer
-
 pub forward-requires-clause-left_in : goal.forward-requires-clause-left_in
 forward-requires-clause-left_in g c =
     let old = g.D.Desk.outside c.args.desk.now in
@@ -76,9 +73,6 @@ returns-in-Err-make-clause-answer g c = run_no_memory c.in-Ok.prepared.1 c.in-Ok
 
 pub returns-in-Err-clause-taken : goal.returns-in-Err-clause-taken
 returns-in-Err-clause-taken g c = took_unwritten (g.D.Desk.outside c.args.desk.now) (g.D.Desk.outside c.prepare.new.desk) c.in-Err.ensures.taken
-
-pub returns-in-Err-vec-clause-taken : goal.returns-in-Err-vec-clause-taken
-returns-in-Err-vec-clause-taken g c = took_prepared c.in-Ok.prepared.1 c.in-Ok.prepared.0 (first_starts (names_of c.args.names)) (g.D.Desk.outside c.args.desk.now) (g.D.Desk.outside c.prepare.new.desk) (g.D.Desk.outside c.prepare.new.desk) c.in-Ok.ensures.answer refl
 
 pub returns-in-Err-make-clause-taken : goal.returns-in-Err-make-clause-taken
 returns-in-Err-make-clause-taken g c = took_prepared c.in-Ok.prepared.1 c.in-Ok.prepared.0 (first_starts (names_of c.args.names)) (g.D.Desk.outside c.args.desk.now) (g.D.Desk.outside c.prepare.new.desk) (g.D.Desk.outside c.prepare.new.desk) c.in-Ok.ensures.answer refl
