@@ -84,6 +84,7 @@ impl Table {
     }
 
     /// What an address, as it is written in one realm, is called in the other.
+    #[inline(always)]
     #[tactic(auto, unfolding(crate::specs::Bindings::cross))]
     pub fn cross(&self, side: Side, address: Addr) -> Crossing
         ensures { result ≡ tables.cross self.now side address }

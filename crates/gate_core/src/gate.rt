@@ -22,7 +22,7 @@ ghost use Rattle.gate_world.specs.Step.{next, out};
 ghost use Rattle.gate_world.specs.Verdict.{tests, verdict, verdict_of, world_tests};
 
 use crate::salt::salt_of;
-use crate::stream::{Segment, take_segment};
+use crate::stream::{SESSIONS, Segment, take_segment};
 use binding_table::{Firsts, Table};
 use expiring_table::Seed;
 use gate_base::{
@@ -39,9 +39,6 @@ use session_table::SessionTable;
 use std::alloc::Global;
 use std::marker::Model;
 use udp_icmp::{IcmpView, UdpView};
-
-/// The most sessions that live at once.
-const SESSIONS: usize = 4_096;
 
 /// Room for the octets that a session works on.
 const SCRATCH: usize = 262_144;

@@ -34,15 +34,13 @@ use shift_ledger::Recent;
 use std::alloc::Global;
 use stream_gate::StreamGate;
 use tcp_segments::{TcpView, flags_of};
-use tcp_tracker::ConnKey;
+use tcp_tracker::{ConnKey, SHORT_HOLD};
 
-/// The most connections and the most sessions that live at once.
+/// The most connections that live at once.
 const CONNECTIONS: usize = 65_536;
 
-const SESSIONS: usize = 4_096;
-
-/// For how long the addresses of a connection that is gone are held, in nanoseconds: 240 seconds.
-const SHORT_HOLD: u64 = 240_000_000_000;
+/// The most sessions that live at once.
+pub const SESSIONS: usize = 4_096;
 
 /// A segment: the octets of its datagram, and what stands in them.
 #[derive(Clone, Copy)]
@@ -206,6 +204,7 @@ fn take_beginning(
 }
 
 /// Takes a segment that no session takes.
+#[inline(always)]
 fn take_untracked(
     table: &mut Table,
     connections: &mut SessionTable<TrackedSession>,
