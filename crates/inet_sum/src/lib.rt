@@ -19,6 +19,7 @@ pub fn sum(octets: &[u8]) -> u16
 
 /// The checksum of the octets of a TCP or UDP segment behind its pseudo header (RFC 768, RFC 9293, 3.1).
 /// There are at most 65,535 octets, so that their number fits its field.
+#[inline(always)]
 pub fn pseudo_sum(source: Addr, destination: Addr, protocol: u8, octets: &[u8]) -> u16
     requires { length octets.now ≤ 65535 }
     ensures value { result ≡ checksum (pseudo_header source.0 destination.0 protocol (length octets.now) ++ octets.now) }
