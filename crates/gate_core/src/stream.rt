@@ -237,6 +237,7 @@ fn take_untracked(
 }
 
 /// A segment passed that no session takes. An RST makes no connection. It answers how long the addresses are held.
+#[inline(always)]
 fn note_untracked(
     connections: &mut SessionTable<TrackedSession>,
     way: &Way,
