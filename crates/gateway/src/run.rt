@@ -19,17 +19,12 @@ pub fn run<D: Desk>(alloc: Global, desk: &mut D, names: FileNames<'_>) -> Result
     ensures answer { Runs result (names_of names.entry) (D.outside desk.old) (D.outside desk.new) }
     ensures taken { OnErr result (TookForWritten (D.outside desk.old) (D.outside desk.new)) }
 {
-    let (mut merge, mut gate) = match prepare(alloc, desk, names) {
-        Ok(prepared) => prepared,
-        Err(status) => return Err(status),
-    };
+    let (mut merge, mut gate) = prepare(alloc, desk, names)?;
     let mut outbox = match Outbox::make(alloc) {
         Ok(outbox) => outbox,
         Err(OutOfMemory) => return Err(Status::OutOfMemory),
     };
     let mut room = [0; LINE];
-    match ready(desk, names, gate.settings()) {
-        Ok(()) => forward(alloc, desk, &mut merge, &mut gate, &mut outbox, &mut room),
-        Err(status) => Err(status),
-    }
+    ready(desk, names, gate.settings())?;
+    forward(alloc, desk, &mut merge, &mut gate, &mut outbox, &mut room)
 }

@@ -1,89 +1,96 @@
-use Rattle.std.proofs.Common.{refl, subst}
+use Rattle.std.proofs.Common.{OnErr, refl, subst}
 use Rattle.gate_desk.specs.declared.slot.Slot.TheVariants.{LeftIn, RightIn, LeftOut, RightOut, Report}
 use Rattle.gate_desk.specs.declared.slot.Way.TheVariants.{Read, Write}
 use Rattle.gateway.specs.Command.{names_of, first_starts, output_starts, plan}
 use Rattle.gateway.specs.Phases.{Readied, StopsInFront}
 use Rattle.gateway.specs.Machine.{heads}
-use Rattle.gateway.proofs.Causes.{way_of}
+use Rattle.gateway.specs.Answers.{Runs, TookForWritten}
+use Rattle.gateway.proofs.Causes.{handed_on, way_of}
 use Rattle.gateway.proofs.Runs.{run_unwritten, run_no_memory, run_not_ready, run_forwards, whole}
-use Rattle.gateway.proofs.Took.{took_unwritten, took_prepared, took_forwards}
+use Rattle.gateway.proofs.Took.{took_prepared, took_forwards}
 use Rattle.gateway.proofs.run.run.Goals as goal
 
-pub returns-in-Err-clause-answer : goal.returns-in-Err-clause-answer
-returns-in-Err-clause-answer g c = run_unwritten c.in-Err.status (names_of c.args.names) (g.D.Desk.outside c.args.desk.now) (g.D.Desk.outside c.prepare.new.desk) c.in-Err.ensures.answer
+pub returns-in_err-merge-clause-answer : goal.returns-in_err-merge-clause-answer
+returns-in_err-merge-clause-answer g c =
+    let old = g.D.Desk.outside c.args.desk.now in
+    let new = g.D.Desk.outside c.prepare.new.desk in
+    handed_on (λ r. Runs r (names_of c.args.names) old new) c.from_residual.result c.in_err-merge.field-0.0 c.from_residual.ensures.1
+    (run_unwritten c.in_err-merge.field-0.0 (names_of c.args.names) (g.D.Desk.outside c.args.desk.now) (g.D.Desk.outside c.prepare.new.desk) c.in_err-merge.ensures.answer)
 
 pub forward-requires-clause-left_in : goal.forward-requires-clause-left_in
 forward-requires-clause-left_in g c =
     let old = g.D.Desk.outside c.args.desk.now in
     let mid = g.D.Desk.outside c.prepare.new.desk in
     let new = g.D.Desk.outside c.ready.new.desk in
-    let ready = subst (λ s. Readied s (output_starts (names_of c.args.names)) mid new) c.settings.ensures c.in-Ok-ready.ensures.answer in
-    way_of LeftIn Read (plan (names_of c.args.names)) old new (whole c.in-Ok.prepared.1 c.in-Ok.prepared.0 (names_of c.args.names) old mid new new c.in-Ok.ensures.answer ready refl) (λ w. refl)
+    let ready = subst (λ s. Readied s (output_starts (names_of c.args.names)) mid new) c.settings.ensures c.in_ok-ready.ensures.answer in
+    way_of LeftIn Read (plan (names_of c.args.names)) old new (whole c.in_ok-merge.gate c.in_ok-merge.merge (names_of c.args.names) old mid new new c.in_ok-merge.ensures.answer ready refl) (λ w. refl)
 
 pub forward-requires-clause-right_in : goal.forward-requires-clause-right_in
 forward-requires-clause-right_in g c =
     let old = g.D.Desk.outside c.args.desk.now in
     let mid = g.D.Desk.outside c.prepare.new.desk in
     let new = g.D.Desk.outside c.ready.new.desk in
-    let ready = subst (λ s. Readied s (output_starts (names_of c.args.names)) mid new) c.settings.ensures c.in-Ok-ready.ensures.answer in
-    way_of RightIn Read (plan (names_of c.args.names)) old new (whole c.in-Ok.prepared.1 c.in-Ok.prepared.0 (names_of c.args.names) old mid new new c.in-Ok.ensures.answer ready refl) (λ w. refl)
+    let ready = subst (λ s. Readied s (output_starts (names_of c.args.names)) mid new) c.settings.ensures c.in_ok-ready.ensures.answer in
+    way_of RightIn Read (plan (names_of c.args.names)) old new (whole c.in_ok-merge.gate c.in_ok-merge.merge (names_of c.args.names) old mid new new c.in_ok-merge.ensures.answer ready refl) (λ w. refl)
 
 pub forward-requires-clause-left_out : goal.forward-requires-clause-left_out
 forward-requires-clause-left_out g c =
     let old = g.D.Desk.outside c.args.desk.now in
     let mid = g.D.Desk.outside c.prepare.new.desk in
     let new = g.D.Desk.outside c.ready.new.desk in
-    let ready = subst (λ s. Readied s (output_starts (names_of c.args.names)) mid new) c.settings.ensures c.in-Ok-ready.ensures.answer in
-    way_of LeftOut Write (plan (names_of c.args.names)) old new (whole c.in-Ok.prepared.1 c.in-Ok.prepared.0 (names_of c.args.names) old mid new new c.in-Ok.ensures.answer ready refl) (λ w. refl)
+    let ready = subst (λ s. Readied s (output_starts (names_of c.args.names)) mid new) c.settings.ensures c.in_ok-ready.ensures.answer in
+    way_of LeftOut Write (plan (names_of c.args.names)) old new (whole c.in_ok-merge.gate c.in_ok-merge.merge (names_of c.args.names) old mid new new c.in_ok-merge.ensures.answer ready refl) (λ w. refl)
 
 pub forward-requires-clause-right_out : goal.forward-requires-clause-right_out
 forward-requires-clause-right_out g c =
     let old = g.D.Desk.outside c.args.desk.now in
     let mid = g.D.Desk.outside c.prepare.new.desk in
     let new = g.D.Desk.outside c.ready.new.desk in
-    let ready = subst (λ s. Readied s (output_starts (names_of c.args.names)) mid new) c.settings.ensures c.in-Ok-ready.ensures.answer in
-    way_of RightOut Write (plan (names_of c.args.names)) old new (whole c.in-Ok.prepared.1 c.in-Ok.prepared.0 (names_of c.args.names) old mid new new c.in-Ok.ensures.answer ready refl) (λ w. refl)
+    let ready = subst (λ s. Readied s (output_starts (names_of c.args.names)) mid new) c.settings.ensures c.in_ok-ready.ensures.answer in
+    way_of RightOut Write (plan (names_of c.args.names)) old new (whole c.in_ok-merge.gate c.in_ok-merge.merge (names_of c.args.names) old mid new new c.in_ok-merge.ensures.answer ready refl) (λ w. refl)
 
 pub forward-requires-clause-report : goal.forward-requires-clause-report
 forward-requires-clause-report g c =
     let old = g.D.Desk.outside c.args.desk.now in
     let mid = g.D.Desk.outside c.prepare.new.desk in
     let new = g.D.Desk.outside c.ready.new.desk in
-    let ready = subst (λ s. Readied s (output_starts (names_of c.args.names)) mid new) c.settings.ensures c.in-Ok-ready.ensures.answer in
-    way_of Report Write (plan (names_of c.args.names)) old new (whole c.in-Ok.prepared.1 c.in-Ok.prepared.0 (names_of c.args.names) old mid new new c.in-Ok.ensures.answer ready refl) (λ w. refl)
-
-pub returns-in-Ok-ready-clause-answer : goal.returns-in-Ok-ready-clause-answer
-returns-in-Ok-ready-clause-answer g c =
-    let old = g.D.Desk.outside c.args.desk.now in
-    let mid = g.D.Desk.outside c.prepare.new.desk in
-    let new = g.D.Desk.outside c.ready.new.desk in
-    let ready = subst (λ s. Readied s (output_starts (names_of c.args.names)) mid new) c.settings.ensures c.in-Ok-ready.ensures.answer in
-    run_forwards c.forward.result c.in-Ok.prepared.1 c.in-Ok.prepared.0 (names_of c.args.names) old mid new (g.D.Desk.outside c.forward.new.desk) c.in-Ok.ensures.answer ready c.forward.ensures.starts c.forward.ensures.counts c.forward.ensures.answer
+    let ready = subst (λ s. Readied s (output_starts (names_of c.args.names)) mid new) c.settings.ensures c.in_ok-ready.ensures.answer in
+    way_of Report Write (plan (names_of c.args.names)) old new (whole c.in_ok-merge.gate c.in_ok-merge.merge (names_of c.args.names) old mid new new c.in_ok-merge.ensures.answer ready refl) (λ w. refl)
 
 pub returns-clause-answer : goal.returns-clause-answer
 returns-clause-answer g c =
     let old = g.D.Desk.outside c.args.desk.now in
     let mid = g.D.Desk.outside c.prepare.new.desk in
     let new = g.D.Desk.outside c.ready.new.desk in
-    let stopped = subst (λ s. StopsInFront c.in-Err-ready.status (output_starts (names_of c.args.names)) (heads s) mid new) c.settings.ensures c.in-Err-ready.ensures.answer in
-    run_not_ready c.in-Err-ready.status c.in-Ok.prepared.1 c.in-Ok.prepared.0 (names_of c.args.names) old mid new c.in-Ok.ensures.answer stopped
+    let ready = subst (λ s. Readied s (output_starts (names_of c.args.names)) mid new) c.settings.ensures c.in_ok-ready.ensures.answer in
+    run_forwards c.forward.result c.in_ok-merge.gate c.in_ok-merge.merge (names_of c.args.names) old mid new (g.D.Desk.outside c.forward.new.desk) c.in_ok-merge.ensures.answer ready c.forward.ensures.starts c.forward.ensures.counts c.forward.ensures.answer
 
-pub returns-in-Err-make-clause-answer : goal.returns-in-Err-make-clause-answer
-returns-in-Err-make-clause-answer g c = run_no_memory c.in-Ok.prepared.1 c.in-Ok.prepared.0 (names_of c.args.names) (g.D.Desk.outside c.args.desk.now) (g.D.Desk.outside c.prepare.new.desk) c.in-Ok.ensures.answer
-
-pub returns-in-Err-clause-taken : goal.returns-in-Err-clause-taken
-returns-in-Err-clause-taken g c = took_unwritten (g.D.Desk.outside c.args.desk.now) (g.D.Desk.outside c.prepare.new.desk) c.in-Err.ensures.taken
-
-pub returns-in-Err-make-clause-taken : goal.returns-in-Err-make-clause-taken
-returns-in-Err-make-clause-taken g c = took_prepared c.in-Ok.prepared.1 c.in-Ok.prepared.0 (first_starts (names_of c.args.names)) (g.D.Desk.outside c.args.desk.now) (g.D.Desk.outside c.prepare.new.desk) (g.D.Desk.outside c.prepare.new.desk) c.in-Ok.ensures.answer refl
-
-pub returns-clause-taken : goal.returns-clause-taken
-returns-clause-taken g c = took_prepared c.in-Ok.prepared.1 c.in-Ok.prepared.0 (first_starts (names_of c.args.names)) (g.D.Desk.outside c.args.desk.now) (g.D.Desk.outside c.prepare.new.desk) (g.D.Desk.outside c.ready.new.desk) c.in-Ok.ensures.answer c.ready.ensures.left
-
-pub returns-in-Ok-ready-clause-taken : goal.returns-in-Ok-ready-clause-taken
-returns-in-Ok-ready-clause-taken g c =
+pub returns-in_err-ready-clause-answer : goal.returns-in_err-ready-clause-answer
+returns-in_err-ready-clause-answer g c =
     let old = g.D.Desk.outside c.args.desk.now in
     let mid = g.D.Desk.outside c.prepare.new.desk in
     let new = g.D.Desk.outside c.ready.new.desk in
-    let ready = subst (λ s. Readied s (output_starts (names_of c.args.names)) mid new) c.settings.ensures c.in-Ok-ready.ensures.answer in
-    took_forwards c.forward.result c.in-Ok.prepared.1 c.in-Ok.prepared.0 (names_of c.args.names) old mid new (g.D.Desk.outside c.forward.new.desk) c.in-Ok.ensures.answer ready c.forward.ensures.taken
+    let stopped = subst (λ s. StopsInFront c.in_err-ready.field-0.0 (output_starts (names_of c.args.names)) (heads s) mid new) c.settings.ensures c.in_err-ready.ensures.answer in
+    handed_on (λ r. Runs r (names_of c.args.names) old new) c.from_residual-in_err-ready.result c.in_err-ready.field-0.0 c.from_residual-in_err-ready.ensures.1
+    (run_not_ready c.in_err-ready.field-0.0 c.in_ok-merge.gate c.in_ok-merge.merge (names_of c.args.names) old mid new c.in_ok-merge.ensures.answer stopped)
+
+pub returns-in-Err-clause-answer : goal.returns-in-Err-clause-answer
+returns-in-Err-clause-answer g c = run_no_memory c.in_ok-merge.gate c.in_ok-merge.merge (names_of c.args.names) (g.D.Desk.outside c.args.desk.now) (g.D.Desk.outside c.prepare.new.desk) c.in_ok-merge.ensures.answer
+
+pub returns-in-Err-clause-taken : goal.returns-in-Err-clause-taken
+returns-in-Err-clause-taken g c = took_prepared c.in_ok-merge.gate c.in_ok-merge.merge (first_starts (names_of c.args.names)) (g.D.Desk.outside c.args.desk.now) (g.D.Desk.outside c.prepare.new.desk) (g.D.Desk.outside c.prepare.new.desk) c.in_ok-merge.ensures.answer refl
+
+pub returns-in_err-ready-clause-taken : goal.returns-in_err-ready-clause-taken
+returns-in_err-ready-clause-taken g c =
+    let old = g.D.Desk.outside c.args.desk.now in
+    let new = g.D.Desk.outside c.ready.new.desk in
+    handed_on (λ r. OnErr r (TookForWritten old new)) c.from_residual-in_err-ready.result c.in_err-ready.field-0.0 c.from_residual-in_err-ready.ensures.1
+    (took_prepared c.in_ok-merge.gate c.in_ok-merge.merge (first_starts (names_of c.args.names)) (g.D.Desk.outside c.args.desk.now) (g.D.Desk.outside c.prepare.new.desk) (g.D.Desk.outside c.ready.new.desk) c.in_ok-merge.ensures.answer c.ready.ensures.left)
+
+pub returns-clause-taken : goal.returns-clause-taken
+returns-clause-taken g c =
+    let old = g.D.Desk.outside c.args.desk.now in
+    let mid = g.D.Desk.outside c.prepare.new.desk in
+    let new = g.D.Desk.outside c.ready.new.desk in
+    let ready = subst (λ s. Readied s (output_starts (names_of c.args.names)) mid new) c.settings.ensures c.in_ok-ready.ensures.answer in
+    took_forwards c.forward.result c.in_ok-merge.gate c.in_ok-merge.merge (names_of c.args.names) old mid new (g.D.Desk.outside c.forward.new.desk) c.in_ok-merge.ensures.answer ready c.forward.ensures.taken
