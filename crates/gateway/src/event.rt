@@ -131,10 +131,7 @@ pub fn handle<D: Desk>(
     };
     let frames = outbox.len() as u32;
     let settings = gate.settings();
-    match send_all(desk, settings, event.side.other(), event.moment, outbox) {
-        Ok(()) => {}
-        Err(status) => return Err(status),
-    }
+    send_all(desk, settings, event.side.other(), event.moment, outbox)?;
     let line = Line::Event {
         number: totals.events + 1,
         side: event.side,
@@ -142,10 +139,7 @@ pub fn handle<D: Desk>(
         verdict,
         frames,
     };
-    match put_line(alloc, desk, room, settings.json, &line) {
-        Ok(()) => {}
-        Err(status) => return Err(status),
-    }
+    put_line(alloc, desk, room, settings.json, &line)?;
     *totals = count(*totals, event.side, verdict, frames);
     Ok(())
 }

@@ -28,10 +28,8 @@ fn finish<D: Desk>(
     requires room { length room.old ≡ LINE }
     ensures { Finishes result json line (D.outside desk.old) (D.outside desk.new) }
 {
-    match put_line(alloc, desk, room, json, &line) {
-        Ok(()) => Ok(line),
-        Err(status) => Err(status),
-    }
+    put_line(alloc, desk, room, json, &line)?;
+    Ok(line)
 }
 
 /// Takes the events of both captures: the frames and the line of each are written before the next record is read. It answers
