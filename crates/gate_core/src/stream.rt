@@ -423,7 +423,6 @@ fn hold_of(connections: &SessionTable<TrackedSession>, way: &Way, key: &ConnKey,
     connections.hold_of(key, way.side, flags)
 }
 
-/// Why the session of a connection refuses a segment, if it does; None where the connection has no session.
 /// Why a session refuses a segment, if it does.
 fn session_verdict(tracked: &TrackedSession, way: &Way, segment: &Segment<'_>) -> Option<Refusal>
     requires { segment.now.tcp.now ≡ tcp_of segment.now.datagram.now }
