@@ -13,3 +13,4 @@ pub mod Once
 pub mod Places
 pub mod Back
 pub mod Rows
+pub mod SeenAfter

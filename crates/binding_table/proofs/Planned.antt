@@ -77,7 +77,7 @@ same_follows table later side address follows = ap (λ (blocks : List Block). no
 pool_follows : (table later : Bindings) (side : Side) (address : Addr) → Follows table side later → in_pool later side address ≡ in_pool table side address
 pool_follows table later side address follows = ap (λ (range : Range). is_in address range) (range_follows table later side follows side)
 
-cross_follows : (table later : Bindings) (side : Side) (address : Addr) → Follows table side later → cross later side address ≡ crossed (is_same table address) (in_pool table side address) (host_of side address table.entries) (pool_of later (other side)) (alias_of side address later.entries)
+pub cross_follows : (table later : Bindings) (side : Side) (address : Addr) → Follows table side later → cross later side address ≡ crossed (is_same table address) (in_pool table side address) (host_of side address table.entries) (pool_of later (other side)) (alias_of side address later.entries)
 cross_follows table later side address follows =
     cross_is later side address ∙ same_crossed _ _ _ _ _ _ (pool_of later (other side)) (pool_of later (other side)) (alias_of side address later.entries) (alias_of side address later.entries) (same_follows table later side address follows) (pool_follows table later side address follows) (follows.hosts address) refl refl
 
@@ -97,7 +97,7 @@ found_push view test (one ∷ rest) binding = elim (cases_Bool (test one)) [
   | inr fails ↦ rw fails (found_push view test rest binding)
 ]
 
-alias_map : (f : Binding → Binding) → ((binding : Binding) → IsSamePair (f binding) binding) → (side : Side) (address : Addr) (entries : List Binding) → alias_of side address (map f entries) ≡ alias_of side address entries
+pub alias_map : (f : Binding → Binding) → ((binding : Binding) → IsSamePair (f binding) binding) → (side : Side) (address : Addr) (entries : List Binding) → alias_of side address (map f entries) ≡ alias_of side address entries
 alias_map f same side address = found_map (λ binding. binding.alias) (is_of_host side address.0) f (λ binding. same_aliasing (f binding).side binding.side side (f binding).host binding.host address.0 (same binding).side (same binding).host) (λ binding. (same binding).alias)
 
 pub extended_follows : (table : Bindings) (side : Side) (address : Addr) (until : Moment) → Follows table side (extended table side address until)
@@ -281,7 +281,7 @@ planned_extended table later side earlier rest given address until p =
 
 -- ## The next address
 
-or_none : (found : Option Addr) → option_or found None ≡ found
+pub or_none : (found : Option Addr) → option_or found None ≡ found
 or_none None = refl
 or_none (Some one) = refl
 
@@ -289,7 +289,7 @@ not_other_side : (side : Side) → same_side side (other side) ≡ false
 not_other_side Left = refl
 not_other_side Right = refl
 
-alias_push : (side : Side) (address : Addr) (entries : List Binding) (binding : Binding) → alias_of side address (entries ++ binding ∷ []) ≡ option_or (alias_of side address entries) (if is_of_host side address.0 binding then Some binding.alias else None)
+pub alias_push : (side : Side) (address : Addr) (entries : List Binding) (binding : Binding) → alias_of side address (entries ++ binding ∷ []) ≡ option_or (alias_of side address entries) (if is_of_host side address.0 binding then Some binding.alias else None)
 alias_push side address = found_push (λ binding. binding.alias) (is_of_host side address.0)
 
 push_follows : (table : Bindings) (binding : Binding) → Follows table binding.side (with_binding table binding)
@@ -301,7 +301,7 @@ push_follows table binding = record {
   kept = λ one alias h. alias_push binding.side one table.entries binding ∙ rw h refl;
 }
 
-used_by_follows : (table : Bindings) (side : Side) (address : Addr) (until : Moment) (crossing : Crossing) → Follows table side (used_by table side address until crossing)
+pub used_by_follows : (table : Bindings) (side : Side) (address : Addr) (until : Moment) (crossing : Crossing) → Follows table side (used_by table side address until crossing)
 used_by_follows table side address until (Known image) = extended_follows table side address until
 used_by_follows table side address until (New alias) = push_follows table (record { side = side; host = address; alias = alias; until = until; fixed = false })
 used_by_follows table side address until Same = record { same = refl; left = refl; right = refl; hosts = λ one. refl; kept = λ one alias h. h }

@@ -5,6 +5,7 @@ use Rattle.gate_base.specs.Address.{is_unicast_number}
 use Rattle.gate_base.specs.Side.{other, same_side}
 use Rattle.gate_base.specs.declared.address.Addr.{Addr}
 use Rattle.gate_base.specs.declared.event.Moment.{Moment}
+use Rattle.gate_base.specs.declared.rule.OidRule.{OidRule}
 use Rattle.gate_base.specs.declared.side.Side.{Side}
 use Rattle.gate_base.specs.declared.side.Side.TheVariants.{Left, Right}
 use Rattle.gate_settings.specs.Cross.{is_in_same}
@@ -17,11 +18,12 @@ use Rattle.binding_table.specs.declared.binding.Binding.{Binding}
 use Rattle.binding_table.specs.declared.binding.Crossing.{Crossing}
 use Rattle.binding_table.specs.declared.binding.Crossing.TheVariants.{Same, Known, New, Unbound, Empty}
 
--- the blocks whose addresses mean the same host in both realms, both pools, and the bindings in their order
+-- the blocks whose addresses mean the same host in both realms, both pools, where object identifiers hold addresses, and the bindings in their order
 pub record Bindings : Type 0 where
   pub same : List Block
   pub left : Range
   pub right : Range
+  pub oids : List OidRule
   pub entries : List Binding
 
 -- ## The opening table
@@ -40,6 +42,7 @@ without_bindings settings = record {
   same = settings.same;
   left = range_of_settings settings.left;
   right = range_of_settings settings.right;
+  oids = settings.oids;
   entries = [];
 }
 

@@ -77,10 +77,6 @@ filed binding = record { key = number_of binding.side binding.host.0; end = if b
 abbrev pub lasts : Moment → Binding → Bool
 lasts until binding = binding.fixed || nat_le until.0 binding.until.0
 
--- a binding that stands behind a place
-abbrev pub second : ℕ × Binding → Binding
-second located = located.1
-
 abbrev pub entries_in : List (Row Binding) → List Binding
 entries_in rows = map (λ row. row.value) rows
 

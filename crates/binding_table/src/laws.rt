@@ -1,10 +1,11 @@
 // What is true of every table.
-ghost use Rattle.std.specs.Prelude.{◌≡◌, ◌≢◌, ◌≤◌, ℕ, List, All, IsSome};
+ghost use Rattle.std.specs.Prelude.{◌≡◌, ◌≢◌, ◌≤◌, ◌==◌, ◌⊎◌, true, false, ℕ, List, All, IsSome};
 ghost use Rattle.gate_base.specs.Side.{other};
-ghost use Rattle.binding_table.specs.Bindings.{Bindings, cross, free, seen};
+ghost use Rattle.gate_base.specs.declared.address.Addr.{Addr};
+ghost use Rattle.binding_table.specs.Bindings.{Bindings, cross, free, is_settled, seen};
 ghost use Rattle.binding_table.specs.Lasting.{IsKnownAs};
 ghost use Rattle.binding_table.specs.Lawful.{IsLawful};
-ghost use Rattle.binding_table.specs.Plan.{Use, AreUsesOf, after_uses, needed};
+ghost use Rattle.binding_table.specs.Plan.{Use, AreUsesOf, after_uses, needed, used};
 
 use crate::binding::Crossing;
 use crate::table::Table;
@@ -40,4 +41,10 @@ pub fn sees_used(table: &Table, side: Side, addresses: &[Addr])
 /// No use of addresses of either realm changes what a host is called, or shortens the time for which it is bound.
 pub fn keeps_known()
     ensures { (table : Bindings) (uses : List Use) (side : Side) (host alias until : ℕ) → IsKnownAs table side host alias until → IsKnownAs (after_uses table uses) side host alias until }
+{}
+
+/// The use of an address that is called something already, or of another one, changes nothing of what an address of its realm is
+/// called.
+pub fn keeps_others()
+    ensures { (table : Bindings) (one : Use) (address : Addr) → (is_settled (cross table one.side one.address) ≡ true) ⊎ ((one.address.0 == address.0) ≡ false) → seen (used table one) one.side address ≡ seen table one.side address }
 {}

@@ -10,7 +10,7 @@ mod table;
 
 pub use binding::Crossing;
 pub use firsts::Firsts;
-pub use laws::{crosses_back, keeps_apart, keeps_known, sees_used};
+pub use laws::{crosses_back, keeps_apart, keeps_known, keeps_others, sees_used};
 pub use table::Table;
 
 #[cfg(test)]

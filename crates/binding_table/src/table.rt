@@ -1,7 +1,7 @@
 // The table of bindings.
 ghost use Rattle.std.specs.Prelude.{◌≡◌, true, false, Some, None, map, option_map, length, IfOk, IsTrue};
 ghost use Rattle.std.specs.List.{find, filter};
-ghost use Rattle.binding_table.specs.Steps.{aliases_of, aliases_with, changed, entries_in, filed, second, AreKept, CanHold};
+ghost use Rattle.binding_table.specs.Steps.{aliases_of, aliases_with, changed, entries_in, filed, AreKept, CanHold};
 ghost use Rattle.binding_table.specs.Bindings as tables;
 ghost use Rattle.binding_table.specs.Lawful.{IsLawful};
 ghost use Rattle.gate_settings.specs.Cross.{is_in_same};
@@ -12,8 +12,8 @@ ghost use Rattle.realm_pools.specs.Addresses.{is_free, is_taken};
 use crate::aliases::Aliases;
 use crate::binding::{Binding, Crossing, number_of};
 use expiring_table::{Rows, Seed};
-use gate_base::{Addr, Moment, OutOfMemory, Side, is_unicast};
-use gate_settings::{Block, Blocks, Settings};
+use gate_base::{Addr, Moment, OidRule, OutOfMemory, Side, is_unicast};
+use gate_settings::{Block, Blocks, OidRules, Settings};
 use realm_pools::Pool;
 use std::alloc::Global;
 use std::marker::Model;
@@ -26,6 +26,7 @@ pub struct Table {
     left: Aliases,
     right: Aliases,
     bindings: Rows<Binding>,
+    oids: OidRules,
 }
 
 impl Model for Table {
@@ -73,7 +74,15 @@ impl Table {
             left,
             right,
             bindings: Rows::make(alloc, room, seed)?,
+            oids: settings.oids.copy(alloc)?,
         })
+    }
+
+    /// Where object identifiers hold addresses.
+    pub fn oids(&self) -> &[OidRule]
+        ensures { result.now ≡ self.now.oids }
+    {
+        self.oids.items()
     }
 
     /// Spreads the hosts by another seed.
@@ -129,18 +138,20 @@ impl Table {
     }
 
     // The binding of a host of the realm, and where its row is kept.
-    fn binding_of(&self, side: Side, host: Addr) -> Option<(usize, Binding)>
-        ensures { option_map second result ≡ find (tables.is_of_host side host.0) self.now.entries }
+    #[inline(always)]
+    fn binding_of(&self, side: Side, host: Addr) -> Option<(usize, &Binding)>
+        ensures { option_map (λ found. found.1.now) result ≡ find (tables.is_of_host side host.0) self.now.entries }
     {
         match self.bindings.locate(number_of(side, host)) {
-            Some((place, row)) => Some((place, row.value)),
+            Some((place, row)) => Some((place, &row.value)),
             None => None,
         }
     }
 
     // The binding through which an address of the realm crosses, and where its row is kept.
-    fn binding_through(&self, side: Side, address: Addr) -> Option<(usize, Binding)>
-        ensures { option_map second result ≡ find (tables.is_through (tables.in_pool self.now side address) side address) self.now.entries }
+    #[inline(always)]
+    fn binding_through(&self, side: Side, address: Addr) -> Option<(usize, &Binding)>
+        ensures { option_map (λ found. found.1.now) result ≡ find (tables.is_through (tables.in_pool self.now side address) side address) self.now.entries }
     {
         if self.pool(side).contains(address) {
             let host = self.host_of(side, address)?;
@@ -214,6 +225,7 @@ impl Table {
     }
 
     /// Lets the binding through which an address crosses live at least until a moment. A fixed one stays as it is.
+    #[inline(always)]
     pub fn extend(&mut self, side: Side, address: Addr, until: Moment)
         requires { tables.IsKnown (tables.cross self.old side address) }
         ensures { self.new ≡ tables.extended self.old side address until }
@@ -224,7 +236,8 @@ impl Table {
         if binding.lasts(until) {
             return;
         }
-        self.bindings.set_at(place, binding.lasting(until).filed());
+        let row = binding.lasting(until).filed();
+        self.bindings.set_at(place, row);
     }
 
     /// Drops the bindings that don't live, and makes their aliases free, without a walk over the others.

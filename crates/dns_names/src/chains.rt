@@ -27,10 +27,16 @@ fn next_end(message: &[u8], ends: &[u16], place: usize) -> usize
     }
 }
 
-/// The ends of the chains that begin where a pointer can lead.
+/// The least number of octets of a message whose chains are looked at beforehand. In a shorter one they can't be long.
+const LONG: usize = 128;
+
+/// The ends of the chains that begin where a pointer can lead, or none of a short message, whose chains are walked as they stand.
 pub fn ends_of(alloc: Global, message: &[u8]) -> Result<Vec<u16>, AllocError>
     ensures { IfOk result (λ ends. AreEnds message.now ends.items) }
 {
+    if message.len() < LONG {
+        return Ok(Vec::new(alloc));
+    }
     let count = message.len().min(16_384);
     let mut ends: Vec<u16> = Vec::with_capacity(alloc, count)?;
     for place in 0..count {

@@ -51,6 +51,9 @@ impl Name {
     }
 }
 
+/// The room that a name is begun with, in octets: most names have fewer.
+const ROOM: usize = 32;
+
 /// The name at a place of a message, some chains of pointers of which are taken in one step.
 pub(crate) fn walk(
     alloc: Global,
@@ -62,7 +65,7 @@ pub(crate) fn walk(
     ensures found { IfOk result (λ x. NameAt message.now place x.0 x.1) }
     ensures none { result ≡ Err NameStop.BadDns → (labels : List (List ℕ)) (after : ℕ) → NameAt message.now place labels after → ⊥ }
 {
-    let mut octets = Vec::new(alloc);
+    let mut octets = Vec::with_capacity(alloc, ROOM)?;
     let mut start = place;
     let mut at = place;
     let mut after: Option<usize> = None;

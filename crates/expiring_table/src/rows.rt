@@ -81,6 +81,7 @@ impl<T: Copy> Rows<T> {
 
     /// Puts a row in the place of the one with its key, which is there. It is looked for at a place first, that at which it was
     /// located; any will do.
+    #[inline(never)]
     pub fn set_at(&mut self, place: usize, row: Row<T>)
         requires { IsSome (row_of row.key self.old.rows) }
         ensures { self.new ≡ record self.old { rows = with_row row self.old.rows } }

@@ -14,3 +14,4 @@ pub mod CutLemmas
 pub mod Found
 pub mod CutSteps
 pub mod Rows
+pub mod ArrivalSteps

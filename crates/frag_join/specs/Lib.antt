@@ -6,3 +6,4 @@ pub mod Cuts
 pub mod Held
 pub mod Inside
 pub mod Kept
+pub mod Arrivals

@@ -2,6 +2,8 @@
 ghost use Rattle.std.specs.Prelude.{◌≡◌, ◌∷◌, List};
 ghost use Rattle.gate_base.specs.Events.{Event};
 ghost use Rattle.frag_join.specs.Fragments.{Fragment};
+ghost use Rattle.std.specs.Prelude.{Bool, false};
+ghost use Rattle.frag_join.specs.Arrivals.{ArrivalsAre, arrivals_of, coming};
 ghost use Rattle.frag_join.specs.Cuts.{Original, Arrives, Completes};
 ghost use Rattle.frag_join.specs.Joining.{State, empty, by_list, by_known, step, after, state_known};
 
@@ -20,4 +22,11 @@ pub fn known_state_suffices()
 pub fn cuts_are_joined()
     ensures over_lists { (d : Original) (state : State (List Fragment)) (first last : Event) (more : List Event) → Arrives d state first more last → Completes d last (step by_list (after by_list state (first ∷ more)) last) }
     ensures by_what_is_known { (d : Original) (state : State (List Fragment)) (first last : Event) (more : List Event) → Arrives d state first more last → Completes d last (step by_known (after by_known (state_known state) (first ∷ more)) last) }
+{}
+
+/// What becomes of frames before the gate: each in its order, by what is held of datagrams after those before it. Where
+/// fragments are refused, each comes to the gate as it is.
+pub fn frames_arrive()
+    ensures arrive { (join : Bool) (events : List Event) → ArrivalsAre join events }
+    ensures refused { (events : List Event) → coming (arrivals_of false events) ≡ events }
 {}

@@ -10,7 +10,7 @@ mod taken;
 mod whole;
 
 pub use joiner::Joiner;
-pub use laws::{cuts_are_joined, known_state_suffices};
+pub use laws::{cuts_are_joined, frames_arrive, known_state_suffices};
 pub use taken::Taken;
 
 #[cfg(test)]

@@ -1,9 +1,9 @@
 -- The names of verdicts in a report.
 use Rattle.std.specs.Prelude.{ℕ, List, codes}
 use Rattle.gate_base.specs.declared.event.Verdict.{Verdict}
-use Rattle.gate_base.specs.declared.event.Verdict.TheVariants.{Pass, Refused}
+use Rattle.gate_base.specs.declared.event.Verdict.TheVariants.{Pass, Refused, Held}
 use Rattle.gate_base.specs.declared.refusal.Refusal.{Refusal}
-use Rattle.gate_base.specs.declared.refusal.Refusal.TheVariants.{Snapped, NotIpv4, BadHeader, BadHeaderSum, Fragment, IpOptions, BadFragment, FragmentsFull, TtlSpent, NotUnicast, Protocol, BadTransport, BadSum, SourceInPool, NoBinding, BadInner, InnerUnbound, BadDns, DnsUnbound, BadSnmp, DnsStream, NoSession, SynData, SynInSession, NoAck, Gap, PastEnd, AckAhead, Unlike, StreamLimit, Backlog, SessionsFull, PoolEmpty}
+use Rattle.gate_base.specs.declared.refusal.Refusal.TheVariants.{Snapped, NotIpv4, BadHeader, BadHeaderSum, Fragment, IpOptions, BadFragment, FragmentsFull, TtlSpent, NotUnicast, Protocol, BadTransport, BadSum, SourceInPool, NoBinding, BadInner, InnerUnbound, BadDns, DnsUnbound, BadSnmp, DnsStream, NoSession, SynData, SynInSession, NoAck, Gap, PastEnd, AckAhead, Unlike, StreamLimit, Backlog, SessionsFull, PoolEmpty, SnmpTooLong}
 
 -- the refusal's name
 unfoldable pub name_of : Refusal → List ℕ
@@ -40,8 +40,10 @@ name_of StreamLimit = codes "StreamLimit"
 name_of Backlog = codes "Backlog"
 name_of SessionsFull = codes "SessionsFull"
 name_of PoolEmpty = codes "PoolEmpty"
+name_of SnmpTooLong = codes "SnmpTooLong"
 
--- `pass`, or the refusal's name
+-- `pass`, `held`, or the refusal's name
 abbrev pub verdict_name : Verdict → List ℕ
 verdict_name Pass = codes "pass"
 verdict_name (Refused refusal) = name_of refusal
+verdict_name Held = codes "held"

@@ -69,6 +69,8 @@ pub enum Refusal {
     SessionsFull,
     /// The other realm's pool has too few free addresses.
     PoolEmpty,
+    /// The SNMP message would be longer than a datagram holds, with the addresses in it renamed.
+    SnmpTooLong,
 }
 
 impl Refusal {
@@ -113,6 +115,7 @@ impl Refusal {
             Refusal::Backlog => "Backlog",
             Refusal::SessionsFull => "SessionsFull",
             Refusal::PoolEmpty => "PoolEmpty",
+            Refusal::SnmpTooLong => "SnmpTooLong",
         }
     }
 }

@@ -1,5 +1,7 @@
-ghost use Rattle.std.specs.Prelude.{◌≡◌};
+ghost use Rattle.std.specs.Prelude.{◌≡◌, IfOk};
 
+use crate::OutOfMemory;
+use std::alloc::Global;
 use std::marker::Model;
 
 /// The arcs of an object identifier, from the root on (X.690, 8.19).
@@ -30,6 +32,13 @@ impl Arcs {
     {
         &self.items
     }
+
+    /// The same arcs once more.
+    pub fn copy(&self, alloc: Global) -> Result<Arcs, OutOfMemory>
+        ensures { IfOk result (λ copy. copy ≡ self.now) }
+    {
+        Ok(Arcs::of(Vec::from_slice(alloc, self.items())?))
+    }
 }
 
 /// Where object identifiers hold an address: after these arcs and as many more as are skipped, as four arcs of at most
@@ -40,4 +49,16 @@ pub struct OidRule {
     pub prefix: Arcs,
     /// How many arcs stand between them and the address, at most 127.
     pub skip: u32,
+}
+
+impl OidRule {
+    /// The same rule once more.
+    pub fn copy(&self, alloc: Global) -> Result<OidRule, OutOfMemory>
+        ensures { IfOk result (λ copy. copy ≡ self.now) }
+    {
+        Ok(OidRule {
+            prefix: self.prefix.copy(alloc)?,
+            skip: self.skip,
+        })
+    }
 }

@@ -141,7 +141,7 @@ some_session None t e = absurd (cc)
 some_session (Some c) t e = refl
 
 -- the session passes it, and the source has an alias
-passes : (live : World KeptSession) (side : Side) (d : Datagram) (way : Way) (taker : Option (Tracked KeptSession)) (full : Bool) → IsWayOf live side d way → IsJoined live side d taker full → session_refusal kept_rules side d taker ≡ None → full ≡ false → is_empty way.of_source ≡ false → None ≡ stream_refusal live side d
+pub passes : (live : World KeptSession) (side : Side) (d : Datagram) (way : Way) (taker : Option (Tracked KeptSession)) (full : Bool) → IsWayOf live side d way → IsJoined live side d taker full → session_refusal kept_rules side d taker ≡ None → full ≡ false → is_empty way.of_source ≡ false → None ≡ stream_refusal live side d
 passes live side d way taker full w j verdict few room =
     sym (
     ap (λ (r : Option Refusal). option_or r (first_that_holds (room_tests full (is_empty way.of_source)))) verdict
@@ -240,11 +240,11 @@ session_begins way table connections pending d waiting full table_new connection
 
 -- ## Where memory runs out
 
-pub lost_in_session : (live : World KeptSession) (side : Side) (d : Datagram) (t : Tracked KeptSession) (after : World KeptSession) (sent : List (List ℕ)) → session_in (found_in live side d) ≡ Some t → CompletesIn side d t → after ≡ live → sent ≡ [] → IsSegmentLost live side d after sent
-lost_in_session live side d t after sent e h same nothing = record { same = same; nothing = nothing; wants = inr (record { tracked = t; found = e; completes = h }) }
+pub lost_in_session : (live : World KeptSession) (side : Side) (d : Datagram) (t : Tracked KeptSession) (after : World KeptSession) (sent : List (List ℕ)) → session_in (found_in live side d) ≡ Some t → CompletesIn side d t → None ≡ stream_refusal live side d → after ≡ live → sent ≡ [] → IsSegmentLost live side d after sent
+lost_in_session live side d t after sent e h p same nothing = record { same = same; nothing = nothing; wants = record { passes = sym p; needs = inr (record { tracked = t; found = e; completes = h }) } }
 
-pub lost_at_first : (live : World KeptSession) (side : Side) (d : Datagram) (after : World KeptSession) (sent : List (List ℕ)) → begins (found_in live side d) d ≡ true → after ≡ live → sent ≡ [] → IsSegmentLost live side d after sent
-lost_at_first live side d after sent e same nothing = record { same = same; nothing = nothing; wants = inl e }
+pub lost_at_first : (live : World KeptSession) (side : Side) (d : Datagram) (after : World KeptSession) (sent : List (List ℕ)) → begins (found_in live side d) d ≡ true → None ≡ stream_refusal live side d → after ≡ live → sent ≡ [] → IsSegmentLost live side d after sent
+lost_at_first live side d after sent e p same nothing = record { same = same; nothing = nothing; wants = record { passes = sym p; needs = inl e } }
 
 -- an error that went on
 pub lost_done : (live : World KeptSession) (side : Side) (d : Datagram) (r : Result (Option Refusal) OutOfMemory) (after : World KeptSession) (sent : List (List ℕ)) → IsErr r → IsSegmentLost live side d after sent → IsSegmentDone live side d r after sent

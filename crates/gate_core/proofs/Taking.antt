@@ -14,7 +14,7 @@ use Rattle.ipv4_frames.specs.Ipv4.{Datagram}
 use Rattle.gate_base.specs.Tests.{first_that_holds}
 use Rattle.gate_world.specs.Frame.{Kind, Udp, Echo, Error, Dns, Snmp, Stream, udp_kind, icmp_kind, kind_of}
 use Rattle.gate_world.specs.Step.{after_kind, out_kind}
-use Rattle.gate_world.specs.Verdict.{is_reachable, address_tests, kind_tests, is_pool_empty, world_tests, table_after}
+use Rattle.gate_world.specs.Verdict.{is_reachable, address_tests, kind_tests, late_tests, is_pool_empty, world_tests, table_after}
 use Rattle.gate_world.specs.World.{World, source_of, destination_of}
 use Rattle.kept_world.specs.Kept.{KeptSession, kept_rules}
 use Rattle.gate_payloads.specs.Taken.{IsTaken, IsWayOf}
@@ -71,7 +71,7 @@ pub is_left : (live : World KeptSession) (side : Side) (d : Datagram) (k : Kind)
 is_left live side d k r table sent kind leaves none t = record {
   refusal =
       t.answer
-      ∙ sym (first-append (address_tests live.table side d) (kind_tests kept_rules live side live.clock d k ++ (is_pool_empty live.table side d k, PoolEmpty) ∷ []) ∙ ap (λ (o : Option Refusal). option_or o (first_that_holds (kind_tests kept_rules live side live.clock d k ++ (is_pool_empty live.table side d k, PoolEmpty) ∷ []))) none)
+      ∙ sym (first-append (address_tests live.table side d) (kind_tests kept_rules live side live.clock d k ++ (is_pool_empty live.table side d k, PoolEmpty) ∷ late_tests kept_rules live side live.clock d k) ∙ ap (λ (o : Option Refusal). option_or o (first_that_holds (kind_tests kept_rules live side live.clock d k ++ (is_pool_empty live.table side d k, PoolEmpty) ∷ late_tests kept_rules live side live.clock d k))) none)
       ∙ ap (λ (x : Kind). first_that_holds (world_tests kept_rules live side live.clock d x)) (sym kind);
   left = ap (λ (x : Bindings). let w : World KeptSession = record live { table = x } in w) t.bound ∙ by_refusal r;
   gone = t.gone ∙ sent_too r;
@@ -100,7 +100,7 @@ way_is live side d moment w s t f g e =
 -- a refusal by the addresses
 pub refused_way : (live : World KeptSession) (side : Side) (d : Datagram) (r : Refusal) → first_that_holds (address_tests live.table side d) ≡ Some r → Some r ≡ first_that_holds (world_tests kept_rules live side live.clock d (kind_of d))
 refused_way live side d r e =
-    let rest = kind_tests kept_rules live side live.clock d (kind_of d) ++ (is_pool_empty live.table side d (kind_of d), PoolEmpty) ∷ [] in
+    let rest = kind_tests kept_rules live side live.clock d (kind_of d) ++ (is_pool_empty live.table side d (kind_of d), PoolEmpty) ∷ late_tests kept_rules live side live.clock d (kind_of d) in
     sym (first-append (address_tests live.table side d) rest ∙ ap (λ (o : Option Refusal). option_or o (first_that_holds rest)) e)
 
 -- ## By what is carried
@@ -145,9 +145,9 @@ of_left live side d (Err e) table sent h = (h, h, h)
 -- ## Segments
 
 pub tcp_refusal : (live : World KeptSession) (side : Side) (d : Datagram) (res : Result (Option Refusal) OutOfMemory) → d.protocol ≡ 6 → first_that_holds (address_tests live.table side d) ≡ None
-    → IfOk res (λ r. r ≡ first_that_holds (kind_tests kept_rules live side live.clock d Stream ++ (is_pool_empty live.table side d Stream, PoolEmpty) ∷ [])) → IfOk res (λ r. r ≡ first_that_holds (world_tests kept_rules live side live.clock d (kind_of d)))
+    → IfOk res (λ r. r ≡ first_that_holds (kind_tests kept_rules live side live.clock d Stream ++ (is_pool_empty live.table side d Stream, PoolEmpty) ∷ late_tests kept_rules live side live.clock d Stream)) → IfOk res (λ r. r ≡ first_that_holds (world_tests kept_rules live side live.clock d (kind_of d)))
 tcp_refusal live side d res p none h = on_ok res (λ r e. e
-    ∙ sym (first-append (address_tests live.table side d) (kind_tests kept_rules live side live.clock d Stream ++ (is_pool_empty live.table side d Stream, PoolEmpty) ∷ []) ∙ ap (λ (o : Option Refusal). option_or o (first_that_holds (kind_tests kept_rules live side live.clock d Stream ++ (is_pool_empty live.table side d Stream, PoolEmpty) ∷ []))) none)
+    ∙ sym (first-append (address_tests live.table side d) (kind_tests kept_rules live side live.clock d Stream ++ (is_pool_empty live.table side d Stream, PoolEmpty) ∷ late_tests kept_rules live side live.clock d Stream) ∙ ap (λ (o : Option Refusal). option_or o (first_that_holds (kind_tests kept_rules live side live.clock d Stream ++ (is_pool_empty live.table side d Stream, PoolEmpty) ∷ late_tests kept_rules live side live.clock d Stream))) none)
     ∙ ap (λ (x : Kind). first_that_holds (world_tests kept_rules live side live.clock d x)) (sym (tcp_is d p))) h
 
 pub tcp_left : (live world : World KeptSession) (side : Side) (d : Datagram) (res : Result (Option Refusal) OutOfMemory) → d.protocol ≡ 6 → IfOk res (λ r. world ≡ stream_left r live side d) → IfOk res (λ r. world ≡ left_by r live side d)

@@ -257,7 +257,16 @@ fn take(
         return Ok(Some(refusal));
     }
     match &frame.content {
-        Content::Udp(view) => take_udp(alloc, table, firsts, &way, frame.octets, view, outbox),
+        Content::Udp(view) => take_udp(
+            alloc,
+            table,
+            firsts,
+            scratch,
+            &way,
+            frame.octets,
+            view,
+            outbox,
+        ),
         Content::Icmp(view) => Ok(take_icmp(table, connections, &way, frame.octets, view, outbox)),
         Content::Tcp(view) => take_segment(
             alloc,
@@ -281,6 +290,7 @@ fn take_udp(
     alloc: Global,
     table: &mut Table,
     firsts: &mut Firsts,
+    scratch: &mut Vec<u8>,
     way: &Way,
     octets: &[u8],
     view: &UdpView<'_>,
@@ -295,16 +305,20 @@ fn take_udp(
     requires can { CanGoOn octets.now }
     requires view { view.now ≡ udp_fields_of (datagram_of octets.now).payload }
     requires protocol { (datagram_of octets.now).protocol ≡ 17 }
+    requires scratch { scratch.old.items ≡ [] }
+    requires places { 262144 ≤ vec_capacity scratch.old }
     ensures taken { (live : World KeptSession) → live.table ≡ table.old → IsWayOf live way.now.side (datagram_of octets.now) way.now → IfOk result (λ r. IsTaken live way.now.side (datagram_of octets.now) (kinds.udp_kind (datagram_of octets.now)) r table.new outbox.new) }
     ensures memory { OnErr result ((table.new ≡ table.old) × (outbox.new ≡ [])) }
     ensures wants { OnErr result (kinds.udp_kind (datagram_of octets.now) ≡ kinds.Dns) }
+    ensures scratch { scratch.new.items ≡ [] }
+    ensures places { vec_capacity scratch.old ≤ vec_capacity scratch.new }
 {
     let ports = view.ports();
     if has_port(ports, DNS_PORT) {
         return take_names(alloc, table, firsts, way, octets, view.payload(), outbox);
     }
     if has_port(ports, SNMP_PORT) || has_port(ports, TRAP_PORT) {
-        return Ok(take_management(table, way, octets, view.payload(), outbox));
+        return Ok(take_management(table, way, octets, view.payload(), scratch, outbox));
     }
     Ok(take_plain(table, way, UDP_HOLD, octets, outbox))
 }

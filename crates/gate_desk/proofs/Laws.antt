@@ -128,6 +128,16 @@ up_to_end s xs m wanted a b e le t h k =
     let there : told_at b.left s ≡ option_map (drop (length xs)) (told_at a.left s) = ap (λ (o : Told). told_at o s) t.left ∙ told_at-took s m a.left ∙ ap (λ (n : ℕ). option_map (drop n) (told_at a.left s)) (sym e) in
     up_to_end-of xs wanted (told_at a.left s) (omega arith) h (subst (λ o. IfSome o (λ all. length all ≡ 0)) there k)
 
+up_to_on-of : (xs ys : List ℕ) (k : ℕ) (o : Option (List ℕ)) → IfSome o (λ all. take (length xs) all ≡ xs) → IfSome (option_map (drop (length xs)) o) (λ all. ys ≡ take k all) → IfSome o (λ all. xs ++ ys ≡ take (length xs + k) all)
+up_to_on-of xs ys k None h e = tt
+up_to_on-of xs ys k (Some all) h e = sym (take-add (length xs) k all ∙ ap (λ (zs : List ℕ). zs ++ take k (drop (length xs) all)) h ∙ ap (λ (zs : List ℕ). xs ++ zs) (sym e))
+
+-- the next octets, and then as many as wanted or else all that are left
+pub up_to_on : (s : Slot) (xs ys : List ℕ) (m k : ℕ) (a b : Outside) → length xs ≡ m → Takes s m a b → AreNext xs a s → AreUpTo k ys b s → AreUpTo (m + k) (xs ++ ys) a s
+up_to_on s xs ys m k a b e t h f =
+    let there : told_at b.left s ≡ option_map (drop (length xs)) (told_at a.left s) = ap (λ (o : Told). told_at o s) t.left ∙ told_at-took s m a.left ∙ ap (λ (n : ℕ). option_map (drop n) (told_at a.left s)) (sym e) in
+    subst (λ n. AreUpTo (n + k) (xs ++ ys) a s) e (up_to_on-of xs ys k (told_at a.left s) h (subst (λ o. IfSome o (λ all. ys ≡ take k all)) there f))
+
 -- a buffer after more was read into it
 pub buffer_on : (xs ys : List ℕ) (a n : ℕ) → a ≤ length xs → n ≤ length ys → take (a + n) (put_mid a (length xs - a) xs ys) ≡ take a xs ++ take n ys
 buffer_on xs ys a n le fits =

@@ -1,5 +1,6 @@
 -- What is gathered for the slots of a desk over files, before it is written out.
-use Rattle.std.specs.Prelude.{◌≡◌, ◌⊎◌, ℕ, List, [], ◌++◌}
+use Rattle.std.specs.Io.KnownBytes.{Appends}
+use Rattle.std.specs.Prelude.{◌≡◌, ◌⊎◌, ℕ, List, [], ◌++◌, Option}
 use Rattle.gate_desk.specs.declared.gathered.Gathering.{Gathering}
 use Rattle.gate_desk.specs.declared.gathered.Gathering.TheVariants.{Gathered, NoRoom, Refused}
 use Rattle.gate_desk.specs.declared.place.Place.{Place}
@@ -20,6 +21,14 @@ abbrev pub waiting : {F A : Type 0} → Place F A → List ℕ
 waiting (Output file octets) = octets
 waiting (StandardOutput octets) = octets
 waiting _ = []
+
+-- what waits at a place for a file is what the file gets, where it tells what it holds
+abbrev pub HandsOut : {F A : Type 0} → (F → Option (List ℕ)) → Place F A → Place F A → Type 0
+HandsOut contents (Output old octets) (Output new left) = Appends (contents old) (contents new) octets
+HandsOut contents (Output old octets) _ = ⊥
+HandsOut contents (StandardOutput octets) (StandardOutput left) = Unit {0}
+HandsOut contents (StandardOutput octets) _ = ⊥
+HandsOut contents _ _ = Unit {0}
 
 -- the same of each slot
 abbrev pub waiting_in : {F A : Type 0} → PerSlot (Place F A) → PerSlot (List ℕ)

@@ -1,5 +1,5 @@
 // Octets on their way to a file.
-ghost use Rattle.std.specs.Prelude.{◌≡◌, ◌++◌, [], IfOk, OnOk, OnErr};
+ghost use Rattle.std.specs.Prelude.{◌≡◌, ◌≤◌, ◌++◌, [], take, length, IfOk, OnOk, OnErr};
 ghost use Rattle.std.specs.Io.KnownBytes.{Appends};
 ghost use Rattle.gate_desk.specs.Gathering.{gathered_after};
 
@@ -26,14 +26,18 @@ pub enum Gathering {
 #[derive(Drop)]
 pub struct Gathered<A: Allocator> {
     octets: Vec<u8, A>,
+    // how many of them, from the first on, were taken
+    count: usize,
 }
 
 impl<A: Allocator> Model for Gathered<A> {
-    ghost use Rattle.std.specs.Prelude.{ℕ, List};
+    ghost use Rattle.std.specs.Prelude.{ℕ, List, ◌≤◌, take, length};
 
     ghost Value = { List ℕ };
 
-    ghost view = { λ d. d.octets.items };
+    ghost view = { λ d. take d.count d.octets.items };
+
+    ghost invariant = { λ d. d.count ≤ length d.octets.items };
 }
 
 impl<A: Allocator> Gathered<A> {
@@ -41,8 +45,8 @@ impl<A: Allocator> Gathered<A> {
     pub fn make(alloc: A) -> Result<Gathered<A>, AllocError>
         ensures { IfOk result (λ none. none ≡ []) }
     {
-        let octets = Vec::with_capacity(alloc, GATHER)?;
-        Ok(Gathered { octets })
+        let octets = vec![in alloc; 0; GATHER]?;
+        Ok(Gathered { octets, count: 0 })
     }
 
     /// Takes a whole piece, or nothing of it. A piece that is greater than the room is taken where nothing else is gathered.
@@ -50,14 +54,29 @@ impl<A: Allocator> Gathered<A> {
     pub fn take(&mut self, piece: &[u8]) -> Gathering
         ensures { self.new ≡ gathered_after result piece.now self.old }
     {
-        let room = GATHER.saturating_sub(self.octets.len());
-        if room < piece.len() && !self.octets.is_empty() {
+        if self.octets.len() - self.count < piece.len() {
+            return self.take_alone(piece);
+        }
+        let end = self.count + piece.len();
+        self.octets[self.count..end].copy_from_slice(piece);
+        self.count = end;
+        Gathering::Gathered
+    }
+
+    // The same of a piece for which there is no room behind what is gathered.
+    #[inline(never)]
+    fn take_alone(&mut self, piece: &[u8]) -> Gathering
+        ensures { self.new ≡ gathered_after result piece.now self.old }
+    {
+        if self.count > 0 {
             return Gathering::NoRoom;
         }
-        match self.octets.extend_from_slice(piece) {
-            Ok(()) => Gathering::Gathered,
-            Err(_) => Gathering::Refused,
+        if self.octets.resize(piece.len(), 0).is_err() {
+            return Gathering::Refused;
         }
+        self.octets.copy_from_slice(piece);
+        self.count = piece.len();
+        Gathering::Gathered
     }
 
     /// Writes all of them to a file. After an error they stay, though the file may have got some.
@@ -66,8 +85,9 @@ impl<A: Allocator> Gathered<A> {
         ensures none { OnOk result (self.new ≡ []) }
         ensures err { OnErr result (self.new ≡ self.old) }
     {
-        file.write_all(&self.octets).map_err(|_: io::Error| Failed)?;
-        self.octets.clear();
+        file.write_all(&self.octets[..self.count])
+            .map_err(|_: io::Error| Failed)?;
+        self.count = 0;
         Ok(())
     }
 }

@@ -1,6 +1,6 @@
 // Where a slot of the desk over files leads.
 ghost use Rattle.std.specs.Prelude.{◌≡◌, ◌≤◌, [], length, IfOk, IfSome, OnOk};
-ghost use Rattle.gate_desk.specs.Gathering.{waiting, gathered_after};
+ghost use Rattle.gate_desk.specs.Gathering.{waiting, gathered_after, HandsOut};
 
 use crate::gathered::{Gathered, Gathering};
 use crate::{Failed, Slot, Way};
@@ -48,6 +48,24 @@ pub fn open_place<R: Runtime>(
     }
 }
 
+// Takes all octets that were read ahead, where there are some, but fewer than the buffer holds.
+#[inline(never)]
+fn take_some<F: Read, A: Allocator>(
+    reader: &mut BufReader<F, A>,
+    buffer: &mut [u8],
+) -> Option<usize>
+    ensures fits { IfSome result (λ n. n ≤ length buffer.new) }
+{
+    let ahead = reader.buffer();
+    if ahead.is_empty() {
+        return None;
+    }
+    let n = ahead.len().min(buffer.len());
+    buffer[..n].copy_from_slice(&ahead[..n]);
+    reader.consume(n);
+    Some(n)
+}
+
 impl<F: Read + Drop, A: Allocator> Place<F, A> {
     /// Takes octets that were read ahead, where there are some, so that the system isn't asked.
     #[inline(always)]
@@ -58,11 +76,11 @@ impl<F: Read + Drop, A: Allocator> Place<F, A> {
         match self {
             Place::Input(reader) => {
                 let ahead = reader.buffer();
-                if ahead.is_empty() {
-                    return None;
+                let n = buffer.len();
+                if ahead.len() < n {
+                    return take_some(reader, buffer);
                 }
-                let n = ahead.len().min(buffer.len());
-                buffer[..n].copy_from_slice(&ahead[..n]);
+                buffer.copy_from_slice(&ahead[..n]);
                 reader.consume(n);
                 Some(n)
             }
@@ -113,7 +131,8 @@ impl<'a, R: Runtime> Write for StandardOutput<'a, R> {
 
 /// Writes out all that is gathered for a place. After an error it stays, though the system may have got some of it.
 pub fn write_out<R: Runtime>(rt: &R, place: &mut Place<R::File, R::A>) -> Result<(), Failed>
-    ensures { OnOk result (waiting place.new ≡ []) }
+    ensures none { OnOk result (waiting place.new ≡ []) }
+    ensures written { OnOk result (HandsOut R.File.contents place.old place.new) }
 {
     match place {
         Place::Output(file, gathered) => gathered.write_out(file),

@@ -21,6 +21,24 @@ pub fn write_whole<D: Desk>(desk: &mut D, slot: Slot, piece: &[u8]) -> Result<()
     ensures err { OnErr result (WritesPart slot piece.now (D.outside desk.old) (D.outside desk.new)) }
     ensures cause { OnErr result (HasFailed slot (D.outside desk.old) (D.outside desk.new)) }
 {
+    if piece.is_empty() {
+        return Ok(());
+    }
+    let n = desk.write(slot, piece)?;
+    if n == piece.len() {
+        return Ok(());
+    }
+    write_rest(desk, slot, &piece[n..])
+}
+
+// Writes what a first write left of a piece. Out of line, since most desks take a piece whole.
+#[inline(never)]
+fn write_rest<D: Desk>(desk: &mut D, slot: Slot, piece: &[u8]) -> Result<(), Failed>
+    requires { CanWrite (D.outside desk.old) slot }
+    ensures ok { OnOk result (Writes slot piece.now (D.outside desk.old) (D.outside desk.new)) }
+    ensures err { OnErr result (WritesPart slot piece.now (D.outside desk.old) (D.outside desk.new)) }
+    ensures cause { OnErr result (HasFailed slot (D.outside desk.old) (D.outside desk.new)) }
+{
     let mut done = 0;
     while done < piece.len() {
         let n = desk.write(slot, &piece[done..])?;
@@ -32,6 +50,27 @@ pub fn write_whole<D: Desk>(desk: &mut D, slot: Slot, piece: &[u8]) -> Result<()
 /// Fills the buffer from a slot, or takes what is left there.
 #[inline(always)]
 pub fn read_full<D: Desk>(desk: &mut D, slot: Slot, buffer: &mut [u8]) -> Result<usize, Failed>
+    requires { CanRead (D.outside desk.old) slot }
+    ensures fits { IfOk result (λ n. n ≤ length buffer.old) }
+    ensures ok { IfOk result (λ n. Takes slot n (D.outside desk.old) (D.outside desk.new)) }
+    ensures octets { IfOk result (λ n. AreUpTo (length buffer.old) (take n buffer.new) (D.outside desk.old) slot) }
+    ensures err { OnErr result (TakesFewer slot (length buffer.old) (D.outside desk.old) (D.outside desk.new)) }
+    ensures cause { OnErr result (HasFailed slot (D.outside desk.old) (D.outside desk.new)) }
+{
+    if buffer.is_empty() {
+        return Ok(0);
+    }
+    let n = desk.read(slot, buffer)?;
+    if n == 0 || n == buffer.len() {
+        return Ok(n);
+    }
+    let more = read_rest(desk, slot, &mut buffer[n..])?;
+    Ok(n + more)
+}
+
+// Fills what a first read left of the buffer, or takes what is left of the slot. Out of line, since most reads fill the buffer.
+#[inline(never)]
+fn read_rest<D: Desk>(desk: &mut D, slot: Slot, buffer: &mut [u8]) -> Result<usize, Failed>
     requires { CanRead (D.outside desk.old) slot }
     ensures fits { IfOk result (λ n. n ≤ length buffer.old) }
     ensures ok { IfOk result (λ n. Takes slot n (D.outside desk.old) (D.outside desk.new)) }

@@ -1,3 +1,4 @@
 pub mod Ways
 pub mod Taken
 pub mod Named
+pub mod Planned

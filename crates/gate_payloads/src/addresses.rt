@@ -80,6 +80,7 @@ fn image_by(crossing: Crossing, address: Addr) -> Addr
     }
 }
 
+#[inline(always)]
 fn use_by(crossing: Crossing, table: &mut Table, side: Side, address: Addr, until: Moment)
     requires { crossing ≡ cross table.old side address }
     ensures { table.new ≡ used table.old (record { side = side; address = address; until = until }) }

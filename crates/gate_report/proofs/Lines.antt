@@ -3,7 +3,7 @@ use Rattle.std.proofs.Common.{◌≤◌, length, arith}
 use Rattle.gate_base.specs.declared.side.Side.{Side}
 use Rattle.gate_base.specs.declared.side.Side.TheVariants.{Left, Right}
 use Rattle.gate_base.specs.declared.event.Verdict.{Verdict}
-use Rattle.gate_base.specs.declared.event.Verdict.TheVariants.{Pass, Refused}
+use Rattle.gate_base.specs.declared.event.Verdict.TheVariants.{Pass, Refused, Held}
 use Rattle.gate_base.specs.declared.refusal.Refusal.{Refusal}
 use Rattle.gate_base.specs.declared.refusal.Refusal.TheVariants as refusals
 use Rattle.gate_base.specs.Side.{name_of}
@@ -49,7 +49,9 @@ refusal_short refusals.StreamLimit = omega arith
 refusal_short refusals.Backlog = omega arith
 refusal_short refusals.SessionsFull = omega arith
 refusal_short refusals.PoolEmpty = omega arith
+refusal_short refusals.SnmpTooLong = omega arith
 
 pub verdict_short : (verdict : Verdict) → length (verdict_name verdict) ≤ 13
 verdict_short Pass = omega arith
 verdict_short (Refused r) = refusal_short r
+verdict_short Held = omega arith

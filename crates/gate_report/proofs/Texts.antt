@@ -4,7 +4,7 @@ use Rattle.serde_json.proofs.OnLiterals.{serde_json_on_literals}
 use Rattle.serde_json.specs.Data.{string}
 use Rattle.serde_json.specs.Written.{has_float, compact_text}
 use Rattle.gate_base.specs.declared.event.Verdict.{Verdict}
-use Rattle.gate_base.specs.declared.event.Verdict.TheVariants.{Pass, Refused}
+use Rattle.gate_base.specs.declared.event.Verdict.TheVariants.{Pass, Refused, Held}
 use Rattle.gate_base.specs.declared.refusal.Refusal.{Refusal}
 use Rattle.gate_base.specs.declared.refusal.Refusal.TheVariants as refusals
 use Rattle.gate_base.specs.declared.side.Side.{Side}
@@ -57,11 +57,13 @@ refusal_quoted refusals.StreamLimit = refl
 refusal_quoted refusals.Backlog = refl
 refusal_quoted refusals.SessionsFull = refl
 refusal_quoted refusals.PoolEmpty = refl
+refusal_quoted refusals.SnmpTooLong = refl
 
 verdict_quoted : (verdict : Verdict) → compact_text (string (verdict_name verdict)) ≡ 34 ∷ (verdict_name verdict ++ 34 ∷ [])
 unfolding serde_json_on_literals
 verdict_quoted Pass = refl
 verdict_quoted (Refused r) = refusal_quoted r
+verdict_quoted Held = refl
 
 -- no number of a line is a float
 pub no_floats : (line : Line) → has_float (value_of line) ≡ false

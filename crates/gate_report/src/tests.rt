@@ -18,6 +18,14 @@ const REFUSED: Line = Line::Event {
     frames: 0,
 };
 
+const HELD: Line = Line::Event {
+    number: 1,
+    side: Side::Left,
+    moment: Moment(1_000_000_000),
+    verdict: Verdict::Held,
+    frames: 0,
+};
+
 const LARGEST: Line = Line::Event {
     number: u64::MAX,
     side: Side::Right,
@@ -45,7 +53,7 @@ const DONE_LARGEST: Line = Line::Done {
 };
 
 /// Lines, what they are in text, and what they are in JSON.
-const LINES: [(Line, &[u8], &[u8]); 5] = [
+const LINES: [(Line, &[u8], &[u8]); 6] = [
     (
         PASSED,
         b"1 left 1000000000 pass 1\n",
@@ -55,6 +63,11 @@ const LINES: [(Line, &[u8], &[u8]); 5] = [
         REFUSED,
         b"20 right 0 InnerUnbound 0\n",
         b"{\"event\":20,\"frames\":0,\"moment\":0,\"side\":\"right\",\"verdict\":\"InnerUnbound\"}\n",
+    ),
+    (
+        HELD,
+        b"1 left 1000000000 held 0\n",
+        b"{\"event\":1,\"frames\":0,\"moment\":1000000000,\"side\":\"left\",\"verdict\":\"held\"}\n",
     ),
     (
         LARGEST,

@@ -1,5 +1,7 @@
 // Lines in text.
 ghost use Rattle.std.specs.Prelude.{◌≡◌, ◌+◌, ◌≤◌, ◌++◌, drop, length, decimal, vec_capacity};
+ghost use Rattle.gate_base.specs.Refusal.{verdict_name};
+ghost use Rattle.gate_base.specs.Side.{name_of};
 ghost use Rattle.gate_report.specs.Lines.{text_of, event_text, done_text};
 
 use crate::line::Line;
@@ -51,13 +53,39 @@ fn put_event(
     let end = put_word_before(room, LINE, "\n");
     let end = put_number_before(room, end, u64::from(frames));
     let end = put_word_before(room, end, " ");
-    let end = put_word_before(room, end, verdict.name());
+    let end = put_verdict_before(room, end, verdict);
     let end = put_word_before(room, end, " ");
     let end = put_number_before(room, end, moment);
     let end = put_word_before(room, end, " ");
-    let end = put_word_before(room, end, side.name());
+    let end = put_side_before(room, end, side);
     let end = put_word_before(room, end, " ");
     put_number_before(room, end, number)
+}
+
+/// Puts the name of a verdict before a place, and answers where it begins. That of one that passes is a copy of so many octets.
+#[inline(always)]
+fn put_verdict_before(room: &mut [u8], end: usize, verdict: Verdict) -> usize
+    requires { (length (verdict_name verdict) ≤ end) × (end ≤ length room.old) }
+    ensures begin { result + length (verdict_name verdict) ≡ end }
+    ensures octets { drop result room.new ≡ verdict_name verdict ++ drop end room.old }
+{
+    match verdict {
+        Verdict::Pass => put_word_before(room, end, "pass"),
+        Verdict::Refused(_) => put_word_before(room, end, verdict.name()),
+    }
+}
+
+/// Puts the name of a side before a place, and answers where it begins. Each is a copy of so many octets.
+#[inline(always)]
+fn put_side_before(room: &mut [u8], end: usize, side: Side) -> usize
+    requires { (length (name_of side) ≤ end) × (end ≤ length room.old) }
+    ensures begin { result + length (name_of side) ≡ end }
+    ensures octets { drop result room.new ≡ name_of side ++ drop end room.old }
+{
+    match side {
+        Side::Left => put_word_before(room, end, "left"),
+        Side::Right => put_word_before(room, end, "right"),
+    }
 }
 
 /// Puts a number before a place, and answers where it begins.

@@ -1,15 +1,16 @@
 -- The keys of a document, in the order of testing.
-use Rattle.std.specs.Prelude.{ℕ, ◌+◌, Bool, true, false, ◌&&◌, nat_lt, if◌then◌else◌, List, [], ◌∷◌, length, Option, Some, None, is_some, is_none, ◌||◌, unwrap_or, ok_or, Ok, Err}
+use Rattle.std.specs.Prelude.{ℕ, ℤ, pos, negsuc, ◌+◌, nat_le, Bool, true, false, ◌&&◌, nat_lt, if◌then◌else◌, List, [], ◌∷◌, length, Option, Some, None, is_some, is_none, ◌||◌, unwrap_or, ok_or, option_and_then, Ok, Err}
 use Rattle.std.specs.Str.{is_utf8}
-use Rattle.toml.specs.Data.{Data, Items, no_items, item, Members, get_member, as_str, as_array, as_table}
+use Rattle.toml.specs.Data.{Data, Items, no_items, item, Members, get_member, as_str, as_integer, as_array, as_table}
 use Rattle.toml.specs.Parse.{parse_document}
 use Rattle.gate_base.specs.declared.address.Addr.{Addr}
+use Rattle.gate_base.specs.declared.rule.OidRule.{OidRule}
 use Rattle.gate_base.specs.declared.side.Link.{Link as LinkKind}
 use Rattle.gate_base.specs.declared.side.Link.TheVariants.{Ethernet, Raw}
 use Rattle.gate_base.specs.declared.side.Side.{Side}
 use Rattle.gate_base.specs.declared.side.Side.TheVariants.{Left, Right}
 use Rattle.gate_settings.specs.declared.key.Key.{Key}
-use Rattle.gate_settings.specs.declared.key.Key.TheVariants.{Report, Same, Table, PoolFirst, PoolLast, Link, GatewayMac, NextMac, Statics, StaticSide, StaticHost, StaticAlias}
+use Rattle.gate_settings.specs.declared.key.Key.TheVariants.{Report, Fragments, Same, Table, PoolFirst, PoolLast, Link, GatewayMac, NextMac, Statics, StaticSide, StaticHost, StaticAlias, Oids, OidPrefix, OidSkip}
 use Rattle.gate_settings.specs.declared.fault.SettingsFault.{SettingsFault}
 use Rattle.gate_settings.specs.declared.fault.SettingsFault.TheVariants.{TooLong, NotToml, Missing, Kind, BadAddress}
 use Rattle.gate_settings.specs.declared.settings.Block.{Block}
@@ -18,7 +19,7 @@ use Rattle.gate_settings.specs.declared.given.GivenSide.{GivenSide}
 use Rattle.gate_settings.specs.declared.given.Given.{Given}
 use Rattle.gate_settings.specs.Keys.{name_of}
 use Rattle.gate_settings.specs.Firsts.{◌>>=◌, Found}
-use Rattle.gate_settings.specs.Texts.{json_text, link_text, side_text, address_text, block_text, mac_text}
+use Rattle.gate_settings.specs.Texts.{json_text, join_text, link_text, side_text, address_text, block_text, mac_text, prefix_text}
 
 -- ## Kinds of values
 
@@ -35,6 +36,10 @@ spelled spell fault key value = do
 -- whether the report is JSON
 unfoldable pub json : Key → Data → Found Bool
 json = spelled json_text Kind
+
+-- whether fragments are joined
+unfoldable pub join : Key → Data → Found Bool
+join = spelled join_text Kind
 
 -- what the frames of a realm are
 unfoldable pub link : Key → Data → Found LinkKind
@@ -61,6 +66,18 @@ address = spelled address_text BadAddress
 -- a block of addresses
 unfoldable pub block : Key → Data → Found Block
 block = spelled block_text BadAddress
+
+-- the arcs with which object identifiers begin
+unfoldable pub prefix : Key → Data → Found (List ℕ)
+prefix = spelled prefix_text Kind
+
+-- how many arcs are skipped: a whole number from 0 to 127
+abbrev pub skip_of : ℤ → Option ℕ
+skip_of (pos number) = if nat_le number 127 then Some number else None
+skip_of (negsuc number) = None
+
+unfoldable pub skip : Key → Data → Found ℕ
+skip key value = ok_or (option_and_then skip_of (as_integer value)) (Kind key)
 
 -- an array
 abbrev pub array : Key → Data → Found Items
@@ -160,6 +177,23 @@ static_entry n value = do
 unfoldable pub statics : Key → Data → Found (List Fixed)
 statics = array_of is_table static_entry
 
+-- the keys of an entry of `oid`
+unfoldable pub oid_keys : ℕ → Members → Found OidRule
+oid_keys n members = do
+  prefix ← needed prefix (OidPrefix n) members
+  skip ← needed skip (OidSkip n) members
+  Ok (record { prefix = prefix; skip = skip })
+
+-- an entry of `oid`
+unfoldable pub oid_entry : ℕ → Data → Found OidRule
+oid_entry n value = do
+  members ← table Oids value
+  oid_keys n members
+
+-- an array of entries
+unfoldable pub oids : Key → Data → Found (List OidRule)
+oids = array_of is_table oid_entry
+
 -- a realm's table
 unfoldable pub side_table : Side → Members → Found GivenSide
 side_table side document = do
@@ -170,12 +204,14 @@ side_table side document = do
 unfoldable pub all_keys : Members → Found Given
 all_keys document = do
   json ← optional json false Report document
+  join ← optional join false Fragments document
   same ← optional blocks [] Same document
   left ← side_table Left document
   right ← side_table Right document
   statics ← optional statics [] Statics document
+  oids ← optional oids [] Oids document
   Ok (record {
-    settings = record { json = json; same = same; left = left.settings; right = right.settings; statics = statics };
+    settings = record { json = json; join = join; same = same; left = left.settings; right = right.settings; statics = statics; oids = oids };
     left_lacks_mac = left.lacks_mac;
     right_lacks_mac = right.lacks_mac;
   })

@@ -1,6 +1,7 @@
 -- The forms of what settings hold.
 use Rattle.std.specs.Prelude.{◌≡◌, ◌-◌, ◌^◌, ◌≤◌, ◌%◌, true, All}
 use Rattle.gate_base.specs.Address.{is_unicast_number}
+use Rattle.gate_base.specs.Rules.{AreRules}
 use Rattle.gate_base.specs.declared.address.Addr.{Addr}
 use Rattle.gate_settings.specs.declared.settings.Block.{Block}
 use Rattle.gate_settings.specs.declared.settings.Fixed.{Fixed}
@@ -32,3 +33,4 @@ pub record HasForms (settings : Settings) : Type 0 where
   pub left : HasUnicastPool settings.left
   pub right : HasUnicastPool settings.right
   pub statics : All IsUnicastPair settings.statics
+  pub oids : AreRules settings.oids

@@ -3,13 +3,15 @@ ghost use Rattle.std.specs.Prelude.{◌≡◌, ◌<◌, ◌^◌, [], None, false
 ghost use Rattle.toml.specs.View.{view, items_view, table_view};
 ghost use Rattle.gate_settings.specs.Firsts.{Sees, Gives, GivesBy};
 ghost use Rattle.gate_settings.specs.Forms.{IsBlock, IsUnicast, IsUnicastPair, HasUnicastPool, HasForms};
+ghost use Rattle.std.specs.Prelude.{IsTrue};
+ghost use Rattle.gate_base.specs.Rules.{is_rule, AreRules};
 ghost use Rattle.gate_settings.specs.Document as document;
 
 use crate::fault::{ReadSettings, SettingsFault};
 use crate::key::Key;
-use crate::settings::{Block, Blocks, Fixed, Settings, SideSettings, Statics};
+use crate::settings::{Block, Blocks, Fixed, OidRules, Settings, SideSettings, Statics};
 use crate::values::{self, find, need};
-use gate_base::{Addr, Link, Side};
+use gate_base::{Addr, Link, OidRule, Side};
 use std::alloc::Global;
 use toml::{Table, Value};
 
@@ -204,6 +206,15 @@ fn report_key(top: &Table) -> Result<bool, SettingsFault>
     }
 }
 
+fn fragments_key(top: &Table) -> Result<bool, SettingsFault>
+    ensures { result ≡ document.optional document.join false Key.Fragments (table_view top.now) }
+{
+    match find(top, Key::Fragments) {
+        Some(value) => values::join(Key::Fragments, value),
+        None => Ok(false),
+    }
+}
+
 fn same_key(alloc: Global, top: &Table) -> Result<Blocks, ReadSettings>
     ensures value { Gives result (document.optional document.blocks [] Key.Same (table_view top.now)) }
     ensures form { IfOk result (λ v. All IsBlock v) }
@@ -225,6 +236,66 @@ fn static_key(alloc: Global, top: &Table) -> Result<Statics, ReadSettings>
     }
 }
 
+/// The keys of an entry of `oid`.
+#[tactic(auto, unfolding(crate::specs::Document::oid_keys))]
+fn oid_keys(alloc: Global, number: u32, table: &Table) -> Result<OidRule, ReadSettings>
+    ensures value { Gives result (document.oid_keys number (table_view table.now)) }
+    ensures form { IfOk result (λ rule. IsTrue (is_rule rule)) }
+{
+    let key = Key::OidPrefix(number);
+    let prefix = values::prefix(alloc, key, need(table, key)?)?;
+    let key = Key::OidSkip(number);
+    let skip = values::skip(key, need(table, key)?)?;
+    Ok(OidRule { prefix, skip })
+}
+
+#[tactic(auto, unfolding(crate::specs::Document::oid_entry))]
+fn oid_entry(alloc: Global, number: u32, value: &Value) -> Result<OidRule, ReadSettings>
+    ensures value { Gives result (document.oid_entry number (view value.now)) }
+    ensures form { IfOk result (λ rule. IsTrue (is_rule rule)) }
+{
+    oid_keys(alloc, number, values::table(Key::Oids, value)?)
+}
+
+fn oids_of(alloc: Global, values: &[Value]) -> Result<Vec<OidRule>, ReadSettings>
+    requires { length values.now < 2 ^ 32 }
+    ensures value { GivesBy (λ v. v.items) result (document.each document.oid_entry 1 (items_view values.now)) }
+    ensures form { IfOk result (λ v. AreRules v.items) }
+{
+    let mut oids = Vec::new(alloc);
+    for (index, value) in values.iter().enumerate() {
+        let rule = oid_entry(alloc, index as u32 + 1, value)?;
+        oids.push(rule)?;
+    }
+    Ok(oids)
+}
+
+#[tactic(auto, unfolding(crate::specs::Document::oids))]
+fn oids(alloc: Global, key: Key, value: &Value) -> Result<OidRules, ReadSettings>
+    ensures value { Gives result (document.oids key (view value.now)) }
+    ensures form { IfOk result AreRules }
+{
+    let values = values::array(key, value)?;
+    if !are_tables(values) {
+        return Err(ReadSettings::Fault(SettingsFault::Kind(key)));
+    }
+    // The memory of no machine holds so many values.
+    if values.len() > u32::MAX as usize {
+        return Err(ReadSettings::OutOfMemory);
+    }
+    Ok(OidRules::of(oids_of(alloc, values)?))
+}
+
+fn oid_key(alloc: Global, top: &Table) -> Result<OidRules, ReadSettings>
+    ensures value { Gives result (document.optional document.oids [] Key.Oids (table_view top.now)) }
+    ensures form { IfOk result AreRules }
+{
+    match find(top, Key::Oids) {
+        Some(value) => oids(alloc, Key::Oids, value),
+        None => Ok(OidRules::of(Vec::new(alloc))),
+    }
+}
+
 /// All keys of a document.
 #[tactic(auto, unfolding(crate::specs::Document::all_keys))]
 pub fn all_keys(alloc: Global, top: &Table) -> Result<Given, ReadSettings>
@@ -233,17 +304,21 @@ pub fn all_keys(alloc: Global, top: &Table) -> Result<Given, ReadSettings>
     ensures few { IfOk result (λ given. length given.settings.statics < 2 ^ 32) }
 {
     let json = report_key(top)?;
+    let join = fragments_key(top)?;
     let same = same_key(alloc, top)?;
     let left = side_table(Side::Left, top)?;
     let right = side_table(Side::Right, top)?;
     let statics = static_key(alloc, top)?;
+    let oids = oid_key(alloc, top)?;
     Ok(Given {
         settings: Settings {
             json,
+            join,
             same,
             left: left.settings,
             right: right.settings,
             statics,
+            oids,
         },
         left_lacks_mac: left.lacks_mac,
         right_lacks_mac: right.lacks_mac,

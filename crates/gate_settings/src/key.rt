@@ -5,11 +5,13 @@ ghost use Rattle.gate_settings.specs.Keys.{name_of};
 use gate_base::Side;
 use std::fmt;
 
-/// A key of the settings document. Entries of `static` are numbered from 1.
+/// A key of the settings document. Entries of `static` and of `oid` are numbered from 1.
 #[derive(Clone, Copy, Debug, PartialEq, Eq)]
 pub enum Key {
     /// `report`
     Report,
+    /// `fragments`
+    Fragments,
     /// `same`
     Same,
     /// The table of a realm: `left` or `right`.
@@ -32,6 +34,12 @@ pub enum Key {
     StaticHost(u32),
     /// `alias` in an entry of `static`
     StaticAlias(u32),
+    /// `oid`
+    Oids,
+    /// `prefix` in an entry of `oid`
+    OidPrefix(u32),
+    /// `skip` in an entry of `oid`
+    OidSkip(u32),
 }
 
 /// The key as it stands in its own table.
@@ -41,6 +49,7 @@ pub fn name(key: Key) -> &'static str
 {
     match key {
         Key::Report => "report",
+        Key::Fragments => "fragments",
         Key::Same => "same",
         Key::Table(side) => side.name(),
         Key::PoolFirst(_) => "pool_first",
@@ -52,6 +61,9 @@ pub fn name(key: Key) -> &'static str
         Key::StaticSide(_) => "side",
         Key::StaticHost(_) => "host",
         Key::StaticAlias(_) => "alias",
+        Key::Oids => "oid",
+        Key::OidPrefix(_) => "prefix",
+        Key::OidSkip(_) => "skip",
     }
 }
 
@@ -65,7 +77,9 @@ impl fmt::Display for Key {
     fn fmt<W: fmt::Write>(&self, f: &mut fmt::Formatter<W>) -> fmt::Result {
         let name = name(*self);
         match self {
-            Key::Report | Key::Same | Key::Table(_) | Key::Statics => write!(f, "{name}"),
+            Key::Report | Key::Fragments | Key::Same | Key::Table(_) | Key::Statics | Key::Oids => {
+                write!(f, "{name}")
+            }
             Key::PoolFirst(side)
             | Key::PoolLast(side)
             | Key::Link(side)
@@ -77,6 +91,7 @@ impl fmt::Display for Key {
             Key::StaticSide(number) | Key::StaticHost(number) | Key::StaticAlias(number) => {
                 write!(f, "static.{number}.{name}")
             }
+            Key::OidPrefix(number) | Key::OidSkip(number) => write!(f, "oid.{number}.{name}"),
         }
     }
 }

@@ -13,7 +13,7 @@ mod values;
 pub use document::read_settings;
 pub use fault::{ReadSettings, SettingsFault, fault_text};
 pub use key::Key;
-pub use settings::{Block, Blocks, Fixed, Settings, SideSettings, Statics};
+pub use settings::{Block, Blocks, Fixed, OidRules, Settings, SideSettings, Statics};
 
 #[cfg(test)]
 mod tests;

@@ -1,8 +1,9 @@
 // The settings of a gateway.
-ghost use Rattle.std.specs.Prelude.{◌≡◌};
+ghost use Rattle.std.specs.Prelude.{◌≡◌, IfOk};
 ghost use Rattle.gate_settings.specs.Cross as cross;
 
-use gate_base::{Addr, Link, Side};
+use gate_base::{Addr, Link, OidRule, OutOfMemory, Side};
+use std::alloc::Global;
 use std::marker::Model;
 
 /// A block of addresses that cross unchanged: those whose first `bits` bits are those of `base` (RFC 4632, 3.1).
@@ -128,11 +129,55 @@ impl Statics {
     }
 }
 
+/// A list of rules about object identifiers.
+#[derive(Drop)]
+pub struct OidRules {
+    items: Vec<OidRule>,
+}
+
+impl Model for OidRules {
+    ghost use Rattle.std.specs.Prelude.{List};
+    ghost use Rattle.gate_base.specs.declared.rule.OidRule.{OidRule};
+
+    ghost Value = { List OidRule };
+
+    ghost view = { λ a. a.items.items };
+}
+
+impl OidRules {
+    /// The list of these rules.
+    pub fn of(items: Vec<OidRule>) -> OidRules
+        ensures { result ≡ items.items }
+    {
+        OidRules { items }
+    }
+
+    /// The rules in their order.
+    pub fn items(&self) -> &[OidRule]
+        ensures { result.now ≡ self.now }
+    {
+        &self.items
+    }
+
+    /// The same rules once more.
+    pub fn copy(&self, alloc: Global) -> Result<OidRules, OutOfMemory>
+        ensures { IfOk result (λ copy. copy ≡ self.now) }
+    {
+        let mut items = Vec::new(alloc);
+        for rule in self.items() {
+            items.push(rule.copy(alloc)?)?;
+        }
+        Ok(OidRules { items })
+    }
+}
+
 /// What a gateway is set to.
 #[derive(Drop)]
 pub struct Settings {
     /// Whether the report is JSON, and else plain text.
     pub json: bool,
+    /// Whether fragments are joined, and else refused.
+    pub join: bool,
     /// The blocks whose addresses mean the same host in both realms.
     pub same: Blocks,
     /// The left realm's pool and link.
@@ -141,6 +186,8 @@ pub struct Settings {
     pub right: SideSettings,
     /// The static bindings.
     pub statics: Statics,
+    /// Where object identifiers of SNMP messages hold addresses.
+    pub oids: OidRules,
 }
 
 impl Settings {

@@ -27,6 +27,12 @@ report | report = "json" | accepted
 report | report = "xml" | Kind report
 report | report = 1 | Kind report
 report | report = | NotToml
+fragments | fragments = "refuse" | accepted
+fragments | fragments = "join" | accepted
+fragments | fragments = "joined" | Kind fragments
+fragments | fragments = true | Kind fragments
+left.link | fragments = 5 ; same = 5 | Kind fragments
+left.link | fragments = 5 ; report = 5 | Kind report
 same | same = "11.0.0.0/8" | Kind same
 same | same = ["x", 5] | Kind same
 same | same = ["11.0.0.0"] | BadAddress same

@@ -1,18 +1,20 @@
 // The values of a TOML document, by their kinds.
-ghost use Rattle.std.specs.Prelude.{◌≡◌, IfOk, option_map, ok_or};
+ghost use Rattle.std.specs.Prelude.{◌≡◌, ◌≤◌, IfOk, IsTrue, option_map, ok_or};
+ghost use Rattle.gate_base.specs.Rules.{is_prefix};
 ghost use Rattle.toml.specs.Data.{get_member};
 ghost use Rattle.toml.specs.View.{view, array_view, table_view};
 ghost use Rattle.gate_settings.specs.Keys.{name_of};
-ghost use Rattle.gate_settings.specs.Firsts.{Sees};
+ghost use Rattle.gate_settings.specs.Firsts.{Sees, Gives};
 ghost use Rattle.gate_settings.specs.Forms.{IsUnicast, IsBlock};
 ghost use Rattle.gate_settings.specs.Document as document;
 ghost use Rattle.gate_settings.specs.declared.fault.SettingsFault.TheVariants.{Missing};
 
-use crate::fault::SettingsFault;
+use crate::fault::{ReadSettings, SettingsFault};
 use crate::key::{Key, name};
 use crate::settings::Block;
 use crate::texts;
-use gate_base::{Addr, Link, Side};
+use gate_base::{Addr, Arcs, Link, Side};
+use std::alloc::Global;
 use toml::value::Array;
 use toml::{Table, Value};
 
@@ -79,6 +81,16 @@ pub fn json(key: Key, value: &Value) -> Result<bool, SettingsFault>
     }
 }
 
+#[tactic(auto, unfolding(crate::specs::Document::join))]
+pub fn join(key: Key, value: &Value) -> Result<bool, SettingsFault>
+    ensures { result ≡ document.join key (view value.now) }
+{
+    match texts::read_join(text(key, value)?) {
+        Some(join) => Ok(join),
+        None => Err(SettingsFault::Kind(key)),
+    }
+}
+
 #[tactic(auto, unfolding(crate::specs::Document::link))]
 pub fn link(key: Key, value: &Value) -> Result<Link, SettingsFault>
     ensures { result ≡ document.link key (view value.now) }
@@ -129,5 +141,29 @@ pub fn block(key: Key, value: &Value) -> Result<Block, SettingsFault>
     match texts::read_block(text(key, value)?) {
         Some(block) => Ok(block),
         None => Err(SettingsFault::BadAddress(key)),
+    }
+}
+
+/// The arcs with which object identifiers begin.
+#[tactic(auto, unfolding(crate::specs::Document::prefix))]
+pub fn prefix(alloc: Global, key: Key, value: &Value) -> Result<Arcs, ReadSettings>
+    ensures value { Gives result (document.prefix key (view value.now)) }
+    ensures form { IfOk result (λ arcs. IsTrue (is_prefix arcs)) }
+{
+    match texts::read_prefix(alloc, text(key, value)?.as_bytes())? {
+        Some(arcs) => Ok(Arcs::of(arcs)),
+        None => Err(ReadSettings::Fault(SettingsFault::Kind(key))),
+    }
+}
+
+/// How many arcs are skipped: a whole number from 0 to 127.
+#[tactic(auto, unfolding(crate::specs::Document::skip))]
+pub fn skip(key: Key, value: &Value) -> Result<u32, SettingsFault>
+    ensures value { result ≡ document.skip key (view value.now) }
+    ensures few { IfOk result (λ n. n ≤ 127) }
+{
+    match value.as_integer() {
+        Some(number) if 0 <= number && number <= 127 => Ok(number as u32),
+        _ => Err(SettingsFault::Kind(key)),
     }
 }

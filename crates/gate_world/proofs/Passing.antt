@@ -10,7 +10,7 @@ use Rattle.gate_base.specs.Tests.{first_that_holds}
 use Rattle.gate_world.specs.Frame.{Kind, Stream, datagram_in, header_tests, datagram_tests, transport_tests, kind_of, has_port, dns_port}
 use Rattle.gate_world.specs.Rules.{SessionRules}
 use Rattle.gate_world.specs.Stream.{found_in, lacks_session, session_refusal, is_full}
-use Rattle.gate_world.specs.Verdict.{verdict_of, tests, world_tests, address_tests, kind_tests, is_pool_empty, told, verdict}
+use Rattle.gate_world.specs.Verdict.{verdict_of, tests, world_tests, address_tests, kind_tests, late_tests, is_pool_empty, told, verdict}
 use Rattle.gate_world.specs.Step.{taker_in}
 use Rattle.gate_world.specs.World.{World, at_moment}
 
@@ -58,11 +58,12 @@ pub record Passes {S : Type 0} (rules : SessionRules S) (live : World S) (side :
 
 parts : {S : Type 0} (rules : SessionRules S) (live : World S) (side : Side) (moment : ℕ) (d : Datagram) (kind : Kind) → NoneHolds (world_tests rules live side moment d kind) → Passes rules live side moment d kind
 parts rules live side moment d kind h =
-    let later = none_right (address_tests live.table side d) (kind_tests rules live side moment d kind ++ (is_pool_empty live.table side d kind, PoolEmpty) ∷ []) h in
+    let late = late_tests rules live side moment d kind in
+    let later = none_right (address_tests live.table side d) (kind_tests rules live side moment d kind ++ (is_pool_empty live.table side d kind, PoolEmpty) ∷ late) h in
     record {
-      address = none_left (address_tests live.table side d) (kind_tests rules live side moment d kind ++ (is_pool_empty live.table side d kind, PoolEmpty) ∷ []) h;
-      content = none_left (kind_tests rules live side moment d kind) ((is_pool_empty live.table side d kind, PoolEmpty) ∷ []) later;
-      pool = none_head {test = (is_pool_empty live.table side d kind, PoolEmpty)} {more = []} (none_right (kind_tests rules live side moment d kind) ((is_pool_empty live.table side d kind, PoolEmpty) ∷ []) later);
+      address = none_left (address_tests live.table side d) (kind_tests rules live side moment d kind ++ (is_pool_empty live.table side d kind, PoolEmpty) ∷ late) h;
+      content = none_left (kind_tests rules live side moment d kind) ((is_pool_empty live.table side d kind, PoolEmpty) ∷ late) later;
+      pool = none_head {test = (is_pool_empty live.table side d kind, PoolEmpty)} {more = late} (none_right (kind_tests rules live side moment d kind) ((is_pool_empty live.table side d kind, PoolEmpty) ∷ late) later);
     }
 
 pub passes : {S : Type 0} (rules : SessionRules S) (w : World S) (e : Event) → verdict rules w e ≡ Pass → Passes rules (at_moment w e.moment) e.side e.moment (datagram_in e) (kind_of (datagram_in e))

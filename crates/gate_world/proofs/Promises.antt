@@ -13,7 +13,7 @@ use Rattle.gate_world.specs.Promise.{known_after, told_after, reason, FrameIs, P
 use Rattle.gate_world.specs.Reading.{world_as}
 use Rattle.gate_world.specs.Rules.{whole_rules}
 use Rattle.gate_world.specs.Step.{out, out_by, out_between, stream_out, taker_in, translated}
-use Rattle.gate_world.specs.Told.{Told, told_rules}
+use Rattle.gate_world.specs.Told.{Told, told_rules, SessionIs}
 use Rattle.gate_world.specs.Verdict.{table_after, verdict, verdict_of}
 use Rattle.gate_world.specs.World.{World, at_moment, called, source_of, destination_of, opening_world}
 use Rattle.gate_world.proofs.GoesOn.{goes_on, whole_answers}
@@ -21,7 +21,8 @@ use Rattle.gate_world.proofs.HostsKept.{run_hosts}
 use Rattle.gate_world.proofs.HostsOpen.{opening_hosts, pairs_cross}
 use Rattle.gate_world.proofs.ReadSteps.{out_as, run_as}
 use Rattle.gate_world.proofs.SegmentsTaken.{taken_out}
-use Rattle.gate_world.proofs.ToldSessions.{told_reads, streams_are}
+use Rattle.gate_world.proofs.ToldSessions.{told_reads, session_keeps, sessions_are}
+use Rattle.gate_world.proofs.Tracking.{taken_keeps}
 
 verdict_is : (w : World Session) (e : Event) → verdict whole_rules w e ≡ verdict_of (reason w e)
 unfolding verdict
@@ -51,7 +52,8 @@ frame_is w e =
 pub promised : (settings : Settings) (events : List Event) → Promised settings events
 promised settings events = record {
   frames = λ done others e split. frame_is (known_after settings done) e;
-  streams = λ done others split client. streams_are done settings client;
+  sessions = λ done others split. sessions_are done settings;
+  taken = λ done others e split t h. taken_keeps told_rules SessionIs session_keeps (told_after settings done) e t h (sessions_are done settings);
   told = λ done others split. sym (known done);
   said_is = λ done others e split t h. ap (λ (w : World Session). out whole_rules w e) (known done) ∙ out_as (λ (x : Told). x.session) told_rules whole_rules told_reads (told_after settings done) e ∙ taken_out told_rules (told_after settings done) e t h;
   pairs = λ sound forms done others split. pairs_cross _ (run_hosts whole_rules done (opening_world settings) (opening_hosts settings sound forms));

@@ -19,7 +19,7 @@ use Rattle.gate_world.specs.World.{Tracked, World, at_moment, called, is_client}
 use Rattle.gate_world.specs.Reading.{tracked_as, connection_as, world_as, Reads}
 use Rattle.gate_world.specs.Stream.{tcp_of, segment_of, key_in, key_of, found_in, session_in, begins, made_by, taker_by, session_refusal, ends_by, lacks_session, is_full, stream_hold}
 use Rattle.gate_world.specs.Inner.{inside, inner_session, inner_number, is_inner_unbound}
-use Rattle.gate_world.specs.Verdict.{table_after, is_pool_empty, told, address_tests, kind_tests, tests, verdict_of, verdict}
+use Rattle.gate_world.specs.Verdict.{table_after, is_pool_empty, told, address_tests, kind_tests, late_tests, tests, verdict_of, verdict}
 use Rattle.gate_world.specs.Step.{taker_in}
 use Rattle.gate_world.proofs.ReadLists.{live_as, connection_of_as, tracked_as_many, hold_as}
 
@@ -125,11 +125,21 @@ kind_tests_as h a b r live side moment d Stream =
 pub moment_as : {S T : Type 0} (h : S → T) (w : World S) (moment : ℕ) → at_moment (world_as h w) moment ≡ world_as h (at_moment w moment)
 moment_as {T = T} h w moment = ap (λ (all : List (Connection (Tracked T))). record { clock = moment; table = (at_moment w moment).table; connections = all; pending = w.pending }) (live_as h (record { 0 = moment }) w.connections)
 
+late_tests_as : {S T : Type 0} (h : S → T) (a : SessionRules S) (b : SessionRules T) (live : World S) (side : Side) (moment : ℕ) (d : Datagram) (kind : Kind) → late_tests b (world_as h live) side moment d kind ≡ late_tests a live side moment d kind
+late_tests_as h a b live side moment d Udp = refl
+late_tests_as h a b live side moment d Echo = refl
+late_tests_as h a b live side moment d Error = refl
+late_tests_as h a b live side moment d Dns = refl
+late_tests_as h a b live side moment d Snmp = refl
+late_tests_as h a b live side moment d Stream = refl
+
 tests_as : {S T : Type 0} (h : S → T) (a : SessionRules S) (b : SessionRules T) → Reads h a b → (live : World S) (e : Event) → tests b (world_as h live) e ≡ tests a live e
 tests_as h a b r live e =
     let d = datagram_in e in
-    ap (λ (xs : List (Bool × Refusal)). header_tests e ++ (datagram_tests d ++ (transport_tests d ++ (address_tests live.table e.side d ++ (xs ++ (is_pool_empty live.table e.side d (kind_of d), PoolEmpty) ∷ [])))))
+    ap (λ (xs : List (Bool × Refusal)). header_tests e ++ (datagram_tests d ++ (transport_tests d ++ (address_tests live.table e.side d ++ (xs ++ (is_pool_empty live.table e.side d (kind_of d), PoolEmpty) ∷ late_tests b (world_as h live) e.side e.moment d (kind_of d))))))
     (kind_tests_as h a b r live e.side e.moment d (kind_of d))
+    ∙ ap (λ (xs : List (Bool × Refusal)). header_tests e ++ (datagram_tests d ++ (transport_tests d ++ (address_tests live.table e.side d ++ (kind_tests a live e.side e.moment d (kind_of d) ++ (is_pool_empty live.table e.side d (kind_of d), PoolEmpty) ∷ xs)))))
+    (late_tests_as h a b live e.side e.moment d (kind_of d))
 
 pub verdict_as : {S T : Type 0} (h : S → T) (a : SessionRules S) (b : SessionRules T) → Reads h a b → (w : World S) (e : Event) → verdict b (world_as h w) e ≡ verdict a w e
 unfolding verdict

@@ -3,7 +3,7 @@ use Rattle.std.proofs.Common.{◌≡◌, ℕ, Bool, true, false, ◌<◌, ◌≤
 use Rattle.std.specs.List.{fold}
 use Rattle.std.proofs.lemmas.List.{append-nil}
 use Rattle.std.proofs.lemmas.List.Elements.{All-weaker, All-nil}
-use Rattle.std.specs.Prelude.{IfSome, ◌^◌}
+use Rattle.std.specs.Prelude.{IfSome, ◌^◌, ◌||◌}
 use Rattle.gate_base.specs.Events.{Event as Frame}
 use Rattle.gate_base.specs.declared.event.Pair.{Pair}
 use Rattle.gate_base.specs.declared.side.Side.{Side}
@@ -15,7 +15,7 @@ use Rattle.stream_model.specs.Session.{Session, Segment, Outgoing, own, due_in, 
 use Rattle.stream_model.specs.Verdict.{session_verdict}
 use Rattle.stream_model.specs.Steps.{session_next, session_out}
 use Rattle.stream_model.specs.History.{Event, next, after, AllPass, if_by, sent_of, SentIs, places_acknowledged, numbers_to, EachIsBack, Facts}
-use Rattle.stream_model.proofs.SessionSent.{Sound, sound_after}
+use Rattle.stream_model.proofs.SessionSent.{Sound, sound_after, own_meaning, other_meaning}
 use Rattle.stream_model.proofs.SessionAcked.{acked_after, made_acked}
 use Rattle.stream_model.proofs.FactLemmas.{short_after}
 use Rattle.stream_model.proofs.RecentFact.{facts_of, few_after}
@@ -23,7 +23,7 @@ use Rattle.tcp_tracker.specs.declared.connection.Connection.{Connection}
 use Rattle.gate_world.specs.Rules.{whole_rules}
 use Rattle.gate_world.specs.World.{Tracked, opening_world}
 use Rattle.gate_world.specs.Reading.{Reads}
-use Rattle.gate_world.specs.Told.{Told, begun, sent_by, told_rules, StreamIs, IsTold, EachTracked}
+use Rattle.gate_world.specs.Told.{Told, begun, sent_by, told_rules, StreamIs, IsTold, LinesAreOfPair, SessionIs, EachTracked}
 use Rattle.gate_world.specs.Step.{next as world_next}
 use Rattle.gate_world.proofs.Tracking.{Keeps, run_keeps}
 
@@ -118,6 +118,27 @@ streams_are events settings client =
     weaker : (o : Option (Tracked Told)) → IfSome o IsTold → IfSome o (λ t. StreamIs client t.session)
     weaker None h = tt
     weaker (Some t) h = stream_is t client h
+
+-- ## All that holds of a session
+
+lines_next : (f : Bool) (t : Tracked Told) (g : Segment) → LinesAreOfPair t → LinesAreOfPair (record { client = t.client; pair = t.pair; session = told_rules.next f t.session g })
+lines_next true t g h = record {
+  client = own_meaning g.flags.syn g.flags.reset t.session.session.client g ∙ h.client;
+  server = other_meaning (g.flags.syn || g.flags.reset) t.session.session.server g ∙ h.server;
+}
+lines_next false t g h = record {
+  client = other_meaning (g.flags.syn || g.flags.reset) t.session.session.client g ∙ h.client;
+  server = own_meaning g.flags.syn g.flags.reset t.session.session.server g ∙ h.server;
+}
+
+pub session_keeps : Keeps told_rules SessionIs
+session_keeps = record {
+  made = λ client pair initial mss. let told = told_made client pair initial mss in record { told = told; lines = record { client = refl; server = refl }; streams = λ c. stream_is _ c told };
+  next = λ f t g v h. let told = told_next f t g v h.told in record { told = told; lines = lines_next f t g h.lines; streams = λ c. stream_is _ c told };
+}
+
+pub sessions_are : (events : List Frame) (settings : Settings) → EachTracked SessionIs (fold (world_next told_rules) (opening_world settings) events).connections
+sessions_are events settings = run_keeps told_rules SessionIs session_keeps events (opening_world settings) (All-nil (λ (c : Connection (Tracked Told)). IfSome c.session SessionIs))
 
 -- ## What always holds of the hosts of a session
 

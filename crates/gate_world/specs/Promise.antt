@@ -1,5 +1,5 @@
 -- What is promised of the frames of two realms, whatever they are.
-use Rattle.std.specs.Prelude.{◌≡◌, ◌≤◌, ℕ, Bool, List, [], ◌∷◌, ◌++◌, length, Option, Some, None}
+use Rattle.std.specs.Prelude.{◌≡◌, ◌≤◌, ℕ, List, [], ◌∷◌, ◌++◌, length, Option, Some, None}
 use Rattle.std.specs.List.{fold}
 use Rattle.gate_base.specs.Events.{Event}
 use Rattle.gate_base.specs.Tests.{first_that_holds}
@@ -16,7 +16,8 @@ use Rattle.gate_world.specs.Reading.{world_as}
 use Rattle.gate_world.specs.Rules.{whole_rules}
 use Rattle.gate_world.specs.Step.{next, out, taker_in, translated}
 use Rattle.gate_world.specs.Taken.{Takes, said}
-use Rattle.gate_world.specs.Told.{Told, told_rules, StreamIs, EachTracked}
+use Rattle.gate_world.specs.Stream.{stepped}
+use Rattle.gate_world.specs.Told.{Told, told_rules, SessionIs, EachTracked}
 use Rattle.gate_world.specs.Verdict.{table_after, tests, verdict}
 use Rattle.gate_world.specs.World.{Tracked, World, at_moment, called, destination_of, opening_world, source_of}
 
@@ -57,8 +58,10 @@ pub record FrameIs (w : World Session) (e : Event) : Type 0 where
 pub record Promised (settings : Settings) (events : List Event) : Type 0 where
   -- each frame is forwarded at its own event, unless exactly its named refusal holds, and one that no session takes as its renaming;
   pub frames : (done others : List Event) (e : Event) → events ≡ done ++ e ∷ others → FrameIs (known_after settings done) e
-  -- in each session the octets that were sent to a host are a prefix of the peer's stream with its address lines renamed, and acknowledgements cover only octets whose images were acknowledged;
-  pub streams : (done others : List Event) → events ≡ done ++ others → (client : Bool) → EachTracked (λ t. StreamIs client t.session) (told_after settings done).connections
+  -- in each session the octets that were sent to a host are a prefix of the peer's stream with its address lines renamed by the session's pair, and acknowledgements cover only octets whose images were acknowledged;
+  pub sessions : (done others : List Event) → events ≡ done ++ others → EachTracked SessionIs (told_after settings done).connections
+  -- so it is with one that has taken a segment, also where it ends with that;
+  pub taken : (done others : List Event) (e : Event) → events ≡ done ++ e ∷ others → (t : Tracked Told) → Takes told_rules (told_after settings done) e t → SessionIs (stepped told_rules e.side (datagram_in e) t)
   -- these sessions are those that are known,
   pub told : (done others : List Event) → events ≡ done ++ others → world_as (λ (t : Told). t.session) (told_after settings done) ≡ known_after settings done
   -- and for a segment that one takes exactly what it says goes out;

@@ -2,7 +2,7 @@
 use Rattle.std.specs.Prelude.{ℕ, max, List, [], ◌∷◌, map, Option, Some, None}
 use Rattle.gate_base.specs.Events.{Event}
 use Rattle.gate_base.specs.declared.event.Verdict.{Verdict}
-use Rattle.gate_base.specs.declared.event.Verdict.TheVariants.{Pass, Refused}
+use Rattle.gate_base.specs.declared.event.Verdict.TheVariants.{Pass, Refused, Held}
 use Rattle.gate_base.specs.declared.side.Side.{Side}
 use Rattle.binding_table.specs.Bindings.{Bindings}
 use Rattle.ipv4_frames.specs.Ipv4.{Datagram}
@@ -41,6 +41,7 @@ after_kind rules live side moment d Snmp = record live { table = table_after rul
 abbrev pub next_by : {S : Type 0} → SessionRules S → World S → Event → Verdict → World S
 next_by rules live e Pass = let d = datagram_in e in after_kind rules live e.side e.moment d (kind_of d)
 next_by rules live e (Refused refusal) = live
+next_by rules live e Held = live
 
 -- what is known after an event
 abbrev pub next : {S : Type 0} → SessionRules S → World S → Event → World S
@@ -81,6 +82,7 @@ out_kind rules live side moment d kind =
 abbrev pub out_by : {S : Type 0} → SessionRules S → World S → Event → Verdict → List (List ℕ)
 out_by rules live e Pass = let d = datagram_in e in out_kind rules live e.side e.moment d (kind_of d)
 out_by rules live e (Refused refusal) = []
+out_by rules live e Held = []
 
 -- the datagrams that go out at an event, in their order
 abbrev pub out : {S : Type 0} → SessionRules S → World S → Event → List (List ℕ)

@@ -6,7 +6,7 @@ use Rattle.gate_base.specs.declared.address.Addr.{Addr}
 use Rattle.gate_base.specs.declared.event.Verdict.{Verdict}
 use Rattle.gate_base.specs.declared.event.Verdict.TheVariants.{Pass, Refused}
 use Rattle.gate_base.specs.declared.refusal.Refusal.{Refusal}
-use Rattle.gate_base.specs.declared.refusal.Refusal.TheVariants.{SourceInPool, NoBinding, BadInner, InnerUnbound, BadDns, DnsUnbound, BadSnmp, DnsStream, NoSession, SessionsFull, PoolEmpty}
+use Rattle.gate_base.specs.declared.refusal.Refusal.TheVariants.{SourceInPool, NoBinding, BadInner, InnerUnbound, BadDns, DnsUnbound, BadSnmp, DnsStream, NoSession, SessionsFull, PoolEmpty, SnmpTooLong}
 use Rattle.gate_base.specs.declared.side.Side.{Side}
 use Rattle.gate_settings.specs.Cross.{is_in_same}
 use Rattle.binding_table.specs.Bindings.{Bindings, in_pool, free, seen}
@@ -16,7 +16,7 @@ use Rattle.ipv4_frames.specs.Ipv4.{Datagram}
 use Rattle.gate_base.specs.Tests.{first_that_holds}
 use Rattle.gate_world.specs.Frame.{Kind, Udp, Echo, Error, Dns, Snmp, Stream, dns_port, has_port, datagram_in, header_tests, datagram_tests, transport_tests, kind_of}
 use Rattle.gate_world.specs.Inner.{inside, is_inner_unbound}
-use Rattle.gate_world.specs.Management.{is_bad_snmp}
+use Rattle.gate_world.specs.Management.{is_bad_snmp, is_snmp_too_long}
 use Rattle.gate_world.specs.Names.{message_in, named_in, has_unbound}
 use Rattle.gate_world.specs.Rules.{SessionRules}
 use Rattle.gate_world.specs.Stream.{found_in, taker_by, lacks_session, session_refusal, is_full, stream_hold}
@@ -106,9 +106,18 @@ kind_tests rules live side moment d Stream =
     ∷ told (session_refusal rules side d (taker_by rules (table_after rules live side moment d Stream) side d found))
     ++ (is_full live.connections found d, SessionsFull) ∷ []
 
+-- of what goes on in place of its payload, by the bindings after it
+abbrev pub late_tests : {S : Type 0} → SessionRules S → World S → Side → ℕ → Datagram → Kind → List (Bool × Refusal)
+late_tests rules live side moment d Udp = []
+late_tests rules live side moment d Echo = []
+late_tests rules live side moment d Error = []
+late_tests rules live side moment d Dns = []
+late_tests rules live side moment d Snmp = (is_snmp_too_long (table_after rules live side moment d Snmp) side d, SnmpTooLong) ∷ []
+late_tests rules live side moment d Stream = []
+
 -- of a datagram whose kind is told, from its addresses on
 abbrev pub world_tests : {S : Type 0} → SessionRules S → World S → Side → ℕ → Datagram → Kind → List (Bool × Refusal)
-world_tests rules live side moment d kind = address_tests live.table side d ++ (kind_tests rules live side moment d kind ++ (is_pool_empty live.table side d kind, PoolEmpty) ∷ [])
+world_tests rules live side moment d kind = address_tests live.table side d ++ (kind_tests rules live side moment d kind ++ (is_pool_empty live.table side d kind, PoolEmpty) ∷ late_tests rules live side moment d kind)
 
 -- all tests in their order, over what lives at the event
 abbrev pub tests : {S : Type 0} → SessionRules S → World S → Event → List (Bool × Refusal)

@@ -5,7 +5,6 @@ ghost use Rattle.std.specs.String.{string_bytes};
 ghost use Rattle.gateway.specs.Command.{command_of};
 ghost use Rattle.gateway.specs.Answers.{IsPromised, TellsLine};
 ghost use Rattle.std.specs.Prelude.{◌≡◌, map};
-ghost use Rattle.gate_desk.specs.Untold.{told_by};
 ghost use Rattle.gateway.specs.Status.{error_line};
 ghost use Rattle.gateway.specs.declared.status.Status.TheVariants.{WriteFault};
 ghost use Rattle.gateway_main.specs.Exit.{IsExit, IsCode, Finishes, IsFinished};
@@ -65,7 +64,7 @@ fn tell_refused<D: Desk>(desk: &mut D, slot: Slot)
 /// Hands all that was written to the system, and answers the exit status. Where the system refuses octets that had been
 /// taken, that is a failed write of their slot, which a line on standard error names, whatever the status was before.
 fn finish<R: Runtime>(desk: &mut FileDesk<R>, code: u8) -> u8
-    ensures { Finishes code result (told_by desk.old) (told_by desk.new) }
+    ensures { Finishes code result desk.old desk.new }
 {
     match desk.finish() {
         Ok(()) => code,
@@ -78,7 +77,7 @@ fn finish<R: Runtime>(desk: &mut FileDesk<R>, code: u8) -> u8
 
 /// Carries out the command of these words over real files, and answers the exit status.
 pub fn carry_out<R: Runtime>(alloc: Global, words: &[String], desk: &mut FileDesk<R>) -> u8
-    ensures exit { IsFinished result (command_of (map string_bytes words.now)) (told_by desk.old) (told_by desk.new) }
+    ensures exit { IsFinished result (command_of (map string_bytes words.now)) desk.old desk.new }
     ensures code { IsCode result }
 {
     let code = exit_status(alloc, words, desk);

@@ -3,25 +3,8 @@ use Rattle.std.specs.Prelude.{ℕ, ◌+◌, ◌-◌, ◌*◌, ◌%◌, ◌==◌,
 use Rattle.std.specs.List.{list_all, starts_with}
 use Rattle.std.specs.Option.{option_or}
 use Rattle.gate_base.specs.Address.{◌>>=◌}
+use Rattle.gate_base.specs.Rules.{greatest}
 use Rattle.gate_base.specs.declared.rule.OidRule.{OidRule}
-
--- the greatest arc
-abbrev pub greatest : ℕ
-greatest = 4_294_967_295
-
--- a prefix has 2 to 64 arcs, and its first two can stand in one sub-identifier (X.690, 8.19.4); at most 127 arcs are skipped
-abbrev pub is_rule : OidRule → Bool
-is_rule rule =
-    let first = slice_index rule.prefix 0 in
-    let second = slice_index rule.prefix 1 in
-    (nat_le 2 (length rule.prefix) && nat_le (length rule.prefix) 64)
-    && ((nat_le first 1 && nat_le second 39) || (first == 2 && nat_le second 4_294_967_215))
-    && list_all (λ arc. nat_le arc greatest) rule.prefix
-    && nat_le rule.skip 127
-
--- each can be a rule
-abbrev pub AreRules : List OidRule → Type 0
-AreRules rules = IsTrue (list_all is_rule rules)
 
 -- a sub-identifier's number with the seven bits of one more octet behind it; so_far is 0 where a sub-identifier begins, which it doesn't with the octet 128 (X.690, 8.19.2)
 abbrev pub joined : ℕ → ℕ → Option ℕ

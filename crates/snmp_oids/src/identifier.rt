@@ -1,6 +1,7 @@
 // Object identifiers, the addresses in them, and other addresses in their place (RFC 2962, 4.2).
 ghost use Rattle.std.specs.Prelude.{◌≡◌, ◌+◌, ◌*◌, ◌^◌, ◌<◌, ◌≤◌, length, option_map, option_and_then, IfSome, IsSome, IsTrue};
-ghost use Rattle.snmp_oids.specs.Arcs.{AreRules, is_rule, named_by, named_in, arcs_of};
+ghost use Rattle.snmp_oids.specs.Arcs.{named_by, named_in, arcs_of};
+ghost use Rattle.gate_base.specs.Rules.{AreRules, is_rule};
 ghost use Rattle.snmp_oids.specs.Identifier.{place_behind, arc_octets, address_octets, change_at, change_of, changed, identifier_renamed};
 ghost use Rattle.snmp_oids.specs.Written.{with_octets};
 

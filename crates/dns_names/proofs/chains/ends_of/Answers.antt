@@ -13,3 +13,6 @@ loop-place-preserved c =
     let here : Leads c.args.message.now (length ends) c.next_end-end.result = subst (λ (k : ℕ). Leads c.args.message.now k c.next_end-end.result) (sym c.loop-place.invariant.1) c.next_end-end.ensures in
     let more : length (ends ++ c.next_end-end.result ∷ []) ≡ c.loop-place.place + 1 = omega (arith, length-append ends (c.next_end-end.result ∷ []), c.loop-place.invariant.1) in
     subst (λ (o : List ℕ). AreEnds c.args.message.now o × (length o ≡ c.loop-place.place + 1)) (sym c.in_ok-push.ensures.items) (AreEnds-push c.args.message.now ends c.next_end-end.result c.loop-place.invariant.0 here, more)
+
+pub returns-then-message-lt-LONG : goal.returns-then-message-lt-LONG
+returns-then-message-lt-LONG c = rw c.new.ensures.items (AreEnds-none c.args.message.now)

@@ -13,7 +13,7 @@ use Rattle.gate_core.specs.Gates.{world_of}
 use Rattle.gate_core.specs.Segments.{IsSegmentTaken}
 use Rattle.gate_core.proofs.NotedConnections.{at_place, place_replaced}
 use Rattle.gate_core.proofs.SegmentTests.{found_joined, empty_refused}
-use Rattle.gate_core.proofs.SegmentsPassed.{some_of, some_session, session_goes_on, session_is_over, lost_in_session, lost_done}
+use Rattle.gate_core.proofs.SegmentsPassed.{some_of, some_session, session_goes_on, session_is_over, lost_in_session, lost_done, passes}
 use Rattle.gate_core.proofs.stream.take_by_session.Goals as goal
 
 pub returns-then-lacks_alias-clause-done : goal.returns-then-lacks_alias-clause-done
@@ -38,7 +38,9 @@ returns-in_err-waiting-clause-done c =
     let t = some_of (session_in (connection_of c.args.key.now c.args.connections.now)) c.requires.tracked in
     let found = ap (λ (k : ConnKey). session_in (connection_of k c.args.connections.now)) (sym c.requires.key) ∙ t.1 in
     lost_done live side d c.from_residual.result _ c.step_session.new.outbox c.from_residual.ensures.0
-    (lost_in_session live side d t.0 _ c.step_session.new.outbox found (c.in_err-waiting.ensures.memory t.0 t.1) (ap (λ (x : List (Connection (Tracked KeptSession))). world_of c.args.way.now.moment.0 c.args.table.now x c.args.pending.now) c.in_err-waiting.ensures.same) c.in_err-waiting.ensures.nothing)
+    (lost_in_session live side d t.0 _ c.step_session.new.outbox found (c.in_err-waiting.ensures.memory t.0 t.1)
+    (passes live side d c.args.way.now (Some t.0) false c.requires.way (found_joined live side d (Some t.0) c.requires.dns (some_session _ t.0 found) found) (ap (session_refusal kept_rules side d) (sym t.1) ∙ c.requires.passes) refl (sym c.lacks_alias.ensures ∙ c.if-lacks_alias.false))
+    (ap (λ (x : List (Connection (Tracked KeptSession))). world_of c.args.way.now.moment.0 c.args.table.now x c.args.pending.now) c.in_err-waiting.ensures.same) c.in_err-waiting.ensures.nothing)
 
 pub note-requires-clause-room : goal.note-requires-clause-room
 note-requires-clause-room c = λ h.

@@ -1,23 +1,33 @@
-use Rattle.std.proofs.Common.{arith, append-nil, length-drop}
-use Rattle.std.proofs.lemmas.List.{take_rest}
-use Rattle.std.proofs.lemmas.Result.{err_from_is_err_and}
-use Rattle.std.proofs.Math.Seq.{take-add}
-use Rattle.gate_desk.proofs.Laws.{writes_none, writes_on}
+use Rattle.std.proofs.Common.{◌≡◌, ◌++◌, ◌∙◌, take, length, ap, sym, subst, OnOk, OnErr}
+use Rattle.std.proofs.lemmas.Bool.{eqb-true}
+use Rattle.std.proofs.lemmas.List.{take_rest, take-append-drop, nil_from_length}
+use Rattle.std.proofs.lemmas.Result.{on_ok_weaker, on_err_weaker}
+use Rattle.gate_desk.specs.Outside.{Writes, WritesPart}
+use Rattle.gate_desk.proofs.Laws.{writes_none, writes_on, writes_part_on}
 use Rattle.gate_desk.proofs.whole.write_whole.Goals as goal
 
-pub loop-done-init : goal.loop-done-init
-loop-done-init g c = record { bound = omega arith; writes = writes_none c.args.slot _ }
+pub returns-then-is_empty-clause-ok : goal.returns-then-is_empty-clause-ok
+returns-then-is_empty-clause-ok g c =
+    let old = g.D.Desk.outside c.args.desk.now in
+    let none : length c.args.piece.now ≡ 0 = eqb-true (length c.args.piece.now) 0 (sym c.if-is_empty.ensures) in
+    subst (λ xs. Writes c.args.slot xs old old) (sym (nil_from_length c.args.piece.now none)) (writes_none c.args.slot old)
 
-pub returns-in_err-n-clause-err : goal.returns-in_err-n-clause-err
-returns-in_err-n-clause-err g c =
-    let p = err_from_is_err_and c.from_residual.result c.from_residual.ensures.1 in
-    let all = writes_on c.args.slot _ _ _ _ _ c.loop-done.invariant.writes c.in_err-n.ensures.err in
-    rw p.1 (c.loop-done.done, c.loop-done.invariant.bound, rw append-nil at all)
+pub returns-clause-ok : goal.returns-clause-ok
+returns-clause-ok g c =
+    let old = g.D.Desk.outside c.args.desk.now in
+    let new = g.D.Desk.outside c.write_rest.new.desk in
+    let piece = c.args.piece.now in
+    let n = c.in_ok-n.n in
+    let whole = ap (λ xs. take n piece ++ xs) (take_rest piece n) ∙ take-append-drop n piece in
+    subst (λ xs. OnOk c.write_rest.result (Writes c.args.slot xs old new)) whole
+    (on_ok_weaker c.write_rest.result (λ h. writes_on c.args.slot _ _ _ _ _ c.in_ok-n.ensures.ok h) c.write_rest.ensures.ok)
 
-pub loop-done-preserved : goal.loop-done-preserved
-loop-done-preserved g c =
-    let one = rw take_rest at c.in_ok-n.ensures.ok in
-    record {
-      bound = omega (arith, c.in_ok-n.ensures.fits, length-drop c.loop-done.done c.args.piece.now);
-      writes = rw take-add (writes_on c.args.slot _ _ _ _ _ c.loop-done.invariant.writes one);
-    }
+pub returns-clause-err : goal.returns-clause-err
+returns-clause-err g c =
+    let old = g.D.Desk.outside c.args.desk.now in
+    let new = g.D.Desk.outside c.write_rest.new.desk in
+    let piece = c.args.piece.now in
+    let n = c.in_ok-n.n in
+    let whole = ap (λ xs. take n piece ++ xs) (take_rest piece n) ∙ take-append-drop n piece in
+    subst (λ xs. OnErr c.write_rest.result (WritesPart c.args.slot xs old new)) whole
+    (on_err_weaker c.write_rest.result (λ h. writes_part_on c.args.slot _ _ _ _ _ c.in_ok-n.ensures.ok h) c.write_rest.ensures.err)

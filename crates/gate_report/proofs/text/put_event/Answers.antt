@@ -14,22 +14,20 @@ unfolding event_text
 returns-clause-line c =
     let number = decimal c.args.number in
     let space = codes " " in
-    let side = c.name-2.result.now in
+    let side = name_of c.args.side in
     let moment = decimal c.args.moment in
-    let verdict = c.name.result.now in
+    let verdict = verdict_name c.args.verdict in
     let frames = decimal c.from.result in
     let last : drop 192 c.args.room.now ≡ [] = drop_all 192 c.args.room.now (omega (arith, c.requires)) in
     let pieces = c.put_number_before.ensures.octets
-    ∙ ap (λ xs. number ++ xs) (c.put_word_before-end-7.ensures.octets
-    ∙ ap (λ xs. space ++ xs) (c.put_word_before-end-6.ensures.octets
-    ∙ ap (λ xs. side ++ xs) (c.put_word_before-end-5.ensures.octets
+    ∙ ap (λ xs. number ++ xs) (c.put_word_before-end-5.ensures.octets
+    ∙ ap (λ xs. space ++ xs) (c.put_side_before-end.ensures.octets
+    ∙ ap (λ xs. side ++ xs) (c.put_word_before-end-4.ensures.octets
     ∙ ap (λ xs. space ++ xs) (c.put_number_before-end-2.ensures.octets
-    ∙ ap (λ xs. moment ++ xs) (c.put_word_before-end-4.ensures.octets
-    ∙ ap (λ xs. space ++ xs) (c.put_word_before-end-3.ensures.octets
+    ∙ ap (λ xs. moment ++ xs) (c.put_word_before-end-3.ensures.octets
+    ∙ ap (λ xs. space ++ xs) (c.put_verdict_before-end.ensures.octets
     ∙ ap (λ xs. verdict ++ xs) (c.put_word_before-end-2.ensures.octets
     ∙ ap (λ xs. space ++ xs) (c.put_number_before-end.ensures.octets
     ∙ ap (λ xs. frames ++ xs) (c.put_word_before-end.ensures.octets ∙ ap (λ xs. codes "\n" ++ xs) last))))))))) in
     pieces ∙ joined number space side space moment space verdict space frames (codes "\n")
-    ∙ ap (λ s. number ++ space ++ s ++ space ++ moment ++ space ++ verdict ++ space ++ frames ++ codes "\n") c.name-2.ensures
-    ∙ ap (λ v. number ++ space ++ name_of c.args.side ++ space ++ moment ++ space ++ v ++ space ++ frames ++ codes "\n") c.name.ensures
     ∙ ap (λ n. number ++ space ++ name_of c.args.side ++ space ++ moment ++ space ++ verdict_name c.args.verdict ++ space ++ decimal n ++ codes "\n") c.from.ensures

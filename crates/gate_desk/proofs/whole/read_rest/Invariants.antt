@@ -1,6 +1,6 @@
 use Rattle.std.proofs.Common.{length, ◌-◌, ◌≤◌, take}
 use Rattle.gate_desk.specs.Outside.{Takes, AreNext}
-use Rattle.gate_desk.proofs.whole.read_full.Given as goal
+use Rattle.gate_desk.proofs.whole.read_rest.Given as goal
 
 abbrev pub invariant-loop-filled : goal.invariant-loop-filled
 invariant-loop-filled g l = record {

@@ -1,6 +1,6 @@
 use Rattle.std.proofs.Common.{length, ◌-◌, ◌≤◌, take}
 use Rattle.gate_desk.specs.Outside.{Writes}
-use Rattle.gate_desk.proofs.whole.write_whole.Given as goal
+use Rattle.gate_desk.proofs.whole.write_rest.Given as goal
 
 abbrev pub invariant-loop-done : goal.invariant-loop-done
 invariant-loop-done g l = record {
