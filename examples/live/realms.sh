@@ -33,6 +33,7 @@ fail() { echo "$*" >&2; exit 1; }
 start() {
     local log="$work/$1"
     shift
+    : >"$log"
     "$@" >"$log" 2>&1 &
     started+=("$!")
 }
