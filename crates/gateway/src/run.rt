@@ -6,6 +6,7 @@ ghost use Rattle.gateway.specs.Answers.{Runs, TookForWritten};
 use crate::Status;
 use crate::command::FileNames;
 use crate::forward::forward;
+use crate::front::open_joiner;
 use crate::prepare::prepare;
 use crate::ready::ready;
 use gate_base::OutOfMemory;
@@ -24,7 +25,19 @@ pub fn run<D: Desk>(alloc: Global, desk: &mut D, names: FileNames<'_>) -> Result
         Ok(outbox) => outbox,
         Err(OutOfMemory) => return Err(Status::OutOfMemory),
     };
+    let mut joiner = match open_joiner(alloc, &gate) {
+        Ok(joiner) => joiner,
+        Err(OutOfMemory) => return Err(Status::OutOfMemory),
+    };
     let mut room = [0; LINE];
     ready(desk, names, gate.settings())?;
-    forward(alloc, desk, &mut merge, &mut gate, &mut outbox, &mut room)
+    forward(
+        alloc,
+        desk,
+        &mut merge,
+        &mut joiner,
+        &mut gate,
+        &mut outbox,
+        &mut room,
+    )
 }

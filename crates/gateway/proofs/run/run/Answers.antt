@@ -94,3 +94,9 @@ returns-clause-taken g c =
     let new = g.D.Desk.outside c.ready.new.desk in
     let ready = subst (λ s. Readied s (output_starts (names_of c.args.names)) mid new) c.settings.ensures c.in_ok-ready.ensures.answer in
     took_forwards c.forward.result c.in_ok-merge.gate c.in_ok-merge.merge (names_of c.args.names) old mid new (g.D.Desk.outside c.forward.new.desk) c.in_ok-merge.ensures.answer ready c.forward.ensures.taken
+
+pub returns-in-Err-open_joiner-clause-answer : goal.returns-in-Err-open_joiner-clause-answer
+returns-in-Err-open_joiner-clause-answer g c = run_no_memory c.in_ok-merge.gate c.in_ok-merge.merge (names_of c.args.names) (g.D.Desk.outside c.args.desk.now) (g.D.Desk.outside c.prepare.new.desk) c.in_ok-merge.ensures.answer
+
+pub returns-in-Err-open_joiner-clause-taken : goal.returns-in-Err-open_joiner-clause-taken
+returns-in-Err-open_joiner-clause-taken g c = took_prepared c.in_ok-merge.gate c.in_ok-merge.merge (first_starts (names_of c.args.names)) (g.D.Desk.outside c.args.desk.now) (g.D.Desk.outside c.prepare.new.desk) (g.D.Desk.outside c.prepare.new.desk) c.in_ok-merge.ensures.answer refl
