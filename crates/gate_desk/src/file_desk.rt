@@ -284,6 +284,7 @@ impl<R: Runtime> Desk for FileDesk<R> {
     fn start(&mut self, slot: Slot, name: &str, way: Way) -> Result<(), Failed>
         ensures ok { OnOk result (Starts slot name.now way (told_by self.old) (told_by self.new)) }
         ensures err { OnErr result (FailsToStart slot (told_by self.old) (told_by self.new)) }
+        ensures leaves { OnOk result ((told_by self.new).start_faults ≡ (told_by self.old).start_faults) }
         ensures counts { self.new.start_faults ≡ counts_after result slot self.old.start_faults }
         ensures refused { IsSome self.old.refused → IsErr result }
     {
@@ -312,6 +313,7 @@ impl<R: Runtime> Desk for FileDesk<R> {
         ensures end { IfOk result (λ n. n ≡ 0 → 0 < length buffer.old → IsAtEnd (told_by self.old) slot) }
         ensures err { OnErr result (Takes slot 0 (told_by self.old) (told_by self.new)) }
         ensures cause { OnErr result (HasFailed slot (told_by self.old) (told_by self.new)) }
+        ensures leaves { OnOk result ((told_by self.new).faults ≡ (told_by self.old).faults) }
         ensures counts { self.new.faults ≡ counts_after result slot self.old.faults }
         ensures refused { IsSome self.old.refused → IsErr result }
     {
@@ -331,6 +333,7 @@ impl<R: Runtime> Desk for FileDesk<R> {
         ensures ok { IfOk result (λ n. Writes slot (take n piece.now) (told_by self.old) (told_by self.new)) }
         ensures err { OnErr result (Writes slot [] (told_by self.old) (told_by self.new)) }
         ensures cause { OnErr result (HasFailed slot (told_by self.old) (told_by self.new)) }
+        ensures leaves { OnOk result ((told_by self.new).faults ≡ (told_by self.old).faults) }
         ensures counts { self.new.faults ≡ counts_after result slot self.old.faults }
         ensures whole { IfOk result (λ n. n ≡ length piece.now) }
         ensures waits { OnOk result (Waits slot piece.now self.old.waiting self.new.waiting) }
