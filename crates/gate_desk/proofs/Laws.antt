@@ -210,7 +210,7 @@ at-put_any p Errors RightOut x = refl
 at-put_any p Errors Report x = refl
 at-put_any p Errors Errors x = refl
 
-same-of : (s t : Slot) → same_slot s t ≡ true → s ≡ t
+pub same-of : (s t : Slot) → same_slot s t ≡ true → s ≡ t
 same-of Settings Settings e = refl
 same-of Settings LeftIn e = absurd (false≢true e)
 same-of Settings RightIn e = absurd (false≢true e)
