@@ -178,7 +178,7 @@ keeps (Some all) status a b f w = λ s accepted. record {
   whole = λ e. w e s accepted;
   stands = each_stands s (events_in all);
   arrivals = arrivals_are s.join (events_in all).events;
-  promised = promised s (coming (arrivals_by s (events_in all).events));
+  promised = promised all.settings s (coming (arrivals_by s (events_in all).events)) accepted;
 }
 
 pub promise_kept : (status : Status) (names : Names) (a b : Outside) → IsRun status names a b → IsPromised status a b
