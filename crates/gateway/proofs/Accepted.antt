@@ -37,6 +37,7 @@ accepted_settings = record {
   same = [];
   left = raw_side 0xc0a8c801 0xc0a8c8fe;
   right = raw_side 0xac100901 0xac1009fe;
+  oids = [];
   statics =
       (record { side = Left; host = record { 0 = 0x0a000005 }; alias = record { 0 = 0xac100901 } })
       ∷ (record { side = Right; host = record { 0 = 0x0a000005 }; alias = record { 0 = 0xc0a8c801 } })
