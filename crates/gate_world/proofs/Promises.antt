@@ -55,13 +55,13 @@ pub promised : (octets : List ℕ) (settings : Settings) (events : List Event) �
 promised octets settings events is =
     let a = accepted octets settings is in
     record {
-  frames = λ done others e split. frame_is (known_after settings done) e;
-  sessions = λ done others split. sessions_are done settings;
-  taken = λ done others e split t h. taken_keeps told_rules SessionIs session_keeps (told_after settings done) e t h (sessions_are done settings);
-  told = λ done others split. sym (known done);
-  said_is = λ done others e split t h. ap (λ (w : World Session). out whole_rules w e) (known done) ∙ out_as (λ (x : Told). x.session) told_rules whole_rules told_reads (told_after settings done) e ∙ taken_out told_rules (told_after settings done) e t h;
-  pairs = λ done others split. pairs_cross _ (run_hosts whole_rules done (opening_world settings) (opening_hosts settings a.sound a.forms));
-}
+      frames = λ done others e split. frame_is (known_after settings done) e;
+      sessions = λ done others split. sessions_are done settings;
+      taken = λ done others e split t h. taken_keeps told_rules SessionIs session_keeps (told_after settings done) e t h (sessions_are done settings);
+      told = λ done others split. sym (known done);
+      said_is = λ done others e split t h. ap (λ (w : World Session). out whole_rules w e) (known done) ∙ out_as (λ (x : Told). x.session) told_rules whole_rules told_reads (told_after settings done) e ∙ taken_out told_rules (told_after settings done) e t h;
+      pairs = λ done others split. pairs_cross _ (run_hosts whole_rules done (opening_world settings) (opening_hosts settings a.sound a.forms));
+    }
   where
     known : (done : List Event) → known_after settings done ≡ world_as (λ (x : Told). x.session) (told_after settings done)
     known done = run_as (λ (x : Told). x.session) told_rules whole_rules told_reads done (opening_world settings)

@@ -35,7 +35,6 @@ use Rattle.std.specs.Fmt.{digits}
 use Rattle.gate_world.specs.Verdict.{verdict}
 use Rattle.gate_world.proofs.RowWords.{Row, hex, block, fixed, pool, set, event, passes, refused, found, wanted}
 
-
 -- a source that is not one host's
 abbrev source_of_many : List Row
 source_of_many =
