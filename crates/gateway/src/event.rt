@@ -15,7 +15,7 @@ use crate::front::{ask, joined};
 use crate::report::{Totals, count, put_line};
 use ether_frames::put_head;
 use frag_join::{Joiner, Taken};
-use gate_base::{Event, Link, Moment, OutOfMemory, Side, Verdict};
+use gate_base::{Event, Link, Moment, Side, Verdict};
 use gate_core::{Gate, Outbox};
 use gate_desk::{Desk, Slot};
 use gate_report::{LINE, Line};
@@ -130,10 +130,7 @@ fn handle<D: Desk>(
     requires to_right { totals.old.to_right ≤ 4096 * totals.old.events }
     ensures { Handles (counting totals.new result) gate.old gate.new totals.old (Comes (event_of event.entry)) (D.outside desk.old) (D.outside desk.new) }
 {
-    let verdict = match gate.step(&event, outbox) {
-        Ok(verdict) => verdict,
-        Err(OutOfMemory) => return Err(Status::OutOfMemory),
-    };
+    let verdict = gate.step(&event, outbox)?;
     let frames = outbox.len() as u32;
     let settings = gate.settings();
     send_all(desk, settings, event.side.other(), event.moment, outbox)?;

@@ -10,7 +10,6 @@ ghost use Rattle.gateway.specs.Phases.{Forwards, Finishes, TookFew};
 use crate::Status;
 use crate::event::take;
 use crate::report::{Totals, last_line, put_line};
-use crate::stops::status_of_merge;
 use frag_join::Joiner;
 use gate_core::{Gate, Outbox};
 use gate_desk::Desk;
@@ -70,15 +69,12 @@ pub fn forward<D: Desk>(
         to_right: 0,
     };
     'events: loop {
-        let more = match merge.advance(desk) {
-            Ok(more) => more,
-            Err(stop) => return Err(status_of_merge(stop)),
-        };
+        let more = merge.advance(desk)?;
         if !more {
             let line = last_line(totals, gate.pending());
             return finish(alloc, desk, room, gate.settings().json, line);
         }
-        match take(
+        take(
             alloc,
             desk,
             joiner,
@@ -87,9 +83,6 @@ pub fn forward<D: Desk>(
             room,
             &mut totals,
             merge.event(),
-        ) {
-            Ok(()) => {}
-            Err(status) => return Err(status),
-        }
+        )?;
     }
 }

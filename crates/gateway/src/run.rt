@@ -9,7 +9,6 @@ use crate::forward::forward;
 use crate::front::open_joiner;
 use crate::prepare::prepare;
 use crate::ready::ready;
-use gate_base::OutOfMemory;
 use gate_core::Outbox;
 use gate_desk::Desk;
 use gate_report::{LINE, Line};
@@ -21,14 +20,8 @@ pub fn run<D: Desk>(alloc: Global, desk: &mut D, names: FileNames<'_>) -> Result
     ensures taken { OnErr result (TookForWritten (D.outside desk.old) (D.outside desk.new)) }
 {
     let (mut merge, mut gate) = prepare(alloc, desk, names)?;
-    let mut outbox = match Outbox::make(alloc) {
-        Ok(outbox) => outbox,
-        Err(OutOfMemory) => return Err(Status::OutOfMemory),
-    };
-    let mut joiner = match open_joiner(alloc, &gate) {
-        Ok(joiner) => joiner,
-        Err(OutOfMemory) => return Err(Status::OutOfMemory),
-    };
+    let mut outbox = Outbox::make(alloc)?;
+    let mut joiner = open_joiner(alloc, &gate)?;
     let mut room = [0; LINE];
     ready(desk, names, gate.settings())?;
     forward(
