@@ -40,6 +40,16 @@ def tcp(source, port, destination, far_port, flags, sequence, acknowledgement, p
     return datagram(6, source, destination, header + payload, 16)
 
 
+def fragments(whole, size):
+    """The fragments of a datagram without options, each but the last with so many octets of its payload, a multiple of 8."""
+    payload = whole[20:]
+    for start in range(0, len(payload), size):
+        part = payload[start:start + size]
+        more = 0x2000 if start + size < len(payload) else 0
+        head = whole[:2] + struct.pack(">H", 20 + len(part)) + whole[4:6] + struct.pack(">H", more | start // 8) + whole[8:10] + bytes(2) + whole[12:20]
+        yield head[:10] + struct.pack(">H", checksum(head)) + head[12:] + part
+
+
 def record(seconds, microseconds, octets):
     return struct.pack("<IIII", seconds, microseconds, len(octets), len(octets)) + octets
 

@@ -5,7 +5,7 @@ import struct
 import sys
 
 sys.path.insert(0, os.path.join(os.path.dirname(os.path.abspath(__file__)), "../../bench"))
-from datagrams import HEAD, icmp, quad, record, tcp, udp
+from datagrams import HEAD, fragments, icmp, quad, record, tcp, udp
 
 FIN, SYN, PSH, ACK = 1, 2, 8, 16
 
@@ -123,9 +123,32 @@ def ping(captures):
     captures.add("north", icmp("10.0.0.77", "192.168.200.99", 8, 0, struct.pack(">HH", 9, 2) + b"and you?"))
 
 
+def long_answer(captures):
+    """A question, and an answer that comes in two fragments, the last one first."""
+    asked = name("all.south.example") + struct.pack(">HH", 1, 1)
+    hosts = ["10.0.0.%d" % host for host in range(21, 25)]
+    answers = b"".join(struct.pack(">HHHIH", 0xC00C, 1, 1, 3600, 4) + quad(host) for host in hosts)
+    captures.add("north", udp("10.0.0.77", 40011, "192.168.200.53", 53, struct.pack(">HHHHHH", 8, 0x0100, 1, 0, 0, 0) + asked))
+    answer = udp("10.0.0.53", 53, "172.16.9.2", 40011, struct.pack(">HHHHHH", 8, 0x8180, 1, len(hosts), 0, 0) + asked + answers)
+    for fragment in reversed(list(fragments(answer, 64))):
+        captures.add("south", fragment)
+
+
+def element(tag, content):
+    return bytes([tag, len(content)]) + content
+
+
+def walk(captures):
+    """A row of the backup server's table of addresses, which the row is named by: ipAdEntIfIndex.10.0.0.5 = 2."""
+    row = element(0x30, element(0x06, bytes.fromhex("2b06010201041401020a000005")) + element(0x02, b"\x02"))
+    pdu = element(0xA2, bytes.fromhex("020107020100020100") + element(0x30, row))
+    message = element(0x30, bytes.fromhex("02010104067075626c6963") + pdu)
+    captures.add("north", udp("10.0.0.5", 161, "192.168.200.1", 40012, message))
+
+
 def main():
     captures = Captures()
-    for part in (log_and_time, look_up, files, trap, ping):
+    for part in (log_and_time, look_up, files, trap, ping, long_answer, walk):
         part(captures)
     captures.write(os.path.dirname(os.path.abspath(__file__)))
 

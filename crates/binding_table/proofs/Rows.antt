@@ -24,6 +24,7 @@ opening = record {
   same = record { base = address 11 0 0 0; bits = 8 } ∷ [];
   left = record { first = (address 192 168 200 1).0; last = (address 192 168 200 3).0 };
   right = record { first = (address 172 16 9 1).0; last = (address 172 16 9 1).0 };
+  oids = [];
   entries = fixed ∷ [];
 }
 

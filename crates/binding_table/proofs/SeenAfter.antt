@@ -1,18 +1,16 @@
 -- What is seen after an address was used.
-use Rattle.std.proofs.Common.{◌≡◌, ◌⊎◌, inl, inr, ◌==◌, ◌&&◌, Bool, true, false, ℕ, List, [], ◌∷◌, ◌++◌, Option, Some, None, refl, sym, ap, ◌∙◌}
+use Rattle.std.proofs.Common.{◌≡◌, ◌⊎◌, inl, inr, ◌==◌, ◌&&◌, Bool, true, false, Option, Some, None, refl, sym, ap, ◌∙◌}
 use Rattle.std.proofs.lemmas.Bool.{false≢true}
 use Rattle.gate_base.specs.Side.{other, same_side}
 use Rattle.gate_base.specs.declared.address.Addr.{Addr}
 use Rattle.gate_base.specs.declared.event.Moment.{Moment}
-use Rattle.gate_base.specs.declared.rule.OidRule.{OidRule}
 use Rattle.gate_base.specs.declared.side.Side.{Side}
 use Rattle.realm_pools.specs.Addresses.{Addresses, least_free}
 use Rattle.binding_table.specs.declared.binding.Crossing.{Crossing}
 use Rattle.binding_table.specs.declared.binding.Crossing.TheVariants.{Same, Known, New, Unbound, Empty}
-use Rattle.binding_table.specs.Bindings.{Bindings, is_same, in_pool, alias_of, host_of, pool_of, cross, seen, seen_by, new_or_empty, extend_through, is_settled}
-use Rattle.binding_table.specs.Plan.{Use, used, used_by, after_uses}
+use Rattle.binding_table.specs.Bindings.{Bindings, is_same, in_pool, alias_of, host_of, pool_of, seen, seen_by, new_or_empty, extend_through, is_settled}
+use Rattle.binding_table.specs.Plan.{used_by}
 use Rattle.binding_table.proofs.Kept.{same_pair}
-use Rattle.binding_table.proofs.Pools.{same_side-itself}
 use Rattle.binding_table.proofs.Planned.{crossed, cross_is, cross_follows, alias_map, alias_push, or_none, used_by_follows}
 
 unseen : (address : Addr) (found : Option Addr) → seen_by address (new_or_empty found) ≡ None
@@ -49,15 +47,3 @@ seen_kept t side address one until crossing h =
     ∙ ap (λ (a : Option Addr). seen_by one (crossed (is_same t one) (in_pool t side one) (host_of side one t.entries) (pool_of later (other side)) a)) (alias_kept t side address one until crossing h)
     ∙ seen_crossed (is_same t one) (in_pool t side one) (host_of side one t.entries) (pool_of later (other side)) (pool_of t (other side)) (alias_of side one t.entries) one
     ∙ ap (seen_by one) (sym (cross_is t side one))
-
--- the rules about object identifiers stay
-oids_by : (t : Bindings) (side : Side) (address : Addr) (until : Moment) (crossing : Crossing) → (used_by t side address until crossing).oids ≡ t.oids
-oids_by t side address until Same = refl
-oids_by t side address until (Known image) = refl
-oids_by t side address until (New alias) = refl
-oids_by t side address until Unbound = refl
-oids_by t side address until Empty = refl
-
-pub oids_after : (t : Bindings) (uses : List Use) → (after_uses t uses).oids ≡ t.oids
-oids_after t [] = refl
-oids_after t (one ∷ uses) = oids_after (used t one) uses ∙ oids_by t one.side one.address one.until (cross t one.side one.address)

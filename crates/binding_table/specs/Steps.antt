@@ -23,9 +23,9 @@ pub record CanHold (table : Bindings) (binding : Binding) : Type 0 where
   pub place : IsInPlace table binding
   pub once : All (λ earlier. collides binding earlier ≡ false) table.entries
 
--- a table without blocks
+-- a table without blocks and rules
 abbrev pub plain_table : Range → Range → List Binding → Bindings
-plain_table left right entries = record { same = []; left = left; right = right; entries = entries }
+plain_table left right entries = record { same = []; left = left; right = right; oids = []; entries = entries }
 
 -- every alias is in its pool, and no two bindings of one realm's hosts share it
 pub record AreTaken (table : Bindings) : Type 0 where

@@ -4,6 +4,7 @@ ghost use Rattle.std.specs.List.{find, filter};
 ghost use Rattle.binding_table.specs.Steps.{aliases_of, aliases_with, changed, entries_in, filed, AreKept, CanHold};
 ghost use Rattle.binding_table.specs.Bindings as tables;
 ghost use Rattle.binding_table.specs.Lawful.{IsLawful};
+ghost use Rattle.gate_base.specs.Rules.{AreRules};
 ghost use Rattle.gate_settings.specs.Cross.{is_in_same};
 ghost use Rattle.gate_settings.specs.Sound.{IsSound};
 ghost use Rattle.gate_settings.specs.Forms.{HasForms};
@@ -80,7 +81,8 @@ impl Table {
 
     /// Where object identifiers hold addresses.
     pub fn oids(&self) -> &[OidRule]
-        ensures { result.now ≡ self.now.oids }
+        ensures value { result.now ≡ self.now.oids }
+        ensures rules { AreRules result.now }
     {
         self.oids.items()
     }

@@ -10,7 +10,7 @@ use Rattle.gate_desk.specs.Memory.{each}
 use Rattle.gate_desk.specs.Gathering.{Waits, gathered_after}
 use Rattle.gate_desk.proofs.Laws.{put-at}
 
-at_none : (s : Slot) → at {A = List ℕ} (each []) s ≡ []
+pub at_none : (s : Slot) → at {A = List ℕ} (each []) s ≡ []
 at_none Settings = refl
 at_none LeftIn = refl
 at_none RightIn = refl

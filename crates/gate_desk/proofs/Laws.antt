@@ -11,7 +11,7 @@ use Rattle.gate_desk.specs.declared.slot.PerSlot.{PerSlot}
 use Rattle.gate_desk.specs.declared.slot.Way.{Way}
 use Rattle.gate_desk.specs.declared.slot.Way.TheVariants.{Read, Write}
 use Rattle.gate_desk.specs.Slots.{at, put, same_slot}
-use Rattle.gate_desk.specs.Outside.{Outside, wrote, took, told_at, Told, Rises, Writes, Takes, AreNext, IsAtEnd, AreUpTo, HasFailed, HasFailedToStart, Grows, NoneFell, WritesPart, Starts, FailsToStart, Start, started, last_way, CanRead, CanWrite}
+use Rattle.gate_desk.specs.Outside.{Outside, wrote, took, told_at, Told, Rises, NoneFailed, Writes, Takes, AreNext, IsAtEnd, AreUpTo, HasFailed, HasFailedToStart, Grows, NoneFell, WritesPart, Starts, FailsToStart, Start, started, last_way, CanRead, CanWrite}
 
 pub at-put : {A : Type 0} (p : PerSlot A) (s : Slot) (x : A) → at (put p s x) s ≡ x
 at-put p Settings x = refl
@@ -210,7 +210,7 @@ at-put_any p Errors RightOut x = refl
 at-put_any p Errors Report x = refl
 at-put_any p Errors Errors x = refl
 
-same-of : (s t : Slot) → same_slot s t ≡ true → s ≡ t
+pub same-of : (s t : Slot) → same_slot s t ≡ true → s ≡ t
 same-of Settings Settings e = refl
 same-of Settings LeftIn e = absurd (false≢true e)
 same-of Settings RightIn e = absurd (false≢true e)
@@ -381,3 +381,11 @@ grows_fails_to_start s a b h = record { faults = keeps a.faults b.faults h.fault
 
 pub can_read_same : (s : Slot) (a b : Outside) → b.starts ≡ a.starts → CanRead a s → CanRead b s
 can_read_same s a b e h = subst (λ o. IfSome o (λ starts. last_way s starts ≡ Some Read)) (sym e) h
+
+-- ## No call failed
+
+pub none_failed : (a : Outside) → NoneFailed a a
+none_failed a = record { faults = refl; start_faults = refl }
+
+pub none_failed_on : (a b c : Outside) → NoneFailed a b → NoneFailed b c → NoneFailed a c
+none_failed_on a b c h k = record { faults = k.faults ∙ h.faults; start_faults = k.start_faults ∙ h.start_faults }

@@ -1,14 +1,16 @@
 -- What is gathered for the slots of a desk over files, before it is written out.
-use Rattle.std.specs.Io.KnownBytes.{Appends}
-use Rattle.std.specs.Prelude.{◌≡◌, ◌⊎◌, ℕ, List, [], ◌++◌, Option}
+use Rattle.std.specs.Io.KnownBytes.{Appends, append_known}
+use Rattle.std.specs.Prelude.{◌≡◌, ◌⊎◌, ℕ, List, [], ◌++◌, Option, Some, None, Result, Ok, Err, if◌then◌else◌}
 use Rattle.gate_desk.specs.declared.gathered.Gathering.{Gathering}
 use Rattle.gate_desk.specs.declared.gathered.Gathering.TheVariants.{Gathered, NoRoom, Refused}
 use Rattle.gate_desk.specs.declared.place.Place.{Place}
-use Rattle.gate_desk.specs.declared.place.Place.TheVariants.{Output, StandardOutput}
+use Rattle.gate_desk.specs.declared.place.Place.TheVariants.{Nowhere, Input, Output, StandardOutput}
 use Rattle.gate_desk.specs.declared.slot.Slot.{Slot}
 use Rattle.gate_desk.specs.declared.slot.Slot.TheVariants.{Errors}
 use Rattle.gate_desk.specs.declared.slot.PerSlot.{PerSlot}
-use Rattle.gate_desk.specs.Slots.{at}
+use Rattle.gate_desk.specs.declared.slot.Way.{Way}
+use Rattle.gate_desk.specs.declared.slot.Way.TheVariants.{Read, Write}
+use Rattle.gate_desk.specs.Slots.{at, put, same_slot}
 
 -- a piece is gathered whole, or nothing of it
 abbrev pub gathered_after : Gathering → List ℕ → List ℕ → List ℕ
@@ -21,14 +23,6 @@ abbrev pub waiting : {F A : Type 0} → Place F A → List ℕ
 waiting (Output file octets) = octets
 waiting (StandardOutput octets) = octets
 waiting _ = []
-
--- what waits at a place for a file is what the file gets, where it tells what it holds
-abbrev pub HandsOut : {F A : Type 0} → (F → Option (List ℕ)) → Place F A → Place F A → Type 0
-HandsOut contents (Output old octets) (Output new left) = Appends (contents old) (contents new) octets
-HandsOut contents (Output old octets) _ = ⊥
-HandsOut contents (StandardOutput octets) (StandardOutput left) = Unit {0}
-HandsOut contents (StandardOutput octets) _ = ⊥
-HandsOut contents _ _ = Unit {0}
 
 -- the same of each slot
 abbrev pub waiting_in : {F A : Type 0} → PerSlot (Place F A) → PerSlot (List ℕ)
@@ -46,3 +40,61 @@ waiting_in p = record {
 abbrev pub Waits : Slot → List ℕ → PerSlot (List ℕ) → PerSlot (List ℕ) → Type 0
 Waits Errors piece old new = Unit {0}
 Waits slot piece old new = (at new slot ≡ at old slot ++ piece) ⊎ (at new slot ≡ piece)
+
+-- for what a place is open
+abbrev pub way_of : {F A : Type 0} → Place F A → Option Way
+way_of (Input reader) = Some Read
+way_of (Output file octets) = Some Write
+way_of (StandardOutput octets) = Some Write
+way_of Nowhere = None
+
+-- the same of each slot
+abbrev pub ways_in : {F A : Type 0} → PerSlot (Place F A) → PerSlot (Option Way)
+ways_in p = record {
+  settings = way_of p.settings;
+  left_in = way_of p.left_in;
+  right_in = way_of p.right_in;
+  left_out = way_of p.left_out;
+  right_out = way_of p.right_out;
+  report = way_of p.report;
+  errors = way_of p.errors;
+}
+
+-- a slot that was started is open for this, and all others stay
+abbrev pub ways_after : {T E : Type 0} → Result T E → Slot → Way → PerSlot (Option Way) → PerSlot (Option Way)
+ways_after (Ok x) slot way ways = put ways slot (Some way)
+ways_after (Err e) slot way ways = ways
+
+-- what the file at a place holds, where it tells that
+abbrev pub got : {F A : Type 0} → (F → Option (List ℕ)) → Place F A → Option (List ℕ)
+got contents (Output file octets) = contents file
+got contents _ = None
+
+-- the same of each slot
+abbrev pub got_in : {F A : Type 0} → (F → Option (List ℕ)) → PerSlot (Place F A) → PerSlot (Option (List ℕ))
+got_in contents p = record {
+  settings = got contents p.settings;
+  left_in = got contents p.left_in;
+  right_in = got contents p.right_in;
+  left_out = got contents p.left_out;
+  right_out = got contents p.right_out;
+  report = got contents p.report;
+  errors = got contents p.errors;
+}
+
+-- each file got what waited for it
+abbrev pub HandsOut : PerSlot (Option (List ℕ)) → PerSlot (List ℕ) → PerSlot (Option (List ℕ)) → Type 0
+HandsOut old waiting new = (s : Slot) → Appends (at old s) (at new s) (at waiting s)
+
+-- what a slot's file got and what waits for it, where the file tells what it holds
+abbrev pub taken_at : PerSlot (Option (List ℕ)) → PerSlot (List ℕ) → Slot → Option (List ℕ)
+taken_at got waiting s = append_known (at got s) (at waiting s)
+
+-- the slots that lead to files: a line of errors goes to standard error
+abbrev pub IsFile : Slot → Type 0
+IsFile Errors = ⊥
+IsFile s = Unit {0}
+
+-- of each such slot, what its file got and what waits for it grew by the piece, where it is the piece's own, and stayed else
+abbrev pub TakesPiece : Slot → List ℕ → PerSlot (Option (List ℕ)) → PerSlot (List ℕ) → PerSlot (Option (List ℕ)) → PerSlot (List ℕ) → Type 0
+TakesPiece slot piece got waiting got' waiting' = (s : Slot) → IsFile s → Appends (taken_at got waiting s) (taken_at got' waiting' s) (if same_slot slot s then piece else [])

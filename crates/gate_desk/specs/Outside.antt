@@ -108,6 +108,11 @@ pub record Grows (old new : Outside) : Type 0 where
   pub faults : NoneFell old.faults new.faults
   pub start_faults : NoneFell old.start_faults new.start_faults
 
+-- no call failed, so that no count rose
+pub record NoneFailed (old new : Outside) : Type 0 where
+  pub faults : new.faults ≡ old.faults
+  pub start_faults : new.start_faults ≡ old.start_faults
+
 -- a start failed
 abbrev pub HasFailedToStart : Slot → Outside → Outside → Type 0
 HasFailedToStart slot old new = Rose (at old.start_faults slot) (at new.start_faults slot)

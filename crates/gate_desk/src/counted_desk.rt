@@ -70,6 +70,7 @@ impl Desk for CountedDesk {
     fn start(&mut self, slot: Slot, name: &str, way: Way) -> Result<(), Failed>
         ensures ok { OnOk result (Starts slot name.now way (told_by self.old) (told_by self.new)) }
         ensures err { OnErr result (FailsToStart slot (told_by self.old) (told_by self.new)) }
+        ensures leaves { OnOk result ((told_by self.new).start_faults ≡ (told_by self.old).start_faults) }
         ensures exact { IsErr result ↔ (IsListed self.old ⊎ (2 ^ 16 < names_size self.old.inner.starts + length name.now + 3)) }
         ensures calls { self.new.calls ≡ (counted self.old).calls }
         ensures list { self.new.failing ≡ self.old.failing }
@@ -90,6 +91,7 @@ impl Desk for CountedDesk {
         ensures end { IfOk result (λ n. n ≡ 0 → 0 < length buffer.old → IsAtEnd (told_by self.old) slot) }
         ensures err { OnErr result (Takes slot 0 (told_by self.old) (told_by self.new)) }
         ensures cause { OnErr result (HasFailed slot (told_by self.old) (told_by self.new)) }
+        ensures leaves { OnOk result ((told_by self.new).faults ≡ (told_by self.old).faults) }
         ensures exact { IsErr result ↔ IsListed self.old }
         ensures calls { self.new.calls ≡ (counted self.old).calls }
         ensures list { self.new.failing ≡ self.old.failing }
@@ -109,6 +111,7 @@ impl Desk for CountedDesk {
         ensures ok { IfOk result (λ n. Writes slot (take n piece.now) (told_by self.old) (told_by self.new)) }
         ensures err { OnErr result (Writes slot [] (told_by self.old) (told_by self.new)) }
         ensures cause { OnErr result (HasFailed slot (told_by self.old) (told_by self.new)) }
+        ensures leaves { OnOk result ((told_by self.new).faults ≡ (told_by self.old).faults) }
         ensures exact { IsErr result ↔ (IsListed self.old ⊎ (2 ^ 26 < total self.old.inner.written + length piece.now)) }
         ensures calls { self.new.calls ≡ (counted self.old).calls }
         ensures list { self.new.failing ≡ self.old.failing }

@@ -9,7 +9,7 @@ use crate::{Slot, Way};
 pub struct Failed;
 
 /// Seven slots that are started, read and written. A desk tells what its slots hold, or it tells nothing; in either case it
-/// counts failed starts, and failed reads and writes, of each slot.
+/// counts failed starts, and failed reads and writes, of each slot. A call that succeeds leaves the counts.
 pub trait Desk {
     /// The outside as far as the desk tells it, and the counts of what has failed.
     ghost outside: { Self → Outside };
@@ -17,7 +17,8 @@ pub trait Desk {
     /// Prepares a slot under a name. It fails only where the slot's count of failed starts rose, and changes no contents.
     fn start(&mut self, slot: Slot, name: &str, way: Way) -> Result<(), Failed>
         ensures ok { OnOk result (Starts slot name.now way (outside self.old) (outside self.new)) }
-        ensures err { OnErr result (FailsToStart slot (outside self.old) (outside self.new)) };
+        ensures err { OnErr result (FailsToStart slot (outside self.old) (outside self.new)) }
+        ensures leaves { OnOk result ((outside self.new).start_faults ≡ (outside self.old).start_faults) };
 
     /// Takes octets from the front of a slot whose last start is for reading, and answers how many. None come, for a buffer
     /// with room, only at the slot's end. It fails only where the slot's count of faults rose, and then takes nothing.
@@ -28,7 +29,8 @@ pub trait Desk {
         ensures octets { IfOk result (λ n. AreNext (take n buffer.new) (outside self.old) slot) }
         ensures end { IfOk result (λ n. n ≡ 0 → 0 < length buffer.old → IsAtEnd (outside self.old) slot) }
         ensures err { OnErr result (Takes slot 0 (outside self.old) (outside self.new)) }
-        ensures cause { OnErr result (HasFailed slot (outside self.old) (outside self.new)) };
+        ensures cause { OnErr result (HasFailed slot (outside self.old) (outside self.new)) }
+        ensures leaves { OnOk result ((outside self.new).faults ≡ (outside self.old).faults) };
 
     /// Appends the first octets of a piece to a slot whose last start is for writing, and answers how many: of a piece that
     /// isn't empty at least one. It fails only where the slot's count of faults rose, and then writes nothing.
@@ -38,5 +40,6 @@ pub trait Desk {
         ensures some { IfOk result (λ n. 0 < length piece.now → 0 < n) }
         ensures ok { IfOk result (λ n. Writes slot (take n piece.now) (outside self.old) (outside self.new)) }
         ensures err { OnErr result (Writes slot [] (outside self.old) (outside self.new)) }
-        ensures cause { OnErr result (HasFailed slot (outside self.old) (outside self.new)) };
+        ensures cause { OnErr result (HasFailed slot (outside self.old) (outside self.new)) }
+        ensures leaves { OnOk result ((outside self.new).faults ≡ (outside self.old).faults) };
 }

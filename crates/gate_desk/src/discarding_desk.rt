@@ -43,6 +43,7 @@ impl Desk for DiscardingDesk {
     fn start(&mut self, _slot: Slot, _name: &str, _way: Way) -> Result<(), Failed>
         ensures ok { OnOk result (Starts _slot _name.now _way (told_by self.old) (told_by self.new)) }
         ensures err { OnErr result (FailsToStart _slot (told_by self.old) (told_by self.new)) }
+        ensures leaves { OnOk result ((told_by self.new).start_faults ≡ (told_by self.old).start_faults) }
         ensures exact { IsOk result }
     {
         Ok(())
@@ -55,6 +56,7 @@ impl Desk for DiscardingDesk {
         ensures end { IfOk result (λ n. n ≡ 0 → 0 < length buffer.old → IsAtEnd (told_by self.old) slot) }
         ensures err { OnErr result (Takes slot 0 (told_by self.old) (told_by self.new)) }
         ensures cause { OnErr result (HasFailed slot (told_by self.old) (told_by self.new)) }
+        ensures leaves { OnOk result ((told_by self.new).faults ≡ (told_by self.old).faults) }
         ensures exact { IsOk result }
     {
         Ok(take_from(&mut self.left, slot, buffer))
@@ -66,6 +68,7 @@ impl Desk for DiscardingDesk {
         ensures ok { IfOk result (λ n. Writes slot (take n piece.now) (told_by self.old) (told_by self.new)) }
         ensures err { OnErr result (Writes slot [] (told_by self.old) (told_by self.new)) }
         ensures cause { OnErr result (HasFailed slot (told_by self.old) (told_by self.new)) }
+        ensures leaves { OnOk result ((told_by self.new).faults ≡ (told_by self.old).faults) }
         ensures exact { IsOk result }
     {
         Ok(piece.len())

@@ -1,7 +1,7 @@
 // A desk over real files: the trusted edge of the program.
-ghost use Rattle.std.specs.Prelude.{◌≡◌, ◌<◌, ◌≤◌, [], None, length, take, IfOk, IfErr, IfSome, IsSome, IsErr, IsErrOf, OnOk, OnErr};
+ghost use Rattle.std.specs.Prelude.{◌≡◌, ◌<◌, ◌≤◌, ℕ, List, Option, [], None, length, take, IfOk, IfErr, IfSome, IsSome, IsErr, IsErrOf, OnOk, OnErr};
 ghost use Rattle.gate_desk.specs.Counts.{counts_after, raised};
-ghost use Rattle.gate_desk.specs.Gathering.{waiting_in, gathered_after, Waits};
+ghost use Rattle.gate_desk.specs.Gathering.{waiting_in, got_in, way_of, ways_in, ways_after, gathered_after, HandsOut, TakesPiece, Waits};
 ghost use Rattle.gate_desk.specs.Memory.{each};
 ghost use Rattle.gate_desk.specs.Slots.{at, put};
 
@@ -10,7 +10,7 @@ use crate::per_slot::{no_counts, raise};
 use crate::place::{Place, open_place, write_out};
 use crate::{Desk, Failed, PerSlot, Slot, Way};
 use std::alloc::Allocator;
-use std::io::{self, Read};
+use std::io::Read;
 use std::marker::Model;
 use std::rt::Runtime;
 
@@ -34,15 +34,17 @@ pub struct FileDesk<R: Runtime> {
 
 impl<R: Runtime> Model for FileDesk<R> {
     ghost use Rattle.gate_desk.specs.Untold.{Files};
-    ghost use Rattle.gate_desk.specs.Gathering.{waiting_in};
+    ghost use Rattle.gate_desk.specs.Gathering.{got_in, waiting_in, ways_in};
 
     ghost Value = { Files };
 
-    ghost view = { λ d. record { waiting = waiting_in d.places; refused = d.refused; faults = d.faults; start_faults = d.start_faults } };
+    ghost view = { λ d. record { ways = ways_in d.places; got = got_in R.File.contents d.places; waiting = waiting_in d.places; refused = d.refused; faults = d.faults; start_faults = d.start_faults } };
 }
 
 fn nowhere<F: Read + Drop, A: Allocator>() -> PerSlot<Place<F, A>>
-    ensures { waiting_in result ≡ each [] }
+    ensures waiting { waiting_in result ≡ each [] }
+    ensures got { (contents : F → Option (List ℕ)) → got_in contents result ≡ each None }
+    ensures ways { ways_in result ≡ each None }
 {
     PerSlot {
         settings: Place::Nowhere,
@@ -55,20 +57,59 @@ fn nowhere<F: Read + Drop, A: Allocator>() -> PerSlot<Place<F, A>>
     }
 }
 
-// The place of a slot.
-#[inline(always)]
-fn place_mut<F: Read + Drop, A: Allocator>(
+// Puts another place in that of a slot.
+fn set_place<F: Read + Drop, A: Allocator>(
     places: &mut PerSlot<Place<F, A>>,
     slot: Slot,
-) -> &mut Place<F, A> {
+    place: Place<F, A>,
+)
+    ensures place { places.new ≡ put places.old slot place }
+    ensures way { ways_in places.new ≡ put (ways_in places.old) slot (way_of place) }
+{
     match slot {
-        Slot::Settings => &mut places.settings,
-        Slot::LeftIn => &mut places.left_in,
-        Slot::RightIn => &mut places.right_in,
-        Slot::LeftOut => &mut places.left_out,
-        Slot::RightOut => &mut places.right_out,
-        Slot::Report => &mut places.report,
-        Slot::Errors => &mut places.errors,
+        Slot::Settings => places.settings = place,
+        Slot::LeftIn => places.left_in = place,
+        Slot::RightIn => places.right_in = place,
+        Slot::LeftOut => places.left_out = place,
+        Slot::RightOut => places.right_out = place,
+        Slot::Report => places.report = place,
+        Slot::Errors => places.errors = place,
+    }
+}
+
+// Takes octets of a slot that were read ahead, where there are some. No other slot is read than the three inputs.
+#[inline(always)]
+fn take_ahead<F: Read + Drop, A: Allocator>(
+    places: &mut PerSlot<Place<F, A>>,
+    slot: Slot,
+    buffer: &mut [u8],
+) -> Option<usize>
+    ensures fits { IfSome result (λ n. n ≤ length buffer.new) }
+    ensures ways { ways_in places.new ≡ ways_in places.old }
+{
+    match slot {
+        Slot::Settings => places.settings.take_ahead(buffer),
+        Slot::LeftIn => places.left_in.take_ahead(buffer),
+        Slot::RightIn => places.right_in.take_ahead(buffer),
+        _ => None,
+    }
+}
+
+// Asks the system for octets of a slot.
+#[inline(never)]
+fn ask<F: Read + Drop, A: Allocator>(
+    places: &mut PerSlot<Place<F, A>>,
+    slot: Slot,
+    buffer: &mut [u8],
+) -> Result<usize, Failed>
+    ensures fits { IfOk result (λ n. n ≤ length buffer.new) }
+    ensures ways { ways_in places.new ≡ ways_in places.old }
+{
+    match slot {
+        Slot::Settings => places.settings.read(buffer),
+        Slot::LeftIn => places.left_in.read(buffer),
+        Slot::RightIn => places.right_in.read(buffer),
+        _ => Err(Failed),
     }
 }
 
@@ -79,7 +120,9 @@ fn gather<F: Read + Drop, A: Allocator>(
     slot: Slot,
     piece: &[u8],
 ) -> Gathering
-    ensures { waiting_in places.new ≡ put (waiting_in places.old) slot (gathered_after result piece.now (at (waiting_in places.old) slot)) }
+    ensures waits { waiting_in places.new ≡ put (waiting_in places.old) slot (gathered_after result piece.now (at (waiting_in places.old) slot)) }
+    ensures got { (contents : F → Option (List ℕ)) → got_in contents places.new ≡ got_in contents places.old }
+    ensures ways { ways_in places.new ≡ ways_in places.old }
 {
     match slot {
         Slot::Settings => places.settings.gather(piece),
@@ -94,7 +137,9 @@ fn gather<F: Read + Drop, A: Allocator>(
 
 // Writes out all that is gathered, the report last, so that no line comes before its frame. The error is the slot that failed.
 fn write_out_all<R: Runtime>(rt: &R, places: &mut PerSlot<Place<R::File, R::A>>) -> Result<(), Slot>
-    ensures { OnOk result (waiting_in places.new ≡ each []) }
+    ensures ways { ways_in places.new ≡ ways_in places.old }
+    ensures none { OnOk result (waiting_in places.new ≡ each []) }
+    ensures files { OnOk result (HandsOut (got_in R.File.contents places.old) (waiting_in places.old) (got_in R.File.contents places.new)) }
 {
     write_out(rt, &mut places.settings).map_err(|_: Failed| Slot::Settings)?;
     write_out(rt, &mut places.left_in).map_err(|_: Failed| Slot::LeftIn)?;
@@ -112,7 +157,9 @@ fn hand_out<R: Runtime>(
     places: &mut PerSlot<Place<R::File, R::A>>,
     refused: &mut Option<Slot>,
 ) -> Result<(), Failed>
+    ensures ways { ways_in places.new ≡ ways_in places.old }
     ensures all { OnOk result (waiting_in places.new ≡ each []) }
+    ensures files { OnOk result (HandsOut (got_in R.File.contents places.old) (waiting_in places.old) (got_in R.File.contents places.new)) }
     ensures none { OnOk result (refused.new ≡ None) }
     ensures err { OnErr result (IsSome refused.new) }
     ensures kept { IsSome refused.old → refused.new ≡ refused.old }
@@ -139,11 +186,17 @@ fn start_slot<R: Runtime>(
     name: &str,
     way: Way,
 ) -> Result<(), Failed>
-    ensures { IsSome refused.old → IsErr result }
+    ensures refused { IsSome refused.old → IsErr result }
+    ensures ways { ways_in places.new ≡ ways_after result slot way (ways_in places.old) }
 {
     hand_out(rt, places, refused)?;
-    *place_mut(places, slot) = open_place(rt, slot, name, way).map_err(|_: io::Error| Failed)?;
-    Ok(())
+    match open_place(rt, slot, name, way) {
+        Ok(place) => {
+            set_place(places, slot, place);
+            Ok(())
+        }
+        Err(_) => Err(Failed),
+    }
 }
 
 // Reads a slot. Before the system is asked for octets, all that is gathered is written out.
@@ -157,15 +210,16 @@ fn read_slot<R: Runtime>(
 ) -> Result<usize, Failed>
     ensures fits { IfOk result (λ n. n ≤ length buffer.new) }
     ensures refused { IsSome refused.old → IsErr result }
+    ensures ways { ways_in places.new ≡ ways_in places.old }
 {
     if refused.is_some() {
         return Err(Failed);
     }
-    match place_mut(places, slot).take_ahead(buffer) {
+    match take_ahead(places, slot, buffer) {
         Some(n) => Ok(n),
         None => {
             hand_out(rt, places, refused)?;
-            place_mut(places, slot).read(buffer)
+            ask(places, slot, buffer)
         }
     }
 }
@@ -179,8 +233,10 @@ fn write_slot<R: Runtime>(
     slot: Slot,
     piece: &[u8],
 ) -> Result<usize, Failed>
+    ensures ways { ways_in places.new ≡ ways_in places.old }
     ensures whole { IfOk result (λ n. n ≡ length piece.now) }
     ensures waits { OnOk result (Waits slot piece.now (waiting_in places.old) (waiting_in places.new)) }
+    ensures takes { OnOk result (TakesPiece slot piece.now (got_in R.File.contents places.old) (waiting_in places.old) (got_in R.File.contents places.new) (waiting_in places.new)) }
     ensures refused { IsSome refused.old → IsErr result }
 {
     if slot == Slot::Errors {
@@ -205,8 +261,10 @@ fn gather_alone<R: Runtime>(
     slot: Slot,
     piece: &[u8],
 ) -> Result<usize, Failed>
+    ensures ways { ways_in places.new ≡ ways_in places.old }
     ensures whole { IfOk result (λ n. n ≡ length piece.now) }
     ensures waits { OnOk result (Waits slot piece.now (waiting_in places.old) (waiting_in places.new)) }
+    ensures takes { OnOk result (TakesPiece slot piece.now (got_in R.File.contents places.old) (waiting_in places.old) (got_in R.File.contents places.new) (waiting_in places.new)) }
 {
     hand_out(rt, places, refused)?;
     match gather(places, slot, piece) {
@@ -223,7 +281,9 @@ fn write_errors<R: Runtime>(
     refused: &mut Option<Slot>,
     piece: &[u8],
 ) -> Result<usize, Failed>
+    ensures ways { ways_in places.new ≡ ways_in places.old }
     ensures whole { IfOk result (λ n. n ≡ length piece.now) }
+    ensures takes { OnOk result (TakesPiece Slot.Errors piece.now (got_in R.File.contents places.old) (waiting_in places.old) (got_in R.File.contents places.new) (waiting_in places.new)) }
     ensures refused { IsSome refused.old → IsErr result }
 {
     hand_out(rt, places, refused)?;
@@ -238,11 +298,11 @@ fn write_errors<R: Runtime>(
 
 impl<R: Runtime> FileDesk<R> {
     ghost use Rattle.gate_desk.specs.Outside.{HasFailed};
-    ghost use Rattle.gate_desk.specs.Untold.{told_by, all_written, all_dropped};
+    ghost use Rattle.gate_desk.specs.Untold.{told_by, HandsOutAll, all_dropped};
 
     /// A desk none of whose slots is started. It keeps the runtime, through which it reaches files and the standard streams.
     pub fn make(rt: R) -> FileDesk<R>
-        ensures { result ≡ record { waiting = each []; refused = None; faults = each 0; start_faults = each 0 } }
+        ensures { result ≡ record { ways = each None; got = each None; waiting = each []; refused = None; faults = each 0; start_faults = each 0 } }
     {
         FileDesk {
             rt,
@@ -256,7 +316,7 @@ impl<R: Runtime> FileDesk<R> {
     /// Writes out all that is gathered. The error is the slot of which the system refused octets that had been taken, now or
     /// before; that counts as a failed write of it, what is left of all slots is dropped, and all are closed.
     pub fn finish(&mut self) -> Result<(), Slot>
-        ensures ok { OnOk result (self.new ≡ all_written self.old) }
+        ensures ok { OnOk result (HandsOutAll self.old self.new) }
         ensures none { OnOk result (self.old.refused ≡ None) }
         ensures err { IfErr result (λ slot. self.new ≡ all_dropped slot self.old) }
         ensures cause { IfErr result (λ slot. HasFailed slot (told_by self.old) (told_by self.new)) }
@@ -284,7 +344,9 @@ impl<R: Runtime> Desk for FileDesk<R> {
     fn start(&mut self, slot: Slot, name: &str, way: Way) -> Result<(), Failed>
         ensures ok { OnOk result (Starts slot name.now way (told_by self.old) (told_by self.new)) }
         ensures err { OnErr result (FailsToStart slot (told_by self.old) (told_by self.new)) }
+        ensures leaves { OnOk result ((told_by self.new).start_faults ≡ (told_by self.old).start_faults) }
         ensures counts { self.new.start_faults ≡ counts_after result slot self.old.start_faults }
+        ensures ways { self.new.ways ≡ ways_after result slot way self.old.ways }
         ensures refused { IsSome self.old.refused → IsErr result }
     {
         let started = start_slot(
@@ -312,7 +374,9 @@ impl<R: Runtime> Desk for FileDesk<R> {
         ensures end { IfOk result (λ n. n ≡ 0 → 0 < length buffer.old → IsAtEnd (told_by self.old) slot) }
         ensures err { OnErr result (Takes slot 0 (told_by self.old) (told_by self.new)) }
         ensures cause { OnErr result (HasFailed slot (told_by self.old) (told_by self.new)) }
+        ensures leaves { OnOk result ((told_by self.new).faults ≡ (told_by self.old).faults) }
         ensures counts { self.new.faults ≡ counts_after result slot self.old.faults }
+        ensures ways { self.new.ways ≡ self.old.ways }
         ensures refused { IsSome self.old.refused → IsErr result }
     {
         match read_slot(&self.rt, &mut self.places, &mut self.refused, slot, buffer) {
@@ -331,9 +395,12 @@ impl<R: Runtime> Desk for FileDesk<R> {
         ensures ok { IfOk result (λ n. Writes slot (take n piece.now) (told_by self.old) (told_by self.new)) }
         ensures err { OnErr result (Writes slot [] (told_by self.old) (told_by self.new)) }
         ensures cause { OnErr result (HasFailed slot (told_by self.old) (told_by self.new)) }
+        ensures leaves { OnOk result ((told_by self.new).faults ≡ (told_by self.old).faults) }
         ensures counts { self.new.faults ≡ counts_after result slot self.old.faults }
+        ensures ways { self.new.ways ≡ self.old.ways }
         ensures whole { IfOk result (λ n. n ≡ length piece.now) }
         ensures waits { OnOk result (Waits slot piece.now self.old.waiting self.new.waiting) }
+        ensures takes { OnOk result (TakesPiece slot piece.now self.old.got self.old.waiting self.new.got self.new.waiting) }
         ensures refused { IsSome self.old.refused → IsErr result }
     {
         match write_slot(&self.rt, &mut self.places, &mut self.refused, slot, piece) {

@@ -95,6 +95,7 @@ impl Desk for MemoryDesk {
     fn start(&mut self, slot: Slot, name: &str, way: Way) -> Result<(), Failed>
         ensures ok { OnOk result (Starts slot name.now way (told_of self.old) (told_of self.new)) }
         ensures err { OnErr result (FailsToStart slot (told_of self.old) (told_of self.new)) }
+        ensures leaves { OnOk result ((told_of self.new).start_faults ≡ (told_of self.old).start_faults) }
         ensures exact { IsErr result ↔ (2 ^ 16 < names_size self.old.starts + length name.now + 3) }
         ensures counts { self.new.start_faults ≡ counts_after result slot self.old.start_faults }
     {
@@ -114,6 +115,7 @@ impl Desk for MemoryDesk {
         ensures end { IfOk result (λ n. n ≡ 0 → 0 < length buffer.old → IsAtEnd (told_of self.old) slot) }
         ensures err { OnErr result (Takes slot 0 (told_of self.old) (told_of self.new)) }
         ensures cause { OnErr result (HasFailed slot (told_of self.old) (told_of self.new)) }
+        ensures leaves { OnOk result ((told_of self.new).faults ≡ (told_of self.old).faults) }
         ensures exact { IsOk result }
         ensures counts { self.new.faults ≡ self.old.faults }
     {
@@ -127,6 +129,7 @@ impl Desk for MemoryDesk {
         ensures ok { IfOk result (λ n. Writes slot (take n piece.now) (told_of self.old) (told_of self.new)) }
         ensures err { OnErr result (Writes slot [] (told_of self.old) (told_of self.new)) }
         ensures cause { OnErr result (HasFailed slot (told_of self.old) (told_of self.new)) }
+        ensures leaves { OnOk result ((told_of self.new).faults ≡ (told_of self.old).faults) }
         ensures exact { IsErr result ↔ (2 ^ 26 < total self.old.written + length piece.now) }
         ensures counts { self.new.faults ≡ counts_after result slot self.old.faults }
     {

@@ -1,6 +1,7 @@
 // Where a slot of the desk over files leads.
-ghost use Rattle.std.specs.Prelude.{◌≡◌, ◌≤◌, [], length, IfOk, IfSome, OnOk};
-ghost use Rattle.gate_desk.specs.Gathering.{waiting, gathered_after, HandsOut};
+ghost use Rattle.std.specs.Prelude.{◌≡◌, ◌≤◌, ℕ, List, Option, Some, [], length, IfOk, IfSome, OnOk};
+ghost use Rattle.std.specs.Io.KnownBytes.{Appends};
+ghost use Rattle.gate_desk.specs.Gathering.{waiting, got, way_of, gathered_after};
 
 use crate::gathered::{Gathered, Gathering};
 use crate::{Failed, Slot, Way};
@@ -29,7 +30,8 @@ pub fn open_place<R: Runtime>(
     name: &str,
     way: Way,
 ) -> io::Result<Place<R::File, R::A>>
-    ensures { IfOk result (λ place. waiting place ≡ []) }
+    ensures none { IfOk result (λ place. waiting place ≡ []) }
+    ensures way { IfOk result (λ place. way_of place ≡ Some way) }
 {
     match way {
         Way::Read => {
@@ -72,6 +74,7 @@ impl<F: Read + Drop, A: Allocator> Place<F, A> {
     pub fn take_ahead(&mut self, buffer: &mut [u8]) -> Option<usize>
         ensures fits { IfSome result (λ n. n ≤ length buffer.new) }
         ensures waiting { waiting self.new ≡ waiting self.old }
+        ensures way { way_of self.new ≡ way_of self.old }
     {
         match self {
             Place::Input(reader) => {
@@ -93,6 +96,7 @@ impl<F: Read + Drop, A: Allocator> Place<F, A> {
     pub fn read(&mut self, buffer: &mut [u8]) -> Result<usize, Failed>
         ensures fits { IfOk result (λ n. n ≤ length buffer.new) }
         ensures waiting { waiting self.new ≡ waiting self.old }
+        ensures way { way_of self.new ≡ way_of self.old }
     {
         match self {
             Place::Input(reader) => reader.read(buffer).map_err(|_: io::Error| Failed),
@@ -103,7 +107,9 @@ impl<F: Read + Drop, A: Allocator> Place<F, A> {
     /// Gathers a whole piece, or nothing of it.
     #[inline(always)]
     pub fn gather(&mut self, piece: &[u8]) -> Gathering
-        ensures { waiting self.new ≡ gathered_after result piece.now (waiting self.old) }
+        ensures waits { waiting self.new ≡ gathered_after result piece.now (waiting self.old) }
+        ensures got { (contents : F → Option (List ℕ)) → got contents self.new ≡ got contents self.old }
+        ensures way { way_of self.new ≡ way_of self.old }
     {
         match self {
             Place::Output(_, gathered) => gathered.take(piece),
@@ -132,7 +138,8 @@ impl<'a, R: Runtime> Write for StandardOutput<'a, R> {
 /// Writes out all that is gathered for a place. After an error it stays, though the system may have got some of it.
 pub fn write_out<R: Runtime>(rt: &R, place: &mut Place<R::File, R::A>) -> Result<(), Failed>
     ensures none { OnOk result (waiting place.new ≡ []) }
-    ensures written { OnOk result (HandsOut R.File.contents place.old place.new) }
+    ensures way { way_of place.new ≡ way_of place.old }
+    ensures written { OnOk result (Appends (got R.File.contents place.old) (got R.File.contents place.new) (waiting place.old)) }
 {
     match place {
         Place::Output(file, gathered) => gathered.write_out(file),

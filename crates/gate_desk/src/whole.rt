@@ -20,6 +20,7 @@ pub fn write_whole<D: Desk>(desk: &mut D, slot: Slot, piece: &[u8]) -> Result<()
     ensures ok { OnOk result (Writes slot piece.now (D.outside desk.old) (D.outside desk.new)) }
     ensures err { OnErr result (WritesPart slot piece.now (D.outside desk.old) (D.outside desk.new)) }
     ensures cause { OnErr result (HasFailed slot (D.outside desk.old) (D.outside desk.new)) }
+    ensures leaves { OnOk result ((D.outside desk.new).faults ≡ (D.outside desk.old).faults) }
 {
     if piece.is_empty() {
         return Ok(());
@@ -38,6 +39,7 @@ fn write_rest<D: Desk>(desk: &mut D, slot: Slot, piece: &[u8]) -> Result<(), Fai
     ensures ok { OnOk result (Writes slot piece.now (D.outside desk.old) (D.outside desk.new)) }
     ensures err { OnErr result (WritesPart slot piece.now (D.outside desk.old) (D.outside desk.new)) }
     ensures cause { OnErr result (HasFailed slot (D.outside desk.old) (D.outside desk.new)) }
+    ensures leaves { OnOk result ((D.outside desk.new).faults ≡ (D.outside desk.old).faults) }
 {
     let mut done = 0;
     while done < piece.len() {
@@ -56,6 +58,7 @@ pub fn read_full<D: Desk>(desk: &mut D, slot: Slot, buffer: &mut [u8]) -> Result
     ensures octets { IfOk result (λ n. AreUpTo (length buffer.old) (take n buffer.new) (D.outside desk.old) slot) }
     ensures err { OnErr result (TakesFewer slot (length buffer.old) (D.outside desk.old) (D.outside desk.new)) }
     ensures cause { OnErr result (HasFailed slot (D.outside desk.old) (D.outside desk.new)) }
+    ensures leaves { OnOk result ((D.outside desk.new).faults ≡ (D.outside desk.old).faults) }
 {
     if buffer.is_empty() {
         return Ok(0);
@@ -77,6 +80,7 @@ fn read_rest<D: Desk>(desk: &mut D, slot: Slot, buffer: &mut [u8]) -> Result<usi
     ensures octets { IfOk result (λ n. AreUpTo (length buffer.old) (take n buffer.new) (D.outside desk.old) slot) }
     ensures err { OnErr result (TakesFewer slot (length buffer.old) (D.outside desk.old) (D.outside desk.new)) }
     ensures cause { OnErr result (HasFailed slot (D.outside desk.old) (D.outside desk.new)) }
+    ensures leaves { OnOk result ((D.outside desk.new).faults ≡ (D.outside desk.old).faults) }
 {
     let mut filled = 0;
     while filled < buffer.len() {
@@ -102,6 +106,7 @@ pub fn read_up_to<D: Desk>(
     ensures octets { IfOk result (λ v. AreUpTo (limit + 1) v.items (D.outside desk.old) slot) }
     ensures err { OnErr result (TakesFewer slot (limit + 1) (D.outside desk.old) (D.outside desk.new)) }
     ensures cause { IfErr result (λ e. HasStopped e slot (D.outside desk.old) (D.outside desk.new)) }
+    ensures leaves { OnOk result ((D.outside desk.new).faults ≡ (D.outside desk.old).faults) }
 {
     let mut octets = vec![in alloc; 0; limit + 1].map_err(|_: AllocError| TakeStop::OutOfMemory)?;
     let n = read_full(desk, slot, &mut octets).map_err(|_: Failed| TakeStop::Desk(slot))?;

@@ -1,8 +1,10 @@
 // The datagrams that go out at an event.
-ghost use Rattle.std.specs.Prelude.{◌≡◌, ◌+◌, ◌≤◌, ◌<◌, [], ◌∷◌, None, length, map, slice_index, slice_index_or, IsTrue, IsSome, IfOk, OnOk, OnErr, vec_capacity};
+ghost use Rattle.std.specs.Prelude.{◌≡◌, ◌+◌, ◌≤◌, ◌<◌, if◌then◌else◌, not, nat_lt, [], ◌∷◌, None, length, take, map, slice_index, slice_index_or, IsTrue, IsSome, IfOk, OnOk, OnErr, vec_capacity};
 ghost use Rattle.icmp_errors.specs.Inner.{is_inner, inner_with};
 ghost use Rattle.snmp_gateway.specs.Message.{message, places_of};
 ghost use Rattle.snmp_gateway.specs.Renaming.{renamed as renamed_message};
+ghost use Rattle.gate_base.specs.Rules.{AreRules};
+ghost use Rattle.snmp_oids.specs.Elements.{oid_renamed};
 ghost use Rattle.twice_translate.specs.Renamed.{CanGoOn, CanTranslate, datagram_of, renamed, rebuilt, with_payload};
 ghost use Rattle.stream_kept.specs.Outs.{kept_out, kept_ends};
 ghost use Rattle.stream_kept.specs.Sessions.{kept_verdict, kept_next};
@@ -11,21 +13,25 @@ ghost use Rattle.gate_world.specs.Inner.{inside, with_inside};
 ghost use Rattle.gate_world.specs.Names.{carried};
 ghost use Rattle.gate_world.specs.Stream.{tcp_of, segment_of, sent_as};
 
+use crate::scratch::Scratch;
+use crate::segment::Segment;
 use dialogue::Dialogue;
-use gate_base::{Addr, OutOfMemory};
+use gate_base::{Addr, OidRule, OutOfMemory};
 use icmp_errors::put_inner;
-use ipv4_frames::IpView;
 use snmp_gateway::{Lookup, rename_in_place};
+use snmp_oids::rename_into;
 use std::alloc::Global;
 use std::marker::Model;
 use stream_gate::StreamGate;
-use tcp_segments::TcpView;
 use twice_translate::{rebuild, translate, translate_accepted};
 
 /// The octets, and the datagrams, that one event gives at most.
 const OCTETS: usize = 524_288;
 
 const DATAGRAMS: usize = 4_096;
+
+/// The most octets that a UDP datagram carries.
+const MOST_CARRIED: usize = 65_507;
 
 /// The datagrams that go out at an event, one behind the other.
 #[derive(Drop)]
@@ -118,7 +124,7 @@ impl Outbox {
     }
 
     /// The same of a datagram with an SNMP message, the addresses in it renamed.
-    pub fn put_management<L: Lookup>(
+    pub fn put_snmp<L: Lookup>(
         &mut self,
         octets: &[u8],
         source: Addr,
@@ -138,6 +144,32 @@ impl Outbox {
         self.ends.push_reserved(octets.len() as u32);
     }
 
+    /// The same with the addresses in object identifiers renamed too, as rules say. The answer is whether a datagram can carry the
+    /// message that goes on: where it can't, nothing is put.
+    pub fn put_snmp_by_rules<L: Lookup>(
+        &mut self,
+        octets: &[u8],
+        source: Addr,
+        destination: Addr,
+        rules: &[OidRule],
+        lookup: &L,
+        scratch: &mut Scratch,
+    ) -> bool
+        requires empty { self.old ≡ [] }
+        requires few { length octets.now ≤ 65535 }
+        requires can { CanGoOn octets.now }
+        requires protocol { (datagram_of octets.now).protocol ≡ 17 }
+        requires message { IsSome (message (carried (datagram_of octets.now))) }
+        requires rules { AreRules rules.now }
+        ensures fits { result ≡ not (nat_lt 65507 (length (oid_renamed (L.image_of lookup.now) rules.now (carried (datagram_of octets.now))))) }
+        ensures out { self.new ≡ (if result then rebuilt (datagram_of octets.now) source.0 destination.0 (oid_renamed (L.image_of lookup.now) rules.now (carried (datagram_of octets.now))) ∷ [] else []) }
+    {
+        let size = write_renamed(carried_in(octets), rules, lookup, &mut scratch.octets);
+        let fits = self.put_if_carried(octets, source, destination, &scratch.octets[..size]);
+        scratch.octets.clear();
+        fits
+    }
+
     /// The same of a UDP datagram, with another payload.
     pub fn put_rebuilt(&mut self, octets: &[u8], source: Addr, destination: Addr, payload: &[u8])
         requires empty { self.old ≡ [] }
@@ -152,45 +184,61 @@ impl Outbox {
         self.ends.push_reserved(total as u32);
     }
 
+    // Puts the UDP datagram with this payload if it can carry so many octets, and answers that.
+    fn put_if_carried(
+        &mut self,
+        octets: &[u8],
+        source: Addr,
+        destination: Addr,
+        payload: &[u8],
+    ) -> bool
+        requires empty { self.old ≡ [] }
+        requires can { CanGoOn octets.now }
+        requires protocol { (datagram_of octets.now).protocol ≡ 17 }
+        ensures fits { result ≡ not (nat_lt 65507 (length payload.now)) }
+        ensures out { self.new ≡ (if result then rebuilt (datagram_of octets.now) source.0 destination.0 payload.now ∷ [] else []) }
+    {
+        if payload.len() > MOST_CARRIED {
+            return false;
+        }
+        self.put_rebuilt(octets, source, destination, payload);
+        true
+    }
+
     /// Puts what a session sends for a segment that it takes, between these addresses, and says whether the session ends. There
     /// is too little memory only where the segment completes a unit that bears, and then nothing has changed.
     pub fn put_segments<C: Dialogue, S: Dialogue>(
         &mut self,
         session: &mut StreamGate<C, S>,
         from_client: bool,
-        datagram: &IpView<'_>,
-        segment: &TcpView<'_>,
+        segment: &Segment<'_>,
         source: Addr,
         destination: Addr,
-        scratch: &mut Vec<u8>,
+        scratch: &mut Scratch,
     ) -> Result<bool, OutOfMemory>
         requires empty { self.old ≡ [] }
-        requires segment { segment.now ≡ tcp_of datagram.now }
-        requires alive { 1 ≤ datagram.now.lifetime }
-        requires passes { kept_verdict from_client session.old.kept (segment_of datagram.now) ≡ None }
-        requires scratch { scratch.old.items ≡ [] }
-        requires places { 262144 ≤ vec_capacity scratch.old }
-        ensures next { OnOk result (session.new ≡ record session.old { kept = kept_next (C.meaning session.old.client_dialogue) (S.meaning session.old.server_dialogue) from_client session.old.kept (segment_of datagram.now) }) }
-        ensures out { OnOk result (self.new ≡ map (sent_as datagram.now source.0 destination.0) (kept_out (C.meaning session.old.client_dialogue) (S.meaning session.old.server_dialogue) from_client session.old.kept (segment_of datagram.now))) }
-        ensures over { IfOk result (λ b. b ≡ kept_ends from_client session.old.kept (segment_of datagram.now)) }
-        ensures memory { OnErr result (KeptCompletes (C.meaning session.old.client_dialogue) (S.meaning session.old.server_dialogue) from_client session.old.kept (segment_of datagram.now)) }
+        requires segment { segment.now.tcp.now ≡ tcp_of segment.now.datagram.now }
+        requires alive { 1 ≤ segment.now.datagram.now.lifetime }
+        requires passes { kept_verdict from_client session.old.kept (segment_of segment.now.datagram.now) ≡ None }
+        ensures next { OnOk result (session.new ≡ record session.old { kept = kept_next (C.meaning session.old.client_dialogue) (S.meaning session.old.server_dialogue) from_client session.old.kept (segment_of segment.now.datagram.now) }) }
+        ensures out { OnOk result (self.new ≡ map (sent_as segment.now.datagram.now source.0 destination.0) (kept_out (C.meaning session.old.client_dialogue) (S.meaning session.old.server_dialogue) from_client session.old.kept (segment_of segment.now.datagram.now))) }
+        ensures over { IfOk result (λ b. b ≡ kept_ends from_client session.old.kept (segment_of segment.now.datagram.now)) }
+        ensures memory { OnErr result (KeptCompletes (C.meaning session.old.client_dialogue) (S.meaning session.old.server_dialogue) from_client session.old.kept (segment_of segment.now.datagram.now)) }
         ensures same { OnErr result (session.new ≡ session.old) }
         ensures nothing { OnErr result (self.new ≡ []) }
-        ensures scratch { scratch.new.items ≡ [] }
-        ensures places { vec_capacity scratch.old ≤ vec_capacity scratch.new }
     {
         // No datagram is longer than 65,535 octets: the segment's own header leaves room for a piece.
-        let _header = segment.header();
+        let _header = segment.tcp.header();
         session.step(
             from_client,
-            segment,
-            datagram.header(),
+            segment.tcp,
+            segment.datagram.header(),
             source,
             destination,
-            datagram.lifetime() - 1,
+            segment.datagram.lifetime() - 1,
             &mut self.octets,
             &mut self.ends,
-            scratch,
+            &mut scratch.octets,
         )
     }
 }
@@ -231,4 +279,36 @@ fn rename_carried<L: Lookup>(datagram: &mut [u8], lookup: &L)
     ensures payload { datagram_of datagram.new ≡ with_payload (datagram_of datagram.old) (renamed_message (L.image_of lookup.now) (places_of (carried (datagram_of datagram.old))) (carried (datagram_of datagram.old))) }
 {
     rename_in_place(&mut datagram[28..], lookup);
+}
+
+// What a UDP datagram carries.
+fn carried_in(octets: &[u8]) -> &[u8]
+    requires can { CanGoOn octets.now }
+    requires protocol { (datagram_of octets.now).protocol ≡ 17 }
+    ensures carried { result.now ≡ carried (datagram_of octets.now) }
+    ensures length { 28 + length result.now ≡ length octets.now }
+{
+    &octets[28..]
+}
+
+// Writes an SNMP message, renamed by rules, into an empty room, and answers its length: at most four times as many octets, since an
+// arc of one octet may become one of two, and lengths with it.
+fn write_renamed<L: Lookup>(
+    octets: &[u8],
+    rules: &[OidRule],
+    lookup: &L,
+    room: &mut Vec<u8>,
+) -> usize
+    requires message { IsSome (message octets.now) }
+    requires rules { AreRules rules.now }
+    requires short { length octets.now ≤ 65507 }
+    requires empty { room.old.items ≡ [] }
+    requires places { 262144 ≤ vec_capacity room.old }
+    ensures size { result ≡ length (oid_renamed (L.image_of lookup.now) rules.now octets.now) }
+    ensures within { result ≤ length room.new.items }
+    ensures written { take result room.new.items ≡ oid_renamed (L.image_of lookup.now) rules.now octets.now }
+    ensures places { vec_capacity room.old ≤ vec_capacity room.new }
+{
+    let _fits = room.resize(4 * octets.len(), 0);
+    rename_into(octets, rules, lookup, room)
 }

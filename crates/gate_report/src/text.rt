@@ -71,7 +71,7 @@ fn put_verdict_before(room: &mut [u8], end: usize, verdict: Verdict) -> usize
 {
     match verdict {
         Verdict::Pass => put_word_before(room, end, "pass"),
-        Verdict::Refused(_) => put_word_before(room, end, verdict.name()),
+        _ => put_word_before(room, end, verdict.name()),
     }
 }
 

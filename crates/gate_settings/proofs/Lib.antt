@@ -1,3 +1,6 @@
 pub mod Lists
 pub mod Documents
+pub mod ArcTexts
 pub mod Sound
+pub mod Forms
+pub mod Accepted

@@ -19,7 +19,8 @@ use Rattle.gate_settings.specs.declared.given.GivenSide.{GivenSide}
 use Rattle.gate_settings.specs.declared.given.Given.{Given}
 use Rattle.gate_settings.specs.Keys.{name_of}
 use Rattle.gate_settings.specs.Firsts.{◌>>=◌, Found}
-use Rattle.gate_settings.specs.Texts.{json_text, join_text, link_text, side_text, address_text, block_text, mac_text, prefix_text}
+use Rattle.gate_settings.specs.Texts.{json_text, join_text, link_text, side_text, address_text, block_text, mac_text}
+use Rattle.gate_settings.specs.Prefixes.{prefix_text}
 
 -- ## Kinds of values
 
@@ -71,13 +72,14 @@ block = spelled block_text BadAddress
 unfoldable pub prefix : Key → Data → Found (List ℕ)
 prefix = spelled prefix_text Kind
 
--- how many arcs are skipped: a whole number from 0 to 127
-abbrev pub skip_of : ℤ → Option ℕ
-skip_of (pos number) = if nat_le number 127 then Some number else None
-skip_of (negsuc number) = None
+-- a whole number from 0 to 127
+abbrev pub few : ℤ → Option ℕ
+few (pos number) = if nat_le number 127 then Some number else None
+few (negsuc _) = None
 
+-- how many arcs are skipped
 unfoldable pub skip : Key → Data → Found ℕ
-skip key value = ok_or (option_and_then skip_of (as_integer value)) (Kind key)
+skip key value = ok_or (option_and_then few (as_integer value)) (Kind key)
 
 -- an array
 abbrev pub array : Key → Data → Found Items

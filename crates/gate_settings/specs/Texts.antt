@@ -1,8 +1,7 @@
 -- What the texts of the settings stand for.
-use Rattle.std.specs.Prelude.{ℕ, zero, suc, ◌+◌, ◌-◌, ◌*◌, ◌%◌, ◌^◌, Bool, true, false, ◌&&◌, ◌||◌, ◌==◌, nat_lt, nat_le, if◌then◌else◌, List, [], ◌∷◌, length, slice_index, Option, Some, None, codes}
+use Rattle.std.specs.Prelude.{ℕ, ◌+◌, ◌-◌, ◌*◌, ◌%◌, ◌^◌, Bool, true, false, ◌&&◌, ◌==◌, nat_le, if◌then◌else◌, List, [], ◌∷◌, length, slice_index, Option, Some, None, codes}
 use Rattle.std.specs.Str.{bytes_eq}
-use Rattle.gate_base.specs.Address.{◌>>=◌, quad, number_of, cut_at, digit_of, is_unicast_number}
-use Rattle.gate_base.specs.Rules.{greatest}
+use Rattle.gate_base.specs.Address.{◌>>=◌, quad, number_of, cut_at, is_unicast_number}
 use Rattle.gate_base.specs.declared.address.Addr.{Addr}
 use Rattle.gate_base.specs.declared.side.Link.{Link}
 use Rattle.gate_base.specs.declared.side.Link.TheVariants.{Ethernet, Raw}
@@ -73,42 +72,3 @@ six_pairs text = do
 -- an Ethernet address: six pairs of hexadecimal digits, joined by colons
 unfoldable pub mac_text : List ℕ → Option (List ℕ)
 mac_text text = if length text == 17 && has_colons text then six_pairs text else None
-
--- the number that digits write behind those of another, where none on the way is above the greatest arc
-unfoldable pub arc_behind : ℕ → List ℕ → Option ℕ
-arc_behind number [] = Some number
-arc_behind number (first ∷ others) = do
-  digit ← digit_of first
-  if nat_lt greatest (10 * number + digit) then None else arc_behind (10 * number + digit) others
-
--- an arc: a decimal number up to 4,294,967,295 without leading zeros
-unfoldable pub arc_text : List ℕ → Option ℕ
-arc_text text = if length text == 0 || (nat_lt 1 (length text) && slice_index text 0 == 48) then None else arc_behind 0 text
-
--- one arc, or one and then the others behind a dot (46)
-abbrev pub arcs_by : Option (List ℕ × List ℕ) → List ℕ → (List ℕ → Option (List ℕ)) → Option (List ℕ)
-arcs_by None text others = do
-  arc ← arc_text text
-  Some (arc ∷ [])
-arcs_by (Some parts) text others = do
-  arc ← arc_text parts.0
-  arcs ← others parts.1
-  Some (arc ∷ arcs)
-
--- up to so many arcs, joined by dots
-unfoldable pub arcs_text : ℕ → List ℕ → Option (List ℕ)
-arcs_text zero text = None
-arcs_text (suc more) text = arcs_by (cut_at 46 text) text (arcs_text more)
-
--- at least two arcs, of which the first two can stand in one sub-identifier (X.690, 8.19.4)
-abbrev pub can_begin : List ℕ → Bool
-can_begin arcs =
-    let first = slice_index arcs 0 in
-    let second = slice_index arcs 1 in
-    nat_le 2 (length arcs) && ((nat_le first 1 && nat_le second 39) || (first == 2 && nat_le second 4_294_967_215))
-
--- a prefix of object identifiers
-unfoldable pub prefix_text : List ℕ → Option (List ℕ)
-prefix_text text = do
-  arcs ← arcs_text 64 text
-  if can_begin arcs then Some arcs else None

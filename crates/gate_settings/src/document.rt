@@ -36,7 +36,6 @@ fn read_document(alloc: Global, octets: &[u8]) -> Result<Table, ReadSettings>
 #[tactic(auto, unfolding(crate::specs::Document::keys_of))]
 fn read_keys(alloc: Global, octets: &[u8]) -> Result<Given, ReadSettings>
     ensures value { Gives result (keys_of octets.now) }
-    ensures forms { IfOk result (λ given. HasForms given.settings) }
     ensures few { IfOk result (λ given. length given.settings.statics < 2 ^ 32) }
 {
     if octets.len() > LIMIT {

@@ -54,6 +54,14 @@ impl From<SettingsFault> for ReadSettings {
     }
 }
 
+impl From<OutOfMemory> for ReadSettings {
+    ghost from_gives = { λ _ e. e ≡ memory };
+
+    fn from(_error: OutOfMemory) -> ReadSettings {
+        ReadSettings::OutOfMemory
+    }
+}
+
 impl From<AllocError> for ReadSettings {
     ghost from_gives = { λ _ e. e ≡ memory };
 

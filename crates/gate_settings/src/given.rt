@@ -1,10 +1,7 @@
 // The keys of a settings document, in the order of testing.
-ghost use Rattle.std.specs.Prelude.{◌≡◌, ◌<◌, ◌^◌, [], None, false, length, IfOk, All};
+ghost use Rattle.std.specs.Prelude.{◌≡◌, ◌<◌, ◌^◌, [], None, false, length, IfOk};
 ghost use Rattle.toml.specs.View.{view, items_view, table_view};
 ghost use Rattle.gate_settings.specs.Firsts.{Sees, Gives, GivesBy};
-ghost use Rattle.gate_settings.specs.Forms.{IsBlock, IsUnicast, IsUnicastPair, HasUnicastPool, HasForms};
-ghost use Rattle.std.specs.Prelude.{IsTrue};
-ghost use Rattle.gate_base.specs.Rules.{is_rule, AreRules};
 ghost use Rattle.gate_settings.specs.Document as document;
 
 use crate::fault::{ReadSettings, SettingsFault};
@@ -32,8 +29,7 @@ pub struct Given {
 }
 
 fn needed_address(table: &Table, key: Key) -> Result<Addr, SettingsFault>
-    ensures value { result ≡ document.needed document.address key (table_view table.now) }
-    ensures unicast { IfOk result IsUnicast }
+    ensures { result ≡ document.needed document.address key (table_view table.now) }
 {
     values::address(key, need(table, key)?)
 }
@@ -68,8 +64,7 @@ fn optional_mac(table: &Table, key: Key) -> Result<Option<[u8; 6]>, SettingsFaul
 /// The keys of a realm's table.
 #[tactic(auto, unfolding(crate::specs::Document::side_keys))]
 fn side_keys(side: Side, table: &Table) -> Result<GivenSide, SettingsFault>
-    ensures value { result ≡ document.side_keys side (table_view table.now) }
-    ensures form { IfOk result (λ given. HasUnicastPool given.settings) }
+    ensures { result ≡ document.side_keys side (table_view table.now) }
 {
     let first = needed_address(table, Key::PoolFirst(side))?;
     let last = needed_address(table, Key::PoolLast(side))?;
@@ -94,8 +89,7 @@ fn side_keys(side: Side, table: &Table) -> Result<GivenSide, SettingsFault>
 
 #[tactic(auto, unfolding(crate::specs::Document::side_table))]
 fn side_table(side: Side, top: &Table) -> Result<GivenSide, SettingsFault>
-    ensures value { result ≡ document.side_table side (table_view top.now) }
-    ensures form { IfOk result (λ given. HasUnicastPool given.settings) }
+    ensures { result ≡ document.side_table side (table_view top.now) }
 {
     side_keys(side, needed_table(top, Key::Table(side))?)
 }
@@ -103,8 +97,7 @@ fn side_table(side: Side, top: &Table) -> Result<GivenSide, SettingsFault>
 /// The keys of an entry of `static`.
 #[tactic(auto, unfolding(crate::specs::Document::static_keys))]
 fn static_keys(number: u32, table: &Table) -> Result<Fixed, SettingsFault>
-    ensures value { result ≡ document.static_keys number (table_view table.now) }
-    ensures form { IfOk result IsUnicastPair }
+    ensures { result ≡ document.static_keys number (table_view table.now) }
 {
     let side = needed_side(table, Key::StaticSide(number))?;
     let host = needed_address(table, Key::StaticHost(number))?;
@@ -114,8 +107,7 @@ fn static_keys(number: u32, table: &Table) -> Result<Fixed, SettingsFault>
 
 #[tactic(auto, unfolding(crate::specs::Document::static_entry))]
 fn static_entry(number: u32, value: &Value) -> Result<Fixed, SettingsFault>
-    ensures value { result ≡ document.static_entry number (view value.now) }
-    ensures form { IfOk result IsUnicastPair }
+    ensures { result ≡ document.static_entry number (view value.now) }
 {
     static_keys(number, values::table(Key::Statics, value)?)
 }
@@ -143,8 +135,7 @@ fn are_tables(values: &[Value]) -> bool
 }
 
 fn blocks_of(alloc: Global, values: &[Value]) -> Result<Vec<Block>, ReadSettings>
-    ensures value { GivesBy (λ v. v.items) result (document.each (λ n value. document.block Key.Same value) 1 (items_view values.now)) }
-    ensures form { IfOk result (λ v. All IsBlock v.items) }
+    ensures { GivesBy (λ v. v.items) result (document.each (λ n value. document.block Key.Same value) 1 (items_view values.now)) }
 {
     let mut blocks = Vec::new(alloc);
     for value in values {
@@ -157,7 +148,6 @@ fn blocks_of(alloc: Global, values: &[Value]) -> Result<Vec<Block>, ReadSettings
 fn statics_of(alloc: Global, values: &[Value]) -> Result<Vec<Fixed>, ReadSettings>
     requires { length values.now < 2 ^ 32 }
     ensures value { GivesBy (λ v. v.items) result (document.each document.static_entry 1 (items_view values.now)) }
-    ensures form { IfOk result (λ v. All IsUnicastPair v.items) }
     ensures few { IfOk result (λ v. length v.items < 2 ^ 32) }
 {
     let mut statics = Vec::new(alloc);
@@ -170,8 +160,7 @@ fn statics_of(alloc: Global, values: &[Value]) -> Result<Vec<Fixed>, ReadSetting
 
 #[tactic(auto, unfolding(crate::specs::Document::blocks))]
 fn blocks(alloc: Global, key: Key, value: &Value) -> Result<Blocks, ReadSettings>
-    ensures value { Gives result (document.blocks key (view value.now)) }
-    ensures form { IfOk result (λ v. All IsBlock v) }
+    ensures { Gives result (document.blocks key (view value.now)) }
 {
     let values = values::array(key, value)?;
     if !are_texts(values) {
@@ -183,7 +172,6 @@ fn blocks(alloc: Global, key: Key, value: &Value) -> Result<Blocks, ReadSettings
 #[tactic(auto, unfolding(crate::specs::Document::statics))]
 fn statics(alloc: Global, key: Key, value: &Value) -> Result<Statics, ReadSettings>
     ensures value { Gives result (document.statics key (view value.now)) }
-    ensures form { IfOk result (λ v. All IsUnicastPair v) }
     ensures few { IfOk result (λ v. length v < 2 ^ 32) }
 {
     let values = values::array(key, value)?;
@@ -216,8 +204,7 @@ fn fragments_key(top: &Table) -> Result<bool, SettingsFault>
 }
 
 fn same_key(alloc: Global, top: &Table) -> Result<Blocks, ReadSettings>
-    ensures value { Gives result (document.optional document.blocks [] Key.Same (table_view top.now)) }
-    ensures form { IfOk result (λ v. All IsBlock v) }
+    ensures { Gives result (document.optional document.blocks [] Key.Same (table_view top.now)) }
 {
     match find(top, Key::Same) {
         Some(value) => blocks(alloc, Key::Same, value),
@@ -227,7 +214,6 @@ fn same_key(alloc: Global, top: &Table) -> Result<Blocks, ReadSettings>
 
 fn static_key(alloc: Global, top: &Table) -> Result<Statics, ReadSettings>
     ensures value { Gives result (document.optional document.statics [] Key.Statics (table_view top.now)) }
-    ensures form { IfOk result (λ v. All IsUnicastPair v) }
     ensures few { IfOk result (λ v. length v < 2 ^ 32) }
 {
     match find(top, Key::Statics) {
@@ -239,8 +225,7 @@ fn static_key(alloc: Global, top: &Table) -> Result<Statics, ReadSettings>
 /// The keys of an entry of `oid`.
 #[tactic(auto, unfolding(crate::specs::Document::oid_keys))]
 fn oid_keys(alloc: Global, number: u32, table: &Table) -> Result<OidRule, ReadSettings>
-    ensures value { Gives result (document.oid_keys number (table_view table.now)) }
-    ensures form { IfOk result (λ rule. IsTrue (is_rule rule)) }
+    ensures { Gives result (document.oid_keys number (table_view table.now)) }
 {
     let key = Key::OidPrefix(number);
     let prefix = values::prefix(alloc, key, need(table, key)?)?;
@@ -251,16 +236,14 @@ fn oid_keys(alloc: Global, number: u32, table: &Table) -> Result<OidRule, ReadSe
 
 #[tactic(auto, unfolding(crate::specs::Document::oid_entry))]
 fn oid_entry(alloc: Global, number: u32, value: &Value) -> Result<OidRule, ReadSettings>
-    ensures value { Gives result (document.oid_entry number (view value.now)) }
-    ensures form { IfOk result (λ rule. IsTrue (is_rule rule)) }
+    ensures { Gives result (document.oid_entry number (view value.now)) }
 {
     oid_keys(alloc, number, values::table(Key::Oids, value)?)
 }
 
 fn oids_of(alloc: Global, values: &[Value]) -> Result<Vec<OidRule>, ReadSettings>
     requires { length values.now < 2 ^ 32 }
-    ensures value { GivesBy (λ v. v.items) result (document.each document.oid_entry 1 (items_view values.now)) }
-    ensures form { IfOk result (λ v. AreRules v.items) }
+    ensures { GivesBy (λ v. v.items) result (document.each document.oid_entry 1 (items_view values.now)) }
 {
     let mut oids = Vec::new(alloc);
     for (index, value) in values.iter().enumerate() {
@@ -272,8 +255,7 @@ fn oids_of(alloc: Global, values: &[Value]) -> Result<Vec<OidRule>, ReadSettings
 
 #[tactic(auto, unfolding(crate::specs::Document::oids))]
 fn oids(alloc: Global, key: Key, value: &Value) -> Result<OidRules, ReadSettings>
-    ensures value { Gives result (document.oids key (view value.now)) }
-    ensures form { IfOk result AreRules }
+    ensures { Gives result (document.oids key (view value.now)) }
 {
     let values = values::array(key, value)?;
     if !are_tables(values) {
@@ -287,8 +269,7 @@ fn oids(alloc: Global, key: Key, value: &Value) -> Result<OidRules, ReadSettings
 }
 
 fn oid_key(alloc: Global, top: &Table) -> Result<OidRules, ReadSettings>
-    ensures value { Gives result (document.optional document.oids [] Key.Oids (table_view top.now)) }
-    ensures form { IfOk result AreRules }
+    ensures { Gives result (document.optional document.oids [] Key.Oids (table_view top.now)) }
 {
     match find(top, Key::Oids) {
         Some(value) => oids(alloc, Key::Oids, value),
@@ -300,7 +281,6 @@ fn oid_key(alloc: Global, top: &Table) -> Result<OidRules, ReadSettings>
 #[tactic(auto, unfolding(crate::specs::Document::all_keys))]
 pub fn all_keys(alloc: Global, top: &Table) -> Result<Given, ReadSettings>
     ensures value { Gives result (document.all_keys (table_view top.now)) }
-    ensures forms { IfOk result (λ given. HasForms given.settings) }
     ensures few { IfOk result (λ given. length given.settings.statics < 2 ^ 32) }
 {
     let json = report_key(top)?;

@@ -6,6 +6,8 @@ mod document;
 mod fault;
 mod given;
 mod key;
+mod laws;
+mod prefixes;
 mod settings;
 mod texts;
 mod values;
@@ -13,6 +15,7 @@ mod values;
 pub use document::read_settings;
 pub use fault::{ReadSettings, SettingsFault, fault_text};
 pub use key::Key;
+pub use laws::accepted_settings;
 pub use settings::{Block, Blocks, Fixed, OidRules, Settings, SideSettings, Statics};
 
 #[cfg(test)]

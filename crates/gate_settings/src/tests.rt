@@ -1,8 +1,9 @@
 // Documents, and the settings or the first fault that they give.
 use super::{
-    Block, Blocks, Fixed, ReadSettings, Settings, SideSettings, Statics, fault_text, read_settings,
+    Block, Blocks, Fixed, OidRules, ReadSettings, Settings, SideSettings, Statics, fault_text,
+    read_settings,
 };
-use gate_base::{Addr, Link, Side};
+use gate_base::{Addr, Link, OidRule, Side};
 use std::alloc::Global;
 use std::test::Fail;
 
@@ -88,6 +89,24 @@ static | static = [{ side = "left", host = "10.0.0.5", alias = "192.168.200.9" }
 static | static = [{ side = "left", host = "10.0.0.5", alias = "172.16.9.9" }, { side = "left", host = "10.0.0.6", alias = "172.16.9.9" }] | StaticRepeated static.2
 static | static = [{ side = "left", host = "10.0.0.5", alias = "172.16.9.9" }, { side = "left", host = "10.0.0.5", alias = "172.16.9.8" }] | StaticRepeated static.2
 static | static = [{ side = "left", host = "10.0.0.5", alias = "172.16.9.9" }, { side = "right", host = "10.0.0.5", alias = "192.168.200.9" }] | accepted
+oid | oid = [{ prefix = "1.39.4294967295", skip = 0 }, { prefix = "2.4294967215", skip = 127 }] | accepted
+oid | oid = 5 | Kind oid
+oid | oid = [{}, 5] | Kind oid
+oid | oid = [{ skip = 0 }] | Missing oid.1.prefix
+oid | oid = [{ prefix = 1.3 }] | Kind oid.1.prefix
+oid | oid = [{ prefix = "1", skip = 128 }] | Kind oid.1.prefix
+oid | oid = [{ prefix = "3.1" }] | Kind oid.1.prefix
+oid | oid = [{ prefix = "1.40" }] | Kind oid.1.prefix
+oid | oid = [{ prefix = "2.4294967216" }] | Kind oid.1.prefix
+oid | oid = [{ prefix = "1.3.4294967296" }] | Kind oid.1.prefix
+oid | oid = [{ prefix = "1.03" }] | Kind oid.1.prefix
+oid | oid = [{ prefix = "1.3." }] | Kind oid.1.prefix
+oid | oid = [{ prefix = "1.3", skip = 1 }, { prefix = "1.3" }] | Missing oid.2.skip
+oid | oid = [{ prefix = "1.3", skip = 128 }] | Kind oid.1.skip
+oid | oid = [{ prefix = "1.3", skip = -1 }] | Kind oid.1.skip
+oid | oid = [{ prefix = "1.3", skip = 1.5 }] | Kind oid.1.skip
+left.pool_last | left.pool_last = "10.0.0.1" ; oid = 5 | Kind oid
+left.pool_last | left.pool_last = "10.0.0.1" ; oid = 5 ; static = 5 | Kind static
 left.link | report = 5 | Kind report
 right.link | same = ["x"] | BadAddress same
 right.link | left.gateway_mac = 5 | Kind left.gateway_mac
@@ -201,13 +220,53 @@ fn reads_blocks(alloc: Global) -> Result<bool, Fail> {
     )
 }
 
+/// A document with a rule whose prefix has 2 arcs and so many more.
+fn long_prefix(alloc: Global, more: usize) -> Result<String, Fail> {
+    let mut rule = String::from_str(alloc, "oid = [{ skip = 0, prefix = \"1.3")?;
+    for _ in 0..more {
+        rule.push_str(".6")?;
+    }
+    rule.push_str("\" }]")?;
+    document(alloc, "-", rule.as_str())
+}
+
+fn reads_long_prefixes(alloc: Global) -> Result<(), Fail> {
+    expect(alloc, long_prefix(alloc, 62)?.as_bytes(), "accepted")?;
+    expect(
+        alloc,
+        long_prefix(alloc, 63)?.as_bytes(),
+        "Kind oid.1.prefix",
+    )
+}
+
+fn is_rule(rule: &OidRule, arcs: &[u32], skip: u32) -> bool {
+    rule.prefix.items() == arcs && rule.skip == skip
+}
+
+fn reads_rules(alloc: Global) -> Result<bool, Fail> {
+    let settings = read(
+        alloc,
+        "fragments = \"join\" ; oid = [{ prefix = \"1.3.4294967295\", skip = 1 }]",
+    )?;
+    let copy = settings.oids.copy(alloc)?;
+    let rules = copy.items();
+    Ok(
+        settings.join
+            && rules.len() == 1
+            && is_rule(&rules[0], &[1, 3, 4_294_967_295], 1)
+            && OidRules::of(Vec::new(alloc)).items().is_empty(),
+    )
+}
+
 #[test]
 fn reads_documents(rt: HostRuntime) -> Result<(), Fail> {
     let alloc = rt.alloc();
     reads_cases(alloc)?;
     reads_other_octets(alloc)?;
+    reads_long_prefixes(alloc)?;
     assert!(rt; reads_side(alloc)?);
     assert!(rt; reads_statics(alloc)?);
     assert!(rt; reads_blocks(alloc)?);
+    assert!(rt; reads_rules(alloc)?);
     Ok(())
 }

@@ -1,16 +1,15 @@
 // The values of a TOML document, by their kinds.
-ghost use Rattle.std.specs.Prelude.{◌≡◌, ◌≤◌, IfOk, IsTrue, option_map, ok_or};
-ghost use Rattle.gate_base.specs.Rules.{is_prefix};
+ghost use Rattle.std.specs.Prelude.{◌≡◌, option_map, ok_or};
 ghost use Rattle.toml.specs.Data.{get_member};
 ghost use Rattle.toml.specs.View.{view, array_view, table_view};
 ghost use Rattle.gate_settings.specs.Keys.{name_of};
 ghost use Rattle.gate_settings.specs.Firsts.{Sees, Gives};
-ghost use Rattle.gate_settings.specs.Forms.{IsUnicast, IsBlock};
 ghost use Rattle.gate_settings.specs.Document as document;
 ghost use Rattle.gate_settings.specs.declared.fault.SettingsFault.TheVariants.{Missing};
 
 use crate::fault::{ReadSettings, SettingsFault};
 use crate::key::{Key, name};
+use crate::prefixes::read_prefix;
 use crate::settings::Block;
 use crate::texts;
 use gate_base::{Addr, Arcs, Link, Side};
@@ -123,8 +122,7 @@ pub fn mac(key: Key, value: &Value) -> Result<[u8; 6], SettingsFault>
 
 #[tactic(auto, unfolding(crate::specs::Document::address))]
 pub fn address(key: Key, value: &Value) -> Result<Addr, SettingsFault>
-    ensures value { result ≡ document.address key (view value.now) }
-    ensures unicast { IfOk result IsUnicast }
+    ensures { result ≡ document.address key (view value.now) }
 {
     match texts::read_address(text(key, value)?) {
         Some(address) => Ok(address),
@@ -135,8 +133,7 @@ pub fn address(key: Key, value: &Value) -> Result<Addr, SettingsFault>
 /// A text that is a block.
 #[tactic(auto, unfolding(crate::specs::Document::block))]
 pub fn block(key: Key, value: &Value) -> Result<Block, SettingsFault>
-    ensures value { result ≡ document.block key (view value.now) }
-    ensures form { IfOk result IsBlock }
+    ensures { result ≡ document.block key (view value.now) }
 {
     match texts::read_block(text(key, value)?) {
         Some(block) => Ok(block),
@@ -147,11 +144,10 @@ pub fn block(key: Key, value: &Value) -> Result<Block, SettingsFault>
 /// The arcs with which object identifiers begin.
 #[tactic(auto, unfolding(crate::specs::Document::prefix))]
 pub fn prefix(alloc: Global, key: Key, value: &Value) -> Result<Arcs, ReadSettings>
-    ensures value { Gives result (document.prefix key (view value.now)) }
-    ensures form { IfOk result (λ arcs. IsTrue (is_prefix arcs)) }
+    ensures { Gives result (document.prefix key (view value.now)) }
 {
-    match texts::read_prefix(alloc, text(key, value)?.as_bytes())? {
-        Some(arcs) => Ok(Arcs::of(arcs)),
+    match read_prefix(alloc, text(key, value)?.as_bytes())? {
+        Some(arcs) => Ok(arcs),
         None => Err(ReadSettings::Fault(SettingsFault::Kind(key))),
     }
 }
@@ -159,11 +155,20 @@ pub fn prefix(alloc: Global, key: Key, value: &Value) -> Result<Arcs, ReadSettin
 /// How many arcs are skipped: a whole number from 0 to 127.
 #[tactic(auto, unfolding(crate::specs::Document::skip))]
 pub fn skip(key: Key, value: &Value) -> Result<u32, SettingsFault>
-    ensures value { result ≡ document.skip key (view value.now) }
-    ensures few { IfOk result (λ n. n ≤ 127) }
+    ensures { result ≡ document.skip key (view value.now) }
 {
-    match value.as_integer() {
-        Some(number) if 0 <= number && number <= 127 => Ok(number as u32),
-        _ => Err(SettingsFault::Kind(key)),
+    match value.as_integer().and_then(few) {
+        Some(skip) => Ok(skip),
+        None => Err(SettingsFault::Kind(key)),
+    }
+}
+
+fn few(number: i64) -> Option<u32>
+    ensures { result ≡ document.few number }
+{
+    if 0 <= number && number <= 127 {
+        Some(number as u32)
+    } else {
+        None
     }
 }

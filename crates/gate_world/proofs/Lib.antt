@@ -21,4 +21,6 @@ mod RowsFull
 mod RowsMore
 mod RowsRepeats
 mod RowsHeld
+mod RowsEdges
+mod RowsRules
 pub mod Promises

@@ -1,9 +1,11 @@
 -- What is promised holds for every list of events.
-use Rattle.std.proofs.Common.{◌≡◌, ℕ, List, [], ◌∷◌, None, refl, sym, ap, ◌∙◌}
+use Rattle.std.proofs.Common.{◌≡◌, ℕ, List, [], ◌∷◌, None, Ok, refl, sym, ap, ◌∙◌}
 use Rattle.gate_base.specs.Events.{Event}
 use Rattle.gate_base.specs.declared.event.Verdict.TheVariants.{Pass, Refused}
 use Rattle.gate_base.specs.declared.side.Side.{Side}
+use Rattle.gate_settings.specs.Cross.{settings_of}
 use Rattle.gate_settings.specs.declared.settings.Settings.{Settings}
+use Rattle.gate_settings.proofs.Accepted.{accepted}
 use Rattle.binding_table.specs.Bindings.{Bindings}
 use Rattle.ipv4_frames.specs.Ipv4.{Datagram}
 use Rattle.stream_model.specs.Session.{Session}
@@ -49,15 +51,17 @@ frame_is w e =
       renames = λ v plain. ap (out_by whole_rules live e) v ∙ goes_once live table e.side e.moment d (called table e.side (source_of d)).0 (called table e.side (destination_of d)).0 (kind_of d) plain;
     }
 
-pub promised : (settings : Settings) (events : List Event) → Promised settings events
-promised settings events = record {
-  frames = λ done others e split. frame_is (known_after settings done) e;
-  sessions = λ done others split. sessions_are done settings;
-  taken = λ done others e split t h. taken_keeps told_rules SessionIs session_keeps (told_after settings done) e t h (sessions_are done settings);
-  told = λ done others split. sym (known done);
-  said_is = λ done others e split t h. ap (λ (w : World Session). out whole_rules w e) (known done) ∙ out_as (λ (x : Told). x.session) told_rules whole_rules told_reads (told_after settings done) e ∙ taken_out told_rules (told_after settings done) e t h;
-  pairs = λ sound forms done others split. pairs_cross _ (run_hosts whole_rules done (opening_world settings) (opening_hosts settings sound forms));
-}
+pub promised : (octets : List ℕ) (settings : Settings) (events : List Event) → settings_of octets ≡ Ok settings → Promised settings events
+promised octets settings events is =
+    let a = accepted octets settings is in
+    record {
+      frames = λ done others e split. frame_is (known_after settings done) e;
+      sessions = λ done others split. sessions_are done settings;
+      taken = λ done others e split t h. taken_keeps told_rules SessionIs session_keeps (told_after settings done) e t h (sessions_are done settings);
+      told = λ done others split. sym (known done);
+      said_is = λ done others e split t h. ap (λ (w : World Session). out whole_rules w e) (known done) ∙ out_as (λ (x : Told). x.session) told_rules whole_rules told_reads (told_after settings done) e ∙ taken_out told_rules (told_after settings done) e t h;
+      pairs = λ done others split. pairs_cross _ (run_hosts whole_rules done (opening_world settings) (opening_hosts settings a.sound a.forms));
+    }
   where
     known : (done : List Event) → known_after settings done ≡ world_as (λ (x : Told). x.session) (told_after settings done)
     known done = run_as (λ (x : Told). x.session) told_rules whole_rules told_reads done (opening_world settings)

@@ -5,8 +5,6 @@ use Rattle.gate_base.specs.Events.{Event}
 use Rattle.gate_base.specs.Tests.{first_that_holds}
 use Rattle.gate_base.specs.declared.event.Verdict.TheVariants.{Pass, Refused}
 use Rattle.gate_base.specs.declared.refusal.Refusal.{Refusal}
-use Rattle.gate_settings.specs.Forms.{HasForms}
-use Rattle.gate_settings.specs.Sound.{IsSound}
 use Rattle.gate_settings.specs.declared.settings.Settings.{Settings}
 use Rattle.stream_model.specs.Session.{Session}
 use Rattle.twice_translate.specs.Renamed.{renamed}
@@ -54,7 +52,7 @@ pub record FrameIs (w : World Session) (e : Event) : Type 0 where
   -- and where no session takes it, that is its renaming
   pub renames : verdict whole_rules w e ≡ Pass → IsPlain w e → out whole_rules w e ≡ renaming w e ∷ []
 
--- at each of these events, and after each:
+-- by accepted settings, at each of these events and after each:
 pub record Promised (settings : Settings) (events : List Event) : Type 0 where
   -- each frame is forwarded at its own event, unless exactly its named refusal holds, and one that no session takes as its renaming;
   pub frames : (done others : List Event) (e : Event) → events ≡ done ++ e ∷ others → FrameIs (known_after settings done) e
@@ -67,4 +65,4 @@ pub record Promised (settings : Settings) (events : List Event) : Type 0 where
   -- and for a segment that one takes exactly what it says goes out;
   pub said_is : (done others : List Event) (e : Event) → events ≡ done ++ e ∷ others → (t : Tracked Told) → Takes told_rules (told_after settings done) e t → out whole_rules (known_after settings done) e ≡ said told_rules (told_after settings done) e t
   -- its pair is what crossing gives for its hosts
-  pub pairs : IsSound settings → HasForms settings → (done others : List Event) → events ≡ done ++ others → EachTracked (PairCrosses (known_after settings done).table) (known_after settings done).connections
+  pub pairs : (done others : List Event) → events ≡ done ++ others → EachTracked (PairCrosses (known_after settings done).table) (known_after settings done).connections

@@ -1,10 +1,11 @@
 // The laws of the gateway. The functions do nothing: their clauses are proved.
-ghost use Rattle.std.specs.Prelude.{◌≡◌, ◌≤◌, ◌<◌, ℕ, Bool, List, [], Some, length, All};
+ghost use Rattle.std.specs.Prelude.{◌≡◌, ◌≤◌, ◌<◌, ℕ, Bool, List, [], Some, Ok, length, All};
 ghost use Rattle.std.specs.List.{fold};
 ghost use Rattle.gate_base.specs.Events.{Event};
 ghost use Rattle.gate_base.specs.declared.refusal.Refusal.{Refusal};
 ghost use Rattle.gate_base.specs.declared.event.Verdict.TheVariants.{Pass, Refused};
 ghost use Rattle.gate_base.specs.declared.side.Side.{Side};
+ghost use Rattle.gate_settings.specs.Cross.{settings_of};
 ghost use Rattle.gate_settings.specs.Sound.{IsSound};
 ghost use Rattle.gate_settings.specs.Forms.{HasForms};
 ghost use Rattle.gate_settings.specs.declared.settings.Settings.{Settings};
@@ -80,10 +81,10 @@ pub fn session_takes_segment<S>()
     ensures next { (rules : SessionRules S) (w : World S) (e : Event) (t : Tracked S) (c : Connection (Tracked S)) → Takes rules w e t → let live = at_moment w e.moment in let d = datagram_in e in connection_after rules live e.side e.moment d (taker_in rules live e.side e.moment d) ≡ Some c → (connection_of (key_in live.table e.side d) (next rules w e).connections ≡ Some c) × (c.session ≡ Some (stepped rules e.side d t)) }
 {}
 
-/// The whole promise, for every list of events: each frame is forwarded at its own event unless exactly its named refusal
+/// The whole promise, for accepted settings and every list of events: each frame is forwarded at its own event unless exactly its named refusal
 /// holds; in each session the octets sent to a host are a prefix of the peer's stream with its address lines renamed by the
 /// session's one pair, and acknowledgements cover only octets whose images were acknowledged; every other frame that is
 /// forwarded is its renaming.
 pub fn frames_are_as_promised()
-    ensures { (settings : Settings) (events : List Event) → Promised settings events }
+    ensures { (octets : List ℕ) (settings : Settings) (events : List Event) → settings_of octets ≡ Ok settings → Promised settings events }
 {}

@@ -6,7 +6,7 @@ use Rattle.gate_desk.specs.declared.slot.Slot.TheVariants.{Settings, LeftIn, Rig
 use Rattle.gate_desk.specs.declared.slot.PerSlot.{PerSlot}
 use Rattle.gate_desk.specs.Discarded.{told_by}
 use Rattle.gate_desk.specs.Outside.{Outside, Told, FailsToStart, HasFailed, HasFailedToStart}
-use Rattle.gate_desk.proofs.Laws.{grows_not, grows_on, grows_fails_to_start, failed_since}
+use Rattle.gate_desk.proofs.Laws.{grows_not, grows_on, grows_fails_to_start, none_failed_on, failed_since}
 use Rattle.gate_desk.specs.Memory.{inputs}
 use Rattle.gate_report.specs.declared.line.Line.{Line}
 use Rattle.gate_workload.specs.declared.workload.Workload.{Workload}
@@ -49,8 +49,8 @@ rehearsed line names number count k h = record { settings = h.1.0; accepted = h.
 not_rehearsed : (e : Status) (names : Names) (number count : ℕ) (k : PerSlot (List ℕ)) → count ≤ 100000 → Runs (Err e) names (told_by (workload_in number count)) (told_by k) → e ≡ OutOfMemory
 not_rehearsed Done names number count k few h = absurd h
 not_rehearsed Usage names number count k few h = absurd h.ends.cause
-not_rehearsed (SettingsRefused f) names number count k few h = absurd (never_refused f h.ends.cause)
-not_rehearsed (CaptureRefused side f place) names number count k few h = absurd (never_faulty number count side f place few h.ends.cause.2)
+not_rehearsed (SettingsRefused f) names number count k few h = absurd (never_refused f h.ends.cause.0)
+not_rehearsed (CaptureRefused side f place) names number count k few h = absurd (never_faulty number count side f place few h.ends.cause.0.2)
 not_rehearsed (ReadFault s) names number count k few h = absurd (never_failed s (workload_in number count) k h.ends.cause.1)
 not_rehearsed (WriteFault s) names number count k few h = absurd (never_failed s (workload_in number count) k h.ends.cause.1)
 not_rehearsed (OpenFault s) names number count k few h = absurd (never_failed_to_start s (workload_in number count) k h.ends.cause.1)
@@ -85,7 +85,7 @@ not_made e number count report a b is h =
 -- the line was written
 pub made : (line : Line) (number count : ℕ) (report : List ℕ) (a b c : Outside) → StartsAll (make_starts report) a b → IsLineOf line number count → WritesAll (made_piece line ∷ []) b c → IsMake Done number count report a c
 made line number count report a b c h is k = record {
-  made = (line, is, k.only.starts ∙ h.starts, k.written ∙ ap (wrote_pieces (made_piece line ∷ [])) h.written);
+  made = (line, is, k.only.starts ∙ h.starts, k.written ∙ ap (wrote_pieces (made_piece line ∷ [])) h.written, none_failed_on a b c h.counts k.counts);
   left = k.only.left ∙ h.left;
   grows = grows_on a b c h.grows k.only.grows;
 }

@@ -1,6 +1,7 @@
 -- What a run took of the captures where it ended early.
 use Rattle.std.proofs.Common.{◌≡◌, ℕ, inl, inr, List, [], Result, Ok, Err, Option, Some, None, IfSome, OnErr, option_map, refl, sym, ap, subst, ◌∙◌}
 use Rattle.gate_base.specs.Events.{Event}
+use Rattle.frag_join.specs.Arrivals.{Arrival}
 use Rattle.gate_desk.specs.declared.slot.Slot.TheVariants.{Settings}
 use Rattle.gate_desk.specs.Outside.{Outside, Told, Start, Takes, told_at}
 use Rattle.gate_report.specs.declared.line.Line.{Line}
@@ -20,12 +21,12 @@ use Rattle.gateway.specs.declared.status.Status.TheVariants.{Done, Usage, Settin
 use Rattle.gateway.specs.Answers.{TookForWritten}
 use Rattle.gateway.specs.Causes.{Gives}
 use Rattle.gateway.specs.Command.{Names, first_starts, output_starts}
-use Rattle.gateway.specs.Machine.{State, heads, opening}
+use Rattle.gateway.specs.Machine.{State, heads}
 use Rattle.gateway.specs.Phases.{Settled, Prepared, Readied, StandWritten, TookFew, Finishes, Handles, OfEvents}
 use Rattle.gateway.specs.Pieces.{Piece, WritesFront, IsFront, wrote_pieces}
 use Rattle.gateway.proofs.Phases.{if_some, told_before}
 use Rattle.gateway.proofs.Pieces.{is_front_all, wrote_pieces-nil}
-use Rattle.gateway.proofs.Progress.{Progress, with_front, given_all, given_kept, failed_only}
+use Rattle.gateway.proofs.Progress.{Progress, Joiner, with_front, given_first, given_kept, failed_only}
 use Rattle.gateway.proofs.Runs.{of_events, heads_written}
 
 -- ## Before the events
@@ -54,13 +55,13 @@ gives_left (Err e) ps a b h = h.1.only.left
 
 -- ## At an event
 
-stand_of : (settings : GateSettings) (done : List Event) (behind : List Piece) (o : Option Merged) (a b c : Told) → b ≡ wrote_pieces (given_all settings (opening settings) done) a → IsFront behind b c → IfSome (option_map (with_front done) o) (λ all. StandWritten settings done all.events a c)
+stand_of : (settings : GateSettings) (done : List Event) (behind : List Piece) (o : Option Merged) (a b c : Told) → b ≡ wrote_pieces (given_first settings done) a → IsFront behind b c → IfSome (option_map (with_front done) o) (λ all. StandWritten settings done all.events a c)
 stand_of settings done behind None a b c written front = tt
 stand_of settings done behind (Some x) a b c written front = record { others = x.events; split = refl; behind = behind; written = subst (λ (t : Told). IsFront behind t c) written front }
 
 -- the events that were handled stand written, and a front of more
-stands : (settings : GateSettings) (m0 m : Merging) (old now : Outside) (s : State KeptSession) (behind : List Piece) (new : Outside) → (h : Progress settings m0 old now m s) → IsFront behind now.written new.written → OfEvents m0 old (λ all. StandWritten settings h.done all.events old.written new.written)
-stands settings m0 m old now s behind new h front =
+stands : (settings : GateSettings) (m0 m : Merging) (old now : Outside) (s : State KeptSession) (joiner : Joiner) (behind : List Piece) (new : Outside) → (h : Progress settings m0 old now m s joiner) → IsFront behind now.written new.written → OfEvents m0 old (λ all. StandWritten settings h.done all.events old.written new.written)
+stands settings m0 m old now s joiner behind new h front =
     subst (λ o. IfSome o (λ all. StandWritten settings h.done all.events old.written new.written)) (sym h.others) (stand_of settings h.done behind (ahead m now.left) old.written now.written new.written h.written front)
 
 few_stop : (stop : MergeStop) (m : Merging) (now new : Outside) → StopsBy stop m now new → TakesFew m now new × (new.written ≡ now.written)
@@ -69,24 +70,24 @@ few_stop (merges.Desk slot) m now new k = (k.2.few, k.2.reads.written)
 few_stop merges.OutOfMemory m now new k = absurd k
 
 -- the merge stopped
-pub took_stop : (stop : MergeStop) (settings : GateSettings) (m0 m : Merging) (old now new : Outside) (s : State KeptSession) → Progress settings m0 old now m s → StopsBy stop m now new → TookFew settings m0 old new
-took_stop stop settings m0 m old now new s h k =
+pub took_stop : (stop : MergeStop) (settings : GateSettings) (m0 m : Merging) (old now new : Outside) (s : State KeptSession) (joiner : Joiner) → Progress settings m0 old now m s joiner → StopsBy stop m now new → TookFew settings m0 old new
+took_stop stop settings m0 m old now new s joiner h k =
     let stopped = few_stop stop m now new k in
     record {
       handled = h.done;
       few = λ start given. stopped.0 start h.done (h.given start given);
-      stand = stands settings m0 m old now s [] new h (is_front_all [] now.written new.written (stopped.1 ∙ sym (wrote_pieces-nil now.written)));
+      stand = stands settings m0 m old now s joiner [] new h (is_front_all [] now.written new.written (stopped.1 ∙ sym (wrote_pieces-nil now.written)));
     }
 
 -- the last line was not written
-pub took_end : (r : Result Line Status) (settings : GateSettings) (m0 m m' : Merging) (old now mid new : Outside) (s : State KeptSession) (line : Line) → Progress settings m0 old now m s → FinishesMerge m m' now mid → Finishes r settings.json line mid new → OnErr r (TookFew settings m0 old new)
-took_end (Ok done) settings m0 m m' old now mid new s line h k f = tt
-took_end (Err e) settings m0 m m' old now mid new s line h k f =
+pub took_end : (r : Result Line Status) (settings : GateSettings) (m0 m m' : Merging) (old now mid new : Outside) (s : State KeptSession) (joiner : Joiner) (line : Line) → Progress settings m0 old now m s joiner → FinishesMerge m m' now mid → Finishes r settings.json line mid new → OnErr r (TookFew settings m0 old new)
+took_end (Ok done) settings m0 m m' old now mid new s joiner line h k f = tt
+took_end (Err e) settings m0 m m' old now mid new s joiner line h k f =
     let front = line_front e f in
     record {
       handled = h.done;
       few = λ start given. taken_later start mid new h.done (λ side. ap (λ (t : Told). told_at t (slot_of side)) front.1.only.left) (k.few start h.done (h.given start given));
-      stand = stands settings m0 m old now s front.0 new h (subst (λ (t : Told). IsFront front.0 t new.written) k.reads.written front.1.front);
+      stand = stands settings m0 m old now s joiner front.0 new h (subst (λ (t : Told). IsFront front.0 t new.written) k.reads.written front.1.front);
     }
   where
     line_front : (e : Status) → Finishes (Err e) settings.json line mid new → (behind : List Piece) × WritesFront behind mid new
@@ -99,7 +100,7 @@ took_end (Err e) settings m0 m m' old now mid new s line h k f =
     line_front (WriteFault x) f = (_, f.1)
     line_front (OpenFault x) f = (_, f.1)
 
-event_front : (e : Status) (gate gate' : Gateway) (totals : Totals) (event : Event) (mid new : Outside) → Handles (Err e) gate gate' totals event mid new → (behind : List Piece) × IsFront behind mid.written new.written
+event_front : (e : Status) (gate gate' : Gateway) (totals : Totals) (event : Arrival) (mid new : Outside) → Handles (Err e) gate gate' totals event mid new → (behind : List Piece) × IsFront behind mid.written new.written
 event_front OutOfMemory gate gate' totals event mid new k = elim k as (λ x. (behind : List Piece) × IsFront behind mid.written new.written) [
   | inl wants ↦ ([], is_front_all [] mid.written new.written (ap (λ (o : Outside). o.written) wants.1 ∙ sym (wrote_pieces-nil mid.written)))
   | inr json ↦ (_, json.1.front)
@@ -112,14 +113,14 @@ event_front (ReadFault x) gate gate' totals event mid new k = (_, k.1.front)
 event_front (WriteFault x) gate gate' totals event mid new k = (_, k.1.front)
 event_front (OpenFault x) gate gate' totals event mid new k = (_, k.1.front)
 
--- an event was not handled to its end
-pub took_fail : (e : Status) (settings : GateSettings) (gate gate' : Gateway) (totals : Totals) (m0 m m' : Merging) (old now mid new : Outside) (s : State KeptSession) (event : Event) → Progress settings m0 old now m s → GivesEvent event m m' now mid → Handles (Err e) gate gate' totals event mid new → TookFew settings m0 old new
-took_fail e settings gate gate' totals m0 m m' old now mid new s event h gives k =
-    let front = event_front e gate gate' totals event mid new k in
+-- a frame was not handled to its end
+pub took_fail : (x : Status) (settings : GateSettings) (gate gate' : Gateway) (totals : Totals) (m0 m m' : Merging) (old now mid new : Outside) (s : State KeptSession) (joiner : Joiner) (e : Event) (a : Arrival) → Progress settings m0 old now m s joiner → GivesEvent e m m' now mid → Handles (Err x) gate gate' totals a mid new → TookFew settings m0 old new
+took_fail x settings gate gate' totals m0 m m' old now mid new s joiner e a h gives k =
+    let front = event_front x gate gate' totals a mid new k in
     record {
       handled = h.done;
-      few = λ start given. taken_later start mid new h.done (λ side. ap (λ (t : Told). told_at t (slot_of side)) (failed_only e gate gate' totals event mid new k).left) (gives.few start h.done (h.given start given));
-      stand = stands settings m0 m old now s front.0 new h (subst (λ (t : Told). IsFront front.0 t new.written) gives.reads.written front.1);
+      few = λ start given. taken_later start mid new h.done (λ side. ap (λ (t : Told). told_at t (slot_of side)) (failed_only x gate gate' totals a mid new k).left) (gives.few start h.done (h.given start given));
+      stand = stands settings m0 m old now s joiner front.0 new h (subst (λ (t : Told). IsFront front.0 t new.written) gives.reads.written front.1);
     }
 
 -- ## The whole run

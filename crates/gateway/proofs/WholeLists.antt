@@ -2,6 +2,7 @@
 use Rattle.std.proofs.Common.{◌≡◌, ℕ, ◌+◌, List, [], ◌∷◌, ◌++◌, length, refl, ap, ◌∙◌}
 use Rattle.gate_base.specs.Events.{Event}
 use Rattle.gate_base.specs.Side.{other}
+use Rattle.frag_join.specs.Arrivals.{Arrival, Comes, Stays}
 use Rattle.gate_base.specs.declared.event.Verdict.{Verdict}
 use Rattle.gate_settings.specs.declared.settings.Settings.{Settings as GateSettings}
 use Rattle.pcap_merge.specs.Events.{Ending, Done, Fault}
@@ -29,29 +30,31 @@ same_verdict v w e h = related_verdict StandsFor whole_rules kept_rules agreed w
 same_out : (v : State KeptSession) (w : State Session) (e : Event) → AreAlike v w → out kept_rules v.world e ≡ out whole_rules w.world e
 same_out v w e h = related_out StandsFor whole_rules kept_rules agreed w.world v.world h.related e
 
-alike_one : (v : State KeptSession) (w : State Session) (e : Event) → AreAlike v w → AreAlike (after_one kept_rules v e) (after_one whole_rules w e)
-alike_one v w e h = record {
+alike_one : (v : State KeptSession) (w : State Session) (a : Arrival) → AreAlike v w → AreAlike (after_one kept_rules v a) (after_one whole_rules w a)
+alike_one v w (Comes e) h = record {
   related = related_next StandsFor whole_rules kept_rules agreed w.world v.world h.related e;
   totals =
       ap (λ (t : Totals). counted t e.side (verdict kept_rules v.world e) (length (out kept_rules v.world e))) h.totals
       ∙ ap (λ (x : Verdict). counted w.totals e.side x (length (out kept_rules v.world e))) (same_verdict v w e h)
       ∙ ap (λ (xs : List (List ℕ)). counted w.totals e.side (verdict whole_rules w.world e) (length xs)) (same_out v w e h);
 }
+alike_one v w (Stays e verdict) h = record { related = h.related; totals = ap (λ (t : Totals). counted t e.side verdict 0) h.totals }
 
-alike_all : (events : List Event) (v : State KeptSession) (w : State Session) → AreAlike v w → AreAlike (after kept_rules v events) (after whole_rules w events)
+alike_all : (arrivals : List Arrival) (v : State KeptSession) (w : State Session) → AreAlike v w → AreAlike (after kept_rules v arrivals) (after whole_rules w arrivals)
 alike_all [] v w h = h
-alike_all (e ∷ events) v w h = alike_all events (after_one kept_rules v e) (after_one whole_rules w e) (alike_one v w e h)
+alike_all (a ∷ arrivals) v w h = alike_all arrivals (after_one kept_rules v a) (after_one whole_rules w a) (alike_one v w a h)
 
--- after any events
-pub alike_after : (settings : GateSettings) (events : List Event) → AreAlike (after kept_rules (opening settings) events) (after whole_rules (opening settings) events)
-alike_after settings events = alike_all events (opening settings) (opening settings) (record { related = opening_related StandsFor settings; totals = refl })
+-- after any frames
+pub alike_after : (settings : GateSettings) (arrivals : List Arrival) → AreAlike (after kept_rules (opening settings) arrivals) (after whole_rules (opening settings) arrivals)
+alike_after settings arrivals = alike_all arrivals (opening settings) (opening settings) (record { related = opening_related StandsFor settings; totals = refl })
 
-pub same_given : (settings : GateSettings) (v : State KeptSession) (w : State Session) (e : Event) → AreAlike v w → given_by kept_rules settings v e ≡ given_by whole_rules settings w e
-same_given settings v w e h =
+pub same_given : (settings : GateSettings) (v : State KeptSession) (w : State Session) (a : Arrival) → AreAlike v w → given_by kept_rules settings v a ≡ given_by whole_rules settings w a
+same_given settings v w (Comes e) h =
     let gives : Totals → Verdict → List (List ℕ) → List Piece = λ t x xs. sent settings (other e.side) e.moment xs ++ event_piece settings.json (t.events + 1) e.side e.moment x (length xs) ∷ [] in
     ap (λ (t : Totals). gives t (verdict kept_rules v.world e) (out kept_rules v.world e)) h.totals
     ∙ ap (λ (x : Verdict). gives w.totals x (out kept_rules v.world e)) (same_verdict v w e h)
     ∙ ap (gives w.totals (verdict whole_rules w.world e)) (same_out v w e h)
+same_given settings v w (Stays e verdict) h = ap (λ (t : Totals). event_piece settings.json (t.events + 1) e.side e.moment verdict 0 ∷ []) h.totals
 
 pub same_line : (v : State KeptSession) (w : State Session) → AreAlike v w → done_line v.totals v.world.pending ≡ line_after w
 same_line v w h = ap (λ (t : Totals). done_line t v.world.pending) h.totals ∙ ap (done_line w.totals) (pending_related w.world v.world h.related)

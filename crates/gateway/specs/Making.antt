@@ -3,7 +3,7 @@ use Rattle.std.specs.Prelude.{◌≡◌, ℕ, List, [], ◌∷◌, false}
 use Rattle.gate_desk.specs.declared.slot.PerSlot.{PerSlot}
 use Rattle.gate_desk.specs.declared.slot.Slot.TheVariants.{Report}
 use Rattle.gate_desk.specs.Memory.{inputs}
-use Rattle.gate_desk.specs.Outside.{Outside, Grows, HasFailed, HasFailedToStart}
+use Rattle.gate_desk.specs.Outside.{Outside, Grows, NoneFailed, HasFailed, HasFailedToStart}
 use Rattle.gate_settings.specs.declared.settings.Settings.{Settings as GateSettings}
 use Rattle.gate_report.specs.declared.line.Line.{Line}
 use Rattle.gate_workload.specs.Workloads.{workload}
@@ -34,7 +34,7 @@ pub record IsLineOf (line : Line) (number count : ℕ) : Type 0 where
 -- why a make ended so, and what it started and wrote: the settings of a workload are accepted and its captures are read to their ends, so that no other status comes
 abbrev pub HasMade : Status → ℕ → ℕ → List ℕ → Outside → Outside → Type 0
 HasMade Done number count report old new =
-    (line : Line) × IsLineOf line number count × (new.starts ≡ started_all (make_starts report) old.starts) × (new.written ≡ wrote_pieces (made_piece line ∷ []) old.written)
+    (line : Line) × IsLineOf line number count × (new.starts ≡ started_all (make_starts report) old.starts) × (new.written ≡ wrote_pieces (made_piece line ∷ []) old.written) × NoneFailed old new
 HasMade (WriteFault Report) number count report old new =
     HasFailed Report old new × (line : Line) × IsLineOf line number count × (new.starts ≡ started_all (make_starts report) old.starts) × IsFront (made_piece line ∷ []) old.written new.written
 HasMade (OpenFault Report) number count report old new = HasFailedToStart Report old new × (new.starts ≡ old.starts) × (new.written ≡ old.written)

@@ -2,7 +2,7 @@
 ghost use Rattle.std.specs.Prelude.{◌≤◌, map};
 ghost use Rattle.std.specs.String.{string_bytes};
 ghost use Rattle.gateway.specs.Command.{names_of, command_of};
-ghost use Rattle.gateway.specs.Answers.{Answers, AnswersRun, AnswersMake, IsPromised};
+ghost use Rattle.gateway.specs.Answers.{Answers, AnswersRun, AnswersMake};
 
 use crate::Status;
 use crate::command::{Command, FileNames, read_words};
@@ -50,8 +50,7 @@ fn told_make<D: Desk>(alloc: Global, desk: &mut D, number: u32, count: u32, repo
 /// address lines renamed by the session's one pair of bindings; acknowledgements cover only octets whose images were
 /// acknowledged; every other forwarded frame is its renaming.
 pub fn realm_gate<D: Desk>(alloc: Global, words: &[String], desk: &mut D) -> Status
-    ensures answer { Answers result (command_of (map string_bytes words.now)) (D.outside desk.old) (D.outside desk.new) }
-    ensures promise { IsPromised (D.outside desk.old) }
+    ensures { Answers result (command_of (map string_bytes words.now)) (D.outside desk.old) (D.outside desk.new) }
 {
     match read_words(words) {
         Command::Run(names) => told_run(alloc, desk, names),

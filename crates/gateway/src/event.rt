@@ -1,18 +1,21 @@
-// One event: its frame is judged, and what it gives is written.
+// One frame: it is judged, and what it gives is written.
 ghost use Rattle.std.specs.Prelude.{◌≡◌, ◌+◌, ◌*◌, ◌<◌, ◌≤◌, ◌^◌, ◌++◌, [], ◌∷◌, length};
 ghost use Rattle.gate_base.specs.Events.{event_of};
 ghost use Rattle.gate_desk.specs.declared.slot.Slot.TheVariants.{LeftOut, RightOut, Report};
 ghost use Rattle.gate_desk.specs.Outside.{CanWrite};
-ghost use Rattle.pcap_merge.specs.Merge.{IsSmallEvent};
+ghost use Rattle.frag_join.specs.Arrivals.{Comes, Stays, arrival, joiner_after};
+ghost use Rattle.frag_join.specs.Joining.{by_known};
 ghost use Rattle.ether_frames.specs.Ether.{ipv4_head};
 ghost use Rattle.gateway.specs.Machine.{out_slot, frame_piece, sent};
 ghost use Rattle.gateway.specs.Causes.{Gives};
 ghost use Rattle.gateway.specs.Phases.{Handles, counting};
 
 use crate::Status;
+use crate::front::{ask, joined};
 use crate::report::{Totals, count, put_line};
 use ether_frames::put_head;
-use gate_base::{Event, Link, Moment, OutOfMemory, Side};
+use frag_join::{Joiner, Taken};
+use gate_base::{Event, Link, Moment, Side, Verdict};
 use gate_core::{Gate, Outbox};
 use gate_desk::{Desk, Slot};
 use gate_report::{LINE, Line};
@@ -104,8 +107,9 @@ fn send_all<D: Desk>(
     Ok(())
 }
 
-/// Takes an event: its frame goes on, if it passes, then its line is written, for which there is a room, and it is counted.
-pub fn handle<D: Desk>(
+/// Takes an event that comes to the gate: its frame goes on, if it passes, then its line is written, for which there is a room,
+/// and it is counted.
+fn handle<D: Desk>(
     alloc: Global,
     desk: &mut D,
     gate: &mut Gate,
@@ -118,17 +122,15 @@ pub fn handle<D: Desk>(
     requires right { CanWrite (D.outside desk.old) RightOut }
     requires report { CanWrite (D.outside desk.old) Report }
     requires room { length room.old ≡ LINE }
-    requires small { IsSmallEvent (event_of event) }
+    requires early { event.moment.0 < 2 ^ 32 * 1000000000 }
     requires few { totals.old.events < 2 ^ 42 }
     requires passed { totals.old.passed ≤ totals.old.events }
+    requires refused { totals.old.refused ≤ totals.old.events }
     requires to_left { totals.old.to_left ≤ 4096 * totals.old.events }
     requires to_right { totals.old.to_right ≤ 4096 * totals.old.events }
-    ensures { Handles (counting totals.new result) gate.old gate.new totals.old (event_of event.entry) (D.outside desk.old) (D.outside desk.new) }
+    ensures { Handles (counting totals.new result) gate.old gate.new totals.old (Comes (event_of event.entry)) (D.outside desk.old) (D.outside desk.new) }
 {
-    let verdict = match gate.step(&event, outbox) {
-        Ok(verdict) => verdict,
-        Err(OutOfMemory) => return Err(Status::OutOfMemory),
-    };
+    let verdict = gate.step(&event, outbox)?;
     let frames = outbox.len() as u32;
     let settings = gate.settings();
     send_all(desk, settings, event.side.other(), event.moment, outbox)?;
@@ -142,4 +144,78 @@ pub fn handle<D: Desk>(
     put_line(alloc, desk, room, settings.json, &line)?;
     *totals = count(*totals, event.side, verdict, frames);
     Ok(())
+}
+
+/// Takes a frame that doesn't come to the gate: its line is written, for which there is a room, and it is counted.
+#[inline(never)]
+fn leave<D: Desk>(
+    alloc: Global,
+    desk: &mut D,
+    gate: &Gate,
+    room: &mut [u8],
+    totals: &mut Totals,
+    event: Event<'_>,
+    verdict: Verdict,
+) -> Result<(), Status>
+    requires report { CanWrite (D.outside desk.old) Report }
+    requires room { length room.old ≡ LINE }
+    requires few { totals.old.events < 2 ^ 42 }
+    requires passed { totals.old.passed ≤ totals.old.events }
+    requires refused { totals.old.refused ≤ totals.old.events }
+    requires to_left { totals.old.to_left ≤ 4096 * totals.old.events }
+    requires to_right { totals.old.to_right ≤ 4096 * totals.old.events }
+    ensures { Handles (counting totals.new result) gate.now gate.now totals.old (Stays (event_of event.entry) verdict) (D.outside desk.old) (D.outside desk.new) }
+{
+    let line = Line::Event {
+        number: totals.events + 1,
+        side: event.side,
+        moment: event.moment,
+        verdict,
+        frames: 0,
+    };
+    put_line(alloc, desk, room, gate.settings().json, &line)?;
+    *totals = count(*totals, event.side, verdict, 0);
+    Ok(())
+}
+
+/// Takes a frame: it comes to the gate as it is, or as the datagram that it completes, or its line alone is written.
+pub fn take<D: Desk>(
+    alloc: Global,
+    desk: &mut D,
+    joiner: &mut Option<Joiner>,
+    gate: &mut Gate,
+    outbox: &mut Outbox,
+    room: &mut [u8],
+    totals: &mut Totals,
+    event: Event<'_>,
+) -> Result<(), Status>
+    requires left { CanWrite (D.outside desk.old) LeftOut }
+    requires right { CanWrite (D.outside desk.old) RightOut }
+    requires report { CanWrite (D.outside desk.old) Report }
+    requires room { length room.old ≡ LINE }
+    requires early { event.moment.0 < 2 ^ 32 * 1000000000 }
+    requires few { totals.old.events < 2 ^ 42 }
+    requires passed { totals.old.passed ≤ totals.old.events }
+    requires refused { totals.old.refused ≤ totals.old.events }
+    requires to_left { totals.old.to_left ≤ 4096 * totals.old.events }
+    requires to_right { totals.old.to_right ≤ 4096 * totals.old.events }
+    ensures answer { Handles (counting totals.new result) gate.old gate.new totals.old (arrival by_known joiner.old (event_of event.entry)) (D.outside desk.old) (D.outside desk.new) }
+    ensures joiner { joiner.new ≡ joiner_after by_known joiner.old (event_of event.entry) }
+{
+    match ask(joiner, &event) {
+        Taken::Plain => handle(alloc, desk, gate, outbox, room, totals, event),
+        Taken::Joined => handle(alloc, desk, gate, outbox, room, totals, joined(joiner)),
+        Taken::Held => leave(alloc, desk, gate, room, totals, event, Verdict::Held),
+        Taken::Refused(refusal) => {
+            leave(
+                alloc,
+                desk,
+                gate,
+                room,
+                totals,
+                event,
+                Verdict::Refused(refusal),
+            )
+        }
+    }
 }

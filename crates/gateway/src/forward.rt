@@ -3,13 +3,14 @@ ghost use Rattle.std.specs.Prelude.{◌≡◌, ◌≤◌, ◌^◌, None, length,
 ghost use Rattle.gate_desk.specs.declared.slot.Slot.TheVariants.{LeftIn, RightIn, LeftOut, RightOut, Report};
 ghost use Rattle.gate_desk.specs.Outside.{CanRead, CanWrite, Grows};
 ghost use Rattle.pcap_merge.specs.Merge.{work, AtEnds};
+ghost use Rattle.frag_join.specs.Arrivals.{opened};
 ghost use Rattle.gate_world.specs.World.{opening_world};
 ghost use Rattle.gateway.specs.Phases.{Forwards, Finishes, TookFew};
 
 use crate::Status;
-use crate::event::handle;
+use crate::event::take;
 use crate::report::{Totals, last_line, put_line};
-use crate::stops::status_of_merge;
+use frag_join::Joiner;
 use gate_core::{Gate, Outbox};
 use gate_desk::Desk;
 use gate_report::{LINE, Line};
@@ -39,6 +40,7 @@ pub fn forward<D: Desk>(
     alloc: Global,
     desk: &mut D,
     merge: &mut Merge,
+    joiner: &mut Option<Joiner>,
     gate: &mut Gate,
     outbox: &mut Outbox,
     room: &mut [u8],
@@ -52,6 +54,7 @@ pub fn forward<D: Desk>(
     requires stop { merge.old.stop ≡ None }
     requires work { work merge.old ≤ 2 ^ 41 }
     requires ends { AtEnds merge.old (D.outside desk.old) }
+    requires joiner { joiner.old ≡ opened gate.old.settings.join }
     requires world { gate.old.world ≡ opening_world gate.old.settings }
     ensures answer { Forwards result gate.old.settings merge.old (D.outside desk.old) (D.outside desk.new) }
     ensures taken { OnErr result (TookFew gate.old.settings merge.old (D.outside desk.old) (D.outside desk.new)) }
@@ -61,21 +64,25 @@ pub fn forward<D: Desk>(
     let mut totals = Totals {
         events: 0,
         passed: 0,
+        refused: 0,
         to_left: 0,
         to_right: 0,
     };
     'events: loop {
-        let more = match merge.advance(desk) {
-            Ok(more) => more,
-            Err(stop) => return Err(status_of_merge(stop)),
-        };
+        let more = merge.advance(desk)?;
         if !more {
             let line = last_line(totals, gate.pending());
             return finish(alloc, desk, room, gate.settings().json, line);
         }
-        match handle(alloc, desk, gate, outbox, room, &mut totals, merge.event()) {
-            Ok(()) => {}
-            Err(status) => return Err(status),
-        }
+        take(
+            alloc,
+            desk,
+            joiner,
+            gate,
+            outbox,
+            room,
+            &mut totals,
+            merge.event(),
+        )?;
     }
 }

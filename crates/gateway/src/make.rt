@@ -6,7 +6,6 @@ use crate::Status;
 use crate::command::FileNames;
 use crate::report::put_text;
 use crate::run::run;
-use gate_base::OutOfMemory;
 use gate_desk::{Desk, DiscardingDesk, Slot, Way};
 use gate_report::{LINE, Line};
 use gate_workload::Workload;
@@ -28,10 +27,7 @@ fn rehearse(alloc: Global, number: u32, count: u32) -> Result<Line, Status>
     requires { count ≤ 100000 }
     ensures { MatchResult result (λ line. IsLineOf line number count) (λ status. status ≡ Status.OutOfMemory) }
 {
-    let workload = match gate_workload::make(alloc, number, count) {
-        Ok(workload) => workload,
-        Err(OutOfMemory) => return Err(Status::OutOfMemory),
-    };
+    let workload = gate_workload::make(alloc, number, count)?;
     let Workload {
         settings,
         left,

@@ -6,9 +6,9 @@ ghost use Rattle.gateway.specs.Answers.{Runs, TookForWritten};
 use crate::Status;
 use crate::command::FileNames;
 use crate::forward::forward;
+use crate::front::open_joiner;
 use crate::prepare::prepare;
 use crate::ready::ready;
-use gate_base::OutOfMemory;
 use gate_core::Outbox;
 use gate_desk::Desk;
 use gate_report::{LINE, Line};
@@ -20,11 +20,17 @@ pub fn run<D: Desk>(alloc: Global, desk: &mut D, names: FileNames<'_>) -> Result
     ensures taken { OnErr result (TookForWritten (D.outside desk.old) (D.outside desk.new)) }
 {
     let (mut merge, mut gate) = prepare(alloc, desk, names)?;
-    let mut outbox = match Outbox::make(alloc) {
-        Ok(outbox) => outbox,
-        Err(OutOfMemory) => return Err(Status::OutOfMemory),
-    };
+    let mut outbox = Outbox::make(alloc)?;
+    let mut joiner = open_joiner(alloc, &gate)?;
     let mut room = [0; LINE];
     ready(desk, names, gate.settings())?;
-    forward(alloc, desk, &mut merge, &mut gate, &mut outbox, &mut room)
+    forward(
+        alloc,
+        desk,
+        &mut merge,
+        &mut joiner,
+        &mut gate,
+        &mut outbox,
+        &mut room,
+    )
 }

@@ -2,7 +2,7 @@
 use Rattle.std.specs.Prelude.{◌≡◌, ◌⊎◌, ℕ, None, IfSome}
 use Rattle.gate_desk.specs.declared.slot.Slot.{Slot}
 use Rattle.gate_desk.specs.Outside.{Outside, HasFailed}
-use Rattle.gate_desk.specs.Untold.{Files, told_by, all_written, all_dropped}
+use Rattle.gate_desk.specs.Untold.{Files, told_by, HandsOutAll, all_dropped}
 use Rattle.gateway.specs.declared.status.Status.{Status}
 use Rattle.gateway.specs.declared.status.Status.TheVariants.{WriteFault}
 use Rattle.gateway.specs.Command.{Command}
@@ -19,11 +19,11 @@ pub record IsExit (code : ℕ) (command : Command) (old new : Outside) : Type 0 
 abbrev pub IsCode : ℕ → Type 0
 IsCode code = (status : Status) × (code ≡ code_of status)
 
--- all that waited was written out, of which the system had refused nothing, and the code stays
+-- each file got what waited for it, of which the system had refused nothing, and the code stays
 pub record IsHandedOut (code answer : ℕ) (old new : Files) : Type 0 where
   pub code_is : answer ≡ code
   pub none : old.refused ≡ None
-  pub all : new ≡ all_written old
+  pub all : HandsOutAll old new
 
 -- the system refused octets of a slot that had been taken, of the first one where it did so before: what waits is dropped, this is the code of a failed write of it, and its line is told
 pub record IsRefused (code : ℕ) (old new : Files) : Type 0 where

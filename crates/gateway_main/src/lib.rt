@@ -3,7 +3,7 @@
 
 ghost use Rattle.std.specs.String.{string_bytes};
 ghost use Rattle.gateway.specs.Command.{command_of};
-ghost use Rattle.gateway.specs.Answers.{IsPromised, TellsLine};
+ghost use Rattle.gateway.specs.Answers.{TellsLine};
 ghost use Rattle.std.specs.Prelude.{◌≡◌, map};
 ghost use Rattle.gateway.specs.Status.{error_line};
 ghost use Rattle.gateway.specs.declared.status.Status.TheVariants.{WriteFault};
@@ -32,8 +32,7 @@ fn words(rt: &HostRuntime) -> Result<Vec<String>, AllocError> {
 
 /// Carries out the command of these words over a desk, and answers the exit status.
 fn exit_status<D: Desk>(alloc: Global, words: &[String], desk: &mut D) -> u8
-    ensures exit { IsExit result (command_of (map string_bytes words.now)) (D.outside desk.old) (D.outside desk.new) }
-    ensures promise { IsPromised (D.outside desk.old) }
+    ensures { IsExit result (command_of (map string_bytes words.now)) (D.outside desk.old) (D.outside desk.new) }
 {
     realm_gate(alloc, words, desk).code()
 }

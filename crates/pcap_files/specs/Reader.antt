@@ -47,6 +47,16 @@ pub record IsSmall (p : Packet) : Type 0 where
   pub stamp : p.stamp < 2 ^ 32 * 1000000000
   pub octets : length p.octets ≤ 262144
 
+-- no count of reads rose, but where the desk failed
+abbrev pub StopLeavesCounts : ReadStop → Outside → Outside → Type 0
+StopLeavesCounts (Fault f place) old new = new.faults ≡ old.faults
+StopLeavesCounts (Desk slot) old new = Unit {0}
+StopLeavesCounts OutOfMemory old new = new.faults ≡ old.faults
+
+abbrev pub LeavesCounts : {A : Type 0} → Result A ReadStop → Outside → Outside → Type 0
+LeavesCounts (Ok answer) old new = new.faults ≡ old.faults
+LeavesCounts (Err stop) old new = StopLeavesCounts stop old new
+
 -- what an advance answers, where no earlier one stopped
 abbrev pub Advances : Result Bool ReadStop → Reading → Reading → Outside → Outside → Type 0
 Advances (Ok true) r s old new = (p : Packet) × IsSmall p × (r.place + size p ≤ 2 ^ 40) × (s ≡ record r { packet = Some p; place = r.place + size p })

@@ -3,6 +3,7 @@ ghost use Rattle.std.specs.Prelude.{◌≡◌, ◌≤◌, length};
 ghost use Rattle.gate_desk.specs.Outside.{CanRead};
 ghost use Rattle.pcap_files.specs.Capture.{layout_at, link_of, head_of};
 ghost use Rattle.pcap_files.specs.Heads.{head_answer, TakesCaptureHead};
+ghost use Rattle.pcap_files.specs.Reader.{LeavesCounts};
 
 use crate::{CaptureFault, Form, Order, Precision, ReadStop};
 use gate_base::Link;
@@ -66,7 +67,8 @@ fn form(head: &[u8]) -> Result<Form, CaptureFault>
 /// Reads the head of a capture.
 pub fn read_capture_head<D: Desk>(desk: &mut D, slot: Slot) -> Result<Form, ReadStop>
     requires { CanRead (D.outside desk.old) slot }
-    ensures { TakesCaptureHead result slot (D.outside desk.old) (D.outside desk.new) }
+    ensures takes { TakesCaptureHead result slot (D.outside desk.old) (D.outside desk.new) }
+    ensures leaves { LeavesCounts result (D.outside desk.old) (D.outside desk.new) }
 {
     let mut head = [0u8; HEAD];
     let n = match read_full(desk, slot, &mut head) {

@@ -1,7 +1,7 @@
 // A capture, record by record.
 ghost use Rattle.std.specs.Prelude.{◌≡◌, Some, None, Err, IfSome, IsSome, option_map};
 ghost use Rattle.gate_desk.specs.Outside.{CanRead};
-ghost use Rattle.pcap_files.specs.Reader.{Advances, Begins};
+ghost use Rattle.pcap_files.specs.Reader.{Advances, Begins, LeavesCounts};
 
 use crate::head::{HEAD, read_capture_head};
 use crate::record::{LONGEST_RECORD, RECORD_HEAD, RecordHead, read_record};
@@ -60,7 +60,8 @@ impl CaptureReader {
         slot: Slot,
     ) -> Result<CaptureReader, ReadStop>
         requires { CanRead (D.outside desk.old) slot }
-        ensures { Begins result slot (D.outside desk.old) (D.outside desk.new) }
+        ensures begins { Begins result slot (D.outside desk.old) (D.outside desk.new) }
+        ensures leaves { LeavesCounts result (D.outside desk.old) (D.outside desk.new) }
     {
         let form = match read_capture_head(desk, slot) {
             Ok(form) => form,
@@ -90,6 +91,7 @@ impl CaptureReader {
     pub fn advance<D: Desk>(&mut self, desk: &mut D) -> Result<bool, ReadStop>
         requires { CanRead (D.outside desk.old) self.old.slot }
         ensures first { self.old.stop ≡ None → Advances result self.old self.new (D.outside desk.old) (D.outside desk.new) }
+        ensures leaves { LeavesCounts result (D.outside desk.old) (D.outside desk.new) }
         ensures again { IfSome self.old.stop (λ stop. (result ≡ Err stop) × (self.new ≡ self.old) × (D.outside desk.new ≡ D.outside desk.old)) }
     {
         if let Some(stop) = self.stopped {

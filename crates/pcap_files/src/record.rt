@@ -2,6 +2,7 @@
 ghost use Rattle.std.specs.Prelude.{◌≡◌, ◌^◌, ◌≤◌, length};
 ghost use Rattle.gate_desk.specs.Outside.{CanRead};
 ghost use Rattle.pcap_files.specs.Heads.{Judges, TakesHead, TakesRecord};
+ghost use Rattle.pcap_files.specs.Reader.{LeavesCounts};
 
 use crate::{CaptureFault, Form, ReadStop};
 use gate_desk::{Desk, Slot, read_full};
@@ -65,7 +66,8 @@ fn read_head<D: Desk>(
 ) -> Result<Option<RecordHead>, ReadStop>
     requires start { CanRead (D.outside desk.old) slot }
     requires small { place ≤ 2 ^ 40 }
-    ensures { TakesHead result form place slot (D.outside desk.old) (D.outside desk.new) }
+    ensures takes { TakesHead result form place slot (D.outside desk.old) (D.outside desk.new) }
+    ensures leaves { LeavesCounts result (D.outside desk.old) (D.outside desk.new) }
 {
     let mut head = [0u8; RECORD_HEAD];
     let n = match read_full(desk, slot, &mut head) {
@@ -95,7 +97,8 @@ pub fn read_record<D: Desk>(
     requires start { CanRead (D.outside desk.old) slot }
     requires small { place ≤ 2 ^ 40 }
     requires room { length buffer.old ≡ 262144 }
-    ensures { TakesRecord result form place slot buffer.new (D.outside desk.old) (D.outside desk.new) }
+    ensures takes { TakesRecord result form place slot buffer.new (D.outside desk.old) (D.outside desk.new) }
+    ensures leaves { LeavesCounts result (D.outside desk.old) (D.outside desk.new) }
 {
     let Some(fields) = read_head(desk, slot, form, place)? else {
         return Ok(None);

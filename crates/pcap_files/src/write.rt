@@ -33,6 +33,7 @@ pub fn write_head<D: Desk>(desk: &mut D, slot: Slot, link: Link) -> Result<(), F
     ensures ok { OnOk result (Writes slot (head_octets link) (D.outside desk.old) (D.outside desk.new)) }
     ensures err { OnErr result (WritesPart slot (head_octets link) (D.outside desk.old) (D.outside desk.new)) }
     ensures cause { OnErr result (HasFailed slot (D.outside desk.old) (D.outside desk.new)) }
+    ensures leaves { OnOk result ((D.outside desk.new).faults ≡ (D.outside desk.old).faults) }
 {
     write_whole(desk, slot, &head_of_capture(link))
 }
@@ -64,6 +65,7 @@ pub fn write_packet<D: Desk>(
     ensures ok { OnOk result (Writes slot (record_octets moment.0 (head.now ++ octets.now)) (D.outside desk.old) (D.outside desk.new)) }
     ensures err { OnErr result (WritesPart slot (record_octets moment.0 (head.now ++ octets.now)) (D.outside desk.old) (D.outside desk.new)) }
     ensures cause { OnErr result (HasFailed slot (D.outside desk.old) (D.outside desk.new)) }
+    ensures leaves { OnOk result ((D.outside desk.new).faults ≡ (D.outside desk.old).faults) }
 {
     let front = head_of_record(moment, (head.len() + octets.len()) as u32);
     write_behind(desk, slot, &front, head, octets)
@@ -81,6 +83,7 @@ fn write_behind<D: Desk>(
     ensures ok { OnOk result (Writes slot (front.now ++ (head.now ++ octets.now)) (D.outside desk.old) (D.outside desk.new)) }
     ensures err { OnErr result (WritesPart slot (front.now ++ (head.now ++ octets.now)) (D.outside desk.old) (D.outside desk.new)) }
     ensures cause { OnErr result (HasFailed slot (D.outside desk.old) (D.outside desk.new)) }
+    ensures leaves { OnOk result ((D.outside desk.new).faults ≡ (D.outside desk.old).faults) }
 {
     write_whole(desk, slot, front)?;
     write_apart(desk, slot, head, octets)
@@ -92,6 +95,7 @@ fn write_apart<D: Desk>(desk: &mut D, slot: Slot, head: &[u8], octets: &[u8]) ->
     ensures ok { OnOk result (Writes slot (head.now ++ octets.now) (D.outside desk.old) (D.outside desk.new)) }
     ensures err { OnErr result (WritesPart slot (head.now ++ octets.now) (D.outside desk.old) (D.outside desk.new)) }
     ensures cause { OnErr result (HasFailed slot (D.outside desk.old) (D.outside desk.new)) }
+    ensures leaves { OnOk result ((D.outside desk.new).faults ≡ (D.outside desk.old).faults) }
 {
     write_whole(desk, slot, head)?;
     write_whole(desk, slot, octets)

@@ -4,3 +4,4 @@ pub mod Reading
 pub mod Steps
 pub mod Starts
 pub mod Weave
+pub mod Counts

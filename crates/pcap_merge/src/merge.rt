@@ -3,6 +3,7 @@ ghost use Rattle.std.specs.Prelude.{◌≡◌, Some, None, Err, IfSome, IsSome};
 ghost use Rattle.gate_base.specs.Events.{event_of};
 ghost use Rattle.gate_desk.specs.Outside.{CanRead};
 ghost use Rattle.pcap_merge.specs.Merge.{Begins, Advances};
+ghost use Rattle.pcap_merge.specs.Stops.{LeavesCounts};
 
 use crate::MergeStop;
 use crate::order::{Last, earlier};
@@ -39,7 +40,8 @@ impl Merge {
     pub fn begin<D: Desk>(alloc: Global, desk: &mut D) -> Result<Merge, MergeStop>
         requires left { CanRead (D.outside desk.old) Slot.LeftIn }
         requires right { CanRead (D.outside desk.old) Slot.RightIn }
-        ensures { Begins result (D.outside desk.old) (D.outside desk.new) }
+        ensures begins { Begins result (D.outside desk.old) (D.outside desk.new) }
+        ensures leaves { LeavesCounts result (D.outside desk.old) (D.outside desk.new) }
     {
         let left = match CaptureReader::begin(alloc, desk, Slot::LeftIn) {
             Ok(left) => left,
@@ -63,6 +65,7 @@ impl Merge {
         requires left { CanRead (D.outside desk.old) Slot.LeftIn }
         requires right { CanRead (D.outside desk.old) Slot.RightIn }
         ensures first { self.old.stop ≡ None → Advances result self.old self.new (D.outside desk.old) (D.outside desk.new) }
+        ensures leaves { LeavesCounts result (D.outside desk.old) (D.outside desk.new) }
         ensures again { IfSome self.old.stop (λ stop. (result ≡ Err stop) × (self.new ≡ self.old) × (D.outside desk.new ≡ D.outside desk.old)) }
     {
         if let Some(stop) = self.stopped {

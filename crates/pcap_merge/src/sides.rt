@@ -2,7 +2,7 @@
 ghost use Rattle.std.specs.Prelude.{◌≡◌, None};
 ghost use Rattle.gate_desk.specs.Outside.{CanRead};
 ghost use Rattle.pcap_merge.specs.Sides.{ReadsSide, ReadsSides};
-ghost use Rattle.pcap_merge.specs.Stops.{slot_of};
+ghost use Rattle.pcap_merge.specs.Stops.{LeavesCounts, slot_of};
 
 use crate::MergeStop;
 use crate::order::{Last, is_unread};
@@ -22,7 +22,8 @@ fn read_side<D: Desk>(
     requires start { CanRead (D.outside desk.old) reader.old.slot }
     requires slot { reader.old.slot ≡ slot_of side }
     requires running { reader.old.stop ≡ None }
-    ensures { ReadsSide result side unread reader.old reader.new (D.outside desk.old) (D.outside desk.new) }
+    ensures reads { ReadsSide result side unread reader.old reader.new (D.outside desk.old) (D.outside desk.new) }
+    ensures leaves { LeavesCounts result (D.outside desk.old) (D.outside desk.new) }
 {
     if !unread {
         return Ok(());
@@ -46,7 +47,8 @@ pub fn read_sides<D: Desk>(
     requires slot_right { right.old.slot ≡ slot_of Side.Right }
     requires running_left { left.old.stop ≡ None }
     requires running_right { right.old.stop ≡ None }
-    ensures { ReadsSides result last left.old left.new right.old right.new (D.outside desk.old) (D.outside desk.new) }
+    ensures reads { ReadsSides result last left.old left.new right.old right.new (D.outside desk.old) (D.outside desk.new) }
+    ensures leaves { LeavesCounts result (D.outside desk.old) (D.outside desk.new) }
 {
     match read_side(desk, Side::Left, is_unread(Side::Left, last), left) {
         Ok(()) => read_side(desk, Side::Right, is_unread(Side::Right, last), right),

@@ -6,8 +6,11 @@ use gate_base::OutOfMemory;
 use std::alloc::Global;
 use std::marker::Model;
 
-/// The most octets that are kept. There is room for twice as many.
+/// The most octets that are kept.
 const LIMIT: usize = 65_536;
+
+/// The room for them: a quarter more, so that they are moved once for each 16,384 that are forgotten.
+const ROOM: usize = LIMIT + LIMIT / 4;
 
 /// The last octets of a stream, at most 65,536 of them. They are seen as the list of them.
 #[derive(Drop)]
@@ -34,7 +37,7 @@ impl Recent {
         ensures { IfOk result (λ r. r ≡ []) }
     {
         Ok(Recent {
-            octets: Vec::with_capacity(alloc, 2 * LIMIT)?,
+            octets: Vec::with_capacity(alloc, ROOM)?,
             forgotten: 0,
         })
     }
@@ -52,7 +55,7 @@ impl Recent {
         requires { length self.old + length octets.now ≤ 65536 }
         ensures { self.new ≡ self.old ++ octets.now }
     {
-        if 2 * LIMIT < self.octets.len() + octets.len() {
+        if ROOM < self.octets.len() + octets.len() {
             drop_front(&mut self.octets, self.forgotten);
             self.forgotten = 0;
         }

@@ -6,3 +6,4 @@ pub mod Places
 pub mod Swaps
 pub mod Tree
 pub mod Writing
+pub mod Lengths

@@ -30,7 +30,7 @@ pub(crate) struct Direction<D: Dialogue> {
     ended: bool,
     acked: u64,
     // the held rest, which is the last of the recent octets too
-    holder: Holder<8_194>,
+    holder: Holder<512>,
     released: bool,
     ledger: Ledger,
     recent: Recent,
@@ -43,7 +43,7 @@ impl<D: Dialogue> Model for Direction<D> {
 
     ghost view = { λ a. record { dialogue = a.dialogue; kept = kept_by a.mss a.initial a.ended a.acked a.holder a.released a.ledger a.recent; spare = a.ledger.spare } };
 
-    ghost invariant = { λ a. IsStream (D.meaning a.dialogue) 8194 (kept_by a.mss a.initial a.ended a.acked a.holder a.released a.ledger a.recent) };
+    ghost invariant = { λ a. IsStream (D.meaning a.dialogue) 512 (kept_by a.mss a.initial a.ended a.acked a.holder a.released a.ledger a.recent) };
 }
 
 impl<D: Dialogue> Direction<D> {
@@ -55,7 +55,7 @@ impl<D: Dialogue> Direction<D> {
         recent: Recent,
     ) -> Direction<D>
         requires recent { recent ≡ [] }
-        requires bounded { HoldsAtMost (D.meaning dialogue) 8193 }
+        requires bounded { HoldsAtMost (D.meaning dialogue) 511 }
         ensures dialogue { result.dialogue ≡ dialogue }
         ensures kept { result.kept ≡ sender_begun initial mss }
     {
@@ -456,8 +456,8 @@ fn fill(scratch: &mut Vec<u8>, rest: &[u8], fresh: &[u8])
 }
 
 // Holds this rest, which the dialogue holds or which is empty, in place of another.
-fn hold_rest<D: Dialogue>(holder: &mut Holder<8_194>, dialogue: &D, rest: &[u8])
-    requires bounded { HoldsAtMost (D.meaning dialogue.now) 8193 }
+fn hold_rest<D: Dialogue>(holder: &mut Holder<512>, dialogue: &D, rest: &[u8])
+    requires bounded { HoldsAtMost (D.meaning dialogue.now) 511 }
     requires waiting { IsWaiting (D.meaning dialogue.now) rest.now }
     ensures { holder.new ≡ rest.now }
 {

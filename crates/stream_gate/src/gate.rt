@@ -59,8 +59,8 @@ impl<C: Dialogue, S: Dialogue> StreamGate<C, S> {
     ) -> StreamGate<C, S>
         requires client { from_client ≡ [] }
         requires server { from_server ≡ [] }
-        requires client_rests { HoldsAtMost (C.meaning client) 8193 }
-        requires server_rests { HoldsAtMost (S.meaning server) 8193 }
+        requires client_rests { HoldsAtMost (C.meaning client) 511 }
+        requires server_rests { HoldsAtMost (S.meaning server) 511 }
         ensures { result ≡ record { client_dialogue = client; server_dialogue = server; kept = kept_made initial mss nothing_pushed nothing_pushed } }
     {
         StreamGate {

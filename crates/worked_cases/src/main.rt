@@ -53,7 +53,7 @@ impl Table {
 }
 
 /// The cases that are run again with each call of the desk failing in turn.
-const FAILING: &str = "udp_left_to_right a_morning";
+const FAILING: &str = "udp_left_to_right a_morning fragments_joined";
 
 fn is_right(rt: &HostRuntime, table: Table, line: &str) -> io::Result<bool> {
     match table {

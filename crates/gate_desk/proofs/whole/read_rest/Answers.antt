@@ -1,4 +1,4 @@
-use Rattle.std.proofs.Common.{◌≡◌, ◌+◌, ◌-◌, ◌≤◌, length, arith, sym, subst}
+use Rattle.std.proofs.Common.{◌≡◌, ◌+◌, ◌-◌, ◌≤◌, length, arith, refl, sym, subst, ◌∙◌}
 use Rattle.std.proofs.lemmas.List.{length-take-le}
 use Rattle.std.proofs.lemmas.Slice.{take-put_mid_below}
 use Rattle.std.proofs.lemmas.Result.{err_from_is_err_and}
@@ -7,7 +7,7 @@ use Rattle.gate_desk.proofs.Laws.{takes_none, takes_on, next_none, next_on, up_t
 use Rattle.gate_desk.proofs.whole.read_rest.Goals as goal
 
 pub loop-filled-init : goal.loop-filled-init
-loop-filled-init g c = record { bound = omega arith; takes = takes_none c.args.slot _; next = next_none c.args.slot (g.D.Desk.outside c.args.desk.now) }
+loop-filled-init g c = record { bound = omega arith; takes = takes_none c.args.slot _; next = next_none c.args.slot (g.D.Desk.outside c.args.desk.now); leaves = refl }
 
 pub returns-in_err-n-clause-err : goal.returns-in_err-n-clause-err
 returns-in_err-n-clause-err g c =
@@ -37,5 +37,6 @@ loop-filled-preserved g c =
     record {
       bound = omega (arith, c.in_ok-n.ensures.fits);
       takes = takes_on c.args.slot _ _ _ _ _ c.loop-filled.invariant.takes c.in_ok-n.ensures.ok;
+      leaves = c.in_ok-n.ensures.leaves ∙ c.loop-filled.invariant.leaves;
       next = subst (λ xs. AreNext xs (g.D.Desk.outside c.args.desk.now) c.args.slot) (sym same) more;
     }

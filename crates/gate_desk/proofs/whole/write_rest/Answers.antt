@@ -1,4 +1,4 @@
-use Rattle.std.proofs.Common.{arith, append-nil, length-drop}
+use Rattle.std.proofs.Common.{arith, refl, ◌∙◌, append-nil, length-drop}
 use Rattle.std.proofs.lemmas.List.{take_rest}
 use Rattle.std.proofs.lemmas.Result.{err_from_is_err_and}
 use Rattle.std.proofs.Math.Seq.{take-add}
@@ -6,7 +6,7 @@ use Rattle.gate_desk.proofs.Laws.{writes_none, writes_on}
 use Rattle.gate_desk.proofs.whole.write_rest.Goals as goal
 
 pub loop-done-init : goal.loop-done-init
-loop-done-init g c = record { bound = omega arith; writes = writes_none c.args.slot _ }
+loop-done-init g c = record { bound = omega arith; writes = writes_none c.args.slot _; leaves = refl }
 
 pub returns-in_err-n-clause-err : goal.returns-in_err-n-clause-err
 returns-in_err-n-clause-err g c =
@@ -19,5 +19,6 @@ loop-done-preserved g c =
     let one = rw take_rest at c.in_ok-n.ensures.ok in
     record {
       bound = omega (arith, c.in_ok-n.ensures.fits, length-drop c.loop-done.done c.args.piece.now);
+      leaves = c.in_ok-n.ensures.leaves ∙ c.loop-done.invariant.leaves;
       writes = rw take-add (writes_on c.args.slot _ _ _ _ _ c.loop-done.invariant.writes one);
     }

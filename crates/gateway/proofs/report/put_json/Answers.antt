@@ -12,7 +12,7 @@ pub returns-in-Ok-write_whole : goal.returns-in-Ok-write_whole
 returns-in-Ok-write_whole g c =
     let old = g.D.Desk.outside c.args.desk.now in
     let new = g.D.Desk.outside c.write_whole.new.desk in
-    gives_one Report _ old new (subst (λ xs. Writes Report xs old new) (c.deref.ensures.value ∙ c.in-Ok.ensures) c.in-Ok-write_whole.ensures.ok)
+    gives_one Report _ old new (subst (λ xs. Writes Report xs old new) (c.deref.ensures.value ∙ c.in-Ok.ensures) c.in-Ok-write_whole.ensures.ok) c.in-Ok-write_whole.ensures.leaves
 
 pub returns : goal.returns
 returns g c =

@@ -10,7 +10,7 @@ returns-in-Ok-clause-answer g c =
     let old = g.D.Desk.outside c.args.desk.now in
     let new = g.D.Desk.outside c.write_whole.new.desk in
     let line = take_rest c.text_line-begin.new.room c.text_line-begin.result ∙ c.text_line-begin.ensures.octets in
-    gives_one Report _ old new (subst (λ xs. Writes Report xs old new) line c.in-Ok.ensures.ok)
+    gives_one Report _ old new (subst (λ xs. Writes Report xs old new) line c.in-Ok.ensures.ok) c.in-Ok.ensures.leaves
 
 pub returns-in-Err-clause-answer : goal.returns-in-Err-clause-answer
 returns-in-Err-clause-answer g c =

@@ -2,6 +2,7 @@ use Rattle.std.proofs.Common.{OnErr, refl, subst}
 use Rattle.gate_desk.specs.declared.slot.Slot.TheVariants.{LeftIn, RightIn, LeftOut, RightOut, Report}
 use Rattle.gate_desk.specs.declared.slot.Way.TheVariants.{Read, Write}
 use Rattle.gateway.specs.Command.{names_of, first_starts, output_starts, plan}
+use Rattle.gateway.specs.declared.status.Status.TheVariants.{OutOfMemory}
 use Rattle.gateway.specs.Phases.{Readied, StopsInFront}
 use Rattle.gateway.specs.Machine.{heads}
 use Rattle.gateway.specs.Answers.{Runs, TookForWritten}
@@ -74,12 +75,6 @@ returns-in_err-ready-clause-answer g c =
     handed_on (λ r. Runs r (names_of c.args.names) old new) c.from_residual-in_err-ready.result c.in_err-ready.field-0.0 c.from_residual-in_err-ready.ensures.1
     (run_not_ready c.in_err-ready.field-0.0 c.in_ok-merge.gate c.in_ok-merge.merge (names_of c.args.names) old mid new c.in_ok-merge.ensures.answer stopped)
 
-pub returns-in-Err-clause-answer : goal.returns-in-Err-clause-answer
-returns-in-Err-clause-answer g c = run_no_memory c.in_ok-merge.gate c.in_ok-merge.merge (names_of c.args.names) (g.D.Desk.outside c.args.desk.now) (g.D.Desk.outside c.prepare.new.desk) c.in_ok-merge.ensures.answer
-
-pub returns-in-Err-clause-taken : goal.returns-in-Err-clause-taken
-returns-in-Err-clause-taken g c = took_prepared c.in_ok-merge.gate c.in_ok-merge.merge (first_starts (names_of c.args.names)) (g.D.Desk.outside c.args.desk.now) (g.D.Desk.outside c.prepare.new.desk) (g.D.Desk.outside c.prepare.new.desk) c.in_ok-merge.ensures.answer refl
-
 pub returns-in_err-ready-clause-taken : goal.returns-in_err-ready-clause-taken
 returns-in_err-ready-clause-taken g c =
     let old = g.D.Desk.outside c.args.desk.now in
@@ -94,3 +89,29 @@ returns-clause-taken g c =
     let new = g.D.Desk.outside c.ready.new.desk in
     let ready = subst (λ s. Readied s (output_starts (names_of c.args.names)) mid new) c.settings.ensures c.in_ok-ready.ensures.answer in
     took_forwards c.forward.result c.in_ok-merge.gate c.in_ok-merge.merge (names_of c.args.names) old mid new (g.D.Desk.outside c.forward.new.desk) c.in_ok-merge.ensures.answer ready c.forward.ensures.taken
+
+pub returns-in_err-outbox-clause-answer : goal.returns-in_err-outbox-clause-answer
+returns-in_err-outbox-clause-answer g c =
+    let old = g.D.Desk.outside c.args.desk.now in
+    let new = g.D.Desk.outside c.prepare.new.desk in
+    handed_on (λ r. Runs r (names_of c.args.names) old new) c.from_residual-in_err-outbox.result OutOfMemory c.from_residual-in_err-outbox.ensures.1 (run_no_memory c.in_ok-merge.gate c.in_ok-merge.merge (names_of c.args.names) old new c.in_ok-merge.ensures.answer)
+
+pub returns-in_err-outbox-clause-taken : goal.returns-in_err-outbox-clause-taken
+returns-in_err-outbox-clause-taken g c =
+    let old = g.D.Desk.outside c.args.desk.now in
+    let new = g.D.Desk.outside c.prepare.new.desk in
+    handed_on (λ r. OnErr r (TookForWritten old new)) c.from_residual-in_err-outbox.result OutOfMemory c.from_residual-in_err-outbox.ensures.1
+    (took_prepared c.in_ok-merge.gate c.in_ok-merge.merge (first_starts (names_of c.args.names)) old new new c.in_ok-merge.ensures.answer refl)
+
+pub returns-in_err-joiner-clause-answer : goal.returns-in_err-joiner-clause-answer
+returns-in_err-joiner-clause-answer g c =
+    let old = g.D.Desk.outside c.args.desk.now in
+    let new = g.D.Desk.outside c.prepare.new.desk in
+    handed_on (λ r. Runs r (names_of c.args.names) old new) c.from_residual-in_err-joiner.result OutOfMemory c.from_residual-in_err-joiner.ensures.1 (run_no_memory c.in_ok-merge.gate c.in_ok-merge.merge (names_of c.args.names) old new c.in_ok-merge.ensures.answer)
+
+pub returns-in_err-joiner-clause-taken : goal.returns-in_err-joiner-clause-taken
+returns-in_err-joiner-clause-taken g c =
+    let old = g.D.Desk.outside c.args.desk.now in
+    let new = g.D.Desk.outside c.prepare.new.desk in
+    handed_on (λ r. OnErr r (TookForWritten old new)) c.from_residual-in_err-joiner.result OutOfMemory c.from_residual-in_err-joiner.ensures.1
+    (took_prepared c.in_ok-merge.gate c.in_ok-merge.merge (first_starts (names_of c.args.names)) old new new c.in_ok-merge.ensures.answer refl)

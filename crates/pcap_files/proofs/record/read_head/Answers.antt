@@ -5,19 +5,19 @@ use Rattle.pcap_files.specs.Heads.{body_of}
 use Rattle.pcap_files.proofs.Steps.{ended, torn_head, by_the_head, all_left, enough_left, some_is}
 use Rattle.pcap_files.proofs.record.read_head.Goals as goal
 
-pub returns-then-n-eq0 : goal.returns-then-n-eq0
-returns-then-n-eq0 g c =
+pub returns-then-n-eq0-clause-takes : goal.returns-then-n-eq0-clause-takes
+returns-then-n-eq0-clause-takes g c =
     let e : c.in-Ok.n ≡ 0 = c.if-n-eq0.true in
     let told = told_at (g.D.Desk.outside c.args.desk.now).left c.args.slot in
     (rw e at c.in-Ok.ensures.ok, ended c.args.form c.args.place told (subst (λ n. IfSome told (λ all. take n c.read_full.new.buffer ≡ take 16 all)) e c.in-Ok.ensures.octets))
 
-pub returns-then-n-lt-RECORD_HEAD : goal.returns-then-n-lt-RECORD_HEAD
-returns-then-n-lt-RECORD_HEAD g c =
+pub returns-then-n-lt-RECORD_HEAD-clause-takes : goal.returns-then-n-lt-RECORD_HEAD-clause-takes
+returns-then-n-lt-RECORD_HEAD-clause-takes g c =
     let told = told_at (g.D.Desk.outside c.args.desk.now).left c.args.slot in
     (refl, record { count = c.in-Ok.n; takes = c.in-Ok.ensures.ok; near = omega (arith, c.requires.small); exact = all_left c.in-Ok.n c.read_full.new.buffer told (omega arith) (omega arith) c.in-Ok.ensures.octets }, torn_head c.args.form c.args.place c.in-Ok.n c.read_full.new.buffer told (omega arith) (omega arith) (omega arith) c.in-Ok.ensures.octets)
 
-pub returns-in-Ok-judge : goal.returns-in-Ok-judge
-returns-in-Ok-judge g c =
+pub returns-in-Ok-judge-clause-takes : goal.returns-in-Ok-judge-clause-takes
+returns-in-Ok-judge-clause-takes g c =
     let told = told_at (g.D.Desk.outside c.args.desk.now).left c.args.slot in
     let h = c.in-Ok-judge.fields in
     let e : c.in-Ok.n ≡ 16 = omega (arith, c.in-Ok.ensures.fits) in (
@@ -27,8 +27,8 @@ returns-in-Ok-judge g c =
       enough_left c.in-Ok.n c.read_full.new.buffer told (omega arith) (omega arith) c.in-Ok.ensures.octets,
     )
 
-pub returns-in-Err-judge : goal.returns-in-Err-judge
-returns-in-Err-judge g c =
+pub returns-in-Err-judge-clause-takes : goal.returns-in-Err-judge-clause-takes
+returns-in-Err-judge-clause-takes g c =
     let told = told_at (g.D.Desk.outside c.args.desk.now).left c.args.slot in (
       refl,
       record {

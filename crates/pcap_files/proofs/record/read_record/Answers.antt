@@ -7,36 +7,36 @@ use Rattle.pcap_files.specs.Capture.{next_at, Came}
 use Rattle.pcap_files.proofs.Steps.{no_body, torn_body, whole_body, all_left_behind}
 use Rattle.pcap_files.proofs.record.read_record.Goals as goal
 
-pub returns-in-Err : goal.returns-in-Err
-returns-in-Err g c =
+pub returns-in-Err-clause-takes : goal.returns-in-Err-clause-takes
+returns-in-Err-clause-takes g c =
     let old = g.D.Desk.outside c.args.desk.now in
     let told = told_at old.left c.args.slot in
     let h = c.in-Some.fields in
-    let head = subst (λ o. TakesHead (Ok o) c.args.form c.args.place c.args.slot old (g.D.Desk.outside c.read_head.new.desk)) c.in-Some.is c.in_ok-fields.ensures in
+    let head = subst (λ o. TakesHead (Ok o) c.args.form c.args.place c.args.slot old (g.D.Desk.outside c.read_head.new.desk)) c.in-Some.is c.in_ok-fields.ensures.takes in
     let fits : h.kept ≤ length c.args.buffer.now = omega (arith, head.0.kept) in
     let few : c.in-Err.ensures.err.0 < h.kept = omega (arith, c.in-Err.ensures.err.1, length-take-le h.kept c.args.buffer.now fits) in
     (refl, failed_later c.args.slot old (g.D.Desk.outside c.read_head.new.desk) (g.D.Desk.outside c.read_full.new.desk) head.1.faults c.in-Err.ensures.cause, record { count = 16 + c.in-Err.ensures.err.0; takes = takes_on c.args.slot _ _ _ _ _ head.1 c.in-Err.ensures.err.2; near = omega (arith, head.0.ends, few); none = no_body c.args.form c.args.place _ h.stamp h.kept h.whole told few head.2 })
 
-pub returns-then-count-fields : goal.returns-then-count-fields
-returns-then-count-fields g c =
+pub returns-then-count-fields-clause-takes : goal.returns-then-count-fields-clause-takes
+returns-then-count-fields-clause-takes g c =
     let old = g.D.Desk.outside c.args.desk.now in
     let mid = g.D.Desk.outside c.read_head.new.desk in
     let told = told_at old.left c.args.slot in
     let h = c.in-Some.fields in
-    let head = subst (λ o. TakesHead (Ok o) c.args.form c.args.place c.args.slot old mid) c.in-Some.is c.in_ok-fields.ensures in
+    let head = subst (λ o. TakesHead (Ok o) c.args.form c.args.place c.args.slot old mid) c.in-Some.is c.in_ok-fields.ensures.takes in
     let fits : h.kept ≤ length c.args.buffer.now = omega (arith, head.0.kept) in
     let size = length-take-le h.kept c.args.buffer.now fits in
     let body = moved c.args.slot 16 old mid (λ all. take c.in-Ok.count c.read_full.new.buffer ≡ take h.kept all) head.1 (subst (λ k. IfSome (told_at mid.left c.args.slot) (λ all. take c.in-Ok.count c.read_full.new.buffer ≡ take k all)) size c.in-Ok.ensures.octets) in
     let room : c.in-Ok.count ≤ length c.read_full.new.buffer = omega (arith, c.in-Ok.ensures.fits, c.read_full.auto.buffer) in
     (refl, record { count = 16 + c.in-Ok.count; takes = takes_on c.args.slot _ _ _ _ _ head.1 c.in-Ok.ensures.ok; near = omega (arith, head.0.ends, c.if-count-fields.true); exact = all_left_behind h.kept c.in-Ok.count c.read_full.new.buffer told c.if-count-fields.true room head.3 body }, torn_body c.args.form c.args.place c.in-Ok.count h.stamp h.kept h.whole c.read_full.new.buffer told c.if-count-fields.true room head.2 body)
 
-pub returns : goal.returns
-returns g c =
+pub returns-clause-takes : goal.returns-clause-takes
+returns-clause-takes g c =
     let old = g.D.Desk.outside c.args.desk.now in
     let mid = g.D.Desk.outside c.read_head.new.desk in
     let told = told_at old.left c.args.slot in
     let h = c.in-Some.fields in
-    let head = subst (λ o. TakesHead (Ok o) c.args.form c.args.place c.args.slot old mid) c.in-Some.is c.in_ok-fields.ensures in
+    let head = subst (λ o. TakesHead (Ok o) c.args.form c.args.place c.args.slot old mid) c.in-Some.is c.in_ok-fields.ensures.takes in
     let fits : h.kept ≤ length c.args.buffer.now = omega (arith, head.0.kept) in
     let size = length-take-le h.kept c.args.buffer.now fits in
     let body = moved c.args.slot 16 old mid (λ all. take c.in-Ok.count c.read_full.new.buffer ≡ take h.kept all) head.1 (subst (λ k. IfSome (told_at mid.left c.args.slot) (λ all. take c.in-Ok.count c.read_full.new.buffer ≡ take k all)) size c.in-Ok.ensures.octets) in

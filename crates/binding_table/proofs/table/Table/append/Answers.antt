@@ -45,4 +45,4 @@ invariant_of-self c =
     let right = c.take_alias.ensures.right ∙ ap (λ (aliases : Aliases). changed Right binding (Some binding.host) aliases) whole.right ∙ aliases_push table binding Right can in
     let rows = c.self.inside.bindings.rows in
     let put = ap (λ (t : Table Binding). t.rows) c.push.ensures ∙ ap (λ (row : Row Binding). rows ++ row ∷ []) c.filed.ensures ∙ ap (λ (all : List (Row Binding)). all ++ filed binding ∷ []) whole.rows ∙ sym (map-append filed table.entries (binding ∷ [])) in
-    whole_by _ (with_binding table binding) refl left right put (lawful_push table binding whole.lawful can) (omega (arith, room_of c.self.inside whole, ap (λ (t : Table Binding). t.most) c.push.ensures))
+    whole_by _ (with_binding table binding) refl left right refl put (lawful_push table binding whole.lawful can) whole.rules (omega (arith, room_of c.self.inside whole, ap (λ (t : Table Binding). t.most) c.push.ensures))

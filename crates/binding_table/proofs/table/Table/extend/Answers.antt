@@ -40,7 +40,7 @@ invariant_of-self c =
     let put = ap (λ (t : Table Binding). t.rows) c.set_at.ensures ∙ rows_extended table from_pool c.args.side c.args.address c.args.until c.in-Some.binding.now c.filed-row.result c.self.inside.bindings.rows whole.lawful found (c.filed-row.ensures ∙ ap filed c.lasting.ensures) whole.rows in
     let f = extend_through from_pool c.args.side c.args.address c.args.until in
     let same = same_pair from_pool c.args.side c.args.address c.args.until in
-    whole_by _ (extended table c.args.side c.args.address c.args.until) refl (whole.left ∙ aliases_map f same table.left Left table.entries) (whole.right ∙ aliases_map f same table.right Right table.entries) put (lawful_map f same table whole.lawful)
+    whole_by _ (extended table c.args.side c.args.address c.args.until) refl (whole.left ∙ aliases_map f same table.left Left table.entries) (whole.right ∙ aliases_map f same table.right Right table.entries) refl put (lawful_map f same table whole.lawful) whole.rules
     (omega (arith, room_of c.self.inside whole, ap (λ (t : Table Binding). t.most) c.set_at.ensures))
 
 pub returns : goal.returns

@@ -1,4 +1,5 @@
-use Rattle.std.proofs.Common.{◌∙◌, [], ap, arith, length}
+use Rattle.std.proofs.Common.{◌∙◌, [], ap, arith, length, subst, sym}
+use Rattle.gate_base.specs.Rules.{AreRules}
 use Rattle.gate_base.specs.declared.side.Side.TheVariants.{Left, Right}
 use Rattle.expiring_table.specs.Rows.{Table}
 use Rattle.binding_table.specs.declared.binding.Binding.{Binding}
@@ -24,4 +25,4 @@ invariant_of-result-3 c =
     let most = ap (λ (t : Table Binding). t.most) c.in_ok-make.ensures in
     let long = c.len.ensures ∙ ap (λ (aliases : Aliases). length aliases.hosts) left ∙ length_hosts (range_of_settings settings.left) Left [] in
     let wide = c.len-2.ensures ∙ ap (λ (aliases : Aliases). length aliases.hosts) right ∙ length_hosts (range_of_settings settings.right) Right [] in
-    whole_by _ (without_bindings settings) same (c.left.view_is ∙ left) (c.right.view_is ∙ right) (ap (λ (t : Table Binding). t.rows) c.in_ok-make.ensures) (opening_lawful settings c.requires.sound c.requires.forms) (omega (arith, most, long, wide))
+    whole_by _ (without_bindings settings) same (c.left.view_is ∙ left) (c.right.view_is ∙ right) c.in_ok-copy.ensures (ap (λ (t : Table Binding). t.rows) c.in_ok-make.ensures) (opening_lawful settings c.requires.sound c.requires.forms) (subst AreRules (sym c.in_ok-copy.ensures) c.requires.forms.oids) (omega (arith, most, long, wide))

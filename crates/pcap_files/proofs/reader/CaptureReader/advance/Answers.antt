@@ -8,7 +8,7 @@ use Rattle.pcap_files.proofs.reader.CaptureReader.advance.Goals as goal
 pub returns-in-Ok-Some-clause-first : goal.returns-in-Ok-Some-clause-first
 returns-in-Ok-Some-clause-first g c = rw (← c.self.view_is) (λ none.
     let h = c.in-Ok-Some.head in
-    let got = rw c.in-Ok-Some.field-0-is at c.in-Ok-Some.ensures in
+    let got = rw c.in-Ok-Some.field-0-is at c.in-Ok-Some.ensures.takes in
     let p : Packet = record { stamp = h.stamp; whole = h.whole; octets = take h.kept c.read_record.new.buffer } in
     let size : length c.read_record.new.buffer ≡ c.self.inside.buffer.len = omega (arith, c.read_record.auto.buffer, c.deref_mut.ensures.len) in
     let fits : h.kept ≤ c.self.inside.buffer.len = omega (arith, got.0.kept, c.self.inside.buffer.ok.0, c.self.invariant) in

@@ -1,0 +1,89 @@
+-- What the files of slots got, and what waits for them.
+use Rattle.std.proofs.Common.{◌≡◌, ℕ, List, [], ◌++◌, Bool, true, false, Option, Some, None, Result, OnOk, cond, if◌then◌else◌, refl, sym, ap, subst, ◌∙◌, append_assoc, append-nil}
+use Rattle.std.specs.Io.KnownBytes.{Appends, append_known}
+use Rattle.gate_desk.specs.declared.gathered.Gathering.{Gathering}
+use Rattle.gate_desk.specs.declared.gathered.Gathering.TheVariants.{Gathered, NoRoom}
+use Rattle.gate_desk.specs.declared.slot.Slot.{Slot}
+use Rattle.gate_desk.specs.declared.slot.Slot.TheVariants.{Settings, LeftIn, RightIn, LeftOut, RightOut, Report, Errors}
+use Rattle.gate_desk.specs.declared.slot.PerSlot.{PerSlot}
+use Rattle.gate_desk.specs.Slots.{at, put, same_slot}
+use Rattle.gate_desk.specs.Memory.{each}
+use Rattle.gate_desk.specs.Gathering.{HandsOut, IsFile, TakesPiece, gathered_after, taken_at}
+use Rattle.gate_desk.proofs.Gathering.{at_none}
+use Rattle.gate_desk.proofs.Laws.{at-put_any, put-at, same-of}
+
+-- the seven slots, one by one
+pub every : (P : Slot → Type 0) → P Settings → P LeftIn → P RightIn → P LeftOut → P RightOut → P Report → P Errors → (s : Slot) → P s
+every P a b c d e f g Settings = a
+every P a b c d e f g LeftIn = b
+every P a b c d e f g RightIn = c
+every P a b c d e f g LeftOut = d
+every P a b c d e f g RightOut = e
+every P a b c d e f g Report = f
+every P a b c d e f g Errors = g
+
+appends_none : (g : Option (List ℕ)) → Appends g g []
+appends_none None = tt
+appends_none (Some xs) = sym (append-nil xs)
+
+appends_on : (a b c : Option (List ℕ)) (piece : List ℕ) → Appends a b [] → Appends b c piece → Appends a c piece
+appends_on None b c piece h k = tt
+appends_on (Some xs) None c piece h k = absurd h
+appends_on (Some xs) (Some ys) None piece h k = absurd k
+appends_on (Some xs) (Some ys) (Some zs) piece h k = k ∙ ap (λ (l : List ℕ). l ++ piece) (h ∙ append-nil xs)
+
+-- what waited was got
+handed : (g g' : Option (List ℕ)) (waiting : List ℕ) → Appends g g' waiting → Appends (append_known g waiting) (append_known g' []) []
+handed None g' waiting h = tt
+handed (Some xs) None waiting h = absurd h
+handed (Some xs) (Some ys) waiting h = ap (λ (l : List ℕ). l ++ []) h
+
+-- a piece waits behind what waited
+added : (g : Option (List ℕ)) (waiting piece : List ℕ) → Appends (append_known g waiting) (append_known g (waiting ++ piece)) piece
+added None waiting piece = tt
+added (Some xs) waiting piece = sym (append_assoc xs waiting piece)
+
+-- all that waited was got
+pub handed_all : (got got' : PerSlot (Option (List ℕ))) (waiting waiting' : PerSlot (List ℕ)) → HandsOut got waiting got' → waiting' ≡ each [] → (s : Slot) → Appends (taken_at got waiting s) (taken_at got' waiting' s) []
+handed_all got got' waiting waiting' h none s =
+    subst (λ (w : List ℕ). Appends (taken_at got waiting s) (append_known (at got' s) w) []) (sym (ap (λ (w : PerSlot (List ℕ)). at w s) none ∙ at_none s)) (handed (at got s) (at got' s) (at waiting s) (h s))
+
+by_slot : (r : Bool) (g : Option (List ℕ)) (waiting own piece : List ℕ) → (r ≡ true → own ≡ waiting) → Appends (append_known g waiting) (append_known g (cond r (own ++ piece) waiting)) (if r then piece else [])
+by_slot true g waiting own piece h = subst (λ (l : List ℕ). Appends (append_known g waiting) (append_known g (l ++ piece)) piece) (sym (h refl)) (added g waiting piece)
+by_slot false g waiting own piece h = appends_none (append_known g waiting)
+
+-- a piece was gathered for its slot
+pub gathered_one : (slot s : Slot) (piece : List ℕ) (got got' : PerSlot (Option (List ℕ))) (waiting waiting' : PerSlot (List ℕ)) (r : Gathering) → got' ≡ got → waiting' ≡ put waiting slot (gathered_after r piece (at waiting slot)) → r ≡ Gathered
+    → Appends (taken_at got waiting s) (taken_at got' waiting' s) (if same_slot slot s then piece else [])
+gathered_one slot s piece got got' waiting waiting' r same e is =
+    let own = at waiting slot in
+    let there : at waiting' s ≡ cond (same_slot slot s) (own ++ piece) (at waiting s) =
+    ap (λ (w : PerSlot (List ℕ)). at w s) (e ∙ ap (λ (x : Gathering). put waiting slot (gathered_after x piece own)) is) ∙ at-put_any waiting slot s (own ++ piece) in
+    subst (λ (g : PerSlot (Option (List ℕ))). Appends (taken_at got waiting s) (append_known (at g s) (at waiting' s)) (if same_slot slot s then piece else [])) (sym same)
+    (subst (λ (w : List ℕ). Appends (taken_at got waiting s) (append_known (at got s) w) (if same_slot slot s then piece else [])) (sym there)
+    (by_slot (same_slot slot s) (at got s) (at waiting s) own piece (λ one. ap (at waiting) (same-of slot s one))))
+
+-- a piece was gathered once all that waited was got
+pub gathered_behind : (slot : Slot) (piece : List ℕ) (got mid got' : PerSlot (Option (List ℕ))) (waiting none waiting' : PerSlot (List ℕ)) (r : Gathering) → HandsOut got waiting mid → none ≡ each [] → got' ≡ mid
+    → waiting' ≡ put none slot (gathered_after r piece (at none slot)) → r ≡ Gathered → TakesPiece slot piece got waiting got' waiting'
+gathered_behind slot piece got mid got' waiting none waiting' r h e same w is = λ s file.
+    appends_on (taken_at got waiting s) (taken_at mid none s) (taken_at got' waiting' s) (if same_slot slot s then piece else []) (handed_all got mid waiting none h e s) (gathered_one slot s piece mid got' none waiting' r same w is)
+
+-- a piece that found no room changed nothing
+pub taken_later : {A E : Type 0} (result : Result A E) (slot : Slot) (piece : List ℕ) (got mid got' : PerSlot (Option (List ℕ))) (waiting middle waiting' : PerSlot (List ℕ)) (r : Gathering) → mid ≡ got
+    → middle ≡ put waiting slot (gathered_after r piece (at waiting slot)) → r ≡ NoRoom → OnOk result (TakesPiece slot piece mid middle got' waiting') → OnOk result (TakesPiece slot piece got waiting got' waiting')
+taken_later result slot piece got mid got' waiting middle waiting' r same e is h =
+    subst (λ (g : PerSlot (Option (List ℕ))). OnOk result (TakesPiece slot piece g waiting got' waiting')) same
+    (subst (λ (w : PerSlot (List ℕ)). OnOk result (TakesPiece slot piece mid w got' waiting')) (e ∙ ap (λ (x : Gathering). put waiting slot (gathered_after x piece (at waiting slot))) is ∙ put-at waiting slot) h)
+
+-- a line of errors is for no file
+pub taken_for_none : (piece : List ℕ) (got got' : PerSlot (Option (List ℕ))) (waiting waiting' : PerSlot (List ℕ)) → HandsOut got waiting got' → waiting' ≡ each [] → TakesPiece Errors piece got waiting got' waiting'
+taken_for_none piece got got' waiting waiting' h none =
+    every (λ s. IsFile s → Appends (taken_at got waiting s) (taken_at got' waiting' s) (if same_slot Errors s then piece else []))
+    (λ file. handed_all got got' waiting waiting' h none Settings)
+    (λ file. handed_all got got' waiting waiting' h none LeftIn)
+    (λ file. handed_all got got' waiting waiting' h none RightIn)
+    (λ file. handed_all got got' waiting waiting' h none LeftOut)
+    (λ file. handed_all got got' waiting waiting' h none RightOut)
+    (λ file. handed_all got got' waiting waiting' h none Report)
+    (λ file. absurd file)

@@ -1,0 +1,38 @@
+-- A run, and the line of its status.
+use Rattle.std.proofs.Common.{◌≡◌, Result, Ok, Err, inl, inr, sym, subst}
+use Rattle.gate_desk.specs.Outside.{Outside}
+use Rattle.gate_report.specs.declared.line.Line.{Line}
+use Rattle.gateway.specs.declared.status.Status.{Status}
+use Rattle.gateway.specs.declared.status.Status.TheVariants.{Done, Usage, SettingsRefused, CaptureRefused, ReadFault, WriteFault, OpenFault, OutOfMemory}
+use Rattle.gateway.specs.Command.{Names}
+use Rattle.gateway.specs.Answers.{IsRun, Runs, IsDoneRun, IsToldRun, AnswersRun, TookForWritten, Tells}
+use Rattle.gateway.proofs.Promises.{promise_kept}
+use Rattle.gateway.proofs.Runs.{not_begun, run_of, untold}
+use Rattle.gateway.proofs.Took.{kept_left, took_unwritten}
+
+-- a run that is done keeps the promise
+pub done_run : (line : Line) (names : Names) (a b : Outside) → Runs (Ok line) names a b → IsDoneRun names a b
+done_run line names a b h = record { run = h.0; promise = promise_kept Done names a b h.0 }
+
+told_run : (e answer : Status) (names : Names) (a b c : Outside) → Runs (Err e) names a b → TookForWritten a b → Tells e answer b c → IsToldRun answer names a c
+told_run e answer names a b c h took t =
+    let run : IsRun answer names a b =
+    elim t.answer_is [
+      | inl same ↦ subst (λ s. IsRun s names a b) (sym same) (run_of e names a b h)
+      | inr memory ↦ subst (λ s. IsRun s names a b) (sym memory.0) (untold e names a b memory.1 h)
+    ] in
+    record { ended = b; run = run; promise = promise_kept answer names a b run; taken = took; line = t.line }
+
+not_done : (e : Status) (names : Names) (a b c : Outside) → Runs (Err e) names a b → Tells e Done b c → ⊥
+not_done e names a b c h t = elim t.answer_is [ inl same ↦ subst (λ s. Runs (Err s) names a b) (sym same) h | inr memory ↦ cc ]
+
+-- what the call answers to the words of a run
+pub answers_run : (e answer : Status) (names : Names) (a b c : Outside) → Runs (Err e) names a b → TookForWritten a b → Tells e answer b c → AnswersRun answer names a c
+answers_run e Done names a b c h took t = absurd (not_done e names a b c h t)
+answers_run e Usage names a b c h took t = told_run e Usage names a b c h took t
+answers_run e (SettingsRefused f) names a b c h took t = told_run e (SettingsRefused f) names a b c h took t
+answers_run e (CaptureRefused side f place) names a b c h took t = told_run e (CaptureRefused side f place) names a b c h took t
+answers_run e (ReadFault s) names a b c h took t = told_run e (ReadFault s) names a b c h took t
+answers_run e (WriteFault s) names a b c h took t = told_run e (WriteFault s) names a b c h took t
+answers_run e (OpenFault s) names a b c h took t = told_run e (OpenFault s) names a b c h took t
+answers_run e OutOfMemory names a b c h took t = told_run e OutOfMemory names a b c h took t
