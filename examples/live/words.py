@@ -4,7 +4,7 @@ import struct
 from collections import Counter, deque
 from typing import TextIO
 
-from records import ETHERNET, SIDES
+from records import ETHERNET
 
 _ETHERNET_HEAD = 14
 _FLAGS = "FSRPAUEC"
@@ -53,7 +53,7 @@ class Journal:
     """The report as it comes from the program, each line with its frame in words. Lines of heartbeats are left out."""
 
     def __init__(self, file: TextIO, links: tuple[int, int], only_refused: bool) -> None:
-        self.verdicts: Counter[str] = Counter()
+        self.verdicts: Counter[bytes] = Counter()
         self._file = file
         self._links = links
         self._only_refused = only_refused
@@ -76,26 +76,25 @@ class Journal:
         self._file.flush()
 
     def _line(self, line: bytes) -> str:
-        words = split(line.decode("ascii"))
-        if words[0] == "done":
+        words = split(line)
+        if words[0] == b"done":
             return line.decode("ascii") + "\n"
-        number, name, moment, verdict, count = words
-        side = SIDES.index(name)
+        side = 0 if words[1] == b"left" else 1
         frame = self._frames[side].popleft()
         if frame is None:
             return ""
-        self.verdicts[verdict] += 1
-        if self._only_refused and verdict == "pass":
+        self.verdicts[words[3]] += 1
+        if self._only_refused and words[3] == b"pass":
             return ""
-        said = frame_in_words(frame, self._links[side])
-        return f"{number} {name} {int(moment) / 1e9:.6f} {verdict} {count}  {said}\n"
+        number, name, moment, verdict, count = (word.decode("ascii") for word in words)
+        return f"{number} {name} {int(moment) / 1e9:.6f} {verdict} {count}  {frame_in_words(frame, self._links[side])}\n"
 
 
-def split(line: str) -> list[str]:
+def split(line: bytes) -> list[bytes]:
     """The five words of a line of the report, or those of the last line, whether it is text or JSON."""
-    if not line.startswith("{"):
-        return line.split(" ")
+    if not line.startswith(b"{"):
+        return line.split(b" ")
     values = json.loads(line)
     if "done" in values:
-        return ["done"]
-    return [str(values[key]) for key in ("event", "side", "moment", "verdict", "frames")]
+        return [b"done"]
+    return [str(values[key]).encode() for key in ("event", "side", "moment", "verdict", "frames")]
