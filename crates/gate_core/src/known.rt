@@ -180,13 +180,7 @@ impl Known {
             );
         }
         if has_port(ports, SNMP_PORT) || has_port(ports, TRAP_PORT) {
-            return Ok(take_snmp(
-                &mut self.table,
-                way,
-                datagram,
-                &mut self.scratch,
-                outbox,
-            ));
+            return Ok(take_snmp(&mut self.table, way, datagram, &mut self.scratch, outbox));
         }
         Ok(take_plain(&mut self.table, way, UDP_HOLD, datagram.octets, outbox))
     }

@@ -144,9 +144,9 @@ pub taken_by_rules : (live : World KeptSession) (side : Side) (d : Datagram) (wa
     → sent ≡ out_by r (rebuilt d (image_by way.of_source way.source).0 (image_by way.of_destination way.destination).0 (oid_renamed (number_planned old way) old.oids payload) ∷ []) → IsTaken live side d Snmp r table sent
 taken_by_rules live side d way old payload r table sent same p w good room =
     let P : Bindings → List ℕ → Type 0 = λ x xs.
-        r ≡ first_that_holds ((nat_lt 65507 (length (oid_renamed (number_planned x way) x.oids xs)), SnmpTooLong) ∷ [])
-        → table ≡ table_by r (after_uses x (uses_until way.side (way.moment.0 + udp_hold) (way.source ∷ way.destination ∷ []))) x
-        → sent ≡ out_by r (rebuilt d (image_by way.of_source way.source).0 (image_by way.of_destination way.destination).0 (oid_renamed (number_planned x way) x.oids xs) ∷ []) → IsTaken live side d Snmp r table sent in
+    r ≡ first_that_holds ((nat_lt 65507 (length (oid_renamed (number_planned x way) x.oids xs)), SnmpTooLong) ∷ [])
+    → table ≡ table_by r (after_uses x (uses_until way.side (way.moment.0 + udp_hold) (way.source ∷ way.destination ∷ []))) x
+    → sent ≡ out_by r (rebuilt d (image_by way.of_source way.source).0 (image_by way.of_destination way.destination).0 (oid_renamed (number_planned x way) x.oids xs) ∷ []) → IsTaken live side d Snmp r table sent in
     subst (λ (x : Bindings). P x payload) same (subst (λ (xs : List ℕ). P live.table xs) (sym p) (message_by_rules live side d way r table sent w good room))
 
 -- one where there is no rule
@@ -181,8 +181,8 @@ pub taken_basic : (live : World KeptSession) (side : Side) (d : Datagram) (way :
     → sent ≡ rebuilt d (image_by way.of_source way.source).0 (image_by way.of_destination way.destination).0 (oid_renamed (number_seen table way.side) [] payload) ∷ [] → IsTaken live side d Snmp None table sent
 taken_basic live side d way old payload table sent same p w good room =
     let P : Bindings → List ℕ → Type 0 = λ x xs.
-        x.oids ≡ [] → length xs ≤ 65507 → table ≡ after_uses x (uses_until way.side (way.moment.0 + udp_hold) (way.source ∷ way.destination ∷ []))
-        → sent ≡ rebuilt d (image_by way.of_source way.source).0 (image_by way.of_destination way.destination).0 (oid_renamed (number_seen table way.side) [] xs) ∷ [] → IsTaken live side d Snmp None table sent in
+    x.oids ≡ [] → length xs ≤ 65507 → table ≡ after_uses x (uses_until way.side (way.moment.0 + udp_hold) (way.source ∷ way.destination ∷ []))
+    → sent ≡ rebuilt d (image_by way.of_source way.source).0 (image_by way.of_destination way.destination).0 (oid_renamed (number_seen table way.side) [] xs) ∷ [] → IsTaken live side d Snmp None table sent in
     subst (λ (x : Bindings). P x payload) same (subst (λ (xs : List ℕ). P live.table xs) (sym p) (message_basic live side d way table sent w good room))
 
 kind_some : {A B : Type 0} (o : Option (A × B)) → IsSome o → IsSome (option_map (λ m. m.0) o)

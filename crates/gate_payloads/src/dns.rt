@@ -184,12 +184,7 @@ fn pass_names(
 }
 
 /// Takes a datagram whose message names nothing: only its header is renamed. It takes no memory.
-fn take_unnamed(
-    table: &mut Table,
-    way: &Way,
-    octets: &[u8],
-    outbox: &mut Outbox,
-) -> Option<Refusal>
+fn take_unnamed(table: &mut Table, way: &Way, octets: &[u8], outbox: &mut Outbox) -> Option<Refusal>
     requires way { IsWay table.old way.now }
     requires settled { is_settled way.now.of_destination ≡ true }
     requires moment { way.now.moment.0 < 2 ^ 32 * 1000000000 }
