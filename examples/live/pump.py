@@ -1,0 +1,377 @@
+#!/usr/bin/env python3
+"""Rendapil live between two realms: frames of two devices are handed to the program as captures that never end, and what
+comes out goes into the other realm. README.md beside this file tells how. Needs root, Linux and Python 3.11."""
+import argparse
+import contextlib
+import fcntl
+import os
+import select
+import signal
+import subprocess
+import sys
+from collections.abc import Callable, Iterator
+from dataclasses import dataclass
+from random import Random
+from typing import BinaryIO
+
+from devices import Device, Gone, open_device
+from records import HEAD_OCTETS, LEFT, RIGHT, SIDES, Stamps, capture_head, frames_in, heartbeat, link_of, records
+from trouble import Trouble
+from words import Journal
+
+PIPE = 1 << 20
+"""How many octets a pipe is to hold, and the most that are read at once."""
+
+BY_SIGNAL = 128
+"""Where the program was ended by a signal, the pump's status is the signal's number behind this."""
+
+_F_SETPIPE_SZ = 1031
+
+
+class Loop:
+    """Waits for descriptors, and calls what was given for each."""
+
+    def __init__(self) -> None:
+        self._poll = select.poll()
+        self._calls: dict[int, Callable[[], None]] = {}
+
+    def watch(self, fd: int, call: Callable[[], None], events: int = select.POLLIN) -> None:
+        """From now on `call` is called whenever `fd` is ready, or has ended or failed."""
+        self._calls[fd] = call
+        self._poll.register(fd, events)
+
+    def rest(self, fd: int) -> None:
+        """No more calls for `fd`."""
+        if self._calls.pop(fd, None):
+            self._poll.unregister(fd)
+
+    def turn(self) -> None:
+        """Waits until something is ready, and makes its calls."""
+        for fd, _ in self._poll.poll():
+            if call := self._calls.get(fd):
+                call()
+
+
+class Feed:
+    """A pipe into the program, and what it has no room for yet. `changed` is called when octets begin or cease to wait."""
+
+    def __init__(self, fd: int, loop: Loop, changed: Callable[[], None], copy: BinaryIO | None) -> None:
+        self._fd, self._loop, self._changed, self._copy = fd, loop, changed, copy
+        self._waiting = b""
+
+    @property
+    def is_full(self) -> bool:
+        """Whether octets wait."""
+        return bool(self._waiting)
+
+    def put(self, octets: bytes) -> None:
+        """Hands octets on, behind those that wait."""
+        if self._copy:
+            self._copy.write(octets)
+        if self._waiting:
+            self._waiting += octets
+            return
+        self._waiting = self._write(octets)
+        if self._waiting:
+            self._loop.watch(self._fd, self._drain, select.POLLOUT)
+            self._changed()
+
+    def close(self) -> None:
+        """The capture ends."""
+        self._loop.rest(self._fd)
+        os.close(self._fd)
+
+    def _write(self, octets: bytes) -> bytes:
+        """What the pipe didn't take. A program that ended takes all: its end shows where it is read."""
+        try:
+            return octets[os.write(self._fd, octets) :]
+        except BlockingIOError:
+            return octets
+        except BrokenPipeError:
+            return b""
+
+    def _drain(self) -> None:
+        self._waiting = self._write(self._waiting)
+        if not self._waiting:
+            self._loop.rest(self._fd)
+            self._changed()
+
+
+class Outlet:
+    """A capture that comes out of the program: a device is given its frames."""
+
+    def __init__(self, device: Device, began: Callable[[int], None]) -> None:
+        self._device, self._began = device, began
+        self._rest = b""
+        self._has_begun = False
+
+    def take(self, octets: bytes) -> None:
+        """Gives the device the frames that are whole."""
+        octets = self._rest + octets
+        if not self._has_begun:
+            if len(octets) < HEAD_OCTETS:
+                self._rest = octets
+                return
+            octets = self._begin(octets)
+        frames, used = frames_in(octets)
+        self._rest = octets[used:]
+        self._device.write_all(frames)
+
+    def _begin(self, octets: bytes) -> bytes:
+        self._has_begun = True
+        self._began(link_of(octets[:HEAD_OCTETS]))
+        return octets[HEAD_OCTETS:]
+
+
+@dataclass
+class Copies:
+    """Files that keep what the program read and wrote, in the order of its words, or none."""
+
+    files: dict[str, BinaryIO]
+
+    NAMES = ("left.pcap", "right.pcap", "left-out.pcap", "right-out.pcap", "report.txt")
+
+    @classmethod
+    def into(cls, folder: str | None) -> "Copies":
+        """Files in a folder, which is made where it isn't there."""
+        if folder is None:
+            return cls({})
+        os.makedirs(folder, exist_ok=True)
+        return cls({name: open(os.path.join(folder, name), "wb") for name in cls.NAMES})
+
+    def of(self, name: str) -> BinaryIO | None:
+        """The file of this name, if there are any."""
+        return self.files.get(name)
+
+    def close(self) -> None:
+        """Closes all."""
+        for file in self.files.values():
+            file.close()
+
+
+class Pump:
+    """The program with its pipes, between two devices."""
+
+    def __init__(
+        self,
+        devices: tuple[Device, Device],
+        words: list[str],
+        journal: Journal | None,
+        copies: Copies,
+        seconds_to_skip: float,
+    ) -> None:
+        self._devices = devices
+        self._journal = journal
+        self._copies = copies
+        self._seconds_to_skip = seconds_to_skip
+        self._loop = Loop()
+        self._stamps = Stamps()
+        self._sources: set[int] = set()
+        self._begun: set[int] = set()
+        self._is_ending = False
+        self._failure: str | None = None
+        self._start(words)
+
+    def _start(self, words: list[str]) -> None:
+        """Starts the program: two pipes into it, and two or three out of it."""
+        into, out = [os.pipe(), os.pipe()], [os.pipe(), os.pipe()]
+        report = os.pipe() if self._journal else None
+        given = [into[LEFT][0], into[RIGHT][0], out[LEFT][1], out[RIGHT][1], *([report[1]] if report else [])]
+        names = [f"/dev/fd/{fd}" for fd in given] + ([] if report else ["/dev/null"])
+        self._program = subprocess.Popen(words + names, pass_fds=given, start_new_session=True)
+        for fd in given:
+            os.close(fd)
+        for fd in (into[LEFT][1], into[RIGHT][1], out[LEFT][0], out[RIGHT][0]):
+            os.set_blocking(fd, False)
+            with contextlib.suppress(PermissionError):
+                fcntl.fcntl(fd, _F_SETPIPE_SZ, PIPE)
+        copy = self._copies.of
+        self._feeds = [Feed(into[side][1], self._loop, self._changed, copy(f"{SIDES[side]}.pcap")) for side in (LEFT, RIGHT)]
+        for side in (LEFT, RIGHT):
+            outlet = Outlet(self._devices[side], lambda link, side=side: self._began(side, link))
+            self._draw(out[side][0], outlet.take, copy(f"{SIDES[side]}-out.pcap"))
+        if report and self._journal:
+            self._draw(report[0], self._journal.take, copy("report.txt"))
+
+    def run(self) -> int:
+        """Pumps until the program has ended, and answers its status, or 1 where a device went away."""
+        for side in (LEFT, RIGHT):
+            self._feeds[side].put(capture_head(self._devices[side].link))
+        self._watch_signals()
+        self._changed()
+        while self._sources:
+            self._loop.turn()
+        status = self._program.wait()
+        self._copies.close()
+        self._tell(status)
+        if status < 0:
+            return BY_SIGNAL - status
+        return status or (1 if self._failure else 0)
+
+    def _draw(self, fd: int, take: Callable[[bytes], None], copy: BinaryIO | None) -> None:
+        """Hands what comes out of a pipe to `take`, up to its end."""
+
+        def ready() -> None:
+            octets = os.read(fd, PIPE)
+            if not octets:
+                self._loop.rest(fd)
+                self._sources.discard(fd)
+                os.close(fd)
+                return
+            if copy:
+                copy.write(octets)
+            take(octets)
+
+        self._sources.add(fd)
+        self._loop.watch(fd, ready)
+
+    def _pump(self, side: int) -> None:
+        """Takes the frames that wait in a realm, and hands them on with the heartbeat for them."""
+        device = self._devices[side]
+        try:
+            frames = device.read_some()
+        except Gone as gone:
+            self._end(str(gone))
+            return
+        if not frames:
+            return
+        stamp = self._stamps.take()
+        if self._journal:
+            self._journal.expect(side, frames)
+        self._feeds[1 - side].put(heartbeat(stamp, side))
+        self._feeds[side].put(records(stamp, frames, device.lengths))
+
+    def _changed(self) -> None:
+        """Devices are read only while nothing waits: where the program is behind, frames wait, and are lost, in the devices'
+        own queues, which count them."""
+        may_read = not any(feed.is_full for feed in self._feeds)
+        if self._is_ending:
+            if may_read:
+                self._close_feeds()
+            return
+        for side, device in enumerate(self._devices):
+            if may_read:
+                self._loop.watch(device.fd, lambda side=side: self._pump(side))
+            else:
+                self._loop.rest(device.fd)
+
+    def _began(self, side: int, link: int) -> None:
+        """Tells that frames are pumped, once the program has begun both captures: it has accepted the settings then. Ends
+        where they give the device another link than it has."""
+        if link != self._devices[side].link:
+            self._end(f"{self._devices[side]} has link type {self._devices[side].link}, and in the settings it has {link}")
+        self._begun.add(side)
+        if len(self._begun) == 2 and not self._is_ending:
+            print("live", flush=True)
+
+    def _watch_signals(self) -> None:
+        """SIGINT and SIGTERM end both captures, and SIGUSR1 moves the stamps ahead. What they do is done in the loop, so
+        that it never comes between a batch and its heartbeat."""
+        reader, writer = os.pipe()
+        os.set_blocking(writer, False)
+        signal.set_wakeup_fd(writer)
+        for number in (signal.SIGINT, signal.SIGTERM, signal.SIGUSR1):
+            signal.signal(number, lambda *_: None)
+
+        def came() -> None:
+            for number in os.read(reader, 64):
+                if number == signal.SIGUSR1:
+                    self._skip()
+                else:
+                    self._end(None)
+
+        self._loop.watch(reader, came)
+
+    def _skip(self) -> None:
+        self._stamps.skip(self._seconds_to_skip)
+        if self._journal:
+            self._journal.remark(f"the clock goes {self._seconds_to_skip} s ahead")
+
+    def _end(self, failure: str | None) -> None:
+        """Reads no device any more. The captures end once the program has all that was read."""
+        if self._is_ending:
+            return
+        self._is_ending = True
+        self._failure = failure
+        for device in self._devices:
+            self._loop.rest(device.fd)
+        self._changed()
+
+    def _close_feeds(self) -> None:
+        while self._feeds:
+            self._feeds.pop().close()
+
+    def _tell(self, status: int) -> None:
+        """Says on standard error how it ended, and what each device counted."""
+        if self._failure:
+            print(f"pump: {self._failure}", file=sys.stderr)
+        how = f"with status {status}" if status >= 0 else f"by signal {-status}"
+        print(f"pump: the program ended {how}", file=sys.stderr)
+        for side, device in enumerate(self._devices):
+            try:
+                lost = str(device.lost_in_queue())
+            except (Gone, OSError):
+                lost = "unknown"
+            print(
+                f"pump: {SIDES[side]}, {device}: {device.read} frames read, {device.given} given,"
+                f" {device.refused} not taken by the device, {lost} lost in its queue",
+                file=sys.stderr,
+            )
+
+
+def words_of_command() -> argparse.Namespace:
+    """The words that this command was given."""
+    parser = argparse.ArgumentParser(description=__doc__)
+    add = parser.add_argument
+    add("program", help="the built program, crates/gateway_program/out/gateway_program")
+    add("settings", help="its settings file")
+    add("left", help="tun:NAME or interface:NAME, with @NAMESPACE where it lies in one")
+    add("right", help="the same for the right realm")
+    add("--mtu", type=int, help="set the mtu of both devices")
+    add("--queue", type=int, help="set the length of their queues, in frames")
+    add("--report", metavar="FILE", help="write the report there, each line with its frame in words (- is standard output)")
+    add("--refused", action="store_true", help="only lines of frames that don't pass")
+    add("--save", metavar="FOLDER", help="keep what the program reads and writes")
+    trial = parser.add_argument_group("for trials")
+    add = trial.add_argument
+    add("--lose", type=float, default=0.0, metavar="P", help="lose a frame with this probability before the gateway, and behind it")
+    add("--late", type=float, default=0.0, metavar="P", help="let a frame come behind the next one")
+    add("--twice", type=float, default=0.0, metavar="P", help="let it come twice")
+    add("--seed", type=int, default=1, metavar="N", help="of these draws")
+    add("--skip", type=float, default=3600, metavar="SECONDS", help="how far each SIGUSR1 moves the stamps ahead")
+    return parser.parse_args()
+
+
+def open_journal(words: argparse.Namespace, devices: tuple[Device, Device]) -> Journal | None:
+    """The report in words, where it or a copy of the report is wanted."""
+    if not words.report and not words.save:
+        return None
+    name = words.report or os.devnull
+    file = sys.stdout if name == "-" else open(name, "w", encoding="ascii")
+    return Journal(file, (devices[LEFT].link, devices[RIGHT].link), words.refused)
+
+
+def open_devices(words: argparse.Namespace) -> Iterator[Device]:
+    """Both devices, in trouble where that is asked for."""
+    for seed, name in enumerate((words.left, words.right), 2 * words.seed):
+        device = open_device(name, words.mtu, words.queue)
+        if words.lose or words.late or words.twice:
+            device.trouble = Trouble(words.lose, words.late, words.twice, Random(seed))
+        yield device
+
+
+def main() -> int:
+    """Runs the program between two devices, and answers its status."""
+    words = words_of_command()
+    try:
+        left, right = open_devices(words)
+        journal, copies = open_journal(words, (left, right)), Copies.into(words.save)
+        pump = Pump((left, right), [words.program, "run", words.settings], journal, copies, words.skip)
+    except (OSError, ValueError, subprocess.CalledProcessError) as error:
+        print(f"pump: {error}", file=sys.stderr)
+        return 1
+    return pump.run()
+
+
+if __name__ == "__main__":
+    sys.exit(main())

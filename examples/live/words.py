@@ -1,0 +1,101 @@
+"""A frame in a few words, and the program's report with them."""
+import json
+import struct
+from collections import Counter, deque
+from typing import TextIO
+
+from records import ETHERNET, SIDES
+
+_ETHERNET_HEAD = 14
+_FLAGS = "FSRPAUEC"
+_FTP = 21
+
+
+def address(octets: bytes) -> str:
+    """An IPv4 address."""
+    return ".".join(map(str, octets))
+
+
+def frame_in_words(frame: bytes, link: int) -> str:
+    """Addresses, protocol, ports and length of a frame, and of FTP the text."""
+    datagram = frame[_ETHERNET_HEAD:] if link == ETHERNET else frame
+    if len(datagram) < 20 or datagram[0] >> 4 != 4:
+        return f"{len(frame)} octets that are no IPv4 datagram"
+    fragment = struct.unpack_from(">H", datagram, 6)[0]
+    ways = f"{address(datagram[12:16])} > {address(datagram[16:20])}"
+    payload = datagram[(datagram[0] & 15) * 4 : struct.unpack_from(">H", datagram, 2)[0]]
+    if fragment & 0x3FFF:
+        return f"{ways} fragment at {(fragment & 0x1FFF) * 8}, {len(payload)} octets"
+    return f"{ways} {payload_in_words(datagram[9], payload)}, ttl {datagram[8]}"
+
+
+def payload_in_words(protocol: int, payload: bytes) -> str:
+    """What a datagram carries."""
+    if protocol == 1 and len(payload) >= 8:
+        return f"icmp type {payload[0]} code {payload[1]}, {len(payload)} octets"
+    if protocol == 6 and len(payload) >= 20:
+        return segment_in_words(payload)
+    if protocol == 17 and len(payload) >= 8:
+        return "udp {}>{}".format(*struct.unpack_from(">HH", payload)) + f", {len(payload) - 8} octets"
+    return f"protocol {protocol}, {len(payload)} octets"
+
+
+def segment_in_words(segment: bytes) -> str:
+    """Ports, flags and length of a TCP segment, and of FTP the text."""
+    source, destination = struct.unpack_from(">HH", segment)
+    flags = "".join(name for bit, name in enumerate(_FLAGS) if segment[13] >> bit & 1)
+    text = segment[(segment[12] >> 4) * 4 :]
+    said = f" {ascii(text[:70].decode('latin-1'))}" if text and _FTP in (source, destination) else ""
+    return f"tcp {source}>{destination} {flags}, {len(text)} octets{said}"
+
+
+class Journal:
+    """The report as it comes from the program, each line with its frame in words. Lines of heartbeats are left out."""
+
+    def __init__(self, file: TextIO, links: tuple[int, int], only_refused: bool) -> None:
+        self.verdicts: Counter[str] = Counter()
+        self._file = file
+        self._links = links
+        self._only_refused = only_refused
+        self._frames: tuple[deque[bytes | None], deque[bytes | None]] = (deque(), deque())
+        self._rest = b""
+
+    def expect(self, side: int, frames: list[bytes]) -> None:
+        """Frames that the program was given, and the heartbeat behind them on the other side."""
+        self._frames[side].extend(frames)
+        self._frames[1 - side].append(None)
+
+    def remark(self, text: str) -> None:
+        """A line of the pump's own."""
+        self._file.write(f"# {text}\n")
+
+    def take(self, octets: bytes) -> None:
+        """Octets of the report, whose last line may be cut."""
+        *lines, self._rest = (self._rest + octets).split(b"\n")
+        self._file.writelines(filter(None, map(self._line, lines)))
+        self._file.flush()
+
+    def _line(self, line: bytes) -> str:
+        words = split(line.decode("ascii"))
+        if words[0] == "done":
+            return line.decode("ascii") + "\n"
+        number, name, moment, verdict, count = words
+        side = SIDES.index(name)
+        frame = self._frames[side].popleft()
+        if frame is None:
+            return ""
+        self.verdicts[verdict] += 1
+        if self._only_refused and verdict == "pass":
+            return ""
+        said = frame_in_words(frame, self._links[side])
+        return f"{number} {name} {int(moment) / 1e9:.6f} {verdict} {count}  {said}\n"
+
+
+def split(line: str) -> list[str]:
+    """The five words of a line of the report, or those of the last line, whether it is text or JSON."""
+    if not line.startswith("{"):
+        return line.split(" ")
+    values = json.loads(line)
+    if "done" in values:
+        return ["done"]
+    return [str(values[key]) for key in ("event", "side", "moment", "verdict", "frames")]
