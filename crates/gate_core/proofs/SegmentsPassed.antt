@@ -4,6 +4,7 @@ use Rattle.std.specs.Prelude.{if◌then◌else◌, is_none, unwrap_or, IsSome, I
 use Rattle.std.specs.Option.{option_or}
 use Rattle.gate_base.specs.declared.address.Addr.{Addr}
 use Rattle.gate_base.specs.declared.event.OutOfMemory.{OutOfMemory}
+use Rattle.gate_base.specs.declared.event.Moment.{Moment}
 use Rattle.gate_base.specs.declared.event.Pair.{Pair}
 use Rattle.gate_base.specs.declared.refusal.Refusal.{Refusal}
 use Rattle.gate_base.specs.declared.side.Side.{Side}
@@ -22,7 +23,7 @@ use Rattle.stream_kept.specs.Outs.{start_kept}
 use Rattle.stream_kept.specs.Sessions.{sender_kept}
 use Rattle.gate_world.specs.Frame.{Stream, has_port, dns_port}
 use Rattle.gate_world.specs.Step.{taker_in, with_connection, stream_out}
-use Rattle.gate_world.specs.Stream.{tcp_of, segment_of, key_in, found_in, session_in, begins, pair_in, made_by, session_refusal, stepped, ends_by, stream_hold, connection_after, connections_with, pending_by, pending_in, with_session}
+use Rattle.gate_world.specs.Stream.{tcp_of, segment_of, key_in, found_in, session_in, begins, is_opening, pair_in, made_by, session_refusal, stepped, ends_by, stream_hold, connection_after, connections_with, pending_by, pending_in, with_session}
 use Rattle.gate_world.specs.Verdict.{uses_until, table_after}
 use Rattle.gate_world.specs.World.{Tracked, World, called, source_of, destination_of, is_client}
 use Rattle.kept_world.specs.Kept.{KeptSession, kept_rules}
@@ -32,7 +33,8 @@ use Rattle.gate_payloads.specs.declared.addresses.Way.{Way}
 use Rattle.gate_payloads.proofs.Passes.{source_called, destination_called}
 use Rattle.gate_payloads.proofs.HeadersOnly.{of_source_is, of_destination_is, uses_are}
 use Rattle.gate_core.specs.Gates.{world_of}
-use Rattle.gate_core.specs.Segments.{stream_refusal, IsSegmentTaken, IsSegmentLost, IsSegmentDone, CompletesIn, connections_by, room_tests, lacks_place, session_verdict, waiting_after, pair_on, made_on}
+use Rattle.gate_core.specs.Done.{IsLost}
+use Rattle.gate_core.specs.Segments.{stream_refusal, IsSegmentTaken, IsSegmentDone, CompletesIn, connections_by, room_tests, lacks_place, session_verdict, waiting_after, pair_on, made_on}
 use Rattle.gate_core.proofs.NotedConnections.{noted_replaced, noted_untracked, noted_begun, without_replaced, session_left, session_begun, none_left}
 use Rattle.gate_core.proofs.SegmentTests.{IsJoined, joined_refusal, found_joined, room_none}
 
@@ -79,52 +81,57 @@ passed_is live side d way hold taker table connections pending sent w room h t n
 nothing_waits : (pending : ℕ) (session : Option (Tracked KeptSession)) → session ≡ None → pending ≡ max pending (pending_by kept_rules session)
 nothing_waits pending session e = let none : pending ≡ max pending 0 = omega arith in none ∙ ap (λ (o : Option (Tracked KeptSession)). max pending (pending_by kept_rules o)) (sym e)
 
-pub untracked_taken : (way : Way) (table : Bindings) (connections : List (Connection (Tracked KeptSession))) (pending : ℕ) (d : Datagram) (full : Bool) (refusal : Option Refusal) (table_new : Bindings) (connections_new : List (Connection (Tracked KeptSession))) (sent : List (List ℕ)) →
-    let live = world_of way.moment.0 table connections pending in let key = key_in table way.side d in let flags = (tcp_of d).flags in
+-- the moment of the way is that of the world
+abbrev pub now_of : World KeptSession → Moment
+now_of live = record { 0 = live.clock }
+
+now_is : (live : World KeptSession) (side : Side) (d : Datagram) (way : Way) → IsWayOf live side d way → way.moment ≡ now_of live
+now_is live side d way w = ap (λ (n : ℕ). let m : Moment = record { 0 = n } in m) w.moment_is
+
+pub untracked_taken : (live : World KeptSession) (way : Way) (d : Datagram) (full : Bool) (refusal : Option Refusal) (table_new : Bindings) (connections_new : List (Connection (Tracked KeptSession))) (sent : List (List ℕ)) →
+    let key = key_in live.table way.side d in let flags = (tcp_of d).flags in
     IsWayOf live way.side d way → IsJoined live way.side d None full → session_in (found_in live way.side d) ≡ None →
     refusal ≡ first_that_holds (room_tests full (is_empty way.of_source)) →
-    table_new ≡ table_by refusal (after_uses table (uses_until way.side (way.moment.0 + hold_of connections key way.side flags) (way.source ∷ way.destination ∷ []))) table →
-    connections_new ≡ connections_by refusal (noted connections key way.side flags None way.moment) connections →
+    table_new ≡ table_by refusal (after_uses live.table (uses_until way.side (way.moment.0 + hold_of live.connections key way.side flags) (way.source ∷ way.destination ∷ []))) live.table →
+    connections_new ≡ connections_by refusal (noted live.connections key way.side flags None way.moment) live.connections →
     sent ≡ out_by refusal (renamed d (image_by way.of_source way.source).0 (image_by way.of_destination way.destination).0 ∷ []) →
-    IsSegmentTaken live way.side d refusal (world_of way.moment.0 table_new connections_new pending) sent
-untracked_taken way table connections pending d full (Some r) table_new connections_new sent w j lone a b c g = record {
-  answer = a ∙ joined_refusal (world_of way.moment.0 table connections pending) way.side d way None full w j;
-  left = ap (λ (x : Bindings). world_of way.moment.0 x connections_new pending) b ∙ ap (λ (x : List (Connection (Tracked KeptSession))). world_of way.moment.0 table x pending) c;
+    IsSegmentTaken live way.side d refusal (world_of live.clock table_new connections_new live.pending) sent
+untracked_taken live way d full (Some r) table_new connections_new sent w j lone a b c g = record {
+  answer = a ∙ joined_refusal live way.side d way None full w j;
+  left = ap (λ (x : Bindings). world_of live.clock x connections_new live.pending) b ∙ ap (λ (x : List (Connection (Tracked KeptSession))). world_of live.clock live.table x live.pending) c;
   gone = g;
 }
-untracked_taken way table connections pending d full None table_new connections_new sent w j lone a b c g =
-    let live = world_of way.moment.0 table connections pending in
-    let key = key_in table way.side d in
+untracked_taken live way d full None table_new connections_new sent w j lone a b c g =
+    let key = key_in live.table way.side d in
     let flags = (tcp_of d).flags in
-    let hold = hold_of connections key way.side flags in
-    passed_is live way.side d way hold None table_new connections_new pending sent w (room_none full (is_empty way.of_source) a).1
+    let hold = hold_of live.connections key way.side flags in
+    passed_is live way.side d way hold None table_new connections_new live.pending sent w (room_none full (is_empty way.of_source) a).1
     (ap (λ (s : Option (Tracked KeptSession)). if ends_by kept_rules way.side d s then short_hold else hold) lone)
     j.taker_is (a ∙ joined_refusal live way.side d way None full w j) b
-    (c ∙ noted_untracked key connections way.side flags way.moment lone)
-    (nothing_waits pending (session_in (connection_after kept_rules live way.side way.moment.0 d None)) (none_left (after key way.side flags None way.moment (found_in live way.side d))))
+    (c ∙ ap (noted live.connections key way.side flags None) (now_is live way.side d way w) ∙ noted_untracked key live.connections way.side flags (now_of live) lone)
+    (nothing_waits live.pending (session_in (connection_after kept_rules live way.side live.clock d None)) (none_left (after key way.side flags None (now_of live) (found_in live way.side d))))
     g
 
 -- the same, by what was called
-pub untracked_by : (way : Way) (table : Bindings) (connections : List (Connection (Tracked KeptSession))) (pending : ℕ) (d : Datagram) (key : ConnKey) (tcp : Tcp) (octets : List ℕ) (full : Bool) (refusal : Option Refusal) (table_new : Bindings) (connections_new : List (Connection (Tracked KeptSession))) (sent : List (List ℕ)) →
-    let live = world_of way.moment.0 table connections pending in
-    IsWayOf live way.side d way → key ≡ key_in table way.side d → tcp ≡ tcp_of d → datagram_of octets ≡ d → lacks_place connections (connection_of key connections) tcp.flags ≡ full → IsJoined live way.side d None full → session_in (found_in live way.side d) ≡ None →
-    refusal ≡ first_that_holds (room_tests (lacks_place connections (connection_of key connections) tcp.flags) (is_empty way.of_source)) →
-    table_new ≡ table_by refusal (after_uses table (uses_until way.side (way.moment.0 + hold_of connections key way.side tcp.flags) (way.source ∷ way.destination ∷ []))) table →
-    connections_new ≡ connections_by refusal (noted connections key way.side tcp.flags None way.moment) connections →
+pub untracked_by : (live : World KeptSession) (way : Way) (d : Datagram) (key : ConnKey) (tcp : Tcp) (octets : List ℕ) (full : Bool) (refusal : Option Refusal) (table_new : Bindings) (connections_new : List (Connection (Tracked KeptSession))) (sent : List (List ℕ)) →
+    IsWayOf live way.side d way → key ≡ key_in live.table way.side d → tcp ≡ tcp_of d → datagram_of octets ≡ d → lacks_place live.connections (connection_of key live.connections) tcp.flags ≡ full → IsJoined live way.side d None full → session_in (found_in live way.side d) ≡ None →
+    refusal ≡ first_that_holds (room_tests (lacks_place live.connections (connection_of key live.connections) tcp.flags) (is_empty way.of_source)) →
+    table_new ≡ table_by refusal (after_uses live.table (uses_until way.side (way.moment.0 + hold_of live.connections key way.side tcp.flags) (way.source ∷ way.destination ∷ []))) live.table →
+    connections_new ≡ connections_by refusal (noted live.connections key way.side tcp.flags None way.moment) live.connections →
     sent ≡ out_by refusal (renamed (datagram_of octets) (image_by way.of_source way.source).0 (image_by way.of_destination way.destination).0 ∷ []) →
-    IsSegmentTaken live way.side d refusal (world_of way.moment.0 table_new connections_new pending) sent
-untracked_by way table connections pending d key tcp octets full refusal table_new connections_new sent w k t o f j lone a b c g =
-    untracked_taken way table connections pending d full refusal table_new connections_new sent w j lone
+    IsSegmentTaken live way.side d refusal (world_of live.clock table_new connections_new live.pending) sent
+untracked_by live way d key tcp octets full refusal table_new connections_new sent w k t o f j lone a b c g =
+    untracked_taken live way d full refusal table_new connections_new sent w j lone
     (a ∙ ap (λ (x : Bool). first_that_holds (room_tests x (is_empty way.of_source))) f)
-    (b ∙ ap (λ (x : ConnKey). T x tcp) k ∙ ap (T (key_in table way.side d)) t)
-    (c ∙ ap (λ (x : ConnKey). C x tcp) k ∙ ap (C (key_in table way.side d)) t)
+    (b ∙ ap (λ (x : ConnKey). T x tcp) k ∙ ap (T (key_in live.table way.side d)) t)
+    (c ∙ ap (λ (x : ConnKey). C x tcp) k ∙ ap (C (key_in live.table way.side d)) t)
     (g ∙ ap (λ (x : Datagram). out_by refusal (renamed x (image_by way.of_source way.source).0 (image_by way.of_destination way.destination).0 ∷ [])) o)
   where
     T : ConnKey → Tcp → Bindings
-    T x y = table_by refusal (after_uses table (uses_until way.side (way.moment.0 + hold_of connections x way.side y.flags) (way.source ∷ way.destination ∷ []))) table
+    T x y = table_by refusal (after_uses live.table (uses_until way.side (way.moment.0 + hold_of live.connections x way.side y.flags) (way.source ∷ way.destination ∷ []))) live.table
 
     C : ConnKey → Tcp → List (Connection (Tracked KeptSession))
-    C x y = connections_by refusal (noted connections x way.side y.flags None way.moment) connections
+    C x y = connections_by refusal (noted live.connections x way.side y.flags None way.moment) live.connections
 
 -- ## A segment that a session takes
 
@@ -150,50 +157,48 @@ passes live side d way taker full w j verdict few room =
     )
     ∙ joined_refusal live side d way taker full w j
 
-pub session_goes_on : (way : Way) (table : Bindings) (connections : List (Connection (Tracked KeptSession))) (pending : ℕ) (d : Datagram) (t : Tracked KeptSession) (waiting : ℕ) (table_new : Bindings) (connections_new : List (Connection (Tracked KeptSession))) (sent : List (List ℕ)) →
-    let live = world_of way.moment.0 table connections pending in let key = key_in table way.side d in let flags = (tcp_of d).flags in
+pub session_goes_on : (live : World KeptSession) (way : Way) (d : Datagram) (t : Tracked KeptSession) (waiting : ℕ) (table_new : Bindings) (connections_new : List (Connection (Tracked KeptSession))) (sent : List (List ℕ)) →
+    let key = key_in live.table way.side d in let flags = (tcp_of d).flags in
     IsWayOf live way.side d way → has_port dns_port d ≡ false → session_in (found_in live way.side d) ≡ Some t → session_refusal kept_rules way.side d (Some t) ≡ None → is_empty way.of_source ≡ false → Some waiting ≡ waiting_after way.side d t →
-    table_new ≡ after_uses table (uses_until way.side (way.moment.0 + hold_of connections key way.side flags) (way.source ∷ way.destination ∷ [])) →
-    connections_new ≡ noted (replaced connections key (stepped kept_rules way.side d t)) key way.side flags None way.moment →
+    table_new ≡ after_uses live.table (uses_until way.side (way.moment.0 + hold_of live.connections key way.side flags) (way.source ∷ way.destination ∷ [])) →
+    connections_new ≡ noted (replaced live.connections key (stepped kept_rules way.side d t)) key way.side flags None way.moment →
     sent ≡ stream_out kept_rules way.side d (image_by way.of_source way.source).0 (image_by way.of_destination way.destination).0 (Some t) →
-    IsSegmentTaken live way.side d None (world_of way.moment.0 table_new connections_new (max pending waiting)) sent
-session_goes_on way table connections pending d t waiting table_new connections_new sent w dns e verdict room h b c g =
-    let live = world_of way.moment.0 table connections pending in
-    let key = key_in table way.side d in
+    IsSegmentTaken live way.side d None (world_of live.clock table_new connections_new (max live.pending waiting)) sent
+session_goes_on live way d t waiting table_new connections_new sent w dns e verdict room h b c g =
+    let key = key_in live.table way.side d in
     let flags = (tcp_of d).flags in
-    let hold = hold_of connections key way.side flags in
+    let hold = hold_of live.connections key way.side flags in
     let s = stepped kept_rules way.side d t in
     let on = goes_on (ends_by kept_rules way.side d (Some t)) waiting (pending_by kept_rules (Some s)) h in
     let j = found_joined live way.side d (Some t) dns (some_session (found_in live way.side d) t e) e in
-    let left : Bool → Option (Connection (Tracked KeptSession)) = λ x. if x then None else option_map (with_session (Some s)) (after key way.side flags (Some t) way.moment (found_in live way.side d)) in
-    passed_is live way.side d way hold (Some t) table_new connections_new (max pending waiting) sent w room
+    let left : Bool → Option (Connection (Tracked KeptSession)) = λ x. if x then None else option_map (with_session (Some s)) (after key way.side flags (Some t) (now_of live) (found_in live way.side d)) in
+    passed_is live way.side d way hold (Some t) table_new connections_new (max live.pending waiting) sent w room
     (ap (λ (o : Option (Tracked KeptSession)). if ends_by kept_rules way.side d o then short_hold else hold) e ∙ ap (λ (x : Bool). if x then short_hold else hold) on.0)
     j.taker_is (passes live way.side d way (Some t) false w j verdict refl room) b
-    (c ∙ noted_replaced key connections t s way.side flags (Some t) way.moment e ∙ sym (ap (λ (x : Bool). changed connections (place_of key connections) (left x)) on.0))
-    (ap (max pending) (on.1 ∙ sym (ap (λ (x : Bool). pending_in kept_rules (left x)) on.0 ∙ ap (pending_by kept_rules) (session_left key t s way.side flags (Some t) way.moment (found_in live way.side d) e))))
+    (c ∙ ap (noted (replaced live.connections key s) key way.side flags None) (now_is live way.side d way w) ∙ noted_replaced key live.connections t s way.side flags (Some t) (now_of live) e ∙ sym (ap (λ (x : Bool). changed live.connections (place_of key live.connections) (left x)) on.0))
+    (ap (max live.pending) (on.1 ∙ sym (ap (λ (x : Bool). pending_in kept_rules (left x)) on.0 ∙ ap (pending_by kept_rules) (session_left key t s way.side flags (Some t) (now_of live) (found_in live way.side d) e))))
     g
 
-pub session_is_over : (way : Way) (table : Bindings) (connections : List (Connection (Tracked KeptSession))) (pending : ℕ) (d : Datagram) (t : Tracked KeptSession) (table_new : Bindings) (connections_new : List (Connection (Tracked KeptSession))) (sent : List (List ℕ)) →
-    let live = world_of way.moment.0 table connections pending in let key = key_in table way.side d in
+pub session_is_over : (live : World KeptSession) (way : Way) (d : Datagram) (t : Tracked KeptSession) (table_new : Bindings) (connections_new : List (Connection (Tracked KeptSession))) (sent : List (List ℕ)) →
+    let key = key_in live.table way.side d in
     IsWayOf live way.side d way → has_port dns_port d ≡ false → session_in (found_in live way.side d) ≡ Some t → session_refusal kept_rules way.side d (Some t) ≡ None → is_empty way.of_source ≡ false → None ≡ waiting_after way.side d t →
-    table_new ≡ after_uses table (uses_until way.side (way.moment.0 + short_hold) (way.source ∷ way.destination ∷ [])) →
-    connections_new ≡ without (replaced connections key (stepped kept_rules way.side d t)) key →
+    table_new ≡ after_uses live.table (uses_until way.side (way.moment.0 + short_hold) (way.source ∷ way.destination ∷ [])) →
+    connections_new ≡ without (replaced live.connections key (stepped kept_rules way.side d t)) key →
     sent ≡ stream_out kept_rules way.side d (image_by way.of_source way.source).0 (image_by way.of_destination way.destination).0 (Some t) →
-    IsSegmentTaken live way.side d None (world_of way.moment.0 table_new connections_new pending) sent
-session_is_over way table connections pending d t table_new connections_new sent w dns e verdict room h b c g =
-    let live = world_of way.moment.0 table connections pending in
-    let key = key_in table way.side d in
+    IsSegmentTaken live way.side d None (world_of live.clock table_new connections_new live.pending) sent
+session_is_over live way d t table_new connections_new sent w dns e verdict room h b c g =
+    let key = key_in live.table way.side d in
     let flags = (tcp_of d).flags in
-    let hold = hold_of connections key way.side flags in
+    let hold = hold_of live.connections key way.side flags in
     let s = stepped kept_rules way.side d t in
     let over = is_over (ends_by kept_rules way.side d (Some t)) (pending_by kept_rules (Some s)) h in
     let j = found_joined live way.side d (Some t) dns (some_session (found_in live way.side d) t e) e in
-    let left : Bool → Option (Connection (Tracked KeptSession)) = λ x. if x then None else option_map (with_session (Some s)) (after key way.side flags (Some t) way.moment (found_in live way.side d)) in
-    passed_is live way.side d way short_hold (Some t) table_new connections_new pending sent w room
+    let left : Bool → Option (Connection (Tracked KeptSession)) = λ x. if x then None else option_map (with_session (Some s)) (after key way.side flags (Some t) (now_of live) (found_in live way.side d)) in
+    passed_is live way.side d way short_hold (Some t) table_new connections_new live.pending sent w room
     (ap (λ (o : Option (Tracked KeptSession)). if ends_by kept_rules way.side d o then short_hold else hold) e ∙ ap (λ (x : Bool). if x then short_hold else hold) over)
     j.taker_is (passes live way.side d way (Some t) false w j verdict refl room) b
-    (c ∙ without_replaced key connections t s e ∙ sym (ap (λ (x : Bool). changed connections (place_of key connections) (left x)) over))
-    (nothing_waits pending (session_in (left (ends_by kept_rules way.side d (Some t)))) (ap (λ (x : Bool). session_in (left x)) over))
+    (c ∙ without_replaced key live.connections t s e ∙ sym (ap (λ (x : Bool). changed live.connections (place_of key live.connections) (left x)) over))
+    (nothing_waits live.pending (session_in (left (ends_by kept_rules way.side d (Some t)))) (ap (λ (x : Bool). session_in (left x)) over))
     g
 
 -- ## The first segment of a session
@@ -213,41 +218,43 @@ made_is : (live : World KeptSession) (d : Datagram) (way : Way) → IsWayOf live
 made_is live d way w room =
     ap (λ (p : Pair). let t : Tracked KeptSession = record { client = way.side; pair = p; session = kept_rules.made p (tcp_of d).sequence (tcp_of d).mss } in t) (pair_is live way.side d way (live.clock + stream_hold kept_rules live way.side d) w room)
 
-pub session_begins : (way : Way) (table : Bindings) (connections : List (Connection (Tracked KeptSession))) (pending : ℕ) (d : Datagram) (waiting : Option ℕ) (full : Bool) (table_new : Bindings) (connections_new : List (Connection (Tracked KeptSession))) (sent : List (List ℕ)) →
-    let live = world_of way.moment.0 table connections pending in let key = key_in table way.side d in let flags = (tcp_of d).flags in let t = made_on way (tcp_of d) in
+pub session_begins : (live : World KeptSession) (way : Way) (d : Datagram) (waiting : Option ℕ) (full : Bool) (table_new : Bindings) (connections_new : List (Connection (Tracked KeptSession))) (sent : List (List ℕ)) →
+    let key = key_in live.table way.side d in let flags = (tcp_of d).flags in let t = made_on way (tcp_of d) in
     IsWayOf live way.side d way → found_in live way.side d ≡ None → IsJoined live way.side d (Some (made_by kept_rules (table_after kept_rules live way.side live.clock d Stream) way.side d)) full → full ≡ false →
     session_refusal kept_rules way.side d (Some (made_by kept_rules (table_after kept_rules live way.side live.clock d Stream) way.side d)) ≡ None → (flags_of flags).reset ≡ false → is_empty way.of_source ≡ false → waiting ≡ waiting_after way.side d t →
-    table_new ≡ after_uses table (uses_until way.side (way.moment.0 + hold_of connections key way.side flags) (way.source ∷ way.destination ∷ [])) →
-    connections_new ≡ noted connections key way.side flags (Some (stepped kept_rules way.side d t)) way.moment →
+    table_new ≡ after_uses live.table (uses_until way.side (way.moment.0 + hold_of live.connections key way.side flags) (way.source ∷ way.destination ∷ [])) →
+    connections_new ≡ noted live.connections key way.side flags (Some (stepped kept_rules way.side d t)) way.moment →
     sent ≡ stream_out kept_rules way.side d (image_by way.of_source way.source).0 (image_by way.of_destination way.destination).0 (Some t) →
-    IsSegmentTaken live way.side d None (world_of way.moment.0 table_new connections_new (max pending (unwrap_or waiting 0))) sent
-session_begins way table connections pending d waiting full table_new connections_new sent w none j few verdict plain room h b c g =
-    let live = world_of way.moment.0 table connections pending in
-    let key = key_in table way.side d in
+    IsSegmentTaken live way.side d None (world_of live.clock table_new connections_new (max live.pending (unwrap_or waiting 0))) sent
+session_begins live way d waiting full table_new connections_new sent w none j few verdict plain room h b c g =
+    let key = key_in live.table way.side d in
     let flags = (tcp_of d).flags in
-    let hold = hold_of connections key way.side flags in
+    let hold = hold_of live.connections key way.side flags in
     let t = made_on way (tcp_of d) in
     let s = stepped kept_rules way.side d t in
     let on : ends_by kept_rules way.side d (Some t) ≡ false = ap (λ (x : Bool). x && (is_none (sender_kept (is_client way.side t) t.session.kept).initial || (start_kept (sender_kept (is_client way.side t) t.session.kept) (segment_of d)).before == 0)) plain in
-    let left : Bool → Option (Connection (Tracked KeptSession)) = λ x. if x then None else option_map (with_session (Some s)) (after key way.side flags (Some t) way.moment (found_in live way.side d)) in
-    passed_is live way.side d way hold (Some t) table_new connections_new (max pending (unwrap_or waiting 0)) sent w room
+    let left : Bool → Option (Connection (Tracked KeptSession)) = λ x. if x then None else option_map (with_session (Some s)) (after key way.side flags (Some t) (now_of live) (found_in live way.side d)) in
+    passed_is live way.side d way hold (Some t) table_new connections_new (max live.pending (unwrap_or waiting 0)) sent w room
     (ap (λ (o : Option (Connection (Tracked KeptSession))). if ends_by kept_rules way.side d (session_in o) then short_hold else hold) none)
     (j.taker_is ∙ ap Some (made_is live d way w room)) (passes live way.side d way (Some (made_by kept_rules (table_after kept_rules live way.side live.clock d Stream) way.side d)) full w j verdict few room) b
-    (c ∙ noted_begun key connections t s way.side flags way.moment none plain ∙ sym (ap (λ (x : Bool). changed connections (place_of key connections) (left x)) on))
-    (ap (λ (o : Option ℕ). max pending (unwrap_or o 0)) (h ∙ ap (λ (x : Bool). if x then None else Some (pending_by kept_rules (Some s))) on)
-    ∙ ap (max pending) (sym (ap (λ (x : Bool). pending_in kept_rules (left x)) on ∙ ap (pending_by kept_rules) (session_begun key t s way.side flags way.moment (found_in live way.side d) none plain))))
+    (c ∙ ap (noted live.connections key way.side flags (Some s)) (now_is live way.side d way w) ∙ noted_begun key live.connections t s way.side flags (now_of live) none plain ∙ sym (ap (λ (x : Bool). changed live.connections (place_of key live.connections) (left x)) on))
+    (ap (λ (o : Option ℕ). max live.pending (unwrap_or o 0)) (h ∙ ap (λ (x : Bool). if x then None else Some (pending_by kept_rules (Some s))) on)
+    ∙ ap (max live.pending) (sym (ap (λ (x : Bool). pending_in kept_rules (left x)) on ∙ ap (pending_by kept_rules) (session_begun key t s way.side flags (now_of live) (found_in live way.side d) none plain))))
     g
 
 -- ## Where memory runs out
 
-pub lost_in_session : (live : World KeptSession) (side : Side) (d : Datagram) (t : Tracked KeptSession) (after : World KeptSession) (sent : List (List ℕ)) → session_in (found_in live side d) ≡ Some t → CompletesIn side d t → None ≡ stream_refusal live side d → after ≡ live → sent ≡ [] → IsSegmentLost live side d after sent
-lost_in_session live side d t after sent e h p same nothing = record { same = same; nothing = nothing; wants = record { passes = sym p; needs = inr (record { tracked = t; found = e; completes = h }) } }
+pub lost_in_session : (live : World KeptSession) (side : Side) (d : Datagram) (t : Tracked KeptSession) (after : World KeptSession) (sent : List (List ℕ)) → session_in (found_in live side d) ≡ Some t → CompletesIn side d t → None ≡ stream_refusal live side d → after ≡ live → sent ≡ [] → IsLost None Stream live side d after sent
+lost_in_session live side d t after sent e h p same nothing = record { same = same; nothing = nothing; allowed = refl; wants = inr (refl, record { passes = sym p; needs = inr (record { tracked = t; found = e; completes = h }) }) }
 
-pub lost_at_first : (live : World KeptSession) (side : Side) (d : Datagram) (after : World KeptSession) (sent : List (List ℕ)) → begins (found_in live side d) d ≡ true → None ≡ stream_refusal live side d → after ≡ live → sent ≡ [] → IsSegmentLost live side d after sent
-lost_at_first live side d after sent e p same nothing = record { same = same; nothing = nothing; wants = record { passes = sym p; needs = inl e } }
+pub lost_at_first : (live : World KeptSession) (side : Side) (d : Datagram) (after : World KeptSession) (sent : List (List ℕ)) → begins (found_in live side d) d ≡ true → None ≡ stream_refusal live side d → after ≡ live → sent ≡ [] → IsLost None Stream live side d after sent
+lost_at_first live side d after sent e p same nothing = record { same = same; nothing = nothing; allowed = refl; wants = inr (refl, record { passes = sym p; needs = inl e }) }
+
+pub begun : (live : World KeptSession) (side : Side) (d : Datagram) → found_in live side d ≡ None → (is_opening (tcp_of d).flags && (tcp_of d).destination_port == 21) ≡ true → begins (found_in live side d) d ≡ true
+begun live side d none first = ap (λ (o : Option (Connection (Tracked KeptSession))). begins o d) none ∙ first
 
 -- an error that went on
-pub lost_done : (live : World KeptSession) (side : Side) (d : Datagram) (r : Result (Option Refusal) OutOfMemory) (after : World KeptSession) (sent : List (List ℕ)) → IsErr r → IsSegmentLost live side d after sent → IsSegmentDone live side d r after sent
+pub lost_done : (live : World KeptSession) (side : Side) (d : Datagram) (r : Result (Option Refusal) OutOfMemory) (after : World KeptSession) (sent : List (List ℕ)) → IsErr r → IsLost None Stream live side d after sent → IsSegmentDone live side d r after sent
 lost_done live side d (Ok x) later sent e h = absurd (cc)
 lost_done live side d (Err x) later sent e h = h
 

@@ -1,16 +1,27 @@
 -- On which frames memory may be wanting.
-use Rattle.std.specs.Prelude.{◌≡◌, ◌⊎◌, true, [], ◌∷◌, ◌++◌, Some, None}
+use Rattle.std.specs.Prelude.{◌≡◌, ◌⊎◌, true, List, ◌∷◌, ◌++◌, Bool, Option, Some, None}
+use Rattle.gate_base.specs.Events.{Event}
 use Rattle.gate_base.specs.Tests.{first_that_holds}
+use Rattle.gate_base.specs.declared.refusal.Refusal.{Refusal}
 use Rattle.gate_base.specs.declared.refusal.Refusal.TheVariants.{PoolEmpty}
 use Rattle.gate_base.specs.declared.side.Side.{Side}
 use Rattle.ftp_lines.specs.Renaming.{client_lines, server_lines}
+use Rattle.gate_frames.specs.Judged.{front_tests}
 use Rattle.ipv4_frames.specs.Ipv4.{Datagram}
 use Rattle.stream_gate.specs.Memory.{KeptCompletes}
-use Rattle.gate_world.specs.Frame.{Dns, Stream, kind_of}
+use Rattle.gate_world.specs.Frame.{Kind, Dns, Stream, datagram_in, kind_of}
 use Rattle.gate_world.specs.Stream.{begins, found_in, segment_of, session_in}
-use Rattle.gate_world.specs.Verdict.{kind_tests, is_pool_empty}
+use Rattle.gate_world.specs.Verdict.{address_tests, kind_tests, late_tests, is_pool_empty}
 use Rattle.gate_world.specs.World.{Tracked, World, is_client}
 use Rattle.kept_world.specs.Kept.{KeptSession, kept_rules}
+
+-- the tests of a frame by itself, and those of its addresses
+abbrev pub early_tests : World KeptSession → Event → List (Bool × Refusal)
+early_tests live e = front_tests e ++ address_tests live.table e.side (datagram_in e)
+
+-- the first test behind those of the addresses that holds, of a datagram of a kind
+abbrev pub refusal_as : Kind → World KeptSession → Side → Datagram → Option Refusal
+refusal_as kind live side d = first_that_holds (kind_tests kept_rules live side live.clock d kind ++ (is_pool_empty live.table side d kind, PoolEmpty) ∷ late_tests kept_rules live side live.clock d kind)
 
 -- the segment is of a tracked session, and completes a line that bears an address
 pub record CompletesLine (live : World KeptSession) (side : Side) (d : Datagram) : Type 0 where
@@ -18,11 +29,16 @@ pub record CompletesLine (live : World KeptSession) (side : Side) (d : Datagram)
   pub found : session_in (found_in live side d) ≡ Some tracked
   pub completes : KeptCompletes (client_lines tracked.session.pair) (server_lines tracked.session.pair) (is_client side tracked) tracked.session.kept (segment_of d)
 
--- a segment that isn't refused, and begins a session or completes such a line
+-- a segment that no test behind those of its addresses refuses, and that begins a session or completes such a line
 pub record SegmentMayWant (live : World KeptSession) (side : Side) (d : Datagram) : Type 0 where
-  pub passes : first_that_holds (kind_tests kept_rules live side live.clock d Stream ++ (is_pool_empty live.table side d Stream, PoolEmpty) ∷ []) ≡ None
+  pub passes : refusal_as Stream live side d ≡ None
   pub needs : (begins (found_in live side d) d ≡ true) ⊎ CompletesLine live side d
 
 -- a datagram of DNS, or such a segment
-abbrev pub MayWant : World KeptSession → Side → Datagram → Type 0
-MayWant live side d = (kind_of d ≡ Dns) ⊎ ((kind_of d ≡ Stream) × SegmentMayWant live side d)
+abbrev pub MayWantAs : Kind → World KeptSession → Side → Datagram → Type 0
+MayWantAs kind live side d = (kind ≡ Dns) ⊎ ((kind ≡ Stream) × SegmentMayWant live side d)
+
+-- a frame that is refused neither by itself nor for its addresses carries one of these
+pub record MayWant (live : World KeptSession) (e : Event) : Type 0 where
+  pub early : first_that_holds (early_tests live e) ≡ None
+  pub needs : MayWantAs (kind_of (datagram_in e)) live e.side (datagram_in e)

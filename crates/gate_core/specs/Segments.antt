@@ -1,5 +1,5 @@
 -- What becomes of a segment.
-use Rattle.std.specs.Prelude.{◌≡◌, ◌&&◌, not, nat_le, ℕ, Bool, List, [], ◌∷◌, ◌++◌, length, Option, Some, None, is_none, option_map, if◌then◌else◌, Result, Ok, Err}
+use Rattle.std.specs.Prelude.{◌≤◌, ◌≡◌, ◌&&◌, not, nat_le, ℕ, Bool, List, [], ◌∷◌, length, Option, Some, None, is_none, option_map, if◌then◌else◌, Result}
 use Rattle.gate_base.specs.declared.event.OutOfMemory.{OutOfMemory}
 use Rattle.gate_base.specs.declared.event.Pair.{Pair}
 use Rattle.gate_base.specs.declared.refusal.Refusal.{Refusal}
@@ -11,38 +11,32 @@ use Rattle.tcp_segments.specs.Tcp.{Tcp}
 use Rattle.tcp_segments.specs.Flags.{flags_of}
 use Rattle.tcp_tracker.specs.declared.connection.Connection.{Connection}
 use Rattle.stream_gate.specs.Memory.{KeptCompletes}
-use Rattle.gate_base.specs.Tests.{first_that_holds}
 use Rattle.gate_world.specs.Frame.{Stream}
-use Rattle.gate_world.specs.Step.{out_kind}
-use Rattle.gate_world.specs.Stream.{segment_of, session_refusal, stepped, ends_by, pending_by, most_connections}
-use Rattle.gate_world.specs.Verdict.{kind_tests, is_pool_empty}
+use Rattle.twice_translate.specs.Renamed.{CanGoOn, datagram_of}
+use Rattle.gate_world.specs.Stream.{tcp_of, segment_of, session_refusal, stepped, ends_by, pending_by, most_connections}
 use Rattle.gate_world.specs.World.{Tracked, World, is_client}
 use Rattle.kept_world.specs.Kept.{KeptSession, kept_rules}
-use Rattle.gate_payloads.specs.Ways.{image_by, out_by}
+use Rattle.gate_payloads.specs.Ways.{image_by}
 use Rattle.gate_payloads.specs.declared.addresses.Way.{Way}
-use Rattle.gate_core.specs.Gates.{stream_left}
-use Rattle.gate_core.specs.Memory.{SegmentMayWant}
+use Rattle.gate_core.specs.Done.{IsDoneAs, IsPassed}
+use Rattle.gate_core.specs.Memory.{refusal_as}
 
--- the first test of a segment that holds
+-- what stands in the octets of a segment, which can go on
+pub record IsSegmentOf (octets : List ℕ) (d : Datagram) (tcp : Tcp) : Type 0 where
+  pub same : datagram_of octets ≡ d
+  pub few : length octets ≤ 65535
+  pub can : CanGoOn octets
+  pub tcp_is : tcp ≡ tcp_of d
+
+-- a segment whose addresses are not refused
 abbrev pub stream_refusal : World KeptSession → Side → Datagram → Option Refusal
-stream_refusal live side d = first_that_holds (kind_tests kept_rules live side live.clock d Stream ++ (is_pool_empty live.table side d Stream, PoolEmpty) ∷ [])
+stream_refusal live side d = refusal_as Stream live side d
 
--- it is refused by that test, or passes
-pub record IsSegmentTaken (live : World KeptSession) (side : Side) (d : Datagram) (refusal : Option Refusal) (after : World KeptSession) (sent : List (List ℕ)) : Type 0 where
-  pub answer : refusal ≡ stream_refusal live side d
-  pub left : after ≡ stream_left refusal live side d
-  pub gone : sent ≡ out_by refusal (out_kind kept_rules live side live.clock d Stream)
+abbrev pub IsSegmentTaken : World KeptSession → Side → Datagram → Option Refusal → World KeptSession → List (List ℕ) → Type 0
+IsSegmentTaken live side d refusal after sent = IsPassed (stream_refusal live side d) Stream live side d refusal after sent
 
--- where memory runs out nothing changes, and it does so on no other segment than may want it
-pub record IsSegmentLost (live : World KeptSession) (side : Side) (d : Datagram) (after : World KeptSession) (sent : List (List ℕ)) : Type 0 where
-  pub same : after ≡ live
-  pub nothing : sent ≡ []
-  pub wants : SegmentMayWant live side d
-
--- one of both
 abbrev pub IsSegmentDone : World KeptSession → Side → Datagram → Result (Option Refusal) OutOfMemory → World KeptSession → List (List ℕ) → Type 0
-IsSegmentDone live side d (Ok refusal) after sent = IsSegmentTaken live side d refusal after sent
-IsSegmentDone live side d (Err error) after sent = IsSegmentLost live side d after sent
+IsSegmentDone live side d result after sent = IsDoneAs Stream live side d result after sent
 
 -- the connections after a segment that is refused or passes
 abbrev pub connections_by : {S : Type 0} → Option Refusal → List (Connection S) → List (Connection S) → List (Connection S)

@@ -1,5 +1,5 @@
 // TCP segments, their connections and their sessions.
-ghost use Rattle.std.specs.Prelude.{◌≡◌, ◌+◌, ◌*◌, ◌^◌, ◌<◌, ◌≤◌, ◌||◌, ◌&&◌, ◌++◌, not, nat_le, vec_capacity, ◌==◌, [], ◌∷◌, length, true, false, None, Some, Ok, IfOk, OnErr, OnOk, IsSome, is_none, is_some, count_by, if◌then◌else◌};
+ghost use Rattle.std.specs.Prelude.{◌≡◌, ◌+◌, ◌*◌, ◌^◌, ◌<◌, ◌≤◌, ◌||◌, ◌&&◌, ◌++◌, not, nat_le, ◌==◌, [], ◌∷◌, length, true, false, None, Some, Ok, IfOk, OnErr, OnOk, IsSome, is_none, is_some, count_by, if◌then◌else◌};
 ghost use Rattle.binding_table.specs.Bindings.{is_settled};
 ghost use Rattle.binding_table.specs.Plan.{after_uses};
 ghost use Rattle.twice_translate.specs.Renamed.{CanGoOn, datagram_of, renamed};
@@ -13,22 +13,19 @@ ghost use Rattle.gate_world.specs.World.{Tracked};
 ghost use Rattle.kept_world.specs.Kept.{KeptSession, kept_rules, kept_pending};
 ghost use Rattle.gate_payloads.specs.Ways.{IsWay, image_by, is_empty, table_by, out_by};
 ghost use Rattle.gate_payloads.specs.Taken.{IsWayOf};
-ghost use Rattle.gate_core.specs.Gates.{world_of, stream_left};
-ghost use Rattle.gate_core.specs.Memory.{SegmentMayWant};
-ghost use Rattle.gate_core.specs.Segments.{IsSegmentDone, CompletesIn, connections_by, room_tests, lacks_place, session_verdict, waiting_after, made_on};
-ghost use Rattle.gate_base.specs.declared.refusal.Refusal.TheVariants.{PoolEmpty};
+ghost use Rattle.gate_core.specs.Gates.{world_in};
+ghost use Rattle.gate_core.specs.Segments.{IsSegmentDone, IsSegmentOf, CompletesIn, connections_by, room_tests, lacks_place, session_verdict, waiting_after, made_on};
 ghost use Rattle.gate_base.specs.Tests.{first_that_holds};
-ghost use Rattle.gate_world.specs.Ranges.{InRange};
-ghost use Rattle.gate_world.specs.Step.{out_kind, stream_out};
+ghost use Rattle.gate_world.specs.Step.{stream_out};
 ghost use Rattle.gate_world.specs.Stream.{tcp_of};
-ghost use Rattle.gate_world.specs.Verdict.{kind_tests, is_pool_empty, uses_until};
+ghost use Rattle.gate_world.specs.Verdict.{uses_until};
 
+use crate::known::Known;
 use binding_table::Table;
 use ftp_lines::{ClientLines, ServerLines};
 use gate_base::{CONTROL_PORT, DNS_PORT, OutOfMemory, Pair, Refusal, get_u16};
-use gate_outbox::Outbox;
+use gate_outbox::{Outbox, Scratch, Segment};
 use gate_payloads::{TrackedSession, Way, key_of, lacks_alias, pass_plain};
-use ipv4_frames::IpView;
 use session_table::SessionTable;
 use shift_ledger::Recent;
 use std::alloc::Global;
@@ -42,165 +39,179 @@ const CONNECTIONS: usize = 65_536;
 /// The most sessions that live at once.
 pub const SESSIONS: usize = 4_096;
 
-/// A segment: the octets of its datagram, and what stands in them.
-#[derive(Clone, Copy)]
-pub struct Segment<'a> {
-    pub octets: &'a [u8],
-    pub datagram: &'a IpView<'a>,
-    pub tcp: &'a TcpView<'a>,
-}
-
-/// Takes a segment.
-pub fn take_segment(
-    alloc: Global,
-    table: &mut Table,
-    connections: &mut SessionTable<TrackedSession>,
-    pending: &mut u64,
-    scratch: &mut Vec<u8>,
-    way: &Way,
-    segment: &Segment<'_>,
-    outbox: &mut Outbox,
-) -> Result<Option<Refusal>, OutOfMemory>
-    requires way { IsWayOf (world_of way.now.moment.0 table.old connections.old pending.old) way.now.side segment.now.datagram.now way.now }
-    requires moment { way.now.moment.0 < 2 ^ 32 * 1000000000 }
-    requires range { InRange (world_of way.now.moment.0 table.old connections.old pending.old) }
-    requires scratch { scratch.old.items ≡ [] }
-    requires places { 262144 ≤ vec_capacity scratch.old }
-    requires empty { outbox.old ≡ [] }
-    requires same { datagram_of segment.now.octets.now ≡ segment.now.datagram.now }
-    requires few { length segment.now.octets.now ≤ 65535 }
-    requires can { CanGoOn segment.now.octets.now }
-    requires tcp { segment.now.tcp.now ≡ tcp_of segment.now.datagram.now }
-    requires protocol { segment.now.datagram.now.protocol ≡ 6 }
-    ensures refusal { IfOk result (λ r. r ≡ first_that_holds (kind_tests kept_rules (world_of way.now.moment.0 table.old connections.old pending.old) way.now.side way.now.moment.0 segment.now.datagram.now kinds.Stream ++ (is_pool_empty table.old way.now.side segment.now.datagram.now kinds.Stream, PoolEmpty) ∷ [])) }
-    ensures left { IfOk result (λ r. world_of way.now.moment.0 table.new connections.new pending.new ≡ stream_left r (world_of way.now.moment.0 table.old connections.old pending.old) way.now.side segment.now.datagram.now) }
-    ensures sent { IfOk result (λ r. outbox.new ≡ out_by r (out_kind kept_rules (world_of way.now.moment.0 table.old connections.old pending.old) way.now.side way.now.moment.0 segment.now.datagram.now kinds.Stream)) }
-    ensures memory { OnErr result ((world_of way.now.moment.0 table.new connections.new pending.new ≡ world_of way.now.moment.0 table.old connections.old pending.old) × (outbox.new ≡ [])) }
-    ensures wants { OnErr result (SegmentMayWant (world_of way.now.moment.0 table.old connections.old pending.old) way.now.side segment.now.datagram.now) }
-    ensures scratch { scratch.new.items ≡ [] }
-    ensures places { vec_capacity scratch.old ≤ vec_capacity scratch.new }
-{
-    if has_dns_port(segment.tcp) {
-        return Ok(Some(Refusal::DnsStream));
+impl Known {
+    /// Takes a segment.
+    pub fn take_segment(
+        &mut self,
+        way: &Way,
+        segment: &Segment<'_>,
+        outbox: &mut Outbox,
+    ) -> Result<Option<Refusal>, OutOfMemory>
+        requires way { IsWayOf (world_in self.old) way.now.side segment.now.datagram.now way.now }
+        requires moment { way.now.moment.0 < 2 ^ 32 * 1000000000 }
+        requires empty { outbox.old ≡ [] }
+        requires whole { IsSegmentOf segment.now.octets.now segment.now.datagram.now segment.now.tcp.now }
+        ensures { IsSegmentDone (world_in self.old) way.now.side segment.now.datagram.now result (world_in self.new) outbox.new }
+    {
+        if has_dns_port(segment.tcp) {
+            return Ok(Some(Refusal::DnsStream));
+        }
+        let key = key_in(way, segment.tcp.ports());
+        self.take_on_connection(way, &key, segment, outbox)
     }
-    let key = key_in(way, segment.tcp.ports());
-    take_on_connection(
-        alloc,
-        table,
-        connections,
-        pending,
-        scratch,
-        way,
-        &key,
-        segment,
-        outbox,
-    )
-}
 
-/// Takes a segment of the connection with this name; no port of it is that of DNS.
-fn take_on_connection(
-    alloc: Global,
-    table: &mut Table,
-    connections: &mut SessionTable<TrackedSession>,
-    pending: &mut u64,
-    scratch: &mut Vec<u8>,
-    way: &Way,
-    key: &ConnKey,
-    segment: &Segment<'_>,
-    outbox: &mut Outbox,
-) -> Result<Option<Refusal>, OutOfMemory>
-    requires way { IsWayOf (world_of way.now.moment.0 table.old connections.old pending.old) way.now.side segment.now.datagram.now way.now }
-    requires key { key.now ≡ streams.key_in table.old way.now.side segment.now.datagram.now }
-    requires dns { kinds.has_port kinds.dns_port segment.now.datagram.now ≡ false }
-    requires moment { way.now.moment.0 < 2 ^ 32 * 1000000000 }
-    requires scratch { scratch.old.items ≡ [] }
-    requires places { 262144 ≤ vec_capacity scratch.old }
-    requires empty { outbox.old ≡ [] }
-    requires same { datagram_of segment.now.octets.now ≡ segment.now.datagram.now }
-    requires few { length segment.now.octets.now ≤ 65535 }
-    requires can { CanGoOn segment.now.octets.now }
-    requires tcp { segment.now.tcp.now ≡ tcp_of segment.now.datagram.now }
-    ensures done { IsSegmentDone (world_of way.now.moment.0 table.old connections.old pending.old) way.now.side segment.now.datagram.now result (world_of way.now.moment.0 table.new connections.new pending.new) outbox.new }
-    ensures scratch { scratch.new.items ≡ [] }
-    ensures places { vec_capacity scratch.old ≤ vec_capacity scratch.new }
-{
-    let (lives, verdict) = look_up(connections, way, key, segment);
-    if let Some(verdict) = verdict {
-        return match verdict {
-            Some(refusal) => Ok(Some(refusal)),
-            None => take_by_session(
-                table,
-                connections,
-                pending,
-                scratch,
+    // Takes a segment of the connection with this name; no port of it is that of DNS.
+    fn take_on_connection(
+        &mut self,
+        way: &Way,
+        key: &ConnKey,
+        segment: &Segment<'_>,
+        outbox: &mut Outbox,
+    ) -> Result<Option<Refusal>, OutOfMemory>
+        requires way { IsWayOf (world_in self.old) way.now.side segment.now.datagram.now way.now }
+        requires key { key.now ≡ streams.key_in self.old.table way.now.side segment.now.datagram.now }
+        requires dns { kinds.has_port kinds.dns_port segment.now.datagram.now ≡ false }
+        requires moment { way.now.moment.0 < 2 ^ 32 * 1000000000 }
+        requires empty { outbox.old ≡ [] }
+        requires whole { IsSegmentOf segment.now.octets.now segment.now.datagram.now segment.now.tcp.now }
+        ensures { IsSegmentDone (world_in self.old) way.now.side segment.now.datagram.now result (world_in self.new) outbox.new }
+    {
+        let (lives, verdict) = look_up(&self.connections, way, key, segment);
+        if let Some(verdict) = verdict {
+            return match verdict {
+                Some(refusal) => Ok(Some(refusal)),
+                None => self.take_by_session(way, key, segment, outbox),
+            };
+        }
+        if lives {
+            return Ok(take_untracked(
+                &mut self.table,
+                &mut self.connections,
                 way,
                 key,
                 segment,
                 outbox,
-            ),
-        };
+            ));
+        }
+        self.take_beginning(way, key, segment, outbox)
     }
-    if lives {
-        return Ok(take_untracked(table, connections, way, key, segment, outbox));
-    }
-    take_beginning(
-        alloc,
-        table,
-        connections,
-        pending,
-        scratch,
-        way,
-        key,
-        segment,
-        outbox,
-    )
-}
 
-/// Takes a segment whose connection doesn't live.
-fn take_beginning(
-    alloc: Global,
-    table: &mut Table,
-    connections: &mut SessionTable<TrackedSession>,
-    pending: &mut u64,
-    scratch: &mut Vec<u8>,
-    way: &Way,
-    key: &ConnKey,
-    segment: &Segment<'_>,
-    outbox: &mut Outbox,
-) -> Result<Option<Refusal>, OutOfMemory>
-    requires way { IsWayOf (world_of way.now.moment.0 table.old connections.old pending.old) way.now.side segment.now.datagram.now way.now }
-    requires key { key.now ≡ streams.key_in table.old way.now.side segment.now.datagram.now }
-    requires absent { connection_of key.now connections.old ≡ None }
-    requires dns { kinds.has_port kinds.dns_port segment.now.datagram.now ≡ false }
-    requires moment { way.now.moment.0 < 2 ^ 32 * 1000000000 }
-    requires scratch { scratch.old.items ≡ [] }
-    requires places { 262144 ≤ vec_capacity scratch.old }
-    requires empty { outbox.old ≡ [] }
-    requires same { datagram_of segment.now.octets.now ≡ segment.now.datagram.now }
-    requires few { length segment.now.octets.now ≤ 65535 }
-    requires can { CanGoOn segment.now.octets.now }
-    requires tcp { segment.now.tcp.now ≡ tcp_of segment.now.datagram.now }
-    ensures done { IsSegmentDone (world_of way.now.moment.0 table.old connections.old pending.old) way.now.side segment.now.datagram.now result (world_of way.now.moment.0 table.new connections.new pending.new) outbox.new }
-    ensures scratch { scratch.new.items ≡ [] }
-    ensures places { vec_capacity scratch.old ≤ vec_capacity scratch.new }
-{
-    if is_late(segment.tcp) {
-        return Ok(Some(Refusal::NoSession));
-    }
-    if is_first(segment.tcp) {
-        return take_first(
-            alloc,
-            table,
-            connections,
-            pending,
-            scratch,
+    // Takes a segment whose connection doesn't live.
+    fn take_beginning(
+        &mut self,
+        way: &Way,
+        key: &ConnKey,
+        segment: &Segment<'_>,
+        outbox: &mut Outbox,
+    ) -> Result<Option<Refusal>, OutOfMemory>
+        requires way { IsWayOf (world_in self.old) way.now.side segment.now.datagram.now way.now }
+        requires key { key.now ≡ streams.key_in self.old.table way.now.side segment.now.datagram.now }
+        requires absent { connection_of key.now self.old.connections ≡ None }
+        requires dns { kinds.has_port kinds.dns_port segment.now.datagram.now ≡ false }
+        requires moment { way.now.moment.0 < 2 ^ 32 * 1000000000 }
+        requires empty { outbox.old ≡ [] }
+        requires whole { IsSegmentOf segment.now.octets.now segment.now.datagram.now segment.now.tcp.now }
+        ensures { IsSegmentDone (world_in self.old) way.now.side segment.now.datagram.now result (world_in self.new) outbox.new }
+    {
+        if is_late(segment.tcp) {
+            return Ok(Some(Refusal::NoSession));
+        }
+        if is_first(segment.tcp) {
+            return self.take_first(way, key, segment, outbox);
+        }
+        Ok(take_untracked(
+            &mut self.table,
+            &mut self.connections,
             way,
             key,
             segment,
             outbox,
-        );
+        ))
     }
-    Ok(take_untracked(table, connections, way, key, segment, outbox))
+
+    // Takes a segment of a connection that has a session, which doesn't refuse it.
+    fn take_by_session(
+        &mut self,
+        way: &Way,
+        key: &ConnKey,
+        segment: &Segment<'_>,
+        outbox: &mut Outbox,
+    ) -> Result<Option<Refusal>, OutOfMemory>
+        requires way { IsWayOf (world_in self.old) way.now.side segment.now.datagram.now way.now }
+        requires key { key.now ≡ streams.key_in self.old.table way.now.side segment.now.datagram.now }
+        requires tracked { IsSome (streams.session_in (connection_of key.now self.old.connections)) }
+        requires passes { streams.session_refusal kept_rules way.now.side segment.now.datagram.now (streams.session_in (connection_of key.now self.old.connections)) ≡ None }
+        requires dns { kinds.has_port kinds.dns_port segment.now.datagram.now ≡ false }
+        requires moment { way.now.moment.0 < 2 ^ 32 * 1000000000 }
+        requires empty { outbox.old ≡ [] }
+        requires whole { IsSegmentOf segment.now.octets.now segment.now.datagram.now segment.now.tcp.now }
+        ensures { IsSegmentDone (world_in self.old) way.now.side segment.now.datagram.now result (world_in self.new) outbox.new }
+    {
+        if lacks_alias(way) {
+            return Ok(Some(Refusal::PoolEmpty));
+        }
+        let flags = segment.tcp.flags();
+        let hold = hold_of(&self.connections, way, key, flags);
+        match step_session(
+            &mut self.connections,
+            &mut self.scratch,
+            way,
+            key,
+            segment,
+            outbox,
+        )? {
+            Some(waiting) => {
+                self.pending = self.pending.max(waiting);
+                self.connections.note(*key, way.side, flags, way.moment);
+                way.use_both(&mut self.table, hold);
+                Ok(None)
+            }
+            None => {
+                self.connections.remove(key);
+                way.use_both(&mut self.table, SHORT_HOLD);
+                Ok(None)
+            }
+        }
+    }
+
+    // Takes the first segment of a connection that is tracked: it makes the session, and is the first segment that this takes.
+    #[inline(never)]
+    fn take_first(
+        &mut self,
+        way: &Way,
+        key: &ConnKey,
+        segment: &Segment<'_>,
+        outbox: &mut Outbox,
+    ) -> Result<Option<Refusal>, OutOfMemory>
+        requires way { IsWayOf (world_in self.old) way.now.side segment.now.datagram.now way.now }
+        requires key { key.now ≡ streams.key_in self.old.table way.now.side segment.now.datagram.now }
+        requires absent { connection_of key.now self.old.connections ≡ None }
+        requires first { (streams.is_opening segment.now.tcp.now.flags && segment.now.tcp.now.destination_port == 21) ≡ true }
+        requires dns { kinds.has_port kinds.dns_port segment.now.datagram.now ≡ false }
+        requires moment { way.now.moment.0 < 2 ^ 32 * 1000000000 }
+        requires empty { outbox.old ≡ [] }
+        requires whole { IsSegmentOf segment.now.octets.now segment.now.datagram.now segment.now.tcp.now }
+        ensures { IsSegmentDone (world_in self.old) way.now.side segment.now.datagram.now result (world_in self.new) outbox.new }
+    {
+        if let Some(refusal) = StreamGate::<ClientLines, ServerLines>::first_verdict(segment.tcp) {
+            return Ok(Some(refusal));
+        }
+        if is_full(&self.connections) {
+            return Ok(Some(Refusal::SessionsFull));
+        }
+        if lacks_alias(way) {
+            return Ok(Some(Refusal::PoolEmpty));
+        }
+        let flags = segment.tcp.flags();
+        let hold = hold_of(&self.connections, way, key, flags);
+        let mut tracked = made(self.alloc, way, segment.tcp)?;
+        let waiting = step_tracked(&mut tracked, &mut self.scratch, way, segment, outbox)?;
+        self.pending = self.pending.max(waiting.unwrap_or(0));
+        self.connections
+            .open(*key, way.side, flags, tracked, way.moment);
+        way.use_both(&mut self.table, hold);
+        Ok(None)
+    }
 }
 
 /// Takes a segment that no session takes.
@@ -261,100 +272,6 @@ fn is_stray_reset(connections: &SessionTable<TrackedSession>, key: &ConnKey, fla
     ensures { result ≡ (is_none (connection_of key.now connections.now) && (flags_of flags).reset) }
 {
     flags_of(flags).reset && !connections.contains(key)
-}
-
-/// Takes a segment of a connection that has a session, which doesn't refuse it.
-fn take_by_session(
-    table: &mut Table,
-    connections: &mut SessionTable<TrackedSession>,
-    pending: &mut u64,
-    scratch: &mut Vec<u8>,
-    way: &Way,
-    key: &ConnKey,
-    segment: &Segment<'_>,
-    outbox: &mut Outbox,
-) -> Result<Option<Refusal>, OutOfMemory>
-    requires way { IsWayOf (world_of way.now.moment.0 table.old connections.old pending.old) way.now.side segment.now.datagram.now way.now }
-    requires key { key.now ≡ streams.key_in table.old way.now.side segment.now.datagram.now }
-    requires tracked { IsSome (streams.session_in (connection_of key.now connections.old)) }
-    requires passes { streams.session_refusal kept_rules way.now.side segment.now.datagram.now (streams.session_in (connection_of key.now connections.old)) ≡ None }
-    requires dns { kinds.has_port kinds.dns_port segment.now.datagram.now ≡ false }
-    requires moment { way.now.moment.0 < 2 ^ 32 * 1000000000 }
-    requires scratch { scratch.old.items ≡ [] }
-    requires places { 262144 ≤ vec_capacity scratch.old }
-    requires empty { outbox.old ≡ [] }
-    requires alive { 1 ≤ segment.now.datagram.now.lifetime }
-    requires tcp { segment.now.tcp.now ≡ tcp_of segment.now.datagram.now }
-    ensures done { IsSegmentDone (world_of way.now.moment.0 table.old connections.old pending.old) way.now.side segment.now.datagram.now result (world_of way.now.moment.0 table.new connections.new pending.new) outbox.new }
-    ensures scratch { scratch.new.items ≡ [] }
-    ensures places { vec_capacity scratch.old ≤ vec_capacity scratch.new }
-{
-    if lacks_alias(way) {
-        return Ok(Some(Refusal::PoolEmpty));
-    }
-    let flags = segment.tcp.flags();
-    let hold = hold_of(connections, way, key, flags);
-    match step_session(connections, scratch, way, key, segment, outbox)? {
-        Some(waiting) => {
-            *pending = (*pending).max(waiting);
-            connections.note(*key, way.side, flags, way.moment);
-            way.use_both(table, hold);
-            Ok(None)
-        }
-        None => {
-            connections.remove(key);
-            way.use_both(table, SHORT_HOLD);
-            Ok(None)
-        }
-    }
-}
-
-/// Takes the first segment of a connection that is tracked: it makes the session, and is the first segment that this takes.
-#[inline(never)]
-fn take_first(
-    alloc: Global,
-    table: &mut Table,
-    connections: &mut SessionTable<TrackedSession>,
-    pending: &mut u64,
-    scratch: &mut Vec<u8>,
-    way: &Way,
-    key: &ConnKey,
-    segment: &Segment<'_>,
-    outbox: &mut Outbox,
-) -> Result<Option<Refusal>, OutOfMemory>
-    requires way { IsWayOf (world_of way.now.moment.0 table.old connections.old pending.old) way.now.side segment.now.datagram.now way.now }
-    requires key { key.now ≡ streams.key_in table.old way.now.side segment.now.datagram.now }
-    requires absent { connection_of key.now connections.old ≡ None }
-    requires first { (streams.is_opening segment.now.tcp.now.flags && segment.now.tcp.now.destination_port == 21) ≡ true }
-    requires dns { kinds.has_port kinds.dns_port segment.now.datagram.now ≡ false }
-    requires moment { way.now.moment.0 < 2 ^ 32 * 1000000000 }
-    requires scratch { scratch.old.items ≡ [] }
-    requires places { 262144 ≤ vec_capacity scratch.old }
-    requires empty { outbox.old ≡ [] }
-    requires alive { 1 ≤ segment.now.datagram.now.lifetime }
-    requires few { length segment.now.tcp.now.payload ≤ 65535 }
-    requires tcp { segment.now.tcp.now ≡ tcp_of segment.now.datagram.now }
-    ensures done { IsSegmentDone (world_of way.now.moment.0 table.old connections.old pending.old) way.now.side segment.now.datagram.now result (world_of way.now.moment.0 table.new connections.new pending.new) outbox.new }
-    ensures scratch { scratch.new.items ≡ [] }
-    ensures places { vec_capacity scratch.old ≤ vec_capacity scratch.new }
-{
-    if let Some(refusal) = StreamGate::<ClientLines, ServerLines>::first_verdict(segment.tcp) {
-        return Ok(Some(refusal));
-    }
-    if is_full(connections) {
-        return Ok(Some(Refusal::SessionsFull));
-    }
-    if lacks_alias(way) {
-        return Ok(Some(Refusal::PoolEmpty));
-    }
-    let flags = segment.tcp.flags();
-    let hold = hold_of(connections, way, key, flags);
-    let mut tracked = made(alloc, way, segment.tcp)?;
-    let waiting = step_tracked(&mut tracked, scratch, way, segment, outbox)?;
-    *pending = (*pending).max(waiting.unwrap_or(0));
-    connections.open(*key, way.side, flags, tracked, way.moment);
-    way.use_both(table, hold);
-    Ok(None)
 }
 
 /// Whether a port is that of DNS.
@@ -454,7 +371,7 @@ fn look_up(
 /// The session of a connection takes a segment: how many changed lines wait in it then; None where it ends.
 fn step_session(
     connections: &mut SessionTable<TrackedSession>,
-    scratch: &mut Vec<u8>,
+    scratch: &mut Scratch,
     way: &Way,
     key: &ConnKey,
     segment: &Segment<'_>,
@@ -463,18 +380,13 @@ fn step_session(
     requires tracked { IsSome (streams.session_in (connection_of key.now connections.old)) }
     requires passes { streams.session_refusal kept_rules way.now.side segment.now.datagram.now (streams.session_in (connection_of key.now connections.old)) ≡ None }
     requires empty { outbox.old ≡ [] }
-    requires alive { 1 ≤ segment.now.datagram.now.lifetime }
-    requires tcp { segment.now.tcp.now ≡ tcp_of segment.now.datagram.now }
-    requires scratch { scratch.old.items ≡ [] }
-    requires places { 262144 ≤ vec_capacity scratch.old }
+    requires whole { IsSegmentOf segment.now.octets.now segment.now.datagram.now segment.now.tcp.now }
     ensures next { (t : Tracked KeptSession) → streams.session_in (connection_of key.now connections.old) ≡ Some t → OnOk result (connections.new ≡ replaced connections.old key.now (streams.stepped kept_rules way.now.side segment.now.datagram.now t)) }
     ensures waits { (t : Tracked KeptSession) → streams.session_in (connection_of key.now connections.old) ≡ Some t → IfOk result (λ w. w ≡ waiting_after way.now.side segment.now.datagram.now t) }
     ensures out { (t : Tracked KeptSession) → streams.session_in (connection_of key.now connections.old) ≡ Some t → OnOk result (outbox.new ≡ stream_out kept_rules way.now.side segment.now.datagram.now (image_by way.now.of_source way.now.source).0 (image_by way.now.of_destination way.now.destination).0 (Some t)) }
     ensures memory { (t : Tracked KeptSession) → streams.session_in (connection_of key.now connections.old) ≡ Some t → OnErr result (CompletesIn way.now.side segment.now.datagram.now t) }
     ensures same { OnErr result (connections.new ≡ connections.old) }
     ensures nothing { OnErr result (outbox.new ≡ []) }
-    ensures scratch { scratch.new.items ≡ [] }
-    ensures places { vec_capacity scratch.old ≤ vec_capacity scratch.new }
 {
     match connections.session_mut(key) {
         Some(tracked) => step_tracked(tracked, scratch, way, segment, outbox),
@@ -485,32 +397,26 @@ fn step_session(
 /// A session takes a segment: how many changed lines wait in it then; None where it ends.
 fn step_tracked(
     tracked: &mut TrackedSession,
-    scratch: &mut Vec<u8>,
+    scratch: &mut Scratch,
     way: &Way,
     segment: &Segment<'_>,
     outbox: &mut Outbox,
 ) -> Result<Option<u64>, OutOfMemory>
     requires passes { streams.session_refusal kept_rules way.now.side segment.now.datagram.now (Some tracked.old) ≡ None }
     requires empty { outbox.old ≡ [] }
-    requires alive { 1 ≤ segment.now.datagram.now.lifetime }
-    requires tcp { segment.now.tcp.now ≡ tcp_of segment.now.datagram.now }
-    requires scratch { scratch.old.items ≡ [] }
-    requires places { 262144 ≤ vec_capacity scratch.old }
+    requires whole { IsSegmentOf segment.now.octets.now segment.now.datagram.now segment.now.tcp.now }
     ensures next { OnOk result (tracked.new ≡ streams.stepped kept_rules way.now.side segment.now.datagram.now tracked.old) }
     ensures waits { IfOk result (λ w. w ≡ waiting_after way.now.side segment.now.datagram.now tracked.old) }
     ensures out { OnOk result (outbox.new ≡ stream_out kept_rules way.now.side segment.now.datagram.now (image_by way.now.of_source way.now.source).0 (image_by way.now.of_destination way.now.destination).0 (Some tracked.old)) }
     ensures memory { OnErr result (CompletesIn way.now.side segment.now.datagram.now tracked.old) }
     ensures same { OnErr result (tracked.new ≡ tracked.old) }
     ensures nothing { OnErr result (outbox.new ≡ []) }
-    ensures scratch { scratch.new.items ≡ [] }
-    ensures places { vec_capacity scratch.old ≤ vec_capacity scratch.new }
 {
     let from_client = tracked.is_client(way.side);
     let over = outbox.put_segments(
         &mut tracked.session,
         from_client,
-        segment.datagram,
-        segment.tcp,
+        segment,
         way.source_image(),
         way.destination_image(),
         scratch,

@@ -23,14 +23,17 @@ use Rattle.udp_icmp.specs.Udp.{has_bad_length, read_udp}
 use Rattle.twice_translate.specs.Content.{of_udp, read_content}
 use Rattle.twice_translate.specs.Renamed.{CanGoOn, datagram_of, renamed, rebuilt}
 use Rattle.twice_translate.proofs.Accepted.{ok_as, reads_udp, udp_long}
-use Rattle.gate_world.specs.Frame.{Dns}
+use Rattle.gate_base.specs.Tests.{first_that_holds}
+use Rattle.gate_base.specs.declared.refusal.Refusal.{Refusal}
+use Rattle.gate_base.specs.declared.refusal.Refusal.TheVariants.{BadDns, DnsUnbound, PoolEmpty}
+use Rattle.gate_world.specs.Frame.{Dns, Udp}
 use Rattle.gate_world.specs.Names.{carried, message_in, named_in, is_unbound, has_unbound, reply_by, names_after}
 use Rattle.gate_world.specs.Verdict.{uses_until, udp_hold, named_hold}
 use Rattle.gate_world.specs.World.{World, source_of, destination_of, called}
 use Rattle.kept_world.specs.Kept.{KeptSession}
 use Rattle.gate_payloads.specs.Named.{named_uses}
 use Rattle.gate_payloads.specs.Taken.{IsTaken, IsWayOf}
-use Rattle.gate_payloads.specs.Ways.{image_by, is_empty}
+use Rattle.gate_payloads.specs.Ways.{image_by, is_empty, table_by, out_by}
 use Rattle.gate_payloads.specs.declared.addresses.Way.{Way}
 use Rattle.gate_payloads.proofs.Passes.{of_crossing, used_called, still_after, called_is, host_bound, free_is}
 use Rattle.gate_payloads.proofs.HeadersOnly.{of_source_is, of_destination_is}
@@ -264,3 +267,27 @@ names_passed live side d m named way old table reply sent same w e h =
     → reply ≡ reply_by (drop 2 (images_after t (named_uses side way.moment.0 way.source way.destination named))) (carried d) (Some m)
     → sent ≡ rebuilt d (image_by way.of_source way.source).0 (image_by way.of_destination way.destination).0 reply ∷ [] → IsTaken live side d Dns None table sent in
     subst P same (passed live side d m named way table reply sent w e h)
+
+-- ## A message that names nothing
+
+none_replied : (octets : List ℕ) (o : Option Message) → octets ≡ reply_by [] octets o
+none_replied octets None = refl
+none_replied octets (Some m) = refl
+
+-- it is taken as a datagram of which only the header is renamed
+pub nothing_named : (live : World KeptSession) (side : Side) (d : Datagram) (r : Option Refusal) (table : Bindings) (sent : List (List ℕ)) → is_none (message_in d) ≡ false → named_in (message_in d) ≡ [] → ((source destination : ℕ) → renamed d source destination ≡ rebuilt d source destination (carried d))
+    → IsTaken live side d Udp r table sent → IsTaken live side d Dns r table sent
+nothing_named live side d r table sent some none same t =
+    let one = source_of d in
+    let two = destination_of d in
+    let A : Bool → List Addr → Option Refusal = λ bad named. first_that_holds ((bad, BadDns) ∷ (has_unbound live.table side named, DnsUnbound) ∷ (nat_lt (free live.table (other side)) (needed live.table side (one ∷ two ∷ named)), PoolEmpty) ∷ []) in
+    let after : List Addr → Bindings = λ named. after_uses live.table (named_uses side live.clock one two named) in
+    let S : List ℕ → List (List ℕ) = λ payload. rebuilt d (called (after []) side one).0 (called (after []) side two).0 payload ∷ [] in
+    record {
+      answer = t.answer ∙ ap (A false) (sym none) ∙ ap (λ (bad : Bool). A bad (named_in (message_in d))) (sym some);
+      bound = t.bound ∙ ap (λ (named : List Addr). table_by r (after named) live.table) (sym none);
+      gone = t.gone
+          ∙ ap (λ (x : List ℕ). out_by r (x ∷ [])) (same (called (after []) side one).0 (called (after []) side two).0)
+          ∙ ap (λ (xs : List ℕ). out_by r (S xs)) (none_replied (carried d) (message_in d))
+          ∙ ap (λ (named : List Addr). out_by r (rebuilt d (called (after named) side one).0 (called (after named) side two).0 (reply_by (map (image_after live.table (after named) side) named) (carried d) (message_in d)) ∷ [])) (sym none);
+    }

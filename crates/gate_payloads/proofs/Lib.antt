@@ -1,6 +1,6 @@
 pub mod Crossings
 pub mod Passes
 pub mod HeadersOnly
-pub mod NamesTaken
+pub mod DnsTaken
 pub mod ErrorsTaken
-pub mod ManagementTaken
+pub mod SnmpTaken

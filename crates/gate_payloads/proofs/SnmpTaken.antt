@@ -1,7 +1,7 @@
 -- Datagrams with an SNMP message, refused or passed.
-use Rattle.std.proofs.Common.{◌≡◌, ◌+◌, ◌==◌, inl, inr, nat_lt, length, ℕ, Bool, true, false, not, List, [], ◌∷◌, ◌++◌, Option, Some, None, refl, sym, ap, ◌∙◌}
-use Rattle.std.specs.Prelude.{option_map, is_some, is_none}
-use Rattle.std.proofs.lemmas.Bool.{cases_Bool, eqb-true, eq-eqb, false≢true}
+use Rattle.std.proofs.Common.{◌≡◌, ◌≤◌, ◌+◌, ◌==◌, inl, inr, nat_lt, length, ℕ, Bool, true, false, not, List, [], ◌∷◌, ◌++◌, Option, Some, None, refl, sym, ap, subst, ◌∙◌, arith}
+use Rattle.std.specs.Prelude.{option_map, is_some, is_none, IsSome}
+use Rattle.std.proofs.lemmas.Bool.{cases_Bool, eqb-true, eq-eqb, false≢true, le-ltb}
 use Rattle.gate_base.specs.declared.address.Addr.{Addr}
 use Rattle.gate_base.specs.declared.refusal.Refusal.{Refusal}
 use Rattle.gate_base.specs.declared.refusal.Refusal.TheVariants.{BadSnmp, PoolEmpty, SnmpTooLong}
@@ -9,14 +9,18 @@ use Rattle.gate_base.specs.declared.side.Side.{Side}
 use Rattle.gate_base.specs.declared.event.Moment.{Moment}
 use Rattle.gate_base.specs.declared.rule.OidRule.{OidRule}
 use Rattle.binding_table.specs.declared.binding.Crossing.{Crossing}
+use Rattle.binding_table.specs.declared.binding.Crossing.TheVariants.{Same, Known, New, Unbound, Empty}
 use Rattle.binding_table.specs.Bindings.{Bindings, cross, seen, is_settled}
-use Rattle.binding_table.specs.Plan.{after_uses, used}
+use Rattle.binding_table.specs.Plan.{Use, after_uses, used, used_by}
 use Rattle.binding_table.proofs.Planned.{settled_stays, used_follows}
-use Rattle.binding_table.proofs.SeenAfter.{seen_kept, oids_after}
+use Rattle.binding_table.proofs.SeenAfter.{seen_kept}
 use Rattle.ipv4_frames.specs.Ipv4.{Datagram}
-use Rattle.snmp_gateway.specs.Message.{message, kind_of}
+use Rattle.snmp_gateway.specs.Message.{message, kind_of, places_of}
+use Rattle.snmp_gateway.specs.Renaming.{renamed as renamed_message}
 use Rattle.snmp_gateway.specs.declared.message.SnmpKind.{SnmpKind}
 use Rattle.snmp_oids.specs.Elements.{oid_renamed}
+use Rattle.snmp_oids.proofs.Lengths.{message_length}
+use Rattle.snmp_oids.proofs.Messages.{no_rule}
 use Rattle.gate_base.specs.Tests.{first_that_holds}
 use Rattle.twice_translate.specs.Renamed.{rebuilt}
 use Rattle.gate_world.specs.Frame.{Snmp}
@@ -26,7 +30,7 @@ use Rattle.gate_world.specs.Verdict.{uses_until, udp_hold, kind_tests, late_test
 use Rattle.gate_world.specs.World.{World, source_of, destination_of, called}
 use Rattle.kept_world.specs.Kept.{KeptSession, kept_rules}
 use Rattle.gate_payloads.specs.Taken.{IsTaken, IsWayOf}
-use Rattle.gate_payloads.specs.Ways.{image_by, is_empty}
+use Rattle.gate_payloads.specs.Ways.{image_by, is_empty, table_by, out_by}
 use Rattle.gate_payloads.specs.declared.addresses.Way.{Way}
 use Rattle.gate_payloads.specs.Planned.{number_planned}
 use Rattle.gate_payloads.proofs.HeadersOnly.{are_images, empty_is, uses_are, of_source_is, of_destination_is}
@@ -59,9 +63,22 @@ message_empty live side d way table sent w good empty t s =
       gone = s;
     }
 
+-- ## The rules stay
+
+oids_by : (t : Bindings) (side : Side) (address : Addr) (until : Moment) (crossing : Crossing) → (used_by t side address until crossing).oids ≡ t.oids
+oids_by t side address until Same = refl
+oids_by t side address until (Known image) = refl
+oids_by t side address until (New alias) = refl
+oids_by t side address until Unbound = refl
+oids_by t side address until Empty = refl
+
+oids_after : (t : Bindings) (uses : List Use) → (after_uses t uses).oids ≡ t.oids
+oids_after t [] = refl
+oids_after t (one ∷ uses) = oids_after (used t one) uses ∙ oids_by t one.side one.address one.until (cross t one.side one.address)
+
 -- ## What its addresses are called
 
-after_both : World KeptSession → Side → Datagram → Bindings
+abbrev after_both : World KeptSession → Side → Datagram → Bindings
 after_both live side d = after_uses live.table (uses_until side (live.clock + udp_hold) (source_of d ∷ destination_of d ∷ []))
 
 numbered : (address image : Addr) (table : Bindings) (side : Side) (n : ℕ) → n ≡ address.0 → seen table side address ≡ Some image → number_seen table side n ≡ Some image.0
@@ -69,7 +86,6 @@ numbered address image table side n is h = ap (λ (m : ℕ). number_seen table s
 
 -- every address is called as after both uses
 planned_at : (live : World KeptSession) (side : Side) (d : Datagram) (way : Way) → IsWayOf live side d way → is_empty way.of_source ≡ false → (n : ℕ) → number_planned live.table way n ≡ number_seen (after_both live side d) side n
-unfolding after_both
 planned_at live side d way w room n = elim (cases_Bool (n == way.source.0)) [
   | inl same ↦
       let s = of_source_is live side d way w in
@@ -98,31 +114,85 @@ planned_is live side d way w room =
     ap (λ (image : ℕ → Option ℕ). oid_renamed image live.table.oids (carried d)) (λ i n. planned_at live side d way w room n i)
     ∙ ap (λ (rules : List OidRule). oid_renamed (number_seen (after_both live side d) side) rules (carried d)) (sym (oids_after live.table (uses_until side (live.clock + udp_hold) (source_of d ∷ destination_of d ∷ []))))
 
-pub message_long : (live : World KeptSession) (side : Side) (d : Datagram) (way : Way) (size : ℕ) (table : Bindings) (sent : List (List ℕ)) → IsWayOf live side d way → is_bad_snmp d ≡ false → is_empty way.of_source ≡ false
-    → size ≡ length (oid_renamed (number_planned live.table way) live.table.oids (carried d)) → nat_lt 65507 size ≡ true → table ≡ live.table → sent ≡ [] → IsTaken live side d Snmp (Some SnmpTooLong) table sent
-message_long live side d way size table sent w good room is long t s =
-    let same = is ∙ ap length (planned_is live side d way w room) in
-    record {
-      answer = ap (first_by false false) (sym long) ∙ ap (λ (b : Bool). first_by false b (nat_lt 65507 size)) (sym room) ∙ first_is live side d way (nat_lt 65507 size) w good (ap (nat_lt 65507) same);
-      bound = t;
-      gone = s;
-    }
-
-pub message_passes : (live : World KeptSession) (side : Side) (d : Datagram) (way : Way) (size : ℕ) (payload : List ℕ) (table : Bindings) (sent : List (List ℕ)) → IsWayOf live side d way → is_bad_snmp d ≡ false → is_empty way.of_source ≡ false
-    → size ≡ length (oid_renamed (number_planned live.table way) live.table.oids (carried d)) → nat_lt 65507 size ≡ false → payload ≡ oid_renamed (number_planned live.table way) live.table.oids (carried d)
-    → table ≡ after_uses live.table (uses_until way.side (way.moment.0 + udp_hold) (way.source ∷ way.destination ∷ []))
-    → sent ≡ rebuilt d (image_by way.of_source way.source).0 (image_by way.of_destination way.destination).0 payload ∷ []
-    → IsTaken live side d Snmp None table sent
-message_passes live side d way size payload table sent w good room is short p t s =
-    let same = is ∙ ap length (planned_is live side d way w room) in
+-- a message that the rules rename
+pub message_by_rules : (live : World KeptSession) (side : Side) (d : Datagram) (way : Way) (r : Option Refusal) (table : Bindings) (sent : List (List ℕ)) → IsWayOf live side d way → is_bad_snmp d ≡ false → is_empty way.of_source ≡ false
+    → r ≡ first_that_holds ((nat_lt 65507 (length (oid_renamed (number_planned live.table way) live.table.oids (carried d))), SnmpTooLong) ∷ [])
+    → table ≡ table_by r (after_uses live.table (uses_until way.side (way.moment.0 + udp_hold) (way.source ∷ way.destination ∷ []))) live.table
+    → sent ≡ out_by r (rebuilt d (image_by way.of_source way.source).0 (image_by way.of_destination way.destination).0 (oid_renamed (number_planned live.table way) live.table.oids (carried d)) ∷ []) → IsTaken live side d Snmp r table sent
+message_by_rules live side d way r table sent w good room e t s =
+    let planned = oid_renamed (number_planned live.table way) live.table.oids (carried d) in
+    let same = planned_is live side d way w room in
     let images = are_images live side d way (live.clock + udp_hold) w room in
     let after = after_uses live.table (uses_until side (live.clock + udp_hold) (source_of d ∷ destination_of d ∷ [])) in
-    let R : List ℕ → Addr → Addr → List (List ℕ) = λ x a b. rebuilt d a.0 b.0 x ∷ [] in
+    let R : List ℕ → Addr → Addr → List (List ℕ) = λ x a b. out_by r (rebuilt d a.0 b.0 x ∷ []) in
     record {
-      answer = ap (first_by false false) (sym short) ∙ ap (λ (b : Bool). first_by false b (nat_lt 65507 size)) (sym room) ∙ first_is live side d way (nat_lt 65507 size) w good (ap (nat_lt 65507) same);
-      bound = t ∙ uses_are live side d way udp_hold w;
+      answer =
+          e
+          ∙ ap (λ (b : Bool). first_by false b (nat_lt 65507 (length planned))) (sym room)
+          ∙ first_is live side d way (nat_lt 65507 (length planned)) w good (ap (λ (xs : List ℕ). nat_lt 65507 (length xs)) same);
+      bound = t ∙ ap (λ (x : Bindings). table_by r x live.table) (uses_are live side d way udp_hold w);
       gone = s
-          ∙ ap (λ (x : List ℕ). R x (image_by way.of_source way.source) (image_by way.of_destination way.destination)) (p ∙ planned_is live side d way w room)
+          ∙ ap (λ (x : List ℕ). R x (image_by way.of_source way.source) (image_by way.of_destination way.destination)) same
           ∙ ap (λ (a : Addr). R (management_after after side d) a (image_by way.of_destination way.destination)) images.source
           ∙ ap (R (management_after after side d) (called after side (source_of d))) images.destination;
     }
+
+-- the same over an equal table and payload
+pub taken_by_rules : (live : World KeptSession) (side : Side) (d : Datagram) (way : Way) (old : Bindings) (payload : List ℕ) (r : Option Refusal) (table : Bindings) (sent : List (List ℕ)) → live.table ≡ old → payload ≡ carried d → IsWayOf live side d way → is_bad_snmp d ≡ false → is_empty way.of_source ≡ false
+    → r ≡ first_that_holds ((nat_lt 65507 (length (oid_renamed (number_planned old way) old.oids payload)), SnmpTooLong) ∷ [])
+    → table ≡ table_by r (after_uses old (uses_until way.side (way.moment.0 + udp_hold) (way.source ∷ way.destination ∷ []))) old
+    → sent ≡ out_by r (rebuilt d (image_by way.of_source way.source).0 (image_by way.of_destination way.destination).0 (oid_renamed (number_planned old way) old.oids payload) ∷ []) → IsTaken live side d Snmp r table sent
+taken_by_rules live side d way old payload r table sent same p w good room =
+    let P : Bindings → List ℕ → Type 0 = λ x xs.
+    r ≡ first_that_holds ((nat_lt 65507 (length (oid_renamed (number_planned x way) x.oids xs)), SnmpTooLong) ∷ [])
+    → table ≡ table_by r (after_uses x (uses_until way.side (way.moment.0 + udp_hold) (way.source ∷ way.destination ∷ []))) x
+    → sent ≡ out_by r (rebuilt d (image_by way.of_source way.source).0 (image_by way.of_destination way.destination).0 (oid_renamed (number_planned x way) x.oids xs) ∷ []) → IsTaken live side d Snmp r table sent in
+    subst (λ (x : Bindings). P x payload) same (subst (λ (xs : List ℕ). P live.table xs) (sym p) (message_by_rules live side d way r table sent w good room))
+
+-- one where there is no rule
+pub message_basic : (live : World KeptSession) (side : Side) (d : Datagram) (way : Way) (table : Bindings) (sent : List (List ℕ)) → IsWayOf live side d way → is_bad_snmp d ≡ false → is_empty way.of_source ≡ false → live.table.oids ≡ [] → length (carried d) ≤ 65507
+    → table ≡ after_uses live.table (uses_until way.side (way.moment.0 + udp_hold) (way.source ∷ way.destination ∷ []))
+    → sent ≡ rebuilt d (image_by way.of_source way.source).0 (image_by way.of_destination way.destination).0 (oid_renamed (number_seen table way.side) [] (carried d)) ∷ [] → IsTaken live side d Snmp None table sent
+message_basic live side d way table sent w good room none few t s =
+    let images = are_images live side d way (live.clock + udp_hold) w room in
+    let after = after_uses live.table (uses_until side (live.clock + udp_hold) (source_of d ∷ destination_of d ∷ [])) in
+    let bound = t ∙ uses_are live side d way udp_hold w in
+    let rules : after.oids ≡ [] = oids_after live.table (uses_until side (live.clock + udp_hold) (source_of d ∷ destination_of d ∷ [])) ∙ none in
+    let same : oid_renamed (number_seen table way.side) [] (carried d) ≡ management_after after side d =
+    ap (λ (x : Bindings). oid_renamed (number_seen x way.side) [] (carried d)) bound
+    ∙ ap (λ (x : Side). oid_renamed (number_seen after x) [] (carried d)) w.side_is
+    ∙ ap (λ (x : List OidRule). oid_renamed (number_seen after side) x (carried d)) (sym rules) in
+    let short : is_snmp_too_long after side d ≡ false =
+    ap (λ (x : List OidRule). nat_lt 65507 (length (oid_renamed (number_seen after side) x (carried d)))) rules
+    ∙ ap (nat_lt 65507) (message_length (number_seen after side) (carried d))
+    ∙ le-ltb 65507 (length (carried d)) few in
+    let R : List ℕ → Addr → Addr → List (List ℕ) = λ x a b. rebuilt d a.0 b.0 x ∷ [] in
+    record {
+      answer = ap (λ (b : Bool). first_by false b false) (sym room) ∙ first_is live side d way false w good (sym short);
+      bound = bound;
+      gone = s
+          ∙ ap (λ (x : List ℕ). R x (image_by way.of_source way.source) (image_by way.of_destination way.destination)) same
+          ∙ ap (λ (a : Addr). R (management_after after side d) a (image_by way.of_destination way.destination)) images.source
+          ∙ ap (R (management_after after side d) (called after side (source_of d))) images.destination;
+    }
+
+pub taken_basic : (live : World KeptSession) (side : Side) (d : Datagram) (way : Way) (old : Bindings) (payload : List ℕ) (table : Bindings) (sent : List (List ℕ)) → live.table ≡ old → payload ≡ carried d → IsWayOf live side d way → is_bad_snmp d ≡ false → is_empty way.of_source ≡ false → old.oids ≡ [] → length payload ≤ 65507
+    → table ≡ after_uses old (uses_until way.side (way.moment.0 + udp_hold) (way.source ∷ way.destination ∷ []))
+    → sent ≡ rebuilt d (image_by way.of_source way.source).0 (image_by way.of_destination way.destination).0 (oid_renamed (number_seen table way.side) [] payload) ∷ [] → IsTaken live side d Snmp None table sent
+taken_basic live side d way old payload table sent same p w good room =
+    let P : Bindings → List ℕ → Type 0 = λ x xs.
+    x.oids ≡ [] → length xs ≤ 65507 → table ≡ after_uses x (uses_until way.side (way.moment.0 + udp_hold) (way.source ∷ way.destination ∷ []))
+    → sent ≡ rebuilt d (image_by way.of_source way.source).0 (image_by way.of_destination way.destination).0 (oid_renamed (number_seen table way.side) [] xs) ∷ [] → IsTaken live side d Snmp None table sent in
+    subst (λ (x : Bindings). P x payload) same (subst (λ (xs : List ℕ). P live.table xs) (sym p) (message_basic live side d way table sent w good room))
+
+kind_some : {A B : Type 0} (o : Option (A × B)) → IsSome o → IsSome (option_map (λ m. m.0) o)
+kind_some None some = absurd (cc)
+kind_some (Some found) some = refl
+
+-- what the renaming in place makes of it
+pub basic_is : (image : ℕ → Option ℕ) (payload same : List ℕ) → IsSome (message payload) → payload ≡ same → renamed_message image (places_of same) same ≡ oid_renamed image [] payload
+basic_is image payload same some e = ap (λ (xs : List ℕ). renamed_message image (places_of xs) xs) (sym e) ∙ sym (no_rule image payload (kind_some (message payload) some))
+
+pub no_items : {A : Type 0} (xs : List A) → (length xs == 0) ≡ true → xs ≡ []
+no_items [] e = refl
+no_items (x ∷ xs) e = absurd (omega (arith, eqb-true (length (x ∷ xs)) 0 e))

@@ -1,12 +1,14 @@
 -- What becomes of a datagram by what it carries.
-use Rattle.std.specs.Prelude.{◌≡◌, ℕ, false, true, List, [], ◌∷◌, ◌++◌, Option}
+use Rattle.std.specs.Prelude.{◌≡◌, ◌≤◌, ℕ, length, false, true, List, ◌∷◌, ◌++◌, Option}
 use Rattle.gate_base.specs.declared.refusal.Refusal.{Refusal}
 use Rattle.gate_base.specs.declared.refusal.Refusal.TheVariants.{PoolEmpty}
 use Rattle.gate_base.specs.declared.side.Side.{Side}
 use Rattle.binding_table.specs.Bindings.{Bindings, in_pool, is_settled}
 use Rattle.ipv4_frames.specs.Ipv4.{Datagram}
 use Rattle.gate_base.specs.Tests.{first_that_holds}
+use Rattle.twice_translate.specs.Renamed.{CanGoOn, datagram_of}
 use Rattle.gate_world.specs.Frame.{Kind}
+use Rattle.gate_world.specs.Names.{carried}
 use Rattle.gate_world.specs.Step.{out_kind}
 use Rattle.gate_world.specs.Verdict.{kind_tests, late_tests, is_pool_empty, table_after}
 use Rattle.gate_world.specs.World.{World, source_of, destination_of}
@@ -29,3 +31,10 @@ pub record IsWayOf (live : World KeptSession) (side : Side) (d : Datagram) (way 
   pub crossings : IsWay live.table way
   pub outside : in_pool live.table side (source_of d) ≡ false
   pub settled : is_settled way.of_destination ≡ true
+
+-- the octets of a UDP datagram that can go on, and what it carries
+pub record IsUdpOf (octets payload : List ℕ) : Type 0 where
+  pub few : length octets ≤ 65535
+  pub can : CanGoOn octets
+  pub protocol : (datagram_of octets).protocol ≡ 17
+  pub same : payload ≡ carried (datagram_of octets)

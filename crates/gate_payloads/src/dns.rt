@@ -1,5 +1,5 @@
 // DNS messages over UDP (RFC 2694).
-ghost use Rattle.std.specs.Prelude.{◌≡◌, ◌≢◌, ◌+◌, ◌*◌, ◌^◌, ◌<◌, ◌≤◌, [], ◌∷◌, List, drop, length, option_map, unwrap_or, true, false, All, IfOk, IfSome, OnErr, is_some};
+ghost use Rattle.std.specs.Prelude.{◌≡◌, ◌≢◌, ◌+◌, ◌*◌, ◌^◌, ◌<◌, ◌≤◌, [], ◌∷◌, List, drop, length, option_map, unwrap_or, true, false, All, IfOk, IfSome, OnErr, is_some, is_none};
 ghost use Rattle.std.specs.List.{list_any};
 ghost use Rattle.gate_base.specs.Side.{other};
 ghost use Rattle.binding_table.specs.Bindings.{cross, in_pool, free, is_settled};
@@ -9,16 +9,17 @@ ghost use Rattle.dns_messages.specs.Reading.{message_at};
 ghost use Rattle.dns_messages.specs.Suits.{MessageSuits};
 ghost use Rattle.twice_translate.specs.Renamed.{CanGoOn, datagram_of, rebuilt};
 ghost use Rattle.gate_world.specs.Frame as kinds;
-ghost use Rattle.gate_world.specs.Names.{carried, named_in, is_unbound, has_unbound, reply_by};
+ghost use Rattle.gate_world.specs.Names.{carried, message_in, named_in, is_unbound, has_unbound, reply_by};
 ghost use Rattle.gate_world.specs.Verdict.{uses_until};
 ghost use Rattle.gate_world.specs.World.{World};
 ghost use Rattle.kept_world.specs.Kept.{KeptSession};
 ghost use Rattle.gate_payloads.specs.Ways.{IsWay, image_by};
 ghost use Rattle.gate_payloads.specs.Named.{named_uses};
-ghost use Rattle.gate_payloads.specs.Taken.{IsTaken, IsWayOf};
+ghost use Rattle.gate_payloads.specs.Taken.{IsTaken, IsUdpOf, IsWayOf};
 
 use crate::addresses::{Way, lacks_aliases, use_address};
-use crate::plain::UDP_HOLD;
+use crate::plain::{UDP_HOLD, take_plain};
+use crate::udp::UdpDatagram;
 use binding_table::{Crossing, Firsts, Table};
 use dns_gateway::{addresses_of, rename, reply};
 use dns_messages::{Message, read_message};
@@ -182,6 +183,20 @@ fn pass_names(
     put_reply(outbox, octets, source, destination, reply);
 }
 
+/// Takes a datagram whose message names nothing: only its header is renamed. It takes no memory.
+fn take_unnamed(table: &mut Table, way: &Way, octets: &[u8], outbox: &mut Outbox) -> Option<Refusal>
+    requires way { IsWay table.old way.now }
+    requires settled { is_settled way.now.of_destination ≡ true }
+    requires moment { way.now.moment.0 < 2 ^ 32 * 1000000000 }
+    requires empty { outbox.old ≡ [] }
+    requires few { length octets.now ≤ 65535 }
+    requires can { CanGoOn octets.now }
+    requires protocol { (datagram_of octets.now).protocol ≡ 17 }
+    ensures taken { (live : World KeptSession) → live.table ≡ table.old → IsWayOf live way.now.side (datagram_of octets.now) way.now → is_none (message_in (datagram_of octets.now)) ≡ false → named_in (message_in (datagram_of octets.now)) ≡ [] → IsTaken live way.now.side (datagram_of octets.now) (kinds.Dns) result table.new outbox.new }
+{
+    take_plain(table, way, UDP_HOLD, octets, outbox)
+}
+
 /// Takes a datagram with this message.
 fn take_message(
     alloc: Global,
@@ -189,8 +204,7 @@ fn take_message(
     table: &mut Table,
     firsts: &mut Firsts,
     way: &Way,
-    octets: &[u8],
-    payload: &[u8],
+    datagram: &UdpDatagram<'_>,
     outbox: &mut Outbox,
 ) -> Result<Option<Refusal>, OutOfMemory>
     requires way { IsWay table.old way.now }
@@ -198,16 +212,16 @@ fn take_message(
     requires settled { is_settled way.now.of_destination ≡ true }
     requires moment { way.now.moment.0 < 2 ^ 32 * 1000000000 }
     requires empty { outbox.old ≡ [] }
-    requires few { length octets.now ≤ 65535 }
-    requires can { CanGoOn octets.now }
-    requires payload { payload.now ≡ carried (datagram_of octets.now) }
-    requires protocol { (datagram_of octets.now).protocol ≡ 17 }
-    requires message { message_at payload.now ≡ Some message.now }
+    requires whole { IsUdpOf datagram.now.octets.now datagram.now.payload.now }
+    requires message { message_at datagram.now.payload.now ≡ Some message.now }
     requires suits { MessageSuits message.now }
-    ensures taken { (live : World KeptSession) → live.table ≡ table.old → IsWayOf live way.now.side (datagram_of octets.now) way.now → IfOk result (λ r. IsTaken live way.now.side (datagram_of octets.now) (kinds.Dns) r table.new outbox.new) }
+    ensures taken { (live : World KeptSession) → live.table ≡ table.old → IsWayOf live way.now.side (datagram_of datagram.now.octets.now) way.now → IfOk result (λ r. IsTaken live way.now.side (datagram_of datagram.now.octets.now) (kinds.Dns) r table.new outbox.new) }
     ensures memory { OnErr result ((table.new ≡ table.old) × (outbox.new ≡ [])) }
 {
     let named = named_in(alloc, message)?;
+    if named.is_empty() {
+        return Ok(take_unnamed(table, way, datagram.octets, outbox));
+    }
     if has_unbound(table, way.side, &named) {
         return Ok(Some(Refusal::DnsUnbound));
     }
@@ -215,20 +229,27 @@ fn take_message(
     if lacks_aliases(table, way.side, &addresses, firsts) {
         return Ok(Some(Refusal::PoolEmpty));
     }
-    let reply = planned_reply(alloc, table, way.side, message, &addresses, payload, firsts)?;
-    pass_names(table, way, &named, octets, &reply, outbox);
+    let reply = planned_reply(
+        alloc,
+        table,
+        way.side,
+        message,
+        &addresses,
+        datagram.payload,
+        firsts,
+    )?;
+    pass_names(table, way, &named, datagram.octets, &reply, outbox);
     Ok(None)
 }
 
 /// Takes a datagram with a DNS message.
 #[inline(never)]
-pub fn take_names(
+pub fn take_dns(
     alloc: Global,
     table: &mut Table,
     firsts: &mut Firsts,
     way: &Way,
-    octets: &[u8],
-    payload: &[u8],
+    datagram: &UdpDatagram<'_>,
     outbox: &mut Outbox,
 ) -> Result<Option<Refusal>, OutOfMemory>
     requires way { IsWay table.old way.now }
@@ -236,15 +257,12 @@ pub fn take_names(
     requires settled { is_settled way.now.of_destination ≡ true }
     requires moment { way.now.moment.0 < 2 ^ 32 * 1000000000 }
     requires empty { outbox.old ≡ [] }
-    requires few { length octets.now ≤ 65535 }
-    requires can { CanGoOn octets.now }
-    requires payload { payload.now ≡ drop 8 (datagram_of octets.now).payload }
-    requires protocol { (datagram_of octets.now).protocol ≡ 17 }
-    ensures taken { (live : World KeptSession) → live.table ≡ table.old → IsWayOf live way.now.side (datagram_of octets.now) way.now → IfOk result (λ r. IsTaken live way.now.side (datagram_of octets.now) (kinds.Dns) r table.new outbox.new) }
+    requires whole { IsUdpOf datagram.now.octets.now datagram.now.payload.now }
+    ensures taken { (live : World KeptSession) → live.table ≡ table.old → IsWayOf live way.now.side (datagram_of datagram.now.octets.now) way.now → IfOk result (λ r. IsTaken live way.now.side (datagram_of datagram.now.octets.now) (kinds.Dns) r table.new outbox.new) }
     ensures memory { OnErr result ((table.new ≡ table.old) × (outbox.new ≡ [])) }
 {
-    match message_in(alloc, payload)? {
+    match message_in(alloc, datagram.payload)? {
         None => Ok(Some(Refusal::BadDns)),
-        Some(message) => take_message(alloc, &message, table, firsts, way, octets, payload, outbox),
+        Some(message) => take_message(alloc, &message, table, firsts, way, datagram, outbox),
     }
 }

@@ -2,15 +2,17 @@
 #![tactic(auto)]
 
 mod addresses;
+mod dns;
 mod errors;
-mod management;
-mod names;
 mod plain;
+mod snmp;
 mod tracked;
+mod udp;
 
 pub use addresses::{Way, address_refusal, lacks_alias};
+pub use dns::take_dns;
 pub use errors::take_error;
-pub use management::take_management;
-pub use names::take_names;
 pub use plain::{ICMP_HOLD, UDP_HOLD, pass_plain, take_plain};
+pub use snmp::take_snmp;
 pub use tracked::{TrackedSession, key_of};
+pub use udp::UdpDatagram;

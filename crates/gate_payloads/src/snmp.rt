@@ -1,27 +1,45 @@
 // SNMP messages (RFC 2962).
-ghost use Rattle.std.specs.Prelude.{◌≡◌, ◌*◌, ◌^◌, ◌<◌, ◌≤◌, true, [], take, drop, length, vec_capacity, IsSome};
+ghost use Rattle.std.specs.Prelude.{◌≡◌, ◌+◌, ◌*◌, ◌^◌, ◌<◌, ◌≤◌, nat_lt, true, [], ◌∷◌, length, IsSome};
 ghost use Rattle.binding_table.specs.Bindings.{is_settled};
-ghost use Rattle.twice_translate.specs.Renamed.{CanGoOn, datagram_of};
+ghost use Rattle.binding_table.specs.Plan.{after_uses};
+ghost use Rattle.twice_translate.specs.Renamed.{datagram_of, rebuilt};
+ghost use Rattle.gate_base.specs.Tests.{first_that_holds};
+ghost use Rattle.gate_base.specs.declared.refusal.Refusal.TheVariants.{SnmpTooLong};
 ghost use Rattle.gate_world.specs.Frame as kinds;
+ghost use Rattle.gate_world.specs.Management.{number_seen};
+ghost use Rattle.gate_world.specs.Verdict.{uses_until, udp_hold};
 ghost use Rattle.gate_world.specs.World.{World};
 ghost use Rattle.kept_world.specs.Kept.{KeptSession};
-ghost use Rattle.gate_base.specs.Rules.{AreRules};
-ghost use Rattle.snmp_gateway.specs.Message.{kind_of};
+ghost use Rattle.snmp_gateway.specs.Message.{message};
 ghost use Rattle.snmp_oids.specs.Elements.{oid_renamed};
 ghost use Rattle.gate_payloads.specs.Planned.{number_planned};
-ghost use Rattle.gate_payloads.specs.Ways.{IsWay};
-ghost use Rattle.gate_payloads.specs.Taken.{IsTaken, IsWayOf};
+ghost use Rattle.gate_payloads.specs.Ways.{IsWay, image_by, table_by, out_by};
+ghost use Rattle.gate_payloads.specs.Taken.{IsTaken, IsUdpOf, IsWayOf};
 
 use crate::addresses::{Way, lacks_alias};
 use crate::plain::UDP_HOLD;
+use crate::udp::UdpDatagram;
 use binding_table::Table;
-use gate_base::{Addr, Refusal};
-use gate_outbox::Outbox;
+use gate_base::{Addr, Refusal, Side};
+use gate_outbox::{Outbox, Scratch};
 use snmp_gateway::{Lookup, check};
-use snmp_oids::rename_into;
 
-/// The most octets that a message may have in a datagram.
-const LONGEST: usize = 65_507;
+/// What addresses of a realm are called in the other.
+#[derive(Drop)]
+struct Seen<'a> {
+    table: &'a Table,
+    side: Side,
+}
+
+impl<'a> Lookup for Seen<'a> {
+    ghost use Rattle.gate_world.specs.Management.{number_seen};
+
+    ghost image_of = { λ it address. number_seen it.table.now it.side address };
+
+    fn image(&self, address: Addr) -> Option<Addr> {
+        self.table.seen(self.side, address)
+    }
+}
 
 /// What addresses of the realm are called in the other, once both of a header are used.
 #[derive(Drop)]
@@ -44,66 +62,89 @@ impl<'a> Lookup for Planned<'a> {
     }
 }
 
-/// Writes the message that goes on into an empty room, and answers its length: at most four times as many octets as came, since an
-/// arc of one octet may become one of two, and lengths with it.
-fn rename_message(table: &Table, way: &Way, payload: &[u8], room: &mut Vec<u8>) -> usize
-    requires message { IsSome (kind_of payload.now) }
-    requires rules { AreRules table.now.oids }
-    requires short { length payload.now ≤ 65507 }
-    requires room { room.old.items ≡ [] }
-    requires places { 262144 ≤ vec_capacity room.old }
-    ensures size { result ≡ length (oid_renamed (number_planned table.now way.now) table.now.oids payload.now) }
-    ensures within { result ≤ length room.new.items }
-    ensures written { take result room.new.items ≡ oid_renamed (number_planned table.now way.now) table.now.oids payload.now }
-    ensures places { vec_capacity room.old ≤ vec_capacity room.new }
+/// The datagram passes where no rule names an address in an object identifier: its addresses are used, and the others in its
+/// message are renamed in place.
+fn pass_basic(table: &mut Table, way: &Way, datagram: &UdpDatagram<'_>, outbox: &mut Outbox)
+    requires way { IsWay table.old way.now }
+    requires settled { is_settled way.now.of_destination ≡ true }
+    requires moment { way.now.moment.0 < 2 ^ 32 * 1000000000 }
+    requires empty { outbox.old ≡ [] }
+    requires whole { IsUdpOf datagram.now.octets.now datagram.now.payload.now }
+    requires message { IsSome (message datagram.now.payload.now) }
+    ensures table { table.new ≡ after_uses table.old (uses_until way.now.side (way.now.moment.0 + udp_hold) (way.now.source ∷ way.now.destination ∷ [])) }
+    ensures out { outbox.new ≡ rebuilt (datagram_of datagram.now.octets.now) (image_by way.now.of_source way.now.source).0 (image_by way.now.of_destination way.now.destination).0 (oid_renamed (number_seen table.new way.now.side) [] datagram.now.payload.now) ∷ [] }
 {
-    let _fits = room.resize(4 * payload.len(), 0);
-    rename_into(payload, table.oids(), &Planned { table, way }, room)
+    way.use_both(table, UDP_HOLD);
+    let seen = Seen {
+        table,
+        side: way.side,
+    };
+    outbox.put_snmp(
+        datagram.octets,
+        way.source_image(),
+        way.destination_image(),
+        &seen,
+    );
 }
 
-/// Takes a datagram with an SNMP message. The room is for the message that goes on; it is empty before and afterwards.
-#[inline(never)]
-pub fn take_management(
+/// The datagram passes with the message that the rules make, unless that is too long. It is judged before anything is bound.
+fn pass_by_rules(
     table: &mut Table,
     way: &Way,
-    octets: &[u8],
-    payload: &[u8],
-    room: &mut Vec<u8>,
+    datagram: &UdpDatagram<'_>,
+    scratch: &mut Scratch,
     outbox: &mut Outbox,
 ) -> Option<Refusal>
     requires way { IsWay table.old way.now }
     requires settled { is_settled way.now.of_destination ≡ true }
     requires moment { way.now.moment.0 < 2 ^ 32 * 1000000000 }
     requires empty { outbox.old ≡ [] }
-    requires few { length octets.now ≤ 65535 }
-    requires can { CanGoOn octets.now }
-    requires payload { payload.now ≡ drop 8 (datagram_of octets.now).payload }
-    requires protocol { (datagram_of octets.now).protocol ≡ 17 }
-    requires room { room.old.items ≡ [] }
-    requires places { 262144 ≤ vec_capacity room.old }
-    ensures taken { (live : World KeptSession) → live.table ≡ table.old → IsWayOf live way.now.side (datagram_of octets.now) way.now → IsTaken live way.now.side (datagram_of octets.now) (kinds.Snmp) result table.new outbox.new }
-    ensures room { room.new.items ≡ [] }
-    ensures places { vec_capacity room.old ≤ vec_capacity room.new }
+    requires whole { IsUdpOf datagram.now.octets.now datagram.now.payload.now }
+    requires message { IsSome (message datagram.now.payload.now) }
+    ensures refusal { result ≡ first_that_holds ((nat_lt 65507 (length (oid_renamed (number_planned table.old way.now) table.old.oids datagram.now.payload.now)), SnmpTooLong) ∷ []) }
+    ensures table { table.new ≡ table_by result (after_uses table.old (uses_until way.now.side (way.now.moment.0 + udp_hold) (way.now.source ∷ way.now.destination ∷ []))) table.old }
+    ensures out { outbox.new ≡ out_by result (rebuilt (datagram_of datagram.now.octets.now) (image_by way.now.of_source way.now.source).0 (image_by way.now.of_destination way.now.destination).0 (oid_renamed (number_planned table.old way.now) table.old.oids datagram.now.payload.now) ∷ []) }
 {
-    if check(payload).is_none() {
+    let fits = outbox.put_snmp_by_rules(
+        datagram.octets,
+        way.source_image(),
+        way.destination_image(),
+        table.oids(),
+        &Planned { table, way },
+        scratch,
+    );
+    if !fits {
+        return Some(Refusal::SnmpTooLong);
+    }
+    way.use_both(table, UDP_HOLD);
+    None
+}
+
+/// Takes a datagram with an SNMP message.
+#[inline(never)]
+pub fn take_snmp(
+    table: &mut Table,
+    way: &Way,
+    datagram: &UdpDatagram<'_>,
+    scratch: &mut Scratch,
+    outbox: &mut Outbox,
+) -> Option<Refusal>
+    requires way { IsWay table.old way.now }
+    requires settled { is_settled way.now.of_destination ≡ true }
+    requires moment { way.now.moment.0 < 2 ^ 32 * 1000000000 }
+    requires empty { outbox.old ≡ [] }
+    requires whole { IsUdpOf datagram.now.octets.now datagram.now.payload.now }
+    ensures taken { (live : World KeptSession) → live.table ≡ table.old → IsWayOf live way.now.side (datagram_of datagram.now.octets.now) way.now → IsTaken live way.now.side (datagram_of datagram.now.octets.now) (kinds.Snmp) result table.new outbox.new }
+{
+    if check(datagram.payload).is_none() {
         return Some(Refusal::BadSnmp);
     }
     if lacks_alias(way) {
         return Some(Refusal::PoolEmpty);
     }
-    let size = rename_message(table, way, payload, room);
-    let refusal = if size > LONGEST {
-        Some(Refusal::SnmpTooLong)
-    } else {
-        way.use_both(table, UDP_HOLD);
-        outbox.put_rebuilt(
-            octets,
-            way.source_image(),
-            way.destination_image(),
-            &room[..size],
-        );
-        None
-    };
-    room.clear();
-    refusal
+    if !table.oids().is_empty() {
+        return pass_by_rules(table, way, datagram, scratch, outbox);
+    }
+    pass_basic(table, way, datagram, outbox);
+    None
 }

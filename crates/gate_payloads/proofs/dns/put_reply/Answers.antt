@@ -1,6 +1,6 @@
 use Rattle.std.proofs.Common.{◌∷◌, [], List, ℕ, ap, ◌∙◌}
-use Rattle.gate_payloads.proofs.NamesTaken.{rebuilt_same}
-use Rattle.gate_payloads.proofs.names.put_reply.Goals as goal
+use Rattle.gate_payloads.proofs.DnsTaken.{rebuilt_same}
+use Rattle.gate_payloads.proofs.dns.put_reply.Goals as goal
 
 pub returns-in-None : goal.returns-in-None
 returns-in-None c =

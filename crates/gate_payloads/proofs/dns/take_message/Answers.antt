@@ -1,15 +1,16 @@
-use Rattle.std.proofs.Common.{◌≡◌, ◌∷◌, List, ℕ, Vec, Global, Some, option_map, sym, ap, subst, ◌∙◌}
-use Rattle.std.specs.Prelude.{unwrap_or, nat_lt, drop}
+use Rattle.std.proofs.Common.{◌≡◌, ◌∷◌, List, ℕ, Vec, Global, Some, option_map, sym, ap, subst, ◌∙◌, arith}
+use Rattle.std.specs.Prelude.{unwrap_or, nat_lt, drop, is_none}
 use Rattle.gate_base.specs.Side.{other}
 use Rattle.gate_base.specs.declared.address.Addr.{Addr}
 use Rattle.binding_table.specs.Bindings.{free, is_settled}
 use Rattle.binding_table.specs.Plan.{after_uses, images_after, needed}
 use Rattle.dns_messages.specs.Reading.{message_at}
 use Rattle.twice_translate.specs.Renamed.{datagram_of}
-use Rattle.gate_world.specs.Names.{carried, has_unbound, reply_by}
+use Rattle.gate_world.specs.Names.{carried, message_in, named_in, has_unbound, reply_by}
 use Rattle.gate_payloads.specs.Named.{named_uses}
-use Rattle.gate_payloads.proofs.NamesTaken.{all_bound, all_used, short_payload, names_passed}
-use Rattle.gate_payloads.proofs.names.take_message.Goals as goal
+use Rattle.gate_payloads.proofs.DnsTaken.{all_bound, all_used, short_payload, names_passed}
+use Rattle.gate_payloads.proofs.SnmpTaken.{no_items}
+use Rattle.gate_payloads.proofs.dns.take_message.Goals as goal
 
 pub planned_reply-requires-clause-bound : goal.planned_reply-requires-clause-bound
 planned_reply-requires-clause-bound c =
@@ -21,13 +22,13 @@ planned_reply-requires-clause-bound c =
     all_bound table way.side way.source way.destination named c.deref-4.result.now addresses c.requires.outside (ap is_settled (sym c.requires.way.destination) ∙ c.requires.settled) none
 
 pub planned_reply-requires-clause-few : goal.planned_reply-requires-clause-few
-planned_reply-requires-clause-few c = short_payload c.args.octets.now c.args.payload.now c.requires.few c.requires.payload
+planned_reply-requires-clause-few c = short_payload c.args.datagram.now.octets.now c.args.datagram.now.payload.now c.requires.whole.few c.requires.whole.same
 
 pub returns-clause-taken : goal.returns-clause-taken
 returns-clause-taken c = λ live same w.
     let table = c.args.table.now in
     let way = c.args.way.now in
-    let d = datagram_of c.args.octets.now in
+    let d = datagram_of c.args.datagram.now.octets.now in
     let m = c.args.message.now in
     let named = c.in_ok-named.named.items in
     let uses = named_uses way.side way.moment.0 way.source way.destination named in
@@ -36,9 +37,16 @@ returns-clause-taken c = λ live same w.
     let room = ap (λ (xs : List Addr). nat_lt (free table (other way.side)) (needed table way.side xs)) (sym (c.deref-3.ensures.value ∙ addresses)) ∙ sym c.lacks_aliases.ensures ∙ c.if-lacks_aliases.false in
     let octets : List ℕ → List ℕ = λ payload. unwrap_or (option_map (λ (v : Vec ℕ Global). v.items) c.in_ok-reply.reply) payload in
     let P : List ℕ → Type 0 = λ payload. octets payload ≡ reply_by (drop 2 (images_after table uses)) payload (Some m) in
-    let message = ap message_at (sym c.requires.payload) ∙ c.requires.message in
-    let answer = subst P c.requires.payload (c.in_ok-reply.ensures.is uses (all_used way.side way.moment.0 way.source way.destination named c.deref-4.result.now (c.deref-4.ensures.value ∙ addresses))) in
+    let message = ap message_at (sym c.requires.whole.same) ∙ c.requires.message in
+    let answer = subst P c.requires.whole.same (c.in_ok-reply.ensures.is uses (all_used way.side way.moment.0 way.source way.destination named c.deref-4.result.now (c.deref-4.ensures.value ∙ addresses))) in
     names_passed live way.side d m named way table c.pass_names.new.table (octets (carried d)) c.pass_names.new.outbox same w message c.in_ok-named.ensures none room
     (c.pass_names.ensures.table ∙ ap (λ (xs : List Addr). after_uses table (named_uses way.side way.moment.0 way.source way.destination xs)) c.deref-5.ensures.value)
     answer
     c.pass_names.ensures.out
+
+pub returns-then-is_empty-clause-taken : goal.returns-then-is_empty-clause-taken
+returns-then-is_empty-clause-taken c = λ live same w.
+    let d = datagram_of c.args.datagram.now.octets.now in
+    let message : message_in d ≡ Some c.args.message.now = ap message_at (sym c.requires.whole.same) ∙ c.requires.message in
+    let none = no_items c.in_ok-named.named.items (grind (arith, c.in_ok-named.named.ok, c.is_empty.ensures, c.if-is_empty.true)) in
+    c.take_unnamed.ensures.taken live same w (ap is_none message) (ap named_in message ∙ sym c.in_ok-named.ensures ∙ none)

@@ -1,7 +1,7 @@
 use Rattle.std.proofs.Common.{◌≡◌, take}
 use Rattle.std.specs.List.{fold}
 use Rattle.binding_table.specs.Plan.{used}
-use Rattle.gate_payloads.proofs.names.use_all.Given as goal
+use Rattle.gate_payloads.proofs.dns.use_all.Given as goal
 
 -- those so far are used
 abbrev pub invariant-loop-address : goal.invariant-loop-address

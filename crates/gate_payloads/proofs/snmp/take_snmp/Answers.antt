@@ -1,21 +1,38 @@
-use Rattle.std.proofs.Common.{◌+◌, ◌++◌, [], ◌∷◌, sym, ap, ◌∙◌, ℕ, List, take, drop, nat_lt, length, take_append}
-use Rattle.gate_base.specs.declared.address.Addr.{Addr}
-use Rattle.gate_base.specs.declared.rule.OidRule.{OidRule}
-use Rattle.binding_table.specs.Bindings.{Bindings}
-use Rattle.binding_table.specs.Plan.{after_uses}
-use Rattle.snmp_oids.specs.Elements.{oid_renamed}
-use Rattle.twice_translate.specs.Renamed.{datagram_of, rebuilt}
-use Rattle.gate_world.specs.Names.{carried}
-use Rattle.gate_world.specs.Verdict.{uses_until, udp_hold}
-use Rattle.gate_payloads.specs.Planned.{number_planned}
-use Rattle.gate_payloads.specs.Ways.{image_by}
-use Rattle.gate_payloads.proofs.ManagementTaken.{good_is, message_empty, message_long, message_passes}
-use Rattle.gate_payloads.proofs.management.take_management.Goals as goal
+use Rattle.std.proofs.Common.{◌≡◌, ◌∙◌, true, sym, arith}
+use Rattle.twice_translate.specs.Renamed.{datagram_of}
+use Rattle.gate_payloads.proofs.DnsTaken.{short_payload}
+use Rattle.gate_payloads.proofs.SnmpTaken.{good_is, message_empty, taken_by_rules, taken_basic, no_items}
+use Rattle.gate_payloads.proofs.snmp.take_snmp.Goals as goal
 
 pub returns-then-lacks_alias : goal.returns-then-lacks_alias
 returns-then-lacks_alias c = record {
   taken = λ live t w.
-      let d = datagram_of c.args.octets.now in
-      let good = good_is d c.args.payload.now c.check.result c.is_none.result c.requires.payload c.check.ensures c.is_none.ensures c.if-is_none.false in
+      let d = datagram_of c.args.datagram.now.octets.now in
+      let good = good_is d c.args.datagram.now.payload.now c.check.result c.is_none.result c.requires.whole.same c.check.ensures c.is_none.ensures c.if-is_none.false in
       message_empty live c.args.way.now.side d c.args.way.now c.args.table.now c.args.outbox.now w good (sym c.lacks_alias.ensures ∙ c.if-lacks_alias.true) (sym t) c.requires.empty;
+}
+
+pub returns-then-not-is_empty : goal.returns-then-not-is_empty
+returns-then-not-is_empty c = record {
+  taken = λ live t w.
+      let way = c.args.way.now in
+      let d = datagram_of c.args.datagram.now.octets.now in
+      let payload = c.args.datagram.now.payload.now in
+      let good = good_is d payload c.check.result c.is_none.result c.requires.whole.same c.check.ensures c.is_none.ensures c.if-is_none.false in
+      taken_by_rules live way.side d way c.args.table.now payload c.pass_by_rules.result c.pass_by_rules.new.table c.pass_by_rules.new.outbox t c.requires.whole.same w good (sym c.lacks_alias.ensures ∙ c.if-lacks_alias.false)
+      c.pass_by_rules.ensures.refusal c.pass_by_rules.ensures.table c.pass_by_rules.ensures.out;
+}
+
+pub returns : goal.returns
+returns c = record {
+  taken = λ live t w.
+      let way = c.args.way.now in
+      let octets = c.args.datagram.now.octets.now in
+      let d = datagram_of octets in
+      let payload = c.args.datagram.now.payload.now in
+      let good = good_is d payload c.check.result c.is_none.result c.requires.whole.same c.check.ensures c.is_none.ensures c.if-is_none.false in
+      let empty : c.is_empty.result ≡ true = grind (arith, c.if-not-is_empty.false) in
+      let none = sym c.oids.ensures.value ∙ no_items c.oids.result.now (sym c.is_empty.ensures ∙ empty) in
+      taken_basic live way.side d way c.args.table.now payload c.pass_basic.new.table c.pass_basic.new.outbox t c.requires.whole.same w good (sym c.lacks_alias.ensures ∙ c.if-lacks_alias.false) none
+      (short_payload octets payload c.requires.whole.few c.requires.whole.same) c.pass_basic.ensures.table c.pass_basic.ensures.out;
 }

@@ -1,0 +1,81 @@
+use Rattle.std.proofs.Common.{◌≡◌, ◌∙◌, ap, arith, subst, sym}
+use Rattle.gate_base.specs.Events.{event_of}
+use Rattle.gate_base.specs.Tests.{first_that_holds}
+use Rattle.gate_settings.specs.declared.settings.Settings.{Settings}
+use Rattle.gate_world.specs.Frame.{datagram_in, kind_of}
+use Rattle.gate_world.specs.Ranges.{InRange}
+use Rattle.gate_world.specs.Step.{next}
+use Rattle.gate_world.specs.Verdict.{tests}
+use Rattle.gate_world.specs.World.{World, at_moment}
+use Rattle.gate_world.proofs.RangesKept.{next_range}
+use Rattle.kept_world.specs.Kept.{KeptSession, kept_rules}
+use Rattle.gate_core.specs.Done.{IsPassed}
+use Rattle.gate_core.specs.Gates.{Gateway, world_in}
+use Rattle.gate_core.specs.Memory.{MayWant}
+use Rattle.gate_core.proofs.Stepping.{stepped, wanted, live_range}
+use Rattle.gate_core.proofs.SteppedSessions.{on_err}
+use Rattle.gate_core.proofs.gate.Gate.step.Goals as goal
+
+pub invariant_of-self : goal.invariant_of-self
+invariant_of-self c =
+    let e = event_of c.args.event.now in
+    let w = c.args.self.now.world in
+    let known : world_in c.self.inside.known ≡ w = ap (λ g. g.world) (c.self.view_is ∙ c.spread_keys.ensures) in
+    let live : world_in c.expire.new.self ≡ at_moment w e.moment = c.expire.ensures.live ∙ ap (λ x. at_moment x e.moment) known in
+    let range = subst (λ (x : World KeptSession). InRange x) known c.self.invariant.range in
+    record {
+      range = subst (λ (x : World KeptSession). InRange x) (sym (c.in_err-refusal.ensures.same ∙ live)) (live_range w e.moment range);
+      none_gone = c.expire.ensures.empty;
+      room = omega (arith, c.expire.ensures.capacity, c.self.invariant.room);
+    }
+
+pub invariant_of-self-2 : goal.invariant_of-self-2
+invariant_of-self-2 c =
+    let e = event_of c.args.event.now in
+    let w = c.args.self.now.world in
+    let known : world_in c.self.inside.known ≡ w = ap (λ g. g.world) (c.self.view_is ∙ c.spread_keys.ensures) in
+    let live : world_in c.expire.new.self ≡ at_moment w e.moment = c.expire.ensures.live ∙ ap (λ x. at_moment x e.moment) known in
+    let s = stepped w e c.in_ok-refusal.refusal (world_in c.take_frame.new.self) c.take_frame.new.outbox (subst (λ x. IsPassed (first_that_holds (tests kept_rules x e)) (kind_of (datagram_in e)) x e.side (datagram_in e) c.in_ok-refusal.refusal (world_in c.take_frame.new.self) c.take_frame.new.outbox) live c.in_ok-refusal.ensures) in
+    let range = subst (λ (x : World KeptSession). InRange x) known c.self.invariant.range in
+    record {
+      range = subst (λ (x : World KeptSession). InRange x) (sym s.next_is) (next_range kept_rules w e range);
+      none_gone = c.expire.ensures.empty;
+      room = omega (arith, c.expire.ensures.capacity, c.self.invariant.room);
+    }
+
+pub returns-clause-verdict : goal.returns-clause-verdict
+returns-clause-verdict c =
+    let e = event_of c.args.event.now in
+    let w = c.args.self.now.world in
+    let known : world_in c.self.inside.known ≡ w = ap (λ g. g.world) (c.self.view_is ∙ c.spread_keys.ensures) in
+    let live : world_in c.expire.new.self ≡ at_moment w e.moment = c.expire.ensures.live ∙ ap (λ x. at_moment x e.moment) known in
+    let s = stepped w e c.in_ok-refusal.refusal (world_in c.take_frame.new.self) c.take_frame.new.outbox (subst (λ x. IsPassed (first_that_holds (tests kept_rules x e)) (kind_of (datagram_in e)) x e.side (datagram_in e) c.in_ok-refusal.refusal (world_in c.take_frame.new.self) c.take_frame.new.outbox) live c.in_ok-refusal.ensures) in
+    c.verdict_of.ensures ∙ s.verdict_is
+
+pub returns-clause-next : goal.returns-clause-next
+returns-clause-next c =
+    let e = event_of c.args.event.now in
+    let w = c.args.self.now.world in
+    let known : world_in c.self.inside.known ≡ w = ap (λ g. g.world) (c.self.view_is ∙ c.spread_keys.ensures) in
+    let live : world_in c.expire.new.self ≡ at_moment w e.moment = c.expire.ensures.live ∙ ap (λ x. at_moment x e.moment) known in
+    let s = stepped w e c.in_ok-refusal.refusal (world_in c.take_frame.new.self) c.take_frame.new.outbox (subst (λ x. IsPassed (first_that_holds (tests kept_rules x e)) (kind_of (datagram_in e)) x e.side (datagram_in e) c.in_ok-refusal.refusal (world_in c.take_frame.new.self) c.take_frame.new.outbox) live c.in_ok-refusal.ensures) in
+    let settings : c.self.inside.settings ≡ c.args.self.now.settings = ap (λ g. g.settings) (c.self.view_is ∙ c.spread_keys.ensures) in
+    ap (λ (x : World KeptSession). let g : Gateway = record { settings = c.self.inside.settings; world = x } in g) s.next_is
+    ∙ ap (λ (x : Settings). let g : Gateway = record { settings = x; world = next kept_rules w e } in g) settings
+
+pub returns-clause-out : goal.returns-clause-out
+returns-clause-out c =
+    let e = event_of c.args.event.now in
+    let w = c.args.self.now.world in
+    let known : world_in c.self.inside.known ≡ w = ap (λ g. g.world) (c.self.view_is ∙ c.spread_keys.ensures) in
+    let live : world_in c.expire.new.self ≡ at_moment w e.moment = c.expire.ensures.live ∙ ap (λ x. at_moment x e.moment) known in
+    let s = stepped w e c.in_ok-refusal.refusal (world_in c.take_frame.new.self) c.take_frame.new.outbox (subst (λ x. IsPassed (first_that_holds (tests kept_rules x e)) (kind_of (datagram_in e)) x e.side (datagram_in e) c.in_ok-refusal.refusal (world_in c.take_frame.new.self) c.take_frame.new.outbox) live c.in_ok-refusal.ensures) in
+    s.out_is
+
+pub returns-in_err-refusal-clause-wants : goal.returns-in_err-refusal-clause-wants
+returns-in_err-refusal-clause-wants c =
+    let e = event_of c.args.event.now in
+    let w = c.args.self.now.world in
+    let known : world_in c.self.inside.known ≡ w = ap (λ g. g.world) (c.self.view_is ∙ c.spread_keys.ensures) in
+    let live : world_in c.expire.new.self ≡ at_moment w e.moment = c.expire.ensures.live ∙ ap (λ x. at_moment x e.moment) known in
+    on_err c.from_residual.result (subst (λ (x : World KeptSession). MayWant x e) live (wanted _ e _ _ c.in_err-refusal.ensures))

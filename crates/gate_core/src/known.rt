@@ -1,0 +1,225 @@
+// What is known from event to event, and what a frame changes of it.
+ghost use Rattle.std.specs.Prelude.{◌≡◌, ◌*◌, ◌^◌, ◌<◌, ◌≤◌, ◌||◌, false, vec_capacity, ◌==◌, [], length, count_by, IfOk, OnErr};
+ghost use Rattle.twice_translate.specs.Renamed.{CanGoOn, datagram_of};
+ghost use Rattle.gate_world.specs.Frame as kinds;
+ghost use Rattle.gate_world.specs.World.{opening_world, at_moment};
+ghost use Rattle.gate_payloads.specs.Taken.{IsWayOf, IsTaken, IsUdpOf};
+ghost use Rattle.gate_frames.specs.Frames.{IsJudged};
+ghost use Rattle.gate_core.specs.Gates.{world_in};
+ghost use Rattle.gate_core.specs.Done.{IsDone};
+ghost use Rattle.gate_core.specs.Memory.{early_tests};
+ghost use Rattle.kept_world.specs.Kept.{kept_rules};
+ghost use Rattle.gate_base.specs.Events.{event_of};
+ghost use Rattle.gate_settings.specs.Sound.{IsSound};
+ghost use Rattle.gate_settings.specs.Forms.{HasForms};
+ghost use Rattle.udp_icmp.specs.Icmp.{icmp_fields_of};
+ghost use Rattle.udp_icmp.specs.Udp.{udp_fields_of};
+ghost use Rattle.gate_base.specs.Tests.{first_that_holds};
+ghost use Rattle.gate_world.specs.Frame.{datagram_in, kind_of};
+ghost use Rattle.gate_world.specs.Verdict.{tests, world_tests, address_tests};
+ghost use Rattle.tcp_tracker.specs.Connections.{is_tracked};
+
+use binding_table::{Firsts, Table};
+use expiring_table::Seed;
+use gate_base::{DNS_PORT, Event, Moment, OutOfMemory, Refusal, SNMP_PORT, Side, TRAP_PORT};
+use gate_frames::{Content, Judged, judge};
+use gate_outbox::{Outbox, Scratch, Segment};
+use gate_payloads::{
+    ICMP_HOLD, TrackedSession, UDP_HOLD, UdpDatagram, Way, address_refusal, take_dns, take_error,
+    take_plain, take_snmp,
+};
+use gate_settings::Settings;
+use session_table::SessionTable;
+use std::alloc::Global;
+use udp_icmp::{IcmpView, UdpView};
+
+/// What is known: the clock, the bindings, the connections with their sessions, and the greatest number of changed lines that
+/// ever waited; and the memory and the rooms to work with.
+#[derive(Drop)]
+pub struct Known {
+    pub alloc: Global,
+    pub clock: Moment,
+    pub table: Table,
+    pub connections: SessionTable<TrackedSession>,
+    pub pending: u64,
+    pub scratch: Scratch,
+    pub firsts: Firsts,
+}
+
+impl Known {
+    /// Nothing has come.
+    pub fn make(alloc: Global, settings: &Settings, seed: Seed) -> Result<Known, OutOfMemory>
+        requires sound { IsSound settings.now }
+        requires forms { HasForms settings.now }
+        ensures { IfOk result (λ known. world_in known ≡ opening_world settings.now) }
+    {
+        Ok(Known {
+            alloc,
+            clock: Moment(0),
+            table: Table::make(alloc, settings, seed)?,
+            connections: SessionTable::make(alloc, seed)?,
+            pending: 0,
+            scratch: Scratch::make(alloc)?,
+            firsts: Firsts::make(alloc, seed)?,
+        })
+    }
+
+    /// Spreads the keys of the tables by another seed.
+    pub fn reseed(&mut self, seed: Seed)
+        ensures { self.new ≡ self.old }
+    {
+        self.table.reseed(seed);
+        self.connections.reseed(seed);
+        self.firsts.reseed(seed);
+    }
+
+    /// Sets the clock: bindings and connections end. The list has room for the slots of their sessions.
+    pub fn expire(&mut self, moment: Moment, gone: &mut Vec<usize>)
+        requires empty { gone.old.items ≡ [] }
+        requires room { count_by is_tracked self.old.connections ≤ vec_capacity gone.old }
+        ensures live { world_in self.new ≡ at_moment (world_in self.old) moment.0 }
+        ensures clock { self.new.clock ≡ moment }
+        ensures empty { gone.new.items ≡ [] }
+        ensures capacity { vec_capacity gone.new ≡ vec_capacity gone.old }
+    {
+        self.clock = moment;
+        self.table.expire(moment);
+        self.connections.expire(moment, gone);
+    }
+
+    /// Takes the frame of an event of this moment.
+    pub fn take_frame(
+        &mut self,
+        event: &Event<'_>,
+        outbox: &mut Outbox,
+    ) -> Result<Option<Refusal>, OutOfMemory>
+        requires clock { self.old.clock ≡ event.now.moment }
+        requires moment { event.now.moment.0 < 2 ^ 32 * 1000000000 }
+        requires empty { outbox.old ≡ [] }
+        ensures { IsDone (first_that_holds (tests kept_rules (world_in self.old) (event_of event.now))) (first_that_holds (early_tests (world_in self.old) (event_of event.now))) (world_in self.old) event.now.side (datagram_in (event_of event.now)) result (world_in self.new) outbox.new }
+    {
+        match judge(event) {
+            Ok(frame) => self.take(event.side, &frame, outbox),
+            Err(refusal) => Ok(Some(refusal)),
+        }
+    }
+
+    // Takes a datagram that passes by itself.
+    fn take(
+        &mut self,
+        side: Side,
+        frame: &Judged<'_>,
+        outbox: &mut Outbox,
+    ) -> Result<Option<Refusal>, OutOfMemory>
+        requires judged { IsJudged frame.now.octets.now frame.now.datagram frame.now.content }
+        requires moment { self.old.clock.0 < 2 ^ 32 * 1000000000 }
+        requires empty { outbox.old ≡ [] }
+        ensures { IsDone (first_that_holds (world_tests kept_rules (world_in self.old) side self.old.clock.0 frame.now.datagram (kind_of frame.now.datagram))) (first_that_holds (address_tests self.old.table side frame.now.datagram)) (world_in self.old) side frame.now.datagram result (world_in self.new) outbox.new }
+    {
+        let datagram = &frame.datagram;
+        let way = Way::of(
+            &self.table,
+            side,
+            self.clock,
+            datagram.source(),
+            datagram.destination(),
+        );
+        if let Some(refusal) = address_refusal(&self.table, &way) {
+            return Ok(Some(refusal));
+        }
+        match &frame.content {
+            Content::Udp(view) => self.take_udp(
+                &way,
+                &UdpDatagram {
+                    octets: frame.octets,
+                    payload: view.payload(),
+                },
+                view,
+                outbox,
+            ),
+            Content::Icmp(view) => Ok(self.take_icmp(&way, frame.octets, view, outbox)),
+            Content::Tcp(view) => self.take_segment(
+                &way,
+                &Segment {
+                    octets: frame.octets,
+                    datagram,
+                    tcp: view,
+                },
+                outbox,
+            ),
+        }
+    }
+
+    // Takes a UDP datagram, by its ports.
+    fn take_udp(
+        &mut self,
+        way: &Way,
+        datagram: &UdpDatagram<'_>,
+        view: &UdpView<'_>,
+        outbox: &mut Outbox,
+    ) -> Result<Option<Refusal>, OutOfMemory>
+        requires way { IsWayOf (world_in self.old) way.now.side (datagram_of datagram.now.octets.now) way.now }
+        requires moment { way.now.moment.0 < 2 ^ 32 * 1000000000 }
+        requires empty { outbox.old ≡ [] }
+        requires whole { IsUdpOf datagram.now.octets.now datagram.now.payload.now }
+        requires view { view.now ≡ udp_fields_of (datagram_of datagram.now.octets.now).payload }
+        ensures rest { self.new ≡ record self.old { table = self.new.table } }
+        ensures taken { IfOk result (λ r. IsTaken (world_in self.old) way.now.side (datagram_of datagram.now.octets.now) (kinds.udp_kind (datagram_of datagram.now.octets.now)) r self.new.table outbox.new) }
+        ensures memory { OnErr result ((self.new.table ≡ self.old.table) × (outbox.new ≡ [])) }
+        ensures wants { OnErr result (kinds.udp_kind (datagram_of datagram.now.octets.now) ≡ kinds.Dns) }
+    {
+        let ports = view.ports();
+        if has_port(ports, DNS_PORT) {
+            return take_dns(
+                self.alloc,
+                &mut self.table,
+                &mut self.firsts,
+                way,
+                datagram,
+                outbox,
+            );
+        }
+        if has_port(ports, SNMP_PORT) || has_port(ports, TRAP_PORT) {
+            return Ok(take_snmp(&mut self.table, way, datagram, &mut self.scratch, outbox));
+        }
+        Ok(take_plain(&mut self.table, way, UDP_HOLD, datagram.octets, outbox))
+    }
+
+    // Takes an ICMP message, by its type.
+    fn take_icmp(
+        &mut self,
+        way: &Way,
+        octets: &[u8],
+        view: &IcmpView<'_>,
+        outbox: &mut Outbox,
+    ) -> Option<Refusal>
+        requires way { IsWayOf (world_in self.old) way.now.side (datagram_of octets.now) way.now }
+        requires moment { way.now.moment.0 < 2 ^ 32 * 1000000000 }
+        requires empty { outbox.old ≡ [] }
+        requires few { length octets.now ≤ 65535 }
+        requires can { CanGoOn octets.now }
+        requires view { view.now ≡ icmp_fields_of (datagram_of octets.now).payload }
+        requires other { ((datagram_of octets.now).protocol == 17) ≡ false }
+        requires neither { ((datagram_of octets.now).protocol == 6) ≡ false }
+        ensures rest { self.new ≡ record self.old { table = self.new.table } }
+        ensures taken { IsTaken (world_in self.old) way.now.side (datagram_of octets.now) (kinds.icmp_kind (datagram_of octets.now)) result self.new.table outbox.new }
+    {
+        if view.is_error() {
+            return take_error(
+                &mut self.table,
+                &self.connections,
+                way,
+                octets,
+                view.inner(),
+                outbox,
+            );
+        }
+        take_plain(&mut self.table, way, ICMP_HOLD, octets, outbox)
+    }
+}
+
+fn has_port(ports: (u16, u16), port: u16) -> bool
+    ensures { result ≡ (ports.0 == port || ports.1 == port) }
+{
+    ports.0 == port || ports.1 == port
+}
