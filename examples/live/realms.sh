@@ -1,5 +1,6 @@
 # shellcheck shell=bash
-# Two realms that both are 10.0.0.0/24, as network namespaces, and the gateway between them. To be sourced, by root. All that is made is taken away when the shell ends, also when it is interrupted.
+# Two realms that both are 10.0.0.0/24, as network namespaces, and the gateway between them. To be sourced, by root. All that is
+# made is taken away when the shell ends, also when it is interrupted.
 
 here="$(cd "$(dirname "${BASH_SOURCE[0]}")" && pwd)"
 program="${PROGRAM:-$(cd "$here/../.." && pwd)/crates/gateway_program/out/gateway_program}"
