@@ -3,7 +3,8 @@
 # made is taken away when the shell ends, also when it is interrupted.
 
 here="$(cd "$(dirname "${BASH_SOURCE[0]}")" && pwd)"
-program="${PROGRAM:-$(cd "$here/../.." && pwd)/crates/gateway_program/out/gateway_program}"
+top="$(cd "$here/../.." && pwd)"
+program="${PROGRAM:-$top/crates/gateway_program/out/gateway_program}"
 left="left-$$" right="right-$$"
 work="$(mktemp -d)"
 started=() made=() pump=
@@ -22,6 +23,7 @@ take_away() {
         ip netns del "$i"
         rm -rf "/etc/netns/$i"
     done
+    rmdir /etc/netns 2>/dev/null
     rm -rf "$work"
 }
 trap take_away EXIT
@@ -48,7 +50,9 @@ need() {
 make_realms() {
     local realm
     [ "$(id -u)" = 0 ] || fail "this needs root: it makes network namespaces"
-    [ -x "$program" ] || fail "$program isn't there: build it by ./realm_gate, or name another by PROGRAM="
+    # Any run builds the program first, where it isn't there.
+    [ -n "${PROGRAM:-}" ] || "$top/realm_gate" make 1 1 /dev/null || fail "the program could not be built"
+    [ -x "$program" ] || fail "$program isn't there"
     for realm in "$left" "$right"; do
         ip netns add "$realm"
         made+=("$realm")
