@@ -26,6 +26,7 @@ use Rattle.snmp_ber.specs.Element.{element_at}
 use Rattle.snmp_gateway.specs.Message.{binding, bindings_within, outline_of, message}
 use Rattle.snmp_gateway.specs.Parts.{first_of, skip}
 use Rattle.snmp_oids.specs.Arcs.{numbers_from}
+use Rattle.snmp_oids.specs.Identifier.{place_behind}
 use Rattle.snmp_oids.specs.Elements.{elements_within}
 use Rattle.ftp_lines.specs.Numbers.{number, four, six}
 use Rattle.ftp_lines.specs.Grammar.{port, eprt, delimited, passive, client_text, server_text}
@@ -45,7 +46,7 @@ abbrev snmp_identifier_renamed_settings : Settings
 snmp_identifier_renamed_settings = with_rules (rule (1 ∷ 3 ∷ 6 ∷ 1 ∷ 2 ∷ 1 ∷ 4 ∷ 20 ∷ 1 ∷ []) 1 ∷ []) (set ([]) (pool 0xc0a8c801 0xc0a8c8fe) (pool 0xac100901 0xac1009fe) (fixed Left 0x0a000005 0xac100901 ∷ fixed Right 0x0a000005 0xc0a8c801 ∷ fixed Right 0x0a000035 0xc0a8c835 ∷ []))
 
 snmp_identifier_renamed_holds : found snmp_identifier_renamed_settings snmp_identifier_renamed ≡ wanted snmp_identifier_renamed 0
-unfolding read_frame words fold_of head_with sealed_icmp sealed_udp options_within sealed_tcp tcp_header_with sealed_payload renamed number_of cross block_end inner_with piece_at reverse_in full_reverse spell name_at content_by resource_at resources_at question_at questions_at message_at spelling element_at binding bindings_within outline_of message first_of skip numbers_from elements_within number four six port eprt delimited passive client_text server_text spelled digits verdict
+unfolding read_frame words fold_of head_with sealed_icmp sealed_udp options_within sealed_tcp tcp_header_with sealed_payload renamed number_of cross block_end inner_with piece_at reverse_in full_reverse spell name_at content_by resource_at resources_at question_at questions_at message_at spelling element_at binding bindings_within outline_of message first_of skip numbers_from place_behind elements_within number four six port eprt delimited passive client_text server_text spelled digits verdict
 snmp_identifier_renamed_holds = refl
 
 -- an identifier with an alias, from the other side
@@ -59,5 +60,5 @@ abbrev edge_oid_from_the_right_settings : Settings
 edge_oid_from_the_right_settings = with_rules (rule (1 ∷ 3 ∷ 6 ∷ 1 ∷ 2 ∷ 1 ∷ 4 ∷ 20 ∷ 1 ∷ []) 1 ∷ []) (set ([]) (pool 0xc0a8c801 0xc0a8c8fe) (pool 0xac100901 0xac1009fe) (fixed Left 0x0a000005 0xac100901 ∷ fixed Right 0x0a000005 0xc0a8c801 ∷ fixed Right 0x0a000035 0xc0a8c835 ∷ []))
 
 edge_oid_from_the_right_holds : found edge_oid_from_the_right_settings edge_oid_from_the_right ≡ wanted edge_oid_from_the_right 0
-unfolding read_frame words fold_of head_with sealed_icmp sealed_udp options_within sealed_tcp tcp_header_with sealed_payload renamed number_of cross block_end inner_with piece_at reverse_in full_reverse spell name_at content_by resource_at resources_at question_at questions_at message_at spelling element_at binding bindings_within outline_of message first_of skip numbers_from elements_within number four six port eprt delimited passive client_text server_text spelled digits verdict
+unfolding read_frame words fold_of head_with sealed_icmp sealed_udp options_within sealed_tcp tcp_header_with sealed_payload renamed number_of cross block_end inner_with piece_at reverse_in full_reverse spell name_at content_by resource_at resources_at question_at questions_at message_at spelling element_at binding bindings_within outline_of message first_of skip numbers_from place_behind elements_within number four six port eprt delimited passive client_text server_text spelled digits verdict
 edge_oid_from_the_right_holds = refl

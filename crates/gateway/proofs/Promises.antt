@@ -12,7 +12,7 @@ use Rattle.gate_desk.specs.declared.slot.PerSlot.{PerSlot}
 use Rattle.gate_desk.specs.declared.slot.Slot.{Slot}
 use Rattle.gate_desk.specs.declared.slot.Slot.TheVariants.{Settings, LeftIn, RightIn, LeftOut, RightOut, Report, Errors}
 use Rattle.gate_desk.specs.Outside.{Outside, Told}
-use Rattle.gate_settings.specs.declared.fault.SettingsFault.{SettingsFault}
+use Rattle.gate_settings.specs.Cross.{settings_of}
 use Rattle.gate_settings.specs.declared.settings.Settings.{Settings as GateSettings}
 use Rattle.pcap_files.specs.Capture.{Head, Good, Bad, head_of}
 use Rattle.pcap_merge.specs.Events.{Merged, Ending, Done as BothEnded, Fault as EndsFaulty, are_good, have_good_heads, events_of, by_heads}
@@ -85,13 +85,13 @@ each_stands settings all done others a split =
 
 -- ## What stands written
 
-ok_same : {A E : Type 0} (x y : A) → Ok {E = E} x ≡ Ok y → x ≡ y
-ok_same x y e = cc
+same_answer : {A E : Type 0} (r : Result A E) (x y : A) → r ≡ Ok x → r ≡ Ok y → x ≡ y
+same_answer r x y e f = cc
 
 -- there is one result of the settings
 for_all_accepted : (t : Told) (P : GateSettings → PerSlot (List ℕ) → Type 0) → IfSome t (λ all. (s : GateSettings) × IsAccepted s all × P s all) → IfSome t (λ all. (s : GateSettings) → IsAccepted s all → P s all)
 for_all_accepted None P h = tt
-for_all_accepted (Some all) P h = λ s accepted. subst (λ x. P x all) (ok_same {E = SettingsFault} h.0 s (sym h.1 ∙ accepted)) h.2
+for_all_accepted (Some all) P h = λ s accepted. subst (λ (x : GateSettings). P x all) (same_answer (settings_of all.settings) h.0 s h.1 accepted) h.2
 
 always : (t : Told) (P : GateSettings → PerSlot (List ℕ) → Type 0) → ((s : GateSettings) (all : PerSlot (List ℕ)) → P s all) → IfSome t (λ all. (s : GateSettings) → IsAccepted s all → P s all)
 always None P f = tt
