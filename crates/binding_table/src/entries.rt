@@ -114,6 +114,7 @@ impl Entries {
     }
 
     /// Takes out the row of a binding whose end has come at a moment, if there is one; which of them is left open.
+    #[inline(always)]
     pub fn next_ended(&mut self, now: u64) -> Option<Row<Binding>>
         ensures some { IfSome result (IsTakenOut now self.old self.new) }
         ensures none { IfNone result (self.new ≡ self.old) }
