@@ -1,7 +1,8 @@
 -- Bindings as rows.
-use Rattle.std.proofs.Common.{◌≡◌, ℕ, false, cond, not, ◌&&◌, ◌==◌, List, [], ◌∷◌, map, Option, Some, None, option_map, refl, ap, sym, ◌∙◌, arith, inl, inr}
+use Rattle.std.proofs.Common.{◌≡◌, ℕ, Bool, true, false, if◌then◌else◌, cond, not, ◌&&◌, ◌==◌, List, [], ◌∷◌, map, Option, Some, None, option_map, option_and_then, refl, ap, sym, ◌∙◌, arith, inl, inr}
 use Rattle.std.specs.List.{find, filter}
 use Rattle.std.proofs.lemmas.Bool.{cases_Bool}
+use Rattle.std.proofs.lemmas.Option.{same_Some}
 use Rattle.std.proofs.lemmas.Bool.Decides.{nat_tests}
 use Rattle.gate_base.specs.Side.{same_side}
 use Rattle.gate_base.specs.declared.event.Moment.{Moment}
@@ -11,7 +12,8 @@ use Rattle.expiring_table.specs.declared.row.Row.{Row}
 use Rattle.expiring_table.specs.Rows.{Table, row_of, with_row, without, lives, living}
 use Rattle.binding_table.specs.declared.binding.Binding.{Binding}
 use Rattle.binding_table.specs.Bindings.{is_live, is_of_host}
-use Rattle.binding_table.specs.Steps.{entries_in, filed, number_of}
+use Rattle.binding_table.specs.Steps.{entries_in, filed, number_of, unless_fixed}
+use Rattle.binding_table.specs.EntriesInside.{ending}
 
 abbrev table_of : {T : Type 0} → ℕ → List (Row T) → Table T
 table_of most rows = record { most = most; rows = rows }
@@ -58,6 +60,23 @@ value_filed (Some binding) = refl
 pub found_value : (side : Side) (host : ℕ) (entries : List Binding) (rows : List (Row Binding)) → rows ≡ map filed entries → option_map (λ row. row.value) (row_of (number_of side host) rows) ≡ find (is_of_host side host) entries
 found_value side host entries rows kept =
     ap (λ all. option_map (λ (row : Row Binding). row.value) (row_of (number_of side host) all)) kept ∙ ap (option_map (λ (row : Row Binding). row.value)) (found_filed side host entries) ∙ value_filed (find (is_of_host side host) entries)
+
+ending_filed : (found : Option Binding) → option_and_then ending (option_map filed found) ≡ option_and_then unless_fixed found
+ending_filed None = refl
+ending_filed (Some binding) = elim (cases_Bool binding.fixed) [ inl e ↦ rw e refl | inr e ↦ rw e refl ]
+
+-- and the same unless it is fixed
+pub found_moving : (side : Side) (host : ℕ) (entries : List Binding) (rows : List (Row Binding)) → rows ≡ map filed entries → option_and_then ending (row_of (number_of side host) rows) ≡ option_and_then unless_fixed (find (is_of_host side host) entries)
+found_moving side host entries rows kept =
+    ap (λ all. option_and_then ending (row_of (number_of side host) all)) kept ∙ ap (option_and_then ending) (found_filed side host entries) ∙ ending_filed (find (is_of_host side host) entries)
+
+pub moving_is : (o : Option Binding) (binding : Binding) → option_and_then unless_fixed o ≡ Some binding → (o ≡ Some binding) × (binding.fixed ≡ false)
+moving_is None binding h = cc
+moving_is (Some one) binding h = let kept = chosen one.fixed h in (kept.0, sym (ap (λ (b : Binding). b.fixed) (same_Some _ _ kept.0)) ∙ kept.1)
+  where
+    chosen : (test : Bool) → (if test then None else Some one) ≡ Some binding → (Some one ≡ Some binding) × (test ≡ false)
+    chosen true h = cc
+    chosen false h = (h, refl)
 
 -- the other bindings
 abbrev pub others : Binding → List Binding → List Binding

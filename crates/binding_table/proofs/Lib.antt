@@ -14,3 +14,5 @@ pub mod Places
 pub mod Back
 pub mod Rows
 pub mod SeenAfter
+pub mod EntriesApart
+pub mod Pushed

@@ -77,6 +77,10 @@ filed binding = record { key = number_of binding.side binding.host.0; end = if b
 abbrev pub lasts : Moment → Binding → Bool
 lasts until binding = binding.fixed || nat_le until.0 binding.until.0
 
+-- the binding, unless it is fixed
+abbrev pub unless_fixed : Binding → Option Binding
+unless_fixed binding = if binding.fixed then None else Some binding
+
 abbrev pub entries_in : List (Row Binding) → List Binding
 entries_in rows = map (λ row. row.value) rows
 

@@ -3,6 +3,7 @@
 
 mod aliases;
 mod binding;
+mod entries;
 mod firsts;
 mod laws;
 mod plan;

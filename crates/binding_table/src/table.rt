@@ -1,7 +1,7 @@
 // The table of bindings.
-ghost use Rattle.std.specs.Prelude.{◌≡◌, true, false, Some, None, map, option_map, length, IfOk, IsTrue};
+ghost use Rattle.std.specs.Prelude.{◌≡◌, true, false, Some, None, map, option_map, option_and_then, length, All, IfOk, IsTrue, OnOk};
 ghost use Rattle.std.specs.List.{find, filter};
-ghost use Rattle.binding_table.specs.Steps.{aliases_of, aliases_with, changed, entries_in, filed, AreKept, CanHold};
+ghost use Rattle.binding_table.specs.Steps.{aliases_of, aliases_with, changed, entries_in, filed, unless_fixed, AreKept, CanHold};
 ghost use Rattle.binding_table.specs.Bindings as tables;
 ghost use Rattle.binding_table.specs.Lawful.{IsLawful};
 ghost use Rattle.gate_base.specs.Rules.{AreRules};
@@ -12,7 +12,8 @@ ghost use Rattle.realm_pools.specs.Addresses.{is_free, is_taken};
 
 use crate::aliases::Aliases;
 use crate::binding::{Binding, Crossing, number_of};
-use expiring_table::{Rows, Seed};
+use crate::entries::Entries;
+use expiring_table::Seed;
 use gate_base::{Addr, Moment, OidRule, OutOfMemory, Side, is_unicast};
 use gate_settings::{Block, Blocks, OidRules, Settings};
 use realm_pools::Pool;
@@ -26,7 +27,7 @@ pub struct Table {
     same: Blocks,
     left: Aliases,
     right: Aliases,
-    bindings: Rows<Binding>,
+    bindings: Entries,
     oids: OidRules,
 }
 
@@ -52,7 +53,7 @@ impl Table {
     {
         let mut table = Table::without_bindings(alloc, settings, seed)?;
         for fixed in settings.statics.items() {
-            table.append(Binding::of_static(fixed));
+            table.fix(Binding::of_static(fixed))?;
         }
         Ok(table)
     }
@@ -74,7 +75,7 @@ impl Table {
             same,
             left,
             right,
-            bindings: Rows::make(alloc, room, seed)?,
+            bindings: Entries::make(alloc, settings.statics.items().len(), room, seed)?,
             oids: settings.oids.copy(alloc)?,
         })
     }
@@ -123,7 +124,7 @@ impl Table {
         ensures { result ≡ tables.host_crossing self.now side address }
     {
         match self.binding_of(side, address) {
-            Some((_, binding)) => Crossing::Known(binding.alias),
+            Some(binding) => Crossing::Known(binding.alias),
             None => match self.pool(side.other()).least_free() {
                 Some(alias) => Crossing::New(alias),
                 None => Crossing::Empty,
@@ -139,27 +140,32 @@ impl Table {
         self.aliases(side).host(alias)
     }
 
-    // The binding of a host of the realm, and where its row is kept.
+    // The binding of a host of the realm.
     #[inline(always)]
-    fn binding_of(&self, side: Side, host: Addr) -> Option<(usize, &Binding)>
-        ensures { option_map (λ found. found.1.now) result ≡ find (tables.is_of_host side host.0) self.now.entries }
+    fn binding_of(&self, side: Side, host: Addr) -> Option<&Binding>
+        ensures { option_map (λ found. found.now) result ≡ find (tables.is_of_host side host.0) self.now.entries }
     {
-        match self.bindings.locate(number_of(side, host)) {
-            Some((place, row)) => Some((place, &row.value)),
-            None => None,
-        }
+        self.bindings.find(number_of(side, host))
     }
 
-    // The binding through which an address of the realm crosses, and where its row is kept.
+    // The binding of a host of the realm unless it is fixed, and where its row is kept.
     #[inline(always)]
-    fn binding_through(&self, side: Side, address: Addr) -> Option<(usize, &Binding)>
-        ensures { option_map (λ found. found.1.now) result ≡ find (tables.is_through (tables.in_pool self.now side address) side address) self.now.entries }
+    fn moving_of(&self, side: Side, host: Addr) -> Option<(usize, &Binding)>
+        ensures { option_map (λ found. found.1.now) result ≡ option_and_then unless_fixed (find (tables.is_of_host side host.0) self.now.entries) }
+    {
+        self.bindings.locate(number_of(side, host))
+    }
+
+    // The binding through which an address of the realm crosses unless it is fixed, and where its row is kept.
+    #[inline(always)]
+    fn moving_through(&self, side: Side, address: Addr) -> Option<(usize, &Binding)>
+        ensures { option_map (λ found. found.1.now) result ≡ option_and_then unless_fixed (find (tables.is_through (tables.in_pool self.now side address) side address) self.now.entries) }
     {
         if self.pool(side).contains(address) {
             let host = self.host_of(side, address)?;
-            self.binding_of(side.other(), host)
+            self.moving_of(side.other(), host)
         } else {
-            self.binding_of(side, address)
+            self.moving_of(side, address)
         }
     }
 
@@ -218,8 +224,22 @@ impl Table {
         }
     }
 
+    // Puts a fixed binding behind the others, which all are fixed. The error is that there is too little memory.
+    fn fix(&mut self, binding: Binding) -> Result<(), OutOfMemory>
+        requires place { CanHold self.old binding }
+        requires early { All (λ one. one.fixed ≡ true) self.old.entries }
+        requires fixed { binding.fixed ≡ true }
+        ensures { OnOk result (self.new ≡ tables.with_binding self.old binding) }
+    {
+        self.bindings.fix(binding)?;
+        take_alias(&mut self.left, &mut self.right, &binding);
+        Ok(())
+    }
+
+    // Puts a binding that isn't fixed behind the others.
     fn append(&mut self, binding: Binding)
-        requires { CanHold self.old binding }
+        requires place { CanHold self.old binding }
+        requires moving { binding.fixed ≡ false }
         ensures { self.new ≡ tables.with_binding self.old binding }
     {
         take_alias(&mut self.left, &mut self.right, &binding);
@@ -232,7 +252,7 @@ impl Table {
         requires { tables.IsKnown (tables.cross self.old side address) }
         ensures { self.new ≡ tables.extended self.old side address until }
     {
-        let Some((place, binding)) = self.binding_through(side, address) else {
+        let Some((place, binding)) = self.moving_through(side, address) else {
             return;
         };
         if binding.lasts(until) {
@@ -292,7 +312,7 @@ fn give_back_alias(left: &mut Aliases, right: &mut Aliases, binding: &Binding)
 }
 
 // Takes out the bindings that don't live, and makes their aliases free.
-fn drop_ended(bindings: &mut Rows<Binding>, left: &mut Aliases, right: &mut Aliases, now: Moment)
+fn drop_ended(bindings: &mut Entries, left: &mut Aliases, right: &mut Aliases, now: Moment)
     requires { AreKept left.old right.old bindings.old.rows }
     ensures rows { bindings.new ≡ record bindings.old { rows = map filed (filter (tables.is_live now) (entries_in bindings.old.rows)) } }
     ensures left { left.new ≡ aliases_with left.old.pool.range Side.Left (filter (tables.is_live now) (entries_in bindings.old.rows)) }

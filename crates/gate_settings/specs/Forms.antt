@@ -27,7 +27,7 @@ pub record IsUnicastPair (fixed : Fixed) : Type 0 where
   pub host : IsUnicast fixed.host
   pub alias : IsUnicast fixed.alias
 
--- all blocks and addresses have their forms
+-- all blocks, addresses and rules have their forms
 pub record HasForms (settings : Settings) : Type 0 where
   pub blocks : All IsBlock settings.same
   pub left : HasUnicastPool settings.left

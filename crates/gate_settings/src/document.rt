@@ -48,7 +48,7 @@ fn read_keys(alloc: Global, octets: &[u8]) -> Result<Given, ReadSettings>
 /// The settings that a TOML document holds.
 ///
 /// The error is the document's first fault, in the order in which the faults and the keys are listed, or that memory
-/// ran out. Settings that were read fit one another, and their blocks and addresses have their forms.
+/// ran out. Settings that were read fit one another, and their blocks, addresses and rules have their forms.
 #[tactic(auto, unfolding(crate::specs::Cross::settings_of))]
 pub fn read_settings(alloc: Global, octets: &[u8]) -> Result<Settings, ReadSettings>
     ensures value { Gives result (settings_of octets.now) }

@@ -1,4 +1,4 @@
-use Rattle.std.proofs.Common.{◌∙◌, ap, sym}
+use Rattle.std.proofs.Common.{◌∙◌, ap, refl, sym}
 use Rattle.gate_base.specs.declared.side.Side.{Side}
 use Rattle.realm_pools.specs.Addresses.{least_free}
 use Rattle.binding_table.specs.Bindings.{pool_of}
@@ -9,7 +9,10 @@ pub append-requires : goal.append-requires
 append-requires c =
     let pool = c.pool.ensures.value ∙ ap (λ (s : Side). pool_of c.args.self.now s) c.other.ensures in
     let least = ap least_free (sym pool) ∙ sym c.least_free.ensures.value ∙ c.in-Some.is in
-    can_bind c.args.self.now c.args.side c.args.host c.in-Some.alias c.args.until c.pool.ensures.lawful (unbound_of c.args.self.now c.args.side c.args.host c.requires) (least_is_free _ _ _ c.pool.ensures.lawful least)
+    record {
+      place = can_bind c.args.self.now c.args.side c.args.host c.in-Some.alias c.args.until c.pool.ensures.lawful (unbound_of c.args.self.now c.args.side c.args.host c.requires) (least_is_free _ _ _ c.pool.ensures.lawful least);
+      moving = refl;
+    }
 
 pub returns-in-Some : goal.returns-in-Some
 returns-in-Some c =
