@@ -129,11 +129,11 @@ wanted_front s all a b (inr h) = h.1
 
 stops_front : (side : Side) (names : Names) (a b : Outside) → StopsAt side names a b → IfSome a.left (λ all. (s : GateSettings) → IsAccepted s all → WrotesFront a b s all)
 stops_front side names a b (inl h) = nothing_written a b h.0
-stops_front side names a b (inr h) = behind_heads a b (if_some a.left _ _ h.0.written (λ all k. (k.0, k.1, front_of_first k.0 h.0.handled (events_in all) (wrote_pieces (heads k.0) a.written) b.written k.2.1)))
+stops_front side names a b (inr h) = behind_heads a b (if_some a.left _ _ h.0.written (λ all k. (k.0, k.1, front_of_first k.0 h.0.handled (events_in all) (wrote_pieces (heads k.0) a.written) b.written k.3)))
 
 wants_front : (names : Names) (a b : Outside) → WantsMemory names a b → IfSome a.left (λ all. (s : GateSettings) → IsAccepted s all → WrotesFront a b s all)
 wants_front names a b (inl h) = nothing_written a b h.0
-wants_front names a b (inr h) = behind_heads a b (if_some a.left _ _ h.0 (λ all k. (k.0, k.1, wanted_front k.0 (events_in all) (wrote_pieces (heads k.0) a.written) b.written k.2.1)))
+wants_front names a b (inr h) = behind_heads a b (if_some a.left _ _ h.0 (λ all k. (k.0, k.1, wanted_front k.0 (events_in all) (wrote_pieces (heads k.0) a.written) b.written k.3)))
 
 front_written : (status : Status) (names : Names) (a b : Outside) → HasWritten status names a b → IfSome a.left (λ all. (s : GateSettings) → IsAccepted s all → WrotesFront a b s all)
 front_written Done names a b h = whole_front a b h
