@@ -17,7 +17,7 @@ returns-in-Err g c =
     (record { ended = old; run = not_begun names old; promise = promise_kept OutOfMemory names old old (not_begun names old); taken = took_unwritten old old (kept_left old old refl); line = c.tell_out_of_memory.ensures.line })
 
 pub returns-in-Ok-run : goal.returns-in-Ok-run
-returns-in-Ok-run g c = done_run c.run.value (names_of c.args.names) (g.D.Desk.outside c.args.desk.now) (g.D.Desk.outside c.run.new.desk) c.in-Ok-run.ensures.answer
+returns-in-Ok-run g c = done_run c.in-Ok-run.field-0 (names_of c.args.names) (g.D.Desk.outside c.args.desk.now) (g.D.Desk.outside c.run.new.desk) c.in-Ok-run.ensures.answer
 
 pub returns : goal.returns
 returns g c =
