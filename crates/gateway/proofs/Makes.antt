@@ -15,7 +15,7 @@ use Rattle.gateway.specs.Status.{is_settings_fault}
 use Rattle.gateway.specs.declared.status.Status.{Status}
 use Rattle.gateway.specs.declared.status.Status.TheVariants.{Done, Usage, SettingsRefused, CaptureRefused, ReadFault, WriteFault, OpenFault, OutOfMemory}
 use Rattle.gateway.specs.Command.{Names, make_starts}
-use Rattle.gateway.specs.Causes.{StartsAll, Gives}
+use Rattle.gateway.specs.Causes.{StartsAll, WritesPieces}
 use Rattle.gateway.specs.Pieces.{wrote_pieces, WritesAll, IsFront}
 use Rattle.gateway.specs.Making.{workload_in, made_piece, IsLineOf, IsMake}
 use Rattle.gateway.specs.Answers.{Runs, Tells, IsToldMake, AnswersMake}
@@ -91,9 +91,9 @@ made line number count report a b c h is k = record {
 }
 
 -- or it wasn't
-pub not_written : (e : Status) (line : Line) (number count : ℕ) (report : List ℕ) (a b c : Outside) → StartsAll (make_starts report) a b → IsLineOf line number count → e ≡ WriteFault Report → Gives (Err e) (made_piece line ∷ []) b c → IsMake e number count report a c
+pub not_written : (e : Status) (line : Line) (number count : ℕ) (report : List ℕ) (a b c : Outside) → StartsAll (make_starts report) a b → IsLineOf line number count → e ≡ WriteFault Report → WritesPieces (Err e) (made_piece line ∷ []) b c → IsMake e number count report a c
 not_written e line number count report a b c h is same k =
-    let failed = subst (λ (s : Status). Gives (Err s) (made_piece line ∷ []) b c) same k in
+    let failed = subst (λ (s : Status). WritesPieces (Err s) (made_piece line ∷ []) b c) same k in
     subst (λ (s : Status). IsMake s number count report a c) (sym same) (record {
       made = (failed_since Report a b c h.grows failed.0.1, line, is, failed.1.only.starts ∙ h.starts, subst (λ (t : Told). IsFront (made_piece line ∷ []) t c.written) h.written failed.1.front);
       left = failed.1.only.left ∙ h.left;

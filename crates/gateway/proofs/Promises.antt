@@ -29,8 +29,8 @@ use Rattle.gateway.specs.Command.{Names}
 use Rattle.gateway.specs.Pieces.{Piece, IsFront, wrote_pieces}
 use Rattle.gateway.specs.Machine.{State, opening, after_one, after, arrivals_by, sent, event_piece, given_by, given_by_all, given_by_merged, ended_by, heads, files}
 use Rattle.gateway.specs.Standing.{promised_of, StandsBehind, EachStands, KeepsPromise}
-use Rattle.gateway.specs.Phases.{IsAccepted, IsOfFirst, Wants, events_in, outputs_of}
-use Rattle.gateway.specs.Answers.{HasWritten, IsRun, IsPromised, StopsAt, WantsMemory}
+use Rattle.gateway.specs.Ends.{IsAccepted, IsOfFirst, Wants, events_in, outputs_of}
+use Rattle.gateway.specs.Answers.{HasWritten, IsRun, IsPromised, StopsAtCapture, WantsMemory}
 use Rattle.gateway.proofs.Pieces.{is_front_none, is_front_all, is_front_more, is_front_on}
 use Rattle.gateway.proofs.Phases.{if_some}
 use Rattle.gateway.proofs.Progress.{given_all-append, given_all-cons, front_of_first}
@@ -127,7 +127,7 @@ wanted_front : (s : GateSettings) (all : Merged) (a b : Told) → Wants s all a 
 wanted_front s all a b (inl h) = front_of_first s h.handled all a b (record { others = h.next ∷ h.others; split = h.split; written = h.written })
 wanted_front s all a b (inr h) = h.1
 
-stops_front : (side : Side) (names : Names) (a b : Outside) → StopsAt side names a b → IfSome a.left (λ all. (s : GateSettings) → IsAccepted s all → WrotesFront a b s all)
+stops_front : (side : Side) (names : Names) (a b : Outside) → StopsAtCapture side names a b → IfSome a.left (λ all. (s : GateSettings) → IsAccepted s all → WrotesFront a b s all)
 stops_front side names a b (inl h) = nothing_written a b h.0
 stops_front side names a b (inr h) = behind_heads a b (if_some a.left _ _ h.0.written (λ all k. (k.0, k.1, front_of_first k.0 h.0.handled (events_in all) (wrote_pieces (heads k.0) a.written) b.written k.3)))
 

@@ -19,10 +19,11 @@ use Rattle.gateway.specs.declared.report.Totals.{Totals}
 use Rattle.gateway.specs.declared.status.Status.{Status}
 use Rattle.gateway.specs.declared.status.Status.TheVariants.{Done, Usage, SettingsRefused, CaptureRefused, ReadFault, WriteFault, OpenFault, OutOfMemory}
 use Rattle.gateway.specs.Answers.{TookForWritten}
-use Rattle.gateway.specs.Causes.{Gives}
+use Rattle.gateway.specs.Causes.{WritesPieces}
 use Rattle.gateway.specs.Command.{Names, first_starts, output_starts}
 use Rattle.gateway.specs.Machine.{State, heads}
-use Rattle.gateway.specs.Phases.{Settled, Prepared, Readied, StandWritten, TookFew, Finishes, Handles, OfEvents}
+use Rattle.gateway.specs.Ends.{StandWritten}
+use Rattle.gateway.specs.Phases.{Settled, Prepared, Readied, TookFew, WritesLastLine, Handles, OfEvents}
 use Rattle.gateway.specs.Pieces.{Piece, WritesFront, IsFront, wrote_pieces}
 use Rattle.gateway.proofs.Phases.{if_some, told_before}
 use Rattle.gateway.proofs.Pieces.{is_front_all, wrote_pieces-nil}
@@ -49,7 +50,7 @@ not_begun_few merges.OutOfMemory a b c e k = taken_since b a c [] (λ side. ap (
 pub settled_few : (settings : GateSettings) (xs : List Start) (a b c : Outside) → Settled settings xs a b → TakenFor [] b c → TakenFor [] a c
 settled_few settings xs a b c h k = taken_since b a c [] (λ side. ap (λ (t : Told). told_at t (slot_of side)) h.left ∙ told_before side h.count a.left) k
 
-pub gives_left : (r : Result (Unit {0}) Status) (ps : List Piece) (a b : Outside) → Gives r ps a b → b.left ≡ a.left
+pub gives_left : (r : Result (Unit {0}) Status) (ps : List Piece) (a b : Outside) → WritesPieces r ps a b → b.left ≡ a.left
 gives_left (Ok u) ps a b h = h.only.left
 gives_left (Err e) ps a b h = h.1.only.left
 
@@ -80,7 +81,7 @@ took_stop stop settings m0 m old now new s joiner h k =
     }
 
 -- the last line was not written
-pub took_end : (r : Result Line Status) (settings : GateSettings) (m0 m m' : Merging) (old now mid new : Outside) (s : State KeptSession) (joiner : Joiner) (line : Line) → Progress settings m0 old now m s joiner → FinishesMerge m m' now mid → Finishes r settings.json line mid new → OnErr r (TookFew settings m0 old new)
+pub took_end : (r : Result Line Status) (settings : GateSettings) (m0 m m' : Merging) (old now mid new : Outside) (s : State KeptSession) (joiner : Joiner) (line : Line) → Progress settings m0 old now m s joiner → FinishesMerge m m' now mid → WritesLastLine r settings.json line mid new → OnErr r (TookFew settings m0 old new)
 took_end (Ok done) settings m0 m m' old now mid new s joiner line h k f = tt
 took_end (Err e) settings m0 m m' old now mid new s joiner line h k f =
     let front = line_front e f in
@@ -90,7 +91,7 @@ took_end (Err e) settings m0 m m' old now mid new s joiner line h k f =
       stand = stands settings m0 m old now s joiner front.0 new h (subst (λ (t : Told). IsFront front.0 t new.written) k.reads.written front.1.front);
     }
   where
-    line_front : (e : Status) → Finishes (Err e) settings.json line mid new → (behind : List Piece) × WritesFront behind mid new
+    line_front : (e : Status) → WritesLastLine (Err e) settings.json line mid new → (behind : List Piece) × WritesFront behind mid new
     line_front OutOfMemory f = (_, f.1)
     line_front Done f = (_, f.1)
     line_front Usage f = (_, f.1)

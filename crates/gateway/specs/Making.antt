@@ -14,7 +14,7 @@ use Rattle.gateway.specs.Command.{make_starts}
 use Rattle.gateway.specs.Causes.{started_all, StartsSome}
 use Rattle.gateway.specs.Pieces.{Piece, wrote_pieces, IsFront}
 use Rattle.gateway.specs.Machine.{line_piece, line_of}
-use Rattle.gateway.specs.Phases.{IsAccepted, events_in}
+use Rattle.gateway.specs.Ends.{IsAccepted, events_in}
 
 -- the workload, as a run reads it
 abbrev pub workload_in : ℕ → ℕ → PerSlot (List ℕ)

@@ -7,7 +7,7 @@ ghost use Rattle.frag_join.specs.Arrivals.{Comes, Stays, arrival, joiner_after};
 ghost use Rattle.frag_join.specs.Joining.{by_known};
 ghost use Rattle.ether_frames.specs.Ether.{ipv4_head};
 ghost use Rattle.gateway.specs.Machine.{out_slot, frame_piece, sent};
-ghost use Rattle.gateway.specs.Causes.{Gives};
+ghost use Rattle.gateway.specs.Causes.{WritesPieces};
 ghost use Rattle.gateway.specs.Phases.{Handles, counting};
 
 use crate::Status;
@@ -49,7 +49,7 @@ fn write_frame<D: Desk>(
     requires early { moment.0 < 2 ^ 32 * 1000000000 }
     requires head { length head.now ≤ HEAD }
     requires short { length datagram.now ≤ 65535 }
-    ensures { Gives result (frame_piece side moment.0 (head.now ++ datagram.now) ∷ []) (D.outside desk.old) (D.outside desk.new) }
+    ensures { WritesPieces result (frame_piece side moment.0 (head.now ++ datagram.now) ∷ []) (D.outside desk.old) (D.outside desk.new) }
 {
     let slot = out_slot(side);
     match write_packet(desk, slot, moment, head, datagram) {
@@ -79,7 +79,7 @@ fn send<D: Desk>(
     requires right { CanWrite (D.outside desk.old) RightOut }
     requires early { moment.0 < 2 ^ 32 * 1000000000 }
     requires short { length datagram.now ≤ 65535 }
-    ensures { Gives result (sent settings.now side moment.0 (datagram.now ∷ [])) (D.outside desk.old) (D.outside desk.new) }
+    ensures { WritesPieces result (sent settings.now side moment.0 (datagram.now ∷ [])) (D.outside desk.old) (D.outside desk.new) }
 {
     let realm = settings.side(side);
     match realm.link {
@@ -99,7 +99,7 @@ fn send_all<D: Desk>(
     requires left { CanWrite (D.outside desk.old) LeftOut }
     requires right { CanWrite (D.outside desk.old) RightOut }
     requires early { moment.0 < 2 ^ 32 * 1000000000 }
-    ensures { Gives result (sent settings.now side moment.0 outbox.now) (D.outside desk.old) (D.outside desk.new) }
+    ensures { WritesPieces result (sent settings.now side moment.0 outbox.now) (D.outside desk.old) (D.outside desk.new) }
 {
     for place in 0..outbox.len() {
         send(desk, settings, side, moment, outbox.datagram(place))?;

@@ -5,7 +5,7 @@ ghost use Rattle.gate_desk.specs.Outside.{CanRead, CanWrite, Grows};
 ghost use Rattle.pcap_merge.specs.Merge.{work, AtEnds};
 ghost use Rattle.frag_join.specs.Arrivals.{opened};
 ghost use Rattle.gate_world.specs.World.{opening_world};
-ghost use Rattle.gateway.specs.Phases.{Forwards, Finishes, TookFew};
+ghost use Rattle.gateway.specs.Phases.{Forwards, WritesLastLine, TookFew};
 
 use crate::Status;
 use crate::event::take;
@@ -27,7 +27,7 @@ fn finish<D: Desk>(
 ) -> Result<Line, Status>
     requires can { CanWrite (D.outside desk.old) Report }
     requires room { length room.old ≡ LINE }
-    ensures { Finishes result json line (D.outside desk.old) (D.outside desk.new) }
+    ensures { WritesLastLine result json line (D.outside desk.old) (D.outside desk.new) }
 {
     put_line(alloc, desk, room, json, &line)?;
     Ok(line)
