@@ -1,5 +1,5 @@
 -- A run, and the line of its status.
-use Rattle.std.proofs.Common.{◌≡◌, Result, Ok, Err, inl, inr, sym, subst}
+use Rattle.std.proofs.Common.{Ok, Err, inl, inr, sym, subst}
 use Rattle.gate_desk.specs.Outside.{Outside}
 use Rattle.gate_report.specs.declared.line.Line.{Line}
 use Rattle.gateway.specs.declared.status.Status.{Status}
@@ -7,8 +7,7 @@ use Rattle.gateway.specs.declared.status.Status.TheVariants.{Done, Usage, Settin
 use Rattle.gateway.specs.Command.{Names}
 use Rattle.gateway.specs.Answers.{IsRun, Runs, IsDoneRun, IsToldRun, AnswersRun, TookForWritten, Tells}
 use Rattle.gateway.proofs.Promises.{promise_kept}
-use Rattle.gateway.proofs.Runs.{not_begun, run_of, untold}
-use Rattle.gateway.proofs.Took.{kept_left, took_unwritten}
+use Rattle.gateway.proofs.Runs.{run_of, untold}
 
 -- a run that is done keeps the promise
 pub done_run : (line : Line) (names : Names) (a b : Outside) → Runs (Ok line) names a b → IsDoneRun names a b

@@ -1,23 +1,21 @@
 -- What a run keeps of what is promised.
-use Rattle.std.proofs.Common.{◌≡◌, ℕ, ◌+◌, List, [], ◌∷◌, ◌++◌, length, Bool, true, false, Result, Ok, Err, Some, None, inl, inr, refl, sym, ap, subst, ◌∙◌, append_assoc, arith}
+use Rattle.std.proofs.Common.{◌≡◌, ℕ, ◌+◌, List, [], ◌∷◌, ◌++◌, length, true, Result, Ok, Some, None, inl, inr, refl, sym, ap, subst, ◌∙◌, append_assoc, arith}
 use Rattle.std.specs.Prelude.{IfSome}
 use Rattle.std.specs.List.{fold}
 use Rattle.std.proofs.lemmas.Bool.{cases_Bool}
 use Rattle.gate_base.specs.Side.{other}
 use Rattle.gate_base.specs.declared.side.Side.{Side}
 use Rattle.gate_base.specs.declared.side.Side.TheVariants.{Left, Right}
-use Rattle.frag_join.specs.Arrivals.{Arrival, ArrivalsAre, Comes, Stays, coming}
+use Rattle.frag_join.specs.Arrivals.{Arrival, Comes, Stays, coming}
 use Rattle.frag_join.proofs.ArrivalSteps.{arrivals_are}
 use Rattle.gate_desk.specs.declared.slot.PerSlot.{PerSlot}
-use Rattle.gate_desk.specs.declared.slot.Slot.{Slot}
 use Rattle.gate_desk.specs.declared.slot.Slot.TheVariants.{Settings, LeftIn, RightIn, LeftOut, RightOut, Report, Errors}
 use Rattle.gate_desk.specs.Outside.{Outside, Told}
 use Rattle.gate_settings.specs.Cross.{settings_of}
 use Rattle.gate_settings.specs.declared.settings.Settings.{Settings as GateSettings}
 use Rattle.pcap_files.specs.Capture.{Head, Good, Bad, head_of}
-use Rattle.pcap_merge.specs.Events.{Merged, Ending, Done as BothEnded, Fault as EndsFaulty, are_good, have_good_heads, events_of, by_heads}
+use Rattle.pcap_merge.specs.Events.{Merged, Done as BothEnded, are_good, have_good_heads, events_of, by_heads}
 use Rattle.stream_model.specs.Session.{Session}
-use Rattle.gate_world.specs.Promise.{Promised, known_after}
 use Rattle.gate_world.specs.Rules.{whole_rules}
 use Rattle.gate_world.specs.Step.{next, out}
 use Rattle.gate_world.specs.Verdict.{verdict}
@@ -28,8 +26,8 @@ use Rattle.gateway.specs.declared.status.Status.TheVariants.{Done, Usage, Settin
 use Rattle.gateway.specs.Command.{Names}
 use Rattle.gateway.specs.Pieces.{Piece, IsFront, wrote_pieces}
 use Rattle.gateway.specs.Machine.{State, opening, after_one, after, arrivals_by, sent, event_piece, given_by, given_by_all, given_by_merged, ended_by, heads, files}
-use Rattle.gateway.specs.Standing.{promised_of, StandsBehind, EachStands, KeepsPromise}
-use Rattle.gateway.specs.Ends.{IsAccepted, IsOfFirst, Wants, events_in, outputs_of}
+use Rattle.gateway.specs.Standing.{promised_of, EachStands, KeepsPromise}
+use Rattle.gateway.specs.Ends.{IsAccepted, Wants, events_in, outputs_of}
 use Rattle.gateway.specs.Answers.{HasWritten, IsRun, IsPromised, StopsAtCapture, WantsMemory}
 use Rattle.gateway.proofs.Pieces.{is_front_none, is_front_all, is_front_more, is_front_on}
 use Rattle.gateway.proofs.Phases.{if_some}
