@@ -202,20 +202,14 @@ pub fn take<D: Desk>(
     ensures answer { Handles (counting totals.new result) gate.old gate.new totals.old (arrival by_known joiner.old (event_of event.entry)) (D.outside desk.old) (D.outside desk.new) }
     ensures joiner { joiner.new ≡ joiner_after by_known joiner.old (event_of event.entry) }
 {
-    match ask(joiner, &event) {
-        Taken::Plain => handle(alloc, desk, gate, outbox, room, totals, event),
-        Taken::Joined => handle(alloc, desk, gate, outbox, room, totals, joined(joiner)),
-        Taken::Held => leave(alloc, desk, gate, room, totals, event, Verdict::Held),
+    let came = match ask(joiner, &event) {
+        Taken::Plain => event,
+        Taken::Joined => joined(joiner),
+        Taken::Held => return leave(alloc, desk, gate, room, totals, event, Verdict::Held),
         Taken::Refused(refusal) => {
-            leave(
-                alloc,
-                desk,
-                gate,
-                room,
-                totals,
-                event,
-                Verdict::Refused(refusal),
-            )
+            let verdict = Verdict::Refused(refusal);
+            return leave(alloc, desk, gate, room, totals, event, verdict);
         }
-    }
+    };
+    handle(alloc, desk, gate, outbox, room, totals, came)
 }

@@ -22,6 +22,7 @@ pub fn open_joiner(alloc: Global, gate: &Gate) -> Result<Option<Joiner>, OutOfMe
 }
 
 /// Asks the joiner what becomes of a frame. Without one, every frame is plain.
+#[inline(always)]
 pub fn ask(joiner: &mut Option<Joiner>, event: &Event<'_>) -> Taken
     ensures answer { result ≡ taken_by by_known joiner.old (event_of event.now) }
     ensures state { joiner.new ≡ joiner_after by_known joiner.old (event_of event.now) }
