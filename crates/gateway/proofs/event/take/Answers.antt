@@ -10,8 +10,8 @@ use Rattle.gateway.proofs.event.take.Goals.{in-Plain, in-Joined}
 pub handle-requires-clause-early : goal.handle-requires-clause-early
 handle-requires-clause-early g c =
     elim c.match-ask.branch [
-      in-Plain w ↦ subst (λ (e : Event). e.moment.0 < 2 ^ 32 * 1000000000) (sym w.came-is) c.requires.early
-    | in-Joined w ↦
-        let same = joined-at by_known c.args.joiner.now (event_of c.args.event) (event_of w.joined-came.result) (ap joined_in (sym c.ask.ensures.state) ∙ w.joined-came.ensures) in
-        subst (λ (e : Event). e.moment.0 < 2 ^ 32 * 1000000000) (sym w.came-is) (subst (λ moment. moment < 2 ^ 32 * 1000000000) (sym same) c.requires.early)
+      | in-Plain w ↦ subst (λ (e : Event). e.moment.0 < 2 ^ 32 * 1000000000) (sym w.came-is) c.requires.early
+      | in-Joined w ↦
+          let same = joined-at by_known c.args.joiner.now (event_of c.args.event) (event_of w.joined-came.result) (ap joined_in (sym c.ask.ensures.state) ∙ w.joined-came.ensures) in
+          subst (λ (e : Event). e.moment.0 < 2 ^ 32 * 1000000000) (sym w.came-is) (subst (λ moment. moment < 2 ^ 32 * 1000000000) (sym same) c.requires.early)
     ]
