@@ -11,8 +11,8 @@ use Rattle.frag_join.specs.declared.part.Part.{Part}
 use Rattle.frag_join.specs.declared.taken.Taken.TheVariants.{Plain, Held, Joined}
 use Rattle.frag_join.specs.Fragments.{Fragment, is_fragment, name_in}
 use Rattle.frag_join.specs.Known.{Known, is_complete, datagram_of}
-use Rattle.frag_join.specs.Joining.{Keeping, State, Step, by_list, by_known, live, part_of, part_or_new, changed, place_of, event_from, fragment_tests, settled, with_fragment, taken_unless, fragment_step, step_by}
-use Rattle.frag_join.specs.Arrivals.{Arrival, Comes, Stays, ArrivalIs, ArrivalsAre, part_before, fragment_reason, known_with, opened, taken_by, joiner_after, joined_in, arrival_by, arrival, arrivals_from, arrivals_of, joiner_of, known_joiner, coming}
+use Rattle.frag_join.specs.Joining.{Keeping, State, Step, by_list, by_known, live, part_of, part_or_new, changed, place_of, event_from, fragment_tests, with_fragment, taken_unless, fragment_step}
+use Rattle.frag_join.specs.Arrivals.{Arrival, Comes, Stays, ArrivalIs, ArrivalsAre, part_before, fragment_reason, known_with, opened, joiner_after, joined_in, arrival_by, arrival, arrivals_from, arrivals_of, joiner_of, known_joiner, coming}
 use Rattle.frag_join.proofs.KeptSteps.{step-known}
 
 -- ## More frames

@@ -1,7 +1,7 @@
 // Fragments, as views of the frames that carry them.
 ghost use Rattle.std.specs.Prelude.{◌≡◌, ◌≤◌, ◌+◌, ◌%◌, ◌<◌, IfSome, true, false, is_some, length, slice_index};
 ghost use Rattle.gate_base.specs.Events.{event_of};
-ghost use Rattle.ipv4_frames.specs.Ipv4.{has_bad_header, has_options};
+ghost use Rattle.ipv4_frames.specs.Ipv4.{has_bad_header, has_options, is_fragment as is_part};
 ghost use Rattle.frag_join.specs.Fragments as fragments;
 ghost use Rattle.frag_join.specs.Known.{is_torn};
 
@@ -112,10 +112,22 @@ pub fn fragment_octets<'a>(event: &Event<'a>) -> Option<&'a [u8]>
     }
 }
 
+// Most datagrams aren't, which is found without the sum of their header.
 fn is_fragment(octets: &[u8]) -> bool
     ensures { result ≡ fragments.is_fragment_at octets.now }
 {
+    if octets.len() < 20 || !is_part(octets) {
+        return false;
+    }
     matches!(IpView::of(octets), Err(IpFault::Fragment))
+}
+
+// Whether more fragments follow, or others stand in front.
+fn is_part(octets: &[u8]) -> bool
+    requires { 20 ≤ length octets.now }
+    ensures { result ≡ is_part octets.now }
+{
+    get_u16(octets, 6) & 0x3fff != 0
 }
 
 /// What a fragment has in common with the others of its datagram.
