@@ -3,7 +3,7 @@ use Rattle.std.specs.Prelude.{ℕ, List, codes}
 use Rattle.gate_base.specs.declared.event.Verdict.{Verdict}
 use Rattle.gate_base.specs.declared.event.Verdict.TheVariants.{Pass, Refused, Held}
 use Rattle.gate_base.specs.declared.refusal.Refusal.{Refusal}
-use Rattle.gate_base.specs.declared.refusal.Refusal.TheVariants.{Snapped, NotIpv4, BadHeader, BadHeaderSum, Fragment, IpOptions, BadFragment, FragmentsFull, TtlSpent, NotUnicast, Protocol, BadTransport, BadSum, SourceInPool, NoBinding, BadInner, InnerUnbound, BadDns, DnsUnbound, BadSnmp, DnsStream, NoSession, SynData, SynInSession, NoAck, Gap, PastEnd, AckAhead, Unlike, StreamLimit, Backlog, SessionsFull, PoolEmpty, SnmpTooLong}
+use Rattle.gate_base.specs.declared.refusal.Refusal.TheVariants.{Snapped, NotIpv4, BadHeader, BadHeaderSum, Fragment, IpOptions, BadFragment, FragmentsFull, TtlSpent, NotUnicast, Protocol, BadTransport, BadSum, SourceInPool, NoBinding, BadInner, InnerUnbound, BadDns, DnsUnbound, BadSnmp, DnsStream, NoSession, SynData, SynInSession, NoAck, Gap, PastEnd, AckAhead, Unlike, StreamLimit, Backlog, BadUnit, UnitUnbound, RenamesFull, SessionsFull, PoolEmpty, UnitGrows, SnmpTooLong}
 
 -- the refusal's name
 unfoldable pub name_of : Refusal → List ℕ
@@ -38,8 +38,12 @@ name_of AckAhead = codes "AckAhead"
 name_of Unlike = codes "Unlike"
 name_of StreamLimit = codes "StreamLimit"
 name_of Backlog = codes "Backlog"
+name_of BadUnit = codes "BadUnit"
+name_of UnitUnbound = codes "UnitUnbound"
+name_of RenamesFull = codes "RenamesFull"
 name_of SessionsFull = codes "SessionsFull"
 name_of PoolEmpty = codes "PoolEmpty"
+name_of UnitGrows = codes "UnitGrows"
 name_of SnmpTooLong = codes "SnmpTooLong"
 
 -- `pass`, `held`, or the refusal's name

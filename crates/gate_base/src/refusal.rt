@@ -65,10 +65,18 @@ pub enum Refusal {
     StreamLimit,
     /// Too many octets of a control session's stream aren't acknowledged.
     Backlog,
+    /// What a DNS session completes is longer than 8,192 octets, or no DNS message (RFC 1035, RFC 7766).
+    BadUnit,
+    /// An address in a DNS session's message isn't listed, lies in the pool and stands for no host.
+    UnitUnbound,
+    /// More than 256 addresses would be listed in one direction of a DNS session.
+    RenamesFull,
     /// No room for another connection or control session.
     SessionsFull,
     /// The other realm's pool has too few free addresses.
     PoolEmpty,
+    /// A DNS session's message would be more than one and a half times as long, with the addresses in it renamed.
+    UnitGrows,
     /// The SNMP message would be longer than a datagram holds, with the addresses in it renamed.
     SnmpTooLong,
 }
@@ -113,8 +121,12 @@ impl Refusal {
             Refusal::Unlike => "Unlike",
             Refusal::StreamLimit => "StreamLimit",
             Refusal::Backlog => "Backlog",
+            Refusal::BadUnit => "BadUnit",
+            Refusal::UnitUnbound => "UnitUnbound",
+            Refusal::RenamesFull => "RenamesFull",
             Refusal::SessionsFull => "SessionsFull",
             Refusal::PoolEmpty => "PoolEmpty",
+            Refusal::UnitGrows => "UnitGrows",
             Refusal::SnmpTooLong => "SnmpTooLong",
         }
     }

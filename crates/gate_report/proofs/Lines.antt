@@ -47,8 +47,12 @@ refusal_short refusals.AckAhead = omega arith
 refusal_short refusals.Unlike = omega arith
 refusal_short refusals.StreamLimit = omega arith
 refusal_short refusals.Backlog = omega arith
+refusal_short refusals.BadUnit = omega arith
+refusal_short refusals.UnitUnbound = omega arith
+refusal_short refusals.RenamesFull = omega arith
 refusal_short refusals.SessionsFull = omega arith
 refusal_short refusals.PoolEmpty = omega arith
+refusal_short refusals.UnitGrows = omega arith
 refusal_short refusals.SnmpTooLong = omega arith
 
 pub verdict_short : (verdict : Verdict) → length (verdict_name verdict) ≤ 13

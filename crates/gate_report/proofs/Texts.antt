@@ -55,8 +55,12 @@ refusal_quoted refusals.AckAhead = refl
 refusal_quoted refusals.Unlike = refl
 refusal_quoted refusals.StreamLimit = refl
 refusal_quoted refusals.Backlog = refl
+refusal_quoted refusals.BadUnit = refl
+refusal_quoted refusals.UnitUnbound = refl
+refusal_quoted refusals.RenamesFull = refl
 refusal_quoted refusals.SessionsFull = refl
 refusal_quoted refusals.PoolEmpty = refl
+refusal_quoted refusals.UnitGrows = refl
 refusal_quoted refusals.SnmpTooLong = refl
 
 verdict_quoted : (verdict : Verdict) → compact_text (string (verdict_name verdict)) ≡ 34 ∷ (verdict_name verdict ++ 34 ∷ [])
