@@ -16,7 +16,8 @@ use Rattle.twice_translate.specs.Renamed.{renamed, with_payload}
 use Rattle.gate_world.specs.Frame.{Snmp}
 use Rattle.gate_world.specs.Management.{number_seen, management_after, is_bad_snmp}
 use Rattle.gate_world.specs.Names.{carried}
-use Rattle.gate_world.specs.Verdict.{uses_until, udp_hold, kind_tests, is_pool_empty}
+use Rattle.gate_world.specs.Verdict.{udp_hold, kind_tests, is_pool_empty}
+use Rattle.gate_world.specs.Units.{uses_until}
 use Rattle.gate_world.specs.World.{World, source_of, destination_of, called}
 use Rattle.kept_world.specs.Kept.{KeptSession, kept_rules}
 use Rattle.gate_payloads.specs.Taken.{IsTaken, IsWayOf}
@@ -37,7 +38,7 @@ abbrev first_by : Bool → Bool → Option Refusal
 first_by bad empty = first_that_holds ((bad, BadSnmp) ∷ (empty, PoolEmpty) ∷ [])
 
 -- the first test that holds, of a message
-first_is : (live : World KeptSession) (side : Side) (d : Datagram) (way : Way) → IsWayOf live side d way → is_bad_snmp d ≡ false → first_by false (is_empty way.of_source) ≡ first_that_holds (kind_tests kept_rules live side live.clock d Snmp ++ (is_pool_empty live.table side d Snmp, PoolEmpty) ∷ [])
+first_is : (live : World KeptSession) (side : Side) (d : Datagram) (way : Way) → IsWayOf live side d way → is_bad_snmp d ≡ false → first_by false (is_empty way.of_source) ≡ first_that_holds (kind_tests kept_rules live side live.clock d Snmp ++ (is_pool_empty kept_rules live side d Snmp, PoolEmpty) ∷ [])
 first_is live side d way w good = ap (λ (b : Bool). first_by b (is_empty way.of_source)) (sym good) ∙ ap (first_by (is_bad_snmp d)) (empty_is live side d way w)
 
 pub message_empty : (live : World KeptSession) (side : Side) (d : Datagram) (way : Way) (table : Bindings) (sent : List (List ℕ)) → IsWayOf live side d way → is_bad_snmp d ≡ false → is_empty way.of_source ≡ true → table ≡ live.table → sent ≡ [] → IsTaken live side d Snmp (Some PoolEmpty) table sent

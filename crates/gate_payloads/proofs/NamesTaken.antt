@@ -25,7 +25,8 @@ use Rattle.twice_translate.specs.Renamed.{CanGoOn, datagram_of, renamed, rebuilt
 use Rattle.twice_translate.proofs.Accepted.{ok_as, reads_udp, udp_long}
 use Rattle.gate_world.specs.Frame.{Dns}
 use Rattle.gate_world.specs.Names.{carried, message_in, named_in, is_unbound, has_unbound, reply_by, names_after}
-use Rattle.gate_world.specs.Verdict.{uses_until, udp_hold, named_hold}
+use Rattle.gate_world.specs.Verdict.{udp_hold, named_hold}
+use Rattle.gate_world.specs.Units.{uses_until}
 use Rattle.gate_world.specs.World.{World, source_of, destination_of, called}
 use Rattle.kept_world.specs.Kept.{KeptSession}
 use Rattle.gate_payloads.specs.Named.{named_uses}

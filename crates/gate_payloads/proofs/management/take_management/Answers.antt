@@ -4,7 +4,8 @@ use Rattle.binding_table.specs.Bindings.{Bindings}
 use Rattle.binding_table.specs.Plan.{after_uses}
 use Rattle.twice_translate.specs.Renamed.{datagram_of, renamed, with_payload}
 use Rattle.gate_world.specs.Management.{management_after}
-use Rattle.gate_world.specs.Verdict.{uses_until, udp_hold}
+use Rattle.gate_world.specs.Verdict.{udp_hold}
+use Rattle.gate_world.specs.Units.{uses_until}
 use Rattle.gate_payloads.specs.Ways.{image_by}
 use Rattle.gate_payloads.proofs.ManagementTaken.{good_is, message_empty, message_passes}
 use Rattle.gate_payloads.proofs.management.take_management.Goals as goal
