@@ -11,3 +11,6 @@ mod stop;
 
 pub use plan::{Endpoints, Entry, UnitPlan, plan_units};
 pub use stop::PlanStop;
+
+#[cfg(test)]
+mod tests;
