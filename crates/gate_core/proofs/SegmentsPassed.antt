@@ -24,7 +24,8 @@ use Rattle.stream_kept.specs.Sessions.{sender_kept}
 use Rattle.gate_world.specs.Frame.{Stream, has_port, dns_port}
 use Rattle.gate_world.specs.Step.{taker_in, with_connection, stream_out}
 use Rattle.gate_world.specs.Stream.{tcp_of, segment_of, key_in, found_in, session_in, begins, is_opening, pair_in, made_by, session_refusal, stepped, ends_by, stream_hold, connection_after, connections_with, pending_by, pending_in, with_session}
-use Rattle.gate_world.specs.Verdict.{uses_until, table_after}
+use Rattle.gate_world.specs.Verdict.{table_after}
+use Rattle.gate_world.specs.Units.{uses_until}
 use Rattle.gate_world.specs.World.{Tracked, World, called, source_of, destination_of, is_client}
 use Rattle.kept_world.specs.Kept.{KeptSession, kept_rules}
 use Rattle.gate_payloads.specs.Taken.{IsWayOf}

@@ -79,7 +79,7 @@ way_is live side d moment w s t f g e =
 -- a refusal by the addresses
 pub refused_way : (live : World KeptSession) (side : Side) (d : Datagram) (r : Refusal) → first_that_holds (address_tests live.table side d) ≡ Some r → Some r ≡ first_that_holds (world_tests kept_rules live side live.clock d (kind_of d))
 refused_way live side d r e =
-    let rest = kind_tests kept_rules live side live.clock d (kind_of d) ++ (is_pool_empty live.table side d (kind_of d), PoolEmpty) ∷ late_tests kept_rules live side live.clock d (kind_of d) in
+    let rest = kind_tests kept_rules live side live.clock d (kind_of d) ++ (is_pool_empty kept_rules live side d (kind_of d), PoolEmpty) ∷ late_tests kept_rules live side live.clock d (kind_of d) in
     sym (first-append (address_tests live.table side d) rest ∙ ap (λ (o : Option Refusal). option_or o (first_that_holds rest)) e)
 
 -- a way whose addresses are not refused
@@ -159,7 +159,7 @@ taken_done live after side d kind (Err x) table sent leaves e h m n = record {
 done_of : (live after : World KeptSession) (side : Side) (d : Datagram) (kind : Kind) (res : Result (Option Refusal) OutOfMemory) (sent : List (List ℕ)) → kind_of d ≡ kind → first_that_holds (address_tests live.table side d) ≡ None →
     IsDoneAs kind live side d res after sent → IsDone (first_that_holds (world_tests kept_rules live side live.clock d (kind_of d))) (first_that_holds (address_tests live.table side d)) live side d res after sent
 done_of live after side d kind res sent is none h =
-    let rest = kind_tests kept_rules live side live.clock d kind ++ (is_pool_empty live.table side d kind, PoolEmpty) ∷ late_tests kept_rules live side live.clock d kind in
+    let rest = kind_tests kept_rules live side live.clock d kind ++ (is_pool_empty kept_rules live side d kind, PoolEmpty) ∷ late_tests kept_rules live side live.clock d kind in
     let told : refusal_as kind live side d ≡ first_that_holds (world_tests kept_rules live side live.clock d kind) = sym (first-append (address_tests live.table side d) rest ∙ ap (λ (o : Option Refusal). option_or o (first_that_holds rest)) none) in
     subst (λ (k : Kind). IsDoneBy (first_that_holds (world_tests kept_rules live side live.clock d k)) (first_that_holds (address_tests live.table side d)) k live side d res after sent) (sym is)
     (subst (λ (o : Option Refusal). IsDoneBy (first_that_holds (world_tests kept_rules live side live.clock d kind)) o kind live side d res after sent) (sym none) (subst (λ (o : Option Refusal). IsDoneBy o None kind live side d res after sent) told h))

@@ -21,7 +21,7 @@ early_tests live e = front_tests e ++ address_tests live.table e.side (datagram_
 
 -- the first test behind those of the addresses that holds, of a datagram of a kind
 abbrev pub refusal_as : Kind → World KeptSession → Side → Datagram → Option Refusal
-refusal_as kind live side d = first_that_holds (kind_tests kept_rules live side live.clock d kind ++ (is_pool_empty live.table side d kind, PoolEmpty) ∷ late_tests kept_rules live side live.clock d kind)
+refusal_as kind live side d = first_that_holds (kind_tests kept_rules live side live.clock d kind ++ (is_pool_empty kept_rules live side d kind, PoolEmpty) ∷ late_tests kept_rules live side live.clock d kind)
 
 -- the segment is of a tracked session, and completes a line that bears an address
 pub record CompletesLine (live : World KeptSession) (side : Side) (d : Datagram) : Type 0 where

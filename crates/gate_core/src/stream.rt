@@ -18,7 +18,7 @@ ghost use Rattle.gate_core.specs.Segments.{IsSegmentDone, IsSegmentOf, Completes
 ghost use Rattle.gate_base.specs.Tests.{first_that_holds};
 ghost use Rattle.gate_world.specs.Step.{stream_out};
 ghost use Rattle.gate_world.specs.Stream.{tcp_of};
-ghost use Rattle.gate_world.specs.Verdict.{uses_until};
+ghost use Rattle.gate_world.specs.Units.{uses_until};
 
 use crate::known::Known;
 use binding_table::Table;

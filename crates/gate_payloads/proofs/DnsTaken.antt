@@ -28,7 +28,8 @@ use Rattle.gate_base.specs.declared.refusal.Refusal.{Refusal}
 use Rattle.gate_base.specs.declared.refusal.Refusal.TheVariants.{BadDns, DnsUnbound, PoolEmpty}
 use Rattle.gate_world.specs.Frame.{Dns, Udp}
 use Rattle.gate_world.specs.Names.{carried, message_in, named_in, is_unbound, has_unbound, reply_by, names_after}
-use Rattle.gate_world.specs.Verdict.{uses_until, udp_hold, named_hold}
+use Rattle.gate_world.specs.Verdict.{udp_hold, named_hold}
+use Rattle.gate_world.specs.Units.{uses_until}
 use Rattle.gate_world.specs.World.{World, source_of, destination_of, called}
 use Rattle.kept_world.specs.Kept.{KeptSession}
 use Rattle.gate_payloads.specs.Named.{named_uses}

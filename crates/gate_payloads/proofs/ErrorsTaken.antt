@@ -15,7 +15,8 @@ use Rattle.gate_base.specs.Tests.{first_that_holds}
 use Rattle.twice_translate.specs.Renamed.{renamed}
 use Rattle.gate_world.specs.Frame.{Error}
 use Rattle.gate_world.specs.Inner.{inside, with_inside, inner_number, inner_after, is_unknown, is_inner_unbound}
-use Rattle.gate_world.specs.Verdict.{uses_until, icmp_hold, kind_tests, is_pool_empty}
+use Rattle.gate_world.specs.Verdict.{icmp_hold, kind_tests, is_pool_empty}
+use Rattle.gate_world.specs.Units.{uses_until}
 use Rattle.gate_world.specs.World.{World, source_of, destination_of, called}
 use Rattle.kept_world.specs.Kept.{KeptSession, kept_rules}
 use Rattle.gate_payloads.specs.Taken.{IsTaken, IsWayOf}
@@ -60,7 +61,7 @@ unbound_is live side d inner source destination number k =
     ∙ ap is_unknown (sym k.number_is)
 
 -- the first test that holds, of one that is known
-first_is : (live : World KeptSession) (side : Side) (d : Datagram) (way : Way) (inner : Inner) (source destination : Addr) (number : Option (Option ℕ)) → IsWayOf live side d way → IsKnown live side d inner source destination number → first_by true (is_unknown number) (is_empty way.of_source) ≡ first_that_holds (kind_tests kept_rules live side live.clock d Error ++ (is_pool_empty live.table side d Error, PoolEmpty) ∷ [])
+first_is : (live : World KeptSession) (side : Side) (d : Datagram) (way : Way) (inner : Inner) (source destination : Addr) (number : Option (Option ℕ)) → IsWayOf live side d way → IsKnown live side d inner source destination number → first_by true (is_unknown number) (is_empty way.of_source) ≡ first_that_holds (kind_tests kept_rules live side live.clock d Error ++ (is_pool_empty kept_rules live side d Error, PoolEmpty) ∷ [])
 first_is live side d way inner source destination number w k =
     ap (λ (b : Bool). first_by b (is_unknown number) (is_empty way.of_source)) (sym k.read.holds)
     ∙ ap (λ (b : Bool). first_by (is_inner (inside d)) b (is_empty way.of_source)) (sym (unbound_is live side d inner source destination number k))

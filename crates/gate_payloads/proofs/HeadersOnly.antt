@@ -13,9 +13,10 @@ use Rattle.std.proofs.Common.{◌||◌, ◌==◌, slice_index}
 use Rattle.gate_base.specs.Fields.{u16_at}
 use Rattle.udp_icmp.specs.Icmp.{is_error_type}
 use Rattle.gate_world.specs.Frame.{Udp, Echo, udp_kind, icmp_kind}
-use Rattle.gate_world.specs.Verdict.{uses_until, udp_hold, icmp_hold, is_pool_empty}
+use Rattle.gate_world.specs.Verdict.{udp_hold, icmp_hold, is_pool_empty}
+use Rattle.gate_world.specs.Units.{uses_until}
 use Rattle.gate_world.specs.World.{World, source_of, destination_of, called}
-use Rattle.kept_world.specs.Kept.{KeptSession}
+use Rattle.kept_world.specs.Kept.{KeptSession, kept_rules}
 use Rattle.gate_payloads.specs.Taken.{IsTaken, IsWayOf}
 use Rattle.gate_payloads.specs.Ways.{image_by, is_empty, table_by, out_by}
 use Rattle.gate_payloads.specs.declared.addresses.Way.{Way}
@@ -54,7 +55,7 @@ images_are live side d way until w room =
     let after = after_uses live.table (uses_until side until (source_of d ∷ destination_of d ∷ [])) in
     ap (λ (a : Addr). R a (image_by way.of_destination way.destination)) images.source ∙ ap (R (called after side (source_of d))) images.destination
 
-pub empty_is : (live : World KeptSession) (side : Side) (d : Datagram) (way : Way) → IsWayOf live side d way → is_empty way.of_source ≡ is_pool_empty live.table side d Udp
+pub empty_is : (live : World KeptSession) (side : Side) (d : Datagram) (way : Way) → IsWayOf live side d way → is_empty way.of_source ≡ is_pool_empty kept_rules live side d Udp
 empty_is live side d way w =
     ap is_empty (of_source_is live side d way w)
     ∙ sym (pool_empty_is live.table side (source_of d) (destination_of d) (ap is_settled (sym (of_destination_is live side d way w)) ∙ w.settled))

@@ -19,7 +19,8 @@ use Rattle.binding_table.specs.Plan.{Use, used, used_by, after_uses, needed, nee
 use Rattle.binding_table.proofs.Pools.{same_side-itself}
 use Rattle.binding_table.proofs.Bind.{HasNoBinding, unbound_of}
 use Rattle.binding_table.proofs.Planned.{settled_stays, extended_follows, used_follows, flags_free}
-use Rattle.gate_world.specs.Verdict.{is_reachable, uses_until}
+use Rattle.gate_world.specs.Verdict.{is_reachable}
+use Rattle.gate_world.specs.Units.{uses_until}
 use Rattle.gate_world.specs.World.{called}
 use Rattle.gate_world.proofs.BoundTables.{new_is_least}
 use Rattle.gate_payloads.specs.Ways.{image_by, is_empty}

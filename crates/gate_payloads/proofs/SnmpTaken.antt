@@ -26,7 +26,8 @@ use Rattle.twice_translate.specs.Renamed.{rebuilt}
 use Rattle.gate_world.specs.Frame.{Snmp}
 use Rattle.gate_world.specs.Management.{number_seen, management_after, is_bad_snmp, is_snmp_too_long}
 use Rattle.gate_world.specs.Names.{carried}
-use Rattle.gate_world.specs.Verdict.{uses_until, udp_hold, kind_tests, late_tests, is_pool_empty, table_after}
+use Rattle.gate_world.specs.Verdict.{udp_hold, kind_tests, late_tests, is_pool_empty, table_after}
+use Rattle.gate_world.specs.Units.{uses_until}
 use Rattle.gate_world.specs.World.{World, source_of, destination_of, called}
 use Rattle.kept_world.specs.Kept.{KeptSession, kept_rules}
 use Rattle.gate_payloads.specs.Taken.{IsTaken, IsWayOf}
@@ -50,9 +51,9 @@ first_by bad empty long = first_that_holds ((bad, BadSnmp) ∷ (empty, PoolEmpty
 
 -- the first test that holds, of a message
 first_is : (live : World KeptSession) (side : Side) (d : Datagram) (way : Way) (long : Bool) → IsWayOf live side d way → is_bad_snmp d ≡ false → long ≡ is_snmp_too_long (table_after kept_rules live side live.clock d Snmp) side d
-    → first_by false (is_empty way.of_source) long ≡ first_that_holds (kind_tests kept_rules live side live.clock d Snmp ++ (is_pool_empty live.table side d Snmp, PoolEmpty) ∷ late_tests kept_rules live side live.clock d Snmp)
+    → first_by false (is_empty way.of_source) long ≡ first_that_holds (kind_tests kept_rules live side live.clock d Snmp ++ (is_pool_empty kept_rules live side d Snmp, PoolEmpty) ∷ late_tests kept_rules live side live.clock d Snmp)
 first_is live side d way long w good is =
-    ap (λ (b : Bool). first_by b (is_empty way.of_source) long) (sym good) ∙ ap (λ (b : Bool). first_by (is_bad_snmp d) b long) (empty_is live side d way w) ∙ ap (first_by (is_bad_snmp d) (is_pool_empty live.table side d Snmp)) is
+    ap (λ (b : Bool). first_by b (is_empty way.of_source) long) (sym good) ∙ ap (λ (b : Bool). first_by (is_bad_snmp d) b long) (empty_is live side d way w) ∙ ap (first_by (is_bad_snmp d) (is_pool_empty kept_rules live side d Snmp)) is
 
 pub message_empty : (live : World KeptSession) (side : Side) (d : Datagram) (way : Way) (table : Bindings) (sent : List (List ℕ)) → IsWayOf live side d way → is_bad_snmp d ≡ false → is_empty way.of_source ≡ true → table ≡ live.table → sent ≡ [] → IsTaken live side d Snmp (Some PoolEmpty) table sent
 message_empty live side d way table sent w good empty t s =

@@ -3,7 +3,8 @@ use Rattle.std.specs.Prelude.{ℕ, ◌+◌, List, [], ◌∷◌, ◌++◌}
 use Rattle.gate_base.specs.declared.address.Addr.{Addr}
 use Rattle.gate_base.specs.declared.side.Side.{Side}
 use Rattle.binding_table.specs.Plan.{Use}
-use Rattle.gate_world.specs.Verdict.{uses_until, udp_hold, named_hold}
+use Rattle.gate_world.specs.Verdict.{udp_hold, named_hold}
+use Rattle.gate_world.specs.Units.{uses_until}
 
 -- the uses of both addresses by the header, and of those in the message
 abbrev pub named_uses : Side → ℕ → Addr → Addr → List Addr → List Use

@@ -18,7 +18,7 @@ use Rattle.kept_world.specs.Kept.{KeptSession, kept_rules}
 
 -- a datagram of a kind is refused by the tests of that kind and its pool, or passes: the bindings, and what goes out
 pub record IsTaken (live : World KeptSession) (side : Side) (d : Datagram) (kind : Kind) (refusal : Option Refusal) (table : Bindings) (sent : List (List ℕ)) : Type 0 where
-  pub answer : refusal ≡ first_that_holds (kind_tests kept_rules live side live.clock d kind ++ (is_pool_empty live.table side d kind, PoolEmpty) ∷ late_tests kept_rules live side live.clock d kind)
+  pub answer : refusal ≡ first_that_holds (kind_tests kept_rules live side live.clock d kind ++ (is_pool_empty kept_rules live side d kind, PoolEmpty) ∷ late_tests kept_rules live side live.clock d kind)
   pub bound : table ≡ table_by refusal (table_after kept_rules live side live.clock d kind) live.table
   pub gone : sent ≡ out_by refusal (out_kind kept_rules live side live.clock d kind)
 

@@ -4,7 +4,8 @@ ghost use Rattle.gate_base.specs.Side.{other};
 ghost use Rattle.binding_table.specs.Bindings.{cross, seen, free, is_settled};
 ghost use Rattle.binding_table.specs.Plan.{used, used_by, after_uses, needed};
 ghost use Rattle.gate_base.specs.Tests.{first_that_holds};
-ghost use Rattle.gate_world.specs.Verdict.{is_reachable, uses_until};
+ghost use Rattle.gate_world.specs.Verdict.{is_reachable};
+ghost use Rattle.gate_world.specs.Units.{uses_until};
 ghost use Rattle.gate_payloads.specs.Ways.{IsWay, image_by, is_empty, way_tests};
 
 use binding_table::{Crossing, Firsts, Table};

@@ -10,7 +10,7 @@ ghost use Rattle.dns_messages.specs.Suits.{MessageSuits};
 ghost use Rattle.twice_translate.specs.Renamed.{CanGoOn, datagram_of, rebuilt};
 ghost use Rattle.gate_world.specs.Frame as kinds;
 ghost use Rattle.gate_world.specs.Names.{carried, message_in, named_in, is_unbound, has_unbound, reply_by};
-ghost use Rattle.gate_world.specs.Verdict.{uses_until};
+ghost use Rattle.gate_world.specs.Units.{uses_until};
 ghost use Rattle.gate_world.specs.World.{World};
 ghost use Rattle.kept_world.specs.Kept.{KeptSession};
 ghost use Rattle.gate_payloads.specs.Ways.{IsWay, image_by};

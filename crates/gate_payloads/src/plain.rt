@@ -5,7 +5,7 @@ ghost use Rattle.binding_table.specs.Bindings.{is_settled};
 ghost use Rattle.gate_base.specs.Tests.{first_that_holds};
 ghost use Rattle.twice_translate.specs.Renamed.{CanGoOn, datagram_of, renamed};
 ghost use Rattle.gate_base.specs.declared.refusal.Refusal.TheVariants.{PoolEmpty};
-ghost use Rattle.gate_world.specs.Verdict.{uses_until};
+ghost use Rattle.gate_world.specs.Units.{uses_until};
 ghost use Rattle.gate_payloads.specs.Ways.{IsWay, image_by, is_empty, table_by, out_by};
 
 use crate::addresses::{Way, lacks_alias};

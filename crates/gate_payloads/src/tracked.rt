@@ -18,13 +18,13 @@ pub struct TrackedSession {
 }
 
 impl Model for TrackedSession {
-    ghost use Rattle.std.specs.Prelude.{◌≡◌};
+    ghost use Rattle.std.specs.Prelude.{◌≡◌, None};
     ghost use Rattle.gate_world.specs.World.{Tracked};
     ghost use Rattle.kept_world.specs.Kept.{KeptSession};
 
     ghost Value = { Tracked KeptSession };
 
-    ghost view = { λ t. record { client = t.client; pair = t.pair; session = record { pair = t.session.client_dialogue.pair; kept = t.session.kept } } };
+    ghost view = { λ t. record { client = t.client; pair = t.pair; session = record { pair = t.session.client_dialogue.pair; lists = None; kept = t.session.kept } } };
 
     ghost invariant = { λ t. t.session.server_dialogue.pair ≡ t.session.client_dialogue.pair };
 }

@@ -33,7 +33,7 @@ use Rattle.ftp_lines.specs.Grammar.{port, eprt, delimited, passive, client_text,
 use Rattle.ftp_lines.specs.Renaming.{spelled}
 use Rattle.std.specs.Fmt.{digits}
 use Rattle.gate_world.specs.Verdict.{verdict}
-use Rattle.gate_world.proofs.RowWords.{Row, hex, block, fixed, pool, set, event, passes, refused, found, wanted}
+use Rattle.gate_world.proofs.RowWords.{Row, hex, fixed, pool, set, event, passes, refused, found, wanted}
 
 -- a source that is not one host's
 abbrev source_of_many : List Row

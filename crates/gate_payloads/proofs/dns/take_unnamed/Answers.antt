@@ -1,6 +1,7 @@
 use Rattle.std.proofs.Common.{◌+◌, [], ◌∷◌}
 use Rattle.twice_translate.specs.Renamed.{datagram_of}
-use Rattle.gate_world.specs.Verdict.{uses_until, udp_hold}
+use Rattle.gate_world.specs.Verdict.{udp_hold}
+use Rattle.gate_world.specs.Units.{uses_until}
 use Rattle.gate_payloads.proofs.DnsTaken.{nothing_named, rebuilt_same}
 use Rattle.gate_payloads.proofs.HeadersOnly.{udp_taken, over_table}
 use Rattle.gate_payloads.proofs.dns.take_unnamed.Goals as goal

@@ -7,7 +7,8 @@ use Rattle.binding_table.specs.Plan.{after_uses}
 use Rattle.twice_translate.specs.Renamed.{datagram_of, renamed}
 use Rattle.icmp_errors.specs.Inner.{read_inner, inner_with}
 use Rattle.gate_world.specs.Inner.{inside, with_inside}
-use Rattle.gate_world.specs.Verdict.{uses_until, icmp_hold}
+use Rattle.gate_world.specs.Verdict.{icmp_hold}
+use Rattle.gate_world.specs.Units.{uses_until}
 use Rattle.gate_payloads.specs.Ways.{image_by}
 use Rattle.gate_payloads.proofs.ErrorsTaken.{IsKnown, inner_read, error_unknown, error_empty, error_passes}
 use Rattle.gate_payloads.proofs.errors.take_error.Goals as goal

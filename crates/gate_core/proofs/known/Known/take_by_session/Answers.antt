@@ -6,7 +6,7 @@ use Rattle.tcp_tracker.specs.declared.connection.Connection.{Connection}
 use Rattle.session_table.specs.Joined.{replaced}
 use Rattle.binding_table.specs.Plan.{after_uses}
 use Rattle.gate_world.specs.Stream.{key_in, session_in, session_refusal, stepped}
-use Rattle.gate_world.specs.Verdict.{uses_until}
+use Rattle.gate_world.specs.Units.{uses_until}
 use Rattle.gate_world.specs.World.{Tracked}
 use Rattle.kept_world.specs.Kept.{KeptSession, kept_rules}
 use Rattle.gate_core.specs.Gates.{world_of, world_in}
