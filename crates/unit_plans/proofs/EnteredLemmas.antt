@@ -7,7 +7,7 @@ use Rattle.std.proofs.lemmas.List.{length-append, length-map, map-append, take-a
 use Rattle.std.proofs.lemmas.List.Sums.{fold-append}
 use Rattle.gate_base.specs.declared.address.Addr.{Addr}
 use Rattle.dialogue.specs.Learning.{Entry, is_of, is_listed}
-use Rattle.unit_plans.specs.Lists.{enter, entered}
+use Rattle.gate_world.specs.Lists.{enter, entered}
 use Rattle.unit_plans.specs.Plans.{beside}
 use Rattle.unit_plans.specs.Steps.{enter_one, entered_all}
 

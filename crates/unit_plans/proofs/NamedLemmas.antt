@@ -10,7 +10,7 @@ use Rattle.dns_stream.specs.Lawful.{dns_units-lawful}
 use Rattle.dns_stream.specs.Units.{unit_end, unit_addresses}
 use Rattle.unit_plans.proofs.FirstUnit.{cut-first, cut-rest}
 use Rattle.dialogue.specs.Learning.{Entry}
-use Rattle.unit_plans.specs.Lists.{addresses_in, is_bad, grows_too_much}
+use Rattle.gate_world.specs.Lists.{addresses_in, is_bad, grows_too_much}
 use Rattle.unit_plans.specs.Plans.{whole_units}
 
 -- one of the units is bad

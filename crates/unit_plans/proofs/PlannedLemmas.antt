@@ -12,8 +12,9 @@ use Rattle.binding_table.specs.declared.binding.Crossing.{Crossing}
 use Rattle.binding_table.specs.declared.binding.Crossing.TheVariants.{Unbound}
 use Rattle.binding_table.specs.Plan.{Use, AreUsesOf, after_uses, image_after, images_after}
 use Rattle.dialogue.specs.Learning.{Entry, is_of, is_listed}
-use Rattle.unit_plans.specs.Lists.{is_unbound, is_new_unbound}
-use Rattle.unit_plans.specs.Plans.{used_by, called_after, AreBound, IsListBound}
+use Rattle.gate_world.specs.Names.{is_unbound}
+use Rattle.gate_world.specs.Units.{is_new_unbound}
+use Rattle.unit_plans.specs.Plans.{all_addresses, called_after, AreBound, IsListBound}
 use Rattle.unit_plans.specs.declared.plan.Endpoints.{Endpoints}
 
 true-false : true ≡ false → ⊥
@@ -79,7 +80,7 @@ pub behind_two : {X : Type 0} (xs : List X) → take (length xs - 2) (drop 2 xs)
 behind_two xs = take_all (length xs - 2) (drop 2 xs) (omega (arith, length-drop 2 xs))
 
 -- where no new address is unbound, nor one of the header or of the list, none of those that are used is
-pub used_bound : (t : Bindings) (ends : Endpoints) (es : List Entry) (names : List Addr) → AreBound t ends.side (ends.source ∷ ends.destination ∷ []) → IsListBound t ends.side es → list_any (is_new_unbound t ends.side es) names ≡ false → AreBound t ends.side (used_by ends names)
+pub used_bound : (t : Bindings) (ends : Endpoints) (es : List Entry) (names : List Addr) → AreBound t ends.side (ends.source ∷ ends.destination ∷ []) → IsListBound t ends.side es → list_any (is_new_unbound t ends.side es) names ≡ false → AreBound t ends.side (all_addresses ends names)
 used_bound t ends es names header listed new =
     let P = IsBound t ends.side in
     All-cons P ends.source (ends.destination ∷ names) (All-head P ends.source (ends.destination ∷ []) header)

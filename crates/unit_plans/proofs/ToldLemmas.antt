@@ -10,8 +10,9 @@ use Rattle.binding_table.specs.Bindings.{Bindings, free}
 use Rattle.binding_table.specs.Plan.{needed}
 use Rattle.dialogue.specs.Learning.{Entry}
 use Rattle.dns_stream.specs.Units.{unit_end}
-use Rattle.unit_plans.specs.Lists.{entered, is_bad, is_new_unbound}
-use Rattle.unit_plans.specs.Plans.{whole_units, names_in, used_by, plan_tests}
+use Rattle.gate_world.specs.Lists.{entered, is_bad}
+use Rattle.gate_world.specs.Units.{is_new_unbound}
+use Rattle.unit_plans.specs.Plans.{whole_units, names_in, all_addresses, plan_tests}
 use Rattle.unit_plans.specs.Steps.{entered_all, none_tests}
 use Rattle.unit_plans.specs.declared.plan.Endpoints.{Endpoints}
 use Rattle.unit_plans.proofs.EnteredLemmas.{same_count}
@@ -42,7 +43,7 @@ full_told t called ends es named octets good bound are full =
     rw (good, bound, many) refl
 
 -- or not, and the other realm's pool has too few free addresses
-pub empty_told : (t : Bindings) (called : Addr → Option Addr) (ends : Endpoints) (es named : List Entry) (octets : List ℕ) → list_any is_bad (whole_units octets) ≡ false → list_any (is_new_unbound t ends.side es) (names_in octets) ≡ false → map (λ (entry : Entry). entry.0) named ≡ names_in octets → nat_lt 256 (length (entered_all es named)) ≡ false → nat_lt (free t (other ends.side)) (needed t ends.side (used_by ends (names_in octets))) ≡ true → first_that_holds (plan_tests t called ends es octets) ≡ Some PoolEmpty
+pub empty_told : (t : Bindings) (called : Addr → Option Addr) (ends : Endpoints) (es named : List Entry) (octets : List ℕ) → list_any is_bad (whole_units octets) ≡ false → list_any (is_new_unbound t ends.side es) (names_in octets) ≡ false → map (λ (entry : Entry). entry.0) named ≡ names_in octets → nat_lt 256 (length (entered_all es named)) ≡ false → nat_lt (free t (other ends.side)) (needed t ends.side (all_addresses ends (names_in octets))) ≡ true → first_that_holds (plan_tests t called ends es octets) ≡ Some PoolEmpty
 empty_told t called ends es named octets good bound are few lacks =
     let some : nat_lt 256 (length (entered called es (names_in octets))) ≡ false = ap (nat_lt 256) (sym (same_count called es named (names_in octets) are)) ∙ few in
     rw (good, bound, some, lacks) refl

@@ -12,7 +12,8 @@ use Rattle.binding_table.specs.Plan.{Use, after_uses, image_after, needed}
 use Rattle.dialogue.specs.Learning.{Entry}
 use Rattle.dialogue.specs.Stream.{cut}
 use Rattle.dns_stream.specs.Images.{dns_units}
-use Rattle.unit_plans.specs.Lists.{most_entries, addresses_in, entered, is_bad, grows_too_much, is_new_unbound}
+use Rattle.gate_world.specs.Lists.{most_entries, addresses_in, entered, is_bad, grows_too_much}
+use Rattle.gate_world.specs.Units.{is_new_unbound}
 use Rattle.unit_plans.specs.declared.plan.Endpoints.{Endpoints}
 use Rattle.unit_plans.specs.declared.stop.PlanStop.{PlanStop}
 use Rattle.unit_plans.specs.declared.stop.PlanStop.TheVariants.{Refused, OutOfMemory}
@@ -26,8 +27,8 @@ abbrev pub names_in : List ℕ → List Addr
 names_in octets = addresses_in (whole_units octets)
 
 -- the addresses that a segment uses: those of its header, and then those that its units name
-abbrev pub used_by : Endpoints → List Addr → List Addr
-used_by ends names = ends.source ∷ ends.destination ∷ names
+abbrev pub all_addresses : Endpoints → List Addr → List Addr
+all_addresses ends names = ends.source ∷ ends.destination ∷ names
 
 -- what an address of the realm is called once these uses are made: none where it crosses unchanged
 abbrev pub called_after : Bindings → List Use → Side → Addr → Option Addr
@@ -54,7 +55,7 @@ plan_tests table called ends entries octets =
     (list_any is_bad units, BadUnit)
     ∷ (list_any (is_new_unbound table ends.side entries) names, UnitUnbound)
     ∷ (nat_lt most_entries (length after), RenamesFull)
-    ∷ (nat_lt (free table (other ends.side)) (needed table ends.side (used_by ends names)), PoolEmpty)
+    ∷ (nat_lt (free table (other ends.side)) (needed table ends.side (all_addresses ends names)), PoolEmpty)
     ∷ (list_any (grows_too_much after) units, UnitGrows)
     ∷ []
 

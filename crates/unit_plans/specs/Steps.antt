@@ -7,8 +7,8 @@ use Rattle.gate_base.specs.declared.refusal.Refusal.TheVariants.{RenamesFull, Po
 use Rattle.binding_table.specs.Bindings.{Bindings, free}
 use Rattle.binding_table.specs.Plan.{needed}
 use Rattle.dialogue.specs.Learning.{Entry, is_listed}
-use Rattle.unit_plans.specs.Lists.{most_entries}
-use Rattle.unit_plans.specs.Plans.{used_by}
+use Rattle.gate_world.specs.Lists.{most_entries}
+use Rattle.unit_plans.specs.Plans.{all_addresses}
 use Rattle.unit_plans.specs.declared.plan.Endpoints.{Endpoints}
 
 -- the list with an entry behind the others, unless its address is listed
@@ -23,5 +23,5 @@ entered_all entries named = fold enter_one entries named
 abbrev pub none_tests : Bindings → Endpoints → List Entry → List (Bool × Refusal)
 none_tests table ends entries =
     (nat_lt most_entries (length entries), RenamesFull)
-    ∷ (nat_lt (free table (other ends.side)) (needed table ends.side (used_by ends [])), PoolEmpty)
+    ∷ (nat_lt (free table (other ends.side)) (needed table ends.side (all_addresses ends [])), PoolEmpty)
     ∷ []

@@ -5,7 +5,7 @@ ghost use Rattle.gate_base.specs.declared.address.Addr.{Addr};
 ghost use Rattle.binding_table.specs.Bindings.{free};
 ghost use Rattle.binding_table.specs.Plan.{Use, AreUsesOf, images_after, needed};
 ghost use Rattle.dialogue.specs.Learning.{Entry};
-ghost use Rattle.unit_plans.specs.Plans.{used_by, called_after, beside, AreBound};
+ghost use Rattle.unit_plans.specs.Plans.{all_addresses, called_after, beside, AreBound};
 
 use crate::plan::{Endpoints, Entry};
 use binding_table::{Firsts, Table};
@@ -13,12 +13,12 @@ use gate_base::{Addr, OutOfMemory, Side};
 use std::alloc::Global;
 
 /// The addresses of the header, and then those that are named.
-fn all_used(
+fn all_addresses(
     alloc: Global,
     endpoints: &Endpoints,
     named: &[Addr],
 ) -> Result<Vec<Addr>, OutOfMemory>
-    ensures { IfOk result (λ addresses. addresses.items ≡ used_by endpoints.now named.now) }
+    ensures { IfOk result (λ addresses. addresses.items ≡ all_addresses endpoints.now named.now) }
 {
     let mut addresses = Vec::with_capacity(alloc, named.len() + 2)?;
     addresses.push(endpoints.source)?;
@@ -80,12 +80,12 @@ pub fn called_beside(
     endpoints: &Endpoints,
     named: &[Addr],
 ) -> Result<(Vec<Entry>, bool), OutOfMemory>
-    requires bound { AreBound table.now endpoints.now.side (used_by endpoints.now named.now) }
-    ensures room { IfOk result (λ called. called.1 ≡ not (nat_lt (free table.now (other endpoints.now.side)) (needed table.now endpoints.now.side (used_by endpoints.now named.now)))) }
+    requires bound { AreBound table.now endpoints.now.side (all_addresses endpoints.now named.now) }
+    ensures room { IfOk result (λ called. called.1 ≡ not (nat_lt (free table.now (other endpoints.now.side)) (needed table.now endpoints.now.side (all_addresses endpoints.now named.now)))) }
     ensures named { IfOk result (λ called. map (λ (entry : Entry). entry.0) called.0.items ≡ named.now) }
-    ensures images { (uses : List Use) → AreUsesOf endpoints.now.side (used_by endpoints.now named.now) uses → IfOk result (λ called. called.1 ≡ true → called.0.items ≡ beside (called_after table.now uses endpoints.now.side) named.now) }
+    ensures images { (uses : List Use) → AreUsesOf endpoints.now.side (all_addresses endpoints.now named.now) uses → IfOk result (λ called. called.1 ≡ true → called.0.items ≡ beside (called_after table.now uses endpoints.now.side) named.now) }
 {
-    let addresses = all_used(alloc, endpoints, named)?;
+    let addresses = all_addresses(alloc, endpoints, named)?;
     let mut images = vec![in alloc; None; addresses.len()]?;
     let room = plan_if_room(table, endpoints.side, &addresses, &mut images, firsts);
     Ok((beside(alloc, named, &images[2..])?, room))

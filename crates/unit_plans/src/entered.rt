@@ -2,7 +2,9 @@
 ghost use Rattle.std.specs.Prelude.{◌≡◌, is_none, nat_lt, length, IfOk, IfSome};
 ghost use Rattle.std.specs.List.{list_any};
 ghost use Rattle.dialogue.specs.Learning.{is_listed};
-ghost use Rattle.unit_plans.specs.Lists.{most_entries, is_unbound, is_new_unbound};
+ghost use Rattle.gate_world.specs.Lists.{most_entries};
+ghost use Rattle.gate_world.specs.Names.{is_unbound};
+ghost use Rattle.gate_world.specs.Units.{is_new_unbound};
 ghost use Rattle.unit_plans.specs.Steps.{enter_one, entered_all};
 
 use crate::plan::Entry;

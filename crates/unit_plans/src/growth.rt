@@ -1,7 +1,7 @@
 // Units that would grow too much.
 ghost use Rattle.std.specs.Prelude.{◌≡◌, ◌||◌, IfOk};
 ghost use Rattle.std.specs.List.{list_any};
-ghost use Rattle.unit_plans.specs.Lists.{grows_too_much};
+ghost use Rattle.gate_world.specs.Lists.{grows_too_much};
 ghost use Rattle.unit_plans.specs.Plans.{whole_units};
 
 use crate::plan::Entry;

@@ -2,7 +2,7 @@
 ghost use Rattle.std.specs.Prelude.{◌≡◌, ◌++◌, ◌∷◌, [], true, false, Err, IfOk};
 ghost use Rattle.std.specs.List.{list_any};
 ghost use Rattle.dns_stream.specs.declared.stop.UnitStop.TheVariants as stop;
-ghost use Rattle.unit_plans.specs.Lists.{addresses_in, is_bad};
+ghost use Rattle.gate_world.specs.Lists.{addresses_in, is_bad};
 ghost use Rattle.unit_plans.specs.Plans.{whole_units, names_in};
 
 use dns_stream::{UnitStop, unit_addresses, unit_end};

@@ -3,7 +3,7 @@ ghost use Rattle.std.specs.Prelude.{◌≡◌, ◌≢◌, ◌≤◌, List, ◌�
 ghost use Rattle.gate_base.specs.Tests.{first_that_holds};
 ghost use Rattle.binding_table.specs.Plan.{Use, AreUsesOf};
 ghost use Rattle.unit_plans.specs.Steps.{none_tests};
-ghost use Rattle.unit_plans.specs.Plans.{whole_units, names_in, used_by, called_after, beside, AreBound, IsListBound, plan_tests, TellsFirst};
+ghost use Rattle.unit_plans.specs.Plans.{whole_units, names_in, all_addresses, called_after, beside, AreBound, IsListBound, plan_tests, TellsFirst};
 
 use crate::called::{called_beside, has_room};
 use crate::entered::{MOST_ENTRIES, entered_all, has_new_unbound};
@@ -46,10 +46,10 @@ pub fn plan_units(
 ) -> Result<UnitPlan, PlanStop>
     requires header { AreBound table.now endpoints.now.side (endpoints.now.source ∷ endpoints.now.destination ∷ []) }
     requires listed { IsListBound table.now endpoints.now.side entries.now }
-    ensures refused { (uses : List Use) → AreUsesOf endpoints.now.side (used_by endpoints.now (names_in octets.now)) uses → IfErr result (TellsFirst (first_that_holds (plan_tests table.now (called_after table.now uses endpoints.now.side) endpoints.now entries.now octets.now))) }
-    ensures passes { (uses : List Use) → AreUsesOf endpoints.now.side (used_by endpoints.now (names_in octets.now)) uses → IfOk result (λ _. first_that_holds (plan_tests table.now (called_after table.now uses endpoints.now.side) endpoints.now entries.now octets.now) ≡ None) }
+    ensures refused { (uses : List Use) → AreUsesOf endpoints.now.side (all_addresses endpoints.now (names_in octets.now)) uses → IfErr result (TellsFirst (first_that_holds (plan_tests table.now (called_after table.now uses endpoints.now.side) endpoints.now entries.now octets.now))) }
+    ensures passes { (uses : List Use) → AreUsesOf endpoints.now.side (all_addresses endpoints.now (names_in octets.now)) uses → IfOk result (λ _. first_that_holds (plan_tests table.now (called_after table.now uses endpoints.now.side) endpoints.now entries.now octets.now) ≡ None) }
     ensures named { IfOk result (λ plan. plan.named.items ≡ names_in octets.now) }
-    ensures entries { (uses : List Use) → AreUsesOf endpoints.now.side (used_by endpoints.now (names_in octets.now)) uses → IfOk result (λ plan. plan.entries.items ≡ beside (called_after table.now uses endpoints.now.side) (names_in octets.now)) }
+    ensures entries { (uses : List Use) → AreUsesOf endpoints.now.side (all_addresses endpoints.now (names_in octets.now)) uses → IfOk result (λ plan. plan.entries.items ≡ beside (called_after table.now uses endpoints.now.side) (names_in octets.now)) }
     ensures memory { result ≡ Err PlanStop.OutOfMemory → 1 ≤ length (whole_units octets.now) }
 {
     if unit_end(octets).is_none() {
@@ -95,10 +95,10 @@ fn plan_some(
 ) -> Result<UnitPlan, PlanStop>
     requires header { AreBound table.now endpoints.now.side (endpoints.now.source ∷ endpoints.now.destination ∷ []) }
     requires listed { IsListBound table.now endpoints.now.side entries.now }
-    ensures refused { (uses : List Use) → AreUsesOf endpoints.now.side (used_by endpoints.now (names_in octets.now)) uses → IfErr result (TellsFirst (first_that_holds (plan_tests table.now (called_after table.now uses endpoints.now.side) endpoints.now entries.now octets.now))) }
-    ensures passes { (uses : List Use) → AreUsesOf endpoints.now.side (used_by endpoints.now (names_in octets.now)) uses → IfOk result (λ _. first_that_holds (plan_tests table.now (called_after table.now uses endpoints.now.side) endpoints.now entries.now octets.now) ≡ None) }
+    ensures refused { (uses : List Use) → AreUsesOf endpoints.now.side (all_addresses endpoints.now (names_in octets.now)) uses → IfErr result (TellsFirst (first_that_holds (plan_tests table.now (called_after table.now uses endpoints.now.side) endpoints.now entries.now octets.now))) }
+    ensures passes { (uses : List Use) → AreUsesOf endpoints.now.side (all_addresses endpoints.now (names_in octets.now)) uses → IfOk result (λ _. first_that_holds (plan_tests table.now (called_after table.now uses endpoints.now.side) endpoints.now entries.now octets.now) ≡ None) }
     ensures named { IfOk result (λ plan. plan.named.items ≡ names_in octets.now) }
-    ensures entries { (uses : List Use) → AreUsesOf endpoints.now.side (used_by endpoints.now (names_in octets.now)) uses → IfOk result (λ plan. plan.entries.items ≡ beside (called_after table.now uses endpoints.now.side) (names_in octets.now)) }
+    ensures entries { (uses : List Use) → AreUsesOf endpoints.now.side (all_addresses endpoints.now (names_in octets.now)) uses → IfOk result (λ plan. plan.entries.items ≡ beside (called_after table.now uses endpoints.now.side) (names_in octets.now)) }
 {
     let named = match named_in_units(alloc, octets) {
         Ok(named) => named,

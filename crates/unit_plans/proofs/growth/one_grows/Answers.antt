@@ -3,7 +3,7 @@ use Rattle.std.specs.Prelude.{Some, None, ◌||◌}
 use Rattle.dns_stream.specs.Ends.{within}
 use Rattle.dns_stream.specs.Units.{unit_end}
 use Rattle.unit_plans.proofs.NamedLemmas.{whole_part}
-use Rattle.unit_plans.specs.Lists.{grows_too_much}
+use Rattle.gate_world.specs.Lists.{grows_too_much}
 use Rattle.unit_plans.proofs.NamedLemmas.{grows_on, grows_all}
 use Rattle.unit_plans.proofs.growth.one_grows.Goals as goal
 

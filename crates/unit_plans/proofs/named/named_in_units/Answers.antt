@@ -4,7 +4,7 @@ use Rattle.dns_stream.specs.declared.stop.UnitStop.TheVariants as stop
 use Rattle.dns_stream.specs.Ends.{within}
 use Rattle.dns_stream.specs.Units.{unit_end}
 use Rattle.unit_plans.proofs.NamedLemmas.{whole_part}
-use Rattle.unit_plans.specs.Lists.{is_bad, addresses_in}
+use Rattle.gate_world.specs.Lists.{is_bad, addresses_in}
 use Rattle.unit_plans.proofs.NamedLemmas.{goes_on, all_named, all_good, one_bad}
 use Rattle.unit_plans.proofs.named.named_in_units.Goals as goal
 

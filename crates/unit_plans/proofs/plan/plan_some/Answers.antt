@@ -6,8 +6,8 @@ use Rattle.gate_base.specs.declared.address.Addr.{Addr}
 use Rattle.binding_table.specs.Bindings.{free}
 use Rattle.binding_table.specs.Plan.{needed}
 use Rattle.dialogue.specs.Learning.{Entry}
-use Rattle.unit_plans.specs.Lists.{is_new_unbound}
-use Rattle.unit_plans.specs.Plans.{names_in, used_by, called_after, AreBound}
+use Rattle.gate_world.specs.Units.{is_new_unbound}
+use Rattle.unit_plans.specs.Plans.{names_in, all_addresses, called_after, AreBound}
 use Rattle.unit_plans.specs.Steps.{entered_all}
 use Rattle.unit_plans.proofs.PlannedLemmas.{used_bound}
 use Rattle.unit_plans.proofs.ToldLemmas.{full_told, empty_told}
@@ -19,7 +19,7 @@ called_beside-requires c =
     let ends = c.args.endpoints.now in
     let names : List Addr = c.in-Ok.named.items in
     let new : list_any (is_new_unbound t ends.side c.args.entries.now) names ≡ false = ap (list_any (is_new_unbound t ends.side c.args.entries.now)) (sym c.deref.ensures.value) ∙ sym c.has_new_unbound.ensures ∙ c.if-has_new_unbound.false in
-    record { bound = subst (λ (xs : List Addr). AreBound t ends.side (used_by ends xs)) (sym c.deref-2.ensures.value) (used_bound t ends c.args.entries.now names c.requires.header c.requires.listed new) }
+    record { bound = subst (λ (xs : List Addr). AreBound t ends.side (all_addresses ends xs)) (sym c.deref-2.ensures.value) (used_bound t ends c.args.entries.now names c.requires.header c.requires.listed new) }
 
 pub returns-in_default-clause-refused : goal.returns-in_default-clause-refused
 returns-in_default-clause-refused c = λ uses u.
@@ -43,7 +43,7 @@ returns-then-not-room-clause-refused c = λ uses u.
     let new : list_any (is_new_unbound t ends.side es) (names_in octets) ≡ false = ap (list_any (is_new_unbound t ends.side es)) (sym (c.deref.ensures.value ∙ c.in-Ok.ensures.named)) ∙ sym c.has_new_unbound.ensures ∙ c.if-has_new_unbound.false in
     let names : c.deref-2.result.now ≡ names_in octets = c.deref-2.ensures.value ∙ c.in-Ok.ensures.named in
     let few : nat_lt 256 (length (entered_all es called)) ≡ false = ap (λ (xs : List Entry). nat_lt 256 (length (entered_all es xs))) (sym c.deref-3.ensures.value) ∙ sym c.in_ok-after.ensures.few ∙ ap is_none c.in-Some.is in
-    let room : not (nat_lt (free t (other ends.side)) (needed t ends.side (used_by ends (names_in octets)))) ≡ false = ap (λ (xs : List Addr). not (nat_lt (free t (other ends.side)) (needed t ends.side (used_by ends xs)))) (sym names) ∙ sym c.in_ok-called.ensures.room ∙ c.if-not-room.true in
+    let room : not (nat_lt (free t (other ends.side)) (needed t ends.side (all_addresses ends (names_in octets)))) ≡ false = ap (λ (xs : List Addr). not (nat_lt (free t (other ends.side)) (needed t ends.side (all_addresses ends xs)))) (sym names) ∙ sym c.in_ok-called.ensures.room ∙ c.if-not-room.true in
     empty_told t (called_after t uses ends.side) ends es called octets c.in-Ok.ensures.good new (c.in_ok-called.ensures.named ∙ names) few (lacks _ room)
   where
     lacks : (b : Bool) → not b ≡ false → b ≡ true
