@@ -1,0 +1,70 @@
+-- Lists into which addresses are entered.
+use Rattle.std.proofs.Common.{◌≡◌, ◌≤◌, ◌<◌, ◌+◌, ℕ, Bool, true, false, List, [], ◌∷◌, ◌++◌, length, take, drop, refl, sym, ◌∙◌, ap, arith, inl, inr}
+use Rattle.std.specs.Prelude.{map, Option, ◌==◌, nat_lt}
+use Rattle.std.specs.List.{list_any}
+use Rattle.std.proofs.lemmas.Bool.{cases_Bool, lt-ltb}
+use Rattle.std.proofs.lemmas.List.{length-append, length-map, map-append, take-append-drop}
+use Rattle.std.proofs.lemmas.List.Sums.{fold-append}
+use Rattle.gate_base.specs.declared.address.Addr.{Addr}
+use Rattle.dialogue.specs.Learning.{Entry, is_of, is_listed}
+use Rattle.gate_world.specs.Lists.{enter, entered}
+use Rattle.unit_plans.specs.Plans.{beside}
+use Rattle.unit_plans.specs.Steps.{enter_one, entered_all}
+
+-- entering addresses beside what they are called is entering them by it
+pub entered-beside : (called : Addr → Option Addr) (es : List Entry) (names : List Addr) → entered_all es (beside called names) ≡ entered called es names
+entered-beside called es [] = refl
+entered-beside called es (name ∷ names) = entered-beside called (enter called es name) names
+
+one-more : (es : List Entry) (one : Entry) → length es ≤ length (enter_one es one)
+one-more es one =
+    elim (cases_Bool (is_listed es one.0.0)) [
+      | inl e ↦ rw e (omega arith)
+      | inr e ↦ rw e (omega (arith, length-append es (one ∷ [])))
+    ]
+
+-- no list gets shorter
+all-more : (es named : List Entry) → length es ≤ length (entered_all es named)
+all-more es [] = omega arith
+all-more es (one ∷ named) = omega (arith, one-more es one, all-more (enter_one es one) named)
+
+-- a list that has too many entries once some are entered has too many once all are
+pub still_full : (es named : List Entry) (i : ℕ) → 256 < length (entered_all es (take i named)) → nat_lt 256 (length (entered_all es named)) ≡ true
+still_full es named i full =
+    let split : entered_all es named ≡ entered_all (entered_all es (take i named)) (drop i named) = ap (entered_all es) (sym (take-append-drop i named)) ∙ fold-append enter_one es (take i named) (drop i named) in
+    lt-ltb 256 (length (entered_all es named)) (omega (arith, full, ap length split, all-more (entered_all es (take i named)) (drop i named)))
+
+abbrev addresses_of : List Entry → List Addr
+addresses_of es = map (λ (entry : Entry). entry.0) es
+
+abbrev is_address : ℕ → Addr → Bool
+is_address number address = address.0 == number
+
+listed-by : (es : List Entry) (number : ℕ) → is_listed es number ≡ list_any (is_address number) (addresses_of es)
+listed-by [] number = refl
+listed-by (e ∷ es) number =
+    elim (cases_Bool (is_of number e)) [
+      | inl t ↦ rw t refl
+      | inr f ↦ rw f (listed-by es number)
+    ]
+
+-- which addresses a list has afterwards doesn't depend on what they are called
+one_alike : (called : Addr → Option Addr) (es fs : List Entry) (one : Entry) → addresses_of es ≡ addresses_of fs → addresses_of (enter_one es one) ≡ addresses_of (enter called fs one.0)
+one_alike called es fs one same =
+    let known : is_listed fs one.0.0 ≡ is_listed es one.0.0 = listed-by fs one.0.0 ∙ ap (list_any (is_address one.0.0)) (sym same) ∙ sym (listed-by es one.0.0) in
+    elim (cases_Bool (is_listed es one.0.0)) [
+      | inl e ↦ let f : is_listed fs one.0.0 ≡ true = known ∙ e in rw (e, f) same
+      | inr e ↦ let f : is_listed fs one.0.0 ≡ false = known ∙ e in
+          rw (e, f) (map-append _ es (one ∷ []) ∙ ap (λ (xs : List Addr). xs ++ one.0 ∷ []) same ∙ sym (map-append _ fs ((one.0, called one.0) ∷ [])))
+    ]
+
+all_alike : (called : Addr → Option Addr) (es fs named : List Entry) → addresses_of es ≡ addresses_of fs → addresses_of (entered_all es named) ≡ addresses_of (entered called fs (addresses_of named))
+all_alike called es fs [] same = same
+all_alike called es fs (one ∷ named) same = all_alike called (enter_one es one) (enter called fs one.0) named (one_alike called es fs one same)
+
+-- nor does how many they are
+pub same_count : (called : Addr → Option Addr) (es named : List Entry) (names : List Addr) → addresses_of named ≡ names → length (entered_all es named) ≡ length (entered called es names)
+same_count called es named names are =
+    sym (length-map (entered_all es named) _)
+    ∙ ap length (all_alike called es es named refl ∙ ap (λ (xs : List Addr). addresses_of (entered called es xs)) are)
+    ∙ length-map (entered called es names) _

@@ -1,0 +1,5 @@
+pub mod FirstUnit
+pub mod NamedLemmas
+pub mod EnteredLemmas
+pub mod PlannedLemmas
+pub mod ToldLemmas

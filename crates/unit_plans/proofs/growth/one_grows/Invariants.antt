@@ -1,0 +1,13 @@
+use Rattle.std.proofs.Common.{◌≡◌, ◌≤◌, length, drop}
+use Rattle.std.specs.Prelude.{◌-◌, ◌||◌}
+use Rattle.std.specs.List.{list_any}
+use Rattle.gate_world.specs.Lists.{grows_too_much}
+use Rattle.unit_plans.specs.Plans.{whole_units}
+use Rattle.unit_plans.proofs.NamedLemmas.{Grows}
+use Rattle.unit_plans.proofs.growth.one_grows.Given as goal
+
+abbrev pub invariant-loop-end : goal.invariant-loop-end
+invariant-loop-end l = Grows l.entries l.octets l.at l.grows
+
+abbrev pub decreases-loop-end : goal.decreases-loop-end
+decreases-loop-end l = length l.octets - l.at
