@@ -21,10 +21,10 @@ use Rattle.twice_translate.specs.Renamed.{datagram_of, renamed}
 use Rattle.gate_base.specs.Tests.{first_that_holds}
 use Rattle.stream_kept.specs.Outs.{start_kept}
 use Rattle.stream_kept.specs.Sessions.{sender_kept}
-use Rattle.gate_world.specs.Frame.{Stream, has_port, dns_port}
+use Rattle.gate_world.specs.Frame.{Stream, has_port, dns_port, control_port}
 use Rattle.gate_world.specs.Step.{taker_in, with_connection, stream_out}
 use Rattle.gate_world.specs.Stream.{tcp_of, segment_of, key_in, found_in, session_in, begins, is_opening, pair_in, made_by, session_refusal, stepped, ends_by, stream_hold, connection_after, connections_with, pending_by, pending_in, with_session}
-use Rattle.gate_world.specs.Verdict.{table_after}
+use Rattle.gate_world.specs.Verdict.{table_after, image_in}
 use Rattle.gate_world.specs.Units.{uses_until}
 use Rattle.gate_world.specs.World.{Tracked, World, called, source_of, destination_of, is_client}
 use Rattle.kept_world.specs.Kept.{KeptSession, kept_rules}
@@ -35,8 +35,9 @@ use Rattle.gate_payloads.proofs.Passes.{source_called, destination_called}
 use Rattle.gate_payloads.proofs.HeadersOnly.{of_source_is, of_destination_is, uses_are}
 use Rattle.gate_core.specs.Gates.{world_of}
 use Rattle.gate_core.specs.Done.{IsLost}
-use Rattle.gate_core.specs.Segments.{stream_refusal, IsSegmentTaken, IsSegmentDone, CompletesIn, connections_by, room_tests, lacks_place, session_verdict, waiting_after, pair_on, made_on}
+use Rattle.gate_core.specs.Segments.{stream_refusal, IsSegmentTaken, IsSegmentDone, CompletesIn, connections_by, room_tests, lacks_place, session_verdict, waiting_after, pair_on, made_on, IsOfLines}
 use Rattle.gate_core.proofs.NotedConnections.{noted_replaced, noted_untracked, noted_begun, without_replaced, session_left, session_begun, none_left}
+use Rattle.gate_core.proofs.SessionsOfLines.{table_is, control_is}
 use Rattle.gate_core.proofs.SegmentTests.{IsJoined, joined_refusal, found_joined, room_none}
 
 -- ## What both addresses are called
@@ -53,29 +54,39 @@ destination_is live side d way until w =
 
 -- ## A segment that passes
 
+-- what a new address is called
+abbrev pub image_of : World KeptSession → Side → Datagram → Addr → Option Addr
+image_of live side d = image_in kept_rules live side live.clock d
+
 pub passed_is : (live : World KeptSession) (side : Side) (d : Datagram) (way : Way) (hold : ℕ) (taker : Option (Tracked KeptSession)) (table : Bindings) (connections : List (Connection (Tracked KeptSession))) (pending : ℕ) (sent : List (List ℕ)) →
-    IsWayOf live side d way → is_empty way.of_source ≡ false → stream_hold kept_rules live side d ≡ hold → taker_in kept_rules live side live.clock d ≡ taker → None ≡ stream_refusal live side d →
+    IsWayOf live side d way → is_empty way.of_source ≡ false → IsOfLines (session_in (found_in live side d)) → stream_hold kept_rules live side d ≡ hold → taker_in kept_rules live side live.clock d ≡ taker → None ≡ stream_refusal live side d →
     table ≡ after_uses live.table (uses_until way.side (way.moment.0 + hold) (way.source ∷ way.destination ∷ [])) →
-    connections ≡ connections_with live side d (connection_after kept_rules live side live.clock d taker) →
-    pending ≡ max live.pending (pending_in kept_rules (connection_after kept_rules live side live.clock d taker)) →
-    sent ≡ stream_out kept_rules side d (image_by way.of_source way.source).0 (image_by way.of_destination way.destination).0 taker →
+    connections ≡ connections_with live side d (connection_after kept_rules (image_of live side d) live side live.clock d taker) →
+    pending ≡ max live.pending (pending_in kept_rules (connection_after kept_rules (image_of live side d) live side live.clock d taker)) →
+    sent ≡ stream_out kept_rules (image_of live side d) side d (image_by way.of_source way.source).0 (image_by way.of_destination way.destination).0 taker →
     IsSegmentTaken live side d None (world_of live.clock table connections pending) sent
-passed_is live side d way hold taker table connections pending sent w room h t none one two three four = record {
+passed_is live side d way hold taker table connections pending sent w room lines h t none one two three four = record {
   answer = none;
   left =
       ap (λ (x : Bindings). world_of live.clock x connections pending) bound
       ∙ ap (λ (x : List (Connection (Tracked KeptSession))). world_of live.clock (table_after kept_rules live side live.clock d Stream) x pending) two
-      ∙ ap (world_of live.clock (table_after kept_rules live side live.clock d Stream) (connections_with live side d (connection_after kept_rules live side live.clock d taker))) three
-      ∙ ap (λ (x : Option (Tracked KeptSession)). with_connection kept_rules live side d (table_after kept_rules live side live.clock d Stream) (connection_after kept_rules live side live.clock d x)) (sym t);
+      ∙ ap (world_of live.clock (table_after kept_rules live side live.clock d Stream) (connections_with live side d (connection_after kept_rules (image_of live side d) live side live.clock d taker))) three
+      ∙ ap (λ (x : Option (Tracked KeptSession)). with_connection kept_rules live side d (table_after kept_rules live side live.clock d Stream) (connection_after kept_rules (image_of live side d) live side live.clock d x)) (sym t);
   gone =
       four
-      ∙ ap (λ (a : Addr). stream_out kept_rules side d a.0 (image_by way.of_destination way.destination).0 taker) (source_is live side d way (live.clock + stream_hold kept_rules live side d) w room)
-      ∙ ap (λ (a : Addr). stream_out kept_rules side d (called (table_after kept_rules live side live.clock d Stream) side (source_of d)).0 a.0 taker) (destination_is live side d way (live.clock + stream_hold kept_rules live side d) w)
-      ∙ ap (stream_out kept_rules side d (called (table_after kept_rules live side live.clock d Stream) side (source_of d)).0 (called (table_after kept_rules live side live.clock d Stream) side (destination_of d)).0) (sym t);
+      ∙ ap (λ (a : Addr). stream_out kept_rules (image_of live side d) side d a.0 (image_by way.of_destination way.destination).0 taker) source
+      ∙ ap (λ (a : Addr). stream_out kept_rules (image_of live side d) side d (called (table_after kept_rules live side live.clock d Stream) side (source_of d)).0 a.0 taker) destination
+      ∙ ap (stream_out kept_rules (image_of live side d) side d (called (table_after kept_rules live side live.clock d Stream) side (source_of d)).0 (called (table_after kept_rules live side live.clock d Stream) side (destination_of d)).0) (sym t);
 }
   where
     bound : table ≡ table_after kept_rules live side live.clock d Stream
-    bound = one ∙ uses_are live side d way hold w ∙ ap (λ (n : ℕ). after_uses live.table (uses_until side (live.clock + n) (source_of d ∷ destination_of d ∷ []))) (sym h)
+    bound = one ∙ uses_are live side d way hold w ∙ ap (λ (n : ℕ). after_uses live.table (uses_until side (live.clock + n) (source_of d ∷ destination_of d ∷ []))) (sym h) ∙ sym (table_is live side d lines)
+
+    source : image_by way.of_source way.source ≡ called (table_after kept_rules live side live.clock d Stream) side (source_of d)
+    source = source_is live side d way (live.clock + stream_hold kept_rules live side d) w room ∙ ap (λ (x : Bindings). called x side (source_of d)) (sym (table_is live side d lines))
+
+    destination : image_by way.of_destination way.destination ≡ called (table_after kept_rules live side live.clock d Stream) side (destination_of d)
+    destination = destination_is live side d way (live.clock + stream_hold kept_rules live side d) w ∙ ap (λ (x : Bindings). called x side (destination_of d)) (sym (table_is live side d lines))
 
 -- ## A segment that no session takes
 
@@ -106,11 +117,11 @@ untracked_taken live way d full None table_new connections_new sent w j lone a b
     let key = key_in live.table way.side d in
     let flags = (tcp_of d).flags in
     let hold = hold_of live.connections key way.side flags in
-    passed_is live way.side d way hold None table_new connections_new live.pending sent w (room_none full (is_empty way.of_source) a).1
+    passed_is live way.side d way hold None table_new connections_new live.pending sent w (room_none full (is_empty way.of_source) a).1 j.lines
     (ap (λ (s : Option (Tracked KeptSession)). if ends_by kept_rules way.side d s then short_hold else hold) lone)
     j.taker_is (a ∙ joined_refusal live way.side d way None full w j) b
     (c ∙ ap (noted live.connections key way.side flags None) (now_is live way.side d way w) ∙ noted_untracked key live.connections way.side flags (now_of live) lone)
-    (nothing_waits live.pending (session_in (connection_after kept_rules live way.side live.clock d None)) (none_left (after key way.side flags None (now_of live) (found_in live way.side d))))
+    (nothing_waits live.pending (session_in (connection_after kept_rules (image_of live way.side d) live way.side live.clock d None)) (none_left (after key way.side flags None (now_of live) (found_in live way.side d))))
     g
 
 -- the same, by what was called
@@ -160,20 +171,20 @@ passes live side d way taker full w j verdict few room =
 
 pub session_goes_on : (live : World KeptSession) (way : Way) (d : Datagram) (t : Tracked KeptSession) (waiting : ℕ) (table_new : Bindings) (connections_new : List (Connection (Tracked KeptSession))) (sent : List (List ℕ)) →
     let key = key_in live.table way.side d in let flags = (tcp_of d).flags in
-    IsWayOf live way.side d way → has_port dns_port d ≡ false → session_in (found_in live way.side d) ≡ Some t → session_refusal kept_rules way.side d (Some t) ≡ None → is_empty way.of_source ≡ false → Some waiting ≡ waiting_after way.side d t →
+    IsWayOf live way.side d way → has_port dns_port d ≡ false → session_in (found_in live way.side d) ≡ Some t → IsOfLines (Some t) → session_refusal kept_rules way.side d (Some t) ≡ None → is_empty way.of_source ≡ false → Some waiting ≡ waiting_after (image_of live way.side d) way.side d t →
     table_new ≡ after_uses live.table (uses_until way.side (way.moment.0 + hold_of live.connections key way.side flags) (way.source ∷ way.destination ∷ [])) →
-    connections_new ≡ noted (replaced live.connections key (stepped kept_rules way.side d t)) key way.side flags None way.moment →
-    sent ≡ stream_out kept_rules way.side d (image_by way.of_source way.source).0 (image_by way.of_destination way.destination).0 (Some t) →
+    connections_new ≡ noted (replaced live.connections key (stepped kept_rules (image_of live way.side d) way.side d t)) key way.side flags None way.moment →
+    sent ≡ stream_out kept_rules (image_of live way.side d) way.side d (image_by way.of_source way.source).0 (image_by way.of_destination way.destination).0 (Some t) →
     IsSegmentTaken live way.side d None (world_of live.clock table_new connections_new (max live.pending waiting)) sent
-session_goes_on live way d t waiting table_new connections_new sent w dns e verdict room h b c g =
+session_goes_on live way d t waiting table_new connections_new sent w dns e lines verdict room h b c g =
     let key = key_in live.table way.side d in
     let flags = (tcp_of d).flags in
     let hold = hold_of live.connections key way.side flags in
-    let s = stepped kept_rules way.side d t in
+    let s = stepped kept_rules (image_of live way.side d) way.side d t in
     let on = goes_on (ends_by kept_rules way.side d (Some t)) waiting (pending_by kept_rules (Some s)) h in
-    let j = found_joined live way.side d (Some t) dns (some_session (found_in live way.side d) t e) e in
+    let j = found_joined live way.side d (Some t) dns (some_session (found_in live way.side d) t e) e lines in
     let left : Bool → Option (Connection (Tracked KeptSession)) = λ x. if x then None else option_map (with_session (Some s)) (after key way.side flags (Some t) (now_of live) (found_in live way.side d)) in
-    passed_is live way.side d way hold (Some t) table_new connections_new (max live.pending waiting) sent w room
+    passed_is live way.side d way hold (Some t) table_new connections_new (max live.pending waiting) sent w room j.lines
     (ap (λ (o : Option (Tracked KeptSession)). if ends_by kept_rules way.side d o then short_hold else hold) e ∙ ap (λ (x : Bool). if x then short_hold else hold) on.0)
     j.taker_is (passes live way.side d way (Some t) false w j verdict refl room) b
     (c ∙ ap (noted (replaced live.connections key s) key way.side flags None) (now_is live way.side d way w) ∙ noted_replaced key live.connections t s way.side flags (Some t) (now_of live) e ∙ sym (ap (λ (x : Bool). changed live.connections (place_of key live.connections) (left x)) on.0))
@@ -182,20 +193,20 @@ session_goes_on live way d t waiting table_new connections_new sent w dns e verd
 
 pub session_is_over : (live : World KeptSession) (way : Way) (d : Datagram) (t : Tracked KeptSession) (table_new : Bindings) (connections_new : List (Connection (Tracked KeptSession))) (sent : List (List ℕ)) →
     let key = key_in live.table way.side d in
-    IsWayOf live way.side d way → has_port dns_port d ≡ false → session_in (found_in live way.side d) ≡ Some t → session_refusal kept_rules way.side d (Some t) ≡ None → is_empty way.of_source ≡ false → None ≡ waiting_after way.side d t →
+    IsWayOf live way.side d way → has_port dns_port d ≡ false → session_in (found_in live way.side d) ≡ Some t → IsOfLines (Some t) → session_refusal kept_rules way.side d (Some t) ≡ None → is_empty way.of_source ≡ false → None ≡ waiting_after (image_of live way.side d) way.side d t →
     table_new ≡ after_uses live.table (uses_until way.side (way.moment.0 + short_hold) (way.source ∷ way.destination ∷ [])) →
-    connections_new ≡ without (replaced live.connections key (stepped kept_rules way.side d t)) key →
-    sent ≡ stream_out kept_rules way.side d (image_by way.of_source way.source).0 (image_by way.of_destination way.destination).0 (Some t) →
+    connections_new ≡ without (replaced live.connections key (stepped kept_rules (image_of live way.side d) way.side d t)) key →
+    sent ≡ stream_out kept_rules (image_of live way.side d) way.side d (image_by way.of_source way.source).0 (image_by way.of_destination way.destination).0 (Some t) →
     IsSegmentTaken live way.side d None (world_of live.clock table_new connections_new live.pending) sent
-session_is_over live way d t table_new connections_new sent w dns e verdict room h b c g =
+session_is_over live way d t table_new connections_new sent w dns e lines verdict room h b c g =
     let key = key_in live.table way.side d in
     let flags = (tcp_of d).flags in
     let hold = hold_of live.connections key way.side flags in
-    let s = stepped kept_rules way.side d t in
+    let s = stepped kept_rules (image_of live way.side d) way.side d t in
     let over = is_over (ends_by kept_rules way.side d (Some t)) (pending_by kept_rules (Some s)) h in
-    let j = found_joined live way.side d (Some t) dns (some_session (found_in live way.side d) t e) e in
+    let j = found_joined live way.side d (Some t) dns (some_session (found_in live way.side d) t e) e lines in
     let left : Bool → Option (Connection (Tracked KeptSession)) = λ x. if x then None else option_map (with_session (Some s)) (after key way.side flags (Some t) (now_of live) (found_in live way.side d)) in
-    passed_is live way.side d way short_hold (Some t) table_new connections_new live.pending sent w room
+    passed_is live way.side d way short_hold (Some t) table_new connections_new live.pending sent w room j.lines
     (ap (λ (o : Option (Tracked KeptSession)). if ends_by kept_rules way.side d o then short_hold else hold) e ∙ ap (λ (x : Bool). if x then short_hold else hold) over)
     j.taker_is (passes live way.side d way (Some t) false w j verdict refl room) b
     (c ∙ without_replaced key live.connections t s e ∙ sym (ap (λ (x : Bool). changed live.connections (place_of key live.connections) (left x)) over))
@@ -215,29 +226,32 @@ pair_is live side d way until w room =
     ∙ ap (λ (a : Addr). P way.source (image_by way.of_source way.source) a (destination_of d)) (sym t)
     ∙ ap (P way.source (image_by way.of_source way.source) (image_by way.of_destination way.destination)) (sym w.destination_is)
 
-made_is : (live : World KeptSession) (d : Datagram) (way : Way) → IsWayOf live way.side d way → is_empty way.of_source ≡ false → made_by kept_rules (table_after kept_rules live way.side live.clock d Stream) way.side d ≡ made_on way (tcp_of d)
-made_is live d way w room =
-    ap (λ (p : Pair). let t : Tracked KeptSession = record { client = way.side; pair = p; session = kept_rules.made p (tcp_of d).sequence (tcp_of d).mss } in t) (pair_is live way.side d way (live.clock + stream_hold kept_rules live way.side d) w room)
+made_is : (live : World KeptSession) (d : Datagram) (way : Way) → IsWayOf live way.side d way → is_empty way.of_source ≡ false → IsOfLines (session_in (found_in live way.side d)) → (tcp_of d).destination_port ≡ control_port → made_by kept_rules (table_after kept_rules live way.side live.clock d Stream) way.side d ≡ made_on way (tcp_of d)
+made_is live d way w room lines control =
+    let M : ℕ → Pair → Tracked KeptSession = λ port p. record { client = way.side; pair = p; session = kept_rules.made port p (tcp_of d).sequence (tcp_of d).mss } in
+    ap (λ (x : Bindings). made_by kept_rules x way.side d) (table_is live way.side d lines)
+    ∙ ap (M (tcp_of d).destination_port) (pair_is live way.side d way (live.clock + stream_hold kept_rules live way.side d) w room)
+    ∙ ap (λ (port : ℕ). M port (pair_on way)) control
 
 pub session_begins : (live : World KeptSession) (way : Way) (d : Datagram) (waiting : Option ℕ) (full : Bool) (table_new : Bindings) (connections_new : List (Connection (Tracked KeptSession))) (sent : List (List ℕ)) →
     let key = key_in live.table way.side d in let flags = (tcp_of d).flags in let t = made_on way (tcp_of d) in
-    IsWayOf live way.side d way → found_in live way.side d ≡ None → IsJoined live way.side d (Some (made_by kept_rules (table_after kept_rules live way.side live.clock d Stream) way.side d)) full → full ≡ false →
-    session_refusal kept_rules way.side d (Some (made_by kept_rules (table_after kept_rules live way.side live.clock d Stream) way.side d)) ≡ None → (flags_of flags).reset ≡ false → is_empty way.of_source ≡ false → waiting ≡ waiting_after way.side d t →
+    IsWayOf live way.side d way → found_in live way.side d ≡ None → (is_opening (tcp_of d).flags && (tcp_of d).destination_port == control_port) ≡ true → IsJoined live way.side d (Some (made_by kept_rules (table_after kept_rules live way.side live.clock d Stream) way.side d)) full → full ≡ false →
+    session_refusal kept_rules way.side d (Some (made_by kept_rules (table_after kept_rules live way.side live.clock d Stream) way.side d)) ≡ None → (flags_of flags).reset ≡ false → is_empty way.of_source ≡ false → waiting ≡ waiting_after (image_of live way.side d) way.side d t →
     table_new ≡ after_uses live.table (uses_until way.side (way.moment.0 + hold_of live.connections key way.side flags) (way.source ∷ way.destination ∷ [])) →
-    connections_new ≡ noted live.connections key way.side flags (Some (stepped kept_rules way.side d t)) way.moment →
-    sent ≡ stream_out kept_rules way.side d (image_by way.of_source way.source).0 (image_by way.of_destination way.destination).0 (Some t) →
+    connections_new ≡ noted live.connections key way.side flags (Some (stepped kept_rules (image_of live way.side d) way.side d t)) way.moment →
+    sent ≡ stream_out kept_rules (image_of live way.side d) way.side d (image_by way.of_source way.source).0 (image_by way.of_destination way.destination).0 (Some t) →
     IsSegmentTaken live way.side d None (world_of live.clock table_new connections_new (max live.pending (unwrap_or waiting 0))) sent
-session_begins live way d waiting full table_new connections_new sent w none j few verdict plain room h b c g =
+session_begins live way d waiting full table_new connections_new sent w none first j few verdict plain room h b c g =
     let key = key_in live.table way.side d in
     let flags = (tcp_of d).flags in
     let hold = hold_of live.connections key way.side flags in
     let t = made_on way (tcp_of d) in
-    let s = stepped kept_rules way.side d t in
+    let s = stepped kept_rules (image_of live way.side d) way.side d t in
     let on : ends_by kept_rules way.side d (Some t) ≡ false = ap (λ (x : Bool). x && (is_none (sender_kept (is_client way.side t) t.session.kept).initial || (start_kept (sender_kept (is_client way.side t) t.session.kept) (segment_of d)).before == 0)) plain in
     let left : Bool → Option (Connection (Tracked KeptSession)) = λ x. if x then None else option_map (with_session (Some s)) (after key way.side flags (Some t) (now_of live) (found_in live way.side d)) in
-    passed_is live way.side d way hold (Some t) table_new connections_new (max live.pending (unwrap_or waiting 0)) sent w room
+    passed_is live way.side d way hold (Some t) table_new connections_new (max live.pending (unwrap_or waiting 0)) sent w room j.lines
     (ap (λ (o : Option (Connection (Tracked KeptSession))). if ends_by kept_rules way.side d (session_in o) then short_hold else hold) none)
-    (j.taker_is ∙ ap Some (made_is live d way w room)) (passes live way.side d way (Some (made_by kept_rules (table_after kept_rules live way.side live.clock d Stream) way.side d)) full w j verdict few room) b
+    (j.taker_is ∙ ap Some (made_is live d way w room j.lines (control_is d first))) (passes live way.side d way (Some (made_by kept_rules (table_after kept_rules live way.side live.clock d Stream) way.side d)) full w j verdict few room) b
     (c ∙ ap (noted live.connections key way.side flags (Some s)) (now_is live way.side d way w) ∙ noted_begun key live.connections t s way.side flags (now_of live) none plain ∙ sym (ap (λ (x : Bool). changed live.connections (place_of key live.connections) (left x)) on))
     (ap (λ (o : Option ℕ). max live.pending (unwrap_or o 0)) (h ∙ ap (λ (x : Bool). if x then None else Some (pending_by kept_rules (Some s))) on)
     ∙ ap (max live.pending) (sym (ap (λ (x : Bool). pending_in kept_rules (left x)) on ∙ ap (pending_by kept_rules) (session_begun key t s way.side flags (now_of live) (found_in live way.side d) none plain))))

@@ -1,5 +1,6 @@
 -- What becomes of a segment.
-use Rattle.std.specs.Prelude.{◌≤◌, ◌≡◌, ◌&&◌, not, nat_le, ℕ, Bool, List, [], ◌∷◌, length, Option, Some, None, is_none, option_map, if◌then◌else◌, Result}
+use Rattle.std.specs.Prelude.{◌≤◌, ◌≡◌, ◌&&◌, not, nat_le, ℕ, Bool, List, [], ◌∷◌, length, Option, Some, None, is_none, option_map, if◌then◌else◌, IfSome, Result}
+use Rattle.gate_base.specs.declared.address.Addr.{Addr}
 use Rattle.gate_base.specs.declared.event.OutOfMemory.{OutOfMemory}
 use Rattle.gate_base.specs.declared.event.Pair.{Pair}
 use Rattle.gate_base.specs.declared.refusal.Refusal.{Refusal}
@@ -11,7 +12,7 @@ use Rattle.tcp_segments.specs.Tcp.{Tcp}
 use Rattle.tcp_segments.specs.Flags.{flags_of}
 use Rattle.tcp_tracker.specs.declared.connection.Connection.{Connection}
 use Rattle.stream_gate.specs.Memory.{KeptCompletes}
-use Rattle.gate_world.specs.Frame.{Stream}
+use Rattle.gate_world.specs.Frame.{Stream, control_port}
 use Rattle.twice_translate.specs.Renamed.{CanGoOn, datagram_of}
 use Rattle.gate_world.specs.Stream.{tcp_of, segment_of, session_refusal, stepped, ends_by, pending_by, most_connections}
 use Rattle.gate_world.specs.World.{Tracked, World, is_client}
@@ -55,9 +56,13 @@ lacks_place all found flags = is_none found && (not (flags_of flags).reset && na
 abbrev pub session_verdict : Side → Datagram → Option (Tracked KeptSession) → Option (Option Refusal)
 session_verdict side d taker = option_map (λ t. session_refusal kept_rules side d (Some t)) taker
 
+-- a session of lines, which has no lists, if there is one
+abbrev pub IsOfLines : Option (Tracked KeptSession) → Type 0
+IsOfLines session = IfSome session (λ t. t.session.lists ≡ None)
+
 -- how many changed lines wait in a session after a segment, unless it ends
-abbrev pub waiting_after : Side → Datagram → Tracked KeptSession → Option ℕ
-waiting_after side d t = if ends_by kept_rules side d (Some t) then None else Some (pending_by kept_rules (Some (stepped kept_rules side d t)))
+abbrev pub waiting_after : (Addr → Option Addr) → Side → Datagram → Tracked KeptSession → Option ℕ
+waiting_after image side d t = if ends_by kept_rules side d (Some t) then None else Some (pending_by kept_rules (Some (stepped kept_rules image side d t)))
 
 -- a segment completes a line that bears an address, in the session that takes it
 abbrev pub CompletesIn : Side → Datagram → Tracked KeptSession → Type 0
@@ -72,6 +77,6 @@ pair_on way = record {
   server_alias = way.destination;
 }
 
--- the session that a first segment makes
+-- the session of a control connection that a first segment makes
 abbrev pub made_on : Way → Tcp → Tracked KeptSession
-made_on way tcp = record { client = way.side; pair = pair_on way; session = kept_rules.made (pair_on way) tcp.sequence tcp.mss }
+made_on way tcp = record { client = way.side; pair = pair_on way; session = kept_rules.made control_port (pair_on way) tcp.sequence tcp.mss }

@@ -1,5 +1,6 @@
 // TCP segments, their connections and their sessions.
-ghost use Rattle.std.specs.Prelude.{◌≡◌, ◌+◌, ◌*◌, ◌^◌, ◌<◌, ◌≤◌, ◌||◌, ◌&&◌, ◌++◌, not, nat_le, ◌==◌, [], ◌∷◌, length, true, false, None, Some, Ok, IfOk, OnErr, OnOk, IsSome, is_none, is_some, count_by, if◌then◌else◌};
+ghost use Rattle.std.specs.Prelude.{◌≡◌, ◌+◌, ◌*◌, ◌^◌, ◌<◌, ◌≤◌, ◌||◌, ◌&&◌, ◌++◌, not, nat_le, ◌==◌, [], ◌∷◌, length, true, false, Option, None, Some, Ok, IfOk, OnErr, OnOk, IsSome, is_none, is_some, count_by, if◌then◌else◌};
+ghost use Rattle.gate_base.specs.declared.address.Addr.{Addr};
 ghost use Rattle.binding_table.specs.Bindings.{is_settled};
 ghost use Rattle.binding_table.specs.Plan.{after_uses};
 ghost use Rattle.twice_translate.specs.Renamed.{CanGoOn, datagram_of, renamed};
@@ -14,7 +15,7 @@ ghost use Rattle.kept_world.specs.Kept.{KeptSession, kept_rules, kept_pending};
 ghost use Rattle.gate_payloads.specs.Ways.{IsWay, image_by, is_empty, table_by, out_by};
 ghost use Rattle.gate_payloads.specs.Taken.{IsWayOf};
 ghost use Rattle.gate_core.specs.Gates.{world_in};
-ghost use Rattle.gate_core.specs.Segments.{IsSegmentDone, IsSegmentOf, CompletesIn, connections_by, room_tests, lacks_place, session_verdict, waiting_after, made_on};
+ghost use Rattle.gate_core.specs.Segments.{IsSegmentDone, IsSegmentOf, CompletesIn, connections_by, room_tests, lacks_place, session_verdict, waiting_after, made_on, IsOfLines};
 ghost use Rattle.gate_base.specs.Tests.{first_that_holds};
 ghost use Rattle.gate_world.specs.Step.{stream_out};
 ghost use Rattle.gate_world.specs.Stream.{tcp_of};
@@ -140,6 +141,7 @@ impl Known {
         requires way { IsWayOf (world_in self.old) way.now.side segment.now.datagram.now way.now }
         requires key { key.now ≡ streams.key_in self.old.table way.now.side segment.now.datagram.now }
         requires tracked { IsSome (streams.session_in (connection_of key.now self.old.connections)) }
+        requires lines { IsOfLines (streams.session_in (connection_of key.now self.old.connections)) }
         requires passes { streams.session_refusal kept_rules way.now.side segment.now.datagram.now (streams.session_in (connection_of key.now self.old.connections)) ≡ None }
         requires dns { kinds.has_port kinds.dns_port segment.now.datagram.now ≡ false }
         requires moment { way.now.moment.0 < 2 ^ 32 * 1000000000 }
@@ -343,7 +345,8 @@ fn hold_of(connections: &SessionTable<TrackedSession>, way: &Way, key: &ConnKey,
 /// Why a session refuses a segment, if it does.
 fn session_verdict(tracked: &TrackedSession, way: &Way, segment: &Segment<'_>) -> Option<Refusal>
     requires { segment.now.tcp.now ≡ tcp_of segment.now.datagram.now }
-    ensures { result ≡ streams.session_refusal kept_rules way.now.side segment.now.datagram.now (Some tracked.now) }
+    ensures verdict { result ≡ streams.session_refusal kept_rules way.now.side segment.now.datagram.now (Some tracked.now) }
+    ensures lines { IsOfLines (Some tracked.now) }
 {
     tracked
         .session
@@ -360,6 +363,7 @@ fn look_up(
     requires { segment.now.tcp.now ≡ tcp_of segment.now.datagram.now }
     ensures lives { result.0 ≡ is_some (connection_of key.now connections.now) }
     ensures verdict { result.1 ≡ session_verdict way.now.side segment.now.datagram.now (streams.session_in (connection_of key.now connections.now)) }
+    ensures lines { IsOfLines (streams.session_in (connection_of key.now connections.now)) }
 {
     match connections.find(key) {
         Some(Some(tracked)) => (true, Some(session_verdict(tracked, way, segment))),
@@ -381,9 +385,9 @@ fn step_session(
     requires passes { streams.session_refusal kept_rules way.now.side segment.now.datagram.now (streams.session_in (connection_of key.now connections.old)) ≡ None }
     requires empty { outbox.old ≡ [] }
     requires whole { IsSegmentOf segment.now.octets.now segment.now.datagram.now segment.now.tcp.now }
-    ensures next { (t : Tracked KeptSession) → streams.session_in (connection_of key.now connections.old) ≡ Some t → OnOk result (connections.new ≡ replaced connections.old key.now (streams.stepped kept_rules way.now.side segment.now.datagram.now t)) }
-    ensures waits { (t : Tracked KeptSession) → streams.session_in (connection_of key.now connections.old) ≡ Some t → IfOk result (λ w. w ≡ waiting_after way.now.side segment.now.datagram.now t) }
-    ensures out { (t : Tracked KeptSession) → streams.session_in (connection_of key.now connections.old) ≡ Some t → OnOk result (outbox.new ≡ stream_out kept_rules way.now.side segment.now.datagram.now (image_by way.now.of_source way.now.source).0 (image_by way.now.of_destination way.now.destination).0 (Some t)) }
+    ensures next { (image : Addr → Option Addr) (t : Tracked KeptSession) → streams.session_in (connection_of key.now connections.old) ≡ Some t → OnOk result (connections.new ≡ replaced connections.old key.now (streams.stepped kept_rules image way.now.side segment.now.datagram.now t)) }
+    ensures waits { (image : Addr → Option Addr) (t : Tracked KeptSession) → streams.session_in (connection_of key.now connections.old) ≡ Some t → IfOk result (λ w. w ≡ waiting_after image way.now.side segment.now.datagram.now t) }
+    ensures out { (image : Addr → Option Addr) (t : Tracked KeptSession) → streams.session_in (connection_of key.now connections.old) ≡ Some t → OnOk result (outbox.new ≡ stream_out kept_rules image way.now.side segment.now.datagram.now (image_by way.now.of_source way.now.source).0 (image_by way.now.of_destination way.now.destination).0 (Some t)) }
     ensures memory { (t : Tracked KeptSession) → streams.session_in (connection_of key.now connections.old) ≡ Some t → OnErr result (CompletesIn way.now.side segment.now.datagram.now t) }
     ensures same { OnErr result (connections.new ≡ connections.old) }
     ensures nothing { OnErr result (outbox.new ≡ []) }
@@ -405,9 +409,9 @@ fn step_tracked(
     requires passes { streams.session_refusal kept_rules way.now.side segment.now.datagram.now (Some tracked.old) ≡ None }
     requires empty { outbox.old ≡ [] }
     requires whole { IsSegmentOf segment.now.octets.now segment.now.datagram.now segment.now.tcp.now }
-    ensures next { OnOk result (tracked.new ≡ streams.stepped kept_rules way.now.side segment.now.datagram.now tracked.old) }
-    ensures waits { IfOk result (λ w. w ≡ waiting_after way.now.side segment.now.datagram.now tracked.old) }
-    ensures out { OnOk result (outbox.new ≡ stream_out kept_rules way.now.side segment.now.datagram.now (image_by way.now.of_source way.now.source).0 (image_by way.now.of_destination way.now.destination).0 (Some tracked.old)) }
+    ensures next { (image : Addr → Option Addr) → OnOk result (tracked.new ≡ streams.stepped kept_rules image way.now.side segment.now.datagram.now tracked.old) }
+    ensures waits { (image : Addr → Option Addr) → IfOk result (λ w. w ≡ waiting_after image way.now.side segment.now.datagram.now tracked.old) }
+    ensures out { (image : Addr → Option Addr) → OnOk result (outbox.new ≡ stream_out kept_rules image way.now.side segment.now.datagram.now (image_by way.now.of_source way.now.source).0 (image_by way.now.of_destination way.now.destination).0 (Some tracked.old)) }
     ensures memory { OnErr result (CompletesIn way.now.side segment.now.datagram.now tracked.old) }
     ensures same { OnErr result (tracked.new ≡ tracked.old) }
     ensures nothing { OnErr result (outbox.new ≡ []) }

@@ -13,7 +13,7 @@ use Rattle.gate_payloads.specs.Ways.{image_by}
 use Rattle.gate_core.specs.Gates.{world_of, world_in}
 use Rattle.gate_core.specs.Segments.{IsSegmentTaken, waiting_after, made_on, pair_on}
 use Rattle.gate_core.proofs.SegmentTests.{first_is, first_refusal, joined_refused, full_refused, empty_refused, few_sessions}
-use Rattle.gate_core.proofs.SegmentsPassed.{session_begins, lost_at_first, lost_done, begun, passes}
+use Rattle.gate_core.proofs.SegmentsPassed.{image_of, session_begins, lost_at_first, lost_done, begun, passes}
 use Rattle.gate_core.proofs.known.Known.take_first.Goals as goal
 
 pub returns-in-Some : goal.returns-in-Some
@@ -45,7 +45,7 @@ step_tracked-requires-clause-passes c =
     let side = c.args.way.now.side in
     let d = c.args.segment.now.datagram.now in
     ap (λ (t : Tracked KeptSession). session_refusal kept_rules side d (Some t)) c.in_ok-tracked.ensures
-    ∙ first_refusal side (pair_on c.args.way.now) c.args.segment.now.tcp.now d c.requires.whole.tcp_is
+    ∙ first_refusal side 21 (pair_on c.args.way.now) c.args.segment.now.tcp.now d c.requires.whole.tcp_is
     ∙ sym c.first_verdict.ensures
     ∙ c.in_default.is
 
@@ -64,18 +64,19 @@ returns c =
     let live = world_in c.args.self.now in
     let first = first_is live way.side d c.args.key.now c.args.segment.now.tcp.now c.first_verdict.result c.requires.key c.requires.absent c.requires.dns c.requires.whole.tcp_is c.requires.first c.first_verdict.ensures in
     let side = way.side in
+    let image = image_of live side d in
     let flags = c.flags-flags.ensures ∙ ap (λ (t : Tcp). t.flags) c.requires.whole.tcp_is in
     let tracked = c.in_ok-tracked.ensures ∙ ap (made_on way) c.requires.whole.tcp_is in
     let hold = c.hold_of-hold.ensures.is ∙ ap (λ (k : ConnKey). hold_of c.args.self.now.connections k side c.flags-flags.result) c.requires.key ∙ ap (hold_of c.args.self.now.connections (key_in c.args.self.now.table side d) side) flags in
     subst (λ (n : ℕ). IsSegmentTaken live side d None (world_of c.args.self.now.clock.0 c.use_both.new.table c.open.new.self n) c.step_tracked.new.outbox) (sym (c.max-self.ensures ∙ ap (max c.args.self.now.pending) c.unwrap_or.ensures))
-    (session_begins live way d c.in_ok-waiting.waiting _ c.use_both.new.table c.open.new.self c.step_tracked.new.outbox c.requires.way first.none first.joined (first.full c.in_default.is ∙ sym c.is_full.ensures ∙ c.if-is_full.false) (first.told ∙ c.in_default.is)
-    (first.plain c.in_default.is) (sym c.lacks_alias.ensures ∙ c.if-lacks_alias.false) (c.in_ok-waiting.ensures.waits ∙ ap (waiting_after side d) tracked)
+    (session_begins live way d c.in_ok-waiting.waiting _ c.use_both.new.table c.open.new.self c.step_tracked.new.outbox c.requires.way first.none (ap (λ (t : Tcp). is_opening t.flags && t.destination_port == 21) (sym c.requires.whole.tcp_is) ∙ c.requires.first) first.joined (first.full c.in_default.is ∙ sym c.is_full.ensures ∙ c.if-is_full.false) (first.told ∙ c.in_default.is)
+    (first.plain c.in_default.is) (sym c.lacks_alias.ensures ∙ c.if-lacks_alias.false) (c.in_ok-waiting.ensures.waits image ∙ ap (waiting_after image side d) tracked)
     (c.use_both.ensures ∙ ap (λ (n : ℕ). after_uses c.args.self.now.table (uses_until side (way.moment.0 + n) (way.source ∷ way.destination ∷ []))) hold)
     (c.open.ensures
     ∙ ap (λ (k : ConnKey). noted c.args.self.now.connections k side c.flags-flags.result (Some c.step_tracked.new.tracked) way.moment) c.requires.key
     ∙ ap (λ (n : ℕ). noted c.args.self.now.connections (key_in c.args.self.now.table side d) side n (Some c.step_tracked.new.tracked) way.moment) flags
-    ∙ ap (λ (t : Tracked KeptSession). noted c.args.self.now.connections (key_in c.args.self.now.table side d) side (tcp_of d).flags (Some t) way.moment) (c.in_ok-waiting.ensures.next ∙ ap (stepped kept_rules side d) tracked))
-    (c.in_ok-waiting.ensures.out ∙ ap (λ (t : Tracked KeptSession). stream_out kept_rules side d (image_by way.of_source way.source).0 (image_by way.of_destination way.destination).0 (Some t)) tracked))
+    ∙ ap (λ (t : Tracked KeptSession). noted c.args.self.now.connections (key_in c.args.self.now.table side d) side (tcp_of d).flags (Some t) way.moment) (c.in_ok-waiting.ensures.next image ∙ ap (stepped kept_rules image side d) tracked))
+    (c.in_ok-waiting.ensures.out image ∙ ap (λ (t : Tracked KeptSession). stream_out kept_rules image side d (image_by way.of_source way.source).0 (image_by way.of_destination way.destination).0 (Some t)) tracked))
 
 pub open-requires-clause-sessions : goal.open-requires-clause-sessions
 open-requires-clause-sessions c = few_sessions _ _ (sym c.is_full.ensures ∙ c.if-is_full.false)
