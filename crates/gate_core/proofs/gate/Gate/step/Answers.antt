@@ -3,16 +3,14 @@ use Rattle.gate_base.specs.Events.{event_of}
 use Rattle.gate_base.specs.Tests.{first_that_holds}
 use Rattle.gate_settings.specs.declared.settings.Settings.{Settings}
 use Rattle.gate_world.specs.Frame.{datagram_in, kind_of}
-use Rattle.gate_world.specs.Ranges.{InRange}
 use Rattle.gate_world.specs.Step.{next}
 use Rattle.gate_world.specs.Verdict.{tests}
 use Rattle.gate_world.specs.World.{World, at_moment}
-use Rattle.gate_world.proofs.RangesKept.{next_range}
 use Rattle.kept_world.specs.Kept.{KeptSession, kept_rules}
 use Rattle.gate_core.specs.Done.{IsPassed}
 use Rattle.gate_core.specs.Gates.{Gateway, world_in}
 use Rattle.gate_core.specs.Memory.{MayWant}
-use Rattle.gate_core.proofs.Stepping.{stepped, wanted, live_range}
+use Rattle.gate_core.proofs.Stepping.{stepped, wanted}
 use Rattle.gate_core.proofs.SteppedSessions.{on_err}
 use Rattle.gate_core.proofs.gate.Gate.step.Goals as goal
 
