@@ -15,8 +15,8 @@ use Rattle.gate_settings.specs.Cross.{settings_of}
 use Rattle.gate_settings.specs.declared.settings.Settings.{Settings as GateSettings}
 use Rattle.pcap_files.specs.Capture.{Head, Good, Bad, head_of}
 use Rattle.pcap_merge.specs.Events.{Merged, Done as BothEnded, are_good, have_good_heads, events_of, by_heads}
-use Rattle.stream_model.specs.Session.{Session}
 use Rattle.gate_world.specs.Rules.{whole_rules}
+use Rattle.gate_world.specs.Sessions.{WholeSession}
 use Rattle.gate_world.specs.Step.{next, out}
 use Rattle.gate_world.specs.Verdict.{verdict}
 use Rattle.gate_world.specs.World.{World}
@@ -37,14 +37,14 @@ use Rattle.gateway.proofs.Runs.{good_outputs, bad_outputs}
 -- ## Where each frame's pieces stand
 
 -- the machine knows what is known
-world_after : (arrivals : List Arrival) (s : State Session) → (after whole_rules s arrivals).world ≡ fold (next whole_rules) s.world (coming arrivals)
+world_after : (arrivals : List Arrival) (s : State WholeSession) → (after whole_rules s arrivals).world ≡ fold (next whole_rules) s.world (coming arrivals)
 unfolding coming
 world_after [] s = refl
 world_after (Comes e ∷ others) s = world_after others (after_one whole_rules s (Comes e))
 world_after (Stays e v ∷ others) s = world_after others (after_one whole_rules s (Stays e v))
 
 -- it counts each frame
-counted_after : (arrivals : List Arrival) (s : State Session) → (after whole_rules s arrivals).totals.events ≡ s.totals.events + length arrivals
+counted_after : (arrivals : List Arrival) (s : State WholeSession) → (after whole_rules s arrivals).totals.events ≡ s.totals.events + length arrivals
 counted_after [] s = omega arith
 counted_after (Comes e ∷ others) s = let more = counted_after others (after_one whole_rules s (Comes e)) in omega (arith, more)
 counted_after (Stays e v ∷ others) s = let more = counted_after others (after_one whole_rules s (Stays e v)) in omega (arith, more)
@@ -52,7 +52,7 @@ counted_after (Stays e v ∷ others) s = let more = counted_after others (after_
 -- what a frame gives after others
 given_after : (settings : GateSettings) (done : List Arrival) (a : Arrival) → given_by whole_rules settings (after whole_rules (opening settings) done) a ≡ promised_of settings done a
 given_after settings done (Comes e) =
-    let gives : ℕ → World Session → List Piece = λ n w. sent settings (other e.side) e.moment (out whole_rules w e) ++ event_piece settings.json (n + 1) e.side e.moment (verdict whole_rules w e) (length (out whole_rules w e)) ∷ [] in
+    let gives : ℕ → World WholeSession → List Piece = λ n w. sent settings (other e.side) e.moment (out whole_rules w e) ++ event_piece settings.json (n + 1) e.side e.moment (verdict whole_rules w e) (length (out whole_rules w e)) ∷ [] in
     let s = after whole_rules (opening settings) done in
     let counted : s.totals.events ≡ length done = omega (arith, counted_after done (opening settings)) in
     ap (λ (n : ℕ). gives n s.world) counted ∙ ap (gives (length done)) (world_after done (opening settings))
@@ -64,8 +64,8 @@ given_after settings done (Stays e v) =
 each_stands : (settings : GateSettings) (all : Merged) → EachStands settings all
 unfolding given_by_merged
 each_stands settings all done others a split =
-    let start : State Session = opening settings in
-    let s : State Session = after whole_rules start done in
+    let start : State WholeSession = opening settings in
+    let s : State WholeSession = after whole_rules start done in
     let front = given_by_all whole_rules settings start done in
     let rest = given_by_all whole_rules settings (after_one whole_rules s a) others in
     let end = ended_by settings (after whole_rules start (arrivals_by settings all.events)) all.ending in
