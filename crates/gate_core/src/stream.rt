@@ -193,7 +193,7 @@ impl Known {
         requires whole { IsSegmentOf segment.now.octets.now segment.now.datagram.now segment.now.tcp.now }
         ensures { IsSegmentDone (world_in self.old) way.now.side segment.now.datagram.now result (world_in self.new) outbox.new }
     {
-        if let Some(refusal) = StreamGate::<ClientLines, ServerLines>::first_verdict(segment.tcp) {
+        if let Some(refusal) = StreamGate::<ClientLines, ServerLines, 512>::first_verdict(segment.tcp) {
             return Ok(Some(refusal));
         }
         if is_full(&self.connections) {
@@ -425,7 +425,7 @@ fn step_tracked(
 }
 
 /// How many changed lines wait in a session; None where it is over.
-fn waiting(session: &StreamGate<ClientLines, ServerLines>, over: bool) -> Option<u64>
+fn waiting(session: &StreamGate<ClientLines, ServerLines, 512>, over: bool) -> Option<u64>
     ensures { result ≡ (if over then None else Some (kept_pending session.now.kept)) }
 {
     if over {

@@ -14,7 +14,7 @@ use tcp_tracker::ConnKey;
 pub struct TrackedSession {
     pub client: Side,
     pub pair: Pair,
-    pub session: StreamGate<ClientLines, ServerLines>,
+    pub session: StreamGate<ClientLines, ServerLines, 512>,
 }
 
 impl Model for TrackedSession {
