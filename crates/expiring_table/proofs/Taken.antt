@@ -1,21 +1,12 @@
 -- A row is taken out of distinct ones.
-use Rattle.std.proofs.Common.{◌≡◌, ◌⊎◌, inl, inr, ℕ, ◌+◌, true, false, cond, ◌==◌, List, [], ◌∷◌, ◌++◌, length, Option, Some, None, refl, ap, sym, ◌∙◌, subst, arith, append_assoc}
-use Rattle.std.specs.List.{flat_map}
-use Rattle.std.specs.List.Sorted.{IsPermutation}
+use Rattle.std.proofs.Common.{◌≡◌, ◌⊎◌, inl, inr, ℕ, ◌+◌, true, false, cond, ◌==◌, List, [], ◌∷◌, length, Option, Some, None, refl, ap, sym, ◌∙◌, subst, arith}
 use Rattle.std.proofs.lemmas.Bool.{cases_Bool}
-use Rattle.std.proofs.lemmas.List.Sorted.{IsPermutation-refl, IsPermutation-trans, IsPermutation-append_left, IsPermutation-append_right, IsPermutation-append_comm}
 use Rattle.std.proofs.lemmas.Option.{none-some, same_Some}
 use Rattle.expiring_table.specs.declared.row.Row.{Row}
 use Rattle.expiring_table.specs.Rows.{row_of, without, lives, living, AreDistinct}
 use Rattle.expiring_table.specs.Kept.{rows_in, AreOnce}
 use Rattle.expiring_table.proofs.Cells.{once_tail, none_found}
 use Rattle.expiring_table.proofs.Changes.{rest_other}
-
-swap_blocks : {X : Type 0} (a b c : List X) → IsPermutation (a ++ (b ++ c)) (b ++ (a ++ c))
-swap_blocks {X} a b c =
-    let P : List X → Type 0 = λ xs. IsPermutation xs (b ++ (a ++ c)) in
-    let Q : List X → Type 0 = λ xs. IsPermutation ((a ++ b) ++ c) xs in
-    subst P (append_assoc a b c) (subst Q (append_assoc b a c) (IsPermutation-append_left c (a ++ b) (b ++ a) (IsPermutation-append_comm a b)))
 
 module _ {T : Type 0} where
   pub distinct_in : (cells : List (Option (Row T))) → AreOnce cells → AreDistinct (rows_in cells)
@@ -61,31 +52,3 @@ module _ {T : Type 0} where
             rw (h.0) (rw gone (ap (living now) (rest_is first row rows distinct (h.1))))
         | inr h ↦ rw (h.0) (ap (λ more. cond (lives now first) (first ∷ more) more) (taken_living now row rows (distinct.1) (h.1) ended))
       ]
-
-  -- what rows give, of which one is taken out
-  pub taken_flat : {X : Type 0} (f : Row T → List X) (row : Row T) (rows : List (Row T)) → AreDistinct rows → row_of row.key rows ≡ Some row → IsPermutation (flat_map f rows) (f row ++ flat_map f (without row.key rows))
-  taken_flat f row [] distinct found = absurd (none-some row found)
-  taken_flat {X} f row (first ∷ rows) distinct found =
-      elim (found_cases first row rows found) [
-        | inl h ↦
-            let same : f first ++ flat_map f rows ≡ f row ++ flat_map f (without row.key rows) =
-            ap (λ one. f one ++ flat_map f rows) (h.1) ∙ ap (λ more. f row ++ flat_map f more) (sym (rest_is first row rows distinct (h.1)))
-            in
-            let P : List X → Type 0 = λ xs. IsPermutation (f first ++ flat_map f rows) xs in
-            rw (h.0) (subst P same (IsPermutation-refl (f first ++ flat_map f rows)))
-        | inr h ↦
-            rw (h.0)
-            (IsPermutation-trans (f first ++ flat_map f rows) (f first ++ (f row ++ flat_map f (without row.key rows))) (f row ++ (f first ++ flat_map f (without row.key rows)))
-            (IsPermutation-append_right (f first) (flat_map f rows) (f row ++ flat_map f (without row.key rows)) (taken_flat f row rows (distinct.1) (h.1)))
-            (swap_blocks (f first) (f row) (flat_map f (without row.key rows))))
-      ]
-
-  -- ## A loop that takes out the rows that ended, and gathers what they give
-
-  -- one more row was taken out, and what it gives was put behind the rest
-  pub gathered_more : {X : Type 0} (f : Row T → List X) (row : Row T) (rows : List (Row T)) (all before : List X) → AreDistinct rows → row_of row.key rows ≡ Some row → IsPermutation all (before ++ flat_map f rows) → IsPermutation all ((before ++ f row) ++ flat_map f (without row.key rows))
-  gathered_more {X} f row rows all before distinct found so_far =
-      let P : List X → Type 0 = λ xs. IsPermutation all xs in
-      subst P (sym (append_assoc before (f row) (flat_map f (without row.key rows))))
-      (IsPermutation-trans all (before ++ flat_map f rows) (before ++ (f row ++ flat_map f (without row.key rows))) so_far
-      (IsPermutation-append_right before (flat_map f rows) (f row ++ flat_map f (without row.key rows)) (taken_flat f row rows distinct found)))

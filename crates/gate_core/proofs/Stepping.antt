@@ -1,9 +1,5 @@
 -- An event, by its first test that holds.
 use Rattle.std.proofs.Common.{◌≡◌, ◌++◌, ℕ, List, Option, Some, None, refl, sym, ap, ◌∙◌, arith}
-use Rattle.std.proofs.lemmas.List.Sums.{length-filter, count_by-le-length}
-use Rattle.tcp_tracker.specs.Connections.{is_live}
-use Rattle.gate_world.specs.Ranges.{InRange}
-use Rattle.gate_world.proofs.RangesKept.{few_live}
 use Rattle.std.specs.Option.{option_or}
 use Rattle.gate_base.specs.Events.{Event}
 use Rattle.gate_base.specs.declared.refusal.Refusal.{Refusal}
@@ -73,9 +69,3 @@ first_early live e none =
 -- where memory runs out
 pub wanted : (live : World KeptSession) (e : Event) (after : World KeptSession) (sent : List (List ℕ)) → IsLost (first_that_holds (early_tests live e)) (kind_of (datagram_in e)) live e.side (datagram_in e) after sent → MayWant live e
 wanted live e after sent h = record { early = h.allowed; needs = h.wants }
-
-pub live_range : (w : World KeptSession) (moment : ℕ) → InRange w → InRange (at_moment w moment)
-live_range w moment r = record {
-  connections = omega (arith, length-filter (is_live (record { 0 = moment })) w.connections, count_by-le-length (is_live (record { 0 = moment })) w.connections, r.connections);
-  sessions = omega (arith, few_live (record { 0 = moment }) w.connections, r.sessions);
-}

@@ -11,7 +11,6 @@ ghost use Rattle.gate_world.specs.Verdict.{verdict, verdict_of};
 
 use crate::known::Known;
 use crate::salt::salt_of;
-use crate::stream::SESSIONS;
 use expiring_table::Seed;
 use gate_base::{Event, Moment, OutOfMemory, Refusal, Verdict};
 use gate_outbox::Outbox;
@@ -24,21 +23,16 @@ use std::marker::Model;
 pub struct Gate {
     settings: Settings,
     known: Known,
-    // slots of sessions that end; empty between calls
-    gone: Vec<usize>,
     // what the tables spread their keys by besides, until the first event
     salt: Option<u64>,
 }
 
 impl Model for Gate {
-    ghost use Rattle.std.specs.Prelude.{vec_capacity};
-    ghost use Rattle.gate_core.specs.Gates.{Gateway, IsReady, world_in};
+    ghost use Rattle.gate_core.specs.Gates.{Gateway, world_in};
 
     ghost Value = { Gateway };
 
     ghost view = { λ g. record { settings = g.settings; world = world_in g.known } };
-
-    ghost invariant = { λ g. IsReady (world_in g.known) g.gone.items (vec_capacity g.gone) };
 }
 
 impl Gate {
@@ -51,7 +45,6 @@ impl Gate {
         let salt = salt_of(&settings);
         Ok(Gate {
             known: Known::make(alloc, &settings, Seed::from_number(salt))?,
-            gone: Vec::with_capacity(alloc, SESSIONS)?,
             salt: Some(salt),
             settings,
         })
@@ -85,7 +78,7 @@ impl Gate {
         ensures wants { OnErr result (MayWant (at_moment self.old.world event.now.moment.0) (event_of event.now)) }
     {
         self.spread_keys(event.moment);
-        self.known.expire(event.moment, &mut self.gone);
+        self.known.expire(event.moment);
         outbox.clear();
         let refusal = self.known.take_frame(event, outbox)?;
         Ok(verdict_of(refusal))

@@ -1,5 +1,5 @@
 // What is known from event to event, and what a frame changes of it.
-ghost use Rattle.std.specs.Prelude.{◌≡◌, ◌*◌, ◌^◌, ◌<◌, ◌≤◌, ◌||◌, false, vec_capacity, ◌==◌, [], length, count_by, IfOk, OnErr};
+ghost use Rattle.std.specs.Prelude.{◌≡◌, ◌*◌, ◌^◌, ◌<◌, ◌≤◌, ◌||◌, false, ◌==◌, [], length, IfOk, OnErr};
 ghost use Rattle.twice_translate.specs.Renamed.{CanGoOn, datagram_of};
 ghost use Rattle.gate_world.specs.Frame as kinds;
 ghost use Rattle.gate_world.specs.World.{opening_world, at_moment};
@@ -17,7 +17,6 @@ ghost use Rattle.udp_icmp.specs.Udp.{udp_fields_of};
 ghost use Rattle.gate_base.specs.Tests.{first_that_holds};
 ghost use Rattle.gate_world.specs.Frame.{datagram_in, kind_of};
 ghost use Rattle.gate_world.specs.Verdict.{tests, world_tests, address_tests};
-ghost use Rattle.tcp_tracker.specs.Connections.{is_tracked};
 
 use binding_table::{Firsts, Table};
 use expiring_table::Seed;
@@ -73,18 +72,14 @@ impl Known {
         self.firsts.reseed(seed);
     }
 
-    /// Sets the clock: bindings and connections end. The list has room for the slots of their sessions.
-    pub fn expire(&mut self, moment: Moment, gone: &mut Vec<usize>)
-        requires empty { gone.old.items ≡ [] }
-        requires room { count_by is_tracked self.old.connections ≤ vec_capacity gone.old }
+    /// Sets the clock: bindings and connections end.
+    pub fn expire(&mut self, moment: Moment)
         ensures live { world_in self.new ≡ at_moment (world_in self.old) moment.0 }
         ensures clock { self.new.clock ≡ moment }
-        ensures empty { gone.new.items ≡ [] }
-        ensures capacity { vec_capacity gone.new ≡ vec_capacity gone.old }
     {
         self.clock = moment;
         self.table.expire(moment);
-        self.connections.expire(moment, gone);
+        self.connections.expire(moment);
     }
 
     /// Takes the frame of an event of this moment.

@@ -37,7 +37,7 @@ use tcp_tracker::{ConnKey, SHORT_HOLD};
 const CONNECTIONS: usize = 65_536;
 
 /// The most sessions that live at once.
-pub const SESSIONS: usize = 4_096;
+const SESSIONS: usize = 4_096;
 
 impl Known {
     /// Takes a segment.

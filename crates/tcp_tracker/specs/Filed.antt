@@ -1,11 +1,9 @@
 -- How connections are kept under numbers.
-use Rattle.std.specs.Prelude.{◌≡◌, ℕ, ◌+◌, ◌*◌, ◌^◌, ◌<◌, List, All, Some, option_to_list}
-use Rattle.gate_base.specs.declared.event.Moment.{Moment}
+use Rattle.std.specs.Prelude.{◌≡◌, ℕ, ◌+◌, ◌*◌, ◌^◌, ◌<◌, All, Some}
 use Rattle.expiring_table.specs.declared.row.Row.{Row}
 use Rattle.expiring_table.specs.Rows.{Table}
 use Rattle.tcp_tracker.specs.declared.connection.ConnKey.{ConnKey}
 use Rattle.tcp_tracker.specs.declared.connection.Connection.{Connection}
-use Rattle.tcp_tracker.specs.Connections.{ended_session}
 
 -- the name of a connection as a number
 abbrev pub number_of : ConnKey → ℕ
@@ -31,11 +29,3 @@ pub record IsFiled (row : Row (Connection ℕ)) : Type 0 where
 pub record IsWhole (table : Table (Connection ℕ)) : Type 0 where
   pub most : table.most ≡ 65536
   pub filed : All IsFiled table.rows
-
--- the session of a row that ended
-abbrev pub sessions_of : Moment → Row (Connection ℕ) → List ℕ
-sessions_of now row = ended_session now row.value
-
--- the session of a row
-abbrev pub all_sessions : Row (Connection ℕ) → List ℕ
-all_sessions row = option_to_list row.value.session

@@ -16,33 +16,6 @@ use Rattle.gate_core.proofs.Stepping.{stepped, wanted, live_range}
 use Rattle.gate_core.proofs.SteppedSessions.{on_err}
 use Rattle.gate_core.proofs.gate.Gate.step.Goals as goal
 
-pub invariant_of-self : goal.invariant_of-self
-invariant_of-self c =
-    let e = event_of c.args.event.now in
-    let w = c.args.self.now.world in
-    let known : world_in c.self.inside.known ≡ w = ap (λ g. g.world) (c.self.view_is ∙ c.spread_keys.ensures) in
-    let live : world_in c.expire.new.self ≡ at_moment w e.moment = c.expire.ensures.live ∙ ap (λ x. at_moment x e.moment) known in
-    let range = subst (λ (x : World KeptSession). InRange x) known c.self.invariant.range in
-    record {
-      range = subst (λ (x : World KeptSession). InRange x) (sym (c.in_err-refusal.ensures.same ∙ live)) (live_range w e.moment range);
-      none_gone = c.expire.ensures.empty;
-      room = omega (arith, c.expire.ensures.capacity, c.self.invariant.room);
-    }
-
-pub invariant_of-self-2 : goal.invariant_of-self-2
-invariant_of-self-2 c =
-    let e = event_of c.args.event.now in
-    let w = c.args.self.now.world in
-    let known : world_in c.self.inside.known ≡ w = ap (λ g. g.world) (c.self.view_is ∙ c.spread_keys.ensures) in
-    let live : world_in c.expire.new.self ≡ at_moment w e.moment = c.expire.ensures.live ∙ ap (λ x. at_moment x e.moment) known in
-    let s = stepped w e c.in_ok-refusal.refusal (world_in c.take_frame.new.self) c.take_frame.new.outbox (subst (λ x. IsPassed (first_that_holds (tests kept_rules x e)) (kind_of (datagram_in e)) x e.side (datagram_in e) c.in_ok-refusal.refusal (world_in c.take_frame.new.self) c.take_frame.new.outbox) live c.in_ok-refusal.ensures) in
-    let range = subst (λ (x : World KeptSession). InRange x) known c.self.invariant.range in
-    record {
-      range = subst (λ (x : World KeptSession). InRange x) (sym s.next_is) (next_range kept_rules w e range);
-      none_gone = c.expire.ensures.empty;
-      room = omega (arith, c.expire.ensures.capacity, c.self.invariant.room);
-    }
-
 pub returns-clause-verdict : goal.returns-clause-verdict
 returns-clause-verdict c =
     let e = event_of c.args.event.now in

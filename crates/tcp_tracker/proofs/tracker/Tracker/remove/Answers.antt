@@ -4,7 +4,7 @@ use Rattle.tcp_tracker.specs.declared.connection.Connection.{Connection}
 use Rattle.tcp_tracker.specs.Connections.{place_of, changed}
 use Rattle.tcp_tracker.specs.Filed.{IsWhole}
 use Rattle.tcp_tracker.proofs.Names.{connections_in, dropped_named}
-use Rattle.tcp_tracker.proofs.Sessions.{filed_without}
+use Rattle.tcp_tracker.proofs.Living.{filed_without}
 use Rattle.tcp_tracker.proofs.tracker.Tracker.remove.Goals as goal
 
 pub invariant_of-self : goal.invariant_of-self
