@@ -16,7 +16,7 @@ pub entered-beside : (called : Addr → Option Addr) (es : List Entry) (names : 
 entered-beside called es [] = refl
 entered-beside called es (name ∷ names) = entered-beside called (enter called es name) names
 
-one-more : (es : List Entry) (one : Entry) → length es ≤ length (enter_one es one)
+pub one-more : (es : List Entry) (one : Entry) → length es ≤ length (enter_one es one)
 one-more es one =
     elim (cases_Bool (is_listed es one.0.0)) [
       | inl e ↦ rw e (omega arith)
@@ -24,7 +24,7 @@ one-more es one =
     ]
 
 -- no list gets shorter
-all-more : (es named : List Entry) → length es ≤ length (entered_all es named)
+pub all-more : (es named : List Entry) → length es ≤ length (entered_all es named)
 all-more es [] = omega arith
 all-more es (one ∷ named) = omega (arith, one-more es one, all-more (enter_one es one) named)
 

@@ -1,0 +1,63 @@
+-- What holds of each session stays so.
+use Rattle.std.proofs.Common.{◌≡◌, ◌≤◌, ℕ, Bool, true, false, List, [], ◌++◌, length, drop, min, Option, Some, None, refl, sym, ◌∙◌, ap, subst, arith}
+use Rattle.std.specs.Prelude.{cond, not}
+use Rattle.std.proofs.lemmas.Bool.{cond-true}
+use Rattle.std.proofs.lemmas.List.{drop_min}
+use Rattle.std.proofs.Math.Nat.{min_comm}
+use Rattle.gate_base.specs.declared.address.Addr.{Addr}
+use Rattle.gate_base.specs.declared.event.Pair.{Pair}
+use Rattle.dialogue.specs.Learning.{Entry}
+use Rattle.dialogue.specs.Stream.{cut}
+use Rattle.dns_stream.specs.Images.{dns_units}
+use Rattle.stream_model.specs.Session.{Segment, arrival}
+use Rattle.stream_model.specs.Verdict.{is_data}
+use Rattle.stream_kept.specs.Outs.{start_kept}
+use Rattle.stream_kept.specs.Sessions.{SessionKept, sender_kept}
+use Rattle.stream_kept.proofs.SessionLemmas.{verdict_is}
+use Rattle.gate_world.specs.Lists.{addresses_in, entered, most_entries}
+use Rattle.gate_world.specs.Rules.{whole_rules}
+use Rattle.gate_world.specs.Sessions.{meaning_by, entries_by, whole_next}
+use Rattle.kept_world.specs.Kept.{KeptSession, kept_rules, kept_units, IsOfSome}
+use Rattle.kept_world.proofs.Agreed.{made_stands, next_stands}
+use Rattle.kept_world.proofs.Listing.{kept_have_lists}
+use Rattle.unit_plans.specs.Plans.{whole_units}
+use Rattle.gate_sessions.specs.Directions.{DnsKept, dns_session}
+use Rattle.gate_sessions.specs.Sessions.{IsSession}
+
+pub made_session : (port : ℕ) (pair : Pair) (initial mss : ℕ) → IsSession (kept_rules.made port pair initial mss)
+made_session port pair initial mss = record {
+  some = record { session = whole_rules.made port pair initial mss; stands = made_stands port pair initial mss };
+  few = λ client. omega (arith, ap length (kept_have_lists.made port pair initial mss client));
+}
+
+some_next : (image : Addr → Option Addr) (f : Bool) (k : KeptSession) (g : Segment) → IsOfSome k → kept_rules.verdict f k g ≡ None → IsOfSome (kept_rules.next image f k g)
+some_next image f k g h v = record {
+  session = whole_next image f h.session g;
+  stands = next_stands image f h.session k g h.stands (sym (verdict_is (meaning_by k.lists k.pair true) (meaning_by k.lists k.pair false) k.kept h.session.session f g h.stands.session) ∙ v);
+}
+
+both : (P : Bool → Type 0) (f : Bool) → P f → P (not f) → (b : Bool) → P b
+both P true own other true = own
+both P true own other false = other
+both P false own other true = other
+both P false own other false = own
+
+pub next_session : (image : Addr → Option Addr) (f : Bool) (k : KeptSession) (g : Segment) → IsSession k → kept_rules.verdict f k g ≡ None → length (entered image (kept_rules.listed f k) (addresses_in (kept_rules.units f k g))) ≤ 256 → IsSession (kept_rules.next image f k g)
+next_session image f k g h v few = record {
+  some = some_next image f k g h.some v;
+  few = both (λ (b : Bool). length (kept_rules.listed b (kept_rules.next image f k g)) ≤ most_entries) f
+      (omega (arith, few, ap length (kept_have_lists.own image f k g)))
+      (omega (arith, h.few (not f), ap length (kept_have_lists.other image f k g)));
+}
+
+drop-min : {X : Type 0} (n : ℕ) (xs : List X) → drop (min (length xs) n) xs ≡ drop n xs
+drop-min n xs = ap (λ (m : ℕ). drop m xs) (min_comm (length xs) n) ∙ drop_min n xs
+
+-- the octets that are joined have the units that a segment completes
+pub joined_units : (pair : Pair) (d : DnsKept) (f : Bool) (g : Segment) → is_data (arrival g) ≡ true → whole_units ((sender_kept f d.kept).rest ++ drop (min (length g.octets) (start_kept (sender_kept f d.kept) g).before) g.octets) ≡ kept_units f (dns_session pair d) g
+joined_units pair d true g is =
+    ap (λ (t : List ℕ). whole_units (d.kept.client.rest ++ t)) (drop-min (start_kept d.kept.client g).before g.octets)
+    ∙ sym (cond-true (is_data (arrival g)) (cut (dns_units d.client_dialogue) (d.kept.client.rest ++ drop (start_kept d.kept.client g).before g.octets)).units [] is)
+joined_units pair d false g is =
+    ap (λ (t : List ℕ). whole_units (d.kept.server.rest ++ t)) (drop-min (start_kept d.kept.server g).before g.octets)
+    ∙ sym (cond-true (is_data (arrival g)) (cut (dns_units d.server_dialogue) (d.kept.server.rest ++ drop (start_kept d.kept.server g).before g.octets)).units [] is)

@@ -1,0 +1,84 @@
+// A connection of DNS that learns what its units name.
+ghost use Rattle.std.specs.Prelude.{◌≡◌, ◌≤◌, ◌<◌, [], not, false, length, map, None, IfOk, OnOk, OnErr};
+ghost use Rattle.dialogue.specs.Learning.{is_listed};
+ghost use Rattle.gate_world.specs.Stream.{segment_of, sent_as, tcp_of};
+ghost use Rattle.stream_kept.specs.Outs.{kept_ends};
+ghost use Rattle.stream_kept.specs.Sessions.{kept_verdict};
+ghost use Rattle.unit_plans.specs.Steps.{enter_one, entered_all};
+ghost use Rattle.gate_sessions.specs.Directions.{listed_of, IsListedSide, with_entered, dns_next, dns_out, DnsCompletes};
+
+use crate::kinds::DnsSession;
+use crate::session::Passing;
+use gate_base::OutOfMemory;
+use gate_outbox::{Outbox, Scratch};
+use unit_plans::Entry;
+
+/// Enters an address into the client's list, or else the server's, unless it is listed.
+fn learn_one(session: &mut DnsSession, from_client: bool, one: Entry)
+    requires few { is_listed (listed_of from_client session.old) one.0.0 ≡ false → length (listed_of from_client session.old) < 256 }
+    requires stream { IsListedSide from_client session.old }
+    ensures list { listed_of from_client session.new ≡ enter_one (listed_of from_client session.old) one }
+    ensures other { listed_of (not from_client) session.new ≡ listed_of (not from_client) session.old }
+    ensures kept { session.new.kept ≡ session.old.kept }
+    ensures stream { IsListedSide from_client session.new }
+{
+    if session.knows(from_client, one.0) {
+        return;
+    }
+    session.learn(from_client, one.0, one.1);
+}
+
+/// Enters addresses into the client's list, or else the server's, one after the other.
+fn learn_all(session: &mut DnsSession, from_client: bool, named: &[Entry])
+    requires few { length (entered_all (listed_of from_client session.old) named.now) ≤ 256 }
+    requires stream { IsListedSide from_client session.old }
+    ensures list { listed_of from_client session.new ≡ entered_all (listed_of from_client session.old) named.now }
+    ensures other { listed_of (not from_client) session.new ≡ listed_of (not from_client) session.old }
+    ensures kept { session.new.kept ≡ session.old.kept }
+{
+    for one in named {
+        learn_one(session, from_client, *one);
+    }
+}
+
+/// Enters addresses into the list of a segment's sender, and passes the segment: puts what goes out into the outbox, and says whether the
+/// session ends. Where there is too little memory nothing has changed, the list neither.
+pub fn step_units(
+    session: &mut DnsSession,
+    passing: &Passing<'_>,
+    named: &[Entry],
+    outbox: &mut Outbox,
+    scratch: &mut Scratch,
+) -> Result<bool, OutOfMemory>
+    requires few { length (entered_all (listed_of passing.now.from_client session.old) named.now) ≤ 256 }
+    requires stream { IsListedSide passing.now.from_client session.old }
+    requires empty { outbox.old ≡ [] }
+    requires segment { passing.now.segment.now.tcp.now ≡ tcp_of passing.now.segment.now.datagram.now }
+    requires alive { 1 ≤ passing.now.segment.now.datagram.now.lifetime }
+    requires passes { kept_verdict passing.now.from_client session.old.kept (segment_of passing.now.segment.now.datagram.now) ≡ None }
+    ensures next { OnOk result (session.new ≡ dns_next passing.now.from_client (with_entered passing.now.from_client named.now session.old) (segment_of passing.now.segment.now.datagram.now)) }
+    ensures out { OnOk result (outbox.new ≡ map (sent_as passing.now.segment.now.datagram.now passing.now.source.0 passing.now.destination.0) (dns_out passing.now.from_client (with_entered passing.now.from_client named.now session.old) (segment_of passing.now.segment.now.datagram.now))) }
+    ensures over { IfOk result (λ b. b ≡ kept_ends passing.now.from_client session.old.kept (segment_of passing.now.segment.now.datagram.now)) }
+    ensures memory { OnErr result (DnsCompletes passing.now.from_client (with_entered passing.now.from_client named.now session.old) (segment_of passing.now.segment.now.datagram.now)) }
+    ensures same { OnErr result (session.new ≡ session.old) }
+    ensures nothing { OnErr result (outbox.new ≡ []) }
+{
+    let from_client = passing.from_client;
+    let listed = session.listed(from_client);
+    learn_all(session, from_client, named);
+    let stepped = outbox.put_segments(
+        session,
+        from_client,
+        passing.segment,
+        passing.source,
+        passing.destination,
+        scratch,
+    );
+    match stepped {
+        Ok(over) => Ok(over),
+        Err(error) => {
+            session.forget_from(from_client, listed);
+            Err(error)
+        }
+    }
+}

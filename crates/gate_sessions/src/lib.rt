@@ -1,0 +1,13 @@
+//! Sessions that are tracked: control connections of FTP, and connections of DNS over TCP, whose lists learn what their units name
+//! (RFC 2694, RFC 7766).
+#![tactic(auto)]
+
+mod kinds;
+mod learned;
+mod octets;
+mod session;
+mod tracked;
+
+pub use octets::UnitOctets;
+pub use session::{AnySession, Passing};
+pub use tracked::TrackedSession;

@@ -1,0 +1,245 @@
+// A session of one of two kinds.
+ghost use Rattle.std.specs.Prelude.{◌≡◌, ◌≤◌, ◌<◌, ℕ, Option, [], length, map, slice_get, Some, None, IfOk, OnOk, OnErr};
+ghost use Rattle.gate_base.specs.declared.address.Addr.{Addr};
+ghost use Rattle.stream_gate.specs.Segments.{segment_of as segment_by};
+ghost use Rattle.stream_gate.specs.Directions.{nothing_pushed};
+ghost use Rattle.stream_kept.specs.Sessions.{kept_made};
+ghost use Rattle.stream_model.specs.Session.{arrival};
+ghost use Rattle.stream_model.specs.Verdict.{is_data};
+ghost use Rattle.gate_world.specs.Lists.{addresses_in};
+ghost use Rattle.gate_world.specs.Stream.{segment_of, sent_as, tcp_of};
+ghost use Rattle.kept_world.specs.Kept.{kept_rules};
+ghost use Rattle.unit_plans.specs.Plans.{whole_units, beside};
+ghost use Rattle.unit_plans.specs.Steps.{entered_all};
+ghost use Rattle.gate_sessions.specs.Sessions.{MayWantIn};
+
+use crate::kinds::{Dialog, DnsSession, FtpSession};
+use crate::learned::step_units;
+use crate::octets::UnitOctets;
+use dns_stream::DnsUnits;
+use ftp_lines::{ClientLines, ServerLines};
+use gate_base::{Addr, DNS_PORT, OutOfMemory, Pair, Refusal};
+use gate_outbox::{Outbox, Scratch, Segment};
+use shift_ledger::Recent;
+use std::alloc::Global;
+use std::boxed::Box;
+use std::marker::Model;
+use stream_gate::StreamGate;
+use tcp_segments::{TcpView, flags_of};
+use unit_plans::Entry;
+
+/// A segment that passes: whether the client sends it, and the addresses between which it goes on.
+#[derive(Clone, Copy)]
+pub struct Passing<'a> {
+    pub from_client: bool,
+    pub segment: &'a Segment<'a>,
+    pub source: Addr,
+    pub destination: Addr,
+}
+
+/// A session of one of two kinds: of FTP, which has no lists, or of DNS. It is seen as what is kept of it, and answers as the rules of
+/// kept sessions say.
+#[derive(Drop)]
+pub struct AnySession {
+    pair: Pair,
+    dialog: Dialog,
+}
+
+impl Model for AnySession {
+    ghost use Rattle.kept_world.specs.Kept.{KeptSession};
+    ghost use Rattle.gate_sessions.specs.Sessions.{session_of, IsOfPair, IsSession};
+
+    ghost Value = { KeptSession };
+
+    ghost view = { λ session. session_of session.pair session.dialog };
+
+    ghost invariant = { λ session. IsOfPair session.pair session.dialog × IsSession (session_of session.pair session.dialog) };
+}
+
+fn ftp_session(
+    alloc: Global,
+    pair: Pair,
+    initial: u32,
+    mss: u16,
+) -> Result<FtpSession, OutOfMemory>
+    ensures { IfOk result (λ session. session ≡ record { client_dialogue = record { pair = pair }; server_dialogue = record { pair = pair }; kept = kept_made initial mss nothing_pushed nothing_pushed }) }
+{
+    let from_client = Recent::make(alloc)?;
+    let from_server = Recent::make(alloc)?;
+    Ok(StreamGate::make(
+        alloc,
+        ClientLines { pair },
+        ServerLines { pair },
+        initial,
+        mss,
+        from_client,
+        from_server,
+    ))
+}
+
+fn dns_session(alloc: Global, initial: u32, mss: u16) -> Result<DnsSession, OutOfMemory>
+    ensures { IfOk result (λ session. session ≡ record { client_dialogue = []; server_dialogue = []; kept = kept_made initial mss nothing_pushed nothing_pushed }) }
+{
+    let client = DnsUnits::make(alloc)?;
+    let server = DnsUnits::make(alloc)?;
+    let from_client = Recent::make(alloc)?;
+    let from_server = Recent::make(alloc)?;
+    Ok(StreamGate::make(
+        alloc,
+        client,
+        server,
+        initial,
+        mss,
+        from_client,
+        from_server,
+    ))
+}
+
+impl AnySession {
+    /// The session that a client's first SYN to a port of the server makes, by the SYN's number and maximum segment size: one of DNS on
+    /// the port of DNS, and else one of FTP.
+    pub fn make(
+        alloc: Global,
+        port: u16,
+        pair: Pair,
+        initial: u32,
+        mss: u16,
+    ) -> Result<AnySession, OutOfMemory>
+        ensures { IfOk result (λ session. session ≡ kept_rules.made port pair initial mss) }
+    {
+        if port == DNS_PORT {
+            let session = dns_session(alloc, initial, mss)?;
+            return Ok(AnySession {
+                pair,
+                dialog: Dialog::Units(Box::new(alloc, session)?),
+            });
+        }
+        Ok(AnySession {
+            pair,
+            dialog: Dialog::Lines(ftp_session(alloc, pair, initial, mss)?),
+        })
+    }
+
+    /// Why a segment of the client, or else of the server, is refused; None where it passes.
+    pub fn verdict(&self, from_client: bool, segment: &TcpView<'_>) -> Option<Refusal>
+        ensures { result ≡ kept_rules.verdict from_client self.now (segment_by segment.now) }
+    {
+        match &self.dialog {
+            Dialog::Lines(session) => session.verdict(from_client, segment),
+            Dialog::Units(session) => session.verdict(from_client, segment),
+        }
+    }
+
+    /// What the sequence number of a datagram that an ICMP error brings back was at the client, or else the server, that sent it.
+    pub fn inner(&self, from_client: bool, sequence: u32) -> Option<u32>
+        ensures { result ≡ kept_rules.inner from_client self.now sequence }
+    {
+        match &self.dialog {
+            Dialog::Lines(session) => session.inner(from_client, sequence),
+            Dialog::Units(session) => session.inner(from_client, sequence),
+        }
+    }
+
+    /// How many changed lines or units wait in it to be acknowledged.
+    pub fn pending(&self) -> u64
+        ensures { result ≡ kept_rules.pending self.now }
+    {
+        match &self.dialog {
+            Dialog::Lines(session) => session.pending() as u64,
+            Dialog::Units(session) => session.pending() as u64,
+        }
+    }
+
+    /// How many entries the list of the client, or else of the server, has: none in a session of FTP.
+    pub fn listed(&self, client: bool) -> usize
+        ensures { result ≡ length (kept_rules.listed client self.now) }
+    {
+        match &self.dialog {
+            Dialog::Lines(_) => 0,
+            Dialog::Units(session) => session.listed(client),
+        }
+    }
+
+    /// The address and its image at a place of that list; None for an address that is kept. The place must lie below `listed`.
+    pub fn entry(&self, client: bool, place: usize) -> Entry
+        requires { place < length (kept_rules.listed client self.now) }
+        ensures { slice_get (kept_rules.listed client self.now) place ≡ Some result }
+    {
+        match &self.dialog {
+            Dialog::Lines(_) => unreachable!(),
+            Dialog::Units(session) => session.entry(client, place),
+        }
+    }
+
+    /// A copy of that list.
+    pub fn entries(&self, alloc: Global, client: bool) -> Result<Vec<Entry>, OutOfMemory>
+        ensures { IfOk result (λ entries. entries.items ≡ kept_rules.listed client self.now) }
+    {
+        let count = self.listed(client);
+        let mut entries = Vec::with_capacity(alloc, count)?;
+        for place in 0..count {
+            entries.push(self.entry(client, place))?;
+        }
+        Ok(entries)
+    }
+
+    /// Puts the octets whose whole units a segment of the client, or else of the server, completes: a held rest and what goes on behind
+    /// it, in a session of DNS.
+    pub fn put_octets(&self, from_client: bool, segment: &TcpView<'_>, octets: &mut UnitOctets)
+        ensures { whole_units octets.new ≡ kept_rules.units from_client self.now (segment_by segment.now) }
+    {
+        octets.clear();
+        if let Dialog::Units(session) = &self.dialog {
+            if is_data(segment) {
+                let repeated = session.repeated(from_client, segment);
+                octets.join(session.rest(from_client), &segment.payload()[repeated..]);
+            }
+        }
+    }
+
+    /// Passes a segment: enters what its units name into the list of its sender, puts what goes out into the outbox, and says whether the
+    /// session ends. The entries must be the addresses in these units beside what they are called, and the list must get no longer than
+    /// 256 entries. Where there is too little memory nothing has changed.
+    pub fn step(
+        &mut self,
+        passing: &Passing<'_>,
+        entries: &[Entry],
+        outbox: &mut Outbox,
+        scratch: &mut Scratch,
+    ) -> Result<bool, OutOfMemory>
+        requires few { length (entered_all (kept_rules.listed passing.now.from_client self.old) entries.now) ≤ 256 }
+        requires named { (image : Addr → Option Addr) × (entries.now ≡ beside image (addresses_in (kept_rules.units passing.now.from_client self.old (segment_of passing.now.segment.now.datagram.now)))) }
+        requires empty { outbox.old ≡ [] }
+        requires segment { passing.now.segment.now.tcp.now ≡ tcp_of passing.now.segment.now.datagram.now }
+        requires alive { 1 ≤ passing.now.segment.now.datagram.now.lifetime }
+        requires passes { kept_rules.verdict passing.now.from_client self.old (segment_of passing.now.segment.now.datagram.now) ≡ None }
+        ensures next { (image : Addr → Option Addr) → entries.now ≡ beside image (addresses_in (kept_rules.units passing.now.from_client self.old (segment_of passing.now.segment.now.datagram.now))) → OnOk result (self.new ≡ kept_rules.next image passing.now.from_client self.old (segment_of passing.now.segment.now.datagram.now)) }
+        ensures out { (image : Addr → Option Addr) → entries.now ≡ beside image (addresses_in (kept_rules.units passing.now.from_client self.old (segment_of passing.now.segment.now.datagram.now))) → OnOk result (outbox.new ≡ map (sent_as passing.now.segment.now.datagram.now passing.now.source.0 passing.now.destination.0) (kept_rules.out image passing.now.from_client self.old (segment_of passing.now.segment.now.datagram.now))) }
+        ensures over { IfOk result (λ b. b ≡ kept_rules.ends passing.now.from_client self.old (segment_of passing.now.segment.now.datagram.now)) }
+        ensures memory { OnErr result (MayWantIn passing.now.from_client self.old (segment_of passing.now.segment.now.datagram.now)) }
+        ensures same { OnErr result (self.new ≡ self.old) }
+        ensures nothing { OnErr result (outbox.new ≡ []) }
+    {
+        match &mut self.dialog {
+            Dialog::Lines(session) => return outbox.put_segments(
+                session,
+                passing.from_client,
+                passing.segment,
+                passing.source,
+                passing.destination,
+                scratch,
+            ),
+            Dialog::Units(session) => {
+                return step_units(&mut **session, passing, entries, outbox, scratch);
+            }
+        }
+    }
+}
+
+/// Whether it has neither SYN nor RST.
+fn is_data(segment: &TcpView<'_>) -> bool
+    ensures { result ≡ is_data (arrival (segment_by segment.now)) }
+{
+    let flags = flags_of(segment.flags());
+    !flags.syn && !flags.reset
+}
