@@ -193,7 +193,9 @@ impl Known {
         requires whole { IsSegmentOf segment.now.octets.now segment.now.datagram.now segment.now.tcp.now }
         ensures { IsSegmentDone (world_in self.old) way.now.side segment.now.datagram.now result (world_in self.new) outbox.new }
     {
-        if let Some(refusal) = StreamGate::<ClientLines, ServerLines, 512>::first_verdict(segment.tcp) {
+        if let Some(refusal) = StreamGate::<ClientLines, ServerLines, 512>::first_verdict(
+            segment.tcp,
+        ) {
             return Ok(Some(refusal));
         }
         if is_full(&self.connections) {
