@@ -1,7 +1,7 @@
 -- Lists that grow, and forget what they grew by.
-use Rattle.std.proofs.Common.{zero, suc, Some, None, ◌≡◌, ◌≤◌, ◌<◌, ◌+◌, ℕ, Bool, true, false, List, [], ◌∷◌, ◌++◌, length, take, drop, refl, sym, ◌∙◌, ap, subst, arith, inl, inr, append_assoc}
+use Rattle.std.proofs.Common.{zero, suc, Some, ◌≡◌, ◌≤◌, ◌<◌, ◌+◌, ℕ, Bool, true, false, List, [], ◌∷◌, ◌++◌, length, take, drop, refl, sym, ◌∙◌, ap, subst, arith, inl, inr, append_assoc}
 use Rattle.std.specs.Prelude.{not}
-use Rattle.std.specs.List.{fold, AllByRecursion, slice_get, slice_index_or}
+use Rattle.std.specs.List.{AllByRecursion, slice_get, slice_index_or}
 use Rattle.std.proofs.lemmas.Bool.{cases_Bool}
 use Rattle.std.proofs.lemmas.List.{append-nil, length-append, take_at, take-append-drop}
 use Rattle.std.proofs.lemmas.List.Sums.{fold-append}

@@ -1,22 +1,21 @@
 -- What holds of each session stays so.
-use Rattle.std.proofs.Common.{◌≡◌, ◌≤◌, ℕ, Bool, true, false, List, [], ◌++◌, length, drop, min, Option, Some, None, refl, sym, ◌∙◌, ap, subst, arith}
-use Rattle.std.specs.Prelude.{cond, not}
+use Rattle.std.proofs.Common.{◌≡◌, ◌≤◌, ℕ, Bool, true, false, List, [], ◌++◌, length, drop, min, Option, None, sym, ◌∙◌, ap, arith}
+use Rattle.std.specs.Prelude.{not}
 use Rattle.std.proofs.lemmas.Bool.{cond-true}
 use Rattle.std.proofs.lemmas.List.{drop_min}
 use Rattle.std.proofs.Math.Nat.{min_comm}
 use Rattle.gate_base.specs.declared.address.Addr.{Addr}
 use Rattle.gate_base.specs.declared.event.Pair.{Pair}
-use Rattle.dialogue.specs.Learning.{Entry}
 use Rattle.dialogue.specs.Stream.{cut}
 use Rattle.dns_stream.specs.Images.{dns_units}
 use Rattle.stream_model.specs.Session.{Segment, arrival}
 use Rattle.stream_model.specs.Verdict.{is_data}
 use Rattle.stream_kept.specs.Outs.{start_kept}
-use Rattle.stream_kept.specs.Sessions.{SessionKept, sender_kept}
+use Rattle.stream_kept.specs.Sessions.{sender_kept}
 use Rattle.stream_kept.proofs.SessionLemmas.{verdict_is}
 use Rattle.gate_world.specs.Lists.{addresses_in, entered, most_entries}
 use Rattle.gate_world.specs.Rules.{whole_rules}
-use Rattle.gate_world.specs.Sessions.{meaning_by, entries_by, whole_next}
+use Rattle.gate_world.specs.Sessions.{meaning_by, whole_next}
 use Rattle.kept_world.specs.Kept.{KeptSession, kept_rules, kept_units, IsOfSome}
 use Rattle.kept_world.proofs.Agreed.{made_stands, next_stands}
 use Rattle.kept_world.proofs.Listing.{kept_have_lists}

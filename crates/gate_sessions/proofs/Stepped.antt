@@ -1,6 +1,6 @@
 -- A session that takes a segment.
-use Rattle.std.proofs.Common.{◌≡◌, ◌≤◌, ◌⊎◌, ℕ, Bool, true, false, List, [], ◌∷◌, ◌++◌, length, drop, Option, Some, None, refl, sym, ◌∙◌, ap, subst, arith, inl, inr}
-use Rattle.std.specs.Prelude.{map, cond, Result, Ok, Err, OnOk, OnErr}
+use Rattle.std.proofs.Common.{◌≡◌, ◌≤◌, ℕ, Bool, true, false, List, [], ◌∷◌, ◌++◌, length, drop, Option, None, sym, ◌∙◌, ap, subst, arith, inl, inr}
+use Rattle.std.specs.Prelude.{map, Result, Ok, Err, OnOk, OnErr}
 use Rattle.std.proofs.lemmas.Bool.{cases_Bool, cond-true, cond-false}
 use Rattle.gate_base.specs.declared.address.Addr.{Addr}
 use Rattle.gate_base.specs.declared.event.Pair.{Pair}
@@ -18,9 +18,9 @@ use Rattle.stream_model.specs.Verdict.{is_data}
 use Rattle.stream_model.proofs.PassLemmas.{data_is}
 use Rattle.stream_kept.specs.Kept.{SenderKept}
 use Rattle.stream_kept.specs.Outs.{start_kept}
-use Rattle.stream_kept.specs.Sessions.{SessionKept, sender_kept, kept_next}
+use Rattle.stream_kept.specs.Sessions.{SessionKept, kept_next}
 use Rattle.stream_gate.specs.Gates.{GateKept}
-use Rattle.stream_gate.specs.Memory.{OneBears, units_behind, units_ended, CompletesBy}
+use Rattle.stream_gate.specs.Memory.{OneBears, units_behind, CompletesBy}
 use Rattle.stream_gate.proofs.MemoryLemmas.{released_none}
 use Rattle.gate_world.specs.Lists.{addresses_in, entered}
 use Rattle.kept_world.specs.Kept.{KeptSession, kept_rules, kept_units, kept_completed, IsListedStream}
@@ -29,7 +29,7 @@ use Rattle.unit_plans.specs.Plans.{beside}
 use Rattle.unit_plans.specs.Steps.{entered_all}
 use Rattle.unit_plans.proofs.EnteredLemmas.{entered-beside}
 use Rattle.unit_plans.proofs.NamedLemmas.{units-first}
-use Rattle.gate_sessions.specs.Directions.{DnsKept, listed_of, IsListedSide, with_entered, dns_next, dns_out, DnsCompletes, dns_session}
+use Rattle.gate_sessions.specs.Directions.{DnsKept, IsListedSide, with_entered, dns_next, dns_out, DnsCompletes, dns_session}
 use Rattle.gate_sessions.specs.Sessions.{IsSession, MayWantIn}
 use Rattle.gate_sessions.proofs.SessionLemmas.{next_session}
 
@@ -106,16 +106,14 @@ lines_stay (Ok x) pair d new f g pairs h v ok err =
     let kept : new.kept ≡ kept_next (client_lines pair) (server_lines pair) f d.kept g =
     ap (λ (y : FtpKept). y.kept) ok
     ∙ ap (λ (p : Pair). kept_next (client_lines p) (server_lines d.server_dialogue.pair) f d.kept g) pairs.0
-    ∙ ap (λ (p : Pair). kept_next (client_lines pair) (server_lines p) f d.kept g) pairs.1 in
-    (
+    ∙ ap (λ (p : Pair). kept_next (client_lines pair) (server_lines p) f d.kept g) pairs.1 in (
       (ap (λ (y : FtpKept). y.client_dialogue.pair) ok ∙ pairs.0, ap (λ (y : FtpKept). y.server_dialogue.pair) ok ∙ pairs.1),
       subst (λ (k : SessionKept). IsSession (ftp_session pair k)) (sym kept) (next_session (λ a. None) f (ftp_session pair d.kept) g h v (omega arith)),
     )
-lines_stay (Err e) pair d new f g pairs h v ok err =
-    (
-      (ap (λ (y : FtpKept). y.client_dialogue.pair) err ∙ pairs.0, ap (λ (y : FtpKept). y.server_dialogue.pair) err ∙ pairs.1),
-      subst (λ (y : FtpKept). IsSession (ftp_session pair y.kept)) (sym err) h,
-    )
+lines_stay (Err e) pair d new f g pairs h v ok err = (
+  (ap (λ (y : FtpKept). y.client_dialogue.pair) err ∙ pairs.0, ap (λ (y : FtpKept). y.server_dialogue.pair) err ∙ pairs.1),
+  subst (λ (y : FtpKept). IsSession (ftp_session pair y.kept)) (sym err) h,
+)
 
 -- ## Where memory may be wanting
 

@@ -11,3 +11,6 @@ mod tracked;
 pub use octets::UnitOctets;
 pub use session::{AnySession, Passing};
 pub use tracked::TrackedSession;
+
+#[cfg(test)]
+mod tests;

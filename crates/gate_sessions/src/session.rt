@@ -56,12 +56,7 @@ impl Model for AnySession {
     ghost invariant = { λ session. IsOfPair session.pair session.dialog × IsSession (session_of session.pair session.dialog) };
 }
 
-fn ftp_session(
-    alloc: Global,
-    pair: Pair,
-    initial: u32,
-    mss: u16,
-) -> Result<FtpSession, OutOfMemory>
+fn ftp_session(alloc: Global, pair: Pair, initial: u32, mss: u16) -> Result<FtpSession, OutOfMemory>
     ensures { IfOk result (λ session. session ≡ record { client_dialogue = record { pair = pair }; server_dialogue = record { pair = pair }; kept = kept_made initial mss nothing_pushed nothing_pushed }) }
 {
     let from_client = Recent::make(alloc)?;

@@ -3,10 +3,9 @@ use Rattle.std.proofs.Common.{◌≡◌, ℕ, true, false, List, [], ◌∷◌, 
 use Rattle.std.specs.Prelude.{Some, None, is_some}
 use Rattle.std.specs.List.{fold}
 use Rattle.std.proofs.lemmas.List.{append-nil, take_at, drop_at}
-use Rattle.std.proofs.lemmas.List.Sums.{fold-append}
 use Rattle.dialogue.specs.Meaning.{Meaning, IsUnit, IsRest, IsLawful}
 use Rattle.dialogue.specs.Stream.{Cut, cut_at, add_octet, cut}
-use Rattle.dialogue.proofs.CutLemmas.{none_or_some, front_rest, IsRest-nil, IsRest-cut, IsUnit-push}
+use Rattle.dialogue.proofs.CutLemmas.{none_or_some, front_rest, IsRest-nil, IsUnit-push}
 
 -- a cut with these units before its own
 abbrev pub after_units : List (List ℕ) → Cut → Cut

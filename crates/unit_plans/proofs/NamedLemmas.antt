@@ -1,10 +1,10 @@
 -- The way through the units of octets.
-use Rattle.std.proofs.Common.{◌≡◌, ◌≤◌, ◌+◌, ◌-◌, ℕ, Bool, true, false, List, [], ◌∷◌, ◌++◌, length, take, drop, refl, sym, ◌∙◌, ap, subst, arith, append_assoc}
+use Rattle.std.proofs.Common.{◌≡◌, ◌≤◌, ◌+◌, ◌-◌, ℕ, Bool, true, false, List, [], ◌∷◌, ◌++◌, length, take, drop, refl, sym, ◌∙◌, ap, arith, append_assoc}
 use Rattle.std.specs.Prelude.{Some, None, map, ◌||◌}
 use Rattle.std.specs.List.{flat_map, list_any}
 use Rattle.std.proofs.lemmas.List.{append-nil, take_all, length-drop, drop-drop, map-append}
 use Rattle.gate_base.specs.declared.address.Addr.{Addr}
-use Rattle.dialogue.specs.Stream.{Cut, cut}
+use Rattle.dialogue.specs.Stream.{Cut}
 use Rattle.dns_stream.specs.Images.{dns_units}
 use Rattle.dns_stream.specs.Lawful.{dns_units-lawful}
 use Rattle.dns_stream.specs.Units.{unit_end, unit_addresses}

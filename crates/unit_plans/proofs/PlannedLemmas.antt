@@ -1,7 +1,7 @@
 -- Addresses that are bound, and what they are called.
-use Rattle.std.proofs.Common.{◌≡◌, ◌≢◌, ◌+◌, ℕ, Bool, true, false, List, [], ◌∷◌, ◌++◌, length, take, drop, ◌-◌, ◌≤◌, refl, sym, ◌∙◌, ap, subst, arith, inl, inr}
+use Rattle.std.proofs.Common.{◌≡◌, ◌≢◌, ℕ, Bool, true, false, List, [], ◌∷◌, length, take, drop, ◌-◌, refl, sym, ◌∙◌, ap, subst, arith, inl, inr}
 use Rattle.std.specs.Prelude.{map, Option, not, ◌||◌, ◌&&◌, All, ◌==◌}
-use Rattle.std.specs.List.{list_any}
+use Rattle.std.specs.List.{list_all, list_any}
 use Rattle.std.proofs.lemmas.Bool.{cases_Bool, eqb-true}
 use Rattle.std.proofs.lemmas.List.{take_all, length-drop}
 use Rattle.std.proofs.lemmas.List.Elements.{All-nil, All-cons, All-head, All-tail}
@@ -85,3 +85,18 @@ used_bound t ends es names header listed new =
     let P = IsBound t ends.side in
     All-cons P ends.source (ends.destination ∷ names) (All-head P ends.source (ends.destination ∷ []) header)
     (All-cons P ends.destination names (All-head P ends.destination [] (All-tail P ends.source (ends.destination ∷ []) header)) (named_bound t ends.side es names listed new))
+
+-- a list none of whose addresses is unbound, by a test of each
+pub all_bound : (t : Bindings) (side : Side) (es : List Entry) → list_all (λ (entry : Entry). not (is_unbound (cross t side entry.0))) es ≡ true → IsListBound t side es
+all_bound t side [] h = All-nil (IsBound t side)
+all_bound t side (e ∷ es) h =
+    let parts = and_true (not (is_unbound (cross t side e.0))) (list_all (λ (entry : Entry). not (is_unbound (cross t side entry.0))) es) h in
+    All-cons (IsBound t side) e.0 (map (λ (entry : Entry). entry.0) es) (is_bound (cross t side e.0) (not_true (is_unbound (cross t side e.0)) parts.0)) (all_bound t side es parts.1)
+  where
+    and_true : (a b : Bool) → (a && b) ≡ true → (a ≡ true) × (b ≡ true)
+    and_true true b e = (refl, e)
+    and_true false b e = absurd (true-false (sym e))
+
+    not_true : (a : Bool) → not a ≡ true → a ≡ false
+    not_true true e = sym e
+    not_true false e = refl

@@ -55,11 +55,7 @@ fn plan_if_room(
 }
 
 /// Addresses beside their images.
-fn beside(
-    alloc: Global,
-    named: &[Addr],
-    images: &[Option<Addr>],
-) -> Result<Vec<Entry>, OutOfMemory>
+fn beside(alloc: Global, named: &[Addr], images: &[Option<Addr>]) -> Result<Vec<Entry>, OutOfMemory>
     requires { length images.now ≡ length named.now }
     ensures named { IfOk result (λ entries. map (λ (entry : Entry). entry.0) entries.items ≡ named.now) }
     ensures images { (called : Addr → Option Addr) → images.now ≡ map called named.now → IfOk result (λ entries. entries.items ≡ beside called named.now) }

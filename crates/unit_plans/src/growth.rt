@@ -10,12 +10,7 @@ use gate_base::OutOfMemory;
 use std::alloc::Global;
 
 /// One has grown too much already, or a unit would.
-fn grows_or(
-    alloc: Global,
-    entries: &[Entry],
-    grows: bool,
-    unit: &[u8],
-) -> Result<bool, OutOfMemory>
+fn grows_or(alloc: Global, entries: &[Entry], grows: bool, unit: &[u8]) -> Result<bool, OutOfMemory>
     ensures { IfOk result (λ more. more ≡ (grows || grows_too_much entries.now unit.now)) }
 {
     if grows {

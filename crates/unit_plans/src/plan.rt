@@ -75,7 +75,12 @@ fn plan_none(
     if MOST_ENTRIES < entries.len() {
         return Err(PlanStop::Refused(Refusal::RenamesFull));
     }
-    if !has_room(table, endpoints.side, &[endpoints.source, endpoints.destination], firsts) {
+    if !has_room(
+        table,
+        endpoints.side,
+        &[endpoints.source, endpoints.destination],
+        firsts,
+    ) {
         return Err(PlanStop::Refused(Refusal::PoolEmpty));
     }
     Ok(UnitPlan {

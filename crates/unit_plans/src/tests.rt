@@ -1,7 +1,8 @@
-ghost use Rattle.std.specs.Prelude.{◌≡◌, ◌≢◌, true};
+ghost use Rattle.std.specs.Prelude.{◌≡◌, not};
+ghost use Rattle.std.specs.List.{list_all};
 ghost use Rattle.gate_base.specs.declared.side.Side.TheVariants as sides;
 ghost use Rattle.binding_table.specs.Bindings.{cross};
-ghost use Rattle.unit_plans.specs.Plans.{IsListBound};
+ghost use Rattle.gate_world.specs.Names.{is_unbound};
 
 use super::{Endpoints, Entry, PlanStop, UnitPlan, plan_units};
 use binding_table::{Crossing, Firsts, Table};
@@ -28,26 +29,11 @@ const ENDPOINTS: Endpoints = Endpoints {
 };
 
 /// A question of 29 octets without an address.
-const QUESTION: &[u8] =
-    b"\0\x1d\0\x01\x01\0\0\x01\0\0\0\0\0\0\x03ftp\x07example\0\0\x01\0\x01";
+const QUESTION: &[u8] = b"\0\x1d\0\x01\x01\0\0\x01\0\0\0\0\0\0\x03ftp\x07example\0\0\x01\0\x01";
 
-/// An answer that names 10.0.0.21.
+/// An answer without the four octets of the address that it names.
 const ANSWER: &[u8] = b"\0-\0\x01\x81\x80\0\x01\0\x01\0\0\0\0\x03ftp\x07example\0\0\x01\0\x01\
-    \xc0\x0c\0\x01\0\x01\0\0\x0e\x10\0\x04\x0a\0\0\x15";
-
-/// The same answer twice, and the next unit's first octets.
-const TWICE: &[u8] = b"\0-\0\x01\x81\x80\0\x01\0\x01\0\0\0\0\x03ftp\x07example\0\0\x01\0\x01\
-    \xc0\x0c\0\x01\0\x01\0\0\x0e\x10\0\x04\x0a\0\0\x15\
-    \0-\0\x01\x81\x80\0\x01\0\x01\0\0\0\0\x03ftp\x07example\0\0\x01\0\x01\
-    \xc0\x0c\0\x01\0\x01\0\0\x0e\x10\0\x04\x0a\0\0\x15\0-\0";
-
-/// An answer that names 192.168.200.9, which stands for no host.
-const UNBOUND: &[u8] = b"\0-\0\x01\x81\x80\0\x01\0\x01\0\0\0\0\x03ftp\x07example\0\0\x01\0\x01\
-    \xc0\x0c\0\x01\0\x01\0\0\x0e\x10\0\x04\xc0\xa8\xc8\x09";
-
-/// The same, and a unit that holds no message.
-const BAD: &[u8] = b"\0-\0\x01\x81\x80\0\x01\0\x01\0\0\0\0\x03ftp\x07example\0\0\x01\0\x01\
-    \xc0\x0c\0\x01\0\x01\0\0\x0e\x10\0\x04\xc0\xa8\xc8\x09\0\0";
+    \xc0\x0c\0\x01\0\x01\0\0\x0e\x10\0\x04";
 
 /// An answer with records of nine reverse names, 1.0.0.10 to 9.0.0.10, which share their ends.
 const NINE: &[u8] =
@@ -57,72 +43,22 @@ const NINE: &[u8] =
     \x016\xc0\x0e\0\x10\0\x01\0\0\0\0\0\0\x017\xc0\x0e\0\x10\0\x01\0\0\0\0\0\0\
     \x018\xc0\x0e\0\x10\0\x01\0\0\0\0\0\0\x019\xc0\x0e\0\x10\0\x01\0\0\0\0\0\0";
 
-/// The same and the first answer: with the source, eleven addresses that need one of the pool.
-const ELEVEN: &[u8] =
-    b"\0\x9d\0\x03\x81\x80\0\0\0\x09\0\0\0\0\x011\x010\x010\x0210\x07in-addr\x04arpa\0\0\x10\0\x01\0\0\0\0\0\0\
-    \x012\xc0\x0e\0\x10\0\x01\0\0\0\0\0\0\x013\xc0\x0e\0\x10\0\x01\0\0\0\0\0\0\
-    \x014\xc0\x0e\0\x10\0\x01\0\0\0\0\0\0\x015\xc0\x0e\0\x10\0\x01\0\0\0\0\0\0\
-    \x016\xc0\x0e\0\x10\0\x01\0\0\0\0\0\0\x017\xc0\x0e\0\x10\0\x01\0\0\0\0\0\0\
-    \x018\xc0\x0e\0\x10\0\x01\0\0\0\0\0\0\x019\xc0\x0e\0\x10\0\x01\0\0\0\0\0\0\
-    \0-\0\x01\x81\x80\0\x01\0\x01\0\0\0\0\x03ftp\x07example\0\0\x01\0\x01\
-    \xc0\x0c\0\x01\0\x01\0\0\x0e\x10\0\x04\x0a\0\0\x15";
+/// A host that isn't listed, beside what it is called behind the source.
+const NEW: Entry = (Addr(0x0a00_0015), Some(Addr(0xac10_0902)));
 
-/// What the nine are called, behind the source.
-const NEAR: [Entry; 9] = [
-    (Addr(0x0a00_0001), Some(Addr(0xac10_0902))),
-    (Addr(0x0a00_0002), Some(Addr(0xac10_0903))),
-    (Addr(0x0a00_0003), Some(Addr(0xac10_0904))),
-    (Addr(0x0a00_0004), Some(Addr(0xac10_0905))),
-    (Addr(0x0a00_0005), Some(Addr(0xac10_0906))),
-    (Addr(0x0a00_0006), Some(Addr(0xac10_0907))),
-    (Addr(0x0a00_0007), Some(Addr(0xac10_0908))),
-    (Addr(0x0a00_0008), Some(Addr(0xac10_0909))),
-    (Addr(0x0a00_0009), Some(Addr(0xac10_090a))),
-];
-
-/// A list by which the nine share nothing.
-const FAR: [Entry; 9] = [
-    (Addr(0x0a00_0001), Some(Addr(0xc0a8_c865))),
-    (Addr(0x0a00_0002), Some(Addr(0xc1a8_c865))),
-    (Addr(0x0a00_0003), Some(Addr(0xc2a8_c865))),
-    (Addr(0x0a00_0004), Some(Addr(0xc3a8_c865))),
-    (Addr(0x0a00_0005), Some(Addr(0xc4a8_c865))),
-    (Addr(0x0a00_0006), Some(Addr(0xc5a8_c865))),
-    (Addr(0x0a00_0007), Some(Addr(0xc6a8_c865))),
-    (Addr(0x0a00_0008), Some(Addr(0xc7a8_c865))),
-    (Addr(0x0a00_0009), Some(Addr(0xc8a8_c865))),
-];
-
-const NAMED: Entry = (Addr(0x0a00_0015), Some(Addr(0xac10_0902)));
-
-/// Lists, octets, and each named address beside what it is called, or the refusal.
-const CASES: [(&[Entry], &[u8], Result<&[Entry], Refusal>); 9] = [
-    (&[], b"\0", Ok(&[])),
-    (&[], QUESTION, Ok(&[])),
-    (&[], ANSWER, Ok(&[NAMED])),
-    (&[(Addr(0x0a00_0015), None)], TWICE, Ok(&[NAMED, NAMED])),
-    (&[], BAD, Err(Refusal::BadUnit)),
-    (&[], UNBOUND, Err(Refusal::UnitUnbound)),
-    (&[], ELEVEN, Err(Refusal::PoolEmpty)),
-    (&[], NINE, Ok(&NEAR)),
-    (&FAR, NINE, Err(Refusal::UnitGrows)),
-];
+/// An address of the pool that stands for no host.
+const UNBOUND: Addr = Addr(0xc0a8_c809);
 
 fn is_bound(table: &Table, address: Addr) -> bool
-    ensures { result ≡ true → cross table.now sides.Left address ≢ Crossing.Unbound }
+    ensures { result ≡ not (is_unbound (cross table.now sides.Left address)) }
 {
     !matches!(table.cross(Side::Left, address), Crossing::Unbound)
 }
 
 fn all_bound(table: &Table, entries: &[Entry]) -> bool
-    ensures { result ≡ true → IsListBound table.now sides.Left entries.now }
+    ensures { result ≡ list_all (λ entry. not (is_unbound (cross table.now sides.Left entry.0))) entries.now }
 {
-    for entry in entries {
-        if !is_bound(table, entry.0) {
-            return false;
-        }
-    }
-    true
+    entries.iter().all(|entry| is_bound(table, entry.0))
 }
 
 /// A plan, where the addresses that it may not be asked for aren't unbound.
@@ -140,7 +76,7 @@ fn planned(
     plan_units(alloc, table, firsts, &ENDPOINTS, entries, octets)
 }
 
-/// Whether a plan names these addresses beside what they are called, or tells this refusal.
+/// Whether a plan has these entries, or tells this refusal.
 fn tells(plan: &Result<UnitPlan, PlanStop>, wanted: &Result<&[Entry], Refusal>) -> bool {
     match (plan, wanted) {
         (Ok(plan), Ok(entries)) => {
@@ -151,30 +87,104 @@ fn tells(plan: &Result<UnitPlan, PlanStop>, wanted: &Result<&[Entry], Refusal>) 
     }
 }
 
-/// The first case that goes otherwise.
-fn first_wrong(
+/// Answers that name these addresses, and octets behind them.
+fn answers(alloc: Global, addresses: &[Addr], behind: &[u8]) -> Result<Vec<u8>, OutOfMemory> {
+    let mut octets = Vec::new(alloc);
+    for address in addresses {
+        octets.extend_from_slice(ANSWER)?;
+        octets.extend_from_slice(&address.0.to_be_bytes())?;
+    }
+    octets.extend_from_slice(behind)?;
+    Ok(octets)
+}
+
+/// So many hosts from an address on, beside images that lie so far apart.
+fn hosts(
+    alloc: Global,
+    first: u32,
+    count: u32,
+    image: u32,
+    apart: u32,
+) -> Result<Vec<Entry>, OutOfMemory> {
+    let mut entries = Vec::new(alloc);
+    for number in 0..count {
+        let host = Addr(first.wrapping_add(number));
+        let image = Addr(image.wrapping_add(apart.wrapping_mul(number)));
+        entries.push((host, Some(image)))?;
+    }
+    Ok(entries)
+}
+
+/// Whether an answer that names these addresses, and octets behind it, are planned so.
+fn answered(
     alloc: Global,
     table: &Table,
     firsts: &mut Firsts,
-    cases: &[(&[Entry], &[u8], Result<&[Entry], Refusal>)],
-) -> Option<usize> {
-    for (place, (entries, octets, wanted)) in cases.iter().enumerate() {
-        let plan = planned(alloc, table, firsts, entries, octets);
-        if !tells(&plan, wanted) {
-            return Some(place);
-        }
-    }
-    None
+    entries: &[Entry],
+    (addresses, behind): (&[Addr], &[u8]),
+    wanted: &Result<&[Entry], Refusal>,
+) -> Result<bool, OutOfMemory> {
+    let octets = answers(alloc, addresses, behind)?;
+    Ok(tells(&planned(alloc, table, firsts, entries, &octets), wanted))
 }
 
-/// A list of so many entries.
-fn list_of(alloc: Global, count: u8) -> Result<Vec<Entry>, OutOfMemory> {
-    let mut list = Vec::new(alloc);
-    list.push((Addr(0x0a02_0000), None))?;
-    for number in 0..count {
-        list.push((Addr(u32::from_be_bytes([10, 1, 0, number])), None))?;
-    }
-    Ok(list)
+/// Whether units that pass are planned.
+fn passes(alloc: Global, table: &Table, firsts: &mut Firsts) -> Result<bool, OutOfMemory> {
+    let kept = [(NEW.0, None)];
+    let rest = answered(alloc, table, firsts, &[], (&[], b"\0-"), &Ok(&[]))?;
+    let question = answered(alloc, table, firsts, &[], (&[], QUESTION), &Ok(&[]))?;
+    let answer = answered(alloc, table, firsts, &[], (&[NEW.0], b""), &Ok(&[NEW]))?;
+    let twice = (&[NEW.0, NEW.0] as &[Addr], b"\0" as &[u8]);
+    let listed = answered(alloc, table, firsts, &kept, twice, &Ok(&[NEW, NEW]))?;
+    Ok(rest && question && answer && listed)
+}
+
+/// Whether units are refused for what they name.
+fn refuses(alloc: Global, table: &Table, firsts: &mut Firsts) -> Result<bool, OutOfMemory> {
+    let bad = Err(Refusal::BadUnit);
+    let unbound = Err(Refusal::UnitUnbound);
+    let empty = Err(Refusal::PoolEmpty);
+    let first = answered(alloc, table, firsts, &[], (&[UNBOUND], b"\0\0"), &bad)?;
+    let second = answered(alloc, table, firsts, &[], (&[UNBOUND], b""), &unbound)?;
+    let third = answered(alloc, table, firsts, &[], (&[NEW.0], NINE), &empty)?;
+    Ok(first && second && third)
+}
+
+/// Whether a list has at most 256 entries.
+fn fills(alloc: Global, table: &Table, firsts: &mut Firsts) -> Result<bool, OutOfMemory> {
+    let fewer = hosts(alloc, 0x0a01_0000, 255, 0, 0)?;
+    let most = hosts(alloc, 0x0a01_0000, 256, 0, 0)?;
+    let full = Err(Refusal::RenamesFull);
+    let first = answered(alloc, table, firsts, &fewer, (&[NEW.0], b""), &Ok(&[NEW]))?;
+    let second = answered(alloc, table, firsts, &most, (&[NEW.0], b""), &full)?;
+    let third = answered(alloc, table, firsts, &most, (&[], QUESTION), &Ok(&[]))?;
+    Ok(first && second && third)
+}
+
+/// Whether nine names grow too much exactly where their images, by the list, share nothing.
+fn grows(alloc: Global, table: &Table, firsts: &mut Firsts) -> Result<bool, OutOfMemory> {
+    let near = hosts(alloc, 0x0a00_0001, 9, 0xac10_0902, 1)?;
+    let far = hosts(alloc, 0x0a00_0001, 9, 0xc0a8_c865, 0x0100_0000)?;
+    let first = answered(alloc, table, firsts, &[], (&[], NINE), &Ok(&near))?;
+    let second = answered(
+        alloc,
+        table,
+        firsts,
+        &far,
+        (&[], NINE),
+        &Err(Refusal::UnitGrows),
+    )?;
+    Ok(first && second)
+}
+
+/// Whether all units are planned so.
+fn plans(alloc: Global, table: &Table) -> Result<bool, OutOfMemory> {
+    let mut firsts = Firsts::make(alloc, Seed::from_number(1))?;
+    let passing = passes(alloc, table, &mut firsts)?;
+    let refused = refuses(alloc, table, &mut firsts)?;
+    let filled = fills(alloc, table, &mut firsts)?;
+    let growing = grows(alloc, table, &mut firsts)?;
+    Ok(passing && refused && filled && growing)
 }
 
 #[test]
@@ -188,13 +198,6 @@ fn units_are_planned(rt: HostRuntime) -> Result<(), Fail> {
         assert!(rt; false, "table");
         return Ok(());
     };
-    let mut firsts = Firsts::make(alloc, Seed::from_number(1))?;
-    assert_eq!(rt; first_wrong(alloc, &table, &mut firsts, &CASES), None);
-    let most = list_of(alloc, 255)?;
-    let fewer = list_of(alloc, 254)?;
-    let full = Err(Refusal::RenamesFull);
-    assert!(rt; tells(&planned(alloc, &table, &mut firsts, &fewer, ANSWER), &Ok(&[NAMED])));
-    assert!(rt; tells(&planned(alloc, &table, &mut firsts, &most, ANSWER), &full));
-    assert!(rt; tells(&planned(alloc, &table, &mut firsts, &most, QUESTION), &Ok(&[])));
+    assert!(rt; plans(alloc, &table)?);
     Ok(())
 }

@@ -8,5 +8,5 @@ use Rattle.unit_plans.proofs.called.beside.Given as goal
 abbrev pub invariant-loop-place : goal.invariant-loop-place
 invariant-loop-place l = record {
   named : map (λ (entry : Entry). entry.0) l.entries.items ≡ take l.place l.named;
-  images : (called : Addr → Option Addr) → l.images ≡ map called l.named → l.entries.items ≡ beside called (take l.place l.named)
+  images : (called : Addr → Option Addr) → l.images ≡ map called l.named → l.entries.items ≡ beside called (take l.place l.named);
 }

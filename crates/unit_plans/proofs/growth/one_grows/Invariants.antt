@@ -1,8 +1,5 @@
-use Rattle.std.proofs.Common.{◌≡◌, ◌≤◌, length, drop}
-use Rattle.std.specs.Prelude.{◌-◌, ◌||◌}
-use Rattle.std.specs.List.{list_any}
-use Rattle.gate_world.specs.Lists.{grows_too_much}
-use Rattle.unit_plans.specs.Plans.{whole_units}
+use Rattle.std.proofs.Common.{length}
+use Rattle.std.specs.Prelude.{◌-◌}
 use Rattle.unit_plans.proofs.NamedLemmas.{Grows}
 use Rattle.unit_plans.proofs.growth.one_grows.Given as goal
 

@@ -1,8 +1,7 @@
-use Rattle.std.proofs.Common.{◌≡◌, ℕ, List, sym, ◌∙◌, ap, subst, rules, cond}
-use Rattle.std.specs.Prelude.{Option, Some, None, IfOk, IfErr, Bool, true, false, is_some, not}
+use Rattle.std.proofs.Common.{◌≡◌, List, sym, ◌∙◌, ap, subst}
+use Rattle.std.specs.Prelude.{Option, None, IfOk, IfErr, is_some}
 use Rattle.gate_base.specs.declared.address.Addr.{Addr}
 use Rattle.gate_base.specs.declared.refusal.Refusal.{Refusal}
-use Rattle.dialogue.specs.Learning.{Entry}
 use Rattle.dns_stream.specs.Units.{unit_end}
 use Rattle.unit_plans.specs.Plans.{called_after, beside, TellsFirst}
 use Rattle.unit_plans.proofs.ToldLemmas.{none_told, none_named, none_whole, some_whole}

@@ -1,8 +1,8 @@
 use Rattle.std.proofs.Common.{◌≡◌, ◌≤◌, List, length, ap, subst, sym, ◌∙◌}
-use Rattle.std.specs.Prelude.{map, Option, None}
+use Rattle.std.specs.Prelude.{Option, None}
 use Rattle.gate_base.specs.declared.address.Addr.{Addr}
 use Rattle.dialogue.specs.Learning.{Entry}
-use Rattle.stream_model.specs.Session.{Segment, Outgoing}
+use Rattle.stream_model.specs.Session.{Segment}
 use Rattle.gate_world.specs.Stream.{segment_of, sent_as}
 use Rattle.kept_world.specs.Kept.{KeptSession, kept_rules}
 use Rattle.unit_plans.specs.Steps.{entered_all}
