@@ -146,9 +146,39 @@ def walk(captures):
     captures.add("north", udp("10.0.0.5", 161, "192.168.200.1", 40012, message))
 
 
+def look_up_by_stream(captures):
+    """A look-up over TCP, whose answer comes in two segments."""
+    asked = name("all.south.example") + struct.pack(">HH", 1, 1)
+    hosts = ["10.0.0.%d" % host for host in range(21, 25)]
+    answers = b"".join(struct.pack(">HHHIH", 0xC00C, 1, 1, 3600, 4) + quad(host) for host in hosts)
+    question = unit(struct.pack(">HHHHHH", 9, 0x0100, 1, 0, 0, 0) + asked)
+    answer = unit(struct.pack(">HHHHHH", 9, 0x8180, 1, len(hosts), 0, 0) + asked + answers)
+
+    def north(flags, sequence, acknowledgement, octets=b""):
+        captures.add("north", tcp("10.0.0.77", 40013, "192.168.200.53", 53, flags, sequence, acknowledgement, octets))
+
+    def south(flags, sequence, acknowledgement, octets=b""):
+        captures.add("south", tcp("10.0.0.53", 53, "172.16.9.2", 40013, flags, sequence, acknowledgement, octets))
+
+    asked_to, answered_to = 1001 + len(question), 5001 + len(answer)
+    north(SYN, 1000, 0)
+    south(SYN | ACK, 5000, 1001)
+    north(ACK, 1001, 5001)
+    north(PSH | ACK, 1001, 5001, question)
+    south(ACK, 5001, asked_to, answer[:40])
+    south(PSH | ACK, 5041, asked_to, answer[40:])
+    north(FIN | ACK, asked_to, answered_to)
+    south(FIN | ACK, answered_to, asked_to + 1)
+    north(ACK, asked_to + 1, answered_to + 1)
+
+
+def unit(message):
+    return struct.pack(">H", len(message)) + message
+
+
 def main():
     captures = Captures()
-    for part in (log_and_time, look_up, files, trap, ping, long_answer, walk):
+    for part in (log_and_time, look_up, files, trap, ping, long_answer, walk, look_up_by_stream):
         part(captures)
     captures.write(os.path.dirname(os.path.abspath(__file__)))
 

@@ -1,5 +1,5 @@
 -- What becomes of a segment.
-use Rattle.std.specs.Prelude.{◌≤◌, ◌≡◌, ◌&&◌, not, nat_le, ℕ, Bool, List, [], ◌∷◌, length, Option, Some, None, is_none, option_map, if◌then◌else◌, IfSome, Result}
+use Rattle.std.specs.Prelude.{◌≤◌, ◌≡◌, ◌&&◌, not, nat_le, ℕ, Bool, List, [], ◌∷◌, length, Option, Some, None, is_none, if◌then◌else◌, Result}
 use Rattle.gate_base.specs.declared.address.Addr.{Addr}
 use Rattle.gate_base.specs.declared.event.OutOfMemory.{OutOfMemory}
 use Rattle.gate_base.specs.declared.event.Pair.{Pair}
@@ -7,16 +7,18 @@ use Rattle.gate_base.specs.declared.refusal.Refusal.{Refusal}
 use Rattle.gate_base.specs.declared.refusal.Refusal.TheVariants.{PoolEmpty, SessionsFull}
 use Rattle.gate_base.specs.declared.side.Side.{Side}
 use Rattle.ipv4_frames.specs.Ipv4.{Datagram}
-use Rattle.ftp_lines.specs.Renaming.{client_lines, server_lines}
 use Rattle.tcp_segments.specs.Tcp.{Tcp}
 use Rattle.tcp_segments.specs.Flags.{flags_of}
 use Rattle.tcp_tracker.specs.declared.connection.Connection.{Connection}
-use Rattle.stream_gate.specs.Memory.{KeptCompletes}
-use Rattle.gate_world.specs.Frame.{Stream, control_port}
+use Rattle.gate_world.specs.Frame.{Stream}
 use Rattle.twice_translate.specs.Renamed.{CanGoOn, datagram_of}
-use Rattle.gate_world.specs.Stream.{tcp_of, segment_of, session_refusal, stepped, ends_by, pending_by, most_connections}
+use Rattle.gate_world.specs.Stream.{tcp_of, segment_of, stepped, ends_by, pending_by, most_connections}
 use Rattle.gate_world.specs.World.{Tracked, World, is_client}
 use Rattle.kept_world.specs.Kept.{KeptSession, kept_rules}
+use Rattle.dialogue.specs.Learning.{Entry}
+use Rattle.gate_world.specs.Lists.{addresses_in}
+use Rattle.unit_plans.specs.Plans.{beside}
+use Rattle.unit_plans.specs.Steps.{entered_all}
 use Rattle.gate_payloads.specs.Ways.{image_by}
 use Rattle.gate_payloads.specs.declared.addresses.Way.{Way}
 use Rattle.gate_core.specs.Done.{IsDoneAs, IsPassed}
@@ -52,21 +54,20 @@ room_tests full empty = (full, SessionsFull) ∷ (empty, PoolEmpty) ∷ []
 abbrev pub lacks_place : List (Connection (Tracked KeptSession)) → Option (Connection (Tracked KeptSession)) → ℕ → Bool
 lacks_place all found flags = is_none found && (not (flags_of flags).reset && nat_le most_connections (length all))
 
--- why a session refuses it, if it does, where there is a session
-abbrev pub session_verdict : Side → Datagram → Option (Tracked KeptSession) → Option (Option Refusal)
-session_verdict side d taker = option_map (λ t. session_refusal kept_rules side d (Some t)) taker
+-- the addresses that the units of a segment name, each beside what it is called
+abbrev pub AreCalled : (Addr → Option Addr) → Side → Datagram → Tracked KeptSession → List Entry → Type 0
+AreCalled image side d t entries = entries ≡ beside image (addresses_in (kept_rules.units (is_client side t) t.session (segment_of d)))
 
--- a session of lines, which has no lists, if there is one
-abbrev pub IsOfLines : Option (Tracked KeptSession) → Type 0
-IsOfLines session = IfSome session (λ t. t.session.lists ≡ None)
+-- a session passes a segment, and its list has room for such entries
+pub record Enters (side : Side) (d : Datagram) (t : Tracked KeptSession) (entries : List Entry) : Type 0 where
+  pub passes : kept_rules.verdict (is_client side t) t.session (segment_of d) ≡ None
+  pub few : length (entered_all (kept_rules.listed (is_client side t) t.session) entries) ≤ 256
+  pub image : Addr → Option Addr
+  pub called : AreCalled image side d t entries
 
--- how many changed lines wait in a session after a segment, unless it ends
+-- how many changed lines or units wait in a session after a segment, unless it ends
 abbrev pub waiting_after : (Addr → Option Addr) → Side → Datagram → Tracked KeptSession → Option ℕ
 waiting_after image side d t = if ends_by kept_rules side d (Some t) then None else Some (pending_by kept_rules (Some (stepped kept_rules image side d t)))
-
--- a segment completes a line that bears an address, in the session that takes it
-abbrev pub CompletesIn : Side → Datagram → Tracked KeptSession → Type 0
-CompletesIn side d t = KeptCompletes (client_lines t.session.pair) (server_lines t.session.pair) (is_client side t) t.session.kept (segment_of d)
 
 -- the pair of the hosts on a way
 abbrev pub pair_on : Way → Pair
@@ -77,6 +78,6 @@ pair_on way = record {
   server_alias = way.destination;
 }
 
--- the session of a control connection that a first segment makes
+-- the session that a first segment makes
 abbrev pub made_on : Way → Tcp → Tracked KeptSession
-made_on way tcp = record { client = way.side; pair = pair_on way; session = kept_rules.made control_port (pair_on way) tcp.sequence tcp.mss }
+made_on way tcp = record { client = way.side; pair = pair_on way; session = kept_rules.made tcp.destination_port (pair_on way) tcp.sequence tcp.mss }

@@ -28,11 +28,15 @@ pub struct Gate {
 }
 
 impl Model for Gate {
+    ghost use Rattle.gate_world.specs.Held.{KeepsListed};
+    ghost use Rattle.kept_world.specs.Kept.{kept_rules};
     ghost use Rattle.gate_core.specs.Gates.{Gateway, world_in};
 
     ghost Value = { Gateway };
 
     ghost view = { λ g. record { settings = g.settings; world = world_in g.known } };
+
+    ghost invariant = { λ g. KeepsListed kept_rules (world_in g.known) };
 }
 
 impl Gate {

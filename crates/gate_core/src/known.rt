@@ -3,6 +3,7 @@ ghost use Rattle.std.specs.Prelude.{◌≡◌, ◌*◌, ◌^◌, ◌<◌, ◌≤
 ghost use Rattle.twice_translate.specs.Renamed.{CanGoOn, datagram_of};
 ghost use Rattle.gate_world.specs.Frame as kinds;
 ghost use Rattle.gate_world.specs.World.{opening_world, at_moment};
+ghost use Rattle.gate_world.specs.Held.{KeepsListed};
 ghost use Rattle.gate_payloads.specs.Taken.{IsWayOf, IsTaken, IsUdpOf};
 ghost use Rattle.gate_frames.specs.Frames.{IsJudged};
 ghost use Rattle.gate_core.specs.Gates.{world_in};
@@ -24,25 +25,33 @@ use gate_base::{DNS_PORT, Event, Moment, OutOfMemory, Refusal, SNMP_PORT, Side, 
 use gate_frames::{Content, Judged, judge};
 use gate_outbox::{Outbox, Scratch, Segment};
 use gate_payloads::{
-    ICMP_HOLD, TrackedSession, UDP_HOLD, UdpDatagram, Way, address_refusal, take_dns, take_error,
-    take_plain, take_snmp,
+    ICMP_HOLD, UDP_HOLD, UdpDatagram, Way, address_refusal, take_dns, take_error, take_plain,
+    take_snmp,
 };
+use gate_sessions::{TrackedSession, UnitOctets};
 use gate_settings::Settings;
 use session_table::SessionTable;
 use std::alloc::Global;
 use udp_icmp::{IcmpView, UdpView};
 
-/// What is known: the clock, the bindings, the connections with their sessions, and the greatest number of changed lines that
-/// ever waited; and the memory and the rooms to work with.
+/// The memory and the rooms to work with.
+#[derive(Drop)]
+pub struct Rooms {
+    pub alloc: Global,
+    pub scratch: Scratch,
+    pub firsts: Firsts,
+    pub octets: UnitOctets,
+}
+
+/// What is known: the clock, the bindings, the connections with their sessions, and the greatest number of changed lines or units
+/// that ever waited; and the rooms to work with.
 #[derive(Drop)]
 pub struct Known {
-    pub alloc: Global,
     pub clock: Moment,
     pub table: Table,
     pub connections: SessionTable<TrackedSession>,
     pub pending: u64,
-    pub scratch: Scratch,
-    pub firsts: Firsts,
+    pub rooms: Rooms,
 }
 
 impl Known {
@@ -53,13 +62,16 @@ impl Known {
         ensures { IfOk result (λ known. world_in known ≡ opening_world settings.now) }
     {
         Ok(Known {
-            alloc,
             clock: Moment(0),
             table: Table::make(alloc, settings, seed)?,
             connections: SessionTable::make(alloc, seed)?,
             pending: 0,
-            scratch: Scratch::make(alloc)?,
-            firsts: Firsts::make(alloc, seed)?,
+            rooms: Rooms {
+                alloc,
+                scratch: Scratch::make(alloc)?,
+                firsts: Firsts::make(alloc, seed)?,
+                octets: UnitOctets::make(alloc)?,
+            },
         })
     }
 
@@ -69,7 +81,7 @@ impl Known {
     {
         self.table.reseed(seed);
         self.connections.reseed(seed);
-        self.firsts.reseed(seed);
+        self.rooms.firsts.reseed(seed);
     }
 
     /// Sets the clock: bindings and connections end.
@@ -88,6 +100,7 @@ impl Known {
         event: &Event<'_>,
         outbox: &mut Outbox,
     ) -> Result<Option<Refusal>, OutOfMemory>
+        requires listed { KeepsListed kept_rules (world_in self.old) }
         requires clock { self.old.clock ≡ event.now.moment }
         requires moment { event.now.moment.0 < 2 ^ 32 * 1000000000 }
         requires empty { outbox.old ≡ [] }
@@ -106,6 +119,7 @@ impl Known {
         frame: &Judged<'_>,
         outbox: &mut Outbox,
     ) -> Result<Option<Refusal>, OutOfMemory>
+        requires listed { KeepsListed kept_rules (world_in self.old) }
         requires judged { IsJudged frame.now.octets.now frame.now.datagram frame.now.content }
         requires moment { self.old.clock.0 < 2 ^ 32 * 1000000000 }
         requires empty { outbox.old ≡ [] }
@@ -166,16 +180,22 @@ impl Known {
         let ports = view.ports();
         if has_port(ports, DNS_PORT) {
             return take_dns(
-                self.alloc,
+                self.rooms.alloc,
                 &mut self.table,
-                &mut self.firsts,
+                &mut self.rooms.firsts,
                 way,
                 datagram,
                 outbox,
             );
         }
         if has_port(ports, SNMP_PORT) || has_port(ports, TRAP_PORT) {
-            return Ok(take_snmp(&mut self.table, way, datagram, &mut self.scratch, outbox));
+            return Ok(take_snmp(
+                &mut self.table,
+                way,
+                datagram,
+                &mut self.rooms.scratch,
+                outbox,
+            ));
         }
         Ok(take_plain(&mut self.table, way, UDP_HOLD, datagram.octets, outbox))
     }

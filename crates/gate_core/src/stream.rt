@@ -4,35 +4,38 @@ ghost use Rattle.gate_base.specs.declared.address.Addr.{Addr};
 ghost use Rattle.binding_table.specs.Bindings.{is_settled};
 ghost use Rattle.binding_table.specs.Plan.{after_uses};
 ghost use Rattle.twice_translate.specs.Renamed.{CanGoOn, datagram_of, renamed};
-ghost use Rattle.ipv4_frames.specs.Ipv4.{Datagram};
 ghost use Rattle.tcp_segments.specs.Flags.{flags_of};
 ghost use Rattle.tcp_tracker.specs.Connections.{connection_of, hold_of, noted, is_tracked};
 ghost use Rattle.session_table.specs.Joined.{replaced};
 ghost use Rattle.gate_world.specs.Frame as kinds;
 ghost use Rattle.gate_world.specs.Stream as streams;
-ghost use Rattle.gate_world.specs.World.{Tracked};
-ghost use Rattle.kept_world.specs.Kept.{KeptSession, kept_rules, kept_pending};
+ghost use Rattle.gate_world.specs.Held.{KeepsListed};
+ghost use Rattle.gate_world.specs.World.{Tracked, is_client};
+ghost use Rattle.kept_world.specs.Kept.{KeptSession, kept_rules};
 ghost use Rattle.gate_payloads.specs.Ways.{IsWay, image_by, is_empty, table_by, out_by};
 ghost use Rattle.gate_payloads.specs.Taken.{IsWayOf};
+ghost use Rattle.gate_sessions.specs.Sessions.{MayWantIn};
+ghost use Rattle.gate_core.specs.Found.{IsPlanOf};
 ghost use Rattle.gate_core.specs.Gates.{world_in};
-ghost use Rattle.gate_core.specs.Segments.{IsSegmentDone, IsSegmentOf, CompletesIn, connections_by, room_tests, lacks_place, session_verdict, waiting_after, made_on, IsOfLines};
+ghost use Rattle.gate_core.specs.Segments.{IsSegmentDone, IsSegmentOf, AreCalled, Enters, connections_by, room_tests, lacks_place, waiting_after, made_on};
 ghost use Rattle.gate_base.specs.Tests.{first_that_holds};
 ghost use Rattle.gate_world.specs.Step.{stream_out};
-ghost use Rattle.gate_world.specs.Stream.{tcp_of};
+ghost use Rattle.gate_world.specs.Stream.{segment_of};
 ghost use Rattle.gate_world.specs.Units.{uses_until};
 
+use crate::found::{Found, SegmentPlan, look_up};
 use crate::known::Known;
+use crate::uses::use_segment;
 use binding_table::Table;
-use ftp_lines::{ClientLines, ServerLines};
-use gate_base::{CONTROL_PORT, DNS_PORT, OutOfMemory, Pair, Refusal, get_u16};
+use gate_base::{CONTROL_PORT, DNS_PORT, OutOfMemory, Pair, Refusal};
 use gate_outbox::{Outbox, Scratch, Segment};
-use gate_payloads::{TrackedSession, Way, key_of, lacks_alias, pass_plain};
+use gate_payloads::{Way, key_of, lacks_alias, pass_plain};
+use gate_sessions::{AnySession, Passing, TrackedSession};
 use session_table::SessionTable;
-use shift_ledger::Recent;
 use std::alloc::Global;
-use stream_gate::StreamGate;
 use tcp_segments::{TcpView, flags_of};
 use tcp_tracker::{ConnKey, SHORT_HOLD};
+use unit_plans::Entry;
 
 /// The most connections that live at once.
 const CONNECTIONS: usize = 65_536;
@@ -48,20 +51,18 @@ impl Known {
         segment: &Segment<'_>,
         outbox: &mut Outbox,
     ) -> Result<Option<Refusal>, OutOfMemory>
+        requires listed { KeepsListed kept_rules (world_in self.old) }
         requires way { IsWayOf (world_in self.old) way.now.side segment.now.datagram.now way.now }
         requires moment { way.now.moment.0 < 2 ^ 32 * 1000000000 }
         requires empty { outbox.old ≡ [] }
         requires whole { IsSegmentOf segment.now.octets.now segment.now.datagram.now segment.now.tcp.now }
         ensures { IsSegmentDone (world_in self.old) way.now.side segment.now.datagram.now result (world_in self.new) outbox.new }
     {
-        if has_dns_port(segment.tcp) {
-            return Ok(Some(Refusal::DnsStream));
-        }
         let key = key_in(way, segment.tcp.ports());
         self.take_on_connection(way, &key, segment, outbox)
     }
 
-    // Takes a segment of the connection with this name; no port of it is that of DNS.
+    // Takes a segment of the connection with this name.
     fn take_on_connection(
         &mut self,
         way: &Way,
@@ -69,32 +70,36 @@ impl Known {
         segment: &Segment<'_>,
         outbox: &mut Outbox,
     ) -> Result<Option<Refusal>, OutOfMemory>
+        requires listed { KeepsListed kept_rules (world_in self.old) }
         requires way { IsWayOf (world_in self.old) way.now.side segment.now.datagram.now way.now }
         requires key { key.now ≡ streams.key_in self.old.table way.now.side segment.now.datagram.now }
-        requires dns { kinds.has_port kinds.dns_port segment.now.datagram.now ≡ false }
         requires moment { way.now.moment.0 < 2 ^ 32 * 1000000000 }
         requires empty { outbox.old ≡ [] }
         requires whole { IsSegmentOf segment.now.octets.now segment.now.datagram.now segment.now.tcp.now }
         ensures { IsSegmentDone (world_in self.old) way.now.side segment.now.datagram.now result (world_in self.new) outbox.new }
     {
-        let (lives, verdict) = look_up(&self.connections, way, key, segment);
-        if let Some(verdict) = verdict {
-            return match verdict {
-                Some(refusal) => Ok(Some(refusal)),
-                None => self.take_by_session(way, key, segment, outbox),
-            };
-        }
-        if lives {
-            return Ok(take_untracked(
+        let found = look_up(
+            &mut self.rooms,
+            &self.table,
+            &self.connections,
+            way,
+            key,
+            segment,
+        );
+        match found {
+            Found::Absent => self.take_beginning(way, key, segment, outbox),
+            Found::Untracked => Ok(take_untracked(
                 &mut self.table,
                 &mut self.connections,
                 way,
                 key,
                 segment,
                 outbox,
-            ));
+            )),
+            Found::Tracked(plan) => self.take_by_session(way, key, segment, &plan, outbox),
+            Found::Refused(refusal) => Ok(Some(refusal)),
+            Found::Lost => Err(OutOfMemory),
         }
-        self.take_beginning(way, key, segment, outbox)
     }
 
     // Takes a segment whose connection doesn't live.
@@ -108,7 +113,6 @@ impl Known {
         requires way { IsWayOf (world_in self.old) way.now.side segment.now.datagram.now way.now }
         requires key { key.now ≡ streams.key_in self.old.table way.now.side segment.now.datagram.now }
         requires absent { connection_of key.now self.old.connections ≡ None }
-        requires dns { kinds.has_port kinds.dns_port segment.now.datagram.now ≡ false }
         requires moment { way.now.moment.0 < 2 ^ 32 * 1000000000 }
         requires empty { outbox.old ≡ [] }
         requires whole { IsSegmentOf segment.now.octets.now segment.now.datagram.now segment.now.tcp.now }
@@ -130,47 +134,51 @@ impl Known {
         ))
     }
 
-    // Takes a segment of a connection that has a session, which doesn't refuse it.
+    // Takes a segment of a connection that has a session, which takes it by this plan.
     fn take_by_session(
         &mut self,
         way: &Way,
         key: &ConnKey,
         segment: &Segment<'_>,
+        plan: &SegmentPlan,
         outbox: &mut Outbox,
     ) -> Result<Option<Refusal>, OutOfMemory>
+        requires listed { KeepsListed kept_rules (world_in self.old) }
         requires way { IsWayOf (world_in self.old) way.now.side segment.now.datagram.now way.now }
         requires key { key.now ≡ streams.key_in self.old.table way.now.side segment.now.datagram.now }
-        requires tracked { IsSome (streams.session_in (connection_of key.now self.old.connections)) }
-        requires lines { IsOfLines (streams.session_in (connection_of key.now self.old.connections)) }
-        requires passes { streams.session_refusal kept_rules way.now.side segment.now.datagram.now (streams.session_in (connection_of key.now self.old.connections)) ≡ None }
-        requires dns { kinds.has_port kinds.dns_port segment.now.datagram.now ≡ false }
+        requires plan { (t : Tracked KeptSession) × IsPlanOf (world_in self.old) way.now.side segment.now.datagram.now t plan.now }
         requires moment { way.now.moment.0 < 2 ^ 32 * 1000000000 }
         requires empty { outbox.old ≡ [] }
         requires whole { IsSegmentOf segment.now.octets.now segment.now.datagram.now segment.now.tcp.now }
         ensures { IsSegmentDone (world_in self.old) way.now.side segment.now.datagram.now result (world_in self.new) outbox.new }
     {
-        if lacks_alias(way) {
-            return Ok(Some(Refusal::PoolEmpty));
-        }
         let flags = segment.tcp.flags();
         let hold = hold_of(&self.connections, way, key, flags);
         match step_session(
             &mut self.connections,
-            &mut self.scratch,
+            &mut self.rooms.scratch,
             way,
             key,
             segment,
+            &plan.units.entries,
             outbox,
         )? {
             Some(waiting) => {
                 self.pending = self.pending.max(waiting);
+                use_segment(&mut self.table, &self.connections, way, key, plan, hold);
                 self.connections.note(*key, way.side, flags, way.moment);
-                way.use_both(&mut self.table, hold);
                 Ok(None)
             }
             None => {
+                use_segment(
+                    &mut self.table,
+                    &self.connections,
+                    way,
+                    key,
+                    plan,
+                    SHORT_HOLD,
+                );
                 self.connections.remove(key);
-                way.use_both(&mut self.table, SHORT_HOLD);
                 Ok(None)
             }
         }
@@ -188,16 +196,13 @@ impl Known {
         requires way { IsWayOf (world_in self.old) way.now.side segment.now.datagram.now way.now }
         requires key { key.now ≡ streams.key_in self.old.table way.now.side segment.now.datagram.now }
         requires absent { connection_of key.now self.old.connections ≡ None }
-        requires first { (streams.is_opening segment.now.tcp.now.flags && segment.now.tcp.now.destination_port == 21) ≡ true }
-        requires dns { kinds.has_port kinds.dns_port segment.now.datagram.now ≡ false }
+        requires first { (streams.is_opening segment.now.tcp.now.flags && kinds.is_tracked_port segment.now.tcp.now.destination_port) ≡ true }
         requires moment { way.now.moment.0 < 2 ^ 32 * 1000000000 }
         requires empty { outbox.old ≡ [] }
         requires whole { IsSegmentOf segment.now.octets.now segment.now.datagram.now segment.now.tcp.now }
         ensures { IsSegmentDone (world_in self.old) way.now.side segment.now.datagram.now result (world_in self.new) outbox.new }
     {
-        if let Some(refusal) = StreamGate::<ClientLines, ServerLines, 512>::first_verdict(
-            segment.tcp,
-        ) {
+        if let Some(refusal) = AnySession::first_verdict(segment.tcp) {
             return Ok(Some(refusal));
         }
         if is_full(&self.connections) {
@@ -208,8 +213,15 @@ impl Known {
         }
         let flags = segment.tcp.flags();
         let hold = hold_of(&self.connections, way, key, flags);
-        let mut tracked = made(self.alloc, way, segment.tcp)?;
-        let waiting = step_tracked(&mut tracked, &mut self.scratch, way, segment, outbox)?;
+        let mut tracked = made(self.rooms.alloc, way, segment.tcp)?;
+        let waiting = step_tracked(
+            &mut tracked,
+            &mut self.rooms.scratch,
+            way,
+            segment,
+            &[],
+            outbox,
+        )?;
         self.pending = self.pending.max(waiting.unwrap_or(0));
         self.connections
             .open(*key, way.side, flags, tracked, way.moment);
@@ -278,14 +290,6 @@ fn is_stray_reset(connections: &SessionTable<TrackedSession>, key: &ConnKey, fla
     flags_of(flags).reset && !connections.contains(key)
 }
 
-/// Whether a port is that of DNS.
-fn has_dns_port(tcp: &TcpView<'_>) -> bool
-    ensures { (d : Datagram) → tcp.now ≡ tcp_of d → result ≡ kinds.has_port kinds.dns_port d }
-{
-    let header = tcp.header();
-    get_u16(header, 0) == DNS_PORT || get_u16(header, 2) == DNS_PORT
-}
-
 /// Whether it is a SYN without ACK.
 fn is_opening(flags: u8) -> bool
     ensures { result ≡ streams.is_opening flags }
@@ -294,19 +298,26 @@ fn is_opening(flags: u8) -> bool
     flags.syn && !flags.ack
 }
 
-/// Whether it is a segment of a control connection, and no SYN without ACK.
-fn is_late(tcp: &TcpView<'_>) -> bool
-    ensures { result ≡ ((tcp.now.source_port == 21 || tcp.now.destination_port == 21) && not (streams.is_opening tcp.now.flags)) }
+/// Whether connections to the port are tracked: of FTP and of DNS.
+fn is_tracked_port(port: u16) -> bool
+    ensures { result ≡ kinds.is_tracked_port port }
 {
-    let ports = tcp.ports();
-    (ports.0 == CONTROL_PORT || ports.1 == CONTROL_PORT) && !is_opening(tcp.flags())
+    port == CONTROL_PORT || port == DNS_PORT
 }
 
-/// Whether it is a SYN without ACK to the control port.
-fn is_first(tcp: &TcpView<'_>) -> bool
-    ensures { result ≡ (streams.is_opening tcp.now.flags && tcp.now.destination_port == 21) }
+/// Whether one of its ports is such a port, and it is no SYN without ACK.
+fn is_late(tcp: &TcpView<'_>) -> bool
+    ensures { result ≡ ((kinds.is_tracked_port tcp.now.source_port || kinds.is_tracked_port tcp.now.destination_port) && not (streams.is_opening tcp.now.flags)) }
 {
-    is_opening(tcp.flags()) && tcp.ports().1 == CONTROL_PORT
+    let ports = tcp.ports();
+    (is_tracked_port(ports.0) || is_tracked_port(ports.1)) && !is_opening(tcp.flags())
+}
+
+/// Whether it is a SYN without ACK to such a port.
+fn is_first(tcp: &TcpView<'_>) -> bool
+    ensures { result ≡ (streams.is_opening tcp.now.flags && kinds.is_tracked_port tcp.now.destination_port) }
+{
+    is_opening(tcp.flags()) && is_tracked_port(tcp.ports().1)
 }
 
 /// The name of the connection of a segment with these ports.
@@ -344,100 +355,72 @@ fn hold_of(connections: &SessionTable<TrackedSession>, way: &Way, key: &ConnKey,
     connections.hold_of(key, way.side, flags)
 }
 
-/// Why a session refuses a segment, if it does.
-fn session_verdict(tracked: &TrackedSession, way: &Way, segment: &Segment<'_>) -> Option<Refusal>
-    requires { segment.now.tcp.now ≡ tcp_of segment.now.datagram.now }
-    ensures verdict { result ≡ streams.session_refusal kept_rules way.now.side segment.now.datagram.now (Some tracked.now) }
-    ensures lines { IsOfLines (Some tracked.now) }
-{
-    tracked
-        .session
-        .verdict(tracked.is_client(way.side), segment.tcp)
-}
-
-/// Whether the connection with this name lives, and the verdict of its session, if it has one.
-fn look_up(
-    connections: &SessionTable<TrackedSession>,
-    way: &Way,
-    key: &ConnKey,
-    segment: &Segment<'_>,
-) -> (bool, Option<Option<Refusal>>)
-    requires { segment.now.tcp.now ≡ tcp_of segment.now.datagram.now }
-    ensures lives { result.0 ≡ is_some (connection_of key.now connections.now) }
-    ensures verdict { result.1 ≡ session_verdict way.now.side segment.now.datagram.now (streams.session_in (connection_of key.now connections.now)) }
-    ensures lines { IsOfLines (streams.session_in (connection_of key.now connections.now)) }
-{
-    match connections.find(key) {
-        Some(Some(tracked)) => (true, Some(session_verdict(tracked, way, segment))),
-        Some(None) => (true, None),
-        None => (false, None),
-    }
-}
-
-/// The session of a connection takes a segment: how many changed lines wait in it then; None where it ends.
+/// The session of a connection takes a segment, whose units name addresses that are called so: how many changed lines or units wait
+/// in it then; None where it ends.
 fn step_session(
     connections: &mut SessionTable<TrackedSession>,
     scratch: &mut Scratch,
     way: &Way,
     key: &ConnKey,
     segment: &Segment<'_>,
+    entries: &[Entry],
     outbox: &mut Outbox,
 ) -> Result<Option<u64>, OutOfMemory>
     requires tracked { IsSome (streams.session_in (connection_of key.now connections.old)) }
-    requires passes { streams.session_refusal kept_rules way.now.side segment.now.datagram.now (streams.session_in (connection_of key.now connections.old)) ≡ None }
+    requires enters { (t : Tracked KeptSession) → streams.session_in (connection_of key.now connections.old) ≡ Some t → Enters way.now.side segment.now.datagram.now t entries.now }
     requires empty { outbox.old ≡ [] }
     requires whole { IsSegmentOf segment.now.octets.now segment.now.datagram.now segment.now.tcp.now }
-    ensures next { (image : Addr → Option Addr) (t : Tracked KeptSession) → streams.session_in (connection_of key.now connections.old) ≡ Some t → OnOk result (connections.new ≡ replaced connections.old key.now (streams.stepped kept_rules image way.now.side segment.now.datagram.now t)) }
-    ensures waits { (image : Addr → Option Addr) (t : Tracked KeptSession) → streams.session_in (connection_of key.now connections.old) ≡ Some t → IfOk result (λ w. w ≡ waiting_after image way.now.side segment.now.datagram.now t) }
-    ensures out { (image : Addr → Option Addr) (t : Tracked KeptSession) → streams.session_in (connection_of key.now connections.old) ≡ Some t → OnOk result (outbox.new ≡ stream_out kept_rules image way.now.side segment.now.datagram.now (image_by way.now.of_source way.now.source).0 (image_by way.now.of_destination way.now.destination).0 (Some t)) }
-    ensures memory { (t : Tracked KeptSession) → streams.session_in (connection_of key.now connections.old) ≡ Some t → OnErr result (CompletesIn way.now.side segment.now.datagram.now t) }
+    ensures next { (image : Addr → Option Addr) (t : Tracked KeptSession) → streams.session_in (connection_of key.now connections.old) ≡ Some t → AreCalled image way.now.side segment.now.datagram.now t entries.now → OnOk result (connections.new ≡ replaced connections.old key.now (streams.stepped kept_rules image way.now.side segment.now.datagram.now t)) }
+    ensures waits { (image : Addr → Option Addr) (t : Tracked KeptSession) → streams.session_in (connection_of key.now connections.old) ≡ Some t → AreCalled image way.now.side segment.now.datagram.now t entries.now → IfOk result (λ w. w ≡ waiting_after image way.now.side segment.now.datagram.now t) }
+    ensures out { (image : Addr → Option Addr) (t : Tracked KeptSession) → streams.session_in (connection_of key.now connections.old) ≡ Some t → AreCalled image way.now.side segment.now.datagram.now t entries.now → OnOk result (outbox.new ≡ stream_out kept_rules image way.now.side segment.now.datagram.now (image_by way.now.of_source way.now.source).0 (image_by way.now.of_destination way.now.destination).0 (Some t)) }
+    ensures memory { (t : Tracked KeptSession) → streams.session_in (connection_of key.now connections.old) ≡ Some t → OnErr result (MayWantIn (is_client way.now.side t) t.session (segment_of segment.now.datagram.now)) }
     ensures same { OnErr result (connections.new ≡ connections.old) }
     ensures nothing { OnErr result (outbox.new ≡ []) }
 {
     match connections.session_mut(key) {
-        Some(tracked) => step_tracked(tracked, scratch, way, segment, outbox),
+        Some(tracked) => step_tracked(tracked, scratch, way, segment, entries, outbox),
         None => Ok(None),
     }
 }
 
-/// A session takes a segment: how many changed lines wait in it then; None where it ends.
+/// A session takes a segment, whose units name addresses that are called so: how many changed lines or units wait in it then; None
+/// where it ends.
 fn step_tracked(
     tracked: &mut TrackedSession,
     scratch: &mut Scratch,
     way: &Way,
     segment: &Segment<'_>,
+    entries: &[Entry],
     outbox: &mut Outbox,
 ) -> Result<Option<u64>, OutOfMemory>
-    requires passes { streams.session_refusal kept_rules way.now.side segment.now.datagram.now (Some tracked.old) ≡ None }
+    requires enters { Enters way.now.side segment.now.datagram.now tracked.old entries.now }
     requires empty { outbox.old ≡ [] }
     requires whole { IsSegmentOf segment.now.octets.now segment.now.datagram.now segment.now.tcp.now }
-    ensures next { (image : Addr → Option Addr) → OnOk result (tracked.new ≡ streams.stepped kept_rules image way.now.side segment.now.datagram.now tracked.old) }
-    ensures waits { (image : Addr → Option Addr) → IfOk result (λ w. w ≡ waiting_after image way.now.side segment.now.datagram.now tracked.old) }
-    ensures out { (image : Addr → Option Addr) → OnOk result (outbox.new ≡ stream_out kept_rules image way.now.side segment.now.datagram.now (image_by way.now.of_source way.now.source).0 (image_by way.now.of_destination way.now.destination).0 (Some tracked.old)) }
-    ensures memory { OnErr result (CompletesIn way.now.side segment.now.datagram.now tracked.old) }
+    ensures next { (image : Addr → Option Addr) → AreCalled image way.now.side segment.now.datagram.now tracked.old entries.now → OnOk result (tracked.new ≡ streams.stepped kept_rules image way.now.side segment.now.datagram.now tracked.old) }
+    ensures waits { (image : Addr → Option Addr) → AreCalled image way.now.side segment.now.datagram.now tracked.old entries.now → IfOk result (λ w. w ≡ waiting_after image way.now.side segment.now.datagram.now tracked.old) }
+    ensures out { (image : Addr → Option Addr) → AreCalled image way.now.side segment.now.datagram.now tracked.old entries.now → OnOk result (outbox.new ≡ stream_out kept_rules image way.now.side segment.now.datagram.now (image_by way.now.of_source way.now.source).0 (image_by way.now.of_destination way.now.destination).0 (Some tracked.old)) }
+    ensures memory { OnErr result (MayWantIn (is_client way.now.side tracked.old) tracked.old.session (segment_of segment.now.datagram.now)) }
     ensures same { OnErr result (tracked.new ≡ tracked.old) }
     ensures nothing { OnErr result (outbox.new ≡ []) }
 {
-    let from_client = tracked.is_client(way.side);
-    let over = outbox.put_segments(
-        &mut tracked.session,
-        from_client,
+    let passing = Passing {
+        from_client: tracked.is_client(way.side),
         segment,
-        way.source_image(),
-        way.destination_image(),
-        scratch,
-    )?;
+        source: way.source_image(),
+        destination: way.destination_image(),
+    };
+    let over = tracked.session.step(&passing, entries, outbox, scratch)?;
     Ok(waiting(&tracked.session, over))
 }
 
-/// How many changed lines wait in a session; None where it is over.
-fn waiting(session: &StreamGate<ClientLines, ServerLines, 512>, over: bool) -> Option<u64>
-    ensures { result ≡ (if over then None else Some (kept_pending session.now.kept)) }
+/// How many changed lines or units wait in a session; None where it is over.
+fn waiting(session: &AnySession, over: bool) -> Option<u64>
+    ensures { result ≡ (if over then None else Some (kept_rules.pending session.now)) }
 {
     if over {
         return None;
     }
-    Some(session.pending() as u64)
+    Some(session.pending())
 }
 
 /// The session that a client's first segment makes, itself not yet taken.
@@ -450,19 +433,10 @@ fn made(alloc: Global, way: &Way, tcp: &TcpView<'_>) -> Result<TrackedSession, O
         server: way.destination_image(),
         server_alias: way.destination,
     };
-    let from_client = Recent::make(alloc)?;
-    let from_server = Recent::make(alloc)?;
+    let session = AnySession::make(alloc, tcp.ports().1, pair, tcp.sequence(), tcp.mss())?;
     Ok(TrackedSession {
         client: way.side,
         pair,
-        session: StreamGate::make(
-            alloc,
-            ClientLines { pair },
-            ServerLines { pair },
-            tcp.sequence(),
-            tcp.mss(),
-            from_client,
-            from_server,
-        ),
+        session,
     })
 }

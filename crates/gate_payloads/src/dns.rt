@@ -128,7 +128,7 @@ fn planned_reply(
 }
 
 /// Uses addresses in their order.
-fn use_all(table: &mut Table, side: Side, addresses: &[Addr], until: Moment)
+pub fn use_all(table: &mut Table, side: Side, addresses: &[Addr], until: Moment)
     ensures { table.new ≡ after_uses table.old (uses_until side until.0 addresses.now) }
 {
     for address in addresses {

@@ -10,11 +10,12 @@ ghost use Rattle.gate_payloads.specs.Ways.{IsWay};
 ghost use Rattle.gate_payloads.specs.Taken.{IsTaken, IsWayOf};
 
 use crate::addresses::{Way, lacks_alias};
+use crate::keys::key_of;
 use crate::plain::ICMP_HOLD;
-use crate::tracked::{TrackedSession, key_of};
 use binding_table::Table;
 use gate_base::{Addr, Refusal, Side, TCP};
 use gate_outbox::Outbox;
+use gate_sessions::TrackedSession;
 use icmp_errors::{Inner, inner_of};
 use session_table::SessionTable;
 

@@ -4,15 +4,15 @@
 mod addresses;
 mod dns;
 mod errors;
+mod keys;
 mod plain;
 mod snmp;
-mod tracked;
 mod udp;
 
-pub use addresses::{Way, address_refusal, lacks_alias};
-pub use dns::take_dns;
+pub use addresses::{Way, address_refusal, lacks_alias, use_address};
+pub use dns::{take_dns, use_all};
 pub use errors::take_error;
+pub use keys::key_of;
 pub use plain::{ICMP_HOLD, UDP_HOLD, pass_plain, take_plain};
 pub use snmp::take_snmp;
-pub use tracked::{TrackedSession, key_of};
 pub use udp::UdpDatagram;

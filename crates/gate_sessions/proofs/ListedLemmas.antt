@@ -20,7 +20,10 @@ use Rattle.gate_world.proofs.Entering.{listed_units_more}
 use Rattle.kept_world.specs.Kept.{IsListedStream}
 use Rattle.unit_plans.specs.Steps.{enter_one, entered_all}
 use Rattle.unit_plans.proofs.EnteredLemmas.{all-more}
-use Rattle.gate_sessions.specs.Directions.{DnsKept, listed_of, IsListedSide, with_entered}
+use Rattle.gate_base.specs.declared.event.Pair.{Pair}
+use Rattle.stream_gate.specs.Listed.{entries_of}
+use Rattle.gate_sessions.specs.Directions.{DnsKept, listed_of, IsListedSide, with_entered, dns_session}
+use Rattle.gate_sessions.specs.Sessions.{IsSession}
 
 new-more : (es : List Entry) (one : Entry) → is_listed es one.0.0 ≡ false → length (enter_one es one) ≡ length es + 1
 new-more es one e = rw e (length-append es (one ∷ []) ∙ omega arith)
@@ -126,3 +129,15 @@ can_forget b old d named count i is l k =
 pub other_same : (b : Bool) (new d : DnsKept) → (b ≡ true → new.server_dialogue ≡ d.server_dialogue) → (b ≡ false → new.client_dialogue ≡ d.client_dialogue) → listed_of (not b) new ≡ listed_of (not b) d
 other_same true new d s c = s refl
 other_same false new d s c = c refl
+
+-- no list is longer than the most
+few_listed : (client : Bool) (n : ℕ) (gate : DnsKept) → n ≡ length (entries_of (λ (es : List Entry). es) (λ (es : List Entry). es) client gate) → length (listed_of client gate) ≤ 256 → n ≤ 256
+few_listed true n gate e h = omega (arith, e, h)
+few_listed false n gate e h = omega (arith, e, h)
+
+few_by : (client : Bool) (pair : Pair) (gate : DnsKept) → IsSession (dns_session pair gate) → length (listed_of client gate) ≤ 256
+few_by true pair gate h = h.few true
+few_by false pair gate h = h.few false
+
+pub few_in : (pair : Pair) (gate : DnsKept) (client : Bool) (n : ℕ) → IsSession (dns_session pair gate) → n ≡ length (entries_of (λ (es : List Entry). es) (λ (es : List Entry). es) client gate) → n ≤ 256
+few_in pair gate client n h is = few_listed client n gate is (few_by client pair gate h)

@@ -1,9 +1,9 @@
 // A session of one of two kinds.
-ghost use Rattle.std.specs.Prelude.{◌≡◌, ◌≤◌, ◌<◌, ℕ, Option, [], length, map, slice_get, Some, None, IfOk, OnOk, OnErr};
+ghost use Rattle.std.specs.Prelude.{◌≡◌, ◌≤◌, ◌<◌, ℕ, Option, true, [], length, map, slice_get, Some, None, IfOk, OnOk, OnErr};
 ghost use Rattle.gate_base.specs.declared.address.Addr.{Addr};
 ghost use Rattle.stream_gate.specs.Segments.{segment_of as segment_by};
 ghost use Rattle.stream_gate.specs.Directions.{nothing_pushed};
-ghost use Rattle.stream_kept.specs.Sessions.{kept_made};
+ghost use Rattle.stream_kept.specs.Sessions.{kept_made, kept_verdict};
 ghost use Rattle.stream_model.specs.Session.{arrival};
 ghost use Rattle.stream_model.specs.Verdict.{is_data};
 ghost use Rattle.gate_world.specs.Lists.{addresses_in};
@@ -115,6 +115,14 @@ impl AnySession {
         })
     }
 
+    /// Why the first segment of a client is refused by the session that it makes, on any port; None where it passes.
+    pub fn first_verdict(segment: &TcpView<'_>) -> Option<Refusal>
+        requires { length segment.now.payload ≤ 65535 }
+        ensures { result ≡ kept_verdict true (kept_made segment.now.sequence segment.now.mss nothing_pushed nothing_pushed) (segment_by segment.now) }
+    {
+        FtpSession::first_verdict(segment)
+    }
+
     /// Why a segment of the client, or else of the server, is refused; None where it passes.
     pub fn verdict(&self, from_client: bool, segment: &TcpView<'_>) -> Option<Refusal>
         ensures { result ≡ kept_rules.verdict from_client self.now (segment_by segment.now) }
@@ -145,9 +153,10 @@ impl AnySession {
         }
     }
 
-    /// How many entries the list of the client, or else of the server, has: none in a session of FTP.
+    /// How many entries the list of the client, or else of the server, has, at most 256: none in a session of FTP.
     pub fn listed(&self, client: bool) -> usize
-        ensures { result ≡ length (kept_rules.listed client self.now) }
+        ensures count { result ≡ length (kept_rules.listed client self.now) }
+        ensures few { result ≤ 256 }
     {
         match &self.dialog {
             Dialog::Lines(_) => 0,

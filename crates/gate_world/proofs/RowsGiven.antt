@@ -56,10 +56,10 @@ both count = record {
   server = record { meaning = dns_units (many count); mss = 1460; initial = Some 5000; octets = []; ended = false; acked = 0 };
 }
 
--- its connection; a session is taken as it is given, on whichever port it stands
+-- its connection
 abbrev connection : Lists → Session → Connection (Tracked WholeSession)
 connection lists session = record {
-  key = record { left = record { 0 = 0x0a000005 }; left_port = 40001; right = record { 0 = 0x0a000035 }; right_port = 8053 };
+  key = record { left = record { 0 = 0x0a000005 }; left_port = 40001; right = record { 0 = 0x0a000035 }; right_port = 53 };
   left_acknowledges = true;
   right_acknowledges = true;
   closing = false;
@@ -75,29 +75,29 @@ world count = record {
   pending = 0;
 }
 
-one_more_fits : verdict whole_rules (world 255) (event Right 1000 Raw true (hex 88 0x450000580002400040067b580a000035ac1009011f759c4100001389000003e950182000d3d40000002e000181800000000200000000016100000100010000012c00040a000008016100000100010000012c00040a000008)) ≡ Pass
+one_more_fits : verdict whole_rules (world 255) (event Right 1000 Raw true (hex 88 0x450000580002400040067b580a000035ac10090100359c4100001389000003e950182000f3140000002e000181800000000200000000016100000100010000012c00040a000008016100000100010000012c00040a000008)) ≡ Pass
 unfolding read_frame words fold_of head_with options_within number_of cross block_end verdict message_at questions_at question_at resources_at resource_at content_by name_at piece_at full_reverse reverse_in renamed spelling spell digits
 one_more_fits = refl
 
-two_more_do_not : verdict whole_rules (world 255) (event Right 1000 Raw true (hex 88 0x450000580002400040067b580a000035ac1009011f759c4100001389000003e950182000d3d30000002e000181800000000200000000016100000100010000012c00040a000008016100000100010000012c00040a000009)) ≡ Refused RenamesFull
+two_more_do_not : verdict whole_rules (world 255) (event Right 1000 Raw true (hex 88 0x450000580002400040067b580a000035ac10090100359c4100001389000003e950182000f3130000002e000181800000000200000000016100000100010000012c00040a000008016100000100010000012c00040a000009)) ≡ Refused RenamesFull
 unfolding read_frame words fold_of head_with options_within number_of cross block_end verdict message_at questions_at question_at resources_at resource_at content_by name_at piece_at full_reverse reverse_in renamed spelling spell digits
 two_more_do_not = refl
 
-none_fits : verdict whole_rules (world 256) (event Right 1000 Raw true (hex 88 0x450000580002400040067b580a000035ac1009011f759c4100001389000003e950182000d3d40000002e000181800000000200000000016100000100010000012c00040a000008016100000100010000012c00040a000008)) ≡ Refused RenamesFull
+none_fits : verdict whole_rules (world 256) (event Right 1000 Raw true (hex 88 0x450000580002400040067b580a000035ac10090100359c4100001389000003e950182000f3140000002e000181800000000200000000016100000100010000012c00040a000008016100000100010000012c00040a000008)) ≡ Refused RenamesFull
 unfolding read_frame words fold_of head_with options_within number_of cross block_end verdict message_at questions_at question_at resources_at resource_at content_by name_at piece_at full_reverse reverse_in renamed spelling spell digits
 none_fits = refl
 
-two_more_fit : verdict whole_rules (world 254) (event Right 1000 Raw true (hex 88 0x450000580002400040067b580a000035ac1009011f759c4100001389000003e950182000d3d30000002e000181800000000200000000016100000100010000012c00040a000008016100000100010000012c00040a000009)) ≡ Pass
+two_more_fit : verdict whole_rules (world 254) (event Right 1000 Raw true (hex 88 0x450000580002400040067b580a000035ac10090100359c4100001389000003e950182000f3130000002e000181800000000200000000016100000100010000012c00040a000008016100000100010000012c00040a000009)) ≡ Pass
 unfolding read_frame words fold_of head_with options_within number_of cross block_end verdict message_at questions_at question_at resources_at resource_at content_by name_at piece_at full_reverse reverse_in renamed spelling spell digits
 two_more_fit = refl
 
 -- ## The tests of units in their order
 
-an_unbound_name : verdict whole_rules (world 0) (event Left 1000 Raw true (hex 87 0x45000057000240004006a7bc0a000005c0a8c8359c411f75000003e900001389501820007b710000002d00010100000100000000000002353003323030033136380331393207696e2d61646472046172706100000c0001)) ≡ Refused UnitUnbound
+an_unbound_name : verdict whole_rules (world 0) (event Left 1000 Raw true (hex 87 0x45000057000240004006a7bc0a000005c0a8c8359c410035000003e900001389501820009ab10000002d00010100000100000000000002353003323030033136380331393207696e2d61646472046172706100000c0001)) ≡ Refused UnitUnbound
 unfolding read_frame words fold_of head_with options_within number_of cross block_end verdict message_at questions_at question_at resources_at resource_at content_by name_at piece_at full_reverse reverse_in renamed spelling spell digits
 an_unbound_name = refl
 
-behind_a_bad_unit : verdict whole_rules (world 0) (event Left 1000 Raw true (hex 89 0x45000059000240004006a7ba0a000005c0a8c8359c411f75000003e900001389501820007b6f00000000002d00010100000100000000000002353003323030033136380331393207696e2d61646472046172706100000c0001)) ≡ Refused BadUnit
+behind_a_bad_unit : verdict whole_rules (world 0) (event Left 1000 Raw true (hex 89 0x45000059000240004006a7ba0a000005c0a8c8359c410035000003e900001389501820009aaf00000000002d00010100000100000000000002353003323030033136380331393207696e2d61646472046172706100000c0001)) ≡ Refused BadUnit
 unfolding read_frame words fold_of head_with options_within number_of cross block_end verdict message_at questions_at question_at resources_at resource_at content_by name_at piece_at full_reverse reverse_in renamed spelling spell digits
 behind_a_bad_unit = refl
 
@@ -121,7 +121,7 @@ both_named =
     }
 
 -- each list's addresses cross from the realm of its sender, whichever host sends
-both_lists_are_used : (next whole_rules both_named (event Left 1000 Raw true (hex 40 0x45000028000240004006a7eb0a000005c0a8c8359c411f75000003e9000013895010200029c90000))).table.entries ≡ (opening settings).entries ++ bound_until Left 0x0a000007 0xac100902 7440000001000 ∷ bound_until Right 0x0a000008 0xc0a8c809 7440000001000 ∷ []
+both_lists_are_used : (next whole_rules both_named (event Left 1000 Raw true (hex 40 0x45000028000240004006a7eb0a000005c0a8c8359c410035000003e9000013895010200049090000))).table.entries ≡ (opening settings).entries ++ bound_until Left 0x0a000007 0xac100902 7440000001000 ∷ bound_until Right 0x0a000008 0xc0a8c809 7440000001000 ∷ []
 unfolding read_frame words fold_of head_with options_within number_of cross block_end verdict message_at questions_at question_at resources_at resource_at content_by name_at piece_at full_reverse reverse_in renamed spelling spell digits
 both_lists_are_used = refl
 
@@ -138,6 +138,6 @@ named_before =
       }) ∷ [];
     }
 
-by_the_list : out whole_rules named_before (event Right 1000 Raw true (hex 71 0x450000470002400040067b690a000035ac1009011f759c4100001389000003e95018200040330000001d000181800000000100000000016100000100010000012c00040a000008)) ≡ hex 71 0x45000047000240003f06a8ccc0a8c8350a0000051f759c4100001389000003e950182000ee180000001d00018180000000010000000001610000010001000000000004c0a8c809 ∷ []
+by_the_list : out whole_rules named_before (event Right 1000 Raw true (hex 71 0x450000470002400040067b690a000035ac10090100359c4100001389000003e9501820005f730000001d000181800000000100000000016100000100010000012c00040a000008)) ≡ hex 71 0x45000047000240003f06a8ccc0a8c8350a00000500359c4100001389000003e9501820000d590000001d00018180000000010000000001610000010001000000000004c0a8c809 ∷ []
 unfolding read_frame words fold_of head_with options_within number_of cross block_end verdict message_at questions_at question_at resources_at resource_at content_by name_at piece_at full_reverse reverse_in renamed spelling spell digits sealed_tcp tcp_header_with
 by_the_list = refl

@@ -3,16 +3,34 @@ use Rattle.gate_base.specs.Events.{event_of}
 use Rattle.gate_base.specs.Tests.{first_that_holds}
 use Rattle.gate_settings.specs.declared.settings.Settings.{Settings}
 use Rattle.gate_world.specs.Frame.{datagram_in, kind_of}
+use Rattle.gate_world.specs.Held.{KeepsListed}
 use Rattle.gate_world.specs.Step.{next}
 use Rattle.gate_world.specs.Verdict.{tests}
 use Rattle.gate_world.specs.World.{World, at_moment}
+use Rattle.gate_world.proofs.ListsWorld.{moment_lists, next_lists}
 use Rattle.kept_world.specs.Kept.{KeptSession, kept_rules}
+use Rattle.kept_world.proofs.Listing.{kept_have_lists}
 use Rattle.gate_core.specs.Done.{IsPassed}
 use Rattle.gate_core.specs.Gates.{Gateway, world_in}
 use Rattle.gate_core.specs.Memory.{MayWant}
 use Rattle.gate_core.proofs.Stepping.{stepped, wanted}
-use Rattle.gate_core.proofs.SteppedSessions.{on_err}
+use Rattle.gate_core.proofs.Results.{on_err}
 use Rattle.gate_core.proofs.gate.Gate.step.Goals as goal
+
+pub take_frame-requires-clause-listed : goal.take_frame-requires-clause-listed
+take_frame-requires-clause-listed c = subst (λ (x : World KeptSession). KeepsListed kept_rules x) (sym c.expire.ensures.live) (moment_lists kept_rules (world_in c.self.inside.known) (event_of c.args.event.now).moment c.self.invariant)
+
+pub invariant_of-self : goal.invariant_of-self
+invariant_of-self c = subst (λ (x : World KeptSession). KeepsListed kept_rules x) (sym (c.in_err-refusal.ensures.same ∙ c.expire.ensures.live)) (moment_lists kept_rules (world_in c.self.inside.known) (event_of c.args.event.now).moment c.self.invariant)
+
+pub invariant_of-self-2 : goal.invariant_of-self-2
+invariant_of-self-2 c =
+    let e = event_of c.args.event.now in
+    let w = c.args.self.now.world in
+    let known : world_in c.self.inside.known ≡ w = ap (λ g. g.world) (c.self.view_is ∙ c.spread_keys.ensures) in
+    let live : world_in c.expire.new.self ≡ at_moment w e.moment = c.expire.ensures.live ∙ ap (λ x. at_moment x e.moment) known in
+    let s = stepped w e c.in_ok-refusal.refusal (world_in c.take_frame.new.self) c.take_frame.new.outbox (subst (λ x. IsPassed (first_that_holds (tests kept_rules x e)) (kind_of (datagram_in e)) x e.side (datagram_in e) c.in_ok-refusal.refusal (world_in c.take_frame.new.self) c.take_frame.new.outbox) live c.in_ok-refusal.ensures) in
+    subst (λ (x : World KeptSession). KeepsListed kept_rules x) (sym s.next_is) (next_lists kept_rules kept_have_lists w e (subst (λ (x : World KeptSession). KeepsListed kept_rules x) known c.self.invariant))
 
 pub returns-clause-verdict : goal.returns-clause-verdict
 returns-clause-verdict c =

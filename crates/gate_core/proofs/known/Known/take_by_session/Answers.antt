@@ -1,93 +1,148 @@
-use Rattle.std.proofs.Common.{◌≡◌, ◌+◌, false, Some, None, [], ◌∷◌, List, sym, ap, subst, refl, ◌∙◌, ℕ}
+use Rattle.std.proofs.Common.{◌≡◌, ◌+◌, true, false, Some, None, [], ◌∷◌, List, sym, ap, subst, refl, ◌∙◌, ℕ}
 use Rattle.tcp_segments.specs.Tcp.{Tcp}
-use Rattle.tcp_tracker.specs.Connections.{connection_of, place_of, hold_of, noted, without}
+use Rattle.tcp_tracker.specs.Connections.{connection_of, place_of, hold_of, short_hold, noted, without}
 use Rattle.tcp_tracker.specs.declared.connection.ConnKey.{ConnKey}
 use Rattle.tcp_tracker.specs.declared.connection.Connection.{Connection}
 use Rattle.session_table.specs.Joined.{replaced}
-use Rattle.binding_table.specs.Plan.{after_uses}
-use Rattle.gate_world.specs.Stream.{key_in, session_in, session_refusal, stepped}
-use Rattle.gate_world.specs.Units.{uses_until}
-use Rattle.gate_world.specs.World.{Tracked}
+use Rattle.gate_world.specs.Stream.{key_in, found_in, session_in, stepped}
+use Rattle.gate_world.specs.World.{Tracked, World}
+use Rattle.ipv4_frames.specs.Ipv4.{Datagram}
 use Rattle.kept_world.specs.Kept.{KeptSession, kept_rules}
+use Rattle.gate_core.specs.Found.{image_of}
 use Rattle.gate_core.specs.Gates.{world_of, world_in}
-use Rattle.gate_core.specs.Segments.{IsSegmentTaken, IsOfLines}
-use Rattle.gate_core.proofs.NotedConnections.{at_place, place_replaced}
-use Rattle.gate_core.proofs.SegmentTests.{found_joined, empty_refused}
-use Rattle.gate_core.proofs.SegmentsPassed.{image_of, some_of, some_session, session_goes_on, session_is_over, lost_in_session, lost_done, passes}
+use Rattle.gate_core.specs.Segments.{IsSegmentTaken, Enters}
+use Rattle.gate_core.proofs.NotedConnections.{at_place, place_replaced, session_replaced}
+use Rattle.gate_core.proofs.SegmentsPassed.{session_goes_on, session_is_over, lost_in_session, lost_done}
+use Rattle.gate_core.proofs.SessionUsed.{enters_by, called_by, still_within, planned_used}
 use Rattle.gate_core.proofs.known.Known.take_by_session.Goals as goal
 
-pub returns-then-lacks_alias : goal.returns-then-lacks_alias
-returns-then-lacks_alias c =
+same_session : (a b : Tracked KeptSession) → Some a ≡ Some b → a ≡ b
+same_session a b e = cc
+
+pub step_session-requires-clause-enters : goal.step_session-requires-clause-enters
+step_session-requires-clause-enters c = λ x e.
+    let (t, p) = c.requires.plan in
     let side = c.args.way.now.side in
     let d = c.args.segment.now.datagram.now in
-    let live = world_in c.args.self.now in
-    let t = some_of (session_in (connection_of c.args.key.now c.args.self.now.connections)) c.requires.tracked in
-    let found = ap (λ (k : ConnKey). session_in (connection_of k c.args.self.now.connections)) (sym c.requires.key) ∙ t.1 in
-    let j = found_joined live side d (Some t.0) c.requires.dns (some_session _ t.0 found) found (subst IsOfLines t.1 c.requires.lines) in
-    record {
-      answer = empty_refused live side d c.args.way.now (Some t.0) false c.requires.way j (ap (session_refusal kept_rules side d) (sym t.1) ∙ c.requires.passes) refl (sym c.lacks_alias.ensures ∙ c.if-lacks_alias.true);
-      left = refl {a = live};
-      gone = c.requires.empty;
-    }
+    let found = ap (λ (k : ConnKey). session_in (connection_of k c.args.self.now.connections)) c.requires.key ∙ p.found in
+    subst (λ (y : Tracked KeptSession). Enters side d y c.deref.result.now) (same_session t x (sym found ∙ e)) (enters_by (world_in c.args.self.now) side d t c.args.plan.now c.deref.result.now p c.deref.ensures.value)
 
 pub returns-in_err-waiting : goal.returns-in_err-waiting
 returns-in_err-waiting c =
+    let (t, p) = c.requires.plan in
     let side = c.args.way.now.side in
     let d = c.args.segment.now.datagram.now in
     let live = world_in c.args.self.now in
-    let t = some_of (session_in (connection_of c.args.key.now c.args.self.now.connections)) c.requires.tracked in
-    let found = ap (λ (k : ConnKey). session_in (connection_of k c.args.self.now.connections)) (sym c.requires.key) ∙ t.1 in
+    let found = ap (λ (k : ConnKey). session_in (connection_of k c.args.self.now.connections)) c.requires.key ∙ p.found in
     lost_done live side d c.from_residual.result _ c.step_session.new.outbox c.from_residual.ensures.0
-    (lost_in_session live side d t.0 _ c.step_session.new.outbox found (c.in_err-waiting.ensures.memory t.0 t.1)
-    (passes live side d c.args.way.now (Some t.0) false c.requires.way (found_joined live side d (Some t.0) c.requires.dns (some_session _ t.0 found) found (subst IsOfLines t.1 c.requires.lines)) (ap (session_refusal kept_rules side d) (sym t.1) ∙ c.requires.passes) refl (sym c.lacks_alias.ensures ∙ c.if-lacks_alias.false))
+    (lost_in_session live side d t _ c.step_session.new.outbox p.found p.verdict (c.in_err-waiting.ensures.memory t found) (sym p.units.passes)
     (ap (λ (x : List (Connection (Tracked KeptSession))). world_of c.args.self.now.clock.0 c.args.self.now.table x c.args.self.now.pending) c.in_err-waiting.ensures.same) c.in_err-waiting.ensures.nothing)
+
+pub use_segment-requires-clause-client : goal.use_segment-requires-clause-client
+use_segment-requires-clause-client c = λ x e.
+    let (t, p) = c.requires.plan in
+    let side = c.args.way.now.side in
+    let d = c.args.segment.now.datagram.now in
+    let live = world_in c.args.self.now in
+    let found = ap (λ (k : ConnKey). session_in (connection_of k c.args.self.now.connections)) c.requires.key ∙ p.found in
+    let s = stepped kept_rules (image_of live side d) side d t in
+    let next = c.in_ok-waiting.ensures.next (image_of live side d) t found (called_by live side d t c.args.plan.now c.deref.result.now p c.deref.ensures.value) in
+    let is : Some x ≡ Some s = sym e ∙ ap (λ (all : List (Connection (Tracked KeptSession))). session_in (connection_of c.args.key.now all)) next ∙ session_replaced c.args.key.now c.args.self.now.connections t s found in
+    still_within live side d t x true c.args.plan.now.client (same_session x s is) p.client
+
+pub use_segment-requires-clause-server : goal.use_segment-requires-clause-server
+use_segment-requires-clause-server c = λ x e.
+    let (t, p) = c.requires.plan in
+    let side = c.args.way.now.side in
+    let d = c.args.segment.now.datagram.now in
+    let live = world_in c.args.self.now in
+    let found = ap (λ (k : ConnKey). session_in (connection_of k c.args.self.now.connections)) c.requires.key ∙ p.found in
+    let s = stepped kept_rules (image_of live side d) side d t in
+    let next = c.in_ok-waiting.ensures.next (image_of live side d) t found (called_by live side d t c.args.plan.now c.deref.result.now p c.deref.ensures.value) in
+    let is : Some x ≡ Some s = sym e ∙ ap (λ (all : List (Connection (Tracked KeptSession))). session_in (connection_of c.args.key.now all)) next ∙ session_replaced c.args.key.now c.args.self.now.connections t s found in
+    still_within live side d t x false c.args.plan.now.server (same_session x s is) p.server
 
 pub note-requires-clause-room : goal.note-requires-clause-room
 note-requires-clause-room c = λ h.
-    let t = some_of (session_in (connection_of c.args.key.now c.args.self.now.connections)) c.requires.tracked in
-    let a = at_place c.args.key.now c.args.self.now.connections t.0 t.1 in
-    let s = stepped kept_rules (image_of (world_in c.args.self.now) c.args.way.now.side c.args.segment.now.datagram.now) c.args.way.now.side c.args.segment.now.datagram.now t.0 in
-    let no : None ≡ Some a.place = sym h ∙ ap (place_of c.args.key.now) (c.in_ok-waiting.ensures.next (image_of (world_in c.args.self.now) c.args.way.now.side c.args.segment.now.datagram.now) t.0 t.1) ∙ place_replaced c.args.key.now c.args.self.now.connections t.0 s t.1 ∙ a.stands in
+    let (t, p) = c.requires.plan in
+    let way = c.args.way.now in
+    let side = way.side in
+    let d = c.args.segment.now.datagram.now in
+    let live = world_in c.args.self.now in
+    let found = ap (λ (k : ConnKey). session_in (connection_of k c.args.self.now.connections)) c.requires.key ∙ p.found in
+    let image = image_of live side d in
+    let s = stepped kept_rules image side d t in
+    let called = called_by live side d t c.args.plan.now c.deref.result.now p c.deref.ensures.value in
+    let next = c.in_ok-waiting.ensures.next image t found called in
+    let there : session_in (connection_of c.args.key.now c.step_session.new.connections) ≡ Some s = ap (λ (all : List (Connection (Tracked KeptSession))). session_in (connection_of c.args.key.now all)) next ∙ session_replaced c.args.key.now c.args.self.now.connections t s found in
+    let a = at_place c.args.key.now c.args.self.now.connections t found in
+    let no : None ≡ Some a.place = sym h ∙ ap (place_of c.args.key.now) next ∙ place_replaced c.args.key.now c.args.self.now.connections t s found ∙ a.stands in
     absurd cc
+
+pub use_segment-requires-in-None-clause-client : goal.use_segment-requires-in-None-clause-client
+use_segment-requires-in-None-clause-client c = λ x e.
+    let (t, p) = c.requires.plan in
+    let side = c.args.way.now.side in
+    let d = c.args.segment.now.datagram.now in
+    let live = world_in c.args.self.now in
+    let found = ap (λ (k : ConnKey). session_in (connection_of k c.args.self.now.connections)) c.requires.key ∙ p.found in
+    let s = stepped kept_rules (image_of live side d) side d t in
+    let next = c.in_ok-waiting.ensures.next (image_of live side d) t found (called_by live side d t c.args.plan.now c.deref.result.now p c.deref.ensures.value) in
+    let is : Some x ≡ Some s = sym e ∙ ap (λ (all : List (Connection (Tracked KeptSession))). session_in (connection_of c.args.key.now all)) next ∙ session_replaced c.args.key.now c.args.self.now.connections t s found in
+    still_within live side d t x true c.args.plan.now.client (same_session x s is) p.client
+
+pub use_segment-requires-in-None-clause-server : goal.use_segment-requires-in-None-clause-server
+use_segment-requires-in-None-clause-server c = λ x e.
+    let (t, p) = c.requires.plan in
+    let side = c.args.way.now.side in
+    let d = c.args.segment.now.datagram.now in
+    let live = world_in c.args.self.now in
+    let found = ap (λ (k : ConnKey). session_in (connection_of k c.args.self.now.connections)) c.requires.key ∙ p.found in
+    let s = stepped kept_rules (image_of live side d) side d t in
+    let next = c.in_ok-waiting.ensures.next (image_of live side d) t found (called_by live side d t c.args.plan.now c.deref.result.now p c.deref.ensures.value) in
+    let is : Some x ≡ Some s = sym e ∙ ap (λ (all : List (Connection (Tracked KeptSession))). session_in (connection_of c.args.key.now all)) next ∙ session_replaced c.args.key.now c.args.self.now.connections t s found in
+    still_within live side d t x false c.args.plan.now.server (same_session x s is) p.server
 
 pub returns-in-Some : goal.returns-in-Some
 returns-in-Some c =
+    let (t, p) = c.requires.plan in
     let way = c.args.way.now in
     let side = way.side in
     let d = c.args.segment.now.datagram.now in
     let live = world_in c.args.self.now in
-    let t = some_of (session_in (connection_of c.args.key.now c.args.self.now.connections)) c.requires.tracked in
-    let found = ap (λ (k : ConnKey). session_in (connection_of k c.args.self.now.connections)) (sym c.requires.key) ∙ t.1 in
+    let found = ap (λ (k : ConnKey). session_in (connection_of k c.args.self.now.connections)) c.requires.key ∙ p.found in
     let image = image_of live side d in
-    let s = stepped kept_rules image side d t.0 in
+    let s = stepped kept_rules image side d t in
+    let called = called_by live side d t c.args.plan.now c.deref.result.now p c.deref.ensures.value in
+    let next = c.in_ok-waiting.ensures.next image t found called in
+    let there : session_in (connection_of c.args.key.now c.step_session.new.connections) ≡ Some s = ap (λ (all : List (Connection (Tracked KeptSession))). session_in (connection_of c.args.key.now all)) next ∙ session_replaced c.args.key.now c.args.self.now.connections t s found in
     let flags = c.flags-flags.ensures ∙ ap (λ (x : Tcp). x.flags) c.requires.whole.tcp_is in
     let hold = c.hold_of-hold.ensures.is ∙ ap (λ (k : ConnKey). hold_of c.args.self.now.connections k side c.flags-flags.result) c.requires.key ∙ ap (hold_of c.args.self.now.connections (key_in c.args.self.now.table side d) side) flags in
-    subst (λ (n : ℕ). IsSegmentTaken live side d None (world_of c.args.self.now.clock.0 c.use_both.new.table c.note.new.self n) c.step_session.new.outbox) (sym c.max-self.ensures)
-    (session_goes_on live way d t.0 c.in-Some.waiting c.use_both.new.table c.note.new.self c.step_session.new.outbox c.requires.way c.requires.dns found (subst IsOfLines t.1 c.requires.lines)
-    (ap (session_refusal kept_rules side d) (sym t.1) ∙ c.requires.passes)
-    (sym c.lacks_alias.ensures ∙ c.if-lacks_alias.false) (sym c.in-Some.is ∙ c.in_ok-waiting.ensures.waits image t.0 t.1)
-    (c.use_both.ensures ∙ ap (λ (n : ℕ). after_uses c.args.self.now.table (uses_until side (way.moment.0 + n) (way.source ∷ way.destination ∷ []))) hold)
+    subst (λ (n : ℕ). IsSegmentTaken live side d None (world_of c.args.self.now.clock.0 c.use_segment.new.table c.note.new.self n) c.step_session.new.outbox) (sym c.max-self.ensures)
+    (session_goes_on live way d t c.in-Some.waiting c.use_segment.new.table c.note.new.self c.step_session.new.outbox c.requires.way p.found (sym p.units.passes) (sym c.in-Some.is ∙ c.in_ok-waiting.ensures.waits image t found called)
+    (λ h. planned_used live way d t s c.args.plan.now c.hold_of-hold.result c.use_segment.new.table c.requires.listed.lawful c.requires.way p refl (h ∙ sym hold) (c.use_segment.ensures s there))
     (c.note.ensures.noted
-    ∙ ap (λ (x : List (Connection (Tracked KeptSession))). noted x c.args.key.now side c.flags-flags.result None way.moment) (c.in_ok-waiting.ensures.next image t.0 t.1)
+    ∙ ap (λ (x : List (Connection (Tracked KeptSession))). noted x c.args.key.now side c.flags-flags.result None way.moment) next
     ∙ ap (λ (k : ConnKey). noted (replaced c.args.self.now.connections k s) k side c.flags-flags.result None way.moment) c.requires.key
     ∙ ap (λ (n : ℕ). noted (replaced c.args.self.now.connections (key_in c.args.self.now.table side d) s) (key_in c.args.self.now.table side d) side n None way.moment) flags)
-    (c.in_ok-waiting.ensures.out image t.0 t.1))
+    (c.in_ok-waiting.ensures.out image t found called))
 
 pub returns-in-None : goal.returns-in-None
 returns-in-None c =
+    let (t, p) = c.requires.plan in
     let way = c.args.way.now in
     let side = way.side in
     let d = c.args.segment.now.datagram.now in
     let live = world_in c.args.self.now in
-    let t = some_of (session_in (connection_of c.args.key.now c.args.self.now.connections)) c.requires.tracked in
-    let found = ap (λ (k : ConnKey). session_in (connection_of k c.args.self.now.connections)) (sym c.requires.key) ∙ t.1 in
+    let found = ap (λ (k : ConnKey). session_in (connection_of k c.args.self.now.connections)) c.requires.key ∙ p.found in
     let image = image_of live side d in
-    let s = stepped kept_rules image side d t.0 in
-    session_is_over live way d t.0 c.use_both-in-None.new.table c.remove.new.self c.step_session.new.outbox c.requires.way c.requires.dns found (subst IsOfLines t.1 c.requires.lines)
-    (ap (session_refusal kept_rules side d) (sym t.1) ∙ c.requires.passes)
-    (sym c.lacks_alias.ensures ∙ c.if-lacks_alias.false) (sym c.in-None.is ∙ c.in_ok-waiting.ensures.waits image t.0 t.1)
-    c.use_both-in-None.ensures
+    let s = stepped kept_rules image side d t in
+    let called = called_by live side d t c.args.plan.now c.deref.result.now p c.deref.ensures.value in
+    let next = c.in_ok-waiting.ensures.next image t found called in
+    let there : session_in (connection_of c.args.key.now c.step_session.new.connections) ≡ Some s = ap (λ (all : List (Connection (Tracked KeptSession))). session_in (connection_of c.args.key.now all)) next ∙ session_replaced c.args.key.now c.args.self.now.connections t s found in
+    session_is_over live way d t c.use_segment-in-None.new.table c.remove.new.self c.step_session.new.outbox c.requires.way p.found (sym p.units.passes) (sym c.in-None.is ∙ c.in_ok-waiting.ensures.waits image t found called)
+    (λ h. planned_used live way d t s c.args.plan.now short_hold c.use_segment-in-None.new.table c.requires.listed.lawful c.requires.way p refl h (c.use_segment-in-None.ensures s there))
     (c.remove.ensures
-    ∙ ap (λ (x : List (Connection (Tracked KeptSession))). without x c.args.key.now) (c.in_ok-waiting.ensures.next image t.0 t.1)
+    ∙ ap (λ (x : List (Connection (Tracked KeptSession))). without x c.args.key.now) next
     ∙ ap (λ (k : ConnKey). without (replaced c.args.self.now.connections k s) k) c.requires.key)
-    (c.in_ok-waiting.ensures.out image t.0 t.1)
+    (c.in_ok-waiting.ensures.out image t found called)

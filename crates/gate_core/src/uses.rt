@@ -1,0 +1,95 @@
+// The uses of a segment of a session (RFC 2694, RFC 3022, 3.1).
+ghost use Rattle.std.specs.Prelude.{◌≡◌, ◌≤◌, ◌<◌, ◌*◌, ◌^◌, ◌++◌, ◌∷◌, [], take, length, true, false, Some, None, IfSome};
+ghost use Rattle.gate_base.specs.Side.{other};
+ghost use Rattle.binding_table.specs.Bindings.{is_settled};
+ghost use Rattle.binding_table.specs.Plan.{after_uses};
+ghost use Rattle.gate_world.specs.Lists.{renamed_in};
+ghost use Rattle.gate_world.specs.Stream as streams;
+ghost use Rattle.gate_world.specs.Units.{uses_until};
+ghost use Rattle.gate_world.specs.World.{Tracked};
+ghost use Rattle.kept_world.specs.Kept.{KeptSession, kept_rules};
+ghost use Rattle.tcp_tracker.specs.Connections.{connection_of};
+ghost use Rattle.gate_payloads.specs.Ways.{IsWay};
+ghost use Rattle.gate_core.specs.Found.{uses_planned};
+
+use crate::found::SegmentPlan;
+use binding_table::Table;
+use gate_base::{Moment, Side};
+use gate_payloads::{Way, use_address, use_all};
+use gate_sessions::{AnySession, TrackedSession};
+use session_table::SessionTable;
+use tcp_tracker::ConnKey;
+use unit_plans::Entry;
+
+/// Uses the address of an entry, unless it is kept.
+fn use_entry(table: &mut Table, side: Side, entry: Entry, until: Moment)
+    ensures { table.new ≡ after_uses table.old (uses_until side until.0 (renamed_in (entry ∷ []))) }
+{
+    if entry.1.is_some() {
+        use_address(table, side, entry.0, until);
+    }
+}
+
+/// Uses the addresses of the first entries of the client's list, or else of the server's, from the realm of its sender.
+fn use_list(
+    table: &mut Table,
+    session: &AnySession,
+    client: bool,
+    count: usize,
+    side: Side,
+    until: Moment,
+)
+    requires { count ≤ length (kept_rules.listed client session.now) }
+    ensures { table.new ≡ after_uses table.old (uses_until side until.0 (renamed_in (take count (kept_rules.listed client session.now)))) }
+{
+    for place in 0..count {
+        use_entry(table, side, session.entry(client, place), until);
+    }
+}
+
+/// Uses the addresses that the lists of a session rename, as long as they were before the segment: the client's list first.
+fn use_lists(table: &mut Table, tracked: &TrackedSession, plan: &SegmentPlan, until: Moment)
+    requires client { plan.now.client ≤ length (kept_rules.listed true tracked.now.session) }
+    requires server { plan.now.server ≤ length (kept_rules.listed false tracked.now.session) }
+    ensures { table.new ≡ after_uses table.old (uses_until tracked.now.client until.0 (renamed_in (take plan.now.client (kept_rules.listed true tracked.now.session))) ++ uses_until (other tracked.now.client) until.0 (renamed_in (take plan.now.server (kept_rules.listed false tracked.now.session)))) }
+{
+    let client = tracked.client;
+    use_list(table, &tracked.session, true, plan.client, client, until);
+    use_list(
+        table,
+        &tracked.session,
+        false,
+        plan.server,
+        client.other(),
+        until,
+    );
+}
+
+/// Uses the addresses of a segment's header, those that its units name, and those that the lists of its session rename, which has taken
+/// it.
+pub fn use_segment(
+    table: &mut Table,
+    connections: &SessionTable<TrackedSession>,
+    way: &Way,
+    key: &ConnKey,
+    plan: &SegmentPlan,
+    hold: u64,
+)
+    requires way { IsWay table.old way.now }
+    requires settled { is_settled way.now.of_destination ≡ true }
+    requires moment { way.now.moment.0 < 2 ^ 32 * 1000000000 }
+    requires hold { hold ≤ 7440 * 1000000000 }
+    requires client { (t : Tracked KeptSession) → streams.session_in (connection_of key.now connections.now) ≡ Some t → plan.now.client ≤ length (kept_rules.listed true t.session) }
+    requires server { (t : Tracked KeptSession) → streams.session_in (connection_of key.now connections.now) ≡ Some t → plan.now.server ≤ length (kept_rules.listed false t.session) }
+    ensures { (t : Tracked KeptSession) → streams.session_in (connection_of key.now connections.now) ≡ Some t → table.new ≡ after_uses table.old (uses_planned way.now plan.now hold t) }
+{
+    let until = Moment(way.moment.0 + hold);
+    way.use_both(table, hold);
+    use_all(table, way.side, &plan.units.named, until);
+    if plan.client == 0 && plan.server == 0 {
+        return;
+    }
+    if let Some(tracked) = connections.session(key) {
+        use_lists(table, tracked, plan, until);
+    }
+}
