@@ -59,6 +59,7 @@ impl Table {
 
     /// Writes at each place what the address will be called once all of them are used in their order, a known binding being
     /// extended and a new host bound, and None where the address crosses unchanged.
+    #[inline(always)]
     pub fn plan(
         &self,
         side: Side,

@@ -1,7 +1,7 @@
 -- What reading gives is what the octets are, and no other message is it.
 use Rattle.std.proofs.Common.{◌≡◌, ℕ, zero, suc, ◌+◌, ◌-◌, Bool, true, false, cond, ltb, eqb, List, [], ◌∷◌, length, take, drop, Option, Some, None, refl, sym, ap, subst, ◌∙◌, arith, inl, inr, ◌⊎◌}
 use Rattle.std.specs.Prelude.{IfOk, Result, Ok, Err}
-use Rattle.dns_names.specs.Stops.{Gives}
+use Rattle.dns_names.specs.Stops.{ReturnsRead}
 use Rattle.dns_names.specs.declared.stop.NameStop.{NameStop}
 use Rattle.dns_names.specs.declared.stop.NameStop.TheVariants.{BadDns, OutOfMemory}
 use Rattle.std.proofs.lemmas.Bool.{le-ltb, ltb-false, eq-eqb, eqb-true}
@@ -339,11 +339,11 @@ message-is o w proof =
 no_message : (o : List ℕ) (w : Message) → message_at o ≡ None → IsMessage o w → ⊥
 no_message o w e is = let q : some w ≡ None = sym (message-read o w is) ∙ e in cc
 
-pub message-found : {X : Type 0} (view : X → Message) (o : List ℕ) (r : Result X NameStop) → Gives view r (message_at o) → IfOk r (λ x. IsMessage o (view x))
+pub message-found : {X : Type 0} (view : X → Message) (o : List ℕ) (r : Result X NameStop) → ReturnsRead view r (message_at o) → IfOk r (λ x. IsMessage o (view x))
 message-found view o (Ok x) g = message-is o (view x) g
 message-found view o (Err e) g = tt
 
-pub message-none : {X : Type 0} (view : X → Message) (o : List ℕ) (r : Result X NameStop) → Gives view r (message_at o) → r ≡ Err BadDns → (w : Message) → IsMessage o w → ⊥
+pub message-none : {X : Type 0} (view : X → Message) (o : List ℕ) (r : Result X NameStop) → ReturnsRead view r (message_at o) → r ≡ Err BadDns → (w : Message) → IsMessage o w → ⊥
 message-none view o (Ok x) g e w is = absurd cc
 message-none view o (Err BadDns) g e w is = no_message o w g is
 message-none view o (Err OutOfMemory) g e w is = absurd cc

@@ -1,6 +1,6 @@
 // Reading messages.
 ghost use Rattle.std.specs.Prelude.{◌≡◌, ◌≤◌, take, drop, IfOk, Err};
-ghost use Rattle.dns_names.specs.Stops.{Gives};
+ghost use Rattle.dns_names.specs.Stops.{ReturnsRead};
 ghost use Rattle.dns_messages.specs.declared.message.Message.{Message};
 ghost use Rattle.dns_messages.specs.Relation.{IsMessage};
 ghost use Rattle.dns_messages.specs.Suits.{MessageSuits};
@@ -14,7 +14,7 @@ use gate_base::{Addr, get_u16, get_u32};
 use std::alloc::Global;
 
 fn u16_at(reader: &NameReader<'_>, place: usize) -> Result<(u16, usize), NameStop>
-    ensures { Gives (λ x. (x.0, x.1)) result (number_at 2 reader.now place) }
+    ensures { ReturnsRead (λ x. (x.0, x.1)) result (number_at 2 reader.now place) }
 {
     let message = reader.message();
     if place > message.len() || message.len() - place < 2 {
@@ -24,7 +24,7 @@ fn u16_at(reader: &NameReader<'_>, place: usize) -> Result<(u16, usize), NameSto
 }
 
 fn u32_at(reader: &NameReader<'_>, place: usize) -> Result<(u32, usize), NameStop>
-    ensures { Gives (λ x. (x.0, x.1)) result (number_at 4 reader.now place) }
+    ensures { ReturnsRead (λ x. (x.0, x.1)) result (number_at 4 reader.now place) }
 {
     let message = reader.message();
     if place > message.len() || message.len() - place < 4 {
@@ -39,7 +39,7 @@ fn octets_of(
     place: usize,
     count: usize,
 ) -> Result<(Vec<u8>, usize), NameStop>
-    ensures { Gives (λ x. (x.0.items, x.1)) result (octets_at reader.now place count) }
+    ensures { ReturnsRead (λ x. (x.0.items, x.1)) result (octets_at reader.now place count) }
 {
     let message = reader.message();
     if place > message.len() || message.len() - place < count {
@@ -58,7 +58,7 @@ fn one_of(
     place: usize,
     end: usize,
 ) -> Result<Content, NameStop>
-    ensures { Gives (λ x. x) result (content_by Form.One reader.now place end) }
+    ensures { ReturnsRead (λ x. x) result (content_by Form.One reader.now place end) }
 {
     let (name, after) = reader.read(alloc, place)?;
     if after != end {
@@ -69,7 +69,7 @@ fn one_of(
 
 #[tactic(auto, unfolding(crate::specs::Reading::content_by))]
 fn one_address(reader: &NameReader<'_>, place: usize, end: usize) -> Result<Content, NameStop>
-    ensures { Gives (λ x. x) result (content_by Form.Address reader.now place end) }
+    ensures { ReturnsRead (λ x. x) result (content_by Form.Address reader.now place end) }
 {
     let (address, after) = u32_at(reader, place)?;
     if after != end {
@@ -85,7 +85,7 @@ fn soa_of(
     place: usize,
     end: usize,
 ) -> Result<Content, NameStop>
-    ensures { Gives (λ x. x) result (content_by Form.Soa reader.now place end) }
+    ensures { ReturnsRead (λ x. x) result (content_by Form.Soa reader.now place end) }
 {
     let (first, place) = reader.read(alloc, place)?;
     let (second, place) = reader.read(alloc, place)?;
@@ -103,7 +103,7 @@ fn two_of(
     place: usize,
     end: usize,
 ) -> Result<Content, NameStop>
-    ensures { Gives (λ x. x) result (content_by Form.Two reader.now place end) }
+    ensures { ReturnsRead (λ x. x) result (content_by Form.Two reader.now place end) }
 {
     let (first, place) = reader.read(alloc, place)?;
     let (second, after) = reader.read(alloc, place)?;
@@ -120,7 +120,7 @@ fn mx_of(
     place: usize,
     end: usize,
 ) -> Result<Content, NameStop>
-    ensures { Gives (λ x. x) result (content_by Form.Mx reader.now place end) }
+    ensures { ReturnsRead (λ x. x) result (content_by Form.Mx reader.now place end) }
 {
     let (preference, place) = u16_at(reader, place)?;
     let (name, after) = reader.read(alloc, place)?;
@@ -138,7 +138,7 @@ fn rest_of(
     end: usize,
 ) -> Result<Content, NameStop>
     requires { place ≤ end }
-    ensures { Gives (λ x. x) result (content_by Form.Octets reader.now place end) }
+    ensures { ReturnsRead (λ x. x) result (content_by Form.Octets reader.now place end) }
 {
     let (octets, after) = octets_of(alloc, reader, place, end - place)?;
     if after != end {
@@ -155,7 +155,7 @@ fn content_of(
     end: usize,
 ) -> Result<Content, NameStop>
     requires { place ≤ end }
-    ensures { Gives (λ x. x) result (content_by form reader.now place end) }
+    ensures { ReturnsRead (λ x. x) result (content_by form reader.now place end) }
 {
     match form {
         Form::Address => one_address(reader, place, end),
@@ -169,7 +169,7 @@ fn content_of(
 
 /// The place after so many octets, where they are there.
 fn skip(reader: &NameReader<'_>, place: usize, count: usize) -> Result<usize, NameStop>
-    ensures { Gives (λ after. (take count (drop place reader.now), after)) result (octets_at reader.now place count) }
+    ensures { ReturnsRead (λ after. (take count (drop place reader.now), after)) result (octets_at reader.now place count) }
 {
     let message = reader.message();
     if place > message.len() || message.len() - place < count {
@@ -184,7 +184,7 @@ fn resource_of(
     reader: &NameReader<'_>,
     place: usize,
 ) -> Result<(Resource, usize), NameStop>
-    ensures { Gives (λ x. (x.0, x.1)) result (resource_at reader.now place) }
+    ensures { ReturnsRead (λ x. (x.0, x.1)) result (resource_at reader.now place) }
 {
     let (name, place) = reader.read(alloc, place)?;
     let (kind, place) = u16_at(reader, place)?;
@@ -212,7 +212,7 @@ fn resources_of(
     reader: &NameReader<'_>,
     place: usize,
 ) -> Result<(Vec<Resource>, usize), NameStop>
-    ensures { Gives (λ x. (x.0.items, x.1)) result (resources_at count reader.now place) }
+    ensures { ReturnsRead (λ x. (x.0.items, x.1)) result (resources_at count reader.now place) }
 {
     let mut resources = Vec::new(alloc);
     let mut at = place;
@@ -230,7 +230,7 @@ fn question_of(
     reader: &NameReader<'_>,
     place: usize,
 ) -> Result<(Question, usize), NameStop>
-    ensures { Gives (λ x. (x.0, x.1)) result (question_at reader.now place) }
+    ensures { ReturnsRead (λ x. (x.0, x.1)) result (question_at reader.now place) }
 {
     let (name, place) = reader.read(alloc, place)?;
     let (kind, place) = u16_at(reader, place)?;
@@ -245,7 +245,7 @@ fn questions_of(
     reader: &NameReader<'_>,
     place: usize,
 ) -> Result<(Option<Question>, usize), NameStop>
-    ensures { Gives (λ x. (x.0, x.1)) result (questions_at count reader.now place) }
+    ensures { ReturnsRead (λ x. (x.0, x.1)) result (questions_at count reader.now place) }
 {
     if count == 0 {
         return Ok((None, place));
@@ -259,7 +259,7 @@ fn questions_of(
 
 #[tactic(auto, unfolding(crate::specs::Reading::message_at))]
 fn message_of(alloc: Global, reader: &NameReader<'_>) -> Result<Message, NameStop>
-    ensures { Gives (λ m. m) result (message_at reader.now) }
+    ensures { ReturnsRead (λ m. m) result (message_at reader.now) }
 {
     let (id, place) = u16_at(reader, 0)?;
     let (flags, place) = u16_at(reader, place)?;
@@ -289,7 +289,7 @@ fn message_of(alloc: Global, reader: &NameReader<'_>) -> Result<Message, NameSto
 pub fn read_message(alloc: Global, octets: &[u8]) -> Result<Message, NameStop>
     ensures found { IfOk result (λ m. IsMessage octets.now m) }
     ensures none { result ≡ Err NameStop.BadDns → (m : Message) → IsMessage octets.now m → ⊥ }
-    ensures exact { Gives (λ m. m) result (message_at octets.now) }
+    ensures exact { ReturnsRead (λ m. m) result (message_at octets.now) }
     // It has the form that a message needs to be written.
     ensures suits { IfOk result MessageSuits }
 {

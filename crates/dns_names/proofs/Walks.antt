@@ -7,7 +7,7 @@ use Rattle.dns_names.specs.Names.{Piece, Root, Label, Pointer, Nothing, piece_at
 use Rattle.dns_names.specs.Walk.{Walked, with_label, ending_at, walk_on, walk, name_at}
 use Rattle.dns_names.proofs.Walking.{chosen}
 use Rattle.std.specs.Prelude.{IfOk, Result, Ok, Err}
-use Rattle.dns_names.specs.Stops.{Gives}
+use Rattle.dns_names.specs.Stops.{ReturnsRead}
 use Rattle.dns_names.specs.declared.stop.NameStop.{NameStop}
 use Rattle.dns_names.specs.declared.stop.NameStop.TheVariants.{BadDns, OutOfMemory}
 
@@ -100,7 +100,7 @@ no_name : (m : List ℕ) (place : ℕ) (w : Walked) → name_at m place ≡ w �
 no_name m place None e h = e
 no_name m place (Some x) e h = absurd (h x.0 x.1 (name_at-is m place x.0 x.1 e))
 
-pub name-gives : (m : List ℕ) (place : ℕ) (r : Result (List (List ℕ) × ℕ) NameStop) → IfOk r (λ x. NameAt m place x.0 x.1) → (r ≡ Err BadDns → (ls : List (List ℕ)) (after : ℕ) → NameAt m place ls after → ⊥) → Gives (λ x. (x.0, x.1)) r (name_at m place)
+pub name-gives : (m : List ℕ) (place : ℕ) (r : Result (List (List ℕ) × ℕ) NameStop) → IfOk r (λ x. NameAt m place x.0 x.1) → (r ≡ Err BadDns → (ls : List (List ℕ)) (after : ℕ) → NameAt m place ls after → ⊥) → ReturnsRead (λ x. (x.0, x.1)) r (name_at m place)
 name-gives m place (Ok x) found none = name_at-finds m place x.0 x.1 found
 name-gives m place (Err BadDns) found none = no_name m place (name_at m place) refl (none refl)
 name-gives m place (Err OutOfMemory) found none = tt

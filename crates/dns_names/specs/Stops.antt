@@ -9,6 +9,6 @@ Fails BadDns read = read ≡ None
 Fails OutOfMemory read = Unit {0}
 
 -- what was returned, seen by view, is what reading gives, unless memory ran out
-abbrev pub Gives : {X Y : Type 0} → (X → Y) → Result X NameStop → Option Y → Type 0
-Gives view (Ok x) read = read ≡ Some (view x)
-Gives view (Err e) read = Fails e read
+abbrev pub ReturnsRead : {X Y : Type 0} → (X → Y) → Result X NameStop → Option Y → Type 0
+ReturnsRead view (Ok x) read = read ≡ Some (view x)
+ReturnsRead view (Err e) read = Fails e read

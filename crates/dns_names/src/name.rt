@@ -3,7 +3,7 @@ ghost use Rattle.std.specs.Prelude.{◌≡◌, ℕ, List, IfOk, Err};
 ghost use Rattle.dns_names.specs.Names.{NameAt};
 ghost use Rattle.dns_names.specs.Walk.{name_at};
 ghost use Rattle.dns_names.specs.Chains.{AreEnds};
-ghost use Rattle.dns_names.specs.Stops.{Gives};
+ghost use Rattle.dns_names.specs.Stops.{ReturnsRead};
 
 use crate::chains::end_at;
 use crate::piece::{Found, piece_at};
@@ -102,7 +102,7 @@ pub(crate) fn walk(
 pub fn read_name(alloc: Global, message: &[u8], place: usize) -> Result<(Name, usize), NameStop>
     ensures found { IfOk result (λ x. NameAt message.now place x.0 x.1) }
     ensures none { result ≡ Err NameStop.BadDns → (labels : List (List ℕ)) (after : ℕ) → NameAt message.now place labels after → ⊥ }
-    ensures exact { Gives (λ x. (x.0, x.1)) result (name_at message.now place) }
+    ensures exact { ReturnsRead (λ x. (x.0, x.1)) result (name_at message.now place) }
 {
     walk(alloc, message, &[], place)
 }

@@ -2,7 +2,7 @@
 ghost use Rattle.std.specs.Prelude.{◌≡◌, ℕ, List, IfOk, Err};
 ghost use Rattle.dns_names.specs.Names.{NameAt};
 ghost use Rattle.dns_names.specs.Walk.{name_at};
-ghost use Rattle.dns_names.specs.Stops.{Gives};
+ghost use Rattle.dns_names.specs.Stops.{ReturnsRead};
 
 use crate::chains::ends_of;
 use crate::name::{Name, walk};
@@ -50,7 +50,7 @@ impl<'a> NameReader<'a> {
     pub fn read(&self, alloc: Global, place: usize) -> Result<(Name, usize), NameStop>
         ensures found { IfOk result (λ x. NameAt self.now place x.0 x.1) }
         ensures none { result ≡ Err NameStop.BadDns → (labels : List (List ℕ)) (after : ℕ) → NameAt self.now place labels after → ⊥ }
-        ensures exact { Gives (λ x. (x.0, x.1)) result (name_at self.now place) }
+        ensures exact { ReturnsRead (λ x. (x.0, x.1)) result (name_at self.now place) }
     {
         walk(alloc, self.message, &self.ends, place)
     }

@@ -35,3 +35,8 @@ octets_in Ethernet octets = carried (read_frame octets)
 -- the head of a frame that carries IPv4: the receiver's address, the sender's, and the type
 abbrev pub ipv4_head : List ℕ → List ℕ → List ℕ
 ipv4_head destination source = (destination ++ source) ++ big_bytes 2 ipv4_type
+
+-- the frame of a datagram on a link: on Ethernet from one address to another, without padding
+abbrev pub framed_on : Link → List ℕ → List ℕ → List ℕ → List ℕ
+framed_on Raw destination source datagram = datagram
+framed_on Ethernet destination source datagram = ipv4_head destination source ++ datagram

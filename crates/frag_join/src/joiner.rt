@@ -99,11 +99,15 @@ impl Joiner {
     fn give_back(&mut self)
         ensures { self.new ≡ record self.old { joined = None } }
     {
+        if self.joined.is_none() {
+            return;
+        }
         if let Some(whole) = self.joined.take() {
             self.spare.push_reserved(whole.into_buffer());
         }
     }
 
+    #[inline(never)]
     fn take_fragment(&mut self, event: &Event<'_>, octets: &[u8]) -> Taken
         requires joined { self.old.joined ≡ None }
         requires header { has_bad_header octets.now ≡ false }

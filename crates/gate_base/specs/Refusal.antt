@@ -3,7 +3,7 @@ use Rattle.std.specs.Prelude.{ℕ, List, codes}
 use Rattle.gate_base.specs.declared.event.Verdict.{Verdict}
 use Rattle.gate_base.specs.declared.event.Verdict.TheVariants.{Pass, Refused, Held}
 use Rattle.gate_base.specs.declared.refusal.Refusal.{Refusal}
-use Rattle.gate_base.specs.declared.refusal.Refusal.TheVariants.{Snapped, NotIpv4, BadHeader, BadHeaderSum, Fragment, IpOptions, BadFragment, FragmentsFull, TtlSpent, NotUnicast, Protocol, BadTransport, BadSum, SourceInPool, NoBinding, BadInner, InnerUnbound, BadDns, DnsUnbound, BadSnmp, DnsStream, NoSession, SynData, SynInSession, NoAck, Gap, PastEnd, AckAhead, Unlike, StreamLimit, Backlog, BadUnit, UnitUnbound, RenamesFull, SessionsFull, PoolEmpty, UnitGrows, SnmpTooLong}
+use Rattle.gate_base.specs.declared.refusal.Refusal.TheVariants.{Snapped, NotIpv4, BadHeader, BadHeaderSum, Fragment, IpOptions, BadFragment, FragmentsFull, TtlSpent, NotUnicast, Protocol, BadTransport, BadSum, SourceInPool, NoBinding, BadInner, InnerUnbound, BadDns, DnsUnbound, BadSnmp, NoSession, SynData, SynInSession, NoAck, Gap, PastEnd, AckAhead, Unlike, StreamLimit, Backlog, BadUnit, UnitUnbound, RenamesFull, SessionsFull, PoolEmpty, UnitGrows, SnmpTooLong}
 
 -- the refusal's name
 unfoldable pub name_of : Refusal → List ℕ
@@ -27,7 +27,6 @@ name_of InnerUnbound = codes "InnerUnbound"
 name_of BadDns = codes "BadDns"
 name_of DnsUnbound = codes "DnsUnbound"
 name_of BadSnmp = codes "BadSnmp"
-name_of DnsStream = codes "DnsStream"
 name_of NoSession = codes "NoSession"
 name_of SynData = codes "SynData"
 name_of SynInSession = codes "SynInSession"

@@ -43,27 +43,25 @@ pub enum Refusal {
     DnsUnbound,
     /// The payload of an SNMP port is no SNMP message (RFC 1157, 3416).
     BadSnmp,
-    /// DNS over TCP.
-    DnsStream,
-    /// A TCP segment of a control session that isn't known.
+    /// A TCP segment of FTP's control port or of DNS whose connection isn't known.
     NoSession,
-    /// A SYN to a control port with octets, FIN or RST.
+    /// A SYN that begins a session, with octets, FIN or RST.
     SynData,
-    /// A SYN inside a control session.
+    /// A SYN inside a session.
     SynInSession,
-    /// A segment of a control session with neither SYN, RST nor ACK.
+    /// A segment of a session with neither SYN, RST nor ACK.
     NoAck,
-    /// Octets before this segment of a control session are missing.
+    /// Octets before this segment of a session are missing.
     Gap,
-    /// Octets past the end of a control session's stream.
+    /// Octets past the end of a session's stream.
     PastEnd,
     /// An acknowledgement of octets that were never sent.
     AckAhead,
-    /// Octets of a control session repeated otherwise than they came first.
+    /// Octets of a session repeated otherwise than they came first.
     Unlike,
-    /// The stream of a control session is too long.
+    /// The stream of a session is too long.
     StreamLimit,
-    /// Too many octets of a control session's stream aren't acknowledged.
+    /// Too many octets of a session's stream aren't acknowledged.
     Backlog,
     /// What a DNS session completes is longer than 8,192 octets, or no DNS message (RFC 1035, RFC 7766).
     BadUnit,
@@ -71,7 +69,7 @@ pub enum Refusal {
     UnitUnbound,
     /// More than 256 addresses would be listed in one direction of a DNS session.
     RenamesFull,
-    /// No room for another connection or control session.
+    /// No room for another connection or session.
     SessionsFull,
     /// The other realm's pool has too few free addresses.
     PoolEmpty,
@@ -110,7 +108,6 @@ impl Refusal {
             Refusal::BadDns => "BadDns",
             Refusal::DnsUnbound => "DnsUnbound",
             Refusal::BadSnmp => "BadSnmp",
-            Refusal::DnsStream => "DnsStream",
             Refusal::NoSession => "NoSession",
             Refusal::SynData => "SynData",
             Refusal::SynInSession => "SynInSession",

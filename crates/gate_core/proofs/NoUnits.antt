@@ -8,7 +8,7 @@ use Rattle.gate_base.specs.declared.refusal.Refusal.{Refusal}
 use Rattle.gate_base.specs.declared.refusal.Refusal.TheVariants.{BadUnit, UnitUnbound, RenamesFull, UnitGrows}
 use Rattle.gate_base.specs.declared.side.Side.{Side}
 use Rattle.binding_table.specs.Bindings.{Bindings, free}
-use Rattle.binding_table.specs.Plan.{Use, after_uses, needed}
+use Rattle.binding_table.specs.Plan.{after_uses, needed}
 use Rattle.dialogue.specs.Learning.{Entry}
 use Rattle.ipv4_frames.specs.Ipv4.{Datagram}
 use Rattle.tcp_segments.specs.Flags.{flags_of}
@@ -17,7 +17,7 @@ use Rattle.gate_world.specs.Held.{HasLists}
 use Rattle.gate_world.specs.Lists.{most_entries, addresses_in, entered, is_bad, grows_too_much}
 use Rattle.gate_world.specs.Stream.{tcp_of, segment_of, is_opening, found_in, session_in, stream_hold, made_by, pair_in}
 use Rattle.gate_world.specs.Units.{uses_until, unless_refused, units_in, names_in, entries_in, uses_of_lists, is_new_unbound, unit_tests, growth_tests}
-use Rattle.gate_world.specs.Verdict.{payload_addresses, is_pool_empty, table_after}
+use Rattle.gate_world.specs.Verdict.{is_pool_empty, table_after}
 use Rattle.gate_world.specs.World.{Tracked, World, addresses_of, is_client}
 use Rattle.kept_world.specs.Kept.{KeptSession, kept_rules}
 

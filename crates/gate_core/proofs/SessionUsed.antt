@@ -1,5 +1,5 @@
 -- A segment that a session takes by a plan: what it enters, and what is used.
-use Rattle.std.proofs.Common.{◌≡◌, ◌≢◌, ◌≤◌, ◌+◌, ℕ, Bool, true, false, List, [], ◌∷◌, ◌++◌, length, take, nat_lt, Option, Some, None, refl, sym, ap, subst, ◌∙◌, arith}
+use Rattle.std.proofs.Common.{◌≡◌, ◌≢◌, ◌≤◌, ◌+◌, ℕ, Bool, true, false, List, [], ◌∷◌, ◌++◌, length, take, Option, Some, refl, sym, ap, subst, ◌∙◌, arith}
 use Rattle.std.specs.List.{All}
 use Rattle.std.proofs.lemmas.Bool.{le-ltb}
 use Rattle.std.proofs.lemmas.List.{length-append}
@@ -13,12 +13,10 @@ use Rattle.binding_table.specs.Plan.{Use, after_uses, needed}
 use Rattle.binding_table.specs.declared.binding.Crossing.TheVariants.{Unbound}
 use Rattle.dialogue.specs.Learning.{Entry}
 use Rattle.ipv4_frames.specs.Ipv4.{Datagram}
-use Rattle.gate_world.specs.Frame.{Stream}
-use Rattle.gate_world.specs.Lists.{addresses_in, entered, most_entries, renamed_in}
-use Rattle.gate_world.specs.Stream.{segment_of, found_in, session_in, stepped, stream_hold}
-use Rattle.gate_world.specs.Units.{uses_until, unless_refused, names_in, entries_in, uses_of_lists}
-use Rattle.gate_world.specs.Verdict.{table_after, is_pool_empty}
-use Rattle.gate_world.specs.World.{Tracked, World, called, addresses_of, source_of, destination_of, is_client}
+use Rattle.gate_world.specs.Lists.{addresses_in, entered, renamed_in}
+use Rattle.gate_world.specs.Stream.{segment_of, stepped, stream_hold}
+use Rattle.gate_world.specs.Units.{uses_until, unless_refused, names_in, uses_of_lists}
+use Rattle.gate_world.specs.World.{Tracked, World, addresses_of, source_of, destination_of, is_client}
 use Rattle.gate_world.proofs.ListsKept.{needed_front, all_front}
 use Rattle.gate_world.proofs.ListsWorld.{lists_grow}
 use Rattle.kept_world.specs.Kept.{KeptSession, kept_rules}
@@ -27,10 +25,10 @@ use Rattle.unit_plans.specs.Plans.{beside}
 use Rattle.unit_plans.specs.Steps.{entered_all}
 use Rattle.unit_plans.proofs.EnteredLemmas.{entered-beside}
 use Rattle.gate_payloads.specs.Taken.{IsWayOf}
-use Rattle.gate_payloads.specs.Ways.{is_empty, image_by}
+use Rattle.gate_payloads.specs.Ways.{is_empty}
 use Rattle.gate_payloads.specs.declared.addresses.Way.{Way}
 use Rattle.gate_payloads.proofs.HeadersOnly.{empty_is}
-use Rattle.gate_core.specs.Found.{image_of, used_by, IsPlanOf, uses_planned}
+use Rattle.gate_core.specs.Found.{image_of, IsPlanOf, uses_planned}
 use Rattle.gate_core.specs.Segments.{AreCalled, Enters}
 use Rattle.gate_core.specs.declared.found.SegmentPlan.{SegmentPlan}
 use Rattle.gate_core.proofs.SegmentsPassed.{AreUsed, source_is, destination_is}

@@ -1,5 +1,5 @@
 -- An event, by its first test that holds.
-use Rattle.std.proofs.Common.{◌≡◌, ◌++◌, ℕ, List, Option, Some, None, refl, sym, ap, ◌∙◌, arith}
+use Rattle.std.proofs.Common.{◌≡◌, ◌++◌, ℕ, List, Option, Some, None, refl, sym, ap, ◌∙◌}
 use Rattle.std.specs.Option.{option_or}
 use Rattle.gate_base.specs.Events.{Event}
 use Rattle.gate_base.specs.declared.refusal.Refusal.{Refusal}

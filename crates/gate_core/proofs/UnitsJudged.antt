@@ -1,5 +1,5 @@
 -- A segment of a session is refused by the plan of its units, and else by nothing.
-use Rattle.std.proofs.Common.{◌≡◌, ◌≢◌, ◌≤◌, ℕ, Bool, true, false, List, [], ◌∷◌, ◌++◌, length, nat_lt, Option, Some, None, is_some, Result, Ok, Err, refl, sym, ap, subst, ◌∙◌, arith}
+use Rattle.std.proofs.Common.{◌≡◌, ◌≢◌, ◌≤◌, ℕ, Bool, true, false, List, [], ◌∷◌, ◌++◌, length, nat_lt, Option, Some, None, is_some, Result, Ok, Err, refl, sym, ap, subst, ◌∙◌}
 use Rattle.std.specs.Prelude.{IfOk, IfErr}
 use Rattle.std.specs.Result.{IsErrAnd}
 use Rattle.std.specs.List.{All, AllByRecursion, list_any}
@@ -10,8 +10,8 @@ use Rattle.gate_base.specs.declared.address.Addr.{Addr}
 use Rattle.gate_base.specs.declared.refusal.Refusal.{Refusal}
 use Rattle.gate_base.specs.declared.refusal.Refusal.TheVariants.{NoSession, BadUnit, UnitUnbound, RenamesFull, SessionsFull, PoolEmpty, UnitGrows}
 use Rattle.gate_base.specs.declared.side.Side.{Side}
-use Rattle.binding_table.specs.Bindings.{Bindings, cross, free, is_settled}
-use Rattle.binding_table.specs.Plan.{Use, AreUsesOf, after_uses, needed, image_after}
+use Rattle.binding_table.specs.Bindings.{cross, free}
+use Rattle.binding_table.specs.Plan.{needed, image_after}
 use Rattle.binding_table.specs.declared.binding.Crossing.TheVariants.{Unbound}
 use Rattle.dialogue.specs.Learning.{Entry}
 use Rattle.ipv4_frames.specs.Ipv4.{Datagram}
@@ -23,11 +23,10 @@ use Rattle.gate_world.specs.Lists.{most_entries, addresses_in, entered, is_bad, 
 use Rattle.gate_world.specs.Step.{taker_in}
 use Rattle.gate_world.specs.Stream.{tcp_of, segment_of, found_in, session_in, lacks_session, is_full, session_refusal}
 use Rattle.gate_world.specs.Units.{uses_until, is_new_unbound, unless_refused, units_in, names_in, entries_in, unit_tests, growth_tests}
-use Rattle.gate_world.specs.Verdict.{told, is_pool_empty, table_after}
+use Rattle.gate_world.specs.Verdict.{refusal_tests, is_pool_empty, table_after}
 use Rattle.gate_world.specs.World.{Tracked, World, addresses_of, source_of, destination_of, is_client}
-use Rattle.gate_world.proofs.ListsKept.{table_of, uses_are}
+use Rattle.gate_world.proofs.ListsKept.{table_of}
 use Rattle.kept_world.specs.Kept.{KeptSession, kept_rules}
-use Rattle.gate_payloads.specs.Taken.{IsWayOf}
 use Rattle.gate_payloads.specs.Ways.{is_empty}
 use Rattle.gate_payloads.specs.declared.addresses.Way.{Way}
 use Rattle.gate_payloads.proofs.HeadersOnly.{empty_is}
@@ -41,7 +40,7 @@ use Rattle.gate_core.specs.Found.{image_of, used_by, IsOn, IsUnitPlan, IsStopped
 use Rattle.gate_core.specs.Memory.{CompletesUnit}
 use Rattle.gate_core.specs.Segments.{stream_refusal}
 use Rattle.gate_core.proofs.SegmentTests.{tests_by, lacks_none, full_none, taker_found}
-use Rattle.gate_core.proofs.UnitsPlanned.{five, plans_alike, none_told, NoneTold, beside_alike, entered_alike}
+use Rattle.gate_core.proofs.UnitsPlanned.{five, plans_alike, none_told, beside_alike, entered_alike}
 use Rattle.gate_core.proofs.UnitsUsed.{until_of, names_called}
 
 -- ## The refusal, by the units
@@ -50,7 +49,7 @@ some_session : (found : Option (Connection (Tracked KeptSession))) (t : Tracked 
 some_session None t e = absurd (cc)
 some_session (Some c) t e = refl
 
-order : (bad unbound full empty grows : Bool) → first_that_holds (((false, NoSession) ∷ told None ++ (((bad, BadUnit) ∷ (unbound, UnitUnbound) ∷ (full, RenamesFull) ∷ []) ++ (false, SessionsFull) ∷ [])) ++ (empty, PoolEmpty) ∷ (grows, UnitGrows) ∷ []) ≡ five bad unbound full empty grows
+order : (bad unbound full empty grows : Bool) → first_that_holds (((false, NoSession) ∷ refusal_tests None ++ (((bad, BadUnit) ∷ (unbound, UnitUnbound) ∷ (full, RenamesFull) ∷ []) ++ (false, SessionsFull) ∷ [])) ++ (empty, PoolEmpty) ∷ (grows, UnitGrows) ∷ []) ≡ five bad unbound full empty grows
 order true unbound full empty grows = refl
 order false true full empty grows = refl
 order false false true empty grows = refl
@@ -72,9 +71,9 @@ refusal_is live side d t found verdict =
     let taker : taker_in kept_rules live side live.clock d ≡ Some t = taker_found (table_after kept_rules live side live.clock d Stream) side d place lives ∙ found in
     ap (λ (o : Option (Tracked KeptSession)). tests_by side d o (lacks_session place d) (unit_tests kept_rules image live.table side d o) (is_full live.connections place d) (is_pool_empty kept_rules live side d Stream) (growth_tests kept_rules image side d o)) taker
     ∙ ap (λ (b : Bool). tests_by side d (Some t) b units (is_full live.connections place d) (is_pool_empty kept_rules live side d Stream) late) (lacks_none place d lives)
-    ∙ ap (λ (v : Option Refusal). first_that_holds (((false, NoSession) ∷ told v ++ (units ++ (is_full live.connections place d, SessionsFull) ∷ [])) ++ (is_pool_empty kept_rules live side d Stream, PoolEmpty) ∷ late)) verdict
-    ∙ ap (λ (b : Bool). first_that_holds (((false, NoSession) ∷ told None ++ (units ++ (b, SessionsFull) ∷ [])) ++ (is_pool_empty kept_rules live side d Stream, PoolEmpty) ∷ late)) (full_none live.connections place d lives)
-    ∙ ap (λ (o : Option (Tracked KeptSession)). first_that_holds (((false, NoSession) ∷ told None ++ (units ++ (false, SessionsFull) ∷ [])) ++ (nat_lt (free live.table (other side)) (needed live.table side (addresses_of d ++ names_in kept_rules side d o)), PoolEmpty) ∷ late)) found
+    ∙ ap (λ (v : Option Refusal). first_that_holds (((false, NoSession) ∷ refusal_tests v ++ (units ++ (is_full live.connections place d, SessionsFull) ∷ [])) ++ (is_pool_empty kept_rules live side d Stream, PoolEmpty) ∷ late)) verdict
+    ∙ ap (λ (b : Bool). first_that_holds (((false, NoSession) ∷ refusal_tests None ++ (units ++ (b, SessionsFull) ∷ [])) ++ (is_pool_empty kept_rules live side d Stream, PoolEmpty) ∷ late)) (full_none live.connections place d lives)
+    ∙ ap (λ (o : Option (Tracked KeptSession)). first_that_holds (((false, NoSession) ∷ refusal_tests None ++ (units ++ (false, SessionsFull) ∷ [])) ++ (nat_lt (free live.table (other side)) (needed live.table side (addresses_of d ++ names_in kept_rules side d o)), PoolEmpty) ∷ late)) found
     ∙ order _ _ _ _ _
 
 -- the units of its session

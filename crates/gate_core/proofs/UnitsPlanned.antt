@@ -1,28 +1,21 @@
 -- The refusal of a segment of a session is that of the plan of its units.
-use Rattle.std.proofs.Common.{◌≡◌, ◌≢◌, ◌≤◌, ℕ, Bool, true, false, List, [], ◌∷◌, ◌++◌, length, nat_lt, Option, Some, None, is_some, refl, sym, ap, subst, ◌∙◌, inl, inr, arith}
+use Rattle.std.proofs.Common.{◌≡◌, ◌≤◌, ℕ, Bool, true, false, List, [], ◌∷◌, length, nat_lt, Option, None, refl, sym, ap, ◌∙◌}
 use Rattle.std.specs.Prelude.{map}
-use Rattle.std.specs.List.{All, AllByRecursion, list_any}
-use Rattle.std.proofs.lemmas.Bool.{cases_Bool, ltb-false}
-use Rattle.std.proofs.lemmas.List.Elements.{All-head, All-tail, All-cons, All-nil}
+use Rattle.std.specs.List.{AllByRecursion, list_any}
+use Rattle.std.proofs.lemmas.Bool.{ltb-false}
 use Rattle.gate_base.specs.Side.{other}
 use Rattle.gate_base.specs.Tests.{first_that_holds}
 use Rattle.gate_base.specs.declared.address.Addr.{Addr}
 use Rattle.gate_base.specs.declared.refusal.Refusal.{Refusal}
-use Rattle.gate_base.specs.declared.refusal.Refusal.TheVariants.{NoSession, BadUnit, UnitUnbound, RenamesFull, SessionsFull, PoolEmpty, UnitGrows}
-use Rattle.gate_base.specs.declared.side.Side.{Side}
-use Rattle.binding_table.specs.Bindings.{Bindings, cross, free}
-use Rattle.binding_table.specs.Lawful.{IsLawful}
-use Rattle.binding_table.specs.Plan.{Use, AreUsesOf, after_uses, needed, image_after}
+use Rattle.gate_base.specs.declared.refusal.Refusal.TheVariants.{BadUnit, UnitUnbound, RenamesFull, PoolEmpty, UnitGrows}
+use Rattle.binding_table.specs.Bindings.{Bindings, free}
+use Rattle.binding_table.specs.Plan.{needed}
 use Rattle.dialogue.specs.Learning.{Entry}
-use Rattle.ipv4_frames.specs.Ipv4.{Datagram}
 use Rattle.gate_world.specs.Lists.{most_entries, addresses_in, enter, entered, is_bad, grows_too_much}
-use Rattle.gate_world.specs.Units.{uses_until, is_new_unbound, unless_refused, units_in, names_in, uses_of_lists}
-use Rattle.gate_world.proofs.ListsCalled.{IsCalledAlike, called_alike, images_alike}
-use Rattle.gate_world.proofs.ListsKept.{table_of, uses_are}
-use Rattle.unit_plans.specs.Plans.{whole_units, called_after, beside, all_addresses, plan_tests, AreBound, IsListBound}
+use Rattle.gate_world.specs.Units.{is_new_unbound}
+use Rattle.unit_plans.specs.Plans.{whole_units, beside, all_addresses, plan_tests}
 use Rattle.unit_plans.specs.declared.plan.Endpoints.{Endpoints}
 use Rattle.unit_plans.proofs.EnteredLemmas.{same_count, entered-beside}
-use Rattle.unit_plans.proofs.PlannedLemmas.{used_bound}
 
 -- ## What is told by two ways to call addresses
 

@@ -1,5 +1,5 @@
 -- The bindings after all uses of a segment of a session, and what addresses are called by them.
-use Rattle.std.proofs.Common.{◌≡◌, ◌≢◌, ◌≤◌, ◌+◌, ℕ, List, [], ◌∷◌, ◌++◌, append_assoc, Option, Some, refl, sym, ap, subst, ◌∙◌}
+use Rattle.std.proofs.Common.{◌≡◌, ◌≢◌, ◌≤◌, ◌+◌, ℕ, List, [], ◌∷◌, ◌++◌, append_assoc, Option, Some, sym, ap, ◌∙◌}
 use Rattle.std.specs.Prelude.{unwrap_or}
 use Rattle.std.specs.List.{All, AllByRecursion}
 use Rattle.std.proofs.lemmas.List.Sums.{fold-append}
@@ -16,7 +16,7 @@ use Rattle.gate_world.specs.Stream.{found_in, session_in, stream_hold}
 use Rattle.gate_world.specs.Units.{uses_until, names_in, uses_of_lists}
 use Rattle.gate_world.specs.Verdict.{table_after}
 use Rattle.gate_world.specs.World.{Tracked, World, addresses_of, called, source_of, destination_of}
-use Rattle.gate_world.proofs.ListsCalled.{IsCalledAlike, called_alike, images_alike}
+use Rattle.gate_world.proofs.ListsCalled.{called_alike, images_alike}
 use Rattle.gate_world.proofs.ListsKept.{table_of, uses_append}
 use Rattle.kept_world.specs.Kept.{KeptSession, kept_rules}
 use Rattle.gate_core.specs.Found.{image_of, used_by}

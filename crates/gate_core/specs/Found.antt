@@ -9,7 +9,6 @@ use Rattle.binding_table.specs.Lawful.{IsLawful}
 use Rattle.binding_table.specs.Plan.{Use, needed}
 use Rattle.binding_table.specs.declared.binding.Crossing.TheVariants.{Unbound}
 use Rattle.ipv4_frames.specs.Ipv4.{Datagram}
-use Rattle.tcp_tracker.specs.declared.connection.Connection.{Connection}
 use Rattle.gate_world.specs.Lists.{most_entries, renamed_in}
 use Rattle.gate_world.specs.Stream.{found_in, session_in, session_refusal}
 use Rattle.gate_world.specs.Units.{uses_until, names_in, entries_after}

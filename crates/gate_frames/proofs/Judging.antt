@@ -1,9 +1,9 @@
 -- A frame that passes by itself.
-use Rattle.std.proofs.Common.{◌≡◌, ◌≤◌, ◌<◌, ◌+◌, ◌^◌, ℕ, true, List, take, length, Option, Some, None, Ok, refl, sym, ap, subst, ◌∙◌, arith}
+use Rattle.std.proofs.Common.{◌≡◌, ◌≤◌, ◌<◌, ℕ, List, take, None, Ok, sym, ap, ◌∙◌, arith}
 use Rattle.std.specs.Result.{is_ok}
 use Rattle.std.proofs.lemmas.List.{length-take-le}
 use Rattle.ipv4_frames.specs.Ipv4.{Datagram, total_length_of, read_datagram}
-use Rattle.twice_translate.specs.Renamed.{IsAccepted, CanGoOn, datagram_of}
+use Rattle.twice_translate.specs.Renamed.{IsAccepted, datagram_of}
 use Rattle.twice_translate.specs.Content.{read_content}
 use Rattle.twice_translate.proofs.Accepted.{reads}
 use Rattle.twice_translate.proofs.Cut.{cut_goes_on, cut_same}

@@ -1,5 +1,5 @@
 -- Tests in their order, and faults as refusals.
-use Rattle.std.proofs.Common.{◌≡◌, ◌≤◌, ℕ, ◌==◌, nat_lt, Bool, true, false, not, ◌||◌, if◌then◌else◌, List, [], ◌∷◌, ◌++◌, Option, Some, None, option_map, Result, Ok, Err, length, take, drop, refl, sym, ap, subst, ◌∙◌}
+use Rattle.std.proofs.Common.{◌≡◌, ℕ, ◌==◌, nat_lt, Bool, true, false, not, ◌||◌, List, [], ◌∷◌, ◌++◌, Option, Some, None, Result, Ok, Err, length, refl, sym, ap, subst, ◌∙◌}
 use Rattle.std.proofs.Common.{inl, inr}
 use Rattle.std.specs.Option.{option_or}
 use Rattle.std.specs.Result.{is_ok}
@@ -17,7 +17,7 @@ use Rattle.ipv4_frames.specs.Ipv4.{Datagram, is_not_ipv4, has_bad_header, has_ba
 use Rattle.udp_icmp.specs.Udp.{Udp, has_bad_length, has_bad_sum, read_udp, udp_fields_of}
 use Rattle.udp_icmp.specs.Icmp.{Icmp, read_icmp, icmp_fields_of}
 use Rattle.inet_sum.specs.Sum.{is_right}
-use Rattle.tcp_segments.specs.Tcp.{Tcp, has_bad_offset, has_bad_options, tcp_covered, tcp_fields_of, tcp_header_length_of, read_tcp}
+use Rattle.tcp_segments.specs.Tcp.{Tcp, has_bad_offset, has_bad_options, tcp_covered, read_tcp}
 use Rattle.gate_base.specs.Tests.{first_that_holds}
 use Rattle.ether_frames.specs.Ether.{octets_in}
 use Rattle.gate_world.specs.Frame.{has_other_address, datagram_in, header_tests, datagram_tests, transport_tests}

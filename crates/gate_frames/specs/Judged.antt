@@ -1,5 +1,5 @@
 -- A frame by itself, as far as it asks for nothing that is known.
-use Rattle.std.specs.Prelude.{◌≡◌, ℕ, ◌==◌, if◌then◌else◌, Bool, false, List, ◌++◌, length, take, Option, Some, None, Result, Ok, Err}
+use Rattle.std.specs.Prelude.{◌≡◌, ◌==◌, Bool, false, List, ◌++◌, Option, Some, None, Result, Ok, Err}
 use Rattle.gate_base.specs.Events.{Event}
 use Rattle.gate_base.specs.declared.refusal.Refusal.{Refusal}
 use Rattle.gate_base.specs.declared.refusal.Refusal.TheVariants as refusals
@@ -8,10 +8,8 @@ use Rattle.ipv4_frames.specs.declared.fault.IpFault.{IpFault}
 use Rattle.ipv4_frames.specs.declared.fault.IpFault.TheVariants.{NotIpv4, BadHeader, BadHeaderSum, Fragment, IpOptions}
 use Rattle.ipv4_frames.specs.declared.fault.TransportFault.{TransportFault}
 use Rattle.ipv4_frames.specs.declared.fault.TransportFault.TheVariants.{BadTransport, BadSum}
-use Rattle.udp_icmp.specs.Icmp.{Icmp, icmp_fields_of}
-use Rattle.udp_icmp.specs.Udp.{Udp as UdpSegment, udp_fields_of}
-use Rattle.tcp_segments.specs.Tcp.{Tcp as TcpSegment}
-use Rattle.twice_translate.specs.Renamed.{CanGoOn, datagram_of}
+use Rattle.udp_icmp.specs.Icmp.{icmp_fields_of}
+use Rattle.udp_icmp.specs.Udp.{udp_fields_of}
 use Rattle.gate_base.specs.Tests.{first_that_holds}
 use Rattle.gate_world.specs.Frame.{datagram_in, header_tests, datagram_tests, transport_tests}
 use Rattle.gate_world.specs.Stream.{tcp_of}

@@ -36,7 +36,6 @@ refusal_short refusals.InnerUnbound = omega arith
 refusal_short refusals.BadDns = omega arith
 refusal_short refusals.DnsUnbound = omega arith
 refusal_short refusals.BadSnmp = omega arith
-refusal_short refusals.DnsStream = omega arith
 refusal_short refusals.NoSession = omega arith
 refusal_short refusals.SynData = omega arith
 refusal_short refusals.SynInSession = omega arith

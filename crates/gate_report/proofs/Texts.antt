@@ -44,7 +44,6 @@ refusal_quoted refusals.InnerUnbound = refl
 refusal_quoted refusals.BadDns = refl
 refusal_quoted refusals.DnsUnbound = refl
 refusal_quoted refusals.BadSnmp = refl
-refusal_quoted refusals.DnsStream = refl
 refusal_quoted refusals.NoSession = refl
 refusal_quoted refusals.SynData = refl
 refusal_quoted refusals.SynInSession = refl

@@ -4,10 +4,12 @@
 mod json;
 mod line;
 mod text;
+mod totals;
 
 pub use json::json_line;
 pub use line::Line;
-pub use text::{LINE, put_number, put_word, text_line};
+pub use text::{LINE, text_line};
+pub use totals::Totals;
 
 #[cfg(test)]
 mod tests;

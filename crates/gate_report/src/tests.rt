@@ -1,4 +1,4 @@
-use super::{LINE, Line, json_line, text_line};
+use super::{LINE, Line, Totals, json_line, text_line};
 use gate_base::{Moment, Refusal, Side, Verdict};
 use std::test::Fail;
 
@@ -95,5 +95,21 @@ fn writes_lines(rt: HostRuntime) -> Result<(), Fail> {
         let octets = json_line(rt.alloc(), &line)?;
         assert!(rt; octets.as_slice() == json);
     }
+    Ok(())
+}
+
+#[test]
+fn counts_events(rt: HostRuntime) -> Result<(), Fail> {
+    let none = Totals {
+        events: 0,
+        passed: 0,
+        refused: 0,
+        to_left: 0,
+        to_right: 0,
+    };
+    let one = none.count(Side::Left, Verdict::Pass, 1);
+    assert!(rt; one.last_line(0) == DONE);
+    let two = one.count(Side::Right, Verdict::Held, 0);
+    assert!(rt; two == Totals { events: 2, ..one });
     Ok(())
 }

@@ -1,12 +1,12 @@
 // Lines in text.
-ghost use Rattle.std.specs.Prelude.{◌≡◌, ◌+◌, ◌≤◌, ◌++◌, drop, length, decimal, vec_capacity};
+ghost use Rattle.std.specs.Prelude.{◌≡◌, ◌+◌, ◌≤◌, ◌++◌, drop, length, decimal};
 ghost use Rattle.gate_base.specs.Refusal.{verdict_name};
 ghost use Rattle.gate_base.specs.Side.{name_of};
 ghost use Rattle.gate_report.specs.Lines.{text_of, event_text, done_text};
 
 use crate::line::Line;
 use gate_base::{Side, Verdict};
-use itoa::{Buffer, write_digits};
+use itoa::write_digits;
 
 /// The room in which a line is put together, in octets.
 pub const LINE: usize = 192;
@@ -139,26 +139,4 @@ fn put_field_before(room: &mut [u8], end: usize, label: &str, value: u64) -> usi
 {
     let begin = put_number_before(room, end, value);
     put_word_before(room, begin, label)
-}
-
-/// Appends a number, to a target with room for 20 octets more. It takes no memory.
-pub fn put_number(target: &mut Vec<u8>, number: u64)
-    requires { length target.old.items + 20 ≤ vec_capacity target.old }
-    ensures octets { target.new.items ≡ target.old.items ++ decimal number }
-    ensures short { length target.new.items ≤ length target.old.items + 20 }
-    ensures room { vec_capacity target.old ≤ vec_capacity target.new }
-{
-    let mut digits = Buffer::new();
-    put_word(target, digits.format(number));
-}
-
-/// Appends a word, to a target with room for it. It takes no memory.
-pub fn put_word(target: &mut Vec<u8>, word: &str)
-    requires { length target.old.items + length word.now ≤ vec_capacity target.old }
-    ensures octets { target.new.items ≡ target.old.items ++ word.now }
-    ensures len { length target.new.items ≡ length target.old.items + length word.now }
-    ensures room { vec_capacity target.old ≤ vec_capacity target.new }
-{
-    // There is room, so it can't fail.
-    let _ = target.extend_from_slice(word.as_bytes());
 }

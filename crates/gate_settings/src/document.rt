@@ -1,7 +1,7 @@
 // The settings of octets.
 ghost use Rattle.std.specs.Prelude.{◌≡◌, ◌<◌, ◌^◌, length, IfOk, ok_or};
 ghost use Rattle.toml.specs.View.{table_view};
-ghost use Rattle.gate_settings.specs.Firsts.{Gives, GivesBy};
+ghost use Rattle.gate_settings.specs.Firsts.{ReturnsFound, ReturnsFoundBy};
 ghost use Rattle.gate_settings.specs.Document.{document_of, keys_of};
 ghost use Rattle.gate_settings.specs.Cross.{settings_of};
 ghost use Rattle.gate_settings.specs.Forms.{HasForms};
@@ -19,7 +19,7 @@ use toml::Table;
 const LIMIT: usize = 1_048_576;
 
 fn read_document(alloc: Global, octets: &[u8]) -> Result<Table, ReadSettings>
-    ensures { GivesBy table_view result (ok_or (document_of octets.now) NotToml) }
+    ensures { ReturnsFoundBy table_view result (ok_or (document_of octets.now) NotToml) }
 {
     match toml::table_from_slice(alloc, octets) {
         Ok(table) => Ok(table),
@@ -35,7 +35,7 @@ fn read_document(alloc: Global, octets: &[u8]) -> Result<Table, ReadSettings>
 
 #[tactic(auto, unfolding(crate::specs::Document::keys_of))]
 fn read_keys(alloc: Global, octets: &[u8]) -> Result<Given, ReadSettings>
-    ensures value { Gives result (keys_of octets.now) }
+    ensures value { ReturnsFound result (keys_of octets.now) }
     ensures few { IfOk result (λ given. length given.settings.statics < 2 ^ 32) }
 {
     if octets.len() > LIMIT {
@@ -51,7 +51,7 @@ fn read_keys(alloc: Global, octets: &[u8]) -> Result<Given, ReadSettings>
 /// ran out. Settings that were read fit one another, and their blocks, addresses and rules have their forms.
 #[tactic(auto, unfolding(crate::specs::Cross::settings_of))]
 pub fn read_settings(alloc: Global, octets: &[u8]) -> Result<Settings, ReadSettings>
-    ensures value { Gives result (settings_of octets.now) }
+    ensures value { ReturnsFound result (settings_of octets.now) }
     ensures sound { IfOk result IsSound }
     ensures forms { IfOk result HasForms }
 {

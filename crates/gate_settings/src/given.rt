@@ -1,7 +1,7 @@
 // The keys of a settings document, in the order of testing.
 ghost use Rattle.std.specs.Prelude.{◌≡◌, ◌<◌, ◌^◌, [], None, false, length, IfOk};
 ghost use Rattle.toml.specs.View.{view, items_view, table_view};
-ghost use Rattle.gate_settings.specs.Firsts.{Sees, Gives, GivesBy};
+ghost use Rattle.gate_settings.specs.Firsts.{Sees, ReturnsFound, ReturnsFoundBy};
 ghost use Rattle.gate_settings.specs.Document as document;
 
 use crate::fault::{ReadSettings, SettingsFault};
@@ -135,7 +135,7 @@ fn are_tables(values: &[Value]) -> bool
 }
 
 fn blocks_of(alloc: Global, values: &[Value]) -> Result<Vec<Block>, ReadSettings>
-    ensures { GivesBy (λ v. v.items) result (document.each (λ n value. document.block Key.Same value) 1 (items_view values.now)) }
+    ensures { ReturnsFoundBy (λ v. v.items) result (document.each (λ n value. document.block Key.Same value) 1 (items_view values.now)) }
 {
     let mut blocks = Vec::new(alloc);
     for value in values {
@@ -147,7 +147,7 @@ fn blocks_of(alloc: Global, values: &[Value]) -> Result<Vec<Block>, ReadSettings
 
 fn statics_of(alloc: Global, values: &[Value]) -> Result<Vec<Fixed>, ReadSettings>
     requires { length values.now < 2 ^ 32 }
-    ensures value { GivesBy (λ v. v.items) result (document.each document.static_entry 1 (items_view values.now)) }
+    ensures value { ReturnsFoundBy (λ v. v.items) result (document.each document.static_entry 1 (items_view values.now)) }
     ensures few { IfOk result (λ v. length v.items < 2 ^ 32) }
 {
     let mut statics = Vec::new(alloc);
@@ -160,7 +160,7 @@ fn statics_of(alloc: Global, values: &[Value]) -> Result<Vec<Fixed>, ReadSetting
 
 #[tactic(auto, unfolding(crate::specs::Document::blocks))]
 fn blocks(alloc: Global, key: Key, value: &Value) -> Result<Blocks, ReadSettings>
-    ensures { Gives result (document.blocks key (view value.now)) }
+    ensures { ReturnsFound result (document.blocks key (view value.now)) }
 {
     let values = values::array(key, value)?;
     if !are_texts(values) {
@@ -171,7 +171,7 @@ fn blocks(alloc: Global, key: Key, value: &Value) -> Result<Blocks, ReadSettings
 
 #[tactic(auto, unfolding(crate::specs::Document::statics))]
 fn statics(alloc: Global, key: Key, value: &Value) -> Result<Statics, ReadSettings>
-    ensures value { Gives result (document.statics key (view value.now)) }
+    ensures value { ReturnsFound result (document.statics key (view value.now)) }
     ensures few { IfOk result (λ v. length v < 2 ^ 32) }
 {
     let values = values::array(key, value)?;
@@ -204,7 +204,7 @@ fn fragments_key(top: &Table) -> Result<bool, SettingsFault>
 }
 
 fn same_key(alloc: Global, top: &Table) -> Result<Blocks, ReadSettings>
-    ensures { Gives result (document.optional document.blocks [] Key.Same (table_view top.now)) }
+    ensures { ReturnsFound result (document.optional document.blocks [] Key.Same (table_view top.now)) }
 {
     match find(top, Key::Same) {
         Some(value) => blocks(alloc, Key::Same, value),
@@ -213,7 +213,7 @@ fn same_key(alloc: Global, top: &Table) -> Result<Blocks, ReadSettings>
 }
 
 fn static_key(alloc: Global, top: &Table) -> Result<Statics, ReadSettings>
-    ensures value { Gives result (document.optional document.statics [] Key.Statics (table_view top.now)) }
+    ensures value { ReturnsFound result (document.optional document.statics [] Key.Statics (table_view top.now)) }
     ensures few { IfOk result (λ v. length v < 2 ^ 32) }
 {
     match find(top, Key::Statics) {
@@ -225,7 +225,7 @@ fn static_key(alloc: Global, top: &Table) -> Result<Statics, ReadSettings>
 /// The keys of an entry of `oid`.
 #[tactic(auto, unfolding(crate::specs::Document::oid_keys))]
 fn oid_keys(alloc: Global, number: u32, table: &Table) -> Result<OidRule, ReadSettings>
-    ensures { Gives result (document.oid_keys number (table_view table.now)) }
+    ensures { ReturnsFound result (document.oid_keys number (table_view table.now)) }
 {
     let key = Key::OidPrefix(number);
     let prefix = values::prefix(alloc, key, need(table, key)?)?;
@@ -236,14 +236,14 @@ fn oid_keys(alloc: Global, number: u32, table: &Table) -> Result<OidRule, ReadSe
 
 #[tactic(auto, unfolding(crate::specs::Document::oid_entry))]
 fn oid_entry(alloc: Global, number: u32, value: &Value) -> Result<OidRule, ReadSettings>
-    ensures { Gives result (document.oid_entry number (view value.now)) }
+    ensures { ReturnsFound result (document.oid_entry number (view value.now)) }
 {
     oid_keys(alloc, number, values::table(Key::Oids, value)?)
 }
 
 fn oids_of(alloc: Global, values: &[Value]) -> Result<Vec<OidRule>, ReadSettings>
     requires { length values.now < 2 ^ 32 }
-    ensures { GivesBy (λ v. v.items) result (document.each document.oid_entry 1 (items_view values.now)) }
+    ensures { ReturnsFoundBy (λ v. v.items) result (document.each document.oid_entry 1 (items_view values.now)) }
 {
     let mut oids = Vec::new(alloc);
     for (index, value) in values.iter().enumerate() {
@@ -255,7 +255,7 @@ fn oids_of(alloc: Global, values: &[Value]) -> Result<Vec<OidRule>, ReadSettings
 
 #[tactic(auto, unfolding(crate::specs::Document::oids))]
 fn oids(alloc: Global, key: Key, value: &Value) -> Result<OidRules, ReadSettings>
-    ensures { Gives result (document.oids key (view value.now)) }
+    ensures { ReturnsFound result (document.oids key (view value.now)) }
 {
     let values = values::array(key, value)?;
     if !are_tables(values) {
@@ -269,7 +269,7 @@ fn oids(alloc: Global, key: Key, value: &Value) -> Result<OidRules, ReadSettings
 }
 
 fn oid_key(alloc: Global, top: &Table) -> Result<OidRules, ReadSettings>
-    ensures { Gives result (document.optional document.oids [] Key.Oids (table_view top.now)) }
+    ensures { ReturnsFound result (document.optional document.oids [] Key.Oids (table_view top.now)) }
 {
     match find(top, Key::Oids) {
         Some(value) => oids(alloc, Key::Oids, value),
@@ -280,7 +280,7 @@ fn oid_key(alloc: Global, top: &Table) -> Result<OidRules, ReadSettings>
 /// All keys of a document.
 #[tactic(auto, unfolding(crate::specs::Document::all_keys))]
 pub fn all_keys(alloc: Global, top: &Table) -> Result<Given, ReadSettings>
-    ensures value { Gives result (document.all_keys (table_view top.now)) }
+    ensures value { ReturnsFound result (document.all_keys (table_view top.now)) }
     ensures few { IfOk result (λ given. length given.settings.statics < 2 ^ 32) }
 {
     let json = report_key(top)?;

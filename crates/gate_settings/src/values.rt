@@ -3,7 +3,7 @@ ghost use Rattle.std.specs.Prelude.{◌≡◌, option_map, ok_or};
 ghost use Rattle.toml.specs.Data.{get_member};
 ghost use Rattle.toml.specs.View.{view, array_view, table_view};
 ghost use Rattle.gate_settings.specs.Keys.{name_of};
-ghost use Rattle.gate_settings.specs.Firsts.{Sees, Gives};
+ghost use Rattle.gate_settings.specs.Firsts.{Sees, ReturnsFound};
 ghost use Rattle.gate_settings.specs.Document as document;
 ghost use Rattle.gate_settings.specs.declared.fault.SettingsFault.TheVariants.{Missing};
 
@@ -144,7 +144,7 @@ pub fn block(key: Key, value: &Value) -> Result<Block, SettingsFault>
 /// The arcs with which object identifiers begin.
 #[tactic(auto, unfolding(crate::specs::Document::prefix))]
 pub fn prefix(alloc: Global, key: Key, value: &Value) -> Result<Arcs, ReadSettings>
-    ensures { Gives result (document.prefix key (view value.now)) }
+    ensures { ReturnsFound result (document.prefix key (view value.now)) }
 {
     match read_prefix(alloc, text(key, value)?.as_bytes())? {
         Some(arcs) => Ok(arcs),

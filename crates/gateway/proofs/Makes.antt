@@ -6,7 +6,7 @@ use Rattle.gate_desk.specs.declared.slot.Slot.TheVariants.{Settings, LeftIn, Rig
 use Rattle.gate_desk.specs.declared.slot.PerSlot.{PerSlot}
 use Rattle.gate_desk.specs.Discarded.{told_by}
 use Rattle.gate_desk.specs.Outside.{Outside, Told, FailsToStart, HasFailed, HasFailedToStart}
-use Rattle.gate_desk.proofs.Laws.{grows_not, grows_on, grows_fails_to_start, none_failed_on, failed_since}
+use Rattle.gate_desk.proofs.Laws.{grows_on, grows_fails_to_start, none_failed_on, failed_since}
 use Rattle.gate_desk.specs.Memory.{inputs}
 use Rattle.gate_report.specs.declared.line.Line.{Line}
 use Rattle.gate_workload.specs.declared.workload.Workload.{Workload}
@@ -19,7 +19,6 @@ use Rattle.gateway.specs.Causes.{StartsAll, WritesPieces}
 use Rattle.gateway.specs.Pieces.{wrote_pieces, WritesAll, IsFront}
 use Rattle.gateway.specs.Making.{workload_in, made_piece, IsLineOf, IsMake}
 use Rattle.gateway.specs.Answers.{Runs, Tells, IsToldMake, AnswersMake}
-use Rattle.gateway.proofs.Causes.{starts_none, starts_all}
 use Rattle.gateway.proofs.Accepted.{never_refused, never_faulty}
 
 -- no count of a desk that discards rises
@@ -69,10 +68,6 @@ pub rehearses : (r : Result Line Status) (names : Names) (number count : ℕ) (d
 rehearses (Ok line) names number count desk k few is h = rehearsed line names number count k (subst (λ (d : PerSlot (List ℕ)). Runs (Ok line) names (told_by d) (told_by k)) is h)
 rehearses (Err e) names number count desk k few is h = not_rehearsed e names number count k few (subst (λ (d : PerSlot (List ℕ)). Runs (Err e) names (told_by d) (told_by k)) is h)
 
--- nothing was started yet
-pub not_started : (number count : ℕ) (report : List ℕ) (a : Outside) → IsMake OutOfMemory number count report a a
-not_started number count report a = record { made = (starts_none (make_starts report) a a refl, refl); left = refl; grows = grows_not a }
-
 -- the report could not be started
 pub not_opened : (number count : ℕ) (report : List ℕ) (a b : Outside) → FailsToStart Report a b → IsMake (OpenFault Report) number count report a b
 not_opened number count report a b h = record { made = (h.cause, h.starts, h.written); left = h.left; grows = grows_fails_to_start Report a b h }
@@ -80,7 +75,7 @@ not_opened number count report a b h = record { made = (h.cause, h.starts, h.wri
 -- memory was wanting for the run over the workload
 pub not_made : (e : Status) (number count : ℕ) (report : List ℕ) (a b : Outside) → e ≡ OutOfMemory → StartsAll (make_starts report) a b → IsMake e number count report a b
 not_made e number count report a b is h =
-    subst (λ (s : Status). IsMake s number count report a b) (sym is) (record { made = (starts_all (make_starts report) a b h.starts, h.written); left = h.left; grows = h.grows })
+    subst (λ (s : Status). IsMake s number count report a b) (sym is) (record { made = (h.starts, h.written); left = h.left; grows = h.grows })
 
 -- the line was written
 pub made : (line : Line) (number count : ℕ) (report : List ℕ) (a b c : Outside) → StartsAll (make_starts report) a b → IsLineOf line number count → WritesAll (made_piece line ∷ []) b c → IsMake Done number count report a c

@@ -10,12 +10,12 @@ use Rattle.pcap_merge.specs.declared.stop.MergeStop.{MergeStop}
 use Rattle.pcap_merge.specs.declared.stop.MergeStop.TheVariants as merges
 use Rattle.pcap_merge.specs.Events.{Merged}
 use Rattle.pcap_merge.specs.Given.{TakenFor}
-use Rattle.pcap_merge.specs.Merge.{Merging, Begins, Gives as GivesEvent, Finishes as FinishesMerge, StopsBy, TakesFew, ahead}
+use Rattle.pcap_merge.specs.Merge.{Merging, Begins, ComesTo, Finishes as FinishesMerge, StopsBy, TakesFew, ahead}
 use Rattle.pcap_merge.specs.Stops.{slot_of}
 use Rattle.pcap_merge.proofs.Given.{given_few, taken_none, taken_later, taken_since}
 use Rattle.kept_world.specs.Kept.{KeptSession}
 use Rattle.gate_core.specs.Gates.{Gateway}
-use Rattle.gateway.specs.declared.report.Totals.{Totals}
+use Rattle.gate_report.specs.declared.totals.Totals.{Totals}
 use Rattle.gateway.specs.declared.status.Status.{Status}
 use Rattle.gateway.specs.declared.status.Status.TheVariants.{Done, Usage, SettingsRefused, CaptureRefused, ReadFault, WriteFault, OpenFault, OutOfMemory}
 use Rattle.gateway.specs.Answers.{TookForWritten}
@@ -115,7 +115,7 @@ event_front (WriteFault x) gate gate' totals event mid new k = (_, k.1.front)
 event_front (OpenFault x) gate gate' totals event mid new k = (_, k.1.front)
 
 -- a frame was not handled to its end
-pub took_fail : (x : Status) (settings : GateSettings) (gate gate' : Gateway) (totals : Totals) (m0 m m' : Merging) (old now mid new : Outside) (s : State KeptSession) (joiner : Joiner) (e : Event) (a : Arrival) → Progress settings m0 old now m s joiner → GivesEvent e m m' now mid → Handles (Err x) gate gate' totals a mid new → TookFew settings m0 old new
+pub took_fail : (x : Status) (settings : GateSettings) (gate gate' : Gateway) (totals : Totals) (m0 m m' : Merging) (old now mid new : Outside) (s : State KeptSession) (joiner : Joiner) (e : Event) (a : Arrival) → Progress settings m0 old now m s joiner → ComesTo e m m' now mid → Handles (Err x) gate gate' totals a mid new → TookFew settings m0 old new
 took_fail x settings gate gate' totals m0 m m' old now mid new s joiner e a h gives k =
     let front = event_front x gate gate' totals a mid new k in
     record {

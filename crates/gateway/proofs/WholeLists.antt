@@ -15,9 +15,10 @@ use Rattle.gate_world.proofs.Related.{related_verdict, related_out, related_next
 use Rattle.kept_world.specs.Kept.{KeptSession, kept_rules, StandsFor}
 use Rattle.kept_world.proofs.Agreed.{agreed, pending_related}
 use Rattle.gate_report.specs.declared.line.Line.{Line}
-use Rattle.gateway.specs.declared.report.Totals.{Totals}
+use Rattle.gate_report.specs.declared.totals.Totals.{Totals}
 use Rattle.gateway.specs.Pieces.{Piece}
-use Rattle.gateway.specs.Machine.{State, counted, opening, after_one, after, sent, event_piece, given_by, ended_by, line_piece, done_line, line_after}
+use Rattle.gate_report.specs.Counts.{counted, done_line}
+use Rattle.gateway.specs.Machine.{State, opening, after_one, after, sent, event_piece, given_by, ended_by, line_piece, line_after}
 
 -- the world of what is kept stands for the other, and both are counted alike
 pub record AreAlike (v : State KeptSession) (w : State WholeSession) : Type 0 where

@@ -11,7 +11,7 @@ use Rattle.pcap_merge.specs.Events.{Done as BothEnded}
 use Rattle.gateway.specs.declared.status.Status.{Status}
 use Rattle.gateway.specs.declared.status.Status.TheVariants.{Done, WriteFault, OpenFault, OutOfMemory}
 use Rattle.gateway.specs.Command.{make_starts}
-use Rattle.gateway.specs.Causes.{started_all, StartsSome}
+use Rattle.gateway.specs.Causes.{started_all}
 use Rattle.gateway.specs.Pieces.{Piece, wrote_pieces, IsFront}
 use Rattle.gateway.specs.Machine.{line_piece, line_of}
 use Rattle.gateway.specs.Ends.{IsAccepted, events_in}
@@ -38,7 +38,7 @@ HasMade Done number count report old new =
 HasMade (WriteFault Report) number count report old new =
     HasFailed Report old new × (line : Line) × IsLineOf line number count × (new.starts ≡ started_all (make_starts report) old.starts) × IsFront (made_piece line ∷ []) old.written new.written
 HasMade (OpenFault Report) number count report old new = HasFailedToStart Report old new × (new.starts ≡ old.starts) × (new.written ≡ old.written)
-HasMade OutOfMemory number count report old new = StartsSome (make_starts report) old new × (new.written ≡ old.written)
+HasMade OutOfMemory number count report old new = (new.starts ≡ started_all (make_starts report) old.starts) × (new.written ≡ old.written)
 HasMade status number count report old new = ⊥
 
 pub record IsMake (status : Status) (number count : ℕ) (report : List ℕ) (old new : Outside) : Type 0 where

@@ -6,7 +6,7 @@ ghost use Rattle.gateway.specs.Answers.{Answers, AnswersRun, AnswersMake};
 
 use crate::Status;
 use crate::command::{Command, FileNames, read_words};
-use crate::errors::{LINE, tell, tell_out_of_memory, tell_usage};
+use crate::errors::{tell, tell_usage};
 use crate::make::make;
 use crate::run::run;
 use gate_desk::Desk;
@@ -16,13 +16,9 @@ use std::alloc::Global;
 fn told_run<D: Desk>(alloc: Global, desk: &mut D, names: FileNames<'_>) -> Status
     ensures { AnswersRun result (names_of names.entry) (D.outside desk.old) (D.outside desk.new) }
 {
-    let mut text = match Vec::with_capacity(alloc, LINE) {
-        Ok(text) => text,
-        Err(_) => return tell_out_of_memory(desk),
-    };
     match run(alloc, desk, names) {
         Ok(_) => Status::Done,
-        Err(status) => tell(alloc, desk, &mut text, status),
+        Err(status) => tell(alloc, desk, status),
     }
 }
 
@@ -31,13 +27,9 @@ fn told_make<D: Desk>(alloc: Global, desk: &mut D, number: u32, count: u32, repo
     requires { count ≤ 100000 }
     ensures { AnswersMake result number count report.now (D.outside desk.old) (D.outside desk.new) }
 {
-    let mut text = match Vec::with_capacity(alloc, LINE) {
-        Ok(text) => text,
-        Err(_) => return tell_out_of_memory(desk),
-    };
     match make(alloc, desk, number, count, report) {
         Status::Done => Status::Done,
-        status => tell(alloc, desk, &mut text, status),
+        status => tell(alloc, desk, status),
     }
 }
 

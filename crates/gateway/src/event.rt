@@ -1,9 +1,9 @@
 // One frame: it is judged, and what it gives is written.
-ghost use Rattle.std.specs.Prelude.{◌≡◌, ◌+◌, ◌*◌, ◌<◌, ◌≤◌, ◌^◌, ◌++◌, [], ◌∷◌, length};
+ghost use Rattle.std.specs.Prelude.{◌≡◌, ◌+◌, ◌*◌, ◌<◌, ◌≤◌, ◌^◌, ◌++◌, [], ◌∷◌, length, IfSome, IsSome};
 ghost use Rattle.gate_base.specs.Events.{event_of};
 ghost use Rattle.gate_desk.specs.declared.slot.Slot.TheVariants.{LeftOut, RightOut, Report};
 ghost use Rattle.gate_desk.specs.Outside.{CanWrite};
-ghost use Rattle.frag_join.specs.Arrivals.{Comes, Stays, arrival, joiner_after};
+ghost use Rattle.frag_join.specs.Arrivals.{Comes, Stays, arrival, joiner_after, joined_in};
 ghost use Rattle.frag_join.specs.Joining.{by_known};
 ghost use Rattle.ether_frames.specs.Ether.{ipv4_head};
 ghost use Rattle.gateway.specs.Machine.{out_slot, frame_piece, sent};
@@ -12,13 +12,13 @@ ghost use Rattle.gateway.specs.Phases.{Handles, counting};
 
 use crate::Status;
 use crate::front::{ask, joined};
-use crate::report::{Totals, count, put_line};
+use crate::report::{Reporter, put_line};
 use ether_frames::put_head;
 use frag_join::{Joiner, Taken};
 use gate_base::{Event, Link, Moment, Side, Verdict};
 use gate_core::{Gate, Outbox};
 use gate_desk::{Desk, Slot};
-use gate_report::{LINE, Line};
+use gate_report::Line;
 use gate_settings::{Settings, SideSettings};
 use pcap_files::write_packet;
 use std::alloc::Global;
@@ -107,75 +107,96 @@ fn send_all<D: Desk>(
     Ok(())
 }
 
-/// Takes an event that comes to the gate: its frame goes on, if it passes, then its line is written, for which there is a room,
-/// and it is counted.
+/// Takes an event that comes to the gate: its frame goes on, if it passes, then its line is written, and it is counted.
+#[inline(always)]
 fn handle<D: Desk>(
     alloc: Global,
     desk: &mut D,
     gate: &mut Gate,
     outbox: &mut Outbox,
-    room: &mut [u8],
-    totals: &mut Totals,
+    reporter: &mut Reporter,
     event: Event<'_>,
 ) -> Result<(), Status>
     requires left { CanWrite (D.outside desk.old) LeftOut }
     requires right { CanWrite (D.outside desk.old) RightOut }
     requires report { CanWrite (D.outside desk.old) Report }
-    requires room { length room.old ≡ LINE }
     requires early { event.moment.0 < 2 ^ 32 * 1000000000 }
-    requires few { totals.old.events < 2 ^ 42 }
-    requires passed { totals.old.passed ≤ totals.old.events }
-    requires refused { totals.old.refused ≤ totals.old.events }
-    requires to_left { totals.old.to_left ≤ 4096 * totals.old.events }
-    requires to_right { totals.old.to_right ≤ 4096 * totals.old.events }
-    ensures { Handles (counting totals.new result) gate.old gate.new totals.old (Comes (event_of event.entry)) (D.outside desk.old) (D.outside desk.new) }
+    requires few { reporter.old.totals.events < 2 ^ 42 }
+    requires passed { reporter.old.totals.passed ≤ reporter.old.totals.events }
+    requires refused { reporter.old.totals.refused ≤ reporter.old.totals.events }
+    requires to_left { reporter.old.totals.to_left ≤ 4096 * reporter.old.totals.events }
+    requires to_right { reporter.old.totals.to_right ≤ 4096 * reporter.old.totals.events }
+    ensures { Handles (counting reporter.new.totals result) gate.old gate.new reporter.old.totals (Comes (event_of event.entry)) (D.outside desk.old) (D.outside desk.new) }
 {
     let verdict = gate.step(&event, outbox)?;
     let frames = outbox.len() as u32;
     let settings = gate.settings();
     send_all(desk, settings, event.side.other(), event.moment, outbox)?;
     let line = Line::Event {
-        number: totals.events + 1,
+        number: reporter.totals.events + 1,
         side: event.side,
         moment: event.moment,
         verdict,
         frames,
     };
-    put_line(alloc, desk, room, settings.json, &line)?;
-    *totals = count(*totals, event.side, verdict, frames);
+    put_line(alloc, desk, &mut reporter.room, settings.json, &line)?;
+    reporter.totals = reporter.totals.count(event.side, verdict, frames);
     Ok(())
 }
 
-/// Takes a frame that doesn't come to the gate: its line is written, for which there is a room, and it is counted.
+/// Takes a frame that doesn't come to the gate: its line is written, and it is counted.
 #[inline(never)]
 fn leave<D: Desk>(
     alloc: Global,
     desk: &mut D,
     gate: &Gate,
-    room: &mut [u8],
-    totals: &mut Totals,
+    reporter: &mut Reporter,
     event: Event<'_>,
     verdict: Verdict,
 ) -> Result<(), Status>
     requires report { CanWrite (D.outside desk.old) Report }
-    requires room { length room.old ≡ LINE }
-    requires few { totals.old.events < 2 ^ 42 }
-    requires passed { totals.old.passed ≤ totals.old.events }
-    requires refused { totals.old.refused ≤ totals.old.events }
-    requires to_left { totals.old.to_left ≤ 4096 * totals.old.events }
-    requires to_right { totals.old.to_right ≤ 4096 * totals.old.events }
-    ensures { Handles (counting totals.new result) gate.now gate.now totals.old (Stays (event_of event.entry) verdict) (D.outside desk.old) (D.outside desk.new) }
+    requires few { reporter.old.totals.events < 2 ^ 42 }
+    requires passed { reporter.old.totals.passed ≤ reporter.old.totals.events }
+    requires refused { reporter.old.totals.refused ≤ reporter.old.totals.events }
+    requires to_left { reporter.old.totals.to_left ≤ 4096 * reporter.old.totals.events }
+    requires to_right { reporter.old.totals.to_right ≤ 4096 * reporter.old.totals.events }
+    ensures { Handles (counting reporter.new.totals result) gate.now gate.now reporter.old.totals (Stays (event_of event.entry) verdict) (D.outside desk.old) (D.outside desk.new) }
 {
     let line = Line::Event {
-        number: totals.events + 1,
+        number: reporter.totals.events + 1,
         side: event.side,
         moment: event.moment,
         verdict,
         frames: 0,
     };
-    put_line(alloc, desk, room, gate.settings().json, &line)?;
-    *totals = count(*totals, event.side, verdict, 0);
+    put_line(alloc, desk, &mut reporter.room, gate.settings().json, &line)?;
+    reporter.totals = reporter.totals.count(event.side, verdict, 0);
     Ok(())
+}
+
+/// Takes the datagram that the last frame completed, as an event that comes to the gate.
+#[inline(never)]
+fn handle_joined<D: Desk>(
+    alloc: Global,
+    desk: &mut D,
+    joiner: &Option<Joiner>,
+    gate: &mut Gate,
+    outbox: &mut Outbox,
+    reporter: &mut Reporter,
+) -> Result<(), Status>
+    requires left { CanWrite (D.outside desk.old) LeftOut }
+    requires right { CanWrite (D.outside desk.old) RightOut }
+    requires report { CanWrite (D.outside desk.old) Report }
+    requires joined { IsSome (joined_in joiner.now) }
+    requires early { IfSome (joined_in joiner.now) (λ e. e.moment < 2 ^ 32 * 1000000000) }
+    requires few { reporter.old.totals.events < 2 ^ 42 }
+    requires passed { reporter.old.totals.passed ≤ reporter.old.totals.events }
+    requires refused { reporter.old.totals.refused ≤ reporter.old.totals.events }
+    requires to_left { reporter.old.totals.to_left ≤ 4096 * reporter.old.totals.events }
+    requires to_right { reporter.old.totals.to_right ≤ 4096 * reporter.old.totals.events }
+    ensures { IfSome (joined_in joiner.now) (λ e. Handles (counting reporter.new.totals result) gate.old gate.new reporter.old.totals (Comes e) (D.outside desk.old) (D.outside desk.new)) }
+{
+    handle(alloc, desk, gate, outbox, reporter, joined(joiner))
 }
 
 /// Takes a frame: it comes to the gate as it is, or as the datagram that it completes, or its line alone is written.
@@ -185,31 +206,28 @@ pub fn take<D: Desk>(
     joiner: &mut Option<Joiner>,
     gate: &mut Gate,
     outbox: &mut Outbox,
-    room: &mut [u8],
-    totals: &mut Totals,
+    reporter: &mut Reporter,
     event: Event<'_>,
 ) -> Result<(), Status>
     requires left { CanWrite (D.outside desk.old) LeftOut }
     requires right { CanWrite (D.outside desk.old) RightOut }
     requires report { CanWrite (D.outside desk.old) Report }
-    requires room { length room.old ≡ LINE }
     requires early { event.moment.0 < 2 ^ 32 * 1000000000 }
-    requires few { totals.old.events < 2 ^ 42 }
-    requires passed { totals.old.passed ≤ totals.old.events }
-    requires refused { totals.old.refused ≤ totals.old.events }
-    requires to_left { totals.old.to_left ≤ 4096 * totals.old.events }
-    requires to_right { totals.old.to_right ≤ 4096 * totals.old.events }
-    ensures answer { Handles (counting totals.new result) gate.old gate.new totals.old (arrival by_known joiner.old (event_of event.entry)) (D.outside desk.old) (D.outside desk.new) }
+    requires few { reporter.old.totals.events < 2 ^ 42 }
+    requires passed { reporter.old.totals.passed ≤ reporter.old.totals.events }
+    requires refused { reporter.old.totals.refused ≤ reporter.old.totals.events }
+    requires to_left { reporter.old.totals.to_left ≤ 4096 * reporter.old.totals.events }
+    requires to_right { reporter.old.totals.to_right ≤ 4096 * reporter.old.totals.events }
+    ensures answer { Handles (counting reporter.new.totals result) gate.old gate.new reporter.old.totals (arrival by_known joiner.old (event_of event.entry)) (D.outside desk.old) (D.outside desk.new) }
     ensures joiner { joiner.new ≡ joiner_after by_known joiner.old (event_of event.entry) }
 {
-    let came = match ask(joiner, &event) {
-        Taken::Plain => event,
-        Taken::Joined => joined(joiner),
-        Taken::Held => return leave(alloc, desk, gate, room, totals, event, Verdict::Held),
+    match ask(joiner, &event) {
+        Taken::Plain => handle(alloc, desk, gate, outbox, reporter, event),
+        Taken::Joined => handle_joined(alloc, desk, joiner, gate, outbox, reporter),
+        Taken::Held => leave(alloc, desk, gate, reporter, event, Verdict::Held),
         Taken::Refused(refusal) => {
             let verdict = Verdict::Refused(refusal);
-            return leave(alloc, desk, gate, room, totals, event, verdict);
+            leave(alloc, desk, gate, reporter, event, verdict)
         }
-    };
-    handle(alloc, desk, gate, outbox, room, totals, came)
+    }
 }

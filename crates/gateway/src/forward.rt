@@ -9,11 +9,11 @@ ghost use Rattle.gateway.specs.Phases.{Forwards, WritesLastLine, TookFew};
 
 use crate::Status;
 use crate::event::take;
-use crate::report::{Totals, last_line, put_line};
+use crate::report::{Reporter, put_line};
 use frag_join::Joiner;
 use gate_core::{Gate, Outbox};
 use gate_desk::Desk;
-use gate_report::{LINE, Line};
+use gate_report::{LINE, Line, Totals};
 use pcap_merge::Merge;
 use std::alloc::Global;
 
@@ -43,14 +43,12 @@ pub fn forward<D: Desk>(
     joiner: &mut Option<Joiner>,
     gate: &mut Gate,
     outbox: &mut Outbox,
-    room: &mut [u8],
 ) -> Result<Line, Status>
     requires left_in { CanRead (D.outside desk.old) LeftIn }
     requires right_in { CanRead (D.outside desk.old) RightIn }
     requires left_out { CanWrite (D.outside desk.old) LeftOut }
     requires right_out { CanWrite (D.outside desk.old) RightOut }
     requires report { CanWrite (D.outside desk.old) Report }
-    requires room { length room.old ≡ LINE }
     requires stop { merge.old.stop ≡ None }
     requires work { work merge.old ≤ 2 ^ 41 }
     requires ends { AtEnds merge.old (D.outside desk.old) }
@@ -61,18 +59,21 @@ pub fn forward<D: Desk>(
     ensures starts { (D.outside desk.new).starts ≡ (D.outside desk.old).starts }
     ensures counts { Grows (D.outside desk.old) (D.outside desk.new) }
 {
-    let mut totals = Totals {
-        events: 0,
-        passed: 0,
-        refused: 0,
-        to_left: 0,
-        to_right: 0,
+    let mut reporter = Reporter {
+        totals: Totals {
+            events: 0,
+            passed: 0,
+            refused: 0,
+            to_left: 0,
+            to_right: 0,
+        },
+        room: [0; LINE],
     };
     'events: loop {
         let more = merge.advance(desk)?;
         if !more {
-            let line = last_line(totals, gate.pending());
-            return finish(alloc, desk, room, gate.settings().json, line);
+            let line = reporter.totals.last_line(gate.pending());
+            return finish(alloc, desk, &mut reporter.room, gate.settings().json, line);
         }
         take(
             alloc,
@@ -80,8 +81,7 @@ pub fn forward<D: Desk>(
             joiner,
             gate,
             outbox,
-            room,
-            &mut totals,
+            &mut reporter,
             merge.event(),
         )?;
     }

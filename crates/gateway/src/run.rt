@@ -11,7 +11,7 @@ use crate::prepare::prepare;
 use crate::ready::ready;
 use gate_core::Outbox;
 use gate_desk::Desk;
-use gate_report::{LINE, Line};
+use gate_report::Line;
 use std::alloc::Global;
 
 /// A run over these files. It answers the last line of its report.
@@ -22,15 +22,6 @@ pub fn run<D: Desk>(alloc: Global, desk: &mut D, names: FileNames<'_>) -> Result
     let (mut merge, mut gate) = prepare(alloc, desk, names)?;
     let mut outbox = Outbox::make(alloc)?;
     let mut joiner = open_joiner(alloc, &gate)?;
-    let mut room = [0; LINE];
     ready(desk, names, gate.settings())?;
-    forward(
-        alloc,
-        desk,
-        &mut merge,
-        &mut joiner,
-        &mut gate,
-        &mut outbox,
-        &mut room,
-    )
+    forward(alloc, desk, &mut merge, &mut joiner, &mut gate, &mut outbox)
 }

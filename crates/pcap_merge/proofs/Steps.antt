@@ -19,9 +19,9 @@ use Rattle.pcap_merge.specs.declared.order.Last.TheVariants.{Nothing, Event as L
 use Rattle.pcap_merge.specs.declared.stop.MergeStop.{MergeStop}
 use Rattle.pcap_merge.specs.declared.stop.MergeStop.TheVariants.{Fault, Desk, OutOfMemory}
 use Rattle.pcap_merge.specs.Order.{is_unread, earlier}
-use Rattle.pcap_merge.specs.Events.{Merged, Done, Fault as EndsFaulty, Ahead, Gives as GivesRecord, Stops, front_of, turn_of, behind_first, event_at, with_event, merge_from}
+use Rattle.pcap_merge.specs.Events.{Merged, Done, Fault as EndsFaulty, Ahead, Gives, Stops, front_of, turn_of, behind_first, event_at, with_event, merge_from}
 use Rattle.pcap_merge.specs.Sides.{Readies, ReadsSide, ReadsSides, records_ahead, held_before, IsSpent, side_work}
-use Rattle.pcap_merge.specs.Merge.{Merging, merging, event_given, HoldsLast, IsSound, Reads, ahead, sides_ahead, Gives, Finishes, StopsBy}
+use Rattle.pcap_merge.specs.Merge.{Merging, merging, event_given, HoldsLast, IsSound, Reads, ahead, sides_ahead, ComesTo, Finishes, StopsBy}
 use Rattle.pcap_merge.proofs.Merged.{merge-gives, merge-ends, merge-stops}
 use Rattle.pcap_merge.proofs.Given.{same_right, given_more, ends_taken, both_ready, left_stopped, right_stopped}
 
@@ -101,7 +101,7 @@ nothing_held p e = cc
 record IsNext (side : Side) (p : Packet) (time : ℕ) (left right : Option Packet) : Type 0 where
   stamp : p.stamp ≡ time
   held : held_of side left right ≡ Some p
-  turn : (xs ys : Records) → turn_of (front_of (held_before left xs)) (front_of (held_before right ys)) ≡ GivesRecord side p
+  turn : (xs ys : Records) → turn_of (front_of (held_before left xs)) (front_of (held_before right ys)) ≡ Gives side p
 
 abbrev stamp_of : Option Packet → Option ℕ
 stamp_of held = option_map (λ (p : Packet). p.stamp) held
@@ -120,8 +120,8 @@ chosen (Some l) None x e = subst (λ (y : Side × ℕ). (p : Packet) × IsNext y
 chosen None (Some r) x e = subst (λ (y : Side × ℕ). (p : Packet) × IsNext y.0 p y.1 None (Some r)) (ap the_first e) (r, record { stamp = refl; held = refl; turn = λ xs ys. refl })
 chosen (Some l) (Some r) x e =
     elim (nat_le l.stamp r.stamp) as (λ b. nat_le l.stamp r.stamp ≡ b → cond b (Some (Left, l.stamp)) (Some (Right, r.stamp)) ≡ Some x → (p : Packet) × IsNext x.0 p x.1 (Some l) (Some r)) [
-      | true ↦ λ b e. subst (λ (y : Side × ℕ). (p : Packet) × IsNext y.0 p y.1 (Some l) (Some r)) (ap the_first e) (l, record { stamp = refl; held = refl; turn = λ xs ys. ap (λ t. cond t (GivesRecord Left l) (GivesRecord Right r)) b })
-      | false ↦ λ b e. subst (λ (y : Side × ℕ). (p : Packet) × IsNext y.0 p y.1 (Some l) (Some r)) (ap the_first e) (r, record { stamp = refl; held = refl; turn = λ xs ys. ap (λ t. cond t (GivesRecord Left l) (GivesRecord Right r)) b })
+      | true ↦ λ b e. subst (λ (y : Side × ℕ). (p : Packet) × IsNext y.0 p y.1 (Some l) (Some r)) (ap the_first e) (l, record { stamp = refl; held = refl; turn = λ xs ys. ap (λ t. cond t (Gives Left l) (Gives Right r)) b })
+      | false ↦ λ b e. subst (λ (y : Side × ℕ). (p : Packet) × IsNext y.0 p y.1 (Some l) (Some r)) (ap the_first e) (r, record { stamp = refl; held = refl; turn = λ xs ys. ap (λ t. cond t (Gives Left l) (Gives Right r)) b })
     ] refl e
 
 -- where `earlier` answers none, no side holds a record
@@ -222,7 +222,7 @@ held_right Right left right p e h = is_some_of right p e
 
 gives_at : (l l' r r' : Reading) (clock time : ℕ) (last : Last) (side : Side) (p : Packet) (stop : Option MergeStop) (old mid new : Outside) → IsSound l r clock last stop → stop ≡ None
     → Readies Left (is_unread Left last) l l' old mid → Readies Right (is_unread Right last) r r' mid new → IsNext side p time l'.packet r'.packet
-    → Gives (event_now side (max clock p.stamp) l' r' p) (merging l r clock last stop) (merging l' r' (max clock p.stamp) (LastEvent side) stop) old new
+    → ComesTo (event_now side (max clock p.stamp) l' r' p) (merging l r clock last stop) (merging l' r' (max clock p.stamp) (LastEvent side) stop) old new
 gives_at l l' r r' clock time last side p stop old mid new sound running h k next =
     let small = small_held side l'.packet r'.packet p (h.small sound.small_left) (k.small sound.small_right) next.held in
     let is = is_ready l l' r r' last old mid new h k in
@@ -250,10 +250,10 @@ gives_at l l' r r' clock time last side p stop old mid new sound running h k nex
 pub gives : (l l' r r' : Reading) (clock clock' : ℕ) (last : Last) (x : Side × ℕ) (stop : Option MergeStop) (old mid new : Outside) → IsSound l r clock last stop → stop ≡ None
     → Readies Left (is_unread Left last) l l' old mid → Readies Right (is_unread Right last) r r' mid new
     → earlier (option_map (λ (p : Packet). p.stamp) l'.packet) (option_map (λ (p : Packet). p.stamp) r'.packet) ≡ Some x → clock' ≡ max clock x.1
-    → (e : Event) × Gives e (merging l r clock last stop) (merging l' r' clock' (LastEvent x.0) stop) old new
+    → (e : Event) × ComesTo e (merging l r clock last stop) (merging l' r' clock' (LastEvent x.0) stop) old new
 gives l l' r r' clock clock' last x stop old mid new sound running h k e now =
     let next = chosen l'.packet r'.packet x e in
-    subst (λ (c : ℕ). (e : Event) × Gives e (merging l r clock last stop) (merging l' r' c (LastEvent x.0) stop) old new) (ap (max clock) next.1.stamp ∙ sym now)
+    subst (λ (c : ℕ). (e : Event) × ComesTo e (merging l r clock last stop) (merging l' r' c (LastEvent x.0) stop) old new) (ap (max clock) next.1.stamp ∙ sym now)
     (event_now x.0 (max clock next.0.stamp) l' r' next.0, gives_at l l' r r' clock x.1 last x.0 next.0 stop old mid new sound running h k next.1)
 
 -- both captures are at their ends

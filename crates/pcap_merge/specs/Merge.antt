@@ -152,7 +152,7 @@ Begins (Err (Desk slot)) old new = (side : Side) × (slot ≡ slot_of side) × H
 Begins (Err OutOfMemory) old new = Reads old new × TakenFor [] old new
 
 -- the merge came to this event
-pub record Gives (e : Event) (m m' : Merging) (old new : Outside) : Type 0 where
+pub record ComesTo (e : Event) (m m' : Merging) (old new : Outside) : Type 0 where
   pub event : m'.event ≡ Some e
   pub small : IsSmallEvent e
   pub before : m.clock ≤ e.moment
@@ -190,6 +190,6 @@ StopsBy OutOfMemory m old new = ⊥
 
 -- what an advance answers, where no earlier one stopped
 abbrev pub Advances : Result Bool MergeStop → Merging → Merging → Outside → Outside → Type 0
-Advances (Ok true) m m' old new = (e : Event) × Gives e m m' old new
+Advances (Ok true) m m' old new = (e : Event) × ComesTo e m m' old new
 Advances (Ok false) m m' old new = Finishes m m' old new
 Advances (Err stop) m m' old new = (m'.stop ≡ Some stop) × StopsBy stop m old new

@@ -1,11 +1,9 @@
 -- What a message of the versions 1 and 2c becomes with no rule.
-use Rattle.std.proofs.Common.{◌≡◌, ℕ, zero, suc, ◌+◌, ◌-◌, ◌/◌, ◌%◌, ◌≤◌, ◌==◌, ◌&&◌, ◌||◌, not, Bool, true, false, nat_le, if◌then◌else◌, List, [], ◌∷◌, ◌++◌, slice_index, take, drop, length, Option, Some, None, IsSome, option_map, option_to_list, unwrap_or, refl, ap, sym, subst, ◌∙◌, arith, append-nil, inl, inr, ◌⊎◌, lit≤}
+use Rattle.std.proofs.Common.{◌≡◌, ℕ, zero, suc, ◌-◌, ◌/◌, ◌%◌, ◌≤◌, ◌==◌, ◌&&◌, ◌||◌, not, Bool, true, false, nat_le, if◌then◌else◌, List, [], ◌∷◌, ◌++◌, slice_index, length, Option, Some, None, IsSome, option_map, option_to_list, unwrap_or, refl, ap, sym, subst, ◌∙◌, arith, append-nil, inl, inr, ◌⊎◌, lit≤}
 use Rattle.std.specs.List.{list_all, list_any}
 use Rattle.std.proofs.lemmas.Bool.{eqb-true}
 use Rattle.std.proofs.lemmas.Bool.Decides.{nat_tests}
-use Rattle.std.proofs.lemmas.List.{take_at, drop_at}
 use Rattle.gate_base.specs.Address.{◌>>=◌}
-use Rattle.gate_base.specs.declared.rule.OidRule.{OidRule}
 use Rattle.snmp_ber.proofs.Elements.{some_same}
 use Rattle.snmp_gateway.specs.declared.message.SnmpKind.{SnmpKind}
 use Rattle.snmp_gateway.specs.declared.message.SnmpKind.TheVariants.{V1, V2, V3}
@@ -14,7 +12,6 @@ use Rattle.snmp_gateway.specs.Message.{common_value_tags, is_common_value_tag, i
 use Rattle.snmp_gateway.specs.Renaming.{renamed}
 use Rattle.snmp_gateway.proofs.Reading.{bound, tested, only_first}
 use Rattle.snmp_oids.specs.Elements.{is_constructed, elements_renamed, by_kind, oid_renamed}
-use Rattle.snmp_oids.specs.Written.{with_octets}
 use Rattle.snmp_oids.proofs.Grammar.{Part, Piece, Outline, At, Claim, Reads, reads, node_kept, node_address, node_in, claim_none, is_kept}
 
 both_first : (a b : Bool) → (a && b) ≡ true → a ≡ true
@@ -341,18 +338,3 @@ no_rule image octets some = by_message (message octets) refl some
         ap (λ (k : Option SnmpKind). by_kind k octets (elements_renamed image [] octets)) kind
         ∙ by_meeting image octets m.0 m.1 (message_meets octets m is)
         ∙ ap (λ ps. renamed image ps octets) (sym places)
-
--- a message in which the rules change nothing
-pub kept_message : (image : ℕ → Option ℕ) (rules : List OidRule) (octets copied new : List ℕ) → IsSome (kind_of octets) → elements_renamed image rules octets ≡ elements_renamed image [] octets → copied ≡ octets → new ≡ renamed image (places_of copied) copied → new ≡ oid_renamed image rules octets
-kept_message image rules octets copied new some same copied_is new_is =
-    new_is
-    ∙ ap (λ o. renamed image (places_of o) o) copied_is
-    ∙ sym (ap (by_kind (kind_of octets) octets) same ∙ no_rule image octets some)
-
-pub copied_front : (octets old target : List ℕ) (end : ℕ) → target ≡ with_octets 0 octets old → end ≡ 0 + length octets → take end target ≡ octets
-copied_front octets old target end target_is end_is =
-    ap (take end) target_is ∙ take_at octets (drop (0 + length octets) old) end (omega (arith, end_is))
-
-pub copied_back : (octets old target : List ℕ) (end : ℕ) → target ≡ with_octets 0 octets old → end ≡ 0 + length octets → drop end target ≡ drop end old
-copied_back octets old target end target_is end_is =
-    ap (drop end) target_is ∙ drop_at octets (drop (0 + length octets) old) end (omega (arith, end_is)) ∙ ap (λ n. drop n old) (sym end_is)

@@ -1,9 +1,10 @@
 -- Sub-identifiers one after another.
-use Rattle.std.proofs.Common.{◌≡◌, ℕ, ◌+◌, ◌-◌, ◌<◌, ◌≤◌, ◌==◌, nat_eq, Bool, true, false, nat_lt, if◌then◌else◌, List, [], ◌∷◌, get_or, take, drop, length, ◌&&◌, Option, Some, None, option_map, unwrap_or, is_some, IsSome, IfNone, refl, ap, sym, ◌∙◌, arith, length-drop, drop-cons, add-one}
+use Rattle.std.proofs.Common.{◌≡◌, ℕ, ◌+◌, ◌-◌, ◌*◌, ◌%◌, ◌<◌, ◌≤◌, ◌==◌, nat_eq, Bool, true, false, nat_lt, if◌then◌else◌, List, [], ◌∷◌, get_or, take, drop, length, ◌&&◌, ◌||◌, Option, Some, None, option_map, unwrap_or, is_some, IsSome, IfNone, refl, ap, sym, ◌∙◌, arith, length-drop, drop-cons, add-one}
 use Rattle.std.proofs.lemmas.Bool.Decides.{nat_tests}
 use Rattle.std.proofs.lemmas.List.{drop_all, take_all}
 use Rattle.std.specs.List.{starts_with}
 use Rattle.gate_base.specs.Address.{◌>>=◌}
+use Rattle.gate_base.specs.Rules.{greatest}
 use Rattle.snmp_oids.specs.Arcs.{joined, numbers_from, numbers_of}
 
 -- numbers go on with one more octet
@@ -33,6 +34,24 @@ numbers_go s xs i o n below found is above =
 pub numbers_end : (s : ℕ) (xs : List ℕ) (i : ℕ) (o : Option ℕ) (n : ℕ) → i < length xs → o ≡ joined s (get_or xs i 0) → o ≡ Some n → get_or xs i 0 < 128 → numbers_from s (drop i xs) ≡ option_map (λ numbers. n ∷ numbers) (numbers_of (drop (i + 1) xs))
 numbers_end s xs i o n below found is under =
     by_octet _ _ _ (numbers_at s xs i below) (Some n) (sym is ∙ found) _ (chosen (nat_lt (get_or xs i 0) 128) true _ _ (below_128 (get_or xs i 0) under))
+
+-- a sub-identifier of one octet
+joined_one : (octet : ℕ) → octet < 128 → joined 0 octet ≡ Some octet
+joined_one octet below =
+    let number : 128 * 0 + octet % 128 ≡ octet = omega (arith, below) in
+    let other : (octet == 128) ≡ false = grind (arith, nat_tests) in
+    let fits : nat_lt greatest octet ≡ false = grind (arith, nat_tests) in
+    ap (λ n. if (octet == 128) || nat_lt greatest n then None else Some n) number
+    ∙ ap (λ b. if b || nat_lt greatest octet then None else Some octet) other
+    ∙ ap (λ b. if b then None else Some octet) fits
+
+pub one_octet : (octet number : ℕ) (xs rest : List ℕ) → xs ≡ octet ∷ rest → number ≡ octet → octet < 128 → numbers_of xs ≡ option_map (λ numbers. number ∷ numbers) (numbers_of rest)
+unfolding numbers_from
+one_octet octet number xs rest is same below =
+    ap numbers_of is
+    ∙ ap (λ o. o >>= λ n. if nat_lt octet 128 then option_map (λ numbers. n ∷ numbers) (numbers_from 0 rest) else numbers_from n rest) (joined_one octet below)
+    ∙ chosen (nat_lt octet 128) true _ _ (below_128 octet below)
+    ∙ ap (λ n. option_map (λ numbers. n ∷ numbers) (numbers_from 0 rest)) (sym same)
 
 pub numbers_past : (s : ℕ) (xs : List ℕ) (i : ℕ) → length xs ≤ i → numbers_from s (drop i xs) ≡ (if s == 0 then Some [] else None)
 unfolding numbers_from

@@ -9,7 +9,7 @@ use Rattle.snmp_ber.specs.Element.{Element, element_at, element_with, length_at,
 use Rattle.snmp_ber.proofs.Elements.{some_same, element_room}
 use Rattle.snmp_oids.specs.Elements.{octets_for, shortest, head_for, head_of, is_constructed, primitive_renamed, content_renamed, elements_within, elements_renamed}
 use Rattle.snmp_oids.specs.Written.{with_octets}
-use Rattle.snmp_oids.proofs.Writing.{written_after}
+use Rattle.snmp_oids.proofs.Writing.{written_after, overwritten, read_back}
 
 -- a content is shorter than 2 ^ 32 octets
 power : (k : ℕ) → k ≤ 4 → 256 ^ k ≤ 4294967296
@@ -147,6 +147,19 @@ head_grows head old new two = elim (cases_Bool (new == old)) [
   | inr other ↦ rw other (omega (arith, length-append (take 1 head) (shortest new), length-take-le 1 head (omega arith), few new))
 ]
 
+-- and at least two
+least : (count : ℕ) → 1 ≤ length (shortest count)
+least count = elim (cases_Bool (nat_lt count 128)) [
+  | inl short ↦ rw short (omega arith)
+  | inr long ↦ rw long (omega arith)
+]
+
+head_least : (head : List ℕ) (old new : ℕ) → 2 ≤ length head → 2 ≤ length (head_for head old new)
+head_least head old new two = elim (cases_Bool (new == old)) [
+  | inl same ↦ rw same two
+  | inr other ↦ rw other (omega (arith, length-append (take 1 head) (shortest new), length-take-le 1 head (omega arith), least new))
+]
+
 -- the octets before the content of the element that octets begin with, as they stand and with another length
 abbrev pub front : List ℕ → List ℕ → List ℕ → List ℕ
 front rest more content = take (length rest - length more - length content) rest
@@ -160,20 +173,13 @@ elements_go image rules rest element more content new e content_is new_is =
     ∙ ap (λ c. new_head rest more c (length (content_renamed image rules element)) ++ content_renamed image rules element ++ elements_renamed image rules more) (sym content_is)
     ∙ ap (λ n. new_head rest more content n ++ content_renamed image rules element ++ elements_renamed image rules more) (sym new_is)
 
-pub sizes_next : (image : ℕ → Option ℕ) (rules : List OidRule) (rest : List ℕ) (element : Element) (more content : List ℕ) (size head new : ℕ) → Some (element, more) ≡ element_at rest → content ≡ element.content → new ≡ length (content_renamed image rules element) → head ≡ length (new_head rest more content new) → size + (head + new) + length (elements_renamed image rules more) ≡ size + length (elements_renamed image rules rest)
-sizes_next image rules rest element more content size head new e content_is new_is head_is =
-    let whole = ap length (elements_go image rules rest element more content new e content_is new_is) in
-    let outer = length-append (new_head rest more content new ++ content_renamed image rules element) (elements_renamed image rules more) in
-    let inner = length-append (new_head rest more content new) (content_renamed image rules element) in
-    omega arith
-
 pub head_room : (rest more content : List ℕ) (new : ℕ) → length content + length more + 2 ≤ length rest → length (new_head rest more content new) + 4 * length content + 4 * length more ≤ 4 * length rest
 head_room rest more content new room =
     let size = length-take-le (length rest - length more - length content) rest (omega arith) in
     let grows = head_grows (front rest more content) (length content) new (omega arith) in
     omega arith
 
-pub sizes_within : (rest more content : List ℕ) (head new : ℕ) → length content + length more + 2 ≤ length rest → head ≡ length (new_head rest more content new) → new ≤ 4 * length content → head + new + 4 * length more ≤ 4 * length rest
+sizes_within : (rest more content : List ℕ) (head new : ℕ) → length content + length more + 2 ≤ length rest → head ≡ length (new_head rest more content new) → new ≤ 4 * length content → head + new + 4 * length more ≤ 4 * length rest
 sizes_within rest more content head new room head_is new_within = omega (arith, head_room rest more content new room)
 
 -- what a walk has written
@@ -199,35 +205,34 @@ wrote_first image rules place octets old = record {
   room = omega arith;
 }
 
-pub head_fits : (image : ℕ → Option ℕ) (rules : List OidRule) (place : ℕ) (octets old target : List ℕ) (end : ℕ) (rest : List ℕ) (element : Element) (more content : List ℕ) (new : ℕ) → Wrote image rules place octets old target end rest → place + 4 * length octets ≤ length target → length element.content + length more + 2 ≤ length rest → content ≡ element.content → end + length (new_head rest more content new) ≤ length target
-head_fits image rules place octets old target end rest element more content new wrote fits room content_is =
-    let size = ap length content_is in
-    omega (arith, head_room rest more content new (omega arith), wrote.room, wrote.end_is)
-
-pub content_fits : (image : ℕ → Option ℕ) (rules : List OidRule) (place : ℕ) (octets old target : List ℕ) (end : ℕ) (rest : List ℕ) (element : Element) (more content : List ℕ) (new middle : ℕ) → Wrote image rules place octets old target end rest → place + 4 * length octets ≤ length target → length element.content + length more + 2 ≤ length rest → content ≡ element.content → middle ≡ end + length (new_head rest more content new) → middle + 4 * length element.content ≤ length target
-content_fits image rules place octets old target end rest element more content new middle wrote fits room content_is middle_is =
-    let size = ap length content_is in
-    omega (arith, head_room rest more content new (omega arith), wrote.room, wrote.end_is)
-
-pub wrote_next : (image : ℕ → Option ℕ) (rules : List OidRule) (place : ℕ) (octets old target : List ℕ) (end : ℕ) (rest : List ℕ) (element : Element) (more content between after : List ℕ) (new middle past : ℕ) → Wrote image rules place octets old target end rest → place + 4 * length octets ≤ length old → Some (element, more) ≡ element_at rest → length element.content + length more + 2 ≤ length rest → content ≡ element.content → new ≡ length (content_renamed image rules element) → new ≤ 4 * length element.content → between ≡ with_octets end (new_head rest more content new) target → middle ≡ end + length (new_head rest more content new) → after ≡ with_octets middle (content_renamed image rules element) between → past ≡ middle + length (content_renamed image rules element) → Wrote image rules place octets old after past more
-wrote_next image rules place octets old target end rest element more content between after new middle past wrote fits e room content_is new_is new_within between_is middle_is after_is past_is =
+-- an element was written: its content, and what stands before it
+pub wrote_next : (image : ℕ → Option ℕ) (rules : List OidRule) (place : ℕ) (octets old target : List ℕ) (end : ℕ) (rest : List ℕ) (element : Element) (more content between after : List ℕ) (start new past : ℕ) → Wrote image rules place octets old target end rest → place + 4 * length octets ≤ length old → place + 4 * length octets ≤ length target → Some (element, more) ≡ element_at rest → length element.content + length more + 2 ≤ length rest → content ≡ element.content → start ≡ end + 2 → between ≡ with_octets start (content_renamed image rules element) target → new ≡ length (content_renamed image rules element) → new ≤ 4 * length element.content → after ≡ with_octets end (new_head rest more content new ++ take new (drop start between)) between → past ≡ end + length (new_head rest more content new) + new → Wrote image rules place octets old after past more
+wrote_next image rules place octets old target end rest element more content between after start new past wrote fits fits_now e room content_is start_is between_is new_is new_within after_is past_is =
     let head = new_head rest more content new in
     let changed = content_renamed image rules element in
-    let one_size = length-append wrote.written head in
-    let two_size = length-append (wrote.written ++ head) changed in
     let size = ap length content_is in
+    let head_size : 2 ≤ length head = head_least (front rest more content) (length content) new (omega (arith, length-take-le (length rest - length more - length content) rest (omega arith))) in
+    let both_size = length-append head changed in
+    let all_size = length-append wrote.written (head ++ changed) in
     let within = sizes_within rest more content (length head) new (omega arith) refl (omega arith) in
-    let one = written_after place end wrote.written head old target between wrote.end_is (omega (arith, wrote.room)) wrote.target_is between_is in
+    let back : take new (drop start between) ≡ changed = ap (λ xs. take new (drop start xs)) between_is ∙ read_back start new changed target new_is (omega (arith, wrote.room, wrote.end_is)) in
+    let here : after ≡ with_octets end (head ++ changed) target =
+    after_is
+    ∙ ap (λ xs. with_octets end (head ++ xs) between) back
+    ∙ ap (with_octets end (head ++ changed)) between_is
+    ∙ overwritten end start (head ++ changed) changed target (omega arith) (omega arith) (omega (arith, wrote.room, wrote.end_is))
+    in
     record {
-      written = wrote.written ++ head ++ changed;
-      target_is = written_after place middle (wrote.written ++ head) changed old between after (omega (arith, wrote.end_is)) (omega (arith, wrote.room)) one after_is;
+      written = wrote.written ++ (head ++ changed);
+      target_is = written_after place end wrote.written (head ++ changed) old target after wrote.end_is (omega (arith, wrote.room)) wrote.target_is here;
       end_is = omega (arith, wrote.end_is);
-      all = regrouped wrote.written head changed (elements_renamed image rules more) ∙ ap (λ xs. wrote.written ++ xs) (sym (elements_go image rules rest element more content new e content_is new_is)) ∙ wrote.all;
+      all = append_assoc wrote.written (head ++ changed) (elements_renamed image rules more) ∙ ap (λ xs. wrote.written ++ xs) (sym (elements_go image rules rest element more content new e content_is new_is)) ∙ wrote.all;
       room = omega (arith, wrote.room);
     }
-  where
-    regrouped : (a b c d : List ℕ) → a ++ b ++ c ++ d ≡ a ++ (b ++ c ++ d)
-    regrouped a b c d = simp append_assoc
+
+-- a walk has written at most four times as many octets
+pub wrote_within : (image : ℕ → Option ℕ) (rules : List OidRule) (place : ℕ) (octets old target : List ℕ) (end : ℕ) (rest : List ℕ) (past : ℕ) → Wrote image rules place octets old target end rest → past ≡ end + length rest → past ≤ place + 4 * length octets
+wrote_within image rules place octets old target end rest past wrote past_is = omega (arith, wrote.room, wrote.end_is)
 
 -- a walk stops: what is left is kept
 pub wrote_last : (image : ℕ → Option ℕ) (rules : List OidRule) (place : ℕ) (octets old target : List ℕ) (end : ℕ) (rest after : List ℕ) → Wrote image rules place octets old target end rest → place + 4 * length octets ≤ length old → element_at rest ≡ None → after ≡ with_octets end rest target → after ≡ with_octets place (elements_renamed image rules octets) old
@@ -239,13 +244,3 @@ pub wrote_size : (image : ℕ → Option ℕ) (rules : List OidRule) (place : �
 wrote_size image rules place octets old target end rest past wrote none past_is =
     let whole = ap length (ap (λ xs. wrote.written ++ xs) (sym (elements_end image rules rest none)) ∙ wrote.all) in
     omega (arith, whole, length-append wrote.written rest, wrote.end_is)
-
--- what the rules change nothing in
-pub keeps_next : (image : ℕ → Option ℕ) (rules : List OidRule) (rest : List ℕ) (element : Element) (more : List ℕ) → Some (element, more) ≡ element_at rest → content_renamed image rules element ≡ content_renamed image [] element → elements_renamed image rules more ≡ elements_renamed image [] more → elements_renamed image rules rest ≡ elements_renamed image [] rest
-keeps_next image rules rest element more e content others =
-    elements_next image rules rest element more (sym e)
-    ∙ joined_same (head_of rest (element, more)) (length element.content) _ _ _ _ content others
-    ∙ sym (elements_next image [] rest element more (sym e))
-
-pub keeps_end : (image : ℕ → Option ℕ) (rules : List OidRule) (rest : List ℕ) → None ≡ element_at rest → elements_renamed image rules rest ≡ elements_renamed image [] rest
-keeps_end image rules rest none = elements_end image rules rest (sym none) ∙ sym (elements_end image [] rest (sym none))

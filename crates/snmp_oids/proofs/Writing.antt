@@ -1,6 +1,6 @@
 -- Octets written one behind another.
-use Rattle.std.proofs.Common.{◌≡◌, ℕ, ◌+◌, ◌≤◌, List, [], ◌++◌, take, drop, length, refl, ap, ◌∙◌, arith, append_assoc, append-nil, length-append, ◌==◌, false, if◌then◌else◌}
-use Rattle.std.proofs.lemmas.List.{length-take-le, take_at, drop-drop}
+use Rattle.std.proofs.Common.{◌≡◌, ℕ, ◌+◌, ◌≤◌, List, [], ◌++◌, take, drop, length, refl, ap, ◌∙◌, arith, append_assoc, append-nil, length-append, take-take, sym, ◌-◌, ◌==◌, false, if◌then◌else◌}
+use Rattle.std.proofs.lemmas.List.{length-take-le, take_at, drop_at, drop-drop, take-append-le}
 use Rattle.std.proofs.Math.Seq.{drop-append-add}
 use Rattle.std.proofs.lemmas.Bool.Decides.{nat_tests}
 use Rattle.snmp_oids.specs.Elements.{head_for, shortest}
@@ -28,6 +28,38 @@ written_twice place first second old room =
 pub written_after : (place end : ℕ) (first second old between new : List ℕ) → end ≡ place + length first → place + length first + length second ≤ length old → between ≡ with_octets place first old → new ≡ with_octets end second between → new ≡ with_octets place (first ++ second) old
 written_after place end first second old between new ends room one two =
     two ∙ ap (λ n. with_octets n second between) ends ∙ ap (with_octets (place + length first) second) one ∙ written_twice place first second old room
+
+-- octets written are what they were before those that they cover
+front_kept : (place q : ℕ) (ys base : List ℕ) → place ≤ q → q ≤ length base → take place (with_octets q ys base) ≡ take place base
+front_kept place q ys base before within =
+    ap (take place) (append_assoc (take q base) ys (drop (q + length ys) base))
+    ∙ take-append-le place (take q base) (ys ++ drop (q + length ys) base) (omega (arith, length-take-le q base within))
+    ∙ take-take place q base before
+
+behind_kept : (past_ q : ℕ) (ys base : List ℕ) → q + length ys ≤ past_ → q ≤ length base → drop past_ (with_octets q ys base) ≡ drop past_ base
+behind_kept past_ q ys base behind within =
+    let front = take q base ++ ys in
+    let size = length-append (take q base) ys in
+    let front_size = length-take-le q base within in
+    ap (λ n. drop n (front ++ drop (q + length ys) base)) (omega arith)
+    ∙ past front (drop (q + length ys) base) (past_ - q - length ys)
+    ∙ drop-drop _ _ base
+    ∙ ap (λ n. drop n base) (omega arith)
+
+there : (q : ℕ) (ys base : List ℕ) → q ≤ length base → drop q (with_octets q ys base) ≡ ys ++ drop (q + length ys) base
+there q ys base within =
+    ap (drop q) (append_assoc (take q base) ys (drop (q + length ys) base))
+    ∙ drop_at (take q base) (ys ++ drop (q + length ys) base) q (length-take-le q base within)
+
+-- octets written over all that was written within them
+pub overwritten : (place q : ℕ) (xs ys base : List ℕ) → place ≤ q → q + length ys ≤ place + length xs → q ≤ length base → with_octets place xs (with_octets q ys base) ≡ with_octets place xs base
+overwritten place q xs ys base before behind within =
+    ap (λ zs. zs ++ xs ++ drop (place + length xs) (with_octets q ys base)) (front_kept place q ys base before within)
+    ∙ ap (λ zs. take place base ++ xs ++ zs) (behind_kept (place + length xs) q ys base behind within)
+
+-- what was just written
+pub read_back : (place count : ℕ) (xs base : List ℕ) → count ≡ length xs → place ≤ length base → take count (drop place (with_octets place xs base)) ≡ xs
+read_back place count xs base count_is within = ap (take count) (there place xs base within) ∙ take_at xs (drop (place + length xs) base) count (sym count_is)
 
 differ : (a b : ℕ) → (a ≡ b → ⊥) → (a == b) ≡ false
 differ a b apart = grind (arith, nat_tests)

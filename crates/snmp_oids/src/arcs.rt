@@ -23,6 +23,11 @@ fn next_number(octets: &[u8]) -> Option<(u32, &[u8])>
     ensures found { IfSome result (λ p. numbers_of octets.now ≡ option_map (λ numbers. p.0 ∷ numbers) (numbers_of p.1.now)) }
     ensures none { IfNone result (IsSome (numbers_of octets.now) → numbers_of octets.now ≡ Some []) }
 {
+    if let Some((octet, rest)) = octets.split_first()
+        && *octet < 128
+    {
+        return Some((u32::from(*octet), rest));
+    }
     let mut number = 0;
     for (place, octet) in octets.iter().enumerate() {
         number = joined(number, *octet)?;

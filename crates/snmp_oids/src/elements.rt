@@ -1,12 +1,12 @@
 // The elements of a message, with the images of the addresses in them (X.690, 8.1).
-ghost use Rattle.std.specs.Prelude.{◌≡◌, ◌+◌, ◌*◌, ◌^◌, ◌<◌, ◌≤◌, [], length, option_map, IfSome, IsTrue};
+ghost use Rattle.std.specs.Prelude.{◌≡◌, ◌+◌, ◌*◌, ◌^◌, ◌<◌, ◌≤◌, length, option_map, IfSome};
 ghost use Rattle.snmp_ber.specs.Element.{Element, element_at};
 ghost use Rattle.gate_base.specs.Rules.{AreRules};
 ghost use Rattle.snmp_oids.specs.Elements.{is_constructed, address_renamed, primitive_renamed, content_renamed, elements_renamed};
 ghost use Rattle.snmp_oids.specs.Written.{with_octets};
 
-use crate::head::{head_size, put_head};
-use crate::identifier::{identifier_size, keeps_identifier, put_identifier};
+use crate::head::{LEAST_HEAD, put_before};
+use crate::identifier::put_identifier;
 use crate::put::put;
 use gate_base::{Addr, OidRule, get_u32, put_u32};
 use snmp_ber::Tlv;
@@ -33,88 +33,12 @@ fn is_constructed(tag: u8) -> bool
     tag / 32 % 2 == 1
 }
 
-// How many octets content has with the images of the addresses in it, where it isn't elements.
-fn primitive_size<L: Lookup>(tag: u8, content: &[u8], rules: &[OidRule], lookup: &L) -> usize
-    requires rules { AreRules rules.now }
-    requires fits { 4 * length content.now < 2 ^ 64 }
-    ensures size { result ≡ length (primitive_renamed (L.image_of lookup.now) rules.now tag content.now) }
-    ensures within { result ≤ 4 * length content.now }
-{
-    if tag == OBJECT_IDENTIFIER {
-        identifier_size(content, rules, lookup)
-    } else {
-        content.len()
-    }
-}
-
-// How many octets the content of an element has with the images of the addresses in it.
-#[cycle(sizes)]
-fn content_size<L: Lookup>(element: &Tlv<'_>, rules: &[OidRule], lookup: &L) -> usize
-    requires rules { AreRules rules.now }
-    requires fits { 4 * length element.now.content < 2 ^ 64 }
-    ensures size { result ≡ length (content_renamed (L.image_of lookup.now) rules.now element.now) }
-    ensures within { result ≤ 4 * length element.now.content }
-{
-    if is_constructed(element.tag()) {
-        elements_size(element.content(), rules, lookup)
-    } else {
-        primitive_size(element.tag(), element.content(), rules, lookup)
-    }
-}
-
-/// How many octets elements have with the images of the addresses in them.
-#[cycle(sizes)]
-pub(crate) fn elements_size<L: Lookup>(octets: &[u8], rules: &[OidRule], lookup: &L) -> usize
-    requires rules { AreRules rules.now }
-    requires fits { 4 * length octets.now < 2 ^ 64 }
-    ensures size { result ≡ length (elements_renamed (L.image_of lookup.now) rules.now octets.now) }
-    ensures within { result ≤ 4 * length octets.now }
-{
-    let mut size = 0;
-    let mut rest = octets;
-    while let Some((element, more)) = next_element(rest) {
-        let old = element.content().len();
-        let new = content_size(&element, rules, lookup);
-        size += head_size(&rest[..rest.len() - more.len() - old], old, new) + new;
-        rest = more;
-    }
-    size + rest.len()
-}
-
-// Whether the rules name no address with an image in the content of an element.
-#[cycle(finding)]
-fn keeps_content<L: Lookup>(element: &Tlv<'_>, rules: &[OidRule], lookup: &L) -> bool
-    requires { AreRules rules.now }
-    ensures { IsTrue result → content_renamed (L.image_of lookup.now) rules.now element.now ≡ content_renamed (L.image_of lookup.now) [] element.now }
-{
-    if is_constructed(element.tag()) {
-        keeps_elements(element.content(), rules, lookup)
-    } else {
-        element.tag() != OBJECT_IDENTIFIER || keeps_identifier(element.content(), rules, lookup)
-    }
-}
-
-/// Whether the rules name no address with an image in elements: they become what they become with no rule.
-#[cycle(finding)]
-pub(crate) fn keeps_elements<L: Lookup>(octets: &[u8], rules: &[OidRule], lookup: &L) -> bool
-    requires { AreRules rules.now }
-    ensures { IsTrue result → elements_renamed (L.image_of lookup.now) rules.now octets.now ≡ elements_renamed (L.image_of lookup.now) [] octets.now }
-{
-    let mut rest = octets;
-    while let Some((element, more)) = next_element(rest) {
-        if !keeps_content(&element, rules, lookup) {
-            return false;
-        }
-        rest = more;
-    }
-    true
-}
-
 // Writes the content of an IpAddress with its image in its place. The result is the place behind it.
 fn put_ip_address<L: Lookup>(content: &[u8], lookup: &L, target: &mut [u8], place: usize) -> usize
     requires { place + length content.now ≤ length target.old }
     ensures written { target.new ≡ with_octets place (address_renamed (L.image_of lookup.now) content.now) target.old }
     ensures end { result ≡ place + length (address_renamed (L.image_of lookup.now) content.now) }
+    ensures within { result ≤ place + length content.now }
 {
     if content.len() == 4 {
         if let Some(address) = lookup.image(Addr(get_u32(content, 0))) {
@@ -138,6 +62,7 @@ fn put_primitive<L: Lookup>(
     requires room { place + 4 * length content.now ≤ length target.old }
     ensures written { target.new ≡ with_octets place (primitive_renamed (L.image_of lookup.now) rules.now tag content.now) target.old }
     ensures end { result ≡ place + length (primitive_renamed (L.image_of lookup.now) rules.now tag content.now) }
+    ensures within { result ≤ place + 4 * length content.now }
 {
     match tag {
         OBJECT_IDENTIFIER => put_identifier(content, rules, lookup, target, place),
@@ -159,6 +84,7 @@ fn put_content<L: Lookup>(
     requires room { place + 4 * length element.now.content ≤ length target.old }
     ensures written { target.new ≡ with_octets place (content_renamed (L.image_of lookup.now) rules.now element.now) target.old }
     ensures end { result ≡ place + length (content_renamed (L.image_of lookup.now) rules.now element.now) }
+    ensures within { result ≤ place + 4 * length element.now.content }
 {
     if is_constructed(element.tag()) {
         put_elements(element.content(), rules, lookup, target, place)
@@ -187,15 +113,16 @@ pub(crate) fn put_elements<L: Lookup>(
     requires room { place + 4 * length octets.now ≤ length target.old }
     ensures written { target.new ≡ with_octets place (elements_renamed (L.image_of lookup.now) rules.now octets.now) target.old }
     ensures end { result ≡ place + length (elements_renamed (L.image_of lookup.now) rules.now octets.now) }
+    ensures within { result ≤ place + 4 * length octets.now }
 {
     let mut end = place;
     let mut rest = octets;
     while let Some((element, more)) = next_element(rest) {
         let old = element.content().len();
-        let new = content_size(&element, rules, lookup);
+        let start = end + LEAST_HEAD;
+        let new = put_content(&element, rules, lookup, target, start) - start;
         let head = &rest[..rest.len() - more.len() - old];
-        end = put_head(head, old, new, target, end);
-        end = put_content(&element, rules, lookup, target, end);
+        end = put_before(head, old, new, target, end);
         rest = more;
     }
     put(rest, target, end)

@@ -93,27 +93,12 @@ fn change_of<L: Lookup>(content: &[u8], rules: &[OidRule], lookup: &L) -> Option
     })
 }
 
-// How many octets an arc of at most 255 takes, the fewest.
-fn arc_size(arc: u8) -> usize
-    ensures { result ≡ length (arc_octets arc) }
-{
-    if arc < 128 { 1 } else { 2 }
-}
-
-// How many octets the four arcs of an address take.
-fn address_size(address: Addr) -> usize
-    ensures value { result ≡ length (address_octets address.0) }
-    ensures within { result ≤ 8 }
-{
-    let [a, b, c, d] = address.0.to_be_bytes();
-    arc_size(a) + arc_size(b) + arc_size(c) + arc_size(d)
-}
-
 // Writes an arc of at most 255 in the fewest octets at a place. The result is the place behind it.
 fn put_arc(arc: u8, target: &mut [u8], place: usize) -> usize
     requires { place + length (arc_octets arc) ≤ length target.old }
     ensures written { target.new ≡ with_octets place (arc_octets arc) target.old }
     ensures end { result ≡ place + length (arc_octets arc) }
+    ensures within { result ≤ place + 2 }
 {
     if arc < 128 {
         put(&[arc], target, place)
@@ -127,33 +112,13 @@ fn put_address(address: Addr, target: &mut [u8], place: usize) -> usize
     requires { place + length (address_octets address.0) ≤ length target.old }
     ensures written { target.new ≡ with_octets place (address_octets address.0) target.old }
     ensures end { result ≡ place + length (address_octets address.0) }
+    ensures within { result ≤ place + 8 }
 {
     let [a, b, c, d] = address.0.to_be_bytes();
     let place = put_arc(a, target, place);
     let place = put_arc(b, target, place);
     let place = put_arc(c, target, place);
     put_arc(d, target, place)
-}
-
-/// Whether content stays as it is: the rules name no address in it that has an image.
-pub(crate) fn keeps_identifier<L: Lookup>(content: &[u8], rules: &[OidRule], lookup: &L) -> bool
-    requires { AreRules rules.now }
-    ensures { IsTrue result → identifier_renamed (L.image_of lookup.now) rules.now content.now ≡ content.now }
-{
-    change_of(content, rules, lookup).is_none()
-}
-
-/// How many octets content has with the image of the address in its place.
-pub(crate) fn identifier_size<L: Lookup>(content: &[u8], rules: &[OidRule], lookup: &L) -> usize
-    requires rules { AreRules rules.now }
-    requires fits { 4 * length content.now < 2 ^ 64 }
-    ensures size { result ≡ length (identifier_renamed (L.image_of lookup.now) rules.now content.now) }
-    ensures within { result ≤ 4 * length content.now }
-{
-    match change_of(content, rules, lookup) {
-        Some(change) => change.start + address_size(change.address) + (content.len() - change.end),
-        None => content.len(),
-    }
 }
 
 /// Writes content at a place, with the image of the address in its place. The result is the place behind it.
@@ -168,6 +133,7 @@ pub(crate) fn put_identifier<L: Lookup>(
     requires room { place + 4 * length content.now ≤ length target.old }
     ensures written { target.new ≡ with_octets place (identifier_renamed (L.image_of lookup.now) rules.now content.now) target.old }
     ensures end { result ≡ place + length (identifier_renamed (L.image_of lookup.now) rules.now content.now) }
+    ensures within { result ≤ place + 4 * length content.now }
 {
     match change_of(content, rules, lookup) {
         Some(change) => put_changed(content, change, target, place),

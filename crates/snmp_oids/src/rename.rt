@@ -4,10 +4,10 @@ ghost use Rattle.snmp_gateway.specs.Message.{kind_of};
 ghost use Rattle.gate_base.specs.Rules.{AreRules};
 ghost use Rattle.snmp_oids.specs.Elements.{oid_renamed};
 
-use crate::elements::{keeps_elements, put_elements};
+use crate::elements::put_elements;
 use crate::put::put;
 use gate_base::OidRule;
-use snmp_gateway::{Lookup, SnmpKind, check, rename_in_place};
+use snmp_gateway::{Lookup, SnmpKind, check};
 
 /// Writes a message with the images of the addresses in it at the front of a target, and answers its length. The rest of the
 /// target stays as it was, and no memory is taken.
@@ -31,10 +31,6 @@ pub fn rename_into<L: Lookup>(
 {
     if check(octets) == Some(SnmpKind::V3) {
         put(octets, target, 0)
-    } else if keeps_elements(octets, rules, lookup) {
-        let end = put(octets, target, 0);
-        rename_in_place(&mut target[..end], lookup);
-        end
     } else {
         put_elements(octets, rules, lookup, target, 0)
     }

@@ -1,5 +1,5 @@
 use Rattle.std.proofs.Common.{◌≡◌, ◌≤◌, ◌∙◌, List, [], ◌∷◌, length, is_some, Err, ap, sym, subst, refl}
-use Rattle.std.specs.Prelude.{ℕ, IfErr}
+use Rattle.std.specs.Prelude.{ℕ}
 use Rattle.gate_base.specs.Tests.{first_that_holds}
 use Rattle.gate_base.specs.declared.refusal.Refusal.TheVariants.{PoolEmpty}
 use Rattle.binding_table.specs.Bindings.{Bindings}
@@ -11,10 +11,8 @@ use Rattle.kept_world.specs.Kept.{KeptSession, kept_rules}
 use Rattle.unit_plans.proofs.NamedLemmas.{units-none}
 use Rattle.unit_plans.proofs.ToldLemmas.{none_whole, some_whole}
 use Rattle.unit_plans.specs.Plans.{whole_units, all_addresses, called_after, beside, plan_tests, AreBound, IsListBound, TellsFirst}
-use Rattle.unit_plans.specs.declared.stop.PlanStop.{PlanStop}
-use Rattle.unit_plans.specs.declared.stop.PlanStop.TheVariants as stops
 use Rattle.gate_core.specs.Found.{IsStopped}
-use Rattle.gate_core.proofs.UnitsJudged.{IsReady, ready_is, way_ends, none_stopped, none_planned, some_planned, is_stopped, by_ok, by_three, by_err, by_err_and, completed_unit}
+use Rattle.gate_core.proofs.UnitsJudged.{ready_is, way_ends, none_stopped, none_planned, some_planned, is_stopped, by_ok, by_three, by_err, by_err_and, completed_unit}
 use Rattle.gate_core.proofs.UnitsUsed.{until_of}
 use Rattle.gate_core.proofs.found.plan_session.Goals as goal
 

@@ -1,4 +1,4 @@
-use Rattle.std.proofs.Common.{◌≡◌, ◌==◌, Some, Ok, Err, sym, ap, ◌∙◌}
+use Rattle.std.proofs.Common.{◌==◌, Some, Ok, Err, sym, ap, ◌∙◌}
 use Rattle.std.proofs.lemmas.Bool.{ne_eqb}
 use Rattle.gate_frames.proofs.Tests.{udp_read, tcp_read, icmp_read}
 use Rattle.gate_frames.proofs.content.content_of.Goals as goal

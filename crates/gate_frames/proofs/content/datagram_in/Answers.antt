@@ -1,4 +1,4 @@
-use Rattle.std.proofs.Common.{◌≡◌, Ok, Err, sym, ap, ◌∙◌}
+use Rattle.std.proofs.Common.{Err, ap, ◌∙◌}
 use Rattle.gate_base.specs.Events.{event_of}
 use Rattle.ipv4_frames.specs.Ipv4.{read_datagram}
 use Rattle.gate_frames.proofs.Tests.{refused, read_is}

@@ -1,4 +1,4 @@
-use Rattle.std.proofs.Common.{◌≡◌, ◌∙◌, ap, arith, subst, sym}
+use Rattle.std.proofs.Common.{◌≡◌, ◌∙◌, ap, subst, sym}
 use Rattle.gate_base.specs.Events.{event_of}
 use Rattle.gate_base.specs.Tests.{first_that_holds}
 use Rattle.gate_settings.specs.declared.settings.Settings.{Settings}

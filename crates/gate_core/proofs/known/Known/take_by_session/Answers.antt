@@ -1,12 +1,11 @@
-use Rattle.std.proofs.Common.{◌≡◌, ◌+◌, true, false, Some, None, [], ◌∷◌, List, sym, ap, subst, refl, ◌∙◌, ℕ}
+use Rattle.std.proofs.Common.{◌≡◌, true, false, Some, None, List, sym, ap, subst, refl, ◌∙◌, ℕ}
 use Rattle.tcp_segments.specs.Tcp.{Tcp}
 use Rattle.tcp_tracker.specs.Connections.{connection_of, place_of, hold_of, short_hold, noted, without}
 use Rattle.tcp_tracker.specs.declared.connection.ConnKey.{ConnKey}
 use Rattle.tcp_tracker.specs.declared.connection.Connection.{Connection}
 use Rattle.session_table.specs.Joined.{replaced}
-use Rattle.gate_world.specs.Stream.{key_in, found_in, session_in, stepped}
-use Rattle.gate_world.specs.World.{Tracked, World}
-use Rattle.ipv4_frames.specs.Ipv4.{Datagram}
+use Rattle.gate_world.specs.Stream.{key_in, session_in, stepped}
+use Rattle.gate_world.specs.World.{Tracked}
 use Rattle.kept_world.specs.Kept.{KeptSession, kept_rules}
 use Rattle.gate_core.specs.Found.{image_of}
 use Rattle.gate_core.specs.Gates.{world_of, world_in}

@@ -7,7 +7,7 @@ use Rattle.tcp_tracker.specs.declared.connection.ConnKey.{ConnKey}
 use Rattle.binding_table.specs.Plan.{after_uses}
 use Rattle.gate_world.specs.Frame.{is_tracked_port}
 use Rattle.gate_world.specs.Step.{stream_out}
-use Rattle.gate_world.specs.Stream.{tcp_of, is_opening, key_in, session_refusal, stepped}
+use Rattle.gate_world.specs.Stream.{tcp_of, is_opening, key_in, stepped}
 use Rattle.gate_world.specs.Units.{uses_until}
 use Rattle.gate_world.specs.World.{Tracked}
 use Rattle.kept_world.specs.Kept.{KeptSession, kept_rules}
