@@ -1,0 +1,54 @@
+-- Octets that are a head and what stands behind it.
+use Rattle.std.proofs.Common.{◌≡◌, ◌≤◌, ◌<◌, ◌+◌, ℕ, Bool, true, false, ◌&&◌, List, ◌++◌, length, take, drop, refl, sym, ◌∙◌, ap, arith}
+use Rattle.std.specs.Prelude.{nat_lt, nat_le}
+use Rattle.std.specs.Str.{bytes_eq}
+use Rattle.std.proofs.lemmas.Bool.Decides.{nat_tests}
+use Rattle.std.proofs.Math.Seq.{take-append_seam, drop-append_seam}
+use Rattle.std.proofs.lemmas.Bool.{and_parts}
+use Rattle.std.proofs.lemmas.List.{take-append-drop, length-append}
+use Rattle.std.proofs.lemmas.Slice.Eq.{bytes_eq-Decides}
+
+iff : (a b : Bool) → (a ≡ true → b ≡ true) → (b ≡ true → a ≡ true) → a ≡ b
+iff true true f g = refl
+iff true false f g = sym (f refl)
+iff false true f g = g refl
+iff false false f g = refl
+
+both : (a b : Bool) → a ≡ true → b ≡ true → (a && b) ≡ true
+both true b e f = f
+both false b e f = e
+
+pub front_is : (o h d : List ℕ) → (bytes_eq (take (length h) o) h && bytes_eq (drop (length h) o) d) ≡ bytes_eq o (h ++ d)
+front_is o h d =
+    iff (bytes_eq (take (length h) o) h && bytes_eq (drop (length h) o) d) (bytes_eq o (h ++ d))
+    (λ e.
+    let p = and_parts (bytes_eq (take (length h) o) h) (bytes_eq (drop (length h) o) d) e in
+    (bytes_eq-Decides o (h ++ d)).1 (sym (take-append-drop (length h) o) ∙ ap (λ (x : List ℕ). x ++ drop (length h) o) ((bytes_eq-Decides (take (length h) o) h).0 p.0) ∙ ap (λ (x : List ℕ). h ++ x) ((bytes_eq-Decides (drop (length h) o) d).0 p.1)))
+    (λ e.
+    let q = (bytes_eq-Decides o (h ++ d)).0 e in
+    both (bytes_eq (take (length h) o) h) (bytes_eq (drop (length h) o) d)
+    ((bytes_eq-Decides (take (length h) o) h).1 (ap (take (length h)) q ∙ take-append_seam h d))
+    ((bytes_eq-Decides (drop (length h) o) d).1 (ap (drop (length h)) q ∙ drop-append_seam h d)))
+
+pub short_front : (o h d : List ℕ) → length o < length h → false ≡ bytes_eq o (h ++ d)
+short_front o h d less =
+    iff false (bytes_eq o (h ++ d)) (λ e. absurd (cc)) (λ e.
+    let l : length o ≡ length h + length d = ap length ((bytes_eq-Decides o (h ++ d)).0 e) ∙ length-append h d in
+    absurd (omega (arith, l, less)))
+
+-- by the parts
+pub front_by : (o h d f r : List ℕ) (a b res : Bool) → f ≡ take (length h) o → r ≡ drop (length h) o → a ≡ bytes_eq f h → b ≡ bytes_eq r d → res ≡ (a && b) → res ≡ bytes_eq o (h ++ d)
+front_by o h d f r a b res is_front is_rest one two both_are =
+    both_are
+    ∙ ap (λ (x : Bool). x && b) (one ∙ ap (λ (x : List ℕ). bytes_eq x h) is_front)
+    ∙ ap (λ (x : Bool). bytes_eq (take (length h) o) h && x) (two ∙ ap (λ (x : List ℕ). bytes_eq x d) is_rest)
+    ∙ front_is o h d
+
+-- the size of a piece that may be
+pub within_is : (size limit n all : ℕ) → (nat_lt 0 size && (nat_le size limit && nat_le n all)) ≡ true → (size ≤ limit) × (n ≤ all)
+within_is size limit n all e =
+    let one = and_parts (nat_lt 0 size) (nat_le size limit && nat_le n all) e in
+    let two = and_parts (nat_le size limit) (nat_le n all) one.1 in
+    let few : size ≤ limit = let t = two.0 in grind (arith, nat_tests) in
+    let most : n ≤ all = let t = two.1 in grind (arith, nat_tests) in
+    (few, most)

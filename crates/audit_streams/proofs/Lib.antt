@@ -1,0 +1,5 @@
+pub mod TranscriptLemmas
+pub mod Rising
+pub mod OctetTaken
+pub mod HostLists
+pub mod Longer

@@ -1,0 +1,4 @@
+pub mod Transcripts
+pub mod Hosts
+pub mod Known
+pub mod Sending

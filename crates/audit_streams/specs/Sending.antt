@@ -1,0 +1,43 @@
+-- What a session sends for a segment, as it is handed on, and by what is known of the sender before the segment.
+use Rattle.std.specs.Prelude.{◌+◌, ◌-◌, ◌^◌, ◌<◌, ℕ, Bool, false, not, ◌&&◌, ◌||◌, cond, nat_lt, min, max, List, [], length, slice_range}
+use Rattle.tcp_segments.specs.Flags.{flags_of, flags_octet}
+use Rattle.tcp_segments.specs.Tcp.{Tcp}
+use Rattle.stream_model.specs.Session.{Sender, Segment, due_in, start_of}
+use Rattle.stream_model.specs.Steps.{sends_end, bare_offset}
+use Rattle.dialogue.specs.Stream.{image, fore, rear, back}
+use Rattle.stream_model.specs.declared.numbers.Near.{Near}
+use Rattle.stream_model.specs.declared.verdict.Extent.{Extent}
+use Rattle.stream_cuts.specs.Cuts.{Sent, data_sent}
+
+-- a segment that came
+abbrev pub segment_of : Tcp → Segment
+segment_of t = record { sequence = t.sequence; acknowledgement = t.acknowledgement; flags = flags_of t.flags; mss = t.mss; options = length t.options; octets = t.payload }
+
+-- a segment with neither SYN nor RST that passes keeps the numbers in their ranges
+pub record CanTake (sender : Sender) (segment : Segment) : Type 0 where
+  pub limit : length sender.octets + (length segment.octets - (start_of sender segment).before) < 2 ^ 30
+
+-- what is sent, with the flags in their octet, and whether the session ends
+pub record Handed : Type 0 where
+  pub sequence : ℕ
+  pub acknowledgement : ℕ
+  pub flags : ℕ
+  pub limit : ℕ
+  pub octets : List ℕ
+  pub ends : Bool
+
+abbrev pub handed : Sent → Bool → Handed
+handed s ends = record { sequence = s.sequence; acknowledgement = s.acknowledgement; flags = flags_octet s.flags; limit = s.limit; octets = s.octets; ends = ends }
+
+-- what goes out for a segment with neither SYN nor RST, by what was known of the sender before it, where it starts, and the sender after it
+abbrev pub sent_by : Extent → Near → Sender → Segment → ℕ → ℕ → Sent
+sent_by old start new segment acknowledgement limit =
+    let first = min old.due (fore new.meaning new.ended new.octets (max (old.octets + start.after - start.before) (back new.meaning new.ended new.octets new.acked))) in
+    let past =
+    cond ((nat_lt old.octets (length new.octets) || (new.ended && not old.ended)) || sends_end new segment)
+    (length (due_in new))
+    (rear new.meaning new.ended new.octets (old.octets + start.after + length segment.octets - start.before))
+    in
+    cond (nat_lt first past)
+    (data_sent new acknowledgement segment limit (first + 1) (slice_range (image new.meaning new.octets) first past) (sends_end new segment) segment.flags.push)
+    (data_sent new acknowledgement segment limit (cond (sends_end new segment) (length (due_in new) + 1) (bare_offset new start)) [] (sends_end new segment) false)

@@ -1,0 +1,374 @@
+// One host of a session over whole lists.
+ghost use Rattle.std.specs.Prelude.{◌≡◌, ◌≤◌, ◌<◌, ◌+◌, ◌-◌, ◌^◌, ◌++◌, ◌∷◌, ◌||◌, ◌&&◌, ◌==◌, ℕ, false, cond, nat_lt, nat_le, List, [], length, map, max, count_by, slice_range, slice_get, Some, IfOk, OnOk};
+ghost use Rattle.dialogue.specs.Repeats.{is_unlike, differ};
+ghost use Rattle.dialogue.specs.Places.{back_in};
+ghost use Rattle.dialogue.specs.Learning.{is_listed, ReadAlike};
+ghost use Rattle.dialogue.specs.Stream.{image, fore, rear, back};
+ghost use Rattle.stream_model.specs.Numbers.{number_at, number_after, known};
+ghost use Rattle.stream_model.specs.Session.{due_in, recent, extent};
+ghost use Rattle.stream_model.specs.Steps.{acknowledgement_to, bare_offset, inner_by, open_of};
+ghost use Rattle.audit_streams.specs.Transcripts.{span_of, PlacesRise, EndsRise};
+ghost use Rattle.audit_streams.specs.Hosts.{sender_of, unheard, held_in};
+ghost use Rattle.audit_streams.specs.Known.{AllUnitsListed};
+
+use crate::taking::take_octets;
+use crate::transcript::{Place, Transcript};
+use dialogue::{Dialogue, Learns};
+use gate_base::{Addr, OutOfMemory};
+use std::alloc::Global;
+use std::marker::Model;
+use stream_model::{Extent, Near, number_after, number_at, place_near};
+
+/// A host: what its octets become on the way, and all of them.
+#[derive(Drop)]
+pub(crate) struct WholeStream<D: Dialogue> {
+    dialogue: D,
+    mss: u16,
+    initial: Option<u32>,
+    transcript: Transcript,
+    // the rest is neither empty nor held
+    released: bool,
+    ended: bool,
+    acked: u64,
+}
+
+impl<D: Dialogue> Model for WholeStream<D> {
+    ghost use Rattle.audit_streams.specs.Hosts.{HeardStream};
+    ghost use Rattle.audit_streams.specs.Transcripts.{IsOf};
+
+    ghost Value = { HeardStream D };
+
+    ghost view = { λ a. record { dialogue = a.dialogue; heard = record { mss = a.mss; initial = a.initial; octets = a.transcript.octets; ended = a.ended; acked = a.acked } } };
+
+    ghost invariant = { λ a. IsOf (D.meaning a.dialogue) a.transcript a.released };
+}
+
+impl<D: Dialogue> WholeStream<D> {
+    pub(crate) fn make(alloc: Global, dialogue: D, initial: Option<u32>, mss: u16) -> WholeStream<D>
+        ensures { result ≡ record { dialogue = dialogue; heard = unheard initial mss } }
+    {
+        WholeStream {
+            dialogue,
+            mss,
+            initial,
+            transcript: Transcript::make(alloc),
+            released: false,
+            ended: false,
+            acked: 0,
+        }
+    }
+
+    /// What a verdict needs to know of it.
+    pub(crate) fn extent(&self) -> Extent
+        ensures { result ≡ extent (sender_of D.meaning self.now) }
+    {
+        Extent {
+            initial: self.initial,
+            octets: self.transcript.octets().len() as u32,
+            due: self.due() as u32,
+            ended: self.ended,
+            recent: self.recent().len() as u32,
+        }
+    }
+
+    /// Its initial number, if it is known.
+    pub(crate) fn initial(&self) -> Option<u32>
+        ensures { result ≡ self.now.heard.initial }
+    {
+        self.initial
+    }
+
+    /// The largest segment that it takes.
+    pub(crate) fn mss(&self) -> u16
+        ensures { result ≡ self.now.heard.mss }
+    {
+        self.mss
+    }
+
+    /// How many octets it has sent so far.
+    pub(crate) fn count(&self) -> u64
+        ensures count { result ≡ length self.now.heard.octets }
+        ensures few { result < 2 ^ 30 }
+    {
+        self.transcript.octets().len() as u64
+    }
+
+    /// How many octets of their image are due.
+    pub(crate) fn due(&self) -> u64
+        ensures due { result ≡ length (due_in (sender_of D.meaning self.now)) }
+        ensures within { result ≤ length (image (D.meaning self.now.dialogue) self.now.heard.octets) }
+        ensures few { result < 2 ^ 31 }
+    {
+        let all = self.transcript.image().len();
+        if self.ended || self.released {
+            return all as u64;
+        }
+        (all - self.transcript.rest_len()) as u64
+    }
+
+    /// How many octets their whole image has.
+    pub(crate) fn image_len(&self) -> u64
+        ensures len { result ≡ length (image (D.meaning self.now.dialogue) self.now.heard.octets) }
+        ensures few { result < 2 ^ 31 }
+    {
+        self.transcript.image().len() as u64
+    }
+
+    /// The octets after the last whole unit, if they are held.
+    pub(crate) fn rest(&self) -> &[u8]
+        ensures { result.now ≡ held_in (sender_of D.meaning self.now) }
+    {
+        if self.ended || self.released {
+            return &[];
+        }
+        self.transcript.rest()
+    }
+
+    /// The octets that may be sent again.
+    fn recent(&self) -> &[u8]
+        ensures octets { result.now ≡ recent (sender_of D.meaning self.now) }
+        ensures few { length result.now < 2 ^ 30 }
+    {
+        let octets = self.transcript.octets();
+        let start = self.back(self.acked).min(octets.len() as u64);
+        &octets[start as usize..]
+    }
+
+    /// Whether octets that start so far before the end of its octets have another octet than the recent ones at a place that both
+    /// have.
+    pub(crate) fn is_unlike(&self, before: u64, octets: &[u8]) -> bool
+        ensures { result ≡ is_unlike (recent (sender_of D.meaning self.now)) before octets.now }
+    {
+        let known = self.recent();
+        let skipped = before
+            .saturating_sub(known.len() as u64)
+            .min(octets.len() as u64);
+        let first = (known.len() as u64).saturating_sub(before);
+        differ(&octets[skipped as usize..], &known[first as usize..])
+    }
+
+    /// The least image place of an octet.
+    pub(crate) fn fore(&self, place: u64) -> u64
+        ensures { let a = sender_of D.meaning self.now in result ≡ fore a.meaning a.ended a.octets place }
+    {
+        self.transcript.fore(place, self.due())
+    }
+
+    /// One more than the greatest image place of the octet before one.
+    pub(crate) fn rear(&self, end: u64) -> u64
+        ensures rear { let a = sender_of D.meaning self.now in result ≡ rear a.meaning a.ended a.octets end }
+        ensures within { result ≤ length (image (D.meaning self.now.dialogue) self.now.heard.octets) }
+    {
+        self.transcript.rear(end, self.due())
+    }
+
+    /// How many octets have all their image places below one.
+    pub(crate) fn back(&self, place: u64) -> u64
+        ensures back { let a = sender_of D.meaning self.now in result ≡ back a.meaning a.ended a.octets place }
+        ensures few { result ≤ 2 ^ 30 }
+    {
+        if self.is_past_end(place) {
+            return self.count() + 1;
+        }
+        below(self.transcript.places(), place) as u64
+    }
+
+    // It has ended, and the place is the one behind its end.
+    fn is_past_end(&self, place: u64) -> bool
+        ensures { result ≡ (self.now.heard.ended && place == length (image (D.meaning self.now.dialogue) self.now.heard.octets) + 1) }
+    {
+        self.ended && place == self.image_len() + 1
+    }
+
+    /// Back of the greatest acknowledged place.
+    pub(crate) fn back_acked(&self) -> u64
+        ensures back { let a = sender_of D.meaning self.now in result ≡ back a.meaning a.ended a.octets a.acked }
+        ensures few { result ≤ 2 ^ 30 }
+    {
+        self.back(self.acked)
+    }
+
+    /// The number that acknowledges the octets whose images are acknowledged.
+    pub(crate) fn acknowledgement(&self) -> u32
+        ensures { result ≡ acknowledgement_to (sender_of D.meaning self.now) }
+    {
+        number_at(self.initial.unwrap_or(0), self.back_acked())
+    }
+
+    /// The number of a place of its image so far above the initial number.
+    pub(crate) fn number(&self, offset: u64) -> u32
+        ensures { result ≡ number_after (known self.now.heard.initial) offset }
+    {
+        number_after(self.initial.unwrap_or(0), offset)
+    }
+
+    /// Whether it has ended.
+    pub(crate) fn has_ended(&self) -> bool
+        ensures { result ≡ self.now.heard.ended }
+    {
+        self.ended
+    }
+
+    /// The greatest acknowledged place of its image.
+    pub(crate) fn acked(&self) -> u64
+        ensures { result ≡ self.now.heard.acked }
+    {
+        self.acked
+    }
+
+    /// Where a segment without octets stands, by where the segment starts for which it goes out.
+    pub(crate) fn bare_offset(&self, start: Near) -> u64
+        requires { start.after < 2 ^ 31 }
+        ensures { result ≡ bare_offset (sender_of D.meaning self.now) start }
+    {
+        if start.before == 0 {
+            return self.due() + start.after + 1;
+        }
+        self.acked
+    }
+
+    /// How many changed units are not acknowledged whole.
+    pub(crate) fn pending(&self) -> usize
+        ensures { result ≡ open_of (sender_of D.meaning self.now) }
+    {
+        above(self.transcript.ends(), self.acked)
+    }
+
+    /// A SYN brings the initial number and the maximum segment size.
+    pub(crate) fn open(&mut self, initial: u32, mss: u16)
+        ensures { self.new ≡ record self.old { heard = record self.old.heard { initial = Some initial; mss = mss } } }
+    {
+        self.initial = Some(initial);
+        self.mss = mss;
+    }
+
+    /// Takes octets that follow, and the end.
+    pub(crate) fn take(&mut self, alloc: Global, fresh: &[u8], fin: bool) -> Result<(), OutOfMemory>
+        requires limit { length self.old.heard.octets + length fresh.now < 2 ^ 30 }
+        ensures dialogue { self.new.dialogue ≡ self.old.dialogue }
+        ensures taken { OnOk result (self.new ≡ record self.old { heard = record self.old.heard { octets = self.old.heard.octets ++ fresh.now; ended = self.old.heard.ended || fin } }) }
+    {
+        take_octets(
+            alloc,
+            &self.dialogue,
+            &mut self.transcript,
+            &mut self.released,
+            fresh,
+        )?;
+        self.ended = self.ended || fin;
+        Ok(())
+    }
+
+    /// Its image is acknowledged up to a place.
+    pub(crate) fn acknowledge(&mut self, place: u64)
+        ensures { self.new ≡ record self.old { heard = record self.old.heard { acked = max self.old.heard.acked place } } }
+    {
+        self.acked = self.acked.max(place);
+    }
+
+    /// Appends the octets of its image from one place to another.
+    pub(crate) fn copy_image(
+        &self,
+        alloc: Global,
+        first: u64,
+        past: u64,
+    ) -> Result<Vec<u8>, OutOfMemory>
+        requires order { first ≤ past }
+        requires within { past ≤ length (image (D.meaning self.now.dialogue) self.now.heard.octets) }
+        ensures { IfOk result (λ octets. octets.items ≡ slice_range (image (D.meaning self.now.dialogue) self.now.heard.octets) first past) }
+    {
+        let octets = Vec::from_slice(
+            alloc,
+            &self.transcript.image()[first as usize..past as usize],
+        )?;
+        Ok(octets)
+    }
+
+    /// Its own number of a place of its image, if that was sent.
+    pub(crate) fn inner(&self, sequence: u32) -> Option<u32>
+        ensures { result ≡ inner_by (sender_of D.meaning self.now) self.now.heard.initial sequence }
+    {
+        let initial = self.initial?;
+        let due = self.due();
+        let place = place_near(initial, due, sequence);
+        if u64::from(self.ended) < place.after {
+            return None;
+        }
+        Some(self.number_before(initial, due, place))
+    }
+
+    // Its own number of a place of its image that was sent.
+    fn number_before(&self, initial: u32, due: u64, place: Near) -> u32
+        requires due { due ≡ length (due_in (sender_of D.meaning self.now)) }
+        requires small { due < 2 ^ 31 }
+        requires after { place.after < 2 ^ 31 }
+        ensures { let a = sender_of D.meaning self.now in result ≡ cond (nat_le (a.acked + place.before) (due + place.after)) (number_at initial (back a.meaning a.ended a.octets (due + place.after - place.before))) (number_after initial (back a.meaning a.ended a.octets a.acked)) }
+    {
+        let at = due + place.after;
+        if place.before <= at && self.acked <= at - place.before {
+            return number_at(initial, self.back(at - place.before));
+        }
+        number_after(initial, self.back_acked())
+    }
+}
+
+impl<D: Learns> WholeStream<D> {
+    /// Whether its list has an entry of this address.
+    pub(crate) fn knows(&self, address: Addr) -> bool
+        ensures { result ≡ is_listed (D.entries self.now.dialogue) address.0 }
+    {
+        self.dialogue.knows(address)
+    }
+
+    /// The number of entries.
+    pub(crate) fn listed(&self) -> usize
+        ensures { result ≡ length (D.entries self.now.dialogue) }
+    {
+        self.dialogue.len()
+    }
+
+    /// The entry at a place.
+    pub(crate) fn entry(&self, place: usize) -> (Addr, Option<Addr>)
+        requires { place < length (D.entries self.now.dialogue) }
+        ensures { slice_get (D.entries self.now.dialogue) place ≡ Some result }
+    {
+        self.dialogue.entry(place)
+    }
+
+    /// Appends an entry. All addresses in its whole units have to be listed already: its lists then stay as they are.
+    pub(crate) fn learn(&mut self, address: Addr, image: Option<Addr>)
+        requires unknown { is_listed (D.entries self.old.dialogue) address.0 ≡ false }
+        requires few { length (D.entries self.old.dialogue) < 256 }
+        requires known { AllUnitsListed D.addresses (D.meaning self.old.dialogue) (D.entries self.old.dialogue) self.old.heard.octets }
+        ensures entries { D.entries self.new.dialogue ≡ D.entries self.old.dialogue ++ (address, image) ∷ [] }
+        ensures heard { self.new.heard ≡ self.old.heard }
+        ensures alike { (s : List ℕ) → AllUnitsListed D.addresses (D.meaning self.old.dialogue) (D.entries self.old.dialogue) s → ReadAlike (D.meaning self.old.dialogue) (D.meaning self.new.dialogue) s }
+    {
+        self.dialogue.learn(address, image);
+    }
+}
+
+// How many places, which rise, lie below one.
+fn below(places: &[Place], place: u64) -> usize
+    requires { PlacesRise places.now }
+    ensures back { result ≡ back_in (map span_of places.now) place }
+    ensures few { result ≤ length places.now }
+{
+    places.partition_point(|found| u64::from(found.past) <= place)
+}
+
+// How many of these, which rise, lie above a place.
+fn above(ends: &[u64], place: u64) -> usize
+    requires { EndsRise ends.now }
+    ensures { result ≡ count_by (λ end. nat_lt place end) ends.now }
+{
+    ends.len() - ends.partition_point(|end| *end <= place)
+}
+
+/// Whether two lists of octets differ where both have octets.
+fn differ(these: &[u8], others: &[u8]) -> bool
+    ensures { result ≡ differ these.now others.now }
+{
+    let count = these.len().min(others.len());
+    these[..count] != others[..count]
+}

@@ -1,0 +1,445 @@
+// A session over whole lists.
+ghost use Rattle.std.specs.Prelude.{◌≡◌, ◌≤◌, ◌<◌, ◌+◌, ◌-◌, ◌^◌, ◌++◌, ◌∷◌, ℕ, List, slice_get, false, not, ◌||◌, ◌&&◌, ◌==◌, true, cond, nat_lt, is_some, is_none, [], length, drop, min, max, None, Some, IfOk, OnOk};
+ghost use Rattle.dialogue.specs.Stream.{image, fore, rear, back};
+ghost use Rattle.dialogue.specs.Learning.{is_listed, ReadAlike};
+ghost use Rattle.tcp_segments.specs.Flags.{flags_of, flags_octet};
+ghost use Rattle.stream_model.specs.Numbers.{number_after, known};
+ghost use Rattle.stream_model.specs.Session.{own, due_in, arrival, extent, start_of, repeats_unlike};
+ghost use Rattle.stream_model.specs.Verdict.{refusal_of, session_verdict};
+ghost use Rattle.stream_model.specs.Steps.{session_next, session_inner, session_open, session_ends, ends_session, taken, acknowledged, own_after, other_after, limit_of, bare_offset, acknowledgement_to};
+ghost use Rattle.audit_streams.specs.Hosts.{sender_of, session_of, unheard, held_in};
+ghost use Rattle.audit_streams.specs.Known.{AllUnitsListed, entries_of};
+ghost use Rattle.audit_streams.specs.Sending.{segment_of, CanTake, handed, sent_by};
+ghost use Rattle.stream_cuts.specs.Cuts.{session_sent, sent, reset_sent, other_sent};
+
+use crate::host::WholeStream;
+use crate::sent::Sent;
+use dialogue::{Dialogue, Learns};
+use gate_base::{Addr, OutOfMemory, Refusal};
+use std::alloc::Global;
+use std::marker::Model;
+use stream_model::{Arrival, Extent, Near, place_acknowledged, refusal, start_at};
+use tcp_segments::{Flags, TcpView, flags_octet, flags_of};
+
+/// The largest payload that fits a datagram.
+const PAYLOAD: usize = 65_495;
+
+/// What was known of a sender before its segment, and where the segment starts, seen from the end of its octets.
+#[derive(Clone, Copy)]
+struct Before {
+    extent: Extent,
+    start: Near,
+}
+
+/// A session that keeps all octets of both hosts, what their octets become on the way, and the places of each octet. It takes some ten
+/// octets of memory for each one.
+#[derive(Drop)]
+pub struct WholeStreams<C: Dialogue, S: Dialogue> {
+    alloc: Global,
+    client: WholeStream<C>,
+    server: WholeStream<S>,
+}
+
+impl<C: Dialogue, S: Dialogue> Model for WholeStreams<C, S> {
+    ghost use Rattle.audit_streams.specs.Hosts.{HeardStreams};
+
+    ghost Value = { HeardStreams C S };
+
+    ghost view = { λ a. record { client_dialogue = a.client.dialogue; server_dialogue = a.server.dialogue; client = a.client.heard; server = a.server.heard } };
+}
+
+impl<C: Dialogue, S: Dialogue> WholeStreams<C, S> {
+    /// The session that a client's first SYN makes, by its initial number and maximum segment size. It takes no memory.
+    pub fn make(alloc: Global, client: C, server: S, initial: u32, mss: u16) -> WholeStreams<C, S>
+        ensures { result ≡ record { client_dialogue = client; server_dialogue = server; client = unheard (Some initial) mss; server = unheard None 536 } }
+    {
+        WholeStreams {
+            alloc,
+            client: WholeStream::make(alloc, client, Some(initial), mss),
+            server: WholeStream::make(alloc, server, None, 536),
+        }
+    }
+
+    /// Why a segment of the client, or else of the server, is refused; None where it passes.
+    pub fn verdict(&self, from_client: bool, segment: &TcpView) -> Option<Refusal>
+        ensures { result ≡ session_verdict from_client (session_of C.meaning S.meaning self.now) (segment_of segment.now) }
+    {
+        if from_client {
+            return judge(true, &self.client, &self.server, segment);
+        }
+        judge(false, &self.server, &self.client, segment)
+    }
+
+    /// Passes a segment of the client, or else of the server: what is sent for it, or OutOfMemory. The verdict must be None. After
+    /// OutOfMemory the session must not be used again.
+    pub fn step(&mut self, from_client: bool, segment: &TcpView) -> Result<Sent, OutOfMemory>
+        requires passes { session_verdict from_client (session_of C.meaning S.meaning self.old) (segment_of segment.now) ≡ None }
+        ensures next { OnOk result (session_of C.meaning S.meaning self.new ≡ session_next from_client (session_of C.meaning S.meaning self.old) (segment_of segment.now)) }
+        ensures client { self.new.client_dialogue ≡ self.old.client_dialogue }
+        ensures server { self.new.server_dialogue ≡ self.old.server_dialogue }
+        ensures sent { IfOk result (λ s. s ≡ handed (session_sent from_client (session_of C.meaning S.meaning self.old) (segment_of segment.now)) (session_ends from_client (session_of C.meaning S.meaning self.old) (segment_of segment.now))) }
+    {
+        if from_client {
+            return pass(self.alloc, &mut self.client, &mut self.server, segment);
+        }
+        pass(self.alloc, &mut self.server, &mut self.client, segment)
+    }
+
+    /// What the sequence number of a datagram that an ICMP error brings back was at the client, or else the server, that
+    /// sent it.
+    pub fn inner(&self, from_client: bool, sequence: u32) -> Option<u32>
+        ensures { result ≡ session_inner from_client (session_of C.meaning S.meaning self.now) sequence }
+    {
+        if from_client {
+            return self.client.inner(sequence);
+        }
+        self.server.inner(sequence)
+    }
+
+    /// How many changed units are not acknowledged whole: the greater number of both hosts.
+    pub fn pending(&self) -> usize
+        ensures { result ≡ session_open (session_of C.meaning S.meaning self.now) }
+    {
+        self.client.pending().max(self.server.pending())
+    }
+
+    /// The held rest of the client, or else of the server.
+    pub fn rest(&self, from_client: bool) -> &[u8]
+        ensures { result.now ≡ held_in (own from_client (session_of C.meaning S.meaning self.now)) }
+    {
+        if from_client {
+            return self.client.rest();
+        }
+        self.server.rest()
+    }
+
+    /// How many octets of a segment that passes its sender has sent before.
+    pub fn repeated(&self, from_client: bool, segment: &TcpView) -> usize
+        ensures { result ≡ min (length segment.now.payload) (start_of (own from_client (session_of C.meaning S.meaning self.now)) (segment_of segment.now)).before }
+    {
+        let sender = if from_client {
+            self.client.extent()
+        } else {
+            self.server.extent()
+        };
+        let start = start_at(sender, arrival_of(segment));
+        segment.payload().len().min(start.before as usize)
+    }
+}
+
+impl<C: Learns, S: Learns> WholeStreams<C, S> {
+    /// Whether the client's list, or else the server's, has an entry of an address.
+    pub fn knows(&self, from_client: bool, address: Addr) -> bool
+        ensures { result ≡ is_listed (entries_of C.entries S.entries from_client self.now) address.0 }
+    {
+        if from_client {
+            return self.client.knows(address);
+        }
+        self.server.knows(address)
+    }
+
+    /// The number of entries of the client's list, or else of the server's.
+    pub fn listed(&self, from_client: bool) -> usize
+        ensures { result ≡ length (entries_of C.entries S.entries from_client self.now) }
+    {
+        if from_client {
+            return self.client.listed();
+        }
+        self.server.listed()
+    }
+
+    /// The entry at a place of the client's list, or else of the server's. The place must lie below `listed`.
+    pub fn entry(&self, from_client: bool, place: usize) -> (Addr, Option<Addr>)
+        requires { place < length (entries_of C.entries S.entries from_client self.now) }
+        ensures { slice_get (entries_of C.entries S.entries from_client self.now) place ≡ Some result }
+    {
+        if from_client {
+            return self.client.entry(place);
+        }
+        self.server.entry(place)
+    }
+
+    /// Appends an entry to the client's list, or else to the server's. The address must not be known, and there must be fewer than
+    /// 256 entries. All addresses in the whole units that were heard of that host so far must be listed already: its octets then
+    /// read as they did.
+    pub fn learn(&mut self, from_client: bool, address: Addr, image: Option<Addr>)
+        requires unknown { is_listed (entries_of C.entries S.entries from_client self.old) address.0 ≡ false }
+        requires few { length (entries_of C.entries S.entries from_client self.old) < 256 }
+        requires client_known { from_client ≡ true → AllUnitsListed C.addresses (C.meaning self.old.client_dialogue) (C.entries self.old.client_dialogue) self.old.client.octets }
+        requires server_known { from_client ≡ false → AllUnitsListed S.addresses (S.meaning self.old.server_dialogue) (S.entries self.old.server_dialogue) self.old.server.octets }
+        ensures entries { entries_of C.entries S.entries from_client self.new ≡ entries_of C.entries S.entries from_client self.old ++ (address, image) ∷ [] }
+        ensures client_heard { self.new.client ≡ self.old.client }
+        ensures server_heard { self.new.server ≡ self.old.server }
+        ensures server { from_client ≡ true → self.new.server_dialogue ≡ self.old.server_dialogue }
+        ensures client { from_client ≡ false → self.new.client_dialogue ≡ self.old.client_dialogue }
+        ensures client_alike { (s : List ℕ) → from_client ≡ true → AllUnitsListed C.addresses (C.meaning self.old.client_dialogue) (C.entries self.old.client_dialogue) s → ReadAlike (C.meaning self.old.client_dialogue) (C.meaning self.new.client_dialogue) s }
+        ensures server_alike { (s : List ℕ) → from_client ≡ false → AllUnitsListed S.addresses (S.meaning self.old.server_dialogue) (S.entries self.old.server_dialogue) s → ReadAlike (S.meaning self.old.server_dialogue) (S.meaning self.new.server_dialogue) s }
+    {
+        if from_client {
+            self.client.learn(address, image);
+        } else {
+            self.server.learn(address, image);
+        }
+    }
+}
+
+fn judge<A: Dialogue, B: Dialogue>(
+    from_client: bool,
+    own: &WholeStream<A>,
+    other: &WholeStream<B>,
+    segment: &TcpView,
+) -> Option<Refusal>
+    ensures { result ≡ refusal_of from_client (extent (sender_of A.meaning own.now)) (extent (sender_of B.meaning other.now)) (arrival (segment_of segment.now)) (repeats_unlike (sender_of A.meaning own.now) (segment_of segment.now)) }
+{
+    let sender = own.extent();
+    let arrival = arrival_of(segment);
+    let unlike = own.is_unlike(start_at(sender, arrival).before, segment.payload());
+    refusal(from_client, sender, other.extent(), arrival, unlike)
+}
+
+fn pass<A: Dialogue, B: Dialogue>(
+    alloc: Global,
+    own: &mut WholeStream<A>,
+    other: &mut WholeStream<B>,
+    segment: &TcpView,
+) -> Result<Sent, OutOfMemory>
+    requires opens { (flags_of segment.now.flags).syn ≡ true → (flags_of segment.now.flags).reset ≡ false }
+    requires can { (flags_of segment.now.flags).syn ≡ false → (flags_of segment.now.flags).reset ≡ false → CanTake (sender_of A.meaning own.old) (segment_of segment.now) }
+    ensures own { OnOk result (sender_of A.meaning own.new ≡ own_after (sender_of A.meaning own.old) (segment_of segment.now)) }
+    ensures other { OnOk result (sender_of B.meaning other.new ≡ other_after (sender_of B.meaning other.old) (segment_of segment.now)) }
+    ensures own_dialogue { own.new.dialogue ≡ own.old.dialogue }
+    ensures other_dialogue { other.new.dialogue ≡ other.old.dialogue }
+    ensures sent { IfOk result (λ s. s ≡ handed (sent (sender_of A.meaning own.old) (sender_of B.meaning other.old) (segment_of segment.now)) (ends_session (sender_of A.meaning own.old) (segment_of segment.now))) }
+{
+    let flags = flags_of(segment.flags());
+    let limit = limit_of(other.mss(), segment.options());
+    if flags.syn {
+        own.open(segment.sequence(), segment.mss());
+        return Ok(bare(
+            alloc,
+            segment.sequence(),
+            segment.acknowledgement(),
+            Flags {
+                push: false,
+                ..flags
+            },
+            limit,
+            false,
+        ));
+    }
+    if flags.reset {
+        return Ok(sent_reset(alloc, own, other, segment, limit));
+    }
+    sent_data(alloc, own, other, segment, limit)
+}
+
+// A segment without octets.
+fn bare(
+    alloc: Global,
+    sequence: u32,
+    acknowledgement: u32,
+    flags: Flags,
+    limit: usize,
+    ends: bool,
+) -> Sent
+    requires ecn { flags.ecn ≤ 3 }
+    ensures { result ≡ record { sequence = sequence; acknowledgement = acknowledgement; flags = flags_octet flags; limit = limit; octets = []; ends = ends } }
+{
+    Sent {
+        sequence,
+        acknowledgement,
+        flags: flags_octet(flags),
+        limit,
+        octets: Vec::new(alloc),
+        ends,
+    }
+}
+
+// An RST goes out without octets. It ends the session, unless it stands before the end of its sender's octets.
+fn sent_reset<A: Dialogue, B: Dialogue>(
+    alloc: Global,
+    own: &WholeStream<A>,
+    other: &WholeStream<B>,
+    segment: &TcpView,
+    limit: usize,
+) -> Sent
+    requires reset { (flags_of segment.now.flags).reset ≡ true }
+    requires limit { limit ≡ limit_of (sender_of B.meaning other.now) (segment_of segment.now) }
+    ensures { result ≡ handed (reset_sent (sender_of A.meaning own.now) (sender_of B.meaning other.now) (segment_of segment.now) (limit_of (sender_of B.meaning other.now) (segment_of segment.now))) (ends_session (sender_of A.meaning own.now) (segment_of segment.now)) }
+{
+    let flags = flags_of(segment.flags());
+    let start = start_at(own.extent(), arrival_of(segment));
+    let out = Flags {
+        fin: false,
+        push: false,
+        ..flags
+    };
+    bare(
+        alloc,
+        reset_number(own, segment.sequence(), start),
+        reset_acknowledgement(other, segment.acknowledgement(), flags.ack),
+        out,
+        limit,
+        ends_at(own, start),
+    )
+}
+
+// An RST with this start ends the session.
+fn ends_at<A: Dialogue>(own: &WholeStream<A>, start: Near) -> bool
+    ensures { result ≡ (is_none own.now.heard.initial || (start.before == 0)) }
+{
+    own.initial().is_none() || start.before == 0
+}
+
+fn reset_number<A: Dialogue>(own: &WholeStream<A>, sequence: u32, start: Near) -> u32
+    requires { start.after < 2 ^ 31 }
+    ensures { result ≡ cond (is_some own.now.heard.initial) (number_after (known own.now.heard.initial) (bare_offset (sender_of A.meaning own.now) start)) sequence }
+{
+    if own.initial().is_some() {
+        return own.number(own.bare_offset(start));
+    }
+    sequence
+}
+
+fn reset_acknowledgement<B: Dialogue>(
+    other: &WholeStream<B>,
+    acknowledgement: u32,
+    ack: bool,
+) -> u32
+    ensures { result ≡ cond (ack && is_some other.now.heard.initial) (acknowledgement_to (sender_of B.meaning other.now)) acknowledgement }
+{
+    if ack && other.initial().is_some() {
+        return other.acknowledgement();
+    }
+    acknowledgement
+}
+
+// Takes a segment with neither SYN nor RST.
+fn sent_data<A: Dialogue, B: Dialogue>(
+    alloc: Global,
+    own: &mut WholeStream<A>,
+    other: &mut WholeStream<B>,
+    segment: &TcpView,
+    limit: usize,
+) -> Result<Sent, OutOfMemory>
+    requires can { CanTake (sender_of A.meaning own.old) (segment_of segment.now) }
+    requires limit { limit ≡ limit_of (sender_of B.meaning other.old) (segment_of segment.now) }
+    ensures own { OnOk result (sender_of A.meaning own.new ≡ taken (sender_of A.meaning own.old) (segment_of segment.now)) }
+    ensures other { OnOk result (sender_of B.meaning other.new ≡ acknowledged (sender_of B.meaning other.old) (segment_of segment.now)) }
+    ensures own_dialogue { own.new.dialogue ≡ own.old.dialogue }
+    ensures other_dialogue { other.new.dialogue ≡ other.old.dialogue }
+    ensures sent { IfOk result (λ s. s ≡ handed (other_sent (sender_of A.meaning own.old) (taken (sender_of A.meaning own.old) (segment_of segment.now)) (segment_of segment.now) (start_of (sender_of A.meaning own.old) (segment_of segment.now)) (acknowledgement_to (acknowledged (sender_of B.meaning other.old) (segment_of segment.now))) (limit_of (sender_of B.meaning other.old) (segment_of segment.now))) false) }
+{
+    let arrival = arrival_of(segment);
+    let extent = own.extent();
+    let start = start_at(extent, arrival);
+    let fin = flags_of(segment.flags()).fin;
+    own.take(alloc, from_place(segment.payload(), start.before), fin)?;
+    other.acknowledge(place_acknowledged(other.extent(), arrival));
+    let before = Before { extent, start };
+    send(alloc, own, before, segment, other.acknowledgement(), limit)
+}
+
+/// The octets from a place on.
+fn from_place<'a>(octets: &'a [u8], place: u64) -> &'a [u8]
+    ensures { result.now ≡ drop place octets.now }
+{
+    let start = place.min(octets.len() as u64);
+    &octets[start as usize..]
+}
+
+// What a segment makes due, or asks for again; own is the sender after it.
+fn send<A: Dialogue>(
+    alloc: Global,
+    own: &WholeStream<A>,
+    before: Before,
+    segment: &TcpView,
+    acknowledgement: u32,
+    limit: usize,
+) -> Result<Sent, OutOfMemory>
+    requires { before.start.after < 2 ^ 31 }
+    ensures { IfOk result (λ s. s ≡ handed (sent_by before.extent before.start (sender_of A.meaning own.now) (segment_of segment.now) acknowledgement limit) false) }
+{
+    let flags = flags_of(segment.flags());
+    let fin = flags.fin && own.acked() <= own.image_len();
+    let first = first_place(own, before);
+    let past = past_place(own, before, segment.payload().len() as u64, fin);
+    if first < past {
+        let octets = own.copy_image(alloc, first, past)?;
+        return Ok(Sent {
+            sequence: own.number(first + 1),
+            acknowledgement,
+            flags: flags_octet(Flags { fin, ..flags }),
+            limit,
+            octets,
+            ends: false,
+        });
+    }
+    let offset = if fin {
+        own.due() + 1
+    } else {
+        own.bare_offset(before.start)
+    };
+    let out = Flags {
+        fin,
+        push: false,
+        ..flags
+    };
+    Ok(bare(
+        alloc,
+        own.number(offset),
+        acknowledgement,
+        out,
+        limit,
+        false,
+    ))
+}
+
+// The first image place that goes out.
+fn first_place<A: Dialogue>(own: &WholeStream<A>, before: Before) -> u64
+    requires { before.start.after < 2 ^ 31 }
+    ensures { let a = sender_of A.meaning own.now in result ≡ min before.extent.due (fore a.meaning a.ended a.octets (max (before.extent.octets + before.start.after - before.start.before) (back a.meaning a.ended a.octets a.acked))) }
+{
+    let Before { extent, start } = before;
+    let place = (u64::from(extent.octets) + start.after).saturating_sub(start.before);
+    own.fore(place.max(own.back_acked()))
+        .min(u64::from(extent.due))
+}
+
+// The image place after the last that goes out.
+fn past_place<A: Dialogue>(own: &WholeStream<A>, before: Before, count: u64, fin: bool) -> u64
+    requires after { before.start.after < 2 ^ 31 }
+    requires few { count ≤ 65535 }
+    ensures within { result ≤ length (image (A.meaning own.now.dialogue) own.now.heard.octets) }
+    ensures is { let a = sender_of A.meaning own.now in result ≡ cond ((nat_lt before.extent.octets (length a.octets) || (a.ended && not before.extent.ended)) || fin) (length (due_in a)) (rear a.meaning a.ended a.octets (before.extent.octets + before.start.after + count - before.start.before)) }
+{
+    let Before { extent, start } = before;
+    let grows = u64::from(extent.octets) < own.count() || (own.has_ended() && !extent.ended);
+    if grows || fin {
+        return own.due();
+    }
+    let end = (u64::from(extent.octets) + start.after + count).saturating_sub(start.before);
+    own.rear(end)
+}
+
+/// The largest piece: what the receiver takes, at least 88, and what fits a datagram, less the octets of the options.
+fn limit_of(mss: u16, options: &[u8]) -> usize
+    ensures { result ≡ min (max mss 88) 65495 - length options.now }
+{
+    usize::from(mss)
+        .max(88)
+        .min(PAYLOAD)
+        .saturating_sub(options.len())
+}
+
+/// What a verdict needs to know of a segment.
+fn arrival_of(segment: &TcpView) -> Arrival
+    ensures { result ≡ arrival (segment_of segment.now) }
+{
+    Arrival {
+        sequence: segment.sequence(),
+        acknowledgement: segment.acknowledgement(),
+        flags: flags_of(segment.flags()),
+        count: segment.payload().len() as u32,
+    }
+}

@@ -1,0 +1,11 @@
+pub mod EventsRead
+pub mod ArrivalsRead
+pub mod Counts
+pub mod Shorts
+pub mod ShortNames
+pub mod OutShort
+pub mod AcceptedSettings
+pub mod Spelled
+pub mod Walk
+pub mod Files
+pub mod Outputs
