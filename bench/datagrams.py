@@ -4,6 +4,12 @@ import struct
 # The head of a little-endian capture of raw datagrams, with microseconds.
 HEAD = struct.pack("<IHHiIII", 0xA1B2C3D4, 2, 4, 0, 0, 262144, 101)
 
+# Settings of both realms, with bare datagrams.
+REALMS = """
+left = { pool_first = "192.168.200.1", pool_last = "192.168.200.254", link = "raw" }
+right = { pool_first = "172.16.9.1", pool_last = "172.16.9.254", link = "raw" }
+"""
+
 
 def quad(text):
     return bytes(int(part) for part in text.split("."))
@@ -54,15 +60,14 @@ def record(seconds, microseconds, octets):
     return struct.pack("<IIII", seconds, microseconds, len(octets), len(octets)) + octets
 
 
-def write_run(folder, settings, records):
-    """Writes the settings, a left capture of these records, and a right one without any."""
+def write_run(folder, settings, records, right=()):
+    """Writes the settings, a left capture of these records, and a right one, without any where none are given."""
     with open(f"{folder}/settings.toml", "w") as out:
         out.write(settings)
-    with open(f"{folder}/right.pcap", "wb") as out:
-        out.write(HEAD)
-    with open(f"{folder}/left.pcap", "wb") as out:
-        out.write(HEAD)
-        out.writelines(records)
+    for side, whole in (("left", records), ("right", right)):
+        with open(f"{folder}/{side}.pcap", "wb") as out:
+            out.write(HEAD)
+            out.writelines(whole)
 
 
 def paced(frames, second):
@@ -70,3 +75,31 @@ def paced(frames, second):
     for number, frame in enumerate(frames):
         seconds, fraction = divmod(number, second)
         yield record(seconds + 1, fraction, frame)
+
+
+class Session:
+    """The segments of a TCP connection of a left host to a right one, each as its own realm sees it.
+
+    Each side's octets must keep their number on their way. A frame is a side, left or right, and its octets."""
+
+    def __init__(self, port, far_port, host, other):
+        # The client's address and the other host's alias in the left realm, the server's and the client's alias in the right one.
+        self.ends = {"left": (host[0], port, other[0], far_port), "right": (other[1], far_port, host[1], port)}
+        self.next = {"left": 1000, "right": 5000}
+
+    def frame(self, side, flags, octets=b""):
+        far = "right" if side == "left" else "left"
+        sequence, acknowledgement = self.next[side], self.next[far] if flags & 16 else 0
+        self.next[side] += len(octets) + (1 if flags & 2 else 0)
+        return side, tcp(*self.ends[side], flags, sequence, acknowledgement, octets)
+
+    def opens(self):
+        yield self.frame("left", 2)
+        yield self.frame("right", 18)
+        yield self.frame("left", 16)
+
+    def says(self, side, octets):
+        """The octets in pieces of 1,400 at most, and their acknowledgement."""
+        for start in range(0, len(octets), 1400):
+            yield self.frame(side, 24, octets[start:start + 1400])
+        yield self.frame("right" if side == "left" else "left", 16)

@@ -1,13 +1,10 @@
 """udp_frames.py FRAMES FOLDER: writes settings and two raw captures, the left one with so many UDP frames."""
 import sys
 
-from datagrams import paced, udp, write_run
+from datagrams import REALMS, paced, udp, write_run
 
 frames, folder = int(sys.argv[1]), sys.argv[2]
-SETTINGS = """
-left = { pool_first = "192.168.200.1", pool_last = "192.168.200.254", link = "raw" }
-right = { pool_first = "172.16.9.1", pool_last = "172.16.9.254", link = "raw" }
-static = [
+SETTINGS = REALMS + """static = [
     { side = "left", host = "10.0.0.5", alias = "172.16.9.1" },
     { side = "right", host = "10.0.0.5", alias = "192.168.200.1" },
 ]
