@@ -9,6 +9,3 @@ mod single;
 
 pub use expected::Expected;
 pub use pieces::Pieces;
-
-#[cfg(test)]
-mod tests;

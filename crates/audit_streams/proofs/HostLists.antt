@@ -4,7 +4,7 @@ use Rattle.std.specs.Prelude.{◌^◌, ◌||◌, cond, map, None}
 use Rattle.std.specs.List.{flat_map}
 use Rattle.std.proofs.lemmas.List.{length-append, length-drop}
 use Rattle.std.proofs.lemmas.Bool.{cases_Bool, cases_lt, lt-ltb, le-ltb, leb-false, or_parts}
-use Rattle.dialogue.specs.Meaning.{Meaning, IsLawful, is_held}
+use Rattle.dialogue.specs.Meaning.{Meaning, IsLawful, is_held, is_released}
 use Rattle.dialogue.specs.Places.{changed_ends}
 use Rattle.dialogue.specs.Stream.{cut, image, due, due_rest, spans, pushes_of}
 use Rattle.stream_model.proofs.FactLemmas.{image_small}
@@ -13,7 +13,7 @@ use Rattle.stream_model.specs.Session.{Sender, Segment, extent, arrival, repeats
 use Rattle.stream_model.specs.Verdict.{is_data, refusal_of, session_verdict}
 use Rattle.stream_model.proofs.PassLemmas.{Passes, passes, second_false, data_is}
 use Rattle.audit_streams.specs.declared.transcript.Place.{Place}
-use Rattle.audit_streams.specs.Transcripts.{Transcribed, is_released, rest_of, span_of, IsOf, PlacesRise, EndsRise}
+use Rattle.audit_streams.specs.Transcripts.{Transcribed, rest_of, span_of, IsOf, PlacesRise, EndsRise}
 use Rattle.audit_streams.specs.Hosts.{HeardStreams, session_of}
 use Rattle.audit_streams.specs.Sending.{CanTake}
 use Rattle.audit_streams.proofs.TranscriptLemmas.{rest_of_transcript}

@@ -2,13 +2,12 @@
 use Rattle.std.proofs.Common.{◌≡◌, ℕ, Bool, List, [], ◌∷◌, ◌++◌, length, refl, sym, ◌∙◌, ap, subst}
 use Rattle.std.specs.Prelude.{map, not, ◌&&◌}
 use Rattle.std.specs.List.{flat_map}
-use Rattle.dialogue.specs.Meaning.{Meaning}
+use Rattle.dialogue.specs.Meaning.{Meaning, is_empty, is_released}
 use Rattle.dialogue.specs.Places.{Plain, Push, changed_ends}
 use Rattle.dialogue.specs.Stream.{Cut, cut, pushes_of}
-use Rattle.dialogue.specs.Learning.{Entry, IsLearning, ReadAlike}
+use Rattle.dialogue.specs.Learning.{Entry, IsLearning, ReadAlike, AllUnitsListed}
 use Rattle.dialogue.proofs.Alike.{cut_alike, image_alike, spans_alike, pushes_alike, learned_alike}
-use Rattle.audit_streams.specs.Transcripts.{Transcribed, transcript_of, place_of, is_empty, is_released, IsOf}
-use Rattle.audit_streams.specs.Known.{AllUnitsListed}
+use Rattle.audit_streams.specs.Transcripts.{Transcribed, transcript_of, place_of, IsOf}
 use Rattle.audit_streams.proofs.TranscriptLemmas.{made_is}
 
 -- with more entries a stream reads alike whose addresses are listed

@@ -5,11 +5,11 @@ use Rattle.std.specs.Option.{option_map}
 use Rattle.std.specs.List.{flat_map}
 use Rattle.std.proofs.lemmas.List.{append-nil, length-append, length-drop, take_at, take_all, take-append-drop}
 use Rattle.std.proofs.lemmas.Bool.{cases_Bool, true≢false}
-use Rattle.dialogue.specs.Meaning.{Meaning, IsUnit, IsRest, IsReleased, IsLawful}
+use Rattle.dialogue.specs.Meaning.{Meaning, IsUnit, IsRest, IsReleased, IsLawful, is_released}
 use Rattle.dialogue.specs.Stream.{Cut, cut, cut_at, image, image_of}
 use Rattle.dialogue.proofs.CutLemmas.{cut-push, cut_joined, IsRest-cut, IsUnit-push}
 use Rattle.stream_model.proofs.FactLemmas.{image_small}
-use Rattle.audit_streams.specs.Transcripts.{Transcribed, transcript_of, with_octet, without_last, rest_of, rest_at, ended, is_released, IsOf}
+use Rattle.audit_streams.specs.Transcripts.{Transcribed, transcript_of, with_octet, without_last, rest_of, rest_at, ended, IsOf}
 use Rattle.audit_streams.proofs.TranscriptLemmas.{made_is, rest_with_octet, transcript_rest, transcript_unit, begins_at, images_on}
 use Rattle.audit_streams.proofs.HostLists.{image_few}
 

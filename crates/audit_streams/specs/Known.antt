@@ -6,10 +6,6 @@ use Rattle.dialogue.specs.Stream.{cut}
 use Rattle.dialogue.specs.Learning.{Entry, AllListed}
 use Rattle.audit_streams.specs.Hosts.{HeardStreams}
 
--- all addresses in the whole units of a stream have an entry
-abbrev pub AllUnitsListed : (List ℕ → List ℕ) → Meaning → List Entry → List ℕ → Type 0
-AllUnitsListed addresses m entries s = AllByRecursion (λ u. AllListed entries (addresses u)) (cut m s).units
-
 -- the entries of the client's dialogue (true), or of the server's
 abbrev pub entries_of : {C S : Type 0} → (C → List Entry) → (S → List Entry) → Bool → HeardStreams C S → List Entry
 entries_of of_client of_server true w = of_client w.client_dialogue

@@ -9,10 +9,6 @@ use Rattle.stream_model.specs.declared.numbers.Near.{Near}
 use Rattle.stream_model.specs.declared.verdict.Extent.{Extent}
 use Rattle.stream_cuts.specs.Cuts.{Sent, data_sent}
 
--- a segment that came
-abbrev pub segment_of : Tcp → Segment
-segment_of t = record { sequence = t.sequence; acknowledgement = t.acknowledgement; flags = flags_of t.flags; mss = t.mss; options = length t.options; octets = t.payload }
-
 -- a segment with neither SYN nor RST that passes keeps the numbers in their ranges
 pub record CanTake (sender : Sender) (segment : Segment) : Type 0 where
   pub limit : length sender.octets + (length segment.octets - (start_of sender segment).before) < 2 ^ 30

@@ -2,7 +2,7 @@
 use Rattle.std.specs.Prelude.{◌≡◌, ◌≤◌, ◌<◌, ◌+◌, ◌-◌, ◌^◌, ℕ, Bool, true, false, not, ◌&&◌, List, [], ◌∷◌, ◌++◌, length, map, take, drop, replicate}
 use Rattle.std.specs.List.{flat_map}
 use Rattle.std.specs.Str.{bytes_eq}
-use Rattle.dialogue.specs.Meaning.{Meaning, is_held}
+use Rattle.dialogue.specs.Meaning.{Meaning, is_held, is_released}
 use Rattle.dialogue.specs.Places.{Span, changed_ends}
 use Rattle.dialogue.specs.Stream.{cut, image, spans, pushes_of}
 use Rattle.audit_streams.specs.declared.transcript.Place.{Place}
@@ -81,15 +81,6 @@ changed l image = record {
   ends = l.ends ++ (rest_at l + length image) ∷ [];
   rest = length l.octets;
 }
-
--- whether there are no octets
-abbrev pub is_empty : List ℕ → Bool
-is_empty [] = true
-is_empty (x ∷ xs) = false
-
--- a rest that is neither empty nor held
-abbrev pub is_released : Meaning → List ℕ → Bool
-is_released m rest = not (is_held m rest) && not (is_empty rest)
 
 -- the lists are those of their octets, and it is known whether the rest is released
 pub record IsOf (m : Meaning) (l : Transcribed) (released : Bool) : Type 0 where

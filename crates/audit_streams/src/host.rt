@@ -2,14 +2,13 @@
 ghost use Rattle.std.specs.Prelude.{◌≡◌, ◌≤◌, ◌<◌, ◌+◌, ◌-◌, ◌^◌, ◌++◌, ◌∷◌, ◌||◌, ◌&&◌, ◌==◌, ℕ, false, cond, nat_lt, nat_le, List, [], length, map, max, count_by, slice_range, slice_get, Some, IfOk, OnOk};
 ghost use Rattle.dialogue.specs.Repeats.{is_unlike, differ};
 ghost use Rattle.dialogue.specs.Places.{back_in};
-ghost use Rattle.dialogue.specs.Learning.{is_listed, ReadAlike};
+ghost use Rattle.dialogue.specs.Learning.{is_listed, ReadAlike, AllUnitsListed};
 ghost use Rattle.dialogue.specs.Stream.{image, fore, rear, back};
 ghost use Rattle.stream_model.specs.Numbers.{number_at, number_after, known};
 ghost use Rattle.stream_model.specs.Session.{due_in, recent, extent};
 ghost use Rattle.stream_model.specs.Steps.{acknowledgement_to, bare_offset, inner_by, open_of};
 ghost use Rattle.audit_streams.specs.Transcripts.{span_of, PlacesRise, EndsRise};
 ghost use Rattle.audit_streams.specs.Hosts.{sender_of, unheard, held_in};
-ghost use Rattle.audit_streams.specs.Known.{AllUnitsListed};
 
 use crate::taking::take_octets;
 use crate::transcript::{Place, Transcript};

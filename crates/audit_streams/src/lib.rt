@@ -9,6 +9,3 @@ mod transcript;
 
 pub use sent::Sent;
 pub use streams::WholeStreams;
-
-#[cfg(test)]
-mod tests;

@@ -1,15 +1,15 @@
 // A session over whole lists.
 ghost use Rattle.std.specs.Prelude.{◌≡◌, ◌≤◌, ◌<◌, ◌+◌, ◌-◌, ◌^◌, ◌++◌, ◌∷◌, ℕ, List, slice_get, false, not, ◌||◌, ◌&&◌, ◌==◌, true, cond, nat_lt, is_some, is_none, [], length, drop, min, max, None, Some, IfOk, OnOk};
 ghost use Rattle.dialogue.specs.Stream.{image, fore, rear, back};
-ghost use Rattle.dialogue.specs.Learning.{is_listed, ReadAlike};
+ghost use Rattle.dialogue.specs.Learning.{is_listed, ReadAlike, AllUnitsListed};
 ghost use Rattle.tcp_segments.specs.Flags.{flags_of, flags_octet};
 ghost use Rattle.stream_model.specs.Numbers.{number_after, known};
-ghost use Rattle.stream_model.specs.Session.{own, due_in, arrival, extent, start_of, repeats_unlike};
+ghost use Rattle.stream_model.specs.Session.{own, due_in, arrival, extent, start_of, repeats_unlike, segment_in};
 ghost use Rattle.stream_model.specs.Verdict.{refusal_of, session_verdict};
 ghost use Rattle.stream_model.specs.Steps.{session_next, session_inner, session_open, session_ends, ends_session, taken, acknowledged, own_after, other_after, limit_of, bare_offset, acknowledgement_to};
 ghost use Rattle.audit_streams.specs.Hosts.{sender_of, session_of, unheard, held_in};
-ghost use Rattle.audit_streams.specs.Known.{AllUnitsListed, entries_of};
-ghost use Rattle.audit_streams.specs.Sending.{segment_of, CanTake, handed, sent_by};
+ghost use Rattle.audit_streams.specs.Known.{entries_of};
+ghost use Rattle.audit_streams.specs.Sending.{CanTake, handed, sent_by};
 ghost use Rattle.stream_cuts.specs.Cuts.{session_sent, sent, reset_sent, other_sent};
 
 use crate::host::WholeStream;
@@ -62,7 +62,7 @@ impl<C: Dialogue, S: Dialogue> WholeStreams<C, S> {
 
     /// Why a segment of the client, or else of the server, is refused; None where it passes.
     pub fn verdict(&self, from_client: bool, segment: &TcpView) -> Option<Refusal>
-        ensures { result ≡ session_verdict from_client (session_of C.meaning S.meaning self.now) (segment_of segment.now) }
+        ensures { result ≡ session_verdict from_client (session_of C.meaning S.meaning self.now) (segment_in segment.now) }
     {
         if from_client {
             return judge(true, &self.client, &self.server, segment);
@@ -73,11 +73,11 @@ impl<C: Dialogue, S: Dialogue> WholeStreams<C, S> {
     /// Passes a segment of the client, or else of the server: what is sent for it, or OutOfMemory. The verdict must be None. After
     /// OutOfMemory the session must not be used again.
     pub fn step(&mut self, from_client: bool, segment: &TcpView) -> Result<Sent, OutOfMemory>
-        requires passes { session_verdict from_client (session_of C.meaning S.meaning self.old) (segment_of segment.now) ≡ None }
-        ensures next { OnOk result (session_of C.meaning S.meaning self.new ≡ session_next from_client (session_of C.meaning S.meaning self.old) (segment_of segment.now)) }
+        requires passes { session_verdict from_client (session_of C.meaning S.meaning self.old) (segment_in segment.now) ≡ None }
+        ensures next { OnOk result (session_of C.meaning S.meaning self.new ≡ session_next from_client (session_of C.meaning S.meaning self.old) (segment_in segment.now)) }
         ensures client { self.new.client_dialogue ≡ self.old.client_dialogue }
         ensures server { self.new.server_dialogue ≡ self.old.server_dialogue }
-        ensures sent { IfOk result (λ s. s ≡ handed (session_sent from_client (session_of C.meaning S.meaning self.old) (segment_of segment.now)) (session_ends from_client (session_of C.meaning S.meaning self.old) (segment_of segment.now))) }
+        ensures sent { IfOk result (λ s. s ≡ handed (session_sent from_client (session_of C.meaning S.meaning self.old) (segment_in segment.now)) (session_ends from_client (session_of C.meaning S.meaning self.old) (segment_in segment.now))) }
     {
         if from_client {
             return pass(self.alloc, &mut self.client, &mut self.server, segment);
@@ -115,7 +115,7 @@ impl<C: Dialogue, S: Dialogue> WholeStreams<C, S> {
 
     /// How many octets of a segment that passes its sender has sent before.
     pub fn repeated(&self, from_client: bool, segment: &TcpView) -> usize
-        ensures { result ≡ min (length segment.now.payload) (start_of (own from_client (session_of C.meaning S.meaning self.now)) (segment_of segment.now)).before }
+        ensures { result ≡ min (length segment.now.payload) (start_of (own from_client (session_of C.meaning S.meaning self.now)) (segment_in segment.now)).before }
     {
         let sender = if from_client {
             self.client.extent()
@@ -189,7 +189,7 @@ fn judge<A: Dialogue, B: Dialogue>(
     other: &WholeStream<B>,
     segment: &TcpView,
 ) -> Option<Refusal>
-    ensures { result ≡ refusal_of from_client (extent (sender_of A.meaning own.now)) (extent (sender_of B.meaning other.now)) (arrival (segment_of segment.now)) (repeats_unlike (sender_of A.meaning own.now) (segment_of segment.now)) }
+    ensures { result ≡ refusal_of from_client (extent (sender_of A.meaning own.now)) (extent (sender_of B.meaning other.now)) (arrival (segment_in segment.now)) (repeats_unlike (sender_of A.meaning own.now) (segment_in segment.now)) }
 {
     let sender = own.extent();
     let arrival = arrival_of(segment);
@@ -204,12 +204,12 @@ fn pass<A: Dialogue, B: Dialogue>(
     segment: &TcpView,
 ) -> Result<Sent, OutOfMemory>
     requires opens { (flags_of segment.now.flags).syn ≡ true → (flags_of segment.now.flags).reset ≡ false }
-    requires can { (flags_of segment.now.flags).syn ≡ false → (flags_of segment.now.flags).reset ≡ false → CanTake (sender_of A.meaning own.old) (segment_of segment.now) }
-    ensures own { OnOk result (sender_of A.meaning own.new ≡ own_after (sender_of A.meaning own.old) (segment_of segment.now)) }
-    ensures other { OnOk result (sender_of B.meaning other.new ≡ other_after (sender_of B.meaning other.old) (segment_of segment.now)) }
+    requires can { (flags_of segment.now.flags).syn ≡ false → (flags_of segment.now.flags).reset ≡ false → CanTake (sender_of A.meaning own.old) (segment_in segment.now) }
+    ensures own { OnOk result (sender_of A.meaning own.new ≡ own_after (sender_of A.meaning own.old) (segment_in segment.now)) }
+    ensures other { OnOk result (sender_of B.meaning other.new ≡ other_after (sender_of B.meaning other.old) (segment_in segment.now)) }
     ensures own_dialogue { own.new.dialogue ≡ own.old.dialogue }
     ensures other_dialogue { other.new.dialogue ≡ other.old.dialogue }
-    ensures sent { IfOk result (λ s. s ≡ handed (sent (sender_of A.meaning own.old) (sender_of B.meaning other.old) (segment_of segment.now)) (ends_session (sender_of A.meaning own.old) (segment_of segment.now))) }
+    ensures sent { IfOk result (λ s. s ≡ handed (sent (sender_of A.meaning own.old) (sender_of B.meaning other.old) (segment_in segment.now)) (ends_session (sender_of A.meaning own.old) (segment_in segment.now))) }
 {
     let flags = flags_of(segment.flags());
     let limit = limit_of(other.mss(), segment.options());
@@ -264,8 +264,8 @@ fn sent_reset<A: Dialogue, B: Dialogue>(
     limit: usize,
 ) -> Sent
     requires reset { (flags_of segment.now.flags).reset ≡ true }
-    requires limit { limit ≡ limit_of (sender_of B.meaning other.now) (segment_of segment.now) }
-    ensures { result ≡ handed (reset_sent (sender_of A.meaning own.now) (sender_of B.meaning other.now) (segment_of segment.now) (limit_of (sender_of B.meaning other.now) (segment_of segment.now))) (ends_session (sender_of A.meaning own.now) (segment_of segment.now)) }
+    requires limit { limit ≡ limit_of (sender_of B.meaning other.now) (segment_in segment.now) }
+    ensures { result ≡ handed (reset_sent (sender_of A.meaning own.now) (sender_of B.meaning other.now) (segment_in segment.now) (limit_of (sender_of B.meaning other.now) (segment_in segment.now))) (ends_session (sender_of A.meaning own.now) (segment_in segment.now)) }
 {
     let flags = flags_of(segment.flags());
     let start = start_at(own.extent(), arrival_of(segment));
@@ -322,13 +322,13 @@ fn sent_data<A: Dialogue, B: Dialogue>(
     segment: &TcpView,
     limit: usize,
 ) -> Result<Sent, OutOfMemory>
-    requires can { CanTake (sender_of A.meaning own.old) (segment_of segment.now) }
-    requires limit { limit ≡ limit_of (sender_of B.meaning other.old) (segment_of segment.now) }
-    ensures own { OnOk result (sender_of A.meaning own.new ≡ taken (sender_of A.meaning own.old) (segment_of segment.now)) }
-    ensures other { OnOk result (sender_of B.meaning other.new ≡ acknowledged (sender_of B.meaning other.old) (segment_of segment.now)) }
+    requires can { CanTake (sender_of A.meaning own.old) (segment_in segment.now) }
+    requires limit { limit ≡ limit_of (sender_of B.meaning other.old) (segment_in segment.now) }
+    ensures own { OnOk result (sender_of A.meaning own.new ≡ taken (sender_of A.meaning own.old) (segment_in segment.now)) }
+    ensures other { OnOk result (sender_of B.meaning other.new ≡ acknowledged (sender_of B.meaning other.old) (segment_in segment.now)) }
     ensures own_dialogue { own.new.dialogue ≡ own.old.dialogue }
     ensures other_dialogue { other.new.dialogue ≡ other.old.dialogue }
-    ensures sent { IfOk result (λ s. s ≡ handed (other_sent (sender_of A.meaning own.old) (taken (sender_of A.meaning own.old) (segment_of segment.now)) (segment_of segment.now) (start_of (sender_of A.meaning own.old) (segment_of segment.now)) (acknowledgement_to (acknowledged (sender_of B.meaning other.old) (segment_of segment.now))) (limit_of (sender_of B.meaning other.old) (segment_of segment.now))) false) }
+    ensures sent { IfOk result (λ s. s ≡ handed (other_sent (sender_of A.meaning own.old) (taken (sender_of A.meaning own.old) (segment_in segment.now)) (segment_in segment.now) (start_of (sender_of A.meaning own.old) (segment_in segment.now)) (acknowledgement_to (acknowledged (sender_of B.meaning other.old) (segment_in segment.now))) (limit_of (sender_of B.meaning other.old) (segment_in segment.now))) false) }
 {
     let arrival = arrival_of(segment);
     let extent = own.extent();
@@ -358,7 +358,7 @@ fn send<A: Dialogue>(
     limit: usize,
 ) -> Result<Sent, OutOfMemory>
     requires { before.start.after < 2 ^ 31 }
-    ensures { IfOk result (λ s. s ≡ handed (sent_by before.extent before.start (sender_of A.meaning own.now) (segment_of segment.now) acknowledgement limit) false) }
+    ensures { IfOk result (λ s. s ≡ handed (sent_by before.extent before.start (sender_of A.meaning own.now) (segment_in segment.now) acknowledgement limit) false) }
 {
     let flags = flags_of(segment.flags());
     let fin = flags.fin && own.acked() <= own.image_len();
@@ -434,7 +434,7 @@ fn limit_of(mss: u16, options: &[u8]) -> usize
 
 /// What a verdict needs to know of a segment.
 fn arrival_of(segment: &TcpView) -> Arrival
-    ensures { result ≡ arrival (segment_of segment.now) }
+    ensures { result ≡ arrival (segment_in segment.now) }
 {
     Arrival {
         sequence: segment.sequence(),

@@ -1,6 +1,5 @@
 ghost use Rattle.std.specs.Prelude.{◌≡◌};
 ghost use Rattle.binding_table.specs.Bindings as tables;
-ghost use Rattle.binding_table.specs.Plan.{needs_binding};
 ghost use Rattle.binding_table.specs.Steps.{filed, lasts, number_of};
 
 use expiring_table::Row;
@@ -90,17 +89,4 @@ pub enum Crossing {
     Unbound,
     /// Nothing: the host has no binding, and the other realm's pool has no free address.
     Empty,
-}
-
-impl Crossing {
-    /// Whether the address is one of a host that has no binding.
-    pub fn needs_binding(&self) -> bool
-        ensures { result ≡ needs_binding self.now }
-    {
-        match self {
-            Crossing::New(_) => true,
-            Crossing::Empty => true,
-            _ => false,
-        }
-    }
 }

@@ -13,7 +13,7 @@ use std::marker::Model;
 /// How many distinct addresses are noted: more than a datagram names.
 const MOST: usize = 8_192;
 
-/// Room in which `Table::needed` and `Table::plan` note where the addresses of a list stand first, so that each costs the same
+/// Room in which `Table::plan` notes where the addresses of a list stand first, so that each costs the same
 /// however many come before it, as long as no more than 8,192 distinct ones need a binding. They leave it empty.
 #[derive(Drop)]
 pub struct Firsts {

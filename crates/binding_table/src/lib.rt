@@ -13,6 +13,3 @@ pub use binding::Crossing;
 pub use firsts::Firsts;
 pub use laws::{crosses_back, keeps_apart, keeps_known, keeps_others, sees_used};
 pub use table::Table;
-
-#[cfg(test)]
-mod tests;

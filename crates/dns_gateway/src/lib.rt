@@ -9,6 +9,3 @@ mod replies;
 pub use addresses::addresses_of;
 pub use renaming::rename;
 pub use replies::reply;
-
-#[cfg(test)]
-mod tests;

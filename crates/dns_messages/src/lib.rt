@@ -13,6 +13,3 @@ pub use message::{Content, Message, Question, Resource};
 pub use reading::read_message;
 pub use stop::WriteStop;
 pub use writing::write_message;
-
-#[cfg(test)]
-mod tests;

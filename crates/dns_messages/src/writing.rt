@@ -3,6 +3,7 @@ ghost use Rattle.std.specs.Prelude.{◌≡◌, ◌+◌, ◌<◌, ◌≤◌, ◌^
 ghost use Rattle.std.specs.List.{AllByRecursion};
 ghost use Rattle.byteorder.specs.Endian.{big_bytes};
 ghost use Rattle.dns_names.specs.Names.{IsName};
+ghost use Rattle.dns_names.specs.Texts.{nothing};
 ghost use Rattle.dns_messages.specs.Relation.{IsMessage};
 ghost use Rattle.dns_messages.specs.Suits.{MessageSuits, ContentFits, ResourceFits, QuestionFits, MessageFits};
 ghost use Rattle.dns_messages.specs.Writing.{content_written, sized, head_written, resource_written, resources_written, questions_written, header_written, question_count, message_written, spelling, put, name, ◌⨟◌};
@@ -204,6 +205,16 @@ fn put_message(writer: &mut NameWriter, message: &Message) -> Result<(), WriteSt
     put_resources(writer, message.additional.items())
 }
 
+/// The room that a message is begun with, in octets: most have fewer.
+const ROOM: usize = 512;
+
+/// A writer with that room.
+fn writer_in(alloc: Global) -> Result<NameWriter, OutOfMemory>
+    ensures { IfOk result (λ writer. writer ≡ nothing) }
+{
+    NameWriter::make(Vec::with_capacity(alloc, ROOM)?)
+}
+
 /// The one spelling of a message: each name is as short as what stands before it lets it be. `TooLong` exactly where it, or
 /// the data of one record in it, would have more than 65,535 octets. The data of each record must be what its type and
 /// class hold.
@@ -218,7 +229,7 @@ pub fn write_message(alloc: Global, message: &Message) -> Result<Vec<u8>, WriteS
     if !can_be_counted(message) {
         return Err(WriteStop::TooLong);
     }
-    let mut writer = NameWriter::make(Vec::new(alloc))?;
+    let mut writer = writer_in(alloc)?;
     put_message(&mut writer, message)?;
     if writer.len() > 65_535 {
         return Err(WriteStop::TooLong);

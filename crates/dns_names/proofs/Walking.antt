@@ -36,7 +36,7 @@ AllLabels-push (k ∷ ks) l all one = (all.0, AllLabels-push ks l all.1 one)
 spelled-push : (ls : List (List ℕ)) (l : List ℕ) → spelled (ls ++ l ∷ []) ≡ spelled ls ++ length l ∷ l
 spelled-push ls l = flat_map-append spelled_label ls (l ∷ []) ∙ ap (λ (x : List ℕ). spelled ls ++ length l ∷ x) (append-nil l)
 
-label_of-label : (count : ℕ) (rest l : List ℕ) → label_of count rest ≡ Label l → length l ≡ count
+label_of-label : (count : ℕ) (rest l : List ℕ) → label_of count rest ≡ Label l → (length l ≡ count) × (take count rest ≡ l)
 label_of-label count rest l e =
     elim (cases_Bool (nat_lt (length rest) count)) [
       | inl t ↦ absurd (let q : label_of count rest ≡ Nothing = rw t refl in cc)
@@ -44,7 +44,7 @@ label_of-label count rest l e =
           let q : label_of count rest ≡ Label (take count rest) = rw f refl in
           let r : take count rest ≡ l = cc in
           let le : count ≤ length rest = ltb-false _ _ f in
-          rw (← r) (omega (arith, length-take count rest))
+          (rw (← r) (omega (arith, length-take count rest)), r)
     ]
 
 -- which way a test went
@@ -60,23 +60,44 @@ pub not_zero : (n : ℕ) → eqb n 0 ≡ false → 1 ≤ n
 not_zero zero e = absurd cc
 not_zero (suc n) e = omega arith
 
-pub piece_by-label : (first : ℕ) (rest l : List ℕ) → piece_by first rest ≡ Label l → IsLabel l
-piece_by-label first rest l e =
+-- a label's count and octets stand behind each other
+pub record IsCounted (first : ℕ) (rest l : List ℕ) : Type 0 where
+  pub label : IsLabel l
+  pub count : length l ≡ first
+  pub octets : take first rest ≡ l
+
+piece_by-counted : (first : ℕ) (rest l : List ℕ) → piece_by first rest ≡ Label l → IsCounted first rest l
+piece_by-counted first rest l e =
     elim (chosen (first == 0) Root (cond (nat_lt first 64) (label_of first rest) (cond (nat_lt first 192) Nothing (pointer_of first rest))) (Label l) e) [
       | inl t ↦ absurd (let q : Root ≡ Label l = t.1 in cc)
       | inr f ↦
           let positive : 1 ≤ first = not_zero first f.0 in
           elim (chosen (nat_lt first 64) (label_of first rest) (cond (nat_lt first 192) Nothing (pointer_of first rest)) (Label l) f.1) [
             | inl t ↦
-                let long = label_of-label first rest l t.1 in
+                let found = label_of-label first rest l t.1 in
+                let long = found.0 in
                 let small : first < 64 = ltb-true _ _ t.0 in
-                (omega arith, omega arith)
+                record { label = (omega arith, omega arith); count = long; octets = found.1 }
             | inr g ↦ elim (chosen (nat_lt first 192) Nothing (pointer_of first rest) (Label l) g.1) [
               | inl t ↦ absurd (let q : Nothing ≡ Label l = t.1 in cc)
               | inr h ↦ absurd (not_pointer first rest l h.1)
             ]
           ]
     ]
+
+pub piece_by-label : (first : ℕ) (rest l : List ℕ) → piece_by first rest ≡ Label l → IsLabel l
+piece_by-label first rest l e = (piece_by-counted first rest l e).label
+
+piece_of-counted : (octets l : List ℕ) → piece_of octets ≡ Label l → take (suc (length l)) octets ≡ length l ∷ l
+piece_of-counted [] l e = absurd (let q : Nothing ≡ Label l = e in cc)
+piece_of-counted (first ∷ rest) l e =
+    let is = piece_by-counted first rest l e in
+    ap (λ (n : ℕ). first ∷ take n rest) is.count ∙ (ap (λ (o : List ℕ). first ∷ o) is.octets ∙ ap (λ (n : ℕ). n ∷ l) (sym is.count))
+
+-- a label that begins at a place, behind its length
+pub piece_at-counted : (m : List ℕ) (place : ℕ) (l : List ℕ) → piece_at m place ≡ Label l → take (suc (length l)) (drop place m) ≡ length l ∷ l
+unfolding piece_at
+piece_at-counted m place l e = piece_of-counted (drop place m) l e
 
 piece_of-label : (octets l : List ℕ) → piece_of octets ≡ Label l → IsLabel l
 piece_of-label [] l e = absurd (let q : Nothing ≡ Label l = e in cc)

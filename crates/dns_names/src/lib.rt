@@ -17,6 +17,3 @@ pub use reader::NameReader;
 pub use reverse::{address_of, reverse_of};
 pub use stop::NameStop;
 pub use writer::NameWriter;
-
-#[cfg(test)]
-mod tests;

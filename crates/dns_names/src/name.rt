@@ -76,12 +76,12 @@ pub(crate) fn walk(
                 return Ok((Name { octets }, end));
             }
             Found::Label(label) => {
+                let next = at + 1 + label.len();
                 if octets.len() + 1 + label.len() > 254 {
                     return Err(NameStop::BadDns);
                 }
-                octets.push(label.len() as u8)?;
-                octets.extend_from_slice(label)?;
-                at += 1 + label.len();
+                octets.extend_from_slice(&message[at..next])?;
+                at = next;
             }
             Found::Pointer(to) => {
                 if to >= start {

@@ -6,6 +6,7 @@ ghost use Rattle.dns_names.specs.Octets.{label_in, behind, reverse_in};
 
 use crate::name::Name;
 use gate_base::{Addr, OutOfMemory, read_number};
+use itoa::Buffer;
 use std::alloc::{AllocError, Global};
 
 fn first_label(octets: &[u8]) -> Option<(&[u8], &[u8])>
@@ -82,24 +83,24 @@ fn behind_label(octets: &[u8]) -> &[u8]
 }
 
 /// Writes a number as a label.
-fn put_number(octets: &mut Vec<u8>, alloc: Global, number: u8) -> Result<(), AllocError>
+fn put_number(octets: &mut Vec<u8>, number: u8) -> Result<(), AllocError>
     ensures { OnOk result (octets.new.items ≡ octets.old.items ++ (length (decimal number) ∷ decimal number)) }
 {
-    let digits = format!(in alloc; "{number}")?;
-    let label = digits.as_bytes();
+    let mut digits = Buffer::new();
+    let label = digits.format(number).as_bytes();
     octets.push(label.len() as u8)?;
     octets.extend_from_slice(label)?;
     Ok(())
 }
 
 /// Writes the four numbers of an address, the low octet first.
-fn put_numbers(octets: &mut Vec<u8>, alloc: Global, address: u32) -> Result<(), AllocError>
+fn put_numbers(octets: &mut Vec<u8>, address: u32) -> Result<(), AllocError>
     ensures { OnOk result (octets.new.items ≡ octets.old.items ++ spelled (numbers address)) }
 {
-    put_number(octets, alloc, (address % 256) as u8)?;
-    put_number(octets, alloc, (address / 256 % 256) as u8)?;
-    put_number(octets, alloc, (address / 65_536 % 256) as u8)?;
-    put_number(octets, alloc, (address / 16_777_216) as u8)?;
+    put_number(octets, (address % 256) as u8)?;
+    put_number(octets, (address / 256 % 256) as u8)?;
+    put_number(octets, (address / 65_536 % 256) as u8)?;
+    put_number(octets, (address / 16_777_216) as u8)?;
     Ok(())
 }
 
@@ -111,7 +112,7 @@ pub fn reverse_of(alloc: Global, address: Addr, old: &Name) -> Result<Name, OutO
     ensures again { IfOk result (λ name. full_reverse name ≡ Some address.0) }
 {
     let mut octets = Vec::new(alloc);
-    put_numbers(&mut octets, alloc, address.0)?;
+    put_numbers(&mut octets, address.0)?;
     let zone = behind_label(behind_label(behind_label(behind_label(old.octets()))));
     octets.extend_from_slice(zone)?;
     Ok(Name { octets })

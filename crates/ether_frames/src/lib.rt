@@ -8,6 +8,3 @@ mod view;
 pub use datagram::octets_in;
 pub use head::{put_head, reads_back};
 pub use view::EtherView;
-
-#[cfg(test)]
-mod tests;

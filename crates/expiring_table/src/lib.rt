@@ -13,6 +13,3 @@ mod store;
 pub use row::Row;
 pub use rows::Rows;
 pub use seed::Seed;
-
-#[cfg(test)]
-mod tests;

@@ -3,15 +3,14 @@
 
 mod buffer;
 mod fragment;
+mod front;
 mod joiner;
 mod laws;
 mod part;
 mod taken;
 mod whole;
 
+pub use front::{ask, joined, open_joiner};
 pub use joiner::Joiner;
 pub use laws::{cuts_are_joined, frames_arrive, known_state_suffices};
 pub use taken::Taken;
-
-#[cfg(test)]
-mod tests;

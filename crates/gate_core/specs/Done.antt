@@ -1,26 +1,25 @@
 -- What becomes of a datagram.
-use Rattle.std.specs.Prelude.{◌≡◌, List, [], ℕ, Option, Some, None, Result, Ok, Err}
+use Rattle.std.specs.Prelude.{◌≡◌, refl, List, [], ℕ, Option, None, Result, Ok, Err}
 use Rattle.gate_base.specs.declared.event.OutOfMemory.{OutOfMemory}
 use Rattle.gate_base.specs.declared.refusal.Refusal.{Refusal}
 use Rattle.gate_base.specs.declared.side.Side.{Side}
 use Rattle.ipv4_frames.specs.Ipv4.{Datagram}
 use Rattle.gate_world.specs.Frame.{Kind, kind_of}
-use Rattle.gate_world.specs.Step.{after_kind, out_kind}
+use Rattle.gate_world.specs.Step.{stream_out}
 use Rattle.gate_world.specs.World.{World}
 use Rattle.kept_world.specs.Kept.{KeptSession, kept_rules}
-use Rattle.gate_payloads.specs.Ways.{out_by}
-use Rattle.gate_core.specs.Memory.{refusal_as, MayWantAs}
+use Rattle.gate_steps.specs.Passed as steps
+use Rattle.gate_steps.specs.Passed.{Tells}
+use Rattle.gate_steps.specs.Segments.{refusal_as}
+use Rattle.gate_core.specs.Memory.{MayWantAs}
 
--- what is left of what lives after one that is refused or passes
-abbrev pub left_as : Kind → Option Refusal → World KeptSession → Side → Datagram → World KeptSession
-left_as kind None live side d = after_kind kept_rules live side live.clock d kind
-left_as kind (Some refusal) live side d = live
+-- the gate tells the datagrams that go out
+abbrev pub gate_tells : Tells KeptSession (List (List ℕ))
+gate_tells = record { whole = λ datagrams. datagrams; segment = stream_out kept_rules; plain = λ image side d source destination. refl }
 
 -- it is refused as it is told, or passes
-pub record IsPassed (told : Option Refusal) (kind : Kind) (live : World KeptSession) (side : Side) (d : Datagram) (refusal : Option Refusal) (after : World KeptSession) (sent : List (List ℕ)) : Type 0 where
-  pub answer : refusal ≡ told
-  pub left : after ≡ left_as kind refusal live side d
-  pub gone : sent ≡ out_by refusal (out_kind kept_rules live side live.clock d kind)
+abbrev pub IsPassed : Option Refusal → Kind → World KeptSession → Side → Datagram → Option Refusal → World KeptSession → List (List ℕ) → Type 0
+IsPassed told kind live side d refusal after sent = steps.IsPassed kept_rules gate_tells told kind live side d refusal after sent
 
 -- where memory runs out nothing changes, and it does so on no other datagram than may want it, and that no early test refuses
 pub record IsLost (early : Option Refusal) (kind : Kind) (live : World KeptSession) (side : Side) (d : Datagram) (after : World KeptSession) (sent : List (List ℕ)) : Type 0 where
@@ -39,4 +38,4 @@ abbrev pub IsDone : Option Refusal → Option Refusal → World KeptSession → 
 IsDone told early live side d result after sent = IsDoneBy told early (kind_of d) live side d result after sent
 
 abbrev pub IsDoneAs : Kind → World KeptSession → Side → Datagram → Result (Option Refusal) OutOfMemory → World KeptSession → List (List ℕ) → Type 0
-IsDoneAs kind live side d result after sent = IsDoneBy (refusal_as kind live side d) None kind live side d result after sent
+IsDoneAs kind live side d result after sent = IsDoneBy (refusal_as kept_rules kind live side d) None kind live side d result after sent

@@ -1,9 +1,8 @@
 -- On which frames memory may be wanting.
-use Rattle.std.specs.Prelude.{◌≡◌, ◌≤◌, ◌⊎◌, true, length, List, ◌∷◌, ◌++◌, Bool, Option, Some, None}
+use Rattle.std.specs.Prelude.{◌≡◌, ◌⊎◌, true, List, ◌++◌, Bool, Some, None}
 use Rattle.gate_base.specs.Events.{Event}
 use Rattle.gate_base.specs.Tests.{first_that_holds}
 use Rattle.gate_base.specs.declared.refusal.Refusal.{Refusal}
-use Rattle.gate_base.specs.declared.refusal.Refusal.TheVariants.{PoolEmpty}
 use Rattle.gate_base.specs.declared.side.Side.{Side}
 use Rattle.ftp_lines.specs.Renaming.{client_lines, server_lines}
 use Rattle.gate_frames.specs.Judged.{front_tests}
@@ -11,18 +10,15 @@ use Rattle.ipv4_frames.specs.Ipv4.{Datagram}
 use Rattle.stream_gate.specs.Memory.{KeptCompletes}
 use Rattle.gate_world.specs.Frame.{Kind, Dns, Stream, datagram_in, kind_of}
 use Rattle.gate_world.specs.Stream.{begins, found_in, segment_of, session_in}
-use Rattle.gate_world.specs.Units.{units_in}
-use Rattle.gate_world.specs.Verdict.{address_tests, kind_tests, late_tests, is_pool_empty}
+use Rattle.gate_world.specs.Verdict.{address_tests}
 use Rattle.gate_world.specs.World.{Tracked, World, is_client}
 use Rattle.kept_world.specs.Kept.{KeptSession, kept_rules}
+use Rattle.gate_steps.specs.Segments.{refusal_as}
+use Rattle.gate_steps.specs.Found.{CompletesUnit}
 
 -- the tests of a frame by itself, and those of its addresses
 abbrev pub early_tests : World KeptSession → Event → List (Bool × Refusal)
 early_tests live e = front_tests e ++ address_tests live.table e.side (datagram_in e)
-
--- the first test behind those of the addresses that holds, of a datagram of a kind
-abbrev pub refusal_as : Kind → World KeptSession → Side → Datagram → Option Refusal
-refusal_as kind live side d = first_that_holds (kind_tests kept_rules live side live.clock d kind ++ (is_pool_empty kept_rules live side d kind, PoolEmpty) ∷ late_tests kept_rules live side live.clock d kind)
 
 -- the segment is of a session of FTP, and completes a line that bears an address
 pub record CompletesLine (live : World KeptSession) (side : Side) (d : Datagram) : Type 0 where
@@ -30,15 +26,9 @@ pub record CompletesLine (live : World KeptSession) (side : Side) (d : Datagram)
   pub found : session_in (found_in live side d) ≡ Some tracked
   pub completes : KeptCompletes (client_lines tracked.session.pair) (server_lines tracked.session.pair) (is_client side tracked) tracked.session.kept (segment_of d)
 
--- it is of a session of DNS that doesn't refuse it, and completes a unit
-pub record CompletesUnit (live : World KeptSession) (side : Side) (d : Datagram) : Type 0 where
-  pub tracked : Tracked KeptSession
-  pub found : session_in (found_in live side d) ≡ Some tracked
-  pub completes : 1 ≤ length (units_in kept_rules side d (Some tracked))
-
 -- no test behind those of its addresses refuses it, and it begins a session or completes such a line; or it completes such a unit
 abbrev pub SegmentMayWant : World KeptSession → Side → Datagram → Type 0
-SegmentMayWant live side d = ((refusal_as Stream live side d ≡ None) × ((begins (found_in live side d) d ≡ true) ⊎ CompletesLine live side d)) ⊎ CompletesUnit live side d
+SegmentMayWant live side d = ((refusal_as kept_rules Stream live side d ≡ None) × ((begins (found_in live side d) d ≡ true) ⊎ CompletesLine live side d)) ⊎ CompletesUnit kept_rules live side d
 
 -- a datagram of DNS, or such a segment
 abbrev pub MayWantAs : Kind → World KeptSession → Side → Datagram → Type 0

@@ -7,46 +7,18 @@ ghost use Rattle.kept_world.specs.Kept.{KeptSession, kept_rules};
 ghost use Rattle.tcp_tracker.specs.Connections.{connection_of};
 ghost use Rattle.unit_plans.specs.Plans.{AreBound, IsListBound};
 ghost use Rattle.gate_payloads.specs.Taken.{IsWayOf};
-ghost use Rattle.gate_payloads.specs.Ways.{is_empty};
-ghost use Rattle.gate_base.specs.declared.refusal.Refusal.TheVariants as refusals;
-ghost use Rattle.unit_plans.specs.declared.stop.PlanStop.TheVariants as stops;
-ghost use Rattle.gate_core.specs.Found.{IsOn, IsUnitPlan, IsStopped, IsPlanOf, IsFound};
+ghost use Rattle.gate_steps.specs.Found.{IsOn, IsUnitPlan, IsStopped, IsFound};
 
-use crate::known::Rooms;
 use binding_table::Table;
 use dns_stream::unit_end;
 use gate_base::Refusal;
 use gate_outbox::Segment;
-use gate_payloads::{Way, lacks_alias};
+use gate_payloads::Way;
 use gate_sessions::TrackedSession;
+use gate_steps::{Found, Rooms, SegmentPlan, no_units};
 use session_table::SessionTable;
-use std::alloc::Global;
 use tcp_tracker::ConnKey;
 use unit_plans::{Endpoints, PlanStop, UnitPlan, plan_units};
-
-/// What the units do that a segment completes, and how many entries the lists of its session have before it: the client's, and the
-/// server's.
-#[derive(Drop)]
-pub struct SegmentPlan {
-    pub units: UnitPlan,
-    pub client: usize,
-    pub server: usize,
-}
-
-/// What is found of a segment's connection.
-#[derive(Drop)]
-pub enum Found {
-    /// It doesn't live.
-    Absent,
-    /// It has no session.
-    Untracked,
-    /// Its session takes the segment.
-    Tracked(SegmentPlan),
-    /// The segment is refused.
-    Refused(Refusal),
-    /// Memory ran out.
-    Lost,
-}
 
 /// Why a session refuses a segment, if it does.
 fn session_verdict(tracked: &TrackedSession, way: &Way, segment: &Segment<'_>) -> Option<Refusal>
@@ -56,20 +28,6 @@ fn session_verdict(tracked: &TrackedSession, way: &Way, segment: &Segment<'_>) -
     tracked
         .session
         .verdict(tracked.is_client(way.side), segment.tcp)
-}
-
-/// What no units do.
-fn no_units(alloc: Global, way: &Way) -> Result<UnitPlan, PlanStop>
-    ensures planned { IfOk result (λ plan. (is_empty way.now.of_source ≡ false) × ((plan.named.items ≡ []) × (plan.entries.items ≡ []))) }
-    ensures stopped { IfErr result (λ stop. (is_empty way.now.of_source ≡ true) × (stop ≡ stops.Refused refusals.PoolEmpty)) }
-{
-    if lacks_alias(way) {
-        return Err(PlanStop::Refused(Refusal::PoolEmpty));
-    }
-    Ok(UnitPlan {
-        named: Vec::new(alloc),
-        entries: Vec::new(alloc),
-    })
 }
 
 /// What the units do that a segment completes, which its session passes, or why it is refused. Memory is taken only where it completes
@@ -85,8 +43,8 @@ fn plan_session(
     requires header { AreBound table.now way.now.side (way.now.source ∷ way.now.destination ∷ []) }
     requires listed { IsListBound table.now way.now.side (kept_rules.listed (is_client way.now.side tracked.now) tracked.now.session) }
     requires few { (client : Bool) → length (kept_rules.listed client tracked.now.session) ≤ 256 }
-    ensures planned { (live : World KeptSession) → live.table ≡ table.now → IsOn live way.now.side segment.now.datagram.now way.now tracked.now → IfOk result (IsUnitPlan live way.now.side segment.now.datagram.now tracked.now) }
-    ensures stopped { (live : World KeptSession) → live.table ≡ table.now → IsOn live way.now.side segment.now.datagram.now way.now tracked.now → IfErr result (IsStopped live way.now.side segment.now.datagram.now) }
+    ensures planned { (live : World KeptSession) → live.table ≡ table.now → IsOn kept_rules live way.now.side segment.now.datagram.now way.now tracked.now → IfOk result (IsUnitPlan kept_rules live way.now.side segment.now.datagram.now tracked.now) }
+    ensures stopped { (live : World KeptSession) → live.table ≡ table.now → IsOn kept_rules live way.now.side segment.now.datagram.now way.now tracked.now → IfErr result (IsStopped kept_rules live way.now.side segment.now.datagram.now) }
 {
     let from_client = tracked.is_client(way.side);
     tracked
@@ -122,7 +80,7 @@ fn judge_session(
     requires segment { segment.now.tcp.now ≡ streams.tcp_of segment.now.datagram.now }
     requires header { AreBound table.now way.now.side (way.now.source ∷ way.now.destination ∷ []) }
     requires listed { IsListBound table.now way.now.side (kept_rules.listed (is_client way.now.side tracked.now) tracked.now.session) }
-    ensures { (live : World KeptSession) → live.table ≡ table.now → IsLawful live.table → IsWayOf live way.now.side segment.now.datagram.now way.now → streams.session_in (streams.found_in live way.now.side segment.now.datagram.now) ≡ Some tracked.now → IsFound live way.now.side segment.now.datagram.now result }
+    ensures { (live : World KeptSession) → live.table ≡ table.now → IsLawful live.table → IsWayOf live way.now.side segment.now.datagram.now way.now → streams.session_in (streams.found_in live way.now.side segment.now.datagram.now) ≡ Some tracked.now → IsFound kept_rules live way.now.side segment.now.datagram.now result }
 {
     if let Some(refusal) = session_verdict(tracked, way, segment) {
         return Found::Refused(refusal);
@@ -152,7 +110,7 @@ pub fn look_up(
     requires segment { segment.now.tcp.now ≡ streams.tcp_of segment.now.datagram.now }
     requires header { AreBound table.now way.now.side (way.now.source ∷ way.now.destination ∷ []) }
     requires listed { (t : Tracked KeptSession) → streams.session_in (connection_of key.now connections.now) ≡ Some t → IsListBound table.now way.now.side (kept_rules.listed (is_client way.now.side t) t.session) }
-    ensures { (live : World KeptSession) → live.table ≡ table.now → live.connections ≡ connections.now → IsLawful live.table → key.now ≡ streams.key_in live.table way.now.side segment.now.datagram.now → IsWayOf live way.now.side segment.now.datagram.now way.now → IsFound live way.now.side segment.now.datagram.now result }
+    ensures { (live : World KeptSession) → live.table ≡ table.now → live.connections ≡ connections.now → IsLawful live.table → key.now ≡ streams.key_in live.table way.now.side segment.now.datagram.now → IsWayOf live way.now.side segment.now.datagram.now way.now → IsFound kept_rules live way.now.side segment.now.datagram.now result }
 {
     match connections.find(key) {
         Some(Some(tracked)) => judge_session(rooms, table, tracked, way, segment),

@@ -1,10 +1,10 @@
 // What is known from event to event, and what a frame changes of it.
-ghost use Rattle.std.specs.Prelude.{◌≡◌, ◌*◌, ◌^◌, ◌<◌, ◌≤◌, ◌||◌, false, ◌==◌, [], length, IfOk, OnErr};
+ghost use Rattle.std.specs.Prelude.{◌≡◌, ◌*◌, ◌^◌, ◌<◌, ◌≤◌, false, ◌==◌, [], length, IfOk};
 ghost use Rattle.twice_translate.specs.Renamed.{CanGoOn, datagram_of};
 ghost use Rattle.gate_world.specs.Frame as kinds;
 ghost use Rattle.gate_world.specs.World.{opening_world, at_moment};
 ghost use Rattle.gate_world.specs.Held.{KeepsListed};
-ghost use Rattle.gate_payloads.specs.Taken.{IsWayOf, IsTaken, IsUdpOf};
+ghost use Rattle.gate_payloads.specs.Taken.{IsWayOf, IsTaken};
 ghost use Rattle.gate_frames.specs.Frames.{IsJudged};
 ghost use Rattle.gate_core.specs.Gates.{world_in};
 ghost use Rattle.gate_core.specs.Done.{IsDone};
@@ -14,34 +14,23 @@ ghost use Rattle.gate_base.specs.Events.{event_of};
 ghost use Rattle.gate_settings.specs.Sound.{IsSound};
 ghost use Rattle.gate_settings.specs.Forms.{HasForms};
 ghost use Rattle.udp_icmp.specs.Icmp.{icmp_fields_of};
-ghost use Rattle.udp_icmp.specs.Udp.{udp_fields_of};
 ghost use Rattle.gate_base.specs.Tests.{first_that_holds};
 ghost use Rattle.gate_world.specs.Frame.{datagram_in, kind_of};
 ghost use Rattle.gate_world.specs.Verdict.{tests, world_tests, address_tests};
 
-use binding_table::{Firsts, Table};
+use crate::errors::take_error;
+use binding_table::Table;
 use expiring_table::Seed;
-use gate_base::{DNS_PORT, Event, Moment, OutOfMemory, Refusal, SNMP_PORT, Side, TRAP_PORT};
+use gate_base::{Event, Moment, OutOfMemory, Refusal, Side};
 use gate_frames::{Content, Judged, judge};
-use gate_outbox::{Outbox, Scratch, Segment};
-use gate_payloads::{
-    ICMP_HOLD, UDP_HOLD, UdpDatagram, Way, address_refusal, take_dns, take_error, take_plain,
-    take_snmp,
-};
-use gate_sessions::{TrackedSession, UnitOctets};
+use gate_outbox::{Outbox, Segment};
+use gate_payloads::{ICMP_HOLD, UdpDatagram, Way, address_refusal, take_plain};
+use gate_sessions::TrackedSession;
 use gate_settings::Settings;
+use gate_steps::{Rooms, take_udp};
 use session_table::SessionTable;
 use std::alloc::Global;
-use udp_icmp::{IcmpView, UdpView};
-
-/// The memory and the rooms to work with.
-#[derive(Drop)]
-pub struct Rooms {
-    pub alloc: Global,
-    pub scratch: Scratch,
-    pub firsts: Firsts,
-    pub octets: UnitOctets,
-}
+use udp_icmp::IcmpView;
 
 /// What is known: the clock, the bindings, the connections with their sessions, and the greatest number of changed lines or units
 /// that ever waited; and the rooms to work with.
@@ -66,12 +55,7 @@ impl Known {
             table: Table::make(alloc, settings, seed)?,
             connections: SessionTable::make(alloc, seed)?,
             pending: 0,
-            rooms: Rooms {
-                alloc,
-                scratch: Scratch::make(alloc)?,
-                firsts: Firsts::make(alloc, seed)?,
-                octets: UnitOctets::make(alloc)?,
-            },
+            rooms: Rooms::make(alloc, seed)?,
         })
     }
 
@@ -137,7 +121,9 @@ impl Known {
             return Ok(Some(refusal));
         }
         match &frame.content {
-            Content::Udp(view) => self.take_udp(
+            Content::Udp(view) => take_udp(
+                &mut self.rooms,
+                &mut self.table,
                 &way,
                 &UdpDatagram {
                     octets: frame.octets,
@@ -159,47 +145,6 @@ impl Known {
         }
     }
 
-    // Takes a UDP datagram, by its ports.
-    fn take_udp(
-        &mut self,
-        way: &Way,
-        datagram: &UdpDatagram<'_>,
-        view: &UdpView<'_>,
-        outbox: &mut Outbox,
-    ) -> Result<Option<Refusal>, OutOfMemory>
-        requires way { IsWayOf (world_in self.old) way.now.side (datagram_of datagram.now.octets.now) way.now }
-        requires moment { way.now.moment.0 < 2 ^ 32 * 1000000000 }
-        requires empty { outbox.old ≡ [] }
-        requires whole { IsUdpOf datagram.now.octets.now datagram.now.payload.now }
-        requires view { view.now ≡ udp_fields_of (datagram_of datagram.now.octets.now).payload }
-        ensures rest { self.new ≡ record self.old { table = self.new.table } }
-        ensures taken { IfOk result (λ r. IsTaken (world_in self.old) way.now.side (datagram_of datagram.now.octets.now) (kinds.udp_kind (datagram_of datagram.now.octets.now)) r self.new.table outbox.new) }
-        ensures memory { OnErr result ((self.new.table ≡ self.old.table) × (outbox.new ≡ [])) }
-        ensures wants { OnErr result (kinds.udp_kind (datagram_of datagram.now.octets.now) ≡ kinds.Dns) }
-    {
-        let ports = view.ports();
-        if has_port(ports, DNS_PORT) {
-            return take_dns(
-                self.rooms.alloc,
-                &mut self.table,
-                &mut self.rooms.firsts,
-                way,
-                datagram,
-                outbox,
-            );
-        }
-        if has_port(ports, SNMP_PORT) || has_port(ports, TRAP_PORT) {
-            return Ok(take_snmp(
-                &mut self.table,
-                way,
-                datagram,
-                &mut self.rooms.scratch,
-                outbox,
-            ));
-        }
-        Ok(take_plain(&mut self.table, way, UDP_HOLD, datagram.octets, outbox))
-    }
-
     // Takes an ICMP message, by its type.
     fn take_icmp(
         &mut self,
@@ -217,7 +162,7 @@ impl Known {
         requires other { ((datagram_of octets.now).protocol == 17) ≡ false }
         requires neither { ((datagram_of octets.now).protocol == 6) ≡ false }
         ensures rest { self.new ≡ record self.old { table = self.new.table } }
-        ensures taken { IsTaken (world_in self.old) way.now.side (datagram_of octets.now) (kinds.icmp_kind (datagram_of octets.now)) result self.new.table outbox.new }
+        ensures taken { IsTaken kept_rules (world_in self.old) way.now.side (datagram_of octets.now) (kinds.icmp_kind (datagram_of octets.now)) result self.new.table outbox.new }
     {
         if view.is_error() {
             return take_error(
@@ -231,10 +176,4 @@ impl Known {
         }
         take_plain(&mut self.table, way, ICMP_HOLD, octets, outbox)
     }
-}
-
-fn has_port(ports: (u16, u16), port: u16) -> bool
-    ensures { result ≡ (ports.0 == port || ports.1 == port) }
-{
-    ports.0 == port || ports.1 == port
 }

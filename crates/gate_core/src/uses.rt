@@ -1,5 +1,5 @@
 // The uses of a segment of a session (RFC 2694, RFC 3022, 3.1).
-ghost use Rattle.std.specs.Prelude.{◌≡◌, ◌≤◌, ◌<◌, ◌*◌, ◌^◌, ◌++◌, ◌∷◌, [], take, length, true, false, Some, None, IfSome};
+ghost use Rattle.std.specs.Prelude.{◌≡◌, ◌≤◌, ◌<◌, ◌*◌, ◌^◌, ◌++◌, take, length, true, false, Some};
 ghost use Rattle.gate_base.specs.Side.{other};
 ghost use Rattle.binding_table.specs.Bindings.{is_settled};
 ghost use Rattle.binding_table.specs.Plan.{after_uses};
@@ -10,25 +10,15 @@ ghost use Rattle.gate_world.specs.World.{Tracked};
 ghost use Rattle.kept_world.specs.Kept.{KeptSession, kept_rules};
 ghost use Rattle.tcp_tracker.specs.Connections.{connection_of};
 ghost use Rattle.gate_payloads.specs.Ways.{IsWay};
-ghost use Rattle.gate_core.specs.Found.{uses_planned};
+ghost use Rattle.gate_steps.specs.Found.{uses_planned};
 
-use crate::found::SegmentPlan;
 use binding_table::Table;
 use gate_base::{Moment, Side};
-use gate_payloads::{Way, use_address, use_all};
+use gate_payloads::{Way, use_all};
 use gate_sessions::{AnySession, TrackedSession};
+use gate_steps::{SegmentPlan, use_entry};
 use session_table::SessionTable;
 use tcp_tracker::ConnKey;
-use unit_plans::Entry;
-
-/// Uses the address of an entry, unless it is kept.
-fn use_entry(table: &mut Table, side: Side, entry: Entry, until: Moment)
-    ensures { table.new ≡ after_uses table.old (uses_until side until.0 (renamed_in (entry ∷ []))) }
-{
-    if entry.1.is_some() {
-        use_address(table, side, entry.0, until);
-    }
-}
 
 /// Uses the addresses of the first entries of the client's list, or else of the server's, from the realm of its sender.
 fn use_list(
@@ -81,7 +71,7 @@ pub fn use_segment(
     requires hold { hold ≤ 7440 * 1000000000 }
     requires client { (t : Tracked KeptSession) → streams.session_in (connection_of key.now connections.now) ≡ Some t → plan.now.client ≤ length (kept_rules.listed true t.session) }
     requires server { (t : Tracked KeptSession) → streams.session_in (connection_of key.now connections.now) ≡ Some t → plan.now.server ≤ length (kept_rules.listed false t.session) }
-    ensures { (t : Tracked KeptSession) → streams.session_in (connection_of key.now connections.now) ≡ Some t → table.new ≡ after_uses table.old (uses_planned way.now plan.now hold t) }
+    ensures { (t : Tracked KeptSession) → streams.session_in (connection_of key.now connections.now) ≡ Some t → table.new ≡ after_uses table.old (uses_planned kept_rules way.now plan.now hold t) }
 {
     let until = Moment(way.moment.0 + hold);
     way.use_both(table, hold);

@@ -1,44 +1,54 @@
 -- Laws of the words for slots.
-use Rattle.std.proofs.Common.{Bool, true, false, cond, ◌≡◌, ℕ, ◌+◌, ◌-◌, ◌≤◌, List, [], ◌∷◌, ◌++◌, Option, Some, None, IfSome, option_map, take, drop, length, refl, sym, ap, subst, ◌∙◌, append_assoc, arith, length-append, length-drop}
+use Rattle.std.proofs.Common.{Bool, true, false, cond, if◌then◌else◌, ◌≡◌, ℕ, ◌+◌, ◌-◌, ◌≤◌, List, [], ◌∷◌, ◌++◌, Option, Some, None, IfSome, option_map, slice_index_or, take, drop, length, refl, sym, ap, subst, ◌∙◌, append_assoc, arith, length-append, length-drop}
 use Rattle.std.proofs.lemmas.List.{append-nil, drop-drop, take_all, take-append-le, length-take-le}
-use Rattle.std.proofs.lemmas.Bool.{false≢true}
+use Rattle.std.proofs.lemmas.Bool.{eqb-true, false≢true}
 use Rattle.std.proofs.lemmas.List.Sums.{fold-append}
 use Rattle.std.proofs.Math.Seq.{take-add, take-append-add}
 use borrow.Rule.Slice.PartMut.{put_mid, post_of}
 use Rattle.gate_desk.specs.declared.slot.Slot.{Slot}
-use Rattle.gate_desk.specs.declared.slot.Slot.TheVariants.{Settings, LeftIn, RightIn, LeftOut, RightOut, Report, Errors}
+use Rattle.gate_desk.specs.declared.slot.Slot.TheVariants.{Settings, LeftIn, RightIn, LeftGiven, RightGiven, ReportGiven, LeftOut, RightOut, Report, Errors}
 use Rattle.gate_desk.specs.declared.slot.PerSlot.{PerSlot}
 use Rattle.gate_desk.specs.declared.slot.Way.{Way}
 use Rattle.gate_desk.specs.declared.slot.Way.TheVariants.{Read, Write}
-use Rattle.gate_desk.specs.Slots.{at, put, same_slot}
+use Rattle.gate_desk.specs.Slots.{at, put, mapped, number_of, same_slot}
+use Rattle.gate_desk.specs.Memory.{each}
 use Rattle.gate_desk.specs.Outside.{Outside, wrote, took, told_at, Told, Rises, NoneFailed, Writes, Takes, AreNext, IsAtEnd, AreUpTo, HasFailed, HasFailedToStart, Grows, NoneFell, WritesPart, Starts, FailsToStart, Start, started, last_way, CanRead, CanWrite}
 
+-- the ten slots, one by one
+pub every : (P : Slot → Type 0) → P Settings → P LeftIn → P RightIn → P LeftGiven → P RightGiven → P ReportGiven → P LeftOut → P RightOut → P Report → P Errors → (s : Slot) → P s
+every P a b c d e f g h i j Settings = a
+every P a b c d e f g h i j LeftIn = b
+every P a b c d e f g h i j RightIn = c
+every P a b c d e f g h i j LeftGiven = d
+every P a b c d e f g h i j RightGiven = e
+every P a b c d e f g h i j ReportGiven = f
+every P a b c d e f g h i j LeftOut = g
+every P a b c d e f g h i j RightOut = h
+every P a b c d e f g h i j Report = i
+every P a b c d e f g h i j Errors = j
+
 pub at-put : {A : Type 0} (p : PerSlot A) (s : Slot) (x : A) → at (put p s x) s ≡ x
-at-put p Settings x = refl
-at-put p LeftIn x = refl
-at-put p RightIn x = refl
-at-put p LeftOut x = refl
-at-put p RightOut x = refl
-at-put p Report x = refl
-at-put p Errors x = refl
+at-put p s x = every (λ s. at (put p s x) s ≡ x) refl refl refl refl refl refl refl refl refl refl s
 
 pub put-put : {A : Type 0} (p : PerSlot A) (s : Slot) (x y : A) → put (put p s x) s y ≡ put p s y
-put-put p Settings x y = refl
-put-put p LeftIn x y = refl
-put-put p RightIn x y = refl
-put-put p LeftOut x y = refl
-put-put p RightOut x y = refl
-put-put p Report x y = refl
-put-put p Errors x y = refl
+put-put p s x y = every (λ s. put (put p s x) s y ≡ put p s y) refl refl refl refl refl refl refl refl refl refl s
 
 pub put-at : {A : Type 0} (p : PerSlot A) (s : Slot) → put p s (at p s) ≡ p
-put-at p Settings = refl
-put-at p LeftIn = refl
-put-at p RightIn = refl
-put-at p LeftOut = refl
-put-at p RightOut = refl
-put-at p Report = refl
-put-at p Errors = refl
+put-at p s = every (λ s. put p s (at p s) ≡ p) refl refl refl refl refl refl refl refl refl refl s
+
+pub at-each : {A : Type 0} (x : A) (s : Slot) → at (each x) s ≡ x
+at-each x s = every (λ s. at (each x) s ≡ x) refl refl refl refl refl refl refl refl refl refl s
+
+-- what f makes of each value
+pub at-mapped : {A B : Type 0} (f : A → B) (p : PerSlot A) (s : Slot) → at (mapped f p) s ≡ f (at p s)
+at-mapped f p s = every (λ s. at (mapped f p) s ≡ f (at p s)) refl refl refl refl refl refl refl refl refl refl s
+
+pub mapped-put : {A B : Type 0} (f : A → B) (p : PerSlot A) (s : Slot) (x : A) → mapped f (put p s x) ≡ put (mapped f p) s (f x)
+mapped-put f p s x = every (λ s. mapped f (put p s x) ≡ put (mapped f p) s (f x)) refl refl refl refl refl refl refl refl refl refl s
+
+-- and of another value of which it makes the same
+pub mapped-same : {A B : Type 0} (f : A → B) (p : PerSlot A) (s : Slot) (x : A) → f x ≡ f (at p s) → mapped f (put p s x) ≡ mapped f p
+mapped-same f p s x e = mapped-put f p s x ∙ ap (put (mapped f p) s) (e ∙ sym (at-mapped f p s)) ∙ put-at (mapped f p) s
 
 pub wrote-wrote : (s : Slot) (xs ys : List ℕ) (told : Told) → wrote s ys (wrote s xs told) ≡ wrote s (xs ++ ys) told
 unfolding wrote
@@ -160,106 +170,37 @@ failed_later s a b c r h = omega (arith, r.never_falls, h)
 
 -- any slot, after one was put
 pub at-put_any : {A : Type 0} (p : PerSlot A) (s t : Slot) (x : A) → at (put p s x) t ≡ cond (same_slot s t) x (at p t)
-at-put_any p Settings Settings x = refl
-at-put_any p Settings LeftIn x = refl
-at-put_any p Settings RightIn x = refl
-at-put_any p Settings LeftOut x = refl
-at-put_any p Settings RightOut x = refl
-at-put_any p Settings Report x = refl
-at-put_any p Settings Errors x = refl
-at-put_any p LeftIn Settings x = refl
-at-put_any p LeftIn LeftIn x = refl
-at-put_any p LeftIn RightIn x = refl
-at-put_any p LeftIn LeftOut x = refl
-at-put_any p LeftIn RightOut x = refl
-at-put_any p LeftIn Report x = refl
-at-put_any p LeftIn Errors x = refl
-at-put_any p RightIn Settings x = refl
-at-put_any p RightIn LeftIn x = refl
-at-put_any p RightIn RightIn x = refl
-at-put_any p RightIn LeftOut x = refl
-at-put_any p RightIn RightOut x = refl
-at-put_any p RightIn Report x = refl
-at-put_any p RightIn Errors x = refl
-at-put_any p LeftOut Settings x = refl
-at-put_any p LeftOut LeftIn x = refl
-at-put_any p LeftOut RightIn x = refl
-at-put_any p LeftOut LeftOut x = refl
-at-put_any p LeftOut RightOut x = refl
-at-put_any p LeftOut Report x = refl
-at-put_any p LeftOut Errors x = refl
-at-put_any p RightOut Settings x = refl
-at-put_any p RightOut LeftIn x = refl
-at-put_any p RightOut RightIn x = refl
-at-put_any p RightOut LeftOut x = refl
-at-put_any p RightOut RightOut x = refl
-at-put_any p RightOut Report x = refl
-at-put_any p RightOut Errors x = refl
-at-put_any p Report Settings x = refl
-at-put_any p Report LeftIn x = refl
-at-put_any p Report RightIn x = refl
-at-put_any p Report LeftOut x = refl
-at-put_any p Report RightOut x = refl
-at-put_any p Report Report x = refl
-at-put_any p Report Errors x = refl
-at-put_any p Errors Settings x = refl
-at-put_any p Errors LeftIn x = refl
-at-put_any p Errors RightIn x = refl
-at-put_any p Errors LeftOut x = refl
-at-put_any p Errors RightOut x = refl
-at-put_any p Errors Report x = refl
-at-put_any p Errors Errors x = refl
+at-put_any p s t x =
+    every (λ s. (t : Slot) → at (put p s x) t ≡ cond (same_slot s t) x (at p t))
+    (every (λ t. at (put p Settings x) t ≡ cond (same_slot Settings t) x (at p t)) refl refl refl refl refl refl refl refl refl refl)
+    (every (λ t. at (put p LeftIn x) t ≡ cond (same_slot LeftIn t) x (at p t)) refl refl refl refl refl refl refl refl refl refl)
+    (every (λ t. at (put p RightIn x) t ≡ cond (same_slot RightIn t) x (at p t)) refl refl refl refl refl refl refl refl refl refl)
+    (every (λ t. at (put p LeftGiven x) t ≡ cond (same_slot LeftGiven t) x (at p t)) refl refl refl refl refl refl refl refl refl refl)
+    (every (λ t. at (put p RightGiven x) t ≡ cond (same_slot RightGiven t) x (at p t)) refl refl refl refl refl refl refl refl refl refl)
+    (every (λ t. at (put p ReportGiven x) t ≡ cond (same_slot ReportGiven t) x (at p t)) refl refl refl refl refl refl refl refl refl refl)
+    (every (λ t. at (put p LeftOut x) t ≡ cond (same_slot LeftOut t) x (at p t)) refl refl refl refl refl refl refl refl refl refl)
+    (every (λ t. at (put p RightOut x) t ≡ cond (same_slot RightOut t) x (at p t)) refl refl refl refl refl refl refl refl refl refl)
+    (every (λ t. at (put p Report x) t ≡ cond (same_slot Report t) x (at p t)) refl refl refl refl refl refl refl refl refl refl)
+    (every (λ t. at (put p Errors x) t ≡ cond (same_slot Errors t) x (at p t)) refl refl refl refl refl refl refl refl refl refl)
+    s t
+
+slots : List Slot
+slots = Settings ∷ LeftIn ∷ RightIn ∷ LeftGiven ∷ RightGiven ∷ ReportGiven ∷ LeftOut ∷ RightOut ∷ Report ∷ Errors ∷ []
+
+numbered : (s : Slot) → slice_index_or slots (number_of s) Settings ≡ s
+unfolding slots
+numbered s = every (λ s. slice_index_or slots (number_of s) Settings ≡ s) refl refl refl refl refl refl refl refl refl refl s
 
 pub same-of : (s t : Slot) → same_slot s t ≡ true → s ≡ t
-same-of Settings Settings e = refl
-same-of Settings LeftIn e = absurd (false≢true e)
-same-of Settings RightIn e = absurd (false≢true e)
-same-of Settings LeftOut e = absurd (false≢true e)
-same-of Settings RightOut e = absurd (false≢true e)
-same-of Settings Report e = absurd (false≢true e)
-same-of Settings Errors e = absurd (false≢true e)
-same-of LeftIn Settings e = absurd (false≢true e)
-same-of LeftIn LeftIn e = refl
-same-of LeftIn RightIn e = absurd (false≢true e)
-same-of LeftIn LeftOut e = absurd (false≢true e)
-same-of LeftIn RightOut e = absurd (false≢true e)
-same-of LeftIn Report e = absurd (false≢true e)
-same-of LeftIn Errors e = absurd (false≢true e)
-same-of RightIn Settings e = absurd (false≢true e)
-same-of RightIn LeftIn e = absurd (false≢true e)
-same-of RightIn RightIn e = refl
-same-of RightIn LeftOut e = absurd (false≢true e)
-same-of RightIn RightOut e = absurd (false≢true e)
-same-of RightIn Report e = absurd (false≢true e)
-same-of RightIn Errors e = absurd (false≢true e)
-same-of LeftOut Settings e = absurd (false≢true e)
-same-of LeftOut LeftIn e = absurd (false≢true e)
-same-of LeftOut RightIn e = absurd (false≢true e)
-same-of LeftOut LeftOut e = refl
-same-of LeftOut RightOut e = absurd (false≢true e)
-same-of LeftOut Report e = absurd (false≢true e)
-same-of LeftOut Errors e = absurd (false≢true e)
-same-of RightOut Settings e = absurd (false≢true e)
-same-of RightOut LeftIn e = absurd (false≢true e)
-same-of RightOut RightIn e = absurd (false≢true e)
-same-of RightOut LeftOut e = absurd (false≢true e)
-same-of RightOut RightOut e = refl
-same-of RightOut Report e = absurd (false≢true e)
-same-of RightOut Errors e = absurd (false≢true e)
-same-of Report Settings e = absurd (false≢true e)
-same-of Report LeftIn e = absurd (false≢true e)
-same-of Report RightIn e = absurd (false≢true e)
-same-of Report LeftOut e = absurd (false≢true e)
-same-of Report RightOut e = absurd (false≢true e)
-same-of Report Report e = refl
-same-of Report Errors e = absurd (false≢true e)
-same-of Errors Settings e = absurd (false≢true e)
-same-of Errors LeftIn e = absurd (false≢true e)
-same-of Errors RightIn e = absurd (false≢true e)
-same-of Errors LeftOut e = absurd (false≢true e)
-same-of Errors RightOut e = absurd (false≢true e)
-same-of Errors Report e = absurd (false≢true e)
-same-of Errors Errors e = refl
+same-of s t e = sym (numbered s) ∙ ap (λ (n : ℕ). slice_index_or slots n Settings) (eqb-true (number_of s) (number_of t) e) ∙ numbered t
+
+grown : (r : Bool) (own there xs : List ℕ) → (r ≡ true → own ≡ there) → cond r (own ++ xs) there ≡ there ++ (if r then xs else [])
+grown true own there xs h = ap (λ (ys : List ℕ). ys ++ xs) (h refl)
+grown false own there xs h = sym (append-nil there)
+
+-- octets behind those of one slot
+pub at-put_append : (p : PerSlot (List ℕ)) (s t : Slot) (xs : List ℕ) → at (put p s (at p s ++ xs)) t ≡ at p t ++ (if same_slot s t then xs else [])
+at-put_append p s t xs = at-put_any p s t (at p s ++ xs) ∙ grown (same_slot s t) (at p s) (at p t) xs (λ one. ap (at p) (same-of s t one))
 
 none_fell : (s t : Slot) (a b : PerSlot ℕ) → Rises s a b → (r : Bool) → same_slot s t ≡ r → at a t ≤ at b t
 none_fell s t a b h true e = subst (λ (u : Slot). at a u ≤ at b u) (same-of s t e) h.never_falls
@@ -317,13 +258,7 @@ last-started : (slot s : Slot) (name : List ℕ) (way : Way) (starts : List Star
 last-started slot s name way starts = fold-append _ None starts _
 
 same-self : (s : Slot) → same_slot s s ≡ true
-same-self Settings = refl
-same-self LeftIn = refl
-same-self RightIn = refl
-same-self LeftOut = refl
-same-self RightOut = refl
-same-self Report = refl
-same-self Errors = refl
+same-self s = every (λ s. same_slot s s ≡ true) refl refl refl refl refl refl refl refl refl refl s
 
 can_read_started-of : (s : Slot) (name : List ℕ) (o : Option (List Start)) → IfSome (started s name Read o) (λ starts. last_way s starts ≡ Some Read)
 unfolding started
@@ -347,22 +282,12 @@ can_write_started-of s name None = tt
 can_write_started-of s name (Some starts) = last-started s s name Write starts ∙ ap (λ (r : Bool). cond r (Some Write) (last_way s starts)) (same-self s)
 
 can_write-of : (s : Slot) (a : Outside) → IfSome a.starts (λ starts. last_way s starts ≡ Some Write) → CanWrite a s
-can_write-of Settings a h = h
-can_write-of LeftIn a h = h
-can_write-of RightIn a h = h
-can_write-of LeftOut a h = h
-can_write-of RightOut a h = h
-can_write-of Report a h = h
 can_write-of Errors a h = tt
+can_write-of s a h = h
 
 of-can_write : (s : Slot) (a : Outside) → same_slot s Errors ≡ false → CanWrite a s → IfSome a.starts (λ starts. last_way s starts ≡ Some Write)
-of-can_write Settings a e h = h
-of-can_write LeftIn a e h = h
-of-can_write RightIn a e h = h
-of-can_write LeftOut a e h = h
-of-can_write RightOut a e h = h
-of-can_write Report a e h = h
 of-can_write Errors a e h = absurd (false≢true (sym e))
+of-can_write s a e h = h
 
 pub can_write_started : (s : Slot) (name : List ℕ) (a b : Outside) → Starts s name Write a b → CanWrite b s
 can_write_started s name a b h = can_write-of s b (subst (λ o. IfSome o (λ starts. last_way s starts ≡ Some Write)) (sym h.starts) (can_write_started-of s name a.starts))

@@ -4,23 +4,12 @@ use Rattle.std.specs.Io.KnownBytes.{Appends, append_known}
 use Rattle.gate_desk.specs.declared.gathered.Gathering.{Gathering}
 use Rattle.gate_desk.specs.declared.gathered.Gathering.TheVariants.{Gathered, NoRoom}
 use Rattle.gate_desk.specs.declared.slot.Slot.{Slot}
-use Rattle.gate_desk.specs.declared.slot.Slot.TheVariants.{Settings, LeftIn, RightIn, LeftOut, RightOut, Report, Errors}
+use Rattle.gate_desk.specs.declared.slot.Slot.TheVariants.{Settings, LeftIn, RightIn, LeftGiven, RightGiven, ReportGiven, LeftOut, RightOut, Report, Errors}
 use Rattle.gate_desk.specs.declared.slot.PerSlot.{PerSlot}
 use Rattle.gate_desk.specs.Slots.{at, put, same_slot}
 use Rattle.gate_desk.specs.Memory.{each}
 use Rattle.gate_desk.specs.Gathering.{HandsOut, IsFile, TakesPiece, gathered_after, taken_at}
-use Rattle.gate_desk.proofs.Gathering.{at_none}
-use Rattle.gate_desk.proofs.Laws.{at-put_any, put-at, same-of}
-
--- the seven slots, one by one
-pub every : (P : Slot → Type 0) → P Settings → P LeftIn → P RightIn → P LeftOut → P RightOut → P Report → P Errors → (s : Slot) → P s
-every P a b c d e f g Settings = a
-every P a b c d e f g LeftIn = b
-every P a b c d e f g RightIn = c
-every P a b c d e f g LeftOut = d
-every P a b c d e f g RightOut = e
-every P a b c d e f g Report = f
-every P a b c d e f g Errors = g
+use Rattle.gate_desk.proofs.Laws.{at-each, at-put_append, put-at}
 
 appends_none : (g : Option (List ℕ)) → Appends g g []
 appends_none None = tt
@@ -46,22 +35,17 @@ added (Some xs) waiting piece = sym (append_assoc xs waiting piece)
 -- all that waited was got
 pub handed_all : (got got' : PerSlot (Option (List ℕ))) (waiting waiting' : PerSlot (List ℕ)) → HandsOut got waiting got' → waiting' ≡ each [] → (s : Slot) → Appends (taken_at got waiting s) (taken_at got' waiting' s) []
 handed_all got got' waiting waiting' h none s =
-    subst (λ (w : List ℕ). Appends (taken_at got waiting s) (append_known (at got' s) w) []) (sym (ap (λ (w : PerSlot (List ℕ)). at w s) none ∙ at_none s)) (handed (at got s) (at got' s) (at waiting s) (h s))
-
-by_slot : (r : Bool) (g : Option (List ℕ)) (waiting own piece : List ℕ) → (r ≡ true → own ≡ waiting) → Appends (append_known g waiting) (append_known g (cond r (own ++ piece) waiting)) (if r then piece else [])
-by_slot true g waiting own piece h = subst (λ (l : List ℕ). Appends (append_known g waiting) (append_known g (l ++ piece)) piece) (sym (h refl)) (added g waiting piece)
-by_slot false g waiting own piece h = appends_none (append_known g waiting)
+    subst (λ (w : List ℕ). Appends (taken_at got waiting s) (append_known (at got' s) w) []) (sym (ap (λ (w : PerSlot (List ℕ)). at w s) none ∙ at-each [] s)) (handed (at got s) (at got' s) (at waiting s) (h s))
 
 -- a piece was gathered for its slot
 pub gathered_one : (slot s : Slot) (piece : List ℕ) (got got' : PerSlot (Option (List ℕ))) (waiting waiting' : PerSlot (List ℕ)) (r : Gathering) → got' ≡ got → waiting' ≡ put waiting slot (gathered_after r piece (at waiting slot)) → r ≡ Gathered
     → Appends (taken_at got waiting s) (taken_at got' waiting' s) (if same_slot slot s then piece else [])
 gathered_one slot s piece got got' waiting waiting' r same e is =
-    let own = at waiting slot in
-    let there : at waiting' s ≡ cond (same_slot slot s) (own ++ piece) (at waiting s) =
-    ap (λ (w : PerSlot (List ℕ)). at w s) (e ∙ ap (λ (x : Gathering). put waiting slot (gathered_after x piece own)) is) ∙ at-put_any waiting slot s (own ++ piece) in
-    subst (λ (g : PerSlot (Option (List ℕ))). Appends (taken_at got waiting s) (append_known (at g s) (at waiting' s)) (if same_slot slot s then piece else [])) (sym same)
-    (subst (λ (w : List ℕ). Appends (taken_at got waiting s) (append_known (at got s) w) (if same_slot slot s then piece else [])) (sym there)
-    (by_slot (same_slot slot s) (at got s) (at waiting s) own piece (λ one. ap (at waiting) (same-of slot s one))))
+    let own = if same_slot slot s then piece else [] in
+    let there : at waiting' s ≡ at waiting s ++ own =
+    ap (λ (w : PerSlot (List ℕ)). at w s) (e ∙ ap (λ (x : Gathering). put waiting slot (gathered_after x piece (at waiting slot))) is) ∙ at-put_append waiting slot s piece in
+    subst (λ (g : PerSlot (Option (List ℕ))). Appends (taken_at got waiting s) (append_known (at g s) (at waiting' s)) own) (sym same)
+    (subst (λ (w : List ℕ). Appends (taken_at got waiting s) (append_known (at got s) w) own) (sym there) (added (at got s) (at waiting s) own))
 
 -- a piece was gathered once all that waited was got
 pub gathered_behind : (slot : Slot) (piece : List ℕ) (got mid got' : PerSlot (Option (List ℕ))) (waiting none waiting' : PerSlot (List ℕ)) (r : Gathering) → HandsOut got waiting mid → none ≡ each [] → got' ≡ mid
@@ -78,12 +62,5 @@ taken_later result slot piece got mid got' waiting middle waiting' r same e is h
 
 -- a line of errors is for no file
 pub taken_for_none : (piece : List ℕ) (got got' : PerSlot (Option (List ℕ))) (waiting waiting' : PerSlot (List ℕ)) → HandsOut got waiting got' → waiting' ≡ each [] → TakesPiece Errors piece got waiting got' waiting'
-taken_for_none piece got got' waiting waiting' h none =
-    every (λ s. IsFile s → Appends (taken_at got waiting s) (taken_at got' waiting' s) (if same_slot Errors s then piece else []))
-    (λ file. handed_all got got' waiting waiting' h none Settings)
-    (λ file. handed_all got got' waiting waiting' h none LeftIn)
-    (λ file. handed_all got got' waiting waiting' h none RightIn)
-    (λ file. handed_all got got' waiting waiting' h none LeftOut)
-    (λ file. handed_all got got' waiting waiting' h none RightOut)
-    (λ file. handed_all got got' waiting waiting' h none Report)
-    (λ file. absurd file)
+taken_for_none piece got got' waiting waiting' h none Errors file = absurd file
+taken_for_none piece got got' waiting waiting' h none s file = handed_all got got' waiting waiting' h none s

@@ -10,7 +10,7 @@ use Rattle.gate_desk.specs.declared.slot.Slot.TheVariants.{Errors}
 use Rattle.gate_desk.specs.declared.slot.PerSlot.{PerSlot}
 use Rattle.gate_desk.specs.declared.slot.Way.{Way}
 use Rattle.gate_desk.specs.declared.slot.Way.TheVariants.{Read, Write}
-use Rattle.gate_desk.specs.Slots.{at, put, same_slot}
+use Rattle.gate_desk.specs.Slots.{at, put, mapped, same_slot}
 
 -- a piece is gathered whole, or nothing of it
 abbrev pub gathered_after : Gathering → List ℕ → List ℕ → List ℕ
@@ -26,15 +26,7 @@ waiting _ = []
 
 -- the same of each slot
 abbrev pub waiting_in : {F A : Type 0} → PerSlot (Place F A) → PerSlot (List ℕ)
-waiting_in p = record {
-  settings = waiting p.settings;
-  left_in = waiting p.left_in;
-  right_in = waiting p.right_in;
-  left_out = waiting p.left_out;
-  right_out = waiting p.right_out;
-  report = waiting p.report;
-  errors = waiting p.errors;
-}
+waiting_in p = mapped waiting p
 
 -- a piece waits on a slot, behind what waited there, or alone; a line of errors waits nowhere
 abbrev pub Waits : Slot → List ℕ → PerSlot (List ℕ) → PerSlot (List ℕ) → Type 0
@@ -50,15 +42,7 @@ way_of Nowhere = None
 
 -- the same of each slot
 abbrev pub ways_in : {F A : Type 0} → PerSlot (Place F A) → PerSlot (Option Way)
-ways_in p = record {
-  settings = way_of p.settings;
-  left_in = way_of p.left_in;
-  right_in = way_of p.right_in;
-  left_out = way_of p.left_out;
-  right_out = way_of p.right_out;
-  report = way_of p.report;
-  errors = way_of p.errors;
-}
+ways_in p = mapped way_of p
 
 -- a slot that was started is open for this, and all others stay
 abbrev pub ways_after : {T E : Type 0} → Result T E → Slot → Way → PerSlot (Option Way) → PerSlot (Option Way)
@@ -72,15 +56,7 @@ got contents _ = None
 
 -- the same of each slot
 abbrev pub got_in : {F A : Type 0} → (F → Option (List ℕ)) → PerSlot (Place F A) → PerSlot (Option (List ℕ))
-got_in contents p = record {
-  settings = got contents p.settings;
-  left_in = got contents p.left_in;
-  right_in = got contents p.right_in;
-  left_out = got contents p.left_out;
-  right_out = got contents p.right_out;
-  report = got contents p.report;
-  errors = got contents p.errors;
-}
+got_in contents p = mapped (got contents) p
 
 -- each file got what waited for it
 abbrev pub HandsOut : PerSlot (Option (List ℕ)) → PerSlot (List ℕ) → PerSlot (Option (List ℕ)) → Type 0

@@ -16,22 +16,24 @@ told_of m = record { left = Some m.left; written = Some m.written; starts = Some
 
 -- the octets of all slots
 abbrev pub total : PerSlot (List ℕ) → ℕ
-total p = length p.settings + length p.left_in + length p.right_in + length p.left_out + length p.right_out + length p.report + length p.errors
+total p =
+    length p.settings + length p.left_in + length p.right_in + length p.left_given + length p.right_given + length p.report_given + length p.left_out + length p.right_out + length p.report + length p.errors
 
 -- the same value in each slot
 abbrev pub each : {A : Type 0} → A → PerSlot A
-each x = record { settings = x; left_in = x; right_in = x; left_out = x; right_out = x; report = x; errors = x }
+each x = record { settings = x; left_in = x; right_in = x; left_given = x; right_given = x; report_given = x; left_out = x; right_out = x; report = x; errors = x }
 
 -- settings and two captures to be read
 abbrev pub inputs : List ℕ → List ℕ → List ℕ → PerSlot (List ℕ)
-inputs settings left right = record { settings = settings; left_in = left; right_in = right; left_out = []; right_out = []; report = []; errors = [] }
+inputs settings left right = record (each []) { settings = settings; left_in = left; right_in = right }
+
+-- and, to be audited, two captures and a report that some gateway made of them
+abbrev pub audit_inputs : List ℕ → List ℕ → List ℕ → List ℕ → List ℕ → List ℕ → PerSlot (List ℕ)
+audit_inputs settings left right left_given right_given report_given = record (inputs settings left right) { left_given = left_given; right_given = right_given; report_given = report_given }
 
 -- these octets to be read, nothing written, no start and no fault
+abbrev pub opening_of : PerSlot (List ℕ) → Memory
+opening_of left = record { left = left; written = each []; starts = []; faults = each 0; start_faults = each 0 }
+
 abbrev pub opening : List ℕ → List ℕ → List ℕ → Memory
-opening settings left right = record {
-  left = inputs settings left right;
-  written = each [];
-  starts = [];
-  faults = each 0;
-  start_faults = each 0;
-}
+opening settings left right = opening_of (inputs settings left right)

@@ -1,14 +1,19 @@
 -- The slots, and one value for each.
-use Rattle.std.specs.Prelude.{ℕ, Bool, true, false, List, codes}
+use Rattle.std.specs.Prelude.{ℕ, Bool, ◌==◌, List, codes}
+use Rattle.std.specs.Borrow.{Lends, MutBor, Fml, RattleType}
 use Rattle.gate_desk.specs.declared.slot.Slot.{Slot}
-use Rattle.gate_desk.specs.declared.slot.Slot.TheVariants.{Settings, LeftIn, RightIn, LeftOut, RightOut, Report, Errors}
+use Rattle.gate_desk.specs.declared.slot.Slot.TheVariants.{Settings, LeftIn, RightIn, LeftGiven, RightGiven, ReportGiven, LeftOut, RightOut, Report, Errors}
 use Rattle.gate_desk.specs.declared.slot.PerSlot.{PerSlot}
+use Rattle.gate_desk.specs.contracts.slot.PerSlot.{the_row}
 
 -- the value of a slot
 abbrev pub at : {A : Type 0} → PerSlot A → Slot → A
 at p Settings = p.settings
 at p LeftIn = p.left_in
 at p RightIn = p.right_in
+at p LeftGiven = p.left_given
+at p RightGiven = p.right_given
+at p ReportGiven = p.report_given
 at p LeftOut = p.left_out
 at p RightOut = p.right_out
 at p Report = p.report
@@ -19,26 +24,57 @@ abbrev pub put : {A : Type 0} → PerSlot A → Slot → A → PerSlot A
 put p Settings x = record p { settings = x }
 put p LeftIn x = record p { left_in = x }
 put p RightIn x = record p { right_in = x }
+put p LeftGiven x = record p { left_given = x }
+put p RightGiven x = record p { right_given = x }
+put p ReportGiven x = record p { report_given = x }
 put p LeftOut x = record p { left_out = x }
 put p RightOut x = record p { right_out = x }
 put p Report x = record p { report = x }
 put p Errors x = record p { errors = x }
 
+-- once the borrow r ends, the slot has the last value written through r
+abbrev pub lends_slot : (X : RattleType) → MutBor (PerSlot X.Denot) → Slot → MutBor X.Denot → Fml
+lends_slot X p slot r = Lends (the_row X) X p r (put p.now slot)
+
+-- what f makes of each value
+abbrev pub mapped : {A B : Type 0} → (A → B) → PerSlot A → PerSlot B
+mapped f p = record {
+  settings = f p.settings;
+  left_in = f p.left_in;
+  right_in = f p.right_in;
+  left_given = f p.left_given;
+  right_given = f p.right_given;
+  report_given = f p.report_given;
+  left_out = f p.left_out;
+  right_out = f p.right_out;
+  report = f p.report;
+  errors = f p.errors;
+}
+
+-- a number for each slot
+abbrev pub number_of : Slot → ℕ
+number_of Settings = 0
+number_of LeftIn = 1
+number_of RightIn = 2
+number_of LeftGiven = 3
+number_of RightGiven = 4
+number_of ReportGiven = 5
+number_of LeftOut = 6
+number_of RightOut = 7
+number_of Report = 8
+number_of Errors = 9
+
 abbrev pub same_slot : Slot → Slot → Bool
-same_slot Settings Settings = true
-same_slot LeftIn LeftIn = true
-same_slot RightIn RightIn = true
-same_slot LeftOut LeftOut = true
-same_slot RightOut RightOut = true
-same_slot Report Report = true
-same_slot Errors Errors = true
-same_slot _ _ = false
+same_slot s t = number_of s == number_of t
 
 -- the name of a slot in the line about what went wrong
 unfoldable pub name_of : Slot → List ℕ
 name_of Settings = codes "settings"
 name_of LeftIn = codes "left_in"
 name_of RightIn = codes "right_in"
+name_of LeftGiven = codes "left_given"
+name_of RightGiven = codes "right_given"
+name_of ReportGiven = codes "report_given"
 name_of LeftOut = codes "left_out"
 name_of RightOut = codes "right_out"
 name_of Report = codes "report"

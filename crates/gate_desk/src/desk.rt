@@ -8,7 +8,7 @@ use crate::{Slot, Way};
 #[derive(Clone, Copy, Debug, PartialEq, Eq)]
 pub struct Failed;
 
-/// Seven slots that are started, read and written. A desk tells what its slots hold, or it tells nothing; in either case it
+/// Ten slots that are started, read and written. A desk tells what its slots hold, or it tells nothing; in either case it
 /// counts failed starts, and failed reads and writes, of each slot. A call that succeeds leaves the counts.
 pub trait Desk {
     /// The outside as far as the desk tells it, and the counts of what has failed.

@@ -5,7 +5,7 @@ ghost use Rattle.gate_desk.specs.Discarded.{told_by};
 ghost use Rattle.gate_desk.specs.Outside.{Starts, FailsToStart, Takes, AreNext, IsAtEnd, Writes, HasFailed};
 
 use crate::memory::Source;
-use crate::per_slot::{inputs, take_from};
+use crate::per_slot::inputs;
 use crate::{Desk, Failed, PerSlot, Slot, Way};
 use std::alloc::Global;
 use std::marker::Model;
@@ -59,7 +59,7 @@ impl Desk for DiscardingDesk {
         ensures leaves { OnOk result ((told_by self.new).faults ≡ (told_by self.old).faults) }
         ensures exact { IsOk result }
     {
-        Ok(take_from(&mut self.left, slot, buffer))
+        Ok(self.left.at_mut(slot).take(buffer))
     }
 
     fn write(&mut self, slot: Slot, piece: &[u8]) -> Result<usize, Failed>

@@ -50,88 +50,13 @@ fn nowhere<F: Read + Drop, A: Allocator>() -> PerSlot<Place<F, A>>
         settings: Place::Nowhere,
         left_in: Place::Nowhere,
         right_in: Place::Nowhere,
+        left_given: Place::Nowhere,
+        right_given: Place::Nowhere,
+        report_given: Place::Nowhere,
         left_out: Place::Nowhere,
         right_out: Place::Nowhere,
         report: Place::Nowhere,
         errors: Place::Nowhere,
-    }
-}
-
-// Puts another place in that of a slot.
-fn set_place<F: Read + Drop, A: Allocator>(
-    places: &mut PerSlot<Place<F, A>>,
-    slot: Slot,
-    place: Place<F, A>,
-)
-    ensures place { places.new ≡ put places.old slot place }
-    ensures way { ways_in places.new ≡ put (ways_in places.old) slot (way_of place) }
-{
-    match slot {
-        Slot::Settings => places.settings = place,
-        Slot::LeftIn => places.left_in = place,
-        Slot::RightIn => places.right_in = place,
-        Slot::LeftOut => places.left_out = place,
-        Slot::RightOut => places.right_out = place,
-        Slot::Report => places.report = place,
-        Slot::Errors => places.errors = place,
-    }
-}
-
-// Takes octets of a slot that were read ahead, where there are some. No other slot is read than the three inputs.
-#[inline(always)]
-fn take_ahead<F: Read + Drop, A: Allocator>(
-    places: &mut PerSlot<Place<F, A>>,
-    slot: Slot,
-    buffer: &mut [u8],
-) -> Option<usize>
-    ensures fits { IfSome result (λ n. n ≤ length buffer.new) }
-    ensures ways { ways_in places.new ≡ ways_in places.old }
-{
-    match slot {
-        Slot::Settings => places.settings.take_ahead(buffer),
-        Slot::LeftIn => places.left_in.take_ahead(buffer),
-        Slot::RightIn => places.right_in.take_ahead(buffer),
-        _ => None,
-    }
-}
-
-// Asks the system for octets of a slot.
-#[inline(never)]
-fn ask<F: Read + Drop, A: Allocator>(
-    places: &mut PerSlot<Place<F, A>>,
-    slot: Slot,
-    buffer: &mut [u8],
-) -> Result<usize, Failed>
-    ensures fits { IfOk result (λ n. n ≤ length buffer.new) }
-    ensures ways { ways_in places.new ≡ ways_in places.old }
-{
-    match slot {
-        Slot::Settings => places.settings.read(buffer),
-        Slot::LeftIn => places.left_in.read(buffer),
-        Slot::RightIn => places.right_in.read(buffer),
-        _ => Err(Failed),
-    }
-}
-
-// Gathers a whole piece for a slot, or nothing of it.
-#[inline(always)]
-fn gather<F: Read + Drop, A: Allocator>(
-    places: &mut PerSlot<Place<F, A>>,
-    slot: Slot,
-    piece: &[u8],
-) -> Gathering
-    ensures waits { waiting_in places.new ≡ put (waiting_in places.old) slot (gathered_after result piece.now (at (waiting_in places.old) slot)) }
-    ensures got { (contents : F → Option (List ℕ)) → got_in contents places.new ≡ got_in contents places.old }
-    ensures ways { ways_in places.new ≡ ways_in places.old }
-{
-    match slot {
-        Slot::Settings => places.settings.gather(piece),
-        Slot::LeftIn => places.left_in.gather(piece),
-        Slot::RightIn => places.right_in.gather(piece),
-        Slot::LeftOut => places.left_out.gather(piece),
-        Slot::RightOut => places.right_out.gather(piece),
-        Slot::Report => places.report.gather(piece),
-        Slot::Errors => places.errors.gather(piece),
     }
 }
 
@@ -141,13 +66,16 @@ fn write_out_all<R: Runtime>(rt: &R, places: &mut PerSlot<Place<R::File, R::A>>)
     ensures none { OnOk result (waiting_in places.new ≡ each []) }
     ensures files { OnOk result (HandsOut (got_in R.File.contents places.old) (waiting_in places.old) (got_in R.File.contents places.new)) }
 {
-    write_out(rt, &mut places.settings).map_err(|_: Failed| Slot::Settings)?;
-    write_out(rt, &mut places.left_in).map_err(|_: Failed| Slot::LeftIn)?;
-    write_out(rt, &mut places.right_in).map_err(|_: Failed| Slot::RightIn)?;
-    write_out(rt, &mut places.left_out).map_err(|_: Failed| Slot::LeftOut)?;
-    write_out(rt, &mut places.right_out).map_err(|_: Failed| Slot::RightOut)?;
-    write_out(rt, &mut places.report).map_err(|_: Failed| Slot::Report)?;
-    write_out(rt, &mut places.errors).map_err(|_: Failed| Slot::Errors)
+    write_out(rt, Slot::Settings, &mut places.settings)?;
+    write_out(rt, Slot::LeftIn, &mut places.left_in)?;
+    write_out(rt, Slot::RightIn, &mut places.right_in)?;
+    write_out(rt, Slot::LeftGiven, &mut places.left_given)?;
+    write_out(rt, Slot::RightGiven, &mut places.right_given)?;
+    write_out(rt, Slot::ReportGiven, &mut places.report_given)?;
+    write_out(rt, Slot::LeftOut, &mut places.left_out)?;
+    write_out(rt, Slot::RightOut, &mut places.right_out)?;
+    write_out(rt, Slot::Report, &mut places.report)?;
+    write_out(rt, Slot::Errors, &mut places.errors)
 }
 
 // Writes out all that is gathered, or keeps the slot of which the system refused an octet.
@@ -192,7 +120,7 @@ fn start_slot<R: Runtime>(
     hand_out(rt, places, refused)?;
     match open_place(rt, slot, name, way) {
         Ok(place) => {
-            set_place(places, slot, place);
+            *places.at_mut(slot) = place;
             Ok(())
         }
         Err(_) => Err(Failed),
@@ -215,11 +143,11 @@ fn read_slot<R: Runtime>(
     if refused.is_some() {
         return Err(Failed);
     }
-    match take_ahead(places, slot, buffer) {
+    match places.at_mut(slot).take_ahead(buffer) {
         Some(n) => Ok(n),
         None => {
             hand_out(rt, places, refused)?;
-            ask(places, slot, buffer)
+            places.at_mut(slot).read(buffer)
         }
     }
 }
@@ -245,7 +173,7 @@ fn write_slot<R: Runtime>(
     if refused.is_some() {
         return Err(Failed);
     }
-    match gather(places, slot, piece) {
+    match places.at_mut(slot).gather(piece) {
         Gathering::Gathered => Ok(piece.len()),
         Gathering::NoRoom => gather_alone(rt, places, refused, slot, piece),
         Gathering::Refused => Err(Failed),
@@ -267,7 +195,7 @@ fn gather_alone<R: Runtime>(
     ensures takes { OnOk result (TakesPiece slot piece.now (got_in R.File.contents places.old) (waiting_in places.old) (got_in R.File.contents places.new) (waiting_in places.new)) }
 {
     hand_out(rt, places, refused)?;
-    match gather(places, slot, piece) {
+    match places.at_mut(slot).gather(piece) {
         Gathering::Gathered => Ok(piece.len()),
         _ => Err(Failed),
     }

@@ -1,4 +1,4 @@
-//! The outside as the program sees it: seven slots that are started, read and written, and four desks that hold them.
+//! The outside as the program sees it: ten slots that are started, read and written, and four desks that hold them.
 #![tactic(auto)]
 
 mod counted_desk;

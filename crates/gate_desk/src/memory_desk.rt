@@ -7,7 +7,7 @@ ghost use Rattle.gate_desk.specs.Outside.{names_size, Starts, FailsToStart, Take
 
 use crate::log::StartLog;
 use crate::memory::{Sink, Source};
-use crate::per_slot::{inputs, no_counts, octets_of, push_to, raise, take_from, total_of};
+use crate::per_slot::{inputs, no_counts, raise, total_of};
 use crate::{Desk, Failed, PerSlot, Slot, Way};
 use gate_base::OutOfMemory;
 use std::alloc::Global;
@@ -37,8 +37,15 @@ impl Model for MemoryDesk {
     ghost view = { λ d. record { left = d.left; written = d.written; starts = d.log; faults = d.faults; start_faults = d.start_faults } };
 }
 
+// Three slots on which nothing is written, with their room.
+fn three_sinks(alloc: Global) -> Result<(Sink, Sink, Sink), OutOfMemory>
+    ensures { IfOk result (λ three. (three.0 ≡ []) × (three.1 ≡ []) × (three.2 ≡ [])) }
+{
+    Ok((Sink::new(alloc)?, Sink::new(alloc)?, Sink::new(alloc)?))
+}
+
 impl MemoryDesk {
-    ghost use Rattle.gate_desk.specs.Memory.{opening};
+    ghost use Rattle.gate_desk.specs.Memory.{opening, opening_of, audit_inputs};
 
     /// A desk with these octets to be read, nothing written, no start and no fault. It takes all its memory here.
     pub fn make(
@@ -49,14 +56,45 @@ impl MemoryDesk {
     ) -> Result<MemoryDesk, OutOfMemory>
         ensures { IfOk result (λ d. d ≡ opening settings.items left.items right.items) }
     {
-        let left = inputs(alloc, settings, left, right);
+        MemoryDesk::over(alloc, inputs(alloc, settings, left, right))
+    }
+
+    /// The same with two captures and a report besides, which are to be audited.
+    pub fn make_audit(
+        alloc: Global,
+        settings: Vec<u8>,
+        left: Vec<u8>,
+        right: Vec<u8>,
+        left_given: Vec<u8>,
+        right_given: Vec<u8>,
+        report_given: Vec<u8>,
+    ) -> Result<MemoryDesk, OutOfMemory>
+        ensures { IfOk result (λ d. d ≡ opening_of (audit_inputs settings.items left.items right.items left_given.items right_given.items report_given.items)) }
+    {
+        let mut sources = inputs(alloc, settings, left, right);
+        sources.left_given = Source::new(left_given);
+        sources.right_given = Source::new(right_given);
+        sources.report_given = Source::new(report_given);
+        MemoryDesk::over(alloc, sources)
+    }
+
+    // A desk with these octets to be read. It takes its other memory here.
+    fn over(alloc: Global, left: PerSlot<Source>) -> Result<MemoryDesk, OutOfMemory>
+        ensures { IfOk result (λ d. d ≡ opening_of left) }
+    {
+        let (settings, left_in, right_in) = three_sinks(alloc)?;
+        let (left_given, right_given, report_given) = three_sinks(alloc)?;
+        let (left_out, right_out, report) = three_sinks(alloc)?;
         let written = PerSlot {
-            settings: Sink::new(alloc)?,
-            left_in: Sink::new(alloc)?,
-            right_in: Sink::new(alloc)?,
-            left_out: Sink::new(alloc)?,
-            right_out: Sink::new(alloc)?,
-            report: Sink::new(alloc)?,
+            settings,
+            left_in,
+            right_in,
+            left_given,
+            right_given,
+            report_given,
+            left_out,
+            right_out,
+            report,
             errors: Sink::new(alloc)?,
         };
         Ok(MemoryDesk {
@@ -72,7 +110,7 @@ impl MemoryDesk {
     pub fn output(&self, slot: Slot) -> &[u8]
         ensures { result.now ≡ at self.now.written slot }
     {
-        octets_of(&self.written, slot)
+        self.written.at(slot).octets()
     }
 
     pub(crate) fn fail_start(&mut self, slot: Slot)
@@ -119,7 +157,7 @@ impl Desk for MemoryDesk {
         ensures exact { IsOk result }
         ensures counts { self.new.faults ≡ self.old.faults }
     {
-        Ok(take_from(&mut self.left, slot, buffer))
+        Ok(self.left.at_mut(slot).take(buffer))
     }
 
     /// Fails exactly where the octets of all slots would be more than 64 MiB.
@@ -137,7 +175,7 @@ impl Desk for MemoryDesk {
             raise(&mut self.faults, slot);
             return Err(Failed);
         }
-        push_to(&mut self.written, slot, piece);
+        self.written.at_mut(slot).push(piece);
         Ok(piece.len())
     }
 }

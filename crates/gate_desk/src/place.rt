@@ -135,15 +135,22 @@ impl<'a, R: Runtime> Write for StandardOutput<'a, R> {
     }
 }
 
-/// Writes out all that is gathered for a place. After an error it stays, though the system may have got some of it.
-pub fn write_out<R: Runtime>(rt: &R, place: &mut Place<R::File, R::A>) -> Result<(), Failed>
+/// Writes out all that is gathered for a slot's place. After an error, which names the slot, it stays, though the system may
+/// have got some of it.
+pub fn write_out<R: Runtime>(
+    rt: &R,
+    slot: Slot,
+    place: &mut Place<R::File, R::A>,
+) -> Result<(), Slot>
     ensures none { OnOk result (waiting place.new ≡ []) }
     ensures way { way_of place.new ≡ way_of place.old }
     ensures written { OnOk result (Appends (got R.File.contents place.old) (got R.File.contents place.new) (waiting place.old)) }
 {
     match place {
-        Place::Output(file, gathered) => gathered.write_out(file),
-        Place::StandardOutput(gathered) => gathered.write_out(&mut StandardOutput { rt }),
+        Place::Output(file, gathered) => gathered.write_out(file).map_err(|_: Failed| slot),
+        Place::StandardOutput(gathered) => gathered
+            .write_out(&mut StandardOutput { rt })
+            .map_err(|_: Failed| slot),
         _ => Ok(()),
     }
 }

@@ -1,6 +1,8 @@
 ghost use Rattle.std.specs.Prelude.{◌≡◌};
+ghost use Rattle.std.specs.Borrow.{sem};
+ghost use Rattle.gate_desk.specs.Slots.{at, lends_slot};
 
-/// One of the seven files that the gateway reads and writes.
+/// One of the ten files that the program reads and writes.
 #[derive(Clone, Copy, Debug, PartialEq, Eq)]
 pub enum Slot {
     /// The settings, read once.
@@ -9,6 +11,12 @@ pub enum Slot {
     LeftIn,
     /// The capture of frames that come from the right realm.
     RightIn,
+    /// A capture that some gateway made of frames that go to the left realm.
+    LeftGiven,
+    /// A capture that it made of frames that go to the right realm.
+    RightGiven,
+    /// The report that it made.
+    ReportGiven,
     /// The capture of frames that go to the left realm.
     LeftOut,
     /// The capture of frames that go to the right realm.
@@ -31,6 +39,9 @@ impl Slot {
             Slot::Settings => "settings",
             Slot::LeftIn => "left_in",
             Slot::RightIn => "right_in",
+            Slot::LeftGiven => "left_given",
+            Slot::RightGiven => "right_given",
+            Slot::ReportGiven => "report_given",
             Slot::LeftOut => "left_out",
             Slot::RightOut => "right_out",
             Slot::Report => "report",
@@ -52,8 +63,51 @@ pub struct PerSlot<T> {
     pub settings: T,
     pub left_in: T,
     pub right_in: T,
+    pub left_given: T,
+    pub right_given: T,
+    pub report_given: T,
     pub left_out: T,
     pub right_out: T,
     pub report: T,
     pub errors: T,
+}
+
+impl<T> PerSlot<T> {
+    /// The value of a slot.
+    pub fn at(&self, slot: Slot) -> &T
+        ensures { result.now ≡ at self.now slot }
+    {
+        match slot {
+            Slot::Settings => &self.settings,
+            Slot::LeftIn => &self.left_in,
+            Slot::RightIn => &self.right_in,
+            Slot::LeftGiven => &self.left_given,
+            Slot::RightGiven => &self.right_given,
+            Slot::ReportGiven => &self.report_given,
+            Slot::LeftOut => &self.left_out,
+            Slot::RightOut => &self.right_out,
+            Slot::Report => &self.report,
+            Slot::Errors => &self.errors,
+        }
+    }
+
+    /// The value of a slot, to be changed.
+    #[inline(always)]
+    pub fn at_mut(&mut self, slot: Slot) -> &mut T
+        ensures* writes_back { sem 𝓛 (lends_slot T.row self.entry slot result) }
+        ensures value { result.now ≡ at self.old slot }
+    {
+        match slot {
+            Slot::Settings => &mut self.settings,
+            Slot::LeftIn => &mut self.left_in,
+            Slot::RightIn => &mut self.right_in,
+            Slot::LeftGiven => &mut self.left_given,
+            Slot::RightGiven => &mut self.right_given,
+            Slot::ReportGiven => &mut self.report_given,
+            Slot::LeftOut => &mut self.left_out,
+            Slot::RightOut => &mut self.right_out,
+            Slot::Report => &mut self.report,
+            Slot::Errors => &mut self.errors,
+        }
+    }
 }

@@ -10,7 +10,8 @@ const OCTETS: usize = 262_144;
 /// before and after.
 #[derive(Drop)]
 pub struct Scratch {
-    pub(crate) octets: Vec<u8>,
+    /// The octets.
+    pub octets: Vec<u8>,
 }
 
 impl Model for Scratch {

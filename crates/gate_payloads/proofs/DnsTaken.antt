@@ -31,7 +31,7 @@ use Rattle.gate_world.specs.Names.{carried, message_in, named_in, is_unbound, ha
 use Rattle.gate_world.specs.Verdict.{udp_hold, named_hold}
 use Rattle.gate_world.specs.Units.{uses_until}
 use Rattle.gate_world.specs.World.{World, source_of, destination_of, called}
-use Rattle.kept_world.specs.Kept.{KeptSession}
+use Rattle.gate_world.specs.Rules.{SessionRules}
 use Rattle.gate_payloads.specs.Named.{named_uses}
 use Rattle.gate_payloads.specs.Taken.{IsTaken, IsWayOf}
 use Rattle.gate_payloads.specs.Ways.{image_by, is_empty, table_by, out_by}
@@ -200,7 +200,7 @@ short_payload octets payload few e =
 abbrev lacks : Bindings → Side → Addr → Addr → List Addr → Bool
 lacks t side source destination named = nat_lt (free t (other side)) (needed t side (source ∷ destination ∷ named))
 
-uses_are : (live : World KeptSession) (side : Side) (d : Datagram) (way : Way) (named : List Addr) → IsWayOf live side d way → named ≡ named_in (message_in d) →
+uses_are : {S : Type 0} (live : World S) (side : Side) (d : Datagram) (way : Way) (named : List Addr) → IsWayOf live side d way → named ≡ named_in (message_in d) →
     named_uses side way.moment.0 way.source way.destination named ≡ named_uses side live.clock (source_of d) (destination_of d) (named_in (message_in d))
 uses_are live side d way named w n =
     ap (λ (moment : ℕ). named_uses side moment way.source way.destination named) w.moment_is
@@ -208,7 +208,7 @@ uses_are live side d way named w n =
     ∙ ap (λ (a : Addr). named_uses side live.clock (source_of d) a named) w.destination_is
     ∙ ap (named_uses side live.clock (source_of d) (destination_of d)) n
 
-room_is : (live : World KeptSession) (side : Side) (d : Datagram) (way : Way) (named : List Addr) → IsWayOf live side d way → named ≡ named_in (message_in d) →
+room_is : {S : Type 0} (live : World S) (side : Side) (d : Datagram) (way : Way) (named : List Addr) → IsWayOf live side d way → named ≡ named_in (message_in d) →
     lacks live.table side way.source way.destination named ≡ lacks live.table side (source_of d) (destination_of d) (named_in (message_in d))
 room_is live side d way named w n =
     ap (λ (a : Addr). lacks live.table side a way.destination named) w.source_is
@@ -216,13 +216,13 @@ room_is live side d way named w n =
     ∙ ap (lacks live.table side (source_of d) (destination_of d)) n
 
 -- a datagram that passes, over what lives
-passed : (live : World KeptSession) (side : Side) (d : Datagram) (m : Message) (named : List Addr) (way : Way) (table : Bindings) (reply : List ℕ) (sent : List (List ℕ)) → IsWayOf live side d way → message_in d ≡ Some m → named ≡ named_in (Some m)
+passed : {S : Type 0} (rules : SessionRules S) (live : World S) (side : Side) (d : Datagram) (m : Message) (named : List Addr) (way : Way) (table : Bindings) (reply : List ℕ) (sent : List (List ℕ)) → IsWayOf live side d way → message_in d ≡ Some m → named ≡ named_in (Some m)
     → has_unbound live.table side named ≡ false
     → lacks live.table side way.source way.destination named ≡ false
     → table ≡ after_uses live.table (named_uses side way.moment.0 way.source way.destination named)
     → reply ≡ reply_by (drop 2 (images_after live.table (named_uses side way.moment.0 way.source way.destination named))) (carried d) (Some m)
-    → sent ≡ rebuilt d (image_by way.of_source way.source).0 (image_by way.of_destination way.destination).0 reply ∷ [] → IsTaken live side d Dns None table sent
-passed live side d m named way table reply sent w e h unbound full bound answer out =
+    → sent ≡ rebuilt d (image_by way.of_source way.source).0 (image_by way.of_destination way.destination).0 reply ∷ [] → IsTaken rules live side d Dns None table sent
+passed rules live side d m named way table reply sent w e h unbound full bound answer out =
     let n : named ≡ named_in (message_in d) = h ∙ ap named_in (sym e) in
     let s = source_of d in
     let t = destination_of d in
@@ -254,20 +254,20 @@ passed live side d m named way table reply sent w e h unbound full bound answer 
     }
 
 -- the same over an equal table
-pub names_passed : (live : World KeptSession) (side : Side) (d : Datagram) (m : Message) (named : List Addr) (way : Way) (old table : Bindings) (reply : List ℕ) (sent : List (List ℕ)) → live.table ≡ old → IsWayOf live side d way → message_in d ≡ Some m → named ≡ named_in (Some m)
+pub names_passed : {S : Type 0} (rules : SessionRules S) (live : World S) (side : Side) (d : Datagram) (m : Message) (named : List Addr) (way : Way) (old table : Bindings) (reply : List ℕ) (sent : List (List ℕ)) → live.table ≡ old → IsWayOf live side d way → message_in d ≡ Some m → named ≡ named_in (Some m)
     → has_unbound old side named ≡ false
     → nat_lt (free old (other side)) (needed old side (way.source ∷ way.destination ∷ named)) ≡ false
     → table ≡ after_uses old (named_uses side way.moment.0 way.source way.destination named)
     → reply ≡ reply_by (drop 2 (images_after old (named_uses side way.moment.0 way.source way.destination named))) (carried d) (Some m)
-    → sent ≡ rebuilt d (image_by way.of_source way.source).0 (image_by way.of_destination way.destination).0 reply ∷ [] → IsTaken live side d Dns None table sent
-names_passed live side d m named way old table reply sent same w e h =
+    → sent ≡ rebuilt d (image_by way.of_source way.source).0 (image_by way.of_destination way.destination).0 reply ∷ [] → IsTaken rules live side d Dns None table sent
+names_passed rules live side d m named way old table reply sent same w e h =
     let P : Bindings → Type 0 = λ t.
     has_unbound t side named ≡ false
     → lacks t side way.source way.destination named ≡ false
     → table ≡ after_uses t (named_uses side way.moment.0 way.source way.destination named)
     → reply ≡ reply_by (drop 2 (images_after t (named_uses side way.moment.0 way.source way.destination named))) (carried d) (Some m)
-    → sent ≡ rebuilt d (image_by way.of_source way.source).0 (image_by way.of_destination way.destination).0 reply ∷ [] → IsTaken live side d Dns None table sent in
-    subst P same (passed live side d m named way table reply sent w e h)
+    → sent ≡ rebuilt d (image_by way.of_source way.source).0 (image_by way.of_destination way.destination).0 reply ∷ [] → IsTaken rules live side d Dns None table sent in
+    subst P same (passed rules live side d m named way table reply sent w e h)
 
 -- ## A message that names nothing
 
@@ -276,9 +276,9 @@ none_replied octets None = refl
 none_replied octets (Some m) = refl
 
 -- it is taken as a datagram of which only the header is renamed
-pub nothing_named : (live : World KeptSession) (side : Side) (d : Datagram) (r : Option Refusal) (table : Bindings) (sent : List (List ℕ)) → is_none (message_in d) ≡ false → named_in (message_in d) ≡ [] → ((source destination : ℕ) → renamed d source destination ≡ rebuilt d source destination (carried d))
-    → IsTaken live side d Udp r table sent → IsTaken live side d Dns r table sent
-nothing_named live side d r table sent some none same t =
+pub nothing_named : {S : Type 0} (rules : SessionRules S) (live : World S) (side : Side) (d : Datagram) (r : Option Refusal) (table : Bindings) (sent : List (List ℕ)) → is_none (message_in d) ≡ false → named_in (message_in d) ≡ [] → ((source destination : ℕ) → renamed d source destination ≡ rebuilt d source destination (carried d))
+    → IsTaken rules live side d Udp r table sent → IsTaken rules live side d Dns r table sent
+nothing_named {S = S} rules live side d r table sent some none same t =
     let one = source_of d in
     let two = destination_of d in
     let A : Bool → List Addr → Option Refusal = λ bad named. first_that_holds ((bad, BadDns) ∷ (has_unbound live.table side named, DnsUnbound) ∷ (nat_lt (free live.table (other side)) (needed live.table side (one ∷ two ∷ named)), PoolEmpty) ∷ []) in

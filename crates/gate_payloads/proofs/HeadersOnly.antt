@@ -16,7 +16,7 @@ use Rattle.gate_world.specs.Frame.{Udp, Echo, udp_kind, icmp_kind}
 use Rattle.gate_world.specs.Verdict.{udp_hold, icmp_hold, is_pool_empty}
 use Rattle.gate_world.specs.Units.{uses_until}
 use Rattle.gate_world.specs.World.{World, source_of, destination_of, called}
-use Rattle.kept_world.specs.Kept.{KeptSession, kept_rules}
+use Rattle.gate_world.specs.Rules.{SessionRules}
 use Rattle.gate_payloads.specs.Taken.{IsTaken, IsWayOf}
 use Rattle.gate_payloads.specs.Ways.{image_by, is_empty, table_by, out_by}
 use Rattle.gate_payloads.specs.declared.addresses.Way.{Way}
@@ -26,18 +26,18 @@ by_refusal : (b : Bool) (r : Option Refusal) (x y : List (List ℕ)) → r ≡ f
 by_refusal true r x y e f = rw e refl
 by_refusal false r x y e f = rw e (f refl)
 
-pub of_source_is : (live : World KeptSession) (side : Side) (d : Datagram) (way : Way) → IsWayOf live side d way → way.of_source ≡ cross live.table side (source_of d)
+pub of_source_is : {S : Type 0} (live : World S) (side : Side) (d : Datagram) (way : Way) → IsWayOf live side d way → way.of_source ≡ cross live.table side (source_of d)
 of_source_is live side d way w = w.crossings.source ∙ ap (λ (x : Side). cross live.table x way.source) w.side_is ∙ ap (cross live.table side) w.source_is
 
-pub of_destination_is : (live : World KeptSession) (side : Side) (d : Datagram) (way : Way) → IsWayOf live side d way → way.of_destination ≡ cross live.table side (destination_of d)
+pub of_destination_is : {S : Type 0} (live : World S) (side : Side) (d : Datagram) (way : Way) → IsWayOf live side d way → way.of_destination ≡ cross live.table side (destination_of d)
 of_destination_is live side d way w = w.crossings.destination ∙ ap (λ (x : Side). cross live.table x way.destination) w.side_is ∙ ap (cross live.table side) w.destination_is
 
 -- the images of both addresses are what they are called after both uses
-pub record AreImages (live : World KeptSession) (side : Side) (d : Datagram) (until : ℕ) (way : Way) : Type 0 where
+pub record AreImages {S : Type 0} (live : World S) (side : Side) (d : Datagram) (until : ℕ) (way : Way) : Type 0 where
   pub source : image_by way.of_source way.source ≡ called (after_uses live.table (uses_until side until (source_of d ∷ destination_of d ∷ []))) side (source_of d)
   pub destination : image_by way.of_destination way.destination ≡ called (after_uses live.table (uses_until side until (source_of d ∷ destination_of d ∷ []))) side (destination_of d)
 
-pub are_images : (live : World KeptSession) (side : Side) (d : Datagram) (way : Way) (until : ℕ) → IsWayOf live side d way → is_empty way.of_source ≡ false → AreImages live side d until way
+pub are_images : {S : Type 0} (live : World S) (side : Side) (d : Datagram) (way : Way) (until : ℕ) → IsWayOf live side d way → is_empty way.of_source ≡ false → AreImages live side d until way
 are_images live side d way until w room =
     let s = of_source_is live side d way w in
     let t = of_destination_is live side d way w in
@@ -46,7 +46,7 @@ are_images live side d way until w room =
       destination = ap (λ c. image_by c way.destination) t ∙ ap (image_by (cross live.table side (destination_of d))) w.destination_is ∙ sym (destination_called live.table side (source_of d) (destination_of d) (record { 0 = until }) (ap is_settled (sym t) ∙ w.settled));
     }
 
-pub images_are : (live : World KeptSession) (side : Side) (d : Datagram) (way : Way) (until : ℕ) → IsWayOf live side d way → is_empty way.of_source ≡ false →
+pub images_are : {S : Type 0} (live : World S) (side : Side) (d : Datagram) (way : Way) (until : ℕ) → IsWayOf live side d way → is_empty way.of_source ≡ false →
     renamed d (image_by way.of_source way.source).0 (image_by way.of_destination way.destination).0 ∷ []
     ≡ (let after = after_uses live.table (uses_until side until (source_of d ∷ destination_of d ∷ [])) in renamed d (called after side (source_of d)).0 (called after side (destination_of d)).0 ∷ [])
 images_are live side d way until w room =
@@ -55,13 +55,13 @@ images_are live side d way until w room =
     let after = after_uses live.table (uses_until side until (source_of d ∷ destination_of d ∷ [])) in
     ap (λ (a : Addr). R a (image_by way.of_destination way.destination)) images.source ∙ ap (R (called after side (source_of d))) images.destination
 
-pub empty_is : (live : World KeptSession) (side : Side) (d : Datagram) (way : Way) → IsWayOf live side d way → is_empty way.of_source ≡ is_pool_empty kept_rules live side d Udp
-empty_is live side d way w =
+pub empty_is : {S : Type 0} (rules : SessionRules S) (live : World S) (side : Side) (d : Datagram) (way : Way) → IsWayOf live side d way → is_empty way.of_source ≡ is_pool_empty rules live side d Udp
+empty_is rules live side d way w =
     ap is_empty (of_source_is live side d way w)
     ∙ sym (pool_empty_is live.table side (source_of d) (destination_of d) (ap is_settled (sym (of_destination_is live side d way w)) ∙ w.settled))
 
 -- the uses of a way are those of its datagram
-pub uses_are : (live : World KeptSession) (side : Side) (d : Datagram) (way : Way) (hold : ℕ) → IsWayOf live side d way →
+pub uses_are : {S : Type 0} (live : World S) (side : Side) (d : Datagram) (way : Way) (hold : ℕ) → IsWayOf live side d way →
     after_uses live.table (uses_until way.side (way.moment.0 + hold) (way.source ∷ way.destination ∷ [])) ≡ after_uses live.table (uses_until side (live.clock + hold) (source_of d ∷ destination_of d ∷ []))
 uses_are live side d way hold w =
     ap (λ (x : Side). after_uses live.table (uses_until x (way.moment.0 + hold) (way.source ∷ way.destination ∷ []))) w.side_is
@@ -69,20 +69,20 @@ uses_are live side d way hold w =
     ∙ ap (λ (a : Addr). after_uses live.table (uses_until side (live.clock + hold) (a ∷ way.destination ∷ []))) w.source_is
     ∙ ap (λ (a : Addr). after_uses live.table (uses_until side (live.clock + hold) (source_of d ∷ a ∷ []))) w.destination_is
 
-pub udp_taken : (live : World KeptSession) (side : Side) (d : Datagram) (way : Way) (r : Option Refusal) (table : Bindings) (sent : List (List ℕ)) → IsWayOf live side d way → r ≡ first_that_holds ((is_empty way.of_source, PoolEmpty) ∷ [])
+pub udp_taken : {S : Type 0} (rules : SessionRules S) (live : World S) (side : Side) (d : Datagram) (way : Way) (r : Option Refusal) (table : Bindings) (sent : List (List ℕ)) → IsWayOf live side d way → r ≡ first_that_holds ((is_empty way.of_source, PoolEmpty) ∷ [])
     → table ≡ table_by r (after_uses live.table (uses_until way.side (way.moment.0 + udp_hold) (way.source ∷ way.destination ∷ []))) live.table
-    → sent ≡ out_by r (renamed d (image_by way.of_source way.source).0 (image_by way.of_destination way.destination).0 ∷ []) → IsTaken live side d Udp r table sent
-udp_taken live side d way r table sent w e t o = record {
-  answer = e ∙ ap (λ (b : Bool). first_that_holds ((b, PoolEmpty) ∷ [])) (empty_is live side d way w);
+    → sent ≡ out_by r (renamed d (image_by way.of_source way.source).0 (image_by way.of_destination way.destination).0 ∷ []) → IsTaken rules live side d Udp r table sent
+udp_taken rules live side d way r table sent w e t o = record {
+  answer = e ∙ ap (λ (b : Bool). first_that_holds ((b, PoolEmpty) ∷ [])) (empty_is rules live side d way w);
   bound = t ∙ ap (λ (x : Bindings). table_by r x live.table) (uses_are live side d way udp_hold w);
   gone = o ∙ by_refusal (is_empty way.of_source) r _ _ e (images_are live side d way (live.clock + udp_hold) w);
 }
 
-pub echo_taken : (live : World KeptSession) (side : Side) (d : Datagram) (way : Way) (r : Option Refusal) (table : Bindings) (sent : List (List ℕ)) → IsWayOf live side d way → r ≡ first_that_holds ((is_empty way.of_source, PoolEmpty) ∷ [])
+pub echo_taken : {S : Type 0} (rules : SessionRules S) (live : World S) (side : Side) (d : Datagram) (way : Way) (r : Option Refusal) (table : Bindings) (sent : List (List ℕ)) → IsWayOf live side d way → r ≡ first_that_holds ((is_empty way.of_source, PoolEmpty) ∷ [])
     → table ≡ table_by r (after_uses live.table (uses_until way.side (way.moment.0 + icmp_hold) (way.source ∷ way.destination ∷ []))) live.table
-    → sent ≡ out_by r (renamed d (image_by way.of_source way.source).0 (image_by way.of_destination way.destination).0 ∷ []) → IsTaken live side d Echo r table sent
-echo_taken live side d way r table sent w e t o = record {
-  answer = e ∙ ap (λ (b : Bool). first_that_holds ((b, PoolEmpty) ∷ [])) (empty_is live side d way w);
+    → sent ≡ out_by r (renamed d (image_by way.of_source way.source).0 (image_by way.of_destination way.destination).0 ∷ []) → IsTaken rules live side d Echo r table sent
+echo_taken rules live side d way r table sent w e t o = record {
+  answer = e ∙ ap (λ (b : Bool). first_that_holds ((b, PoolEmpty) ∷ [])) (empty_is rules live side d way w);
   bound = t ∙ ap (λ (x : Bindings). table_by r x live.table) (uses_are live side d way icmp_hold w);
   gone = o ∙ by_refusal (is_empty way.of_source) r _ _ e (images_are live side d way (live.clock + icmp_hold) w);
 }

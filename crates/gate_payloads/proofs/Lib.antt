@@ -2,5 +2,5 @@ pub mod Crossings
 pub mod Passes
 pub mod HeadersOnly
 pub mod DnsTaken
-pub mod ErrorsTaken
 pub mod SnmpTaken
+pub mod Alike

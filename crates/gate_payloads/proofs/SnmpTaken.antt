@@ -29,7 +29,7 @@ use Rattle.gate_world.specs.Names.{carried}
 use Rattle.gate_world.specs.Verdict.{udp_hold, kind_tests, late_tests, is_pool_empty, table_after}
 use Rattle.gate_world.specs.Units.{uses_until}
 use Rattle.gate_world.specs.World.{World, source_of, destination_of, called}
-use Rattle.kept_world.specs.Kept.{KeptSession, kept_rules}
+use Rattle.gate_world.specs.Rules.{SessionRules}
 use Rattle.gate_payloads.specs.Taken.{IsTaken, IsWayOf}
 use Rattle.gate_payloads.specs.Ways.{image_by, is_empty, table_by, out_by}
 use Rattle.gate_payloads.specs.declared.addresses.Way.{Way}
@@ -50,16 +50,16 @@ abbrev first_by : Bool → Bool → Bool → Option Refusal
 first_by bad empty long = first_that_holds ((bad, BadSnmp) ∷ (empty, PoolEmpty) ∷ (long, SnmpTooLong) ∷ [])
 
 -- the first test that holds, of a message
-first_is : (live : World KeptSession) (side : Side) (d : Datagram) (way : Way) (long : Bool) → IsWayOf live side d way → is_bad_snmp d ≡ false → long ≡ is_snmp_too_long (table_after kept_rules live side live.clock d Snmp) side d
-    → first_by false (is_empty way.of_source) long ≡ first_that_holds (kind_tests kept_rules live side live.clock d Snmp ++ (is_pool_empty kept_rules live side d Snmp, PoolEmpty) ∷ late_tests kept_rules live side live.clock d Snmp)
-first_is live side d way long w good is =
-    ap (λ (b : Bool). first_by b (is_empty way.of_source) long) (sym good) ∙ ap (λ (b : Bool). first_by (is_bad_snmp d) b long) (empty_is live side d way w) ∙ ap (first_by (is_bad_snmp d) (is_pool_empty kept_rules live side d Snmp)) is
+first_is : {S : Type 0} (rules : SessionRules S) (live : World S) (side : Side) (d : Datagram) (way : Way) (long : Bool) → IsWayOf live side d way → is_bad_snmp d ≡ false → long ≡ is_snmp_too_long (table_after rules live side live.clock d Snmp) side d
+    → first_by false (is_empty way.of_source) long ≡ first_that_holds (kind_tests rules live side live.clock d Snmp ++ (is_pool_empty rules live side d Snmp, PoolEmpty) ∷ late_tests rules live side live.clock d Snmp)
+first_is rules live side d way long w good is =
+    ap (λ (b : Bool). first_by b (is_empty way.of_source) long) (sym good) ∙ ap (λ (b : Bool). first_by (is_bad_snmp d) b long) (empty_is rules live side d way w) ∙ ap (first_by (is_bad_snmp d) (is_pool_empty rules live side d Snmp)) is
 
-pub message_empty : (live : World KeptSession) (side : Side) (d : Datagram) (way : Way) (table : Bindings) (sent : List (List ℕ)) → IsWayOf live side d way → is_bad_snmp d ≡ false → is_empty way.of_source ≡ true → table ≡ live.table → sent ≡ [] → IsTaken live side d Snmp (Some PoolEmpty) table sent
-message_empty live side d way table sent w good empty t s =
-    let long = is_snmp_too_long (table_after kept_rules live side live.clock d Snmp) side d in
+pub message_empty : {S : Type 0} (rules : SessionRules S) (live : World S) (side : Side) (d : Datagram) (way : Way) (table : Bindings) (sent : List (List ℕ)) → IsWayOf live side d way → is_bad_snmp d ≡ false → is_empty way.of_source ≡ true → table ≡ live.table → sent ≡ [] → IsTaken rules live side d Snmp (Some PoolEmpty) table sent
+message_empty rules live side d way table sent w good empty t s =
+    let long = is_snmp_too_long (table_after rules live side live.clock d Snmp) side d in
     record {
-      answer = ap (λ (b : Bool). first_by false b long) (sym empty) ∙ first_is live side d way long w good refl;
+      answer = ap (λ (b : Bool). first_by false b long) (sym empty) ∙ first_is rules live side d way long w good refl;
       bound = t;
       gone = s;
     }
@@ -79,14 +79,14 @@ oids_after t (one ∷ uses) = oids_after (used t one) uses ∙ oids_by t one.sid
 
 -- ## What its addresses are called
 
-abbrev after_both : World KeptSession → Side → Datagram → Bindings
+abbrev after_both : {S : Type 0} → World S → Side → Datagram → Bindings
 after_both live side d = after_uses live.table (uses_until side (live.clock + udp_hold) (source_of d ∷ destination_of d ∷ []))
 
 numbered : (address image : Addr) (table : Bindings) (side : Side) (n : ℕ) → n ≡ address.0 → seen table side address ≡ Some image → number_seen table side n ≡ Some image.0
 numbered address image table side n is h = ap (λ (m : ℕ). number_seen table side m) is ∙ ap (option_map (λ (x : Addr). x.0)) h
 
 -- every address is called as after both uses
-planned_at : (live : World KeptSession) (side : Side) (d : Datagram) (way : Way) → IsWayOf live side d way → is_empty way.of_source ≡ false → (n : ℕ) → number_planned live.table way n ≡ number_seen (after_both live side d) side n
+planned_at : {S : Type 0} (live : World S) (side : Side) (d : Datagram) (way : Way) → IsWayOf live side d way → is_empty way.of_source ≡ false → (n : ℕ) → number_planned live.table way n ≡ number_seen (after_both live side d) side n
 planned_at live side d way w room n = elim (cases_Bool (n == way.source.0)) [
   | inl same ↦
       let s = of_source_is live side d way w in
@@ -110,19 +110,19 @@ planned_at live side d way w room n = elim (cases_Bool (n == way.source.0)) [
     other_way n m {k = k} e h = elim (cases_Bool (k == n)) [ inl same ↦ absurd (false≢true (sym h ∙ eq-eqb n m (sym (eqb-true k n same) ∙ sym e))) | inr differs ↦ differs ]
 
 -- the message that goes on
-planned_is : (live : World KeptSession) (side : Side) (d : Datagram) (way : Way) → IsWayOf live side d way → is_empty way.of_source ≡ false → oid_renamed (number_planned live.table way) live.table.oids (carried d) ≡ management_after (table_after kept_rules live side live.clock d Snmp) side d
-planned_is live side d way w room =
+planned_is : {S : Type 0} (rules : SessionRules S) (live : World S) (side : Side) (d : Datagram) (way : Way) → IsWayOf live side d way → is_empty way.of_source ≡ false → oid_renamed (number_planned live.table way) live.table.oids (carried d) ≡ management_after (table_after rules live side live.clock d Snmp) side d
+planned_is rules live side d way w room =
     ap (λ (image : ℕ → Option ℕ). oid_renamed image live.table.oids (carried d)) (λ i n. planned_at live side d way w room n i)
     ∙ ap (λ (rules : List OidRule). oid_renamed (number_seen (after_both live side d) side) rules (carried d)) (sym (oids_after live.table (uses_until side (live.clock + udp_hold) (source_of d ∷ destination_of d ∷ []))))
 
 -- a message that the rules rename
-pub message_by_rules : (live : World KeptSession) (side : Side) (d : Datagram) (way : Way) (r : Option Refusal) (table : Bindings) (sent : List (List ℕ)) → IsWayOf live side d way → is_bad_snmp d ≡ false → is_empty way.of_source ≡ false
+pub message_by_rules : {S : Type 0} (rules : SessionRules S) (live : World S) (side : Side) (d : Datagram) (way : Way) (r : Option Refusal) (table : Bindings) (sent : List (List ℕ)) → IsWayOf live side d way → is_bad_snmp d ≡ false → is_empty way.of_source ≡ false
     → r ≡ first_that_holds ((nat_lt 65507 (length (oid_renamed (number_planned live.table way) live.table.oids (carried d))), SnmpTooLong) ∷ [])
     → table ≡ table_by r (after_uses live.table (uses_until way.side (way.moment.0 + udp_hold) (way.source ∷ way.destination ∷ []))) live.table
-    → sent ≡ out_by r (rebuilt d (image_by way.of_source way.source).0 (image_by way.of_destination way.destination).0 (oid_renamed (number_planned live.table way) live.table.oids (carried d)) ∷ []) → IsTaken live side d Snmp r table sent
-message_by_rules live side d way r table sent w good room e t s =
+    → sent ≡ out_by r (rebuilt d (image_by way.of_source way.source).0 (image_by way.of_destination way.destination).0 (oid_renamed (number_planned live.table way) live.table.oids (carried d)) ∷ []) → IsTaken rules live side d Snmp r table sent
+message_by_rules rules live side d way r table sent w good room e t s =
     let planned = oid_renamed (number_planned live.table way) live.table.oids (carried d) in
-    let same = planned_is live side d way w room in
+    let same = planned_is rules live side d way w room in
     let images = are_images live side d way (live.clock + udp_hold) w room in
     let after = after_uses live.table (uses_until side (live.clock + udp_hold) (source_of d ∷ destination_of d ∷ [])) in
     let R : List ℕ → Addr → Addr → List (List ℕ) = λ x a b. out_by r (rebuilt d a.0 b.0 x ∷ []) in
@@ -130,7 +130,7 @@ message_by_rules live side d way r table sent w good room e t s =
       answer =
           e
           ∙ ap (λ (b : Bool). first_by false b (nat_lt 65507 (length planned))) (sym room)
-          ∙ first_is live side d way (nat_lt 65507 (length planned)) w good (ap (λ (xs : List ℕ). nat_lt 65507 (length xs)) same);
+          ∙ first_is rules live side d way (nat_lt 65507 (length planned)) w good (ap (λ (xs : List ℕ). nat_lt 65507 (length xs)) same);
       bound = t ∙ ap (λ (x : Bindings). table_by r x live.table) (uses_are live side d way udp_hold w);
       gone = s
           ∙ ap (λ (x : List ℕ). R x (image_by way.of_source way.source) (image_by way.of_destination way.destination)) same
@@ -139,37 +139,37 @@ message_by_rules live side d way r table sent w good room e t s =
     }
 
 -- the same over an equal table and payload
-pub taken_by_rules : (live : World KeptSession) (side : Side) (d : Datagram) (way : Way) (old : Bindings) (payload : List ℕ) (r : Option Refusal) (table : Bindings) (sent : List (List ℕ)) → live.table ≡ old → payload ≡ carried d → IsWayOf live side d way → is_bad_snmp d ≡ false → is_empty way.of_source ≡ false
+pub taken_by_rules : {S : Type 0} (rules : SessionRules S) (live : World S) (side : Side) (d : Datagram) (way : Way) (old : Bindings) (payload : List ℕ) (r : Option Refusal) (table : Bindings) (sent : List (List ℕ)) → live.table ≡ old → payload ≡ carried d → IsWayOf live side d way → is_bad_snmp d ≡ false → is_empty way.of_source ≡ false
     → r ≡ first_that_holds ((nat_lt 65507 (length (oid_renamed (number_planned old way) old.oids payload)), SnmpTooLong) ∷ [])
     → table ≡ table_by r (after_uses old (uses_until way.side (way.moment.0 + udp_hold) (way.source ∷ way.destination ∷ []))) old
-    → sent ≡ out_by r (rebuilt d (image_by way.of_source way.source).0 (image_by way.of_destination way.destination).0 (oid_renamed (number_planned old way) old.oids payload) ∷ []) → IsTaken live side d Snmp r table sent
-taken_by_rules live side d way old payload r table sent same p w good room =
+    → sent ≡ out_by r (rebuilt d (image_by way.of_source way.source).0 (image_by way.of_destination way.destination).0 (oid_renamed (number_planned old way) old.oids payload) ∷ []) → IsTaken rules live side d Snmp r table sent
+taken_by_rules rules live side d way old payload r table sent same p w good room =
     let P : Bindings → List ℕ → Type 0 = λ x xs.
     r ≡ first_that_holds ((nat_lt 65507 (length (oid_renamed (number_planned x way) x.oids xs)), SnmpTooLong) ∷ [])
     → table ≡ table_by r (after_uses x (uses_until way.side (way.moment.0 + udp_hold) (way.source ∷ way.destination ∷ []))) x
-    → sent ≡ out_by r (rebuilt d (image_by way.of_source way.source).0 (image_by way.of_destination way.destination).0 (oid_renamed (number_planned x way) x.oids xs) ∷ []) → IsTaken live side d Snmp r table sent in
-    subst (λ (x : Bindings). P x payload) same (subst (λ (xs : List ℕ). P live.table xs) (sym p) (message_by_rules live side d way r table sent w good room))
+    → sent ≡ out_by r (rebuilt d (image_by way.of_source way.source).0 (image_by way.of_destination way.destination).0 (oid_renamed (number_planned x way) x.oids xs) ∷ []) → IsTaken rules live side d Snmp r table sent in
+    subst (λ (x : Bindings). P x payload) same (subst (λ (xs : List ℕ). P live.table xs) (sym p) (message_by_rules rules live side d way r table sent w good room))
 
 -- one where there is no rule
-pub message_basic : (live : World KeptSession) (side : Side) (d : Datagram) (way : Way) (table : Bindings) (sent : List (List ℕ)) → IsWayOf live side d way → is_bad_snmp d ≡ false → is_empty way.of_source ≡ false → live.table.oids ≡ [] → length (carried d) ≤ 65507
+pub message_basic : {S : Type 0} (rules : SessionRules S) (live : World S) (side : Side) (d : Datagram) (way : Way) (table : Bindings) (sent : List (List ℕ)) → IsWayOf live side d way → is_bad_snmp d ≡ false → is_empty way.of_source ≡ false → live.table.oids ≡ [] → length (carried d) ≤ 65507
     → table ≡ after_uses live.table (uses_until way.side (way.moment.0 + udp_hold) (way.source ∷ way.destination ∷ []))
-    → sent ≡ rebuilt d (image_by way.of_source way.source).0 (image_by way.of_destination way.destination).0 (oid_renamed (number_seen table way.side) [] (carried d)) ∷ [] → IsTaken live side d Snmp None table sent
-message_basic live side d way table sent w good room none few t s =
+    → sent ≡ rebuilt d (image_by way.of_source way.source).0 (image_by way.of_destination way.destination).0 (oid_renamed (number_seen table way.side) [] (carried d)) ∷ [] → IsTaken rules live side d Snmp None table sent
+message_basic rules live side d way table sent w good room none few t s =
     let images = are_images live side d way (live.clock + udp_hold) w room in
     let after = after_uses live.table (uses_until side (live.clock + udp_hold) (source_of d ∷ destination_of d ∷ [])) in
     let bound = t ∙ uses_are live side d way udp_hold w in
-    let rules : after.oids ≡ [] = oids_after live.table (uses_until side (live.clock + udp_hold) (source_of d ∷ destination_of d ∷ [])) ∙ none in
+    let none_left : after.oids ≡ [] = oids_after live.table (uses_until side (live.clock + udp_hold) (source_of d ∷ destination_of d ∷ [])) ∙ none in
     let same : oid_renamed (number_seen table way.side) [] (carried d) ≡ management_after after side d =
     ap (λ (x : Bindings). oid_renamed (number_seen x way.side) [] (carried d)) bound
     ∙ ap (λ (x : Side). oid_renamed (number_seen after x) [] (carried d)) w.side_is
-    ∙ ap (λ (x : List OidRule). oid_renamed (number_seen after side) x (carried d)) (sym rules) in
+    ∙ ap (λ (x : List OidRule). oid_renamed (number_seen after side) x (carried d)) (sym none_left) in
     let short : is_snmp_too_long after side d ≡ false =
-    ap (λ (x : List OidRule). nat_lt 65507 (length (oid_renamed (number_seen after side) x (carried d)))) rules
+    ap (λ (x : List OidRule). nat_lt 65507 (length (oid_renamed (number_seen after side) x (carried d)))) none_left
     ∙ ap (nat_lt 65507) (message_length (number_seen after side) (carried d))
     ∙ le-ltb 65507 (length (carried d)) few in
     let R : List ℕ → Addr → Addr → List (List ℕ) = λ x a b. rebuilt d a.0 b.0 x ∷ [] in
     record {
-      answer = ap (λ (b : Bool). first_by false b false) (sym room) ∙ first_is live side d way false w good (sym short);
+      answer = ap (λ (b : Bool). first_by false b false) (sym room) ∙ first_is rules live side d way false w good (sym short);
       bound = bound;
       gone = s
           ∙ ap (λ (x : List ℕ). R x (image_by way.of_source way.source) (image_by way.of_destination way.destination)) same
@@ -177,14 +177,14 @@ message_basic live side d way table sent w good room none few t s =
           ∙ ap (R (management_after after side d) (called after side (source_of d))) images.destination;
     }
 
-pub taken_basic : (live : World KeptSession) (side : Side) (d : Datagram) (way : Way) (old : Bindings) (payload : List ℕ) (table : Bindings) (sent : List (List ℕ)) → live.table ≡ old → payload ≡ carried d → IsWayOf live side d way → is_bad_snmp d ≡ false → is_empty way.of_source ≡ false → old.oids ≡ [] → length payload ≤ 65507
+pub taken_basic : {S : Type 0} (rules : SessionRules S) (live : World S) (side : Side) (d : Datagram) (way : Way) (old : Bindings) (payload : List ℕ) (table : Bindings) (sent : List (List ℕ)) → live.table ≡ old → payload ≡ carried d → IsWayOf live side d way → is_bad_snmp d ≡ false → is_empty way.of_source ≡ false → old.oids ≡ [] → length payload ≤ 65507
     → table ≡ after_uses old (uses_until way.side (way.moment.0 + udp_hold) (way.source ∷ way.destination ∷ []))
-    → sent ≡ rebuilt d (image_by way.of_source way.source).0 (image_by way.of_destination way.destination).0 (oid_renamed (number_seen table way.side) [] payload) ∷ [] → IsTaken live side d Snmp None table sent
-taken_basic live side d way old payload table sent same p w good room =
+    → sent ≡ rebuilt d (image_by way.of_source way.source).0 (image_by way.of_destination way.destination).0 (oid_renamed (number_seen table way.side) [] payload) ∷ [] → IsTaken rules live side d Snmp None table sent
+taken_basic rules live side d way old payload table sent same p w good room =
     let P : Bindings → List ℕ → Type 0 = λ x xs.
     x.oids ≡ [] → length xs ≤ 65507 → table ≡ after_uses x (uses_until way.side (way.moment.0 + udp_hold) (way.source ∷ way.destination ∷ []))
-    → sent ≡ rebuilt d (image_by way.of_source way.source).0 (image_by way.of_destination way.destination).0 (oid_renamed (number_seen table way.side) [] xs) ∷ [] → IsTaken live side d Snmp None table sent in
-    subst (λ (x : Bindings). P x payload) same (subst (λ (xs : List ℕ). P live.table xs) (sym p) (message_basic live side d way table sent w good room))
+    → sent ≡ rebuilt d (image_by way.of_source way.source).0 (image_by way.of_destination way.destination).0 (oid_renamed (number_seen table way.side) [] xs) ∷ [] → IsTaken rules live side d Snmp None table sent in
+    subst (λ (x : Bindings). P x payload) same (subst (λ (xs : List ℕ). P live.table xs) (sym p) (message_basic rules live side d way table sent w good room))
 
 kind_some : {A B : Type 0} (o : Option (A × B)) → IsSome o → IsSome (option_map (λ m. m.0) o)
 kind_some None some = absurd (cc)

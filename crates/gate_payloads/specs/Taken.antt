@@ -12,18 +12,18 @@ use Rattle.gate_world.specs.Names.{carried}
 use Rattle.gate_world.specs.Step.{out_kind}
 use Rattle.gate_world.specs.Verdict.{kind_tests, late_tests, is_pool_empty, table_after}
 use Rattle.gate_world.specs.World.{World, source_of, destination_of}
+use Rattle.gate_world.specs.Rules.{SessionRules}
 use Rattle.gate_payloads.specs.Ways.{IsWay, table_by, out_by}
 use Rattle.gate_payloads.specs.declared.addresses.Way.{Way}
-use Rattle.kept_world.specs.Kept.{KeptSession, kept_rules}
 
 -- a datagram of a kind is refused by the tests of that kind and its pool, or passes: the bindings, and what goes out
-pub record IsTaken (live : World KeptSession) (side : Side) (d : Datagram) (kind : Kind) (refusal : Option Refusal) (table : Bindings) (sent : List (List ℕ)) : Type 0 where
-  pub answer : refusal ≡ first_that_holds (kind_tests kept_rules live side live.clock d kind ++ (is_pool_empty kept_rules live side d kind, PoolEmpty) ∷ late_tests kept_rules live side live.clock d kind)
-  pub bound : table ≡ table_by refusal (table_after kept_rules live side live.clock d kind) live.table
-  pub gone : sent ≡ out_by refusal (out_kind kept_rules live side live.clock d kind)
+pub record IsTaken {S : Type 0} (rules : SessionRules S) (live : World S) (side : Side) (d : Datagram) (kind : Kind) (refusal : Option Refusal) (table : Bindings) (sent : List (List ℕ)) : Type 0 where
+  pub answer : refusal ≡ first_that_holds (kind_tests rules live side live.clock d kind ++ (is_pool_empty rules live side d kind, PoolEmpty) ∷ late_tests rules live side live.clock d kind)
+  pub bound : table ≡ table_by refusal (table_after rules live side live.clock d kind) live.table
+  pub gone : sent ≡ out_by refusal (out_kind rules live side live.clock d kind)
 
 -- the way is that of a datagram, over what lives, and its addresses are not refused
-pub record IsWayOf (live : World KeptSession) (side : Side) (d : Datagram) (way : Way) : Type 0 where
+pub record IsWayOf {S : Type 0} (live : World S) (side : Side) (d : Datagram) (way : Way) : Type 0 where
   pub side_is : way.side ≡ side
   pub moment_is : way.moment.0 ≡ live.clock
   pub source_is : way.source ≡ source_of d

@@ -1,14 +1,13 @@
 // The addresses of a datagram: what they are called in the other realm, and what a use of them changes.
-ghost use Rattle.std.specs.Prelude.{◌≡◌, ◌+◌, ◌*◌, ◌^◌, ◌<◌, ◌≤◌, [], ◌∷◌, None, nat_lt, true};
-ghost use Rattle.gate_base.specs.Side.{other};
-ghost use Rattle.binding_table.specs.Bindings.{cross, seen, free, is_settled};
-ghost use Rattle.binding_table.specs.Plan.{used, used_by, after_uses, needed};
+ghost use Rattle.std.specs.Prelude.{◌≡◌, ◌+◌, ◌*◌, ◌^◌, ◌<◌, ◌≤◌, [], ◌∷◌, None, true};
+ghost use Rattle.binding_table.specs.Bindings.{cross, seen, is_settled};
+ghost use Rattle.binding_table.specs.Plan.{used, used_by, after_uses};
 ghost use Rattle.gate_base.specs.Tests.{first_that_holds};
 ghost use Rattle.gate_world.specs.Verdict.{is_reachable};
 ghost use Rattle.gate_world.specs.Units.{uses_until};
 ghost use Rattle.gate_payloads.specs.Ways.{IsWay, image_by, is_empty, way_tests};
 
-use binding_table::{Crossing, Firsts, Table};
+use binding_table::{Crossing, Table};
 use gate_base::{Addr, Moment, Refusal, Side};
 
 /// A datagram's way: the realm from which it comes, the moment, both addresses, and how they cross.
@@ -133,11 +132,4 @@ pub fn lacks_alias(way: &Way) -> bool
     ensures { result ≡ is_empty way.now.of_source }
 {
     matches!(way.of_source, Crossing::Empty)
-}
-
-/// More of these addresses need a binding than the other realm's pool has addresses for.
-pub fn lacks_aliases(table: &Table, side: Side, addresses: &[Addr], firsts: &mut Firsts) -> bool
-    ensures { result ≡ nat_lt (free table.now (other side)) (needed table.now side addresses.now) }
-{
-    table.free(side.other()) < table.needed(side, addresses, firsts)
 }

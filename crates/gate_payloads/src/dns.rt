@@ -1,5 +1,5 @@
 // DNS messages over UDP (RFC 2694).
-ghost use Rattle.std.specs.Prelude.{◌≡◌, ◌≢◌, ◌+◌, ◌*◌, ◌^◌, ◌<◌, ◌≤◌, [], ◌∷◌, List, drop, length, option_map, unwrap_or, true, false, All, IfOk, IfSome, OnErr, is_some, is_none};
+ghost use Rattle.std.specs.Prelude.{◌≡◌, ◌≢◌, ◌+◌, ◌*◌, ◌^◌, ◌<◌, ◌≤◌, [], ◌∷◌, List, drop, length, option_map, unwrap_or, true, false, All, IfOk, IfSome, OnErr, is_some, is_none, nat_lt};
 ghost use Rattle.std.specs.List.{list_any};
 ghost use Rattle.gate_base.specs.Side.{other};
 ghost use Rattle.binding_table.specs.Bindings.{cross, in_pool, free, is_settled};
@@ -12,12 +12,12 @@ ghost use Rattle.gate_world.specs.Frame as kinds;
 ghost use Rattle.gate_world.specs.Names.{carried, message_in, named_in, is_unbound, has_unbound, reply_by};
 ghost use Rattle.gate_world.specs.Units.{uses_until};
 ghost use Rattle.gate_world.specs.World.{World};
-ghost use Rattle.kept_world.specs.Kept.{KeptSession};
 ghost use Rattle.gate_payloads.specs.Ways.{IsWay, image_by};
 ghost use Rattle.gate_payloads.specs.Named.{named_uses};
+ghost use Rattle.gate_payloads.specs.Plain.{PlainSession, plain_rules};
 ghost use Rattle.gate_payloads.specs.Taken.{IsTaken, IsUdpOf, IsWayOf};
 
-use crate::addresses::{Way, lacks_aliases, use_address};
+use crate::addresses::{Way, use_address};
 use crate::plain::{UDP_HOLD, take_plain};
 use crate::udp::UdpDatagram;
 use binding_table::{Crossing, Firsts, Table};
@@ -82,19 +82,21 @@ fn has_image(images: &[Option<Addr>]) -> bool
     images.iter().any(|image| image.is_some())
 }
 
-/// The octets that go on for a message of a payload, or None where it stays as it is.
+/// The octets that go on for a message of a payload, by the images of its addresses behind the two of the header, or None where it stays as
+/// it is.
 fn reply_by(
     alloc: Global,
     message: &Message,
     images: &[Option<Addr>],
     payload: &[u8],
 ) -> Result<Option<Vec<u8>>, OutOfMemory>
-    requires images { length images.now ≡ length (message_addresses message.now) }
+    requires images { length images.now ≡ 2 + length (message_addresses message.now) }
     requires suits { MessageSuits message.now }
     requires few { length payload.now ≤ 65507 }
-    ensures is { IfOk result (λ reply. unwrap_or (option_map (λ v. v.items) reply) payload.now ≡ reply_by images.now payload.now (Some message.now)) }
+    ensures is { IfOk result (λ reply. unwrap_or (option_map (λ v. v.items) reply) payload.now ≡ reply_by (drop 2 images.now) payload.now (Some message.now)) }
     ensures fits { IfOk result (λ reply. IfSome reply (λ v. 28 + length v.items ≤ 65535)) }
 {
+    let images = &images[2..];
     if !has_image(images) {
         return Ok(None);
     }
@@ -102,29 +104,25 @@ fn reply_by(
     Ok(Some(reply(alloc, &renamed, payload.len())?))
 }
 
-/// The octets that go on for a message, by what its addresses will be called once all of them are used, the two of the header
-/// first.
-fn planned_reply(
+/// What addresses will be called once all of them are used, or None where the other realm's pool has too few addresses for them.
+fn planned_images(
     alloc: Global,
     table: &Table,
     side: Side,
-    message: &Message,
     addresses: &[Addr],
-    payload: &[u8],
     firsts: &mut Firsts,
-) -> Result<Option<Vec<u8>>, OutOfMemory>
-    requires both { 2 ≤ length addresses.now }
-    requires named { drop 2 addresses.now ≡ named_in (Some message.now) }
+) -> Result<Option<Vec<Option<Addr>>>, OutOfMemory>
     requires bound { All (λ address. cross table.now side address ≢ Crossing.Unbound) addresses.now }
-    requires room { needed table.now side addresses.now ≤ free table.now (other side) }
-    requires suits { MessageSuits message.now }
-    requires few { length payload.now ≤ 65507 }
-    ensures is { (uses : List Use) → AreUsesOf side addresses.now uses → IfOk result (λ reply. unwrap_or (option_map (λ v. v.items) reply) payload.now ≡ reply_by (drop 2 (images_after table.now uses)) payload.now (Some message.now)) }
-    ensures fits { IfOk result (λ reply. IfSome reply (λ v. 28 + length v.items ≤ 65535)) }
+    ensures none { IfOk result (λ images. is_none images ≡ nat_lt (free table.now (other side)) (needed table.now side addresses.now)) }
+    ensures images { (uses : List Use) → AreUsesOf side addresses.now uses → IfOk result (λ images. IfSome images (λ v. v.items ≡ images_after table.now uses)) }
+    ensures count { IfOk result (λ images. IfSome images (λ v. length v.items ≡ length addresses.now)) }
 {
     let mut images = vec![in alloc; None; addresses.len()]?;
-    table.plan(side, addresses, &mut images, firsts);
-    reply_by(alloc, message, &images[2..], payload)
+    if table.plan(side, addresses, &mut images, firsts) {
+        Ok(Some(images))
+    } else {
+        Ok(None)
+    }
 }
 
 /// Uses addresses in their order.
@@ -192,7 +190,7 @@ fn take_unnamed(table: &mut Table, way: &Way, octets: &[u8], outbox: &mut Outbox
     requires few { length octets.now ≤ 65535 }
     requires can { CanGoOn octets.now }
     requires protocol { (datagram_of octets.now).protocol ≡ 17 }
-    ensures taken { (live : World KeptSession) → live.table ≡ table.old → IsWayOf live way.now.side (datagram_of octets.now) way.now → is_none (message_in (datagram_of octets.now)) ≡ false → named_in (message_in (datagram_of octets.now)) ≡ [] → IsTaken live way.now.side (datagram_of octets.now) (kinds.Dns) result table.new outbox.new }
+    ensures taken { (live : World PlainSession) → live.table ≡ table.old → IsWayOf live way.now.side (datagram_of octets.now) way.now → is_none (message_in (datagram_of octets.now)) ≡ false → named_in (message_in (datagram_of octets.now)) ≡ [] → IsTaken plain_rules live way.now.side (datagram_of octets.now) (kinds.Dns) result table.new outbox.new }
 {
     take_plain(table, way, UDP_HOLD, octets, outbox)
 }
@@ -215,7 +213,7 @@ fn take_message(
     requires whole { IsUdpOf datagram.now.octets.now datagram.now.payload.now }
     requires message { message_at datagram.now.payload.now ≡ Some message.now }
     requires suits { MessageSuits message.now }
-    ensures taken { (live : World KeptSession) → live.table ≡ table.old → IsWayOf live way.now.side (datagram_of datagram.now.octets.now) way.now → IfOk result (λ r. IsTaken live way.now.side (datagram_of datagram.now.octets.now) (kinds.Dns) r table.new outbox.new) }
+    ensures taken { (live : World PlainSession) → live.table ≡ table.old → IsWayOf live way.now.side (datagram_of datagram.now.octets.now) way.now → IfOk result (λ r. IsTaken plain_rules live way.now.side (datagram_of datagram.now.octets.now) (kinds.Dns) r table.new outbox.new) }
     ensures memory { OnErr result ((table.new ≡ table.old) × (outbox.new ≡ [])) }
 {
     let named = named_in(alloc, message)?;
@@ -226,18 +224,10 @@ fn take_message(
         return Ok(Some(Refusal::DnsUnbound));
     }
     let addresses = all_addresses(alloc, way, &named)?;
-    if lacks_aliases(table, way.side, &addresses, firsts) {
+    let Some(images) = planned_images(alloc, table, way.side, &addresses, firsts)? else {
         return Ok(Some(Refusal::PoolEmpty));
-    }
-    let reply = planned_reply(
-        alloc,
-        table,
-        way.side,
-        message,
-        &addresses,
-        datagram.payload,
-        firsts,
-    )?;
+    };
+    let reply = reply_by(alloc, message, &images, datagram.payload)?;
     pass_names(table, way, &named, datagram.octets, &reply, outbox);
     Ok(None)
 }
@@ -258,7 +248,7 @@ pub fn take_dns(
     requires moment { way.now.moment.0 < 2 ^ 32 * 1000000000 }
     requires empty { outbox.old ≡ [] }
     requires whole { IsUdpOf datagram.now.octets.now datagram.now.payload.now }
-    ensures taken { (live : World KeptSession) → live.table ≡ table.old → IsWayOf live way.now.side (datagram_of datagram.now.octets.now) way.now → IfOk result (λ r. IsTaken live way.now.side (datagram_of datagram.now.octets.now) (kinds.Dns) r table.new outbox.new) }
+    ensures taken { (live : World PlainSession) → live.table ≡ table.old → IsWayOf live way.now.side (datagram_of datagram.now.octets.now) way.now → IfOk result (λ r. IsTaken plain_rules live way.now.side (datagram_of datagram.now.octets.now) (kinds.Dns) r table.new outbox.new) }
     ensures memory { OnErr result ((table.new ≡ table.old) × (outbox.new ≡ [])) }
 {
     match message_in(alloc, datagram.payload)? {

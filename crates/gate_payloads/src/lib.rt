@@ -3,7 +3,6 @@
 
 mod addresses;
 mod dns;
-mod errors;
 mod keys;
 mod plain;
 mod snmp;
@@ -11,7 +10,6 @@ mod udp;
 
 pub use addresses::{Way, address_refusal, lacks_alias, use_address};
 pub use dns::{take_dns, use_all};
-pub use errors::take_error;
 pub use keys::key_of;
 pub use plain::{ICMP_HOLD, UDP_HOLD, pass_plain, take_plain};
 pub use snmp::take_snmp;

@@ -10,11 +10,11 @@ ghost use Rattle.gate_world.specs.Management.{number_seen};
 ghost use Rattle.gate_world.specs.Verdict.{udp_hold};
 ghost use Rattle.gate_world.specs.Units.{uses_until};
 ghost use Rattle.gate_world.specs.World.{World};
-ghost use Rattle.kept_world.specs.Kept.{KeptSession};
 ghost use Rattle.snmp_gateway.specs.Message.{message};
 ghost use Rattle.snmp_oids.specs.Elements.{oid_renamed};
 ghost use Rattle.gate_payloads.specs.Planned.{number_planned};
 ghost use Rattle.gate_payloads.specs.Ways.{IsWay, image_by, table_by, out_by};
+ghost use Rattle.gate_payloads.specs.Plain.{PlainSession, plain_rules};
 ghost use Rattle.gate_payloads.specs.Taken.{IsTaken, IsUdpOf, IsWayOf};
 
 use crate::addresses::{Way, lacks_alias};
@@ -135,7 +135,7 @@ pub fn take_snmp(
     requires moment { way.now.moment.0 < 2 ^ 32 * 1000000000 }
     requires empty { outbox.old ≡ [] }
     requires whole { IsUdpOf datagram.now.octets.now datagram.now.payload.now }
-    ensures taken { (live : World KeptSession) → live.table ≡ table.old → IsWayOf live way.now.side (datagram_of datagram.now.octets.now) way.now → IsTaken live way.now.side (datagram_of datagram.now.octets.now) (kinds.Snmp) result table.new outbox.new }
+    ensures taken { (live : World PlainSession) → live.table ≡ table.old → IsWayOf live way.now.side (datagram_of datagram.now.octets.now) way.now → IsTaken plain_rules live way.now.side (datagram_of datagram.now.octets.now) (kinds.Snmp) result table.new outbox.new }
 {
     if check(datagram.payload).is_none() {
         return Some(Refusal::BadSnmp);

@@ -10,6 +10,3 @@ pub use json::json_line;
 pub use line::Line;
 pub use text::{LINE, text_line};
 pub use totals::Totals;
-
-#[cfg(test)]
-mod tests;

@@ -1,3 +1,4 @@
 pub mod ListedLemmas
+pub mod Sent
 pub mod SessionLemmas
 pub mod Stepped

@@ -1,13 +1,10 @@
 -- Lists that grow, and forget what they grew by.
-use Rattle.std.proofs.Common.{zero, suc, Some, ◌≡◌, ◌≤◌, ◌<◌, ◌+◌, ℕ, Bool, true, false, List, [], ◌∷◌, ◌++◌, length, take, drop, refl, sym, ◌∙◌, ap, subst, arith, inl, inr, append_assoc}
+use Rattle.std.proofs.Common.{◌≡◌, ◌≤◌, ℕ, Bool, true, false, List, ◌++◌, length, take, refl, sym, ◌∙◌, ap, subst, arith}
 use Rattle.std.specs.Prelude.{not}
-use Rattle.std.specs.List.{AllByRecursion, slice_get, slice_index_or}
-use Rattle.std.proofs.lemmas.Bool.{cases_Bool}
-use Rattle.std.proofs.lemmas.List.{append-nil, length-append, take_at, take-append-drop}
-use Rattle.std.proofs.lemmas.List.Sums.{fold-append}
-use Rattle.std.proofs.lemmas.Option.{slice_get_within}
+use Rattle.std.specs.List.{AllByRecursion}
+use Rattle.std.proofs.lemmas.List.{take_at}
 use Rattle.dialogue.specs.Stream.{Cut, cut}
-use Rattle.dialogue.specs.Learning.{Entry, is_listed, AllListed, ReadAlike}
+use Rattle.dialogue.specs.Learning.{Entry, AllListed, ReadAlike}
 use Rattle.dialogue.proofs.Alike.{cut_alike, learned_alike}
 use Rattle.dns_stream.specs.Units.{unit_addresses}
 use Rattle.dns_stream.specs.Images.{dns_units}
@@ -18,22 +15,12 @@ use Rattle.stream_kept.proofs.ReadsAlike.{keeps_alike}
 use Rattle.stream_gate.specs.Listed.{IsListedStream as IsStreamBy}
 use Rattle.gate_world.proofs.Entering.{listed_units_more}
 use Rattle.kept_world.specs.Kept.{IsListedStream}
-use Rattle.unit_plans.specs.Steps.{enter_one, entered_all}
-use Rattle.unit_plans.proofs.EnteredLemmas.{all-more}
+use Rattle.unit_plans.specs.Steps.{entered_all}
+use Rattle.unit_plans.proofs.EnteredLemmas.{all_grown}
 use Rattle.gate_base.specs.declared.event.Pair.{Pair}
 use Rattle.stream_gate.specs.Listed.{entries_of}
 use Rattle.gate_sessions.specs.Directions.{DnsKept, listed_of, IsListedSide, with_entered, dns_session}
 use Rattle.gate_sessions.specs.Sessions.{IsSession}
-
-new-more : (es : List Entry) (one : Entry) → is_listed es one.0.0 ≡ false → length (enter_one es one) ≡ length es + 1
-new-more es one e = rw e (length-append es (one ∷ []) ∙ omega arith)
-
--- where an entry is still to be entered, there is room for it
-pub room_for : (es named rest : List Entry) (one : Entry) (i : ℕ) → drop i named ≡ one ∷ rest → length (entered_all es named) ≤ 256 → is_listed (entered_all es (take i named)) one.0.0 ≡ false → length (entered_all es (take i named)) < 256
-room_for es named rest one i at few new =
-    let split : entered_all es named ≡ entered_all (enter_one (entered_all es (take i named)) one) rest =
-    ap (entered_all es) (sym (take-append-drop i named)) ∙ fold-append enter_one es (take i named) (drop i named) ∙ ap (λ (xs : List Entry). entered_all (entered_all es (take i named)) xs) at in
-    omega (arith, few, ap length split, all-more (enter_one (entered_all es (take i named)) one) rest, new-more (entered_all es (take i named)) one new)
 
 alike : (es more : List Entry) (h : SenderKept) → (i : IsListedStream es h) → ReadAlike (dns_units es) (dns_units (es ++ more)) i.octets
 alike es more h i = learned_alike unit_addresses dns_units es more i.octets dns_units-learning i.listed
@@ -60,19 +47,6 @@ pub record LearnedTo (b other : Bool) (old now : DnsKept) (named : List Entry) :
   pub kept : now.kept ≡ old.kept
   pub stream : IsListedSide b now
 
-pub drop-next : {X : Type 0} (xs : List X) (i : ℕ) (d : X) → i < length xs → drop i xs ≡ slice_index_or xs i d ∷ drop (suc i) xs
-drop-next [] i d l = absurd (omega (arith, l))
-drop-next (x ∷ xs) zero d l = refl
-drop-next (x ∷ xs) (suc i) d l = drop-next xs i d (omega (arith, l))
-
-pub take-next : {X : Type 0} (xs : List X) (i : ℕ) (x : X) → slice_get xs i ≡ Some x → take (i + 1) xs ≡ take i xs ++ x ∷ []
-take-next xs i x e = let same : i + 1 ≡ suc i = omega arith in ap (λ (n : ℕ). take n xs) same ∙ go xs i e
-  where
-    go : {X : Type 0} {x : X} (xs : List X) (i : ℕ) → slice_get xs i ≡ Some x → take (suc i) xs ≡ take i xs ++ x ∷ []
-    go {x = x} [] i e = absurd (let l : i < 0 = slice_get_within [] i x e in omega (arith, l))
-    go {X} {x} (y ∷ xs) zero e = let same : y ≡ x = (let f : Some y ≡ Some x = e in cc) in subst (λ (z : X). y ∷ [] ≡ z ∷ []) same refl
-    go {X} {x} (y ∷ xs) (suc i) e = ap (λ (zs : List X). y ∷ zs) (go {x = x} xs i e)
-
 same_kept : (c d s t : List Entry) (k l : SessionKept) → c ≡ d → s ≡ t → k ≡ l → (let x : DnsKept = record { client_dialogue = c; server_dialogue = s; kept = k } in x) ≡ (let y : DnsKept = record { client_dialogue = d; server_dialogue = t; kept = l } in y)
 same_kept c d s t k l e f h =
     ap (λ (x : List Entry). let y : DnsKept = record { client_dialogue = x; server_dialogue = s; kept = k } in y) e
@@ -83,21 +57,6 @@ same_kept c d s t k l e f h =
 pub learned_is : (b : Bool) (named : List Entry) (old new : DnsKept) → listed_of b new ≡ entered_all (listed_of b old) named → listed_of (not b) new ≡ listed_of (not b) old → new.kept ≡ old.kept → new ≡ with_entered b named old
 learned_is true named old new e f h = same_kept new.client_dialogue (entered_all old.client_dialogue named) new.server_dialogue old.server_dialogue new.kept old.kept e f h
 learned_is false named old new e f h = same_kept new.client_dialogue old.client_dialogue new.server_dialogue (entered_all old.server_dialogue named) new.kept old.kept f e h
-
-one_grown : (es : List Entry) (one : Entry) → (more : List Entry) × (enter_one es one ≡ es ++ more)
-one_grown es one =
-    elim (cases_Bool (is_listed es one.0.0)) [
-      | inl e ↦ ([], rw e (sym (append-nil es)))
-      | inr e ↦ (one ∷ [], rw e refl)
-    ]
-
--- a list that grows keeps its front
-all_grown : (es named : List Entry) → (more : List Entry) × (entered_all es named ≡ es ++ more)
-all_grown es [] = ([], sym (append-nil es))
-all_grown es (one ∷ named) =
-    let a = one_grown es one in
-    let b = all_grown (enter_one es one) named in
-    (a.0 ++ b.0, b.1 ∙ ap (λ (xs : List Entry). xs ++ b.0) a.1 ∙ append_assoc es a.0 b.0)
 
 pub front_of : (es named : List Entry) (count : ℕ) → count ≡ length es → take count (entered_all es named) ≡ es
 front_of es named count is = let a = all_grown es named in ap (λ (n : ℕ). take n (entered_all es named)) is ∙ ap (take (length es)) a.1 ∙ take_at es a.0 (length es) refl

@@ -8,6 +8,7 @@ ghost use Rattle.unit_plans.specs.Steps.{enter_one, entered_all};
 ghost use Rattle.gate_sessions.specs.Directions.{listed_of, IsListedSide, with_entered, dns_next, dns_out, DnsCompletes};
 
 use crate::kinds::DnsSession;
+use crate::segments::put_segments;
 use crate::session::Passing;
 use gate_base::OutOfMemory;
 use gate_outbox::{Outbox, Scratch};
@@ -66,15 +67,7 @@ pub fn step_units(
     let from_client = passing.from_client;
     let listed = session.listed(from_client);
     learn_all(session, from_client, named);
-    let stepped = outbox.put_segments(
-        session,
-        from_client,
-        passing.segment,
-        passing.source,
-        passing.destination,
-        scratch,
-    );
-    match stepped {
+    match put_segments(session, passing, outbox, scratch) {
         Ok(over) => Ok(over),
         Err(error) => {
             session.forget_from(from_client, listed);

@@ -4,13 +4,9 @@
 
 mod kinds;
 mod learned;
-mod octets;
+mod segments;
 mod session;
 mod tracked;
 
-pub use octets::UnitOctets;
 pub use session::{AnySession, Passing};
 pub use tracked::TrackedSession;
-
-#[cfg(test)]
-mod tests;

@@ -1,10 +1,9 @@
 // A session of one of two kinds.
 ghost use Rattle.std.specs.Prelude.{◌≡◌, ◌≤◌, ◌<◌, ℕ, Option, true, [], length, map, slice_get, Some, None, IfOk, OnOk, OnErr};
 ghost use Rattle.gate_base.specs.declared.address.Addr.{Addr};
-ghost use Rattle.stream_gate.specs.Segments.{segment_of as segment_by};
+ghost use Rattle.stream_model.specs.Session.{segment_in, arrival};
 ghost use Rattle.stream_gate.specs.Directions.{nothing_pushed};
 ghost use Rattle.stream_kept.specs.Sessions.{kept_made, kept_verdict};
-ghost use Rattle.stream_model.specs.Session.{arrival};
 ghost use Rattle.stream_model.specs.Verdict.{is_data};
 ghost use Rattle.gate_world.specs.Lists.{addresses_in};
 ghost use Rattle.gate_world.specs.Stream.{segment_of, sent_as, tcp_of};
@@ -15,7 +14,7 @@ ghost use Rattle.gate_sessions.specs.Sessions.{MayWantIn};
 
 use crate::kinds::{Dialog, DnsSession, FtpSession};
 use crate::learned::step_units;
-use crate::octets::UnitOctets;
+use crate::segments::put_segments;
 use dns_stream::DnsUnits;
 use ftp_lines::{ClientLines, ServerLines};
 use gate_base::{Addr, DNS_PORT, OutOfMemory, Pair, Refusal};
@@ -26,7 +25,7 @@ use std::boxed::Box;
 use std::marker::Model;
 use stream_gate::StreamGate;
 use tcp_segments::{TcpView, flags_of};
-use unit_plans::Entry;
+use unit_plans::{Entry, UnitOctets};
 
 /// A segment that passes: whether the client sends it, and the addresses between which it goes on.
 #[derive(Clone, Copy)]
@@ -118,14 +117,14 @@ impl AnySession {
     /// Why the first segment of a client is refused by the session that it makes, on any port; None where it passes.
     pub fn first_verdict(segment: &TcpView<'_>) -> Option<Refusal>
         requires { length segment.now.payload ≤ 65535 }
-        ensures { result ≡ kept_verdict true (kept_made segment.now.sequence segment.now.mss nothing_pushed nothing_pushed) (segment_by segment.now) }
+        ensures { result ≡ kept_verdict true (kept_made segment.now.sequence segment.now.mss nothing_pushed nothing_pushed) (segment_in segment.now) }
     {
         FtpSession::first_verdict(segment)
     }
 
     /// Why a segment of the client, or else of the server, is refused; None where it passes.
     pub fn verdict(&self, from_client: bool, segment: &TcpView<'_>) -> Option<Refusal>
-        ensures { result ≡ kept_rules.verdict from_client self.now (segment_by segment.now) }
+        ensures { result ≡ kept_rules.verdict from_client self.now (segment_in segment.now) }
     {
         match &self.dialog {
             Dialog::Lines(session) => session.verdict(from_client, segment),
@@ -190,7 +189,7 @@ impl AnySession {
     /// Puts the octets whose whole units a segment of the client, or else of the server, completes: a held rest and what goes on behind
     /// it, in a session of DNS.
     pub fn put_octets(&self, from_client: bool, segment: &TcpView<'_>, octets: &mut UnitOctets)
-        ensures { whole_units octets.new ≡ kept_rules.units from_client self.now (segment_by segment.now) }
+        ensures { whole_units octets.new ≡ kept_rules.units from_client self.now (segment_in segment.now) }
     {
         octets.clear();
         if let Dialog::Units(session) = &self.dialog {
@@ -225,14 +224,7 @@ impl AnySession {
         ensures nothing { OnErr result (outbox.new ≡ []) }
     {
         match &mut self.dialog {
-            Dialog::Lines(session) => return outbox.put_segments(
-                session,
-                passing.from_client,
-                passing.segment,
-                passing.source,
-                passing.destination,
-                scratch,
-            ),
+            Dialog::Lines(session) => return put_segments(session, passing, outbox, scratch),
             Dialog::Units(session) => {
                 return step_units(&mut **session, passing, entries, outbox, scratch);
             }
@@ -242,7 +234,7 @@ impl AnySession {
 
 /// Whether it has neither SYN nor RST.
 fn is_data(segment: &TcpView<'_>) -> bool
-    ensures { result ≡ is_data (arrival (segment_by segment.now)) }
+    ensures { result ≡ is_data (arrival (segment_in segment.now)) }
 {
     let flags = flags_of(segment.flags());
     !flags.syn && !flags.reset

@@ -17,6 +17,3 @@ pub use fault::{ReadSettings, SettingsFault, fault_text};
 pub use key::Key;
 pub use laws::accepted_settings;
 pub use settings::{Block, Blocks, Fixed, OidRules, Settings, SideSettings, Statics};
-
-#[cfg(test)]
-mod tests;

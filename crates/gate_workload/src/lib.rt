@@ -13,6 +13,3 @@ mod workload;
 pub use datagram::udp_reads_back;
 pub use octets::Octets;
 pub use workload::{Workload, captures_are_whole, make};
-
-#[cfg(test)]
-mod tests;

@@ -2,10 +2,11 @@
 use Rattle.std.proofs.Common.{Ok, Err, inl, inr, sym, subst}
 use Rattle.gate_desk.specs.Outside.{Outside}
 use Rattle.gate_report.specs.declared.line.Line.{Line}
-use Rattle.gateway.specs.declared.status.Status.{Status}
-use Rattle.gateway.specs.declared.status.Status.TheVariants.{Done, Usage, SettingsRefused, CaptureRefused, ReadFault, WriteFault, OpenFault, OutOfMemory}
+use Rattle.gate_phases.specs.declared.status.Status.{Status}
+use Rattle.gate_phases.specs.declared.status.Status.TheVariants.{Done}
 use Rattle.gateway.specs.Command.{Names}
-use Rattle.gateway.specs.Answers.{IsRun, Runs, IsDoneRun, IsToldRun, AnswersRun, TookForWritten, Tells}
+use Rattle.gateway.specs.Answers.{IsRun, Runs, IsDoneRun, IsToldRun, AnswersRun, TookForWritten}
+use Rattle.gate_phases.specs.Telling.{Tells}
 use Rattle.gateway.proofs.Promises.{promise_kept}
 use Rattle.gateway.proofs.Runs.{run_of, untold}
 
@@ -28,10 +29,4 @@ not_done e names a b c h t = elim t.answer_is [ inl same ↦ subst (λ s. Runs (
 -- what the call answers to the words of a run
 pub answers_run : (e answer : Status) (names : Names) (a b c : Outside) → Runs (Err e) names a b → TookForWritten a b → Tells e answer b c → AnswersRun answer names a c
 answers_run e Done names a b c h took t = absurd (not_done e names a b c h t)
-answers_run e Usage names a b c h took t = told_run e Usage names a b c h took t
-answers_run e (SettingsRefused f) names a b c h took t = told_run e (SettingsRefused f) names a b c h took t
-answers_run e (CaptureRefused side f place) names a b c h took t = told_run e (CaptureRefused side f place) names a b c h took t
-answers_run e (ReadFault s) names a b c h took t = told_run e (ReadFault s) names a b c h took t
-answers_run e (WriteFault s) names a b c h took t = told_run e (WriteFault s) names a b c h took t
-answers_run e (OpenFault s) names a b c h took t = told_run e (OpenFault s) names a b c h took t
-answers_run e OutOfMemory names a b c h took t = told_run e OutOfMemory names a b c h took t
+answers_run e answer names a b c h took t = told_run e answer names a b c h took t

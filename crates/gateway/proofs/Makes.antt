@@ -2,43 +2,33 @@
 use Rattle.std.proofs.Common.{◌≡◌, ℕ, List, [], ◌∷◌, ◌≤◌, Result, Ok, Err, MatchResult, IsTrue, inl, inr, refl, sym, ap, subst, ◌∙◌, arith}
 use Rattle.std.proofs.lemmas.Bool.{false≢true}
 use Rattle.gate_desk.specs.declared.slot.Slot.{Slot}
-use Rattle.gate_desk.specs.declared.slot.Slot.TheVariants.{Settings, LeftIn, RightIn, LeftOut, RightOut, Report, Errors}
+use Rattle.gate_desk.specs.declared.slot.Slot.TheVariants.{Report}
 use Rattle.gate_desk.specs.declared.slot.PerSlot.{PerSlot}
 use Rattle.gate_desk.specs.Discarded.{told_by}
 use Rattle.gate_desk.specs.Outside.{Outside, Told, FailsToStart, HasFailed, HasFailedToStart}
-use Rattle.gate_desk.proofs.Laws.{grows_on, grows_fails_to_start, none_failed_on, failed_since}
+use Rattle.gate_desk.proofs.Laws.{at-each, grows_on, grows_fails_to_start, none_failed_on, failed_since}
 use Rattle.gate_desk.specs.Memory.{inputs}
 use Rattle.gate_report.specs.declared.line.Line.{Line}
 use Rattle.gate_workload.specs.declared.workload.Workload.{Workload}
 use Rattle.gate_workload.specs.Workloads.{workload}
-use Rattle.gateway.specs.Status.{is_settings_fault}
-use Rattle.gateway.specs.declared.status.Status.{Status}
-use Rattle.gateway.specs.declared.status.Status.TheVariants.{Done, Usage, SettingsRefused, CaptureRefused, ReadFault, WriteFault, OpenFault, OutOfMemory}
+use Rattle.gate_phases.specs.Status.{is_settings_fault}
+use Rattle.gate_phases.specs.declared.status.Status.{Status}
+use Rattle.gate_phases.specs.declared.status.Status.TheVariants.{Done, SettingsRefused, CaptureRefused, ReadFault, WriteFault, OpenFault, OutOfMemory}
 use Rattle.gateway.specs.Command.{Names, make_starts}
-use Rattle.gateway.specs.Causes.{StartsAll, WritesPieces}
+use Rattle.gate_phases.specs.Causes.{StartsAll}
+use Rattle.gateway.specs.Causes.{WritesPieces}
 use Rattle.gateway.specs.Pieces.{wrote_pieces, WritesAll, IsFront}
 use Rattle.gateway.specs.Making.{workload_in, made_piece, IsLineOf, IsMake}
-use Rattle.gateway.specs.Answers.{Runs, Tells, IsToldMake, AnswersMake}
+use Rattle.gateway.specs.Answers.{Runs, IsToldMake, AnswersMake}
+use Rattle.gate_phases.specs.Telling.{Tells}
 use Rattle.gateway.proofs.Accepted.{never_refused, never_faulty}
 
 -- no count of a desk that discards rises
 never_failed : (s : Slot) (l k : PerSlot (List ℕ)) → HasFailed s (told_by l) (told_by k) → ⊥
-never_failed Settings l k h = omega (arith, h)
-never_failed LeftIn l k h = omega (arith, h)
-never_failed RightIn l k h = omega (arith, h)
-never_failed LeftOut l k h = omega (arith, h)
-never_failed RightOut l k h = omega (arith, h)
-never_failed Report l k h = omega (arith, h)
-never_failed Errors l k h = omega (arith, h)
+never_failed s l k h = omega (arith, h, at-each {A = ℕ} 0 s)
 
 never_failed_to_start : (s : Slot) (l k : PerSlot (List ℕ)) → HasFailedToStart s (told_by l) (told_by k) → ⊥
-never_failed_to_start Settings l k h = omega (arith, h)
-never_failed_to_start LeftIn l k h = omega (arith, h)
-never_failed_to_start RightIn l k h = omega (arith, h)
-never_failed_to_start LeftOut l k h = omega (arith, h)
-never_failed_to_start RightOut l k h = omega (arith, h)
-never_failed_to_start Report l k h = omega (arith, h)
-never_failed_to_start Errors l k h = omega (arith, h)
+never_failed_to_start s l k h = omega (arith, h, at-each {A = ℕ} 0 s)
 
 -- the run over the workload is done
 rehearsed : (line : Line) (names : Names) (number count : ℕ) (k : PerSlot (List ℕ)) → Runs (Ok line) names (told_by (workload_in number count)) (told_by k) → IsLineOf line number count
@@ -47,13 +37,13 @@ rehearsed line names number count k h = record { settings = h.1.0; accepted = h.
 -- or memory was wanting
 not_rehearsed : (e : Status) (names : Names) (number count : ℕ) (k : PerSlot (List ℕ)) → count ≤ 100000 → Runs (Err e) names (told_by (workload_in number count)) (told_by k) → e ≡ OutOfMemory
 not_rehearsed Done names number count k few h = absurd h
-not_rehearsed Usage names number count k few h = absurd h.ends.cause
 not_rehearsed (SettingsRefused f) names number count k few h = absurd (never_refused f h.ends.cause.0)
 not_rehearsed (CaptureRefused side f place) names number count k few h = absurd (never_faulty number count side f place few h.ends.cause.0.2)
 not_rehearsed (ReadFault s) names number count k few h = absurd (never_failed s (workload_in number count) k h.ends.cause.1)
 not_rehearsed (WriteFault s) names number count k few h = absurd (never_failed s (workload_in number count) k h.ends.cause.1)
 not_rehearsed (OpenFault s) names number count k few h = absurd (never_failed_to_start s (workload_in number count) k h.ends.cause.1)
 not_rehearsed OutOfMemory names number count k few h = refl
+not_rehearsed e names number count k few h = absurd h.ends.cause
 
 -- the desk holds the workload
 pub holds_workload : (number count : ℕ) (made : Workload) (desk : PerSlot (List ℕ)) (settings left right : List ℕ) → made ≡ workload number count
@@ -99,13 +89,7 @@ not_written e line number count report a b c h is same k =
 
 untold : (e : Status) (number count : ℕ) (report : List ℕ) (a b : Outside) → IsTrue (is_settings_fault e) → IsMake e number count report a b → IsMake OutOfMemory number count report a b
 untold (SettingsRefused f) number count report a b is h = absurd h.made
-untold Done number count report a b is h = absurd (false≢true is)
-untold Usage number count report a b is h = absurd (false≢true is)
-untold (CaptureRefused side f place) number count report a b is h = absurd (false≢true is)
-untold (ReadFault s) number count report a b is h = absurd (false≢true is)
-untold (WriteFault s) number count report a b is h = absurd (false≢true is)
-untold (OpenFault s) number count report a b is h = absurd (false≢true is)
-untold OutOfMemory number count report a b is h = absurd (false≢true is)
+untold e number count report a b is h = absurd (false≢true is)
 
 told_make : (e answer : Status) (number count : ℕ) (report : List ℕ) (a b c : Outside) → IsMake e number count report a b → Tells e answer b c → IsToldMake answer number count report a c
 told_make e answer number count report a b c h t =
@@ -120,10 +104,4 @@ not_done e b c undone t = elim t.answer_is [ inl same ↦ undone (sym same) | in
 -- what the call answers to the words of a make
 pub answers_make : (e answer : Status) (number count : ℕ) (report : List ℕ) (a b c : Outside) → (e ≡ Done → ⊥) → IsMake e number count report a b → Tells e answer b c → AnswersMake answer number count report a c
 answers_make e Done number count report a b c undone h t = absurd (not_done e b c undone t)
-answers_make e Usage number count report a b c undone h t = told_make e Usage number count report a b c h t
-answers_make e (SettingsRefused f) number count report a b c undone h t = told_make e (SettingsRefused f) number count report a b c h t
-answers_make e (CaptureRefused side f place) number count report a b c undone h t = told_make e (CaptureRefused side f place) number count report a b c h t
-answers_make e (ReadFault s) number count report a b c undone h t = told_make e (ReadFault s) number count report a b c h t
-answers_make e (WriteFault s) number count report a b c undone h t = told_make e (WriteFault s) number count report a b c h t
-answers_make e (OpenFault s) number count report a b c undone h t = told_make e (OpenFault s) number count report a b c h t
-answers_make e OutOfMemory number count report a b c undone h t = told_make e OutOfMemory number count report a b c h t
+answers_make e answer number count report a b c undone h t = told_make e answer number count report a b c h t

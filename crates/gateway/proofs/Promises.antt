@@ -9,7 +9,7 @@ use Rattle.gate_base.specs.declared.side.Side.TheVariants.{Left, Right}
 use Rattle.frag_join.specs.Arrivals.{Arrival, Comes, Stays, coming}
 use Rattle.frag_join.proofs.ArrivalSteps.{arrivals_are}
 use Rattle.gate_desk.specs.declared.slot.PerSlot.{PerSlot}
-use Rattle.gate_desk.specs.declared.slot.Slot.TheVariants.{Settings, LeftIn, RightIn, LeftOut, RightOut, Report, Errors}
+use Rattle.gate_desk.specs.declared.slot.Slot.TheVariants.{Settings, LeftIn, RightIn, LeftGiven, RightGiven, ReportGiven, LeftOut, RightOut, Report, Errors}
 use Rattle.gate_desk.specs.Outside.{Outside, Told}
 use Rattle.gate_settings.specs.Cross.{settings_of}
 use Rattle.gate_settings.specs.declared.settings.Settings.{Settings as GateSettings}
@@ -21,16 +21,17 @@ use Rattle.gate_world.specs.Step.{next, out}
 use Rattle.gate_world.specs.Verdict.{verdict}
 use Rattle.gate_world.specs.World.{World}
 use Rattle.gate_world.proofs.Promises.{promised}
-use Rattle.gateway.specs.declared.status.Status.{Status}
-use Rattle.gateway.specs.declared.status.Status.TheVariants.{Done, Usage, SettingsRefused, CaptureRefused, ReadFault, WriteFault, OpenFault, OutOfMemory}
+use Rattle.gate_phases.specs.declared.status.Status.{Status}
+use Rattle.gate_phases.specs.declared.status.Status.TheVariants.{Done, Usage, SettingsRefused, CaptureRefused, ReadFault, WriteFault, OpenFault, OutOfMemory}
 use Rattle.gateway.specs.Command.{Names}
 use Rattle.gateway.specs.Pieces.{Piece, IsFront, wrote_pieces}
 use Rattle.gateway.specs.Machine.{State, opening, after_one, after, arrivals_by, sent, event_piece, given_by, given_by_all, given_by_merged, ended_by, heads, files}
 use Rattle.gateway.specs.Standing.{promised_of, EachStands, KeepsPromise}
-use Rattle.gateway.specs.Ends.{IsAccepted, Wants, events_in, outputs_of}
+use Rattle.gate_phases.specs.Beginning.{IsAccepted, events_in}
+use Rattle.gateway.specs.Ends.{Wants, outputs_of}
 use Rattle.gateway.specs.Answers.{HasWritten, IsRun, IsPromised, StopsAtCapture, WantsMemory}
 use Rattle.gateway.proofs.Pieces.{is_front_none, is_front_all, is_front_more, is_front_on}
-use Rattle.gateway.proofs.Phases.{if_some}
+use Rattle.gate_phases.proofs.Beginning.{if_some}
 use Rattle.gateway.proofs.Progress.{given_all-append, given_all-cons, front_of_first}
 use Rattle.gateway.proofs.Runs.{good_outputs, bad_outputs}
 
@@ -138,16 +139,10 @@ front_written Done names a b h = whole_front a b h
 front_written (CaptureRefused side fault place) names a b h = whole_front a b h
 front_written (ReadFault LeftIn) names a b h = stops_front Left names a b h
 front_written (ReadFault RightIn) names a b h = stops_front Right names a b h
-front_written (ReadFault Settings) names a b h = nothing_written a b h.0
-front_written (ReadFault LeftOut) names a b h = nothing_written a b h.0
-front_written (ReadFault RightOut) names a b h = nothing_written a b h.0
-front_written (ReadFault Report) names a b h = nothing_written a b h.0
-front_written (ReadFault Errors) names a b h = nothing_written a b h.0
+front_written (ReadFault slot) names a b h = nothing_written a b h.0
 front_written (WriteFault slot) names a b h = outputs_front a b h
 front_written OutOfMemory names a b h = wants_front names a b h
-front_written Usage names a b h = nothing_written a b h
-front_written (SettingsRefused fault) names a b h = nothing_written a b h
-front_written (OpenFault slot) names a b h = nothing_written a b h
+front_written e names a b h = nothing_written a b h
 
 -- captures that are read to their ends have good heads
 ended_heads : (left right : List ℕ) (x y : Head) → (by_heads left right x y).ending ≡ BothEnded → are_good x y ≡ true

@@ -1,54 +1,35 @@
 -- What a run took of the captures where it ended early.
-use Rattle.std.proofs.Common.{◌≡◌, ℕ, inl, inr, List, [], Result, Ok, Err, Option, Some, None, IfSome, OnErr, option_map, refl, sym, ap, subst, ◌∙◌}
+use Rattle.std.proofs.Common.{◌≡◌, inl, inr, List, [], Result, Ok, Err, Option, Some, None, IfSome, OnErr, option_map, refl, sym, ap, subst, ◌∙◌}
 use Rattle.gate_base.specs.Events.{Event}
 use Rattle.frag_join.specs.Arrivals.{Arrival}
-use Rattle.gate_desk.specs.declared.slot.Slot.TheVariants.{Settings}
-use Rattle.gate_desk.specs.Outside.{Outside, Told, Start, Takes, told_at}
+use Rattle.gate_desk.specs.Outside.{Outside, Told, Start, told_at}
 use Rattle.gate_report.specs.declared.line.Line.{Line}
 use Rattle.gate_settings.specs.declared.settings.Settings.{Settings as GateSettings}
 use Rattle.pcap_merge.specs.declared.stop.MergeStop.{MergeStop}
 use Rattle.pcap_merge.specs.declared.stop.MergeStop.TheVariants as merges
 use Rattle.pcap_merge.specs.Events.{Merged}
 use Rattle.pcap_merge.specs.Given.{TakenFor}
-use Rattle.pcap_merge.specs.Merge.{Merging, Begins, ComesTo, Finishes as FinishesMerge, StopsBy, TakesFew, ahead}
+use Rattle.pcap_merge.specs.Merge.{Merging, ComesTo, Finishes as FinishesMerge, StopsBy, TakesFew, ahead}
 use Rattle.pcap_merge.specs.Stops.{slot_of}
-use Rattle.pcap_merge.proofs.Given.{given_few, taken_none, taken_later, taken_since}
+use Rattle.pcap_merge.proofs.Given.{given_few, taken_later}
 use Rattle.kept_world.specs.Kept.{KeptSession}
 use Rattle.gate_core.specs.Gates.{Gateway}
 use Rattle.gate_report.specs.declared.totals.Totals.{Totals}
-use Rattle.gateway.specs.declared.status.Status.{Status}
-use Rattle.gateway.specs.declared.status.Status.TheVariants.{Done, Usage, SettingsRefused, CaptureRefused, ReadFault, WriteFault, OpenFault, OutOfMemory}
+use Rattle.gate_phases.specs.declared.status.Status.{Status}
+use Rattle.gate_phases.specs.declared.status.Status.TheVariants.{Done, Usage, SettingsRefused, CaptureRefused, ReadFault, WriteFault, OpenFault, OutOfMemory, Unlawful}
 use Rattle.gateway.specs.Answers.{TookForWritten}
 use Rattle.gateway.specs.Causes.{WritesPieces}
 use Rattle.gateway.specs.Command.{Names, first_starts, output_starts}
 use Rattle.gateway.specs.Machine.{State, heads}
 use Rattle.gateway.specs.Ends.{StandWritten}
-use Rattle.gateway.specs.Phases.{Settled, Prepared, Readied, TookFew, WritesLastLine, Handles, OfEvents}
+use Rattle.gateway.specs.Phases.{Prepared, Readied, TookFew, WritesLastLine, Handles, OfEvents}
 use Rattle.gateway.specs.Pieces.{Piece, WritesFront, IsFront, wrote_pieces}
-use Rattle.gateway.proofs.Phases.{if_some, told_before}
+use Rattle.gate_phases.proofs.Beginning.{if_some}
 use Rattle.gateway.proofs.Pieces.{is_front_all, wrote_pieces-nil}
 use Rattle.gateway.proofs.Progress.{Progress, Joiner, with_front, given_first, given_kept, failed_only}
 use Rattle.gateway.proofs.Runs.{of_events, heads_written}
 
 -- ## Before the events
-
--- nothing was read
-pub kept_left : (a b : Outside) → b.left ≡ a.left → TakenFor [] a b
-kept_left a b e = taken_none a b (λ side. ap (λ (t : Told). told_at t (slot_of side)) e)
-
--- the settings alone were read
-pub settings_only : (n : ℕ) (a b c : Outside) → b.left ≡ a.left → Takes Settings n b c → TakenFor [] a c
-settings_only n a b c e t = taken_none a c (λ side. ap (λ (u : Told). told_at u (slot_of side)) t.left ∙ told_before side n b.left ∙ ap (λ (u : Told). told_at u (slot_of side)) e)
-
--- a head could not be read
-pub not_begun_few : (stop : MergeStop) (a b c : Outside) → b.left ≡ a.left → Begins (Err stop) b c → TakenFor [] a c
-not_begun_few (merges.Fault side f place) a b c e k = taken_since b a c [] (λ side'. ap (λ (t : Told). told_at t (slot_of side')) e) k.3
-not_begun_few (merges.Desk slot) a b c e k = taken_since b a c [] (λ side. ap (λ (t : Told). told_at t (slot_of side)) e) k.4
-not_begun_few merges.OutOfMemory a b c e k = taken_since b a c [] (λ side. ap (λ (t : Told). told_at t (slot_of side)) e) k.1
-
--- the same behind the settings
-pub settled_few : (settings : GateSettings) (xs : List Start) (a b c : Outside) → Settled settings xs a b → TakenFor [] b c → TakenFor [] a c
-settled_few settings xs a b c h k = taken_since b a c [] (λ side. ap (λ (t : Told). told_at t (slot_of side)) h.left ∙ told_before side h.count a.left) k
 
 pub gives_left : (r : Result (Unit {0}) Status) (ps : List Piece) (a b : Outside) → WritesPieces r ps a b → b.left ≡ a.left
 gives_left (Ok u) ps a b h = h.only.left
@@ -100,19 +81,14 @@ took_end (Err e) settings m0 m m' old now mid new s joiner line h k f =
     line_front (ReadFault x) f = (_, f.1)
     line_front (WriteFault x) f = (_, f.1)
     line_front (OpenFault x) f = (_, f.1)
+    line_front (Unlawful x y) f = (_, f.1)
 
 event_front : (e : Status) (gate gate' : Gateway) (totals : Totals) (event : Arrival) (mid new : Outside) → Handles (Err e) gate gate' totals event mid new → (behind : List Piece) × IsFront behind mid.written new.written
 event_front OutOfMemory gate gate' totals event mid new k = elim k as (λ x. (behind : List Piece) × IsFront behind mid.written new.written) [
   | inl wants ↦ ([], is_front_all [] mid.written new.written (ap (λ (o : Outside). o.written) wants.1 ∙ sym (wrote_pieces-nil mid.written)))
   | inr json ↦ (_, json.1.front)
 ]
-event_front Done gate gate' totals event mid new k = (_, k.1.front)
-event_front Usage gate gate' totals event mid new k = (_, k.1.front)
-event_front (SettingsRefused x) gate gate' totals event mid new k = (_, k.1.front)
-event_front (CaptureRefused x y z) gate gate' totals event mid new k = (_, k.1.front)
-event_front (ReadFault x) gate gate' totals event mid new k = (_, k.1.front)
-event_front (WriteFault x) gate gate' totals event mid new k = (_, k.1.front)
-event_front (OpenFault x) gate gate' totals event mid new k = (_, k.1.front)
+event_front e gate gate' totals event mid new k = (_, k.1.front)
 
 -- a frame was not handled to its end
 pub took_fail : (x : Status) (settings : GateSettings) (gate gate' : Gateway) (totals : Totals) (m0 m m' : Merging) (old now mid new : Outside) (s : State KeptSession) (joiner : Joiner) (e : Event) (a : Arrival) → Progress settings m0 old now m s joiner → ComesTo e m m' now mid → Handles (Err x) gate gate' totals a mid new → TookFew settings m0 old new

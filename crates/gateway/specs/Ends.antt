@@ -1,40 +1,34 @@
 -- How a run ends: the cause of each status, and what stands written then.
-use Rattle.std.specs.Prelude.{◌≡◌, ◌⊎◌, ℕ, ◌<◌, List, [], ◌∷◌, ◌++◌, if◌then◌else◌, true, Ok, Err, IfSome, option_map, drop}
+use Rattle.std.specs.Prelude.{◌≡◌, ◌⊎◌, ℕ, List, [], ◌∷◌, ◌++◌, if◌then◌else◌, true, Err, IfSome}
 use Rattle.gate_base.specs.Events.{Event}
-use Rattle.gate_desk.specs.declared.slot.Slot.{Slot}
-use Rattle.gate_desk.specs.declared.slot.Slot.TheVariants.{Settings, LeftIn, RightIn}
+use Rattle.gate_desk.specs.declared.slot.Slot.TheVariants.{LeftIn, RightIn}
 use Rattle.gate_desk.specs.declared.slot.PerSlot.{PerSlot}
-use Rattle.gate_desk.specs.Outside.{Outside, Told, Grows, NoneFailed, IsAtEnd, told_at}
+use Rattle.gate_desk.specs.Outside.{Outside, Told, Grows, NoneFailed, IsAtEnd}
 use Rattle.gate_settings.specs.declared.settings.Settings.{Settings as GateSettings}
 use Rattle.gate_settings.specs.Cross.{settings_of}
-use Rattle.pcap_merge.specs.Events.{Merged, Done as BothEnded, Fault as EndsFaulty, have_good_heads, events_of}
-use Rattle.gateway.specs.declared.status.Status.{Status}
-use Rattle.gateway.specs.declared.status.Status.TheVariants.{Done, Usage, SettingsRefused, CaptureRefused, ReadFault, WriteFault, OpenFault, OutOfMemory}
+use Rattle.pcap_merge.specs.Events.{Merged, Done as BothEnded, Fault as EndsFaulty, have_good_heads}
+use Rattle.gate_phases.specs.declared.status.Status.{Status}
+use Rattle.gate_phases.specs.declared.status.Status.TheVariants.{Done, Usage, SettingsRefused, CaptureRefused, ReadFault, WriteFault, OpenFault, OutOfMemory, Unlawful}
+use Rattle.gate_phases.specs.Beginning.{IsAccepted, events_in}
 use Rattle.gateway.specs.Pieces.{Piece, wrote_pieces, IsFront}
-use Rattle.gateway.specs.Causes.{Causes}
+use Rattle.gate_phases.specs.Causes.{Causes}
 use Rattle.gate_core.specs.Memory.{MayWant}
 use Rattle.gate_world.specs.Rules.{whole_rules}
 use Rattle.gate_world.specs.World.{World, at_moment}
 use Rattle.kept_world.specs.Kept.{KeptSession, kept_rules}
 use Rattle.frag_join.specs.Arrivals.{Comes}
 use Rattle.gateway.specs.Machine.{after, arrivals_by, given_by_all, given_by_merged, files, opening}
+use Rattle.gate_phases.specs.Beginning.{IsAccepted, events_in}
 
 -- the gate may want memory for an event
 abbrev pub MayWantAt : World KeptSession → Event → Type 0
 MayWantAt w e = MayWant (at_moment w e.moment) e
 
--- the octets that the desk tells are left: these settings are accepted
-abbrev pub IsAccepted : GateSettings → PerSlot (List ℕ) → Type 0
-IsAccepted settings all = settings_of all.settings ≡ Ok settings
-
--- the events of both captures
-abbrev pub events_in : PerSlot (List ℕ) → Merged
-events_in all = events_of all.left_in all.right_in
-
 -- the cause of a status, by what the desk tells of the settings and the captures as the run begins, and by the counts, none of which rose where a run is done or refuses its settings or a capture
 abbrev pub HasCause : Status → Outside → Outside → Type 0
 HasCause Done old new = IfSome old.left (λ all. (settings : GateSettings) × IsAccepted settings all × ((events_in all).ending ≡ BothEnded)) × IsAtEnd new LeftIn × IsAtEnd new RightIn × NoneFailed old new
 HasCause Usage old new = ⊥
+HasCause (Unlawful number reason) old new = ⊥
 HasCause (SettingsRefused fault) old new = IfSome old.left (λ all. settings_of all.settings ≡ Err fault) × NoneFailed old new
 HasCause (CaptureRefused side fault place) old new = IfSome old.left (λ all. (settings : GateSettings) × IsAccepted settings all × ((events_in all).ending ≡ EndsFaulty side fault place)) × NoneFailed old new
 HasCause (ReadFault slot) old new = Causes (ReadFault slot) old new
@@ -50,11 +44,6 @@ outputs_of settings all = if have_good_heads all.left_in all.right_in then files
 pub record Ends (status : Status) (old new : Outside) : Type 0 where
   pub cause : HasCause status old new
   pub grows : Grows old new
-
--- of a capture fewer octets than a head has were taken
-abbrev pub IsBeforeHead : Slot → Outside → Outside → Type 0
-IsBeforeHead Settings old new = Unit {0}
-IsBeforeHead slot old new = (count : ℕ) × (count < 24) × (told_at new.left slot ≡ option_map (drop count) (told_at old.left slot))
 
 -- these are the first of the events, and what they give stands written, whole
 pub record IsOfFirst (settings : GateSettings) (handled events : List Event) (old new : Told) : Type 0 where

@@ -11,8 +11,8 @@ use Rattle.gate_world.specs.Step.{out}
 use Rattle.gate_world.specs.Verdict.{verdict}
 use Rattle.gateway.specs.Pieces.{Piece, IsFront, wrote_pieces}
 use Rattle.gateway.specs.Machine.{arrivals_by, opening, sent, event_piece, given_by_all, given_by_merged, files}
-use Rattle.gateway.specs.declared.status.Status.{Status}
-use Rattle.gateway.specs.declared.status.Status.TheVariants.{Done}
+use Rattle.gate_phases.specs.declared.status.Status.{Status}
+use Rattle.gate_phases.specs.declared.status.Status.TheVariants.{Done}
 
 -- what is promised of a frame behind others: of one that comes to the gate its frames and its line, which names its verdict, and of one that doesn't its line alone
 abbrev pub promised_of : Settings → List Arrival → Arrival → List Piece

@@ -2,14 +2,15 @@
 ghost use Rattle.std.specs.Prelude.{◌≤◌, map};
 ghost use Rattle.std.specs.String.{string_bytes};
 ghost use Rattle.gateway.specs.Command.{names_of, command_of};
-ghost use Rattle.gateway.specs.Answers.{Answers, AnswersRun, AnswersMake};
+ghost use Rattle.gateway.specs.Answers.{Answers, AnswersRun, AnswersMake, AnswersAudit};
+ghost use Rattle.gateway_audit.specs.Names.{names_of as audit_names_of};
 
-use crate::Status;
 use crate::command::{Command, FileNames, read_words};
-use crate::errors::{tell, tell_usage};
 use crate::make::make;
 use crate::run::run;
 use gate_desk::Desk;
+use gate_phases::{Status, tell, tell_usage};
+use gateway_audit::{AuditNames, audit};
 use std::alloc::Global;
 
 /// A run, and the line about what went wrong.
@@ -33,9 +34,22 @@ fn told_make<D: Desk>(alloc: Global, desk: &mut D, number: u32, count: u32, repo
     }
 }
 
+/// An audit, and the line about what went wrong where it gives no verdict.
+fn told_audit<D: Desk>(alloc: Global, desk: &mut D, names: AuditNames<'_>) -> Status
+    ensures { AnswersAudit result (audit_names_of names.entry) (D.outside desk.old) (D.outside desk.new) }
+{
+    match audit(alloc, desk, names) {
+        Status::Done => Status::Done,
+        Status::Unlawful(number, reason) => Status::Unlawful(number, reason),
+        status => tell(alloc, desk, status),
+    }
+}
+
 /// Carries out the command of these words, which stand behind the program's name: `run SETTINGS LEFT_IN RIGHT_IN LEFT_OUT
-/// RIGHT_OUT REPORT`, or `make NUMBER COUNT REPORT`, a run over the workload of two numbers of which the last line of the
-/// report is written alone. Where the answer isn't `Done`, one line on the slot of errors says why.
+/// RIGHT_OUT REPORT`; `make NUMBER COUNT REPORT`, a run over the workload of two numbers of which the last line of the report
+/// is written alone; or `audit SETTINGS LEFT_IN RIGHT_IN LEFT_GIVEN RIGHT_GIVEN REPORT_GIVEN REPORT`, which writes one line:
+/// for how many events the given captures and report are lawful, or the first event for which they aren't, and why. Where the
+/// answer is neither `Done` nor `Unlawful`, one line on the slot of errors says why.
 ///
 /// Of the events of both captures, whose frames and lines a run writes: each frame is forwarded at its own event unless
 /// exactly its named refusal holds; in each FTP session the octets sent to a host are a prefix of the peer's stream with its
@@ -51,6 +65,7 @@ pub fn realm_gate<D: Desk>(alloc: Global, words: &[String], desk: &mut D) -> Sta
             count,
             report,
         } => told_make(alloc, desk, number, count, report),
+        Command::Audit(names) => told_audit(alloc, desk, names),
         Command::Usage => tell_usage(desk),
     }
 }

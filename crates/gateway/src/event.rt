@@ -10,14 +10,13 @@ ghost use Rattle.gateway.specs.Machine.{out_slot, frame_piece, sent};
 ghost use Rattle.gateway.specs.Causes.{WritesPieces};
 ghost use Rattle.gateway.specs.Phases.{Handles, counting};
 
-use crate::Status;
-use crate::front::{ask, joined};
 use crate::report::{Reporter, put_line};
 use ether_frames::put_head;
-use frag_join::{Joiner, Taken};
+use frag_join::{Joiner, Taken, ask, joined};
 use gate_base::{Event, Link, Moment, Side, Verdict};
 use gate_core::{Gate, Outbox};
 use gate_desk::{Desk, Slot};
+use gate_phases::Status;
 use gate_report::Line;
 use gate_settings::{Settings, SideSettings};
 use pcap_files::write_packet;

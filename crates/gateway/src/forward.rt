@@ -7,12 +7,12 @@ ghost use Rattle.frag_join.specs.Arrivals.{opened};
 ghost use Rattle.gate_world.specs.World.{opening_world};
 ghost use Rattle.gateway.specs.Phases.{Forwards, WritesLastLine, TookFew};
 
-use crate::Status;
 use crate::event::take;
 use crate::report::{Reporter, put_line};
 use frag_join::Joiner;
 use gate_core::{Gate, Outbox};
 use gate_desk::Desk;
+use gate_phases::Status;
 use gate_report::{LINE, Line, Totals};
 use pcap_merge::Merge;
 use std::alloc::Global;

@@ -3,14 +3,14 @@ ghost use Rattle.std.specs.Prelude.{OnErr};
 ghost use Rattle.gateway.specs.Command.{names_of};
 ghost use Rattle.gateway.specs.Answers.{Runs, TookForWritten};
 
-use crate::Status;
 use crate::command::FileNames;
 use crate::forward::forward;
-use crate::front::open_joiner;
 use crate::prepare::prepare;
 use crate::ready::ready;
+use frag_join::open_joiner;
 use gate_core::Outbox;
 use gate_desk::Desk;
+use gate_phases::Status;
 use gate_report::Line;
 use std::alloc::Global;
 
@@ -21,7 +21,7 @@ pub fn run<D: Desk>(alloc: Global, desk: &mut D, names: FileNames<'_>) -> Result
 {
     let (mut merge, mut gate) = prepare(alloc, desk, names)?;
     let mut outbox = Outbox::make(alloc)?;
-    let mut joiner = open_joiner(alloc, &gate)?;
+    let mut joiner = open_joiner(alloc, gate.settings().join)?;
     ready(desk, names, gate.settings())?;
     forward(alloc, desk, &mut merge, &mut joiner, &mut gate, &mut outbox)
 }

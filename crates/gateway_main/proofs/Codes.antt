@@ -4,7 +4,7 @@ use Rattle.std.specs.Prelude.{IfSome, IsErrOf}
 use Rattle.gate_desk.specs.declared.slot.Slot.{Slot}
 use Rattle.gate_desk.specs.Outside.{Outside}
 use Rattle.gate_desk.specs.Untold.{Files}
-use Rattle.gateway.specs.declared.status.Status.TheVariants.{WriteFault}
+use Rattle.gate_phases.specs.declared.status.Status.TheVariants.{WriteFault}
 use Rattle.gateway.specs.Command.{Command}
 use Rattle.gateway_main.specs.Exit.{IsExit, IsCode, Finishes}
 

@@ -3,11 +3,12 @@ use Rattle.std.specs.Prelude.{◌≡◌, ◌⊎◌, ℕ, None, IfSome}
 use Rattle.gate_desk.specs.declared.slot.Slot.{Slot}
 use Rattle.gate_desk.specs.Outside.{Outside, HasFailed}
 use Rattle.gate_desk.specs.Untold.{Files, told_by, HandsOutAll, all_dropped}
-use Rattle.gateway.specs.declared.status.Status.{Status}
-use Rattle.gateway.specs.declared.status.Status.TheVariants.{WriteFault}
+use Rattle.gate_phases.specs.declared.status.Status.{Status}
+use Rattle.gate_phases.specs.declared.status.Status.TheVariants.{WriteFault}
 use Rattle.gateway.specs.Command.{Command}
-use Rattle.gateway.specs.Status.{code_of}
-use Rattle.gateway.specs.Answers.{Answers, TellsLine}
+use Rattle.gate_phases.specs.Status.{code_of}
+use Rattle.gateway.specs.Answers.{Answers}
+use Rattle.gate_phases.specs.Telling.{TellsLine}
 
 -- a command was carried out, and this is the code of its status
 pub record IsExit (code : ℕ) (command : Command) (old new : Outside) : Type 0 where

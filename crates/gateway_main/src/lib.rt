@@ -1,12 +1,13 @@
-//! The program over real files: `run SETTINGS LEFT_IN RIGHT_IN LEFT_OUT RIGHT_OUT REPORT`, or `make NUMBER COUNT REPORT`.
+//! The program over real files: `run SETTINGS LEFT_IN RIGHT_IN LEFT_OUT RIGHT_OUT REPORT`, `make NUMBER COUNT REPORT`, or
+//! `audit SETTINGS LEFT_IN RIGHT_IN LEFT_GIVEN RIGHT_GIVEN REPORT_GIVEN REPORT`.
 #![tactic(auto)]
 
 ghost use Rattle.std.specs.String.{string_bytes};
 ghost use Rattle.gateway.specs.Command.{command_of};
-ghost use Rattle.gateway.specs.Answers.{TellsLine};
+ghost use Rattle.gate_phases.specs.Telling.{TellsLine};
 ghost use Rattle.std.specs.Prelude.{◌≡◌, map};
-ghost use Rattle.gateway.specs.Status.{error_line};
-ghost use Rattle.gateway.specs.declared.status.Status.TheVariants.{WriteFault};
+ghost use Rattle.gate_phases.specs.Status.{error_line};
+ghost use Rattle.gate_phases.specs.declared.status.Status.TheVariants.{WriteFault};
 ghost use Rattle.gateway_main.specs.Exit.{IsExit, IsCode, Finishes, IsFinished};
 
 use gate_desk::{Desk, FileDesk, Slot, write_whole};
@@ -38,7 +39,7 @@ fn exit_status<D: Desk>(alloc: Global, words: &[String], desk: &mut D) -> u8
 }
 
 // The line of a failed write of a slot.
-#[tactic(auto, unfolding(gateway::specs::Status::error_line, gate_desk::specs::Slots::name_of))]
+#[tactic(auto, unfolding(gate_phases::specs::Status::error_line, gate_desk::specs::Slots::name_of))]
 fn refused_line(slot: Slot) -> &'static str
     ensures { result.now ≡ error_line (WriteFault slot) }
 {
@@ -46,6 +47,9 @@ fn refused_line(slot: Slot) -> &'static str
         Slot::Settings => "write failed: settings\n",
         Slot::LeftIn => "write failed: left_in\n",
         Slot::RightIn => "write failed: right_in\n",
+        Slot::LeftGiven => "write failed: left_given\n",
+        Slot::RightGiven => "write failed: right_given\n",
+        Slot::ReportGiven => "write failed: report_given\n",
         Slot::LeftOut => "write failed: left_out\n",
         Slot::RightOut => "write failed: right_out\n",
         Slot::Report => "write failed: report\n",

@@ -83,6 +83,3 @@ pub fn inner_reads_back(inner: &[u8], source: u32, destination: u32, sequence: O
     ensures read { read_inner (inner_with inner.now source destination sequence) ≡ Ok (fields_with (inner_fields inner.now) source destination sequence) }
     ensures right { IsRight (take 20 (inner_with inner.now source destination sequence)) }
 {}
-
-#[cfg(test)]
-mod tests;

@@ -151,6 +151,3 @@ fn fold(sum: u64) -> u16
         ((sum - 1) % 65_535 + 1) as u16
     }
 }
-
-#[cfg(test)]
-mod tests;

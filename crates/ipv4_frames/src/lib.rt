@@ -8,6 +8,3 @@ mod view;
 pub use fault::{IpFault, TransportFault};
 pub use head::{put_head, reads_back};
 pub use view::IpView;
-
-#[cfg(test)]
-mod tests;

@@ -100,7 +100,7 @@ report_behind : (side : Side) (n : ℕ) (rest : List ℕ) (g : Given) → (behin
 report_behind sides.Left n rest g = refl
 report_behind sides.Right n rest g = refl
 
-addresses_of : (settings : Settings) (side : Side) → HaveMacAddresses settings → HasMacAddresses (side_settings settings side)
+pub addresses_of : (settings : Settings) (side : Side) → HaveMacAddresses settings → HasMacAddresses (side_settings settings side)
 addresses_of settings sides.Left h = h.left
 addresses_of settings sides.Right h = h.right
 
@@ -149,7 +149,7 @@ are_lawful settings k f g next n at count =
     let records = map (record_of settings to (event_in f).moment) at.list in
     (at.list, at.lawful, ap (take n) at.records ∙ take_at records (given_at to next).packets n (length-map at.list (record_of settings to (event_in f).moment) ∙ count))
 
-not_lawful : (settings : Settings) (k : State) (f : Arrival) (g : Given) (n : ℕ) (rest : List ℕ) → HaveMacAddresses settings → IsSound (wanted_of k.world f) → GoesOn settings k f g n rest
+pub not_lawful : (settings : Settings) (k : State) (f : Arrival) (g : Given) (n : ℕ) (rest : List ℕ) → HaveMacAddresses settings → IsSound (wanted_of k.world f) → GoesOn settings k f g n rest
     → is_closed (wanted_of k.world f) (behind_all settings (other (event_in f).side) (event_in f).moment (wanted_of k.world f) (take n (given_at (other (event_in f).side) g).packets)) ≡ false → (next : Given) → IsLawfulAt settings k f g next → ⊥
 not_lawful settings k f g n rest addresses sound line wrong next at =
     let to = other (event_in f).side in

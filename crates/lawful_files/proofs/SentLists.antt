@@ -16,7 +16,8 @@ use Rattle.ipv4_frames.specs.Ipv4.{Datagram, total_length_of}
 use Rattle.stream_model.specs.Session.{Sender, Segment, other}
 use Rattle.stream_model.specs.Steps.{session_out, limit_of}
 use Rattle.tcp_segments.specs.Tcp.{tcp_header_length_of}
-use Rattle.gate_world.specs.Frame.{Kind, Udp, Echo, Error, Dns, Snmp, Stream, datagram_of, datagram_in, kind_of}
+use Rattle.gate_world.specs.Frame.{Kind, Udp, Echo, Error, Dns, Snmp, Stream, datagram_in, kind_of}
+use Rattle.twice_translate.specs.Renamed.{datagram_of}
 use Rattle.gate_world.specs.Rules.{whole_rules}
 use Rattle.gate_world.specs.Sessions.{WholeSession, whole_learned}
 use Rattle.gate_world.specs.Step.{out, out_by, out_kind, stream_out, taker_in}

@@ -4,6 +4,7 @@ use Rattle.std.specs.Prelude.{if◌then◌else◌}
 use Rattle.std.proofs.lemmas.List.{append-nil}
 use Rattle.gate_desk.specs.Outside.{wrote, told_at}
 use Rattle.gate_desk.specs.Slots.{at, put, same_slot}
+use Rattle.gate_desk.proofs.Laws.{at-put_append}
 use Rattle.gate_desk.specs.declared.slot.PerSlot.{PerSlot}
 use Rattle.gate_desk.specs.declared.slot.Slot.{Slot}
 use Rattle.gate_desk.specs.declared.slot.Slot.TheVariants as slots
@@ -11,7 +12,8 @@ use Rattle.gate_settings.specs.declared.settings.Settings.{Settings}
 use Rattle.pcap_files.specs.Capture.{Head, Good, Bad, head_of}
 use Rattle.pcap_merge.specs.Events.{Done, are_good, by_heads, have_good_heads, events_of}
 use Rattle.gateway.specs.Machine.{files}
-use Rattle.gateway.specs.Ends.{IsAccepted, events_in, outputs_of}
+use Rattle.gate_phases.specs.Beginning.{IsAccepted, events_in}
+use Rattle.gateway.specs.Ends.{outputs_of}
 use Rattle.gateway.specs.Pieces.{Piece, wrote_pieces}
 use Rattle.lawful_runs.proofs.AcceptedSettings.{accepted_have}
 use Rattle.lawful_runs.proofs.EventsRead.{events_are_read}
@@ -21,22 +23,12 @@ use Rattle.lawful_runs.proofs.Files.{files_lawful}
 
 -- ## What stands written
 
-put_there : (to slot : Slot) (octets : List ℕ) (p : PerSlot (List ℕ)) → at (put p to (at p to ++ octets)) slot ≡ at p slot ++ (if same_slot to slot then octets else [])
-put_there slots.Settings slots.Settings octets p = refl
-put_there slots.LeftIn slots.LeftIn octets p = refl
-put_there slots.RightIn slots.RightIn octets p = refl
-put_there slots.LeftOut slots.LeftOut octets p = refl
-put_there slots.RightOut slots.RightOut octets p = refl
-put_there slots.Report slots.Report octets p = refl
-put_there slots.Errors slots.Errors octets p = refl
-put_there to slot octets p = sym (append-nil (at p slot))
-
 pub stands_written : (pieces : List Piece) (told : PerSlot (List ℕ)) (slot : Slot) → told_at (wrote_pieces pieces (Some told)) slot ≡ Some (at told slot ++ octets_to slot pieces)
 unfolding told_at wrote_pieces wrote
 stands_written [] told slot = ap Some (sym (append-nil (at told slot)))
 stands_written (p ∷ pieces) told slot =
     stands_written pieces (put told p.slot (at told p.slot ++ p.octets)) slot
-    ∙ ap (λ (xs : List ℕ). Some (xs ++ octets_to slot pieces)) (put_there p.slot slot p.octets told)
+    ∙ ap (λ (xs : List ℕ). Some (xs ++ octets_to slot pieces)) (at-put_append told p.slot slot p.octets)
     ∙ ap Some (append_assoc (at told slot) (if same_slot p.slot slot then p.octets else []) (octets_to slot pieces))
 
 -- ## The law

@@ -14,6 +14,3 @@ pub use form::{Form, Order, Precision};
 pub use laws::reads_what_is_spelled;
 pub use reader::{CaptureReader, Packet};
 pub use write::{write_head, write_packet};
-
-#[cfg(test)]
-mod tests;

@@ -11,6 +11,3 @@ pub use laws::merges_by_stamps;
 pub use merge::Merge;
 pub use order::Last;
 pub use stop::MergeStop;
-
-#[cfg(test)]
-mod tests;

@@ -8,7 +8,7 @@ ghost use Rattle.resegment.specs.Datagrams.{datagrams, ends_from, room_for, piec
 
 use crate::cut::{piece, pieces};
 use gate_base::Addr;
-use tcp_segments::{Flags, finish_segment, flags_octet};
+use tcp_segments::{Flags, SegmentFields, finish_segment, flags_octet};
 
 /// What all pieces of one segment have from their models: an IPv4 header of 20 octets, a TCP header, and the new fields.
 #[derive(Clone, Copy)]
@@ -111,17 +111,15 @@ fn put_datagram(
     append(outbox, model.ip);
     append(outbox, model.tcp);
     append(outbox, octets);
-    finish_segment(
-        &mut outbox[start..],
-        model.ip,
-        model.tcp.len(),
-        model.source,
-        model.destination,
-        model.lifetime,
+    let fields = SegmentFields {
+        source: model.source,
+        destination: model.destination,
+        lifetime: model.lifetime,
         sequence,
-        model.acknowledgement,
-        flags_octet(flags),
-    );
+        acknowledgement: model.acknowledgement,
+        flags: flags_octet(flags),
+    };
+    finish_segment(&mut outbox[start..], model.ip, model.tcp.len(), fields);
 }
 
 fn append(list: &mut Vec<u8>, octets: &[u8])

@@ -4,6 +4,3 @@
 mod tlv;
 
 pub use tlv::Tlv;
-
-#[cfg(test)]
-mod tests;

@@ -9,6 +9,3 @@ mod rename;
 
 pub use message::{SnmpKind, SnmpStop, addresses, check};
 pub use rename::{Lookup, rename_in_place};
-
-#[cfg(test)]
-mod tests;

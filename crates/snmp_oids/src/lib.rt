@@ -12,6 +12,3 @@ mod rename;
 pub use identifier::address_in;
 pub use laws::{no_rule_is_basic, no_rule_keeps_length};
 pub use rename::rename_into;
-
-#[cfg(test)]
-mod tests;

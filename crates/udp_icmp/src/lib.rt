@@ -6,6 +6,3 @@ mod udp;
 
 pub use icmp::{IcmpView, sealed_icmp_is_right};
 pub use udp::{UdpView, sealed_udp_is_right};
-
-#[cfg(test)]
-mod tests;

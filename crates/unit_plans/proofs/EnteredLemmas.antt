@@ -1,10 +1,11 @@
 -- Lists into which addresses are entered.
-use Rattle.std.proofs.Common.{◌≡◌, ◌≤◌, ◌<◌, ℕ, Bool, true, false, List, [], ◌∷◌, ◌++◌, length, take, drop, refl, sym, ◌∙◌, ap, arith, inl, inr}
+use Rattle.std.proofs.Common.{zero, suc, Some, ◌≡◌, ◌≤◌, ◌<◌, ◌+◌, ℕ, Bool, true, false, List, [], ◌∷◌, ◌++◌, length, take, drop, refl, sym, ◌∙◌, ap, subst, arith, inl, inr, append_assoc}
 use Rattle.std.specs.Prelude.{map, Option, ◌==◌, nat_lt}
-use Rattle.std.specs.List.{list_any}
+use Rattle.std.specs.List.{list_any, slice_get, slice_index_or}
 use Rattle.std.proofs.lemmas.Bool.{cases_Bool, lt-ltb}
-use Rattle.std.proofs.lemmas.List.{length-append, length-map, map-append, take-append-drop}
+use Rattle.std.proofs.lemmas.List.{append-nil, length-append, length-map, map-append, take-append-drop}
 use Rattle.std.proofs.lemmas.List.Sums.{fold-append}
+use Rattle.std.proofs.lemmas.Option.{slice_get_within}
 use Rattle.gate_base.specs.declared.address.Addr.{Addr}
 use Rattle.dialogue.specs.Learning.{Entry, is_of, is_listed}
 use Rattle.gate_world.specs.Lists.{enter, entered}
@@ -27,6 +28,45 @@ one-more es one =
 pub all-more : (es named : List Entry) → length es ≤ length (entered_all es named)
 all-more es [] = omega arith
 all-more es (one ∷ named) = omega (arith, one-more es one, all-more (enter_one es one) named)
+
+one_grown : (es : List Entry) (one : Entry) → (more : List Entry) × (enter_one es one ≡ es ++ more)
+one_grown es one =
+    elim (cases_Bool (is_listed es one.0.0)) [
+      | inl e ↦ ([], rw e (sym (append-nil es)))
+      | inr e ↦ (one ∷ [], rw e refl)
+    ]
+
+-- a list that grows keeps its front
+pub all_grown : (es named : List Entry) → (more : List Entry) × (entered_all es named ≡ es ++ more)
+all_grown es [] = ([], sym (append-nil es))
+all_grown es (one ∷ named) =
+    let a = one_grown es one in
+    let b = all_grown (enter_one es one) named in
+    (a.0 ++ b.0, b.1 ∙ ap (λ (xs : List Entry). xs ++ b.0) a.1 ∙ append_assoc es a.0 b.0)
+
+new-more : (es : List Entry) (one : Entry) → is_listed es one.0.0 ≡ false → length (enter_one es one) ≡ length es + 1
+new-more es one e = rw e (length-append es (one ∷ []) ∙ omega arith)
+
+-- where an entry is still to be entered, there is room for it
+pub room_for : (es named rest : List Entry) (one : Entry) (i : ℕ) → drop i named ≡ one ∷ rest → length (entered_all es named) ≤ 256 → is_listed (entered_all es (take i named)) one.0.0 ≡ false → length (entered_all es (take i named)) < 256
+room_for es named rest one i at few new =
+    let split : entered_all es named ≡ entered_all (enter_one (entered_all es (take i named)) one) rest =
+    ap (entered_all es) (sym (take-append-drop i named)) ∙ fold-append enter_one es (take i named) (drop i named) ∙ ap (λ (xs : List Entry). entered_all (entered_all es (take i named)) xs) at in
+    omega (arith, few, ap length split, all-more (enter_one (entered_all es (take i named)) one) rest, new-more (entered_all es (take i named)) one new)
+
+-- what stands from a place on, and up to one
+pub drop-next : {X : Type 0} (xs : List X) (i : ℕ) (d : X) → i < length xs → drop i xs ≡ slice_index_or xs i d ∷ drop (suc i) xs
+drop-next [] i d l = absurd (omega (arith, l))
+drop-next (x ∷ xs) zero d l = refl
+drop-next (x ∷ xs) (suc i) d l = drop-next xs i d (omega (arith, l))
+
+pub take-next : {X : Type 0} (xs : List X) (i : ℕ) (x : X) → slice_get xs i ≡ Some x → take (i + 1) xs ≡ take i xs ++ x ∷ []
+take-next xs i x e = let same : i + 1 ≡ suc i = omega arith in ap (λ (n : ℕ). take n xs) same ∙ go xs i e
+  where
+    go : {X : Type 0} {x : X} (xs : List X) (i : ℕ) → slice_get xs i ≡ Some x → take (suc i) xs ≡ take i xs ++ x ∷ []
+    go {x = x} [] i e = absurd (let l : i < 0 = slice_get_within [] i x e in omega (arith, l))
+    go {X} {x} (y ∷ xs) zero e = let same : y ≡ x = (let f : Some y ≡ Some x = e in cc) in subst (λ (z : X). y ∷ [] ≡ z ∷ []) same refl
+    go {X} {x} (y ∷ xs) (suc i) e = ap (λ (zs : List X). y ∷ zs) (go {x = x} xs i e)
 
 -- a list that has too many entries once some are entered has too many once all are
 pub still_full : (es named : List Entry) (i : ℕ) → 256 < length (entered_all es (take i named)) → nat_lt 256 (length (entered_all es named)) ≡ true

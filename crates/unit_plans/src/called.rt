@@ -1,15 +1,15 @@
 // What the addresses in units are called.
-ghost use Rattle.std.specs.Prelude.{◌≡◌, ◌≤◌, not, nat_lt, true, List, Option, map, length, IfOk};
+ghost use Rattle.std.specs.Prelude.{◌≡◌, not, nat_lt, true, List, Option, map, length, IfOk};
 ghost use Rattle.gate_base.specs.Side.{other};
 ghost use Rattle.gate_base.specs.declared.address.Addr.{Addr};
 ghost use Rattle.binding_table.specs.Bindings.{free};
-ghost use Rattle.binding_table.specs.Plan.{Use, AreUsesOf, images_after, needed};
+ghost use Rattle.binding_table.specs.Plan.{Use, AreUsesOf, needed};
 ghost use Rattle.dialogue.specs.Learning.{Entry};
 ghost use Rattle.unit_plans.specs.Plans.{all_addresses, called_after, beside, AreBound};
 
 use crate::plan::{Endpoints, Entry};
 use binding_table::{Firsts, Table};
-use gate_base::{Addr, OutOfMemory, Side};
+use gate_base::{Addr, OutOfMemory};
 use std::alloc::Global;
 
 /// The addresses of the header, and then those that are named.
@@ -25,33 +25,6 @@ fn all_addresses(
     addresses.push(endpoints.destination)?;
     addresses.extend_from_slice(named)?;
     Ok(addresses)
-}
-
-/// The other realm's pool has an address for each of these that needs one.
-pub fn has_room(table: &Table, side: Side, addresses: &[Addr], firsts: &mut Firsts) -> bool
-    ensures { result ≡ not (nat_lt (free table.now (other side)) (needed table.now side addresses.now)) }
-{
-    table.needed(side, addresses, firsts) <= table.free(side.other())
-}
-
-/// The images of addresses once all of them are used, where the other realm's pool has room for them, and whether it has.
-fn plan_if_room(
-    table: &Table,
-    side: Side,
-    addresses: &[Addr],
-    images: &mut [Option<Addr>],
-    firsts: &mut Firsts,
-) -> bool
-    requires lengths { length images.old ≡ length addresses.now }
-    requires bound { AreBound table.now side addresses.now }
-    ensures room { result ≡ not (nat_lt (free table.now (other side)) (needed table.now side addresses.now)) }
-    ensures images { result ≡ true → (uses : List Use) → AreUsesOf side addresses.now uses → images.new ≡ images_after table.now uses }
-{
-    let room = has_room(table, side, addresses, firsts);
-    if room {
-        table.plan(side, addresses, images, firsts);
-    }
-    room
 }
 
 /// Addresses beside their images.
@@ -83,6 +56,6 @@ pub fn called_beside(
 {
     let addresses = all_addresses(alloc, endpoints, named)?;
     let mut images = vec![in alloc; None; addresses.len()]?;
-    let room = plan_if_room(table, endpoints.side, &addresses, &mut images, firsts);
+    let room = table.plan(endpoints.side, &addresses, &mut images, firsts);
     Ok((beside(alloc, named, &images[2..])?, room))
 }

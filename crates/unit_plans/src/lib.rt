@@ -6,11 +6,10 @@ mod called;
 mod entered;
 mod growth;
 mod named;
+mod octets;
 mod plan;
 mod stop;
 
+pub use octets::UnitOctets;
 pub use plan::{Endpoints, Entry, UnitPlan, plan_units};
 pub use stop::PlanStop;
-
-#[cfg(test)]
-mod tests;

@@ -5,7 +5,7 @@ ghost use Rattle.binding_table.specs.Plan.{Use, AreUsesOf};
 ghost use Rattle.unit_plans.specs.Steps.{none_tests};
 ghost use Rattle.unit_plans.specs.Plans.{whole_units, names_in, all_addresses, called_after, beside, AreBound, IsListBound, plan_tests, TellsFirst};
 
-use crate::called::{called_beside, has_room};
+use crate::called::called_beside;
 use crate::entered::{MOST_ENTRIES, entered_all, has_new_unbound};
 use crate::growth::one_grows;
 use crate::named::named_in_units;
@@ -66,6 +66,7 @@ fn plan_none(
     endpoints: &Endpoints,
     entries: &[Entry],
 ) -> Result<UnitPlan, PlanStop>
+    requires header { AreBound table.now endpoints.now.side (endpoints.now.source ∷ endpoints.now.destination ∷ []) }
     ensures refused { IfErr result (TellsFirst (first_that_holds (none_tests table.now endpoints.now entries.now))) }
     ensures passes { IfOk result (λ _. first_that_holds (none_tests table.now endpoints.now entries.now) ≡ None) }
     ensures named { IfOk result (λ plan. plan.named.items ≡ []) }
@@ -75,12 +76,8 @@ fn plan_none(
     if MOST_ENTRIES < entries.len() {
         return Err(PlanStop::Refused(Refusal::RenamesFull));
     }
-    if !has_room(
-        table,
-        endpoints.side,
-        &[endpoints.source, endpoints.destination],
-        firsts,
-    ) {
+    let header = [endpoints.source, endpoints.destination];
+    if !table.plan(endpoints.side, &header, &mut [None, None], firsts) {
         return Err(PlanStop::Refused(Refusal::PoolEmpty));
     }
     Ok(UnitPlan {

@@ -15,7 +15,7 @@ const WRITE_FAULT: u8 = 6;
 const OPEN_FAULT: u8 = 7;
 
 const USAGE: &[u8] =
-    b"usage: run SETTINGS LEFT_IN RIGHT_IN LEFT_OUT RIGHT_OUT REPORT | make NUMBER COUNT REPORT\n";
+    b"usage: run SETTINGS LEFT_IN RIGHT_IN LEFT_OUT RIGHT_OUT REPORT | make NUMBER COUNT REPORT | audit SETTINGS LEFT_IN RIGHT_IN LEFT_GIVEN RIGHT_GIVEN REPORT_GIVEN REPORT\n";
 
 // A status that names a call that failed.
 fn names_failure(status: Status) -> bool {

@@ -2,11 +2,13 @@
 //! writes.
 #![tactic(auto)]
 
+mod audits;
 mod case;
 mod checks;
 mod damage;
 mod files;
 
+use audits::is_audited;
 use case::passes;
 use checks::{failing_calls, is_made, is_no_command};
 use damage::is_told;
@@ -28,6 +30,8 @@ enum Table {
     Makes,
     /// The status of a run over files, and its words.
     Files,
+    /// A case, perhaps an octet of it that is changed, and what an audit of its files answers.
+    Audits,
 }
 
 impl Table {
@@ -38,6 +42,7 @@ impl Table {
             Table::Damages => "damages.txt",
             Table::Makes => "makes.txt",
             Table::Files => "files.txt",
+            Table::Audits => "audits.txt",
         }
     }
 
@@ -48,6 +53,7 @@ impl Table {
             Table::Damages => "damage",
             Table::Makes => "made",
             Table::Files => "status",
+            Table::Audits => "audit",
         }
     }
 }
@@ -62,6 +68,7 @@ fn is_right(rt: &HostRuntime, table: Table, line: &str) -> io::Result<bool> {
         Table::Damages => is_told(rt, line),
         Table::Makes => is_made(rt, line),
         Table::Files => is_run(rt, line),
+        Table::Audits => is_audited(rt, line),
     }
 }
 
@@ -102,8 +109,10 @@ fn run(rt: &HostRuntime) -> io::Result<bool> {
     let damages = run_table(rt, Table::Damages)?;
     let makes = run_table(rt, Table::Makes)?;
     let files = run_table(rt, Table::Files)?;
+    let audits = run_table(rt, Table::Audits)?;
     let calls = run_failing_calls(rt)?;
-    Ok(cases == 0 && words == 0 && damages == 0 && makes == 0 && files == 0 && calls == 0)
+    let told = cases == 0 && words == 0 && damages == 0 && makes == 0 && files == 0;
+    Ok(told && audits == 0 && calls == 0)
 }
 
 fn main(rt: HostRuntime) -> ExitCode {

@@ -1,5 +1,5 @@
-use Rattle.std.proofs.Common.{◌≡◌, ℕ, ◌+◌, ◌≤◌, ◌++◌, ◌∷◌, List, length, subst, append_assoc, arith, sym}
-use Rattle.dns_names.proofs.Walking.{Reads, Reads-name, Reads-root, Reads-label, Reads-pointer, Reads-nothing, Reads-up, Reads-long}
+use Rattle.std.proofs.Common.{◌≡◌, ℕ, suc, ◌+◌, ◌-◌, ◌≤◌, ◌++◌, ◌∷◌, List, length, take, drop, subst, ap, ◌∙◌, arith, sym}
+use Rattle.dns_names.proofs.Walking.{Reads, Reads-name, Reads-root, Reads-label, Reads-pointer, Reads-nothing, Reads-up, Reads-long, piece_at-counted}
 use Rattle.dns_names.proofs.name.walk.Goals as goal
 
 pub invariant_of-result : goal.invariant_of-result
@@ -16,11 +16,10 @@ pub pieces-preserved-in-Label : goal.pieces-preserved-in-Label
 pieces-preserved-in-Label c =
     let fits : length c.pieces.octets.items + 1 + length c.in-Label.label.now ≤ 254 = omega (arith, c.pieces.octets.ok.0) in
     let next = Reads-label _ _ _ _ _ _ c.in-Label.label.now c.pieces.invariant c.in-Label.ensures.is fits in
-    let place : c.pieces.at + 1 + length c.in-Label.label.now ≡ c.pieces.at + (1 + length c.in-Label.label.now) = omega arith in
+    let size : c.pieces.at + 1 + length c.in-Label.label.now - c.pieces.at ≡ suc (length c.in-Label.label.now) = omega arith in
     let octets : c.extend_from_slice.new.self.items ≡ c.pieces.octets.items ++ length c.in-Label.label.now ∷ c.in-Label.label.now =
-    rw (c.in_ok-extend_from_slice-in-Label.ensures.items, c.in_ok-push-in-Label.ensures.items) (append_assoc c.pieces.octets.items _ c.in-Label.label.now) in
-    subst (λ (o : List ℕ). Reads c.args.message.now c.args.place c.pieces.start (c.pieces.at + (1 + length c.in-Label.label.now)) o c.pieces.after) (sym octets)
-    (subst (λ (k : ℕ). Reads c.args.message.now c.args.place c.pieces.start k (c.pieces.octets.items ++ length c.in-Label.label.now ∷ c.in-Label.label.now) c.pieces.after) place next)
+    c.in_ok-extend_from_slice-in-Label.ensures.items ∙ ap (λ (x : List ℕ). c.pieces.octets.items ++ x) (ap (λ (n : ℕ). take n (drop c.pieces.at c.args.message.now)) size ∙ piece_at-counted c.args.message.now c.pieces.at c.in-Label.label.now c.in-Label.ensures.is) in
+    subst (λ (o : List ℕ). Reads c.args.message.now c.args.place c.pieces.start (c.pieces.at + 1 + length c.in-Label.label.now) o c.pieces.after) (sym octets) next
 
 pub returns-then-to-start-clause-none : goal.returns-then-to-start-clause-none
 returns-then-to-start-clause-none c = λ _ ls a n.

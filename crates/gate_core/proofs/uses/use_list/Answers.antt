@@ -5,8 +5,8 @@ use Rattle.dialogue.specs.Learning.{Entry}
 use Rattle.gate_world.specs.Lists.{renamed_in}
 use Rattle.gate_world.specs.Units.{uses_until}
 use Rattle.kept_world.specs.Kept.{kept_rules}
-use Rattle.gate_sessions.proofs.ListedLemmas.{take-next}
-use Rattle.gate_core.proofs.UsesListed.{next_used}
+use Rattle.unit_plans.proofs.EnteredLemmas.{take-next}
+use Rattle.gate_steps.proofs.UsesListed.{next_used}
 use Rattle.gate_core.proofs.uses.use_list.Goals as goal
 
 pub loop-place-preserved : goal.loop-place-preserved

@@ -1,6 +1,7 @@
 use Rattle.std.proofs.Common.{◌≡◌, ◌∙◌, true, sym, arith}
 use Rattle.twice_translate.specs.Renamed.{datagram_of}
 use Rattle.gate_payloads.proofs.DnsTaken.{short_payload}
+use Rattle.gate_payloads.specs.Plain.{plain_rules}
 use Rattle.gate_payloads.proofs.SnmpTaken.{good_is, message_empty, taken_by_rules, taken_basic, no_items}
 use Rattle.gate_payloads.proofs.snmp.take_snmp.Goals as goal
 
@@ -9,7 +10,7 @@ returns-then-lacks_alias c = record {
   taken = λ live t w.
       let d = datagram_of c.args.datagram.now.octets.now in
       let good = good_is d c.args.datagram.now.payload.now c.check.result c.is_none.result c.requires.whole.same c.check.ensures c.is_none.ensures c.if-is_none.false in
-      message_empty live c.args.way.now.side d c.args.way.now c.args.table.now c.args.outbox.now w good (sym c.lacks_alias.ensures ∙ c.if-lacks_alias.true) (sym t) c.requires.empty;
+      message_empty plain_rules live c.args.way.now.side d c.args.way.now c.args.table.now c.args.outbox.now w good (sym c.lacks_alias.ensures ∙ c.if-lacks_alias.true) (sym t) c.requires.empty;
 }
 
 pub returns-then-not-is_empty : goal.returns-then-not-is_empty
@@ -19,7 +20,7 @@ returns-then-not-is_empty c = record {
       let d = datagram_of c.args.datagram.now.octets.now in
       let payload = c.args.datagram.now.payload.now in
       let good = good_is d payload c.check.result c.is_none.result c.requires.whole.same c.check.ensures c.is_none.ensures c.if-is_none.false in
-      taken_by_rules live way.side d way c.args.table.now payload c.pass_by_rules.result c.pass_by_rules.new.table c.pass_by_rules.new.outbox t c.requires.whole.same w good (sym c.lacks_alias.ensures ∙ c.if-lacks_alias.false)
+      taken_by_rules plain_rules live way.side d way c.args.table.now payload c.pass_by_rules.result c.pass_by_rules.new.table c.pass_by_rules.new.outbox t c.requires.whole.same w good (sym c.lacks_alias.ensures ∙ c.if-lacks_alias.false)
       c.pass_by_rules.ensures.refusal c.pass_by_rules.ensures.table c.pass_by_rules.ensures.out;
 }
 
@@ -33,6 +34,6 @@ returns c = record {
       let good = good_is d payload c.check.result c.is_none.result c.requires.whole.same c.check.ensures c.is_none.ensures c.if-is_none.false in
       let empty : c.is_empty.result ≡ true = grind (arith, c.if-not-is_empty.false) in
       let none = sym c.oids.ensures.value ∙ no_items c.oids.result.now (sym c.is_empty.ensures ∙ empty) in
-      taken_basic live way.side d way c.args.table.now payload c.pass_basic.new.table c.pass_basic.new.outbox t c.requires.whole.same w good (sym c.lacks_alias.ensures ∙ c.if-lacks_alias.false) none
+      taken_basic plain_rules live way.side d way c.args.table.now payload c.pass_basic.new.table c.pass_basic.new.outbox t c.requires.whole.same w good (sym c.lacks_alias.ensures ∙ c.if-lacks_alias.false) none
       (short_payload octets payload c.requires.whole.few c.requires.whole.same) c.pass_basic.ensures.table c.pass_basic.ensures.out;
 }

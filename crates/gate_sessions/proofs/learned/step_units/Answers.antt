@@ -15,7 +15,7 @@ pub forget_from-requires : goal.forget_from-requires
 forget_from-requires c =
     let b : Bool = c.args.passing.now.from_client in
     let old : DnsKept = c.args.session.now in
-    let g : DnsKept = c.put_segments-stepped.new.session in
+    let g : DnsKept = c.put_segments.new.session in
     let same : g ≡ c.learn_all.new.session = c.in-Err.ensures.same in
     let l : listed_of b g ≡ entered_all (listed_of b old) c.args.named.now = ap (λ (d : DnsKept). listed_of b d) same ∙ c.learn_all.ensures.list in
     let k : g.kept ≡ old.kept = ap (λ (d : DnsKept). d.kept) same ∙ c.learn_all.ensures.kept in
@@ -29,7 +29,7 @@ pub returns-in-Err-clause-same : goal.returns-in-Err-clause-same
 returns-in-Err-clause-same c =
     let b : Bool = c.args.passing.now.from_client in
     let old : DnsKept = c.args.session.now in
-    let g : DnsKept = c.put_segments-stepped.new.session in
+    let g : DnsKept = c.put_segments.new.session in
     let new : DnsKept = c.forget_from.new.self in
     let same : g ≡ c.learn_all.new.session = c.in-Err.ensures.same in
     let l : listed_of b g ≡ entered_all (listed_of b old) c.args.named.now = ap (λ (d : DnsKept). listed_of b d) same ∙ c.learn_all.ensures.list in

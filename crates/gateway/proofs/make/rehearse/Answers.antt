@@ -1,7 +1,7 @@
 use Rattle.std.proofs.Common.{◌≡◌, MatchResult, refl}
-use Rattle.gateway.specs.declared.status.Status.TheVariants.{OutOfMemory}
+use Rattle.gate_phases.specs.declared.status.Status.TheVariants.{OutOfMemory}
 use Rattle.gateway.specs.Making.{IsLineOf}
-use Rattle.gateway.proofs.Causes.{handed_on}
+use Rattle.gate_phases.proofs.Causes.{handed_on}
 use Rattle.gateway.proofs.Makes.{holds_workload, rehearses}
 use Rattle.gateway.proofs.make.rehearse.Goals as goal
 

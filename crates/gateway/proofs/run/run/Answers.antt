@@ -2,11 +2,11 @@ use Rattle.std.proofs.Common.{OnErr, refl, subst}
 use Rattle.gate_desk.specs.declared.slot.Slot.TheVariants.{LeftIn, RightIn, LeftOut, RightOut, Report}
 use Rattle.gate_desk.specs.declared.slot.Way.TheVariants.{Read, Write}
 use Rattle.gateway.specs.Command.{names_of, first_starts, output_starts, plan}
-use Rattle.gateway.specs.declared.status.Status.TheVariants.{OutOfMemory}
+use Rattle.gate_phases.specs.declared.status.Status.TheVariants.{OutOfMemory}
 use Rattle.gateway.specs.Phases.{Readied, StopsInFront}
 use Rattle.gateway.specs.Machine.{heads}
 use Rattle.gateway.specs.Answers.{Runs, TookForWritten}
-use Rattle.gateway.proofs.Causes.{handed_on, way_of}
+use Rattle.gate_phases.proofs.Causes.{handed_on, way_of}
 use Rattle.gateway.proofs.Runs.{run_unwritten, run_no_memory, run_not_ready, run_forwards, whole}
 use Rattle.gateway.proofs.Took.{took_prepared, took_forwards}
 use Rattle.gateway.proofs.run.run.Goals as goal
@@ -23,7 +23,7 @@ forward-requires-clause-left_in g c =
     let old = g.D.Desk.outside c.args.desk.now in
     let mid = g.D.Desk.outside c.prepare.new.desk in
     let new = g.D.Desk.outside c.ready.new.desk in
-    let ready = subst (λ s. Readied s (output_starts (names_of c.args.names)) mid new) c.settings.ensures c.in_ok-ready.ensures.answer in
+    let ready = subst (λ s. Readied s (output_starts (names_of c.args.names)) mid new) c.settings-2.ensures c.in_ok-ready.ensures.answer in
     way_of LeftIn Read (plan (names_of c.args.names)) old new (whole c.in_ok-merge.gate c.in_ok-merge.merge (names_of c.args.names) old mid new new c.in_ok-merge.ensures.answer ready refl) (λ w. refl)
 
 pub forward-requires-clause-right_in : goal.forward-requires-clause-right_in
@@ -31,7 +31,7 @@ forward-requires-clause-right_in g c =
     let old = g.D.Desk.outside c.args.desk.now in
     let mid = g.D.Desk.outside c.prepare.new.desk in
     let new = g.D.Desk.outside c.ready.new.desk in
-    let ready = subst (λ s. Readied s (output_starts (names_of c.args.names)) mid new) c.settings.ensures c.in_ok-ready.ensures.answer in
+    let ready = subst (λ s. Readied s (output_starts (names_of c.args.names)) mid new) c.settings-2.ensures c.in_ok-ready.ensures.answer in
     way_of RightIn Read (plan (names_of c.args.names)) old new (whole c.in_ok-merge.gate c.in_ok-merge.merge (names_of c.args.names) old mid new new c.in_ok-merge.ensures.answer ready refl) (λ w. refl)
 
 pub forward-requires-clause-left_out : goal.forward-requires-clause-left_out
@@ -39,7 +39,7 @@ forward-requires-clause-left_out g c =
     let old = g.D.Desk.outside c.args.desk.now in
     let mid = g.D.Desk.outside c.prepare.new.desk in
     let new = g.D.Desk.outside c.ready.new.desk in
-    let ready = subst (λ s. Readied s (output_starts (names_of c.args.names)) mid new) c.settings.ensures c.in_ok-ready.ensures.answer in
+    let ready = subst (λ s. Readied s (output_starts (names_of c.args.names)) mid new) c.settings-2.ensures c.in_ok-ready.ensures.answer in
     way_of LeftOut Write (plan (names_of c.args.names)) old new (whole c.in_ok-merge.gate c.in_ok-merge.merge (names_of c.args.names) old mid new new c.in_ok-merge.ensures.answer ready refl) (λ w. refl)
 
 pub forward-requires-clause-right_out : goal.forward-requires-clause-right_out
@@ -47,7 +47,7 @@ forward-requires-clause-right_out g c =
     let old = g.D.Desk.outside c.args.desk.now in
     let mid = g.D.Desk.outside c.prepare.new.desk in
     let new = g.D.Desk.outside c.ready.new.desk in
-    let ready = subst (λ s. Readied s (output_starts (names_of c.args.names)) mid new) c.settings.ensures c.in_ok-ready.ensures.answer in
+    let ready = subst (λ s. Readied s (output_starts (names_of c.args.names)) mid new) c.settings-2.ensures c.in_ok-ready.ensures.answer in
     way_of RightOut Write (plan (names_of c.args.names)) old new (whole c.in_ok-merge.gate c.in_ok-merge.merge (names_of c.args.names) old mid new new c.in_ok-merge.ensures.answer ready refl) (λ w. refl)
 
 pub forward-requires-clause-report : goal.forward-requires-clause-report
@@ -55,7 +55,7 @@ forward-requires-clause-report g c =
     let old = g.D.Desk.outside c.args.desk.now in
     let mid = g.D.Desk.outside c.prepare.new.desk in
     let new = g.D.Desk.outside c.ready.new.desk in
-    let ready = subst (λ s. Readied s (output_starts (names_of c.args.names)) mid new) c.settings.ensures c.in_ok-ready.ensures.answer in
+    let ready = subst (λ s. Readied s (output_starts (names_of c.args.names)) mid new) c.settings-2.ensures c.in_ok-ready.ensures.answer in
     way_of Report Write (plan (names_of c.args.names)) old new (whole c.in_ok-merge.gate c.in_ok-merge.merge (names_of c.args.names) old mid new new c.in_ok-merge.ensures.answer ready refl) (λ w. refl)
 
 pub returns-clause-answer : goal.returns-clause-answer
@@ -63,7 +63,7 @@ returns-clause-answer g c =
     let old = g.D.Desk.outside c.args.desk.now in
     let mid = g.D.Desk.outside c.prepare.new.desk in
     let new = g.D.Desk.outside c.ready.new.desk in
-    let ready = subst (λ s. Readied s (output_starts (names_of c.args.names)) mid new) c.settings.ensures c.in_ok-ready.ensures.answer in
+    let ready = subst (λ s. Readied s (output_starts (names_of c.args.names)) mid new) c.settings-2.ensures c.in_ok-ready.ensures.answer in
     run_forwards c.forward.result c.in_ok-merge.gate c.in_ok-merge.merge (names_of c.args.names) old mid new (g.D.Desk.outside c.forward.new.desk) c.in_ok-merge.ensures.answer ready c.forward.ensures.starts c.forward.ensures.counts c.forward.ensures.answer
 
 pub returns-in_err-ready-clause-answer : goal.returns-in_err-ready-clause-answer
@@ -71,7 +71,7 @@ returns-in_err-ready-clause-answer g c =
     let old = g.D.Desk.outside c.args.desk.now in
     let mid = g.D.Desk.outside c.prepare.new.desk in
     let new = g.D.Desk.outside c.ready.new.desk in
-    let stopped = subst (λ s. StopsInFront c.in_err-ready.field-0.0 (output_starts (names_of c.args.names)) (heads s) mid new) c.settings.ensures c.in_err-ready.ensures.answer in
+    let stopped = subst (λ s. StopsInFront c.in_err-ready.field-0.0 (output_starts (names_of c.args.names)) (heads s) mid new) c.settings-2.ensures c.in_err-ready.ensures.answer in
     handed_on (λ r. Runs r (names_of c.args.names) old new) c.from_residual-in_err-ready.result c.in_err-ready.field-0.0 c.from_residual-in_err-ready.ensures.1
     (run_not_ready c.in_err-ready.field-0.0 c.in_ok-merge.gate c.in_ok-merge.merge (names_of c.args.names) old mid new c.in_ok-merge.ensures.answer stopped)
 
@@ -87,7 +87,7 @@ returns-clause-taken g c =
     let old = g.D.Desk.outside c.args.desk.now in
     let mid = g.D.Desk.outside c.prepare.new.desk in
     let new = g.D.Desk.outside c.ready.new.desk in
-    let ready = subst (λ s. Readied s (output_starts (names_of c.args.names)) mid new) c.settings.ensures c.in_ok-ready.ensures.answer in
+    let ready = subst (λ s. Readied s (output_starts (names_of c.args.names)) mid new) c.settings-2.ensures c.in_ok-ready.ensures.answer in
     took_forwards c.forward.result c.in_ok-merge.gate c.in_ok-merge.merge (names_of c.args.names) old mid new (g.D.Desk.outside c.forward.new.desk) c.in_ok-merge.ensures.answer ready c.forward.ensures.taken
 
 pub returns-in_err-outbox-clause-answer : goal.returns-in_err-outbox-clause-answer

@@ -1,4 +1,4 @@
-use Rattle.std.proofs.Common.{◌≡◌, ◌≢◌, true, Option, Some, None, position, ap, sym, ◌∙◌}
+use Rattle.std.proofs.Common.{◌≡◌, ◌≢◌, Bool, true, false, not, ◌&&◌, Option, Some, None, position, ap, sym, ◌∙◌}
 use Rattle.gate_base.specs.Side.{other}
 use Rattle.gate_base.specs.declared.side.Side.{Side}
 use Rattle.realm_pools.specs.Addresses.{Addresses}
@@ -8,7 +8,7 @@ use Rattle.binding_table.specs.declared.binding.Crossing.{Crossing}
 use Rattle.binding_table.specs.declared.binding.Crossing.TheVariants.{Same, Known, Unbound}
 use Rattle.binding_table.specs.Plan.{is_address, needs_binding}
 use Rattle.binding_table.specs.Steps.{given_image, needing, next_alias}
-use Rattle.binding_table.proofs.Places.{needs_of, planned_fresh}
+use Rattle.binding_table.proofs.Places.{among_is, needs_of, planned_fresh}
 use Rattle.binding_table.proofs.table.Table.image.Goals as goal
 
 -- the address needs a binding
@@ -27,6 +27,7 @@ returns-in-Some c =
     record {
       value = ap (λ (image : Option Addr). (image, c.args.given)) c.address_at.ensures
           ∙ sym (planned_fresh pool earlier images c.args.given c.args.address (cross table side c.args.address) needs ∙ ap (given_image pool images c.args.given) place);
+      fresh = sym (ap (λ (b : Bool). needing table side c.args.address && not b) (among_is earlier c.args.address (Some c.in-Some.place) place) ∙ ap (λ (b : Bool). b && false) needs);
       firsts = c.first_place.ensures.firsts (needing table side) c.requires.firsts needs;
     }
 
@@ -43,5 +44,6 @@ returns-in-None c =
     record {
       value = ap (λ (image : Option Addr). (image, image)) given
           ∙ sym (planned_fresh pool earlier images c.args.given c.args.address (cross table side c.args.address) needs ∙ ap (given_image pool images c.args.given) none);
+      fresh = sym (ap (λ (b : Bool). needing table side c.args.address && not b) (among_is earlier c.args.address None none) ∙ ap (λ (b : Bool). b && true) needs);
       firsts = c.first_place.ensures.firsts (needing table side) c.requires.firsts needs;
     }

@@ -14,7 +14,7 @@ use Rattle.gate_core.specs.Done.{IsPassed}
 use Rattle.gate_core.specs.Gates.{Gateway, world_in}
 use Rattle.gate_core.specs.Memory.{MayWant}
 use Rattle.gate_core.proofs.Stepping.{stepped, wanted}
-use Rattle.gate_core.proofs.Results.{on_err}
+use Rattle.gate_steps.proofs.Results.{on_err}
 use Rattle.gate_core.proofs.gate.Gate.step.Goals as goal
 
 pub take_frame-requires-clause-listed : goal.take_frame-requires-clause-listed

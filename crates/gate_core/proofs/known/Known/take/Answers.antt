@@ -3,9 +3,13 @@ use Rattle.gate_base.specs.Tests.{first_that_holds}
 use Rattle.gate_core.specs.Gates.{world_in}
 use Rattle.gate_frames.specs.Judged.{IsContentOf}
 use Rattle.gate_world.specs.Names.{carried}
+use Rattle.kept_world.specs.Kept.{kept_rules}
 use Rattle.gate_payloads.specs.Taken.{IsWayOf}
 use Rattle.gate_payloads.specs.Ways.{way_tests}
-use Rattle.gate_core.proofs.Taking.{allowed, way_is, refused_way, udp_done, icmp_done, tcp_done}
+use Rattle.twice_translate.specs.Renamed.{datagram_of}
+use Rattle.gate_steps.specs.Passed.{world_of}
+use Rattle.gate_steps.proofs.Taking.{allowed, way_is, refused_way, way_plain, udp_like}
+use Rattle.gate_core.proofs.Taken.{udp_done, icmp_done, tcp_done}
 use Rattle.gate_core.proofs.known.Known.take.Goals as goal
 
 pub returns-in-Some : goal.returns-in-Some
@@ -14,7 +18,7 @@ returns-in-Some c =
     let d = c.args.frame.now.datagram in
     let way = way_is live c.args.side d c.args.self.now.clock c.of-way.result c.source.result c.destination.result c.source.ensures c.destination.ensures c.of-way.ensures in
     record {
-      answer = refused_way live c.args.side d c.in-Some.refusal (ap (λ w. first_that_holds (way_tests c.args.self.now.table w)) (sym way) ∙ sym c.address_refusal.ensures ∙ c.in-Some.is);
+      answer = refused_way kept_rules live c.args.side d c.in-Some.refusal (ap (λ w. first_that_holds (way_tests c.args.self.now.table w)) (sym way) ∙ sym c.address_refusal.ensures ∙ c.in-Some.is);
       left = refl {a = live};
       gone = c.requires.empty;
     }
@@ -24,7 +28,7 @@ take_udp-requires-clause-way c =
     let live = world_in c.args.self.now in
     let d = c.args.frame.now.datagram in
     let a = allowed live c.args.side d c.args.self.now.clock c.of-way.result c.source.result c.destination.result refl c.source.ensures c.destination.ensures c.of-way.ensures (sym c.address_refusal.ensures ∙ c.in_default.is) in
-    subst (λ x. IsWayOf live c.of-way.result.side x c.of-way.result) (sym c.requires.judged.same) a.of
+    way_plain live c.of-way.result.side (datagram_of c.args.frame.now.octets.now) c.of-way.result (subst (λ x. IsWayOf live c.of-way.result.side x c.of-way.result) (sym c.requires.judged.same) a.of)
 
 pub take_udp-requires-clause-whole : goal.take_udp-requires-clause-whole
 take_udp-requires-clause-whole c =
@@ -59,10 +63,14 @@ pub returns-in-Udp : goal.returns-in-Udp
 returns-in-Udp c =
     let live = world_in c.args.self.now in
     let d = c.args.frame.now.datagram in
+    let one = datagram_of c.args.frame.now.octets.now in
+    let way = c.of-way.result in
+    let table = c.take_udp.new.table in
     let a = allowed live c.args.side d c.args.self.now.clock c.of-way.result c.source.result c.destination.result refl c.source.ensures c.destination.ensures c.of-way.ensures (sym c.address_refusal.ensures ∙ c.in_default.is) in
     let content = subst (λ x. IsContentOf d x) c.in-Udp.is c.requires.judged.content_is in
-    udp_done live (world_in c.take_udp.new.self) c.args.side _ d c.of-way.result c.take_udp.result c.take_udp.new.self.table c.take_udp.new.outbox a c.requires.judged.same content.0
-    (ap world_in c.take_udp.ensures.rest) c.take_udp.ensures.taken c.take_udp.ensures.memory c.take_udp.ensures.wants
+    let on = subst (λ x. IsWayOf live way.side x way) (sym c.requires.judged.same) a.of in
+    udp_done live (world_of c.args.self.now.clock.0 table c.args.self.now.connections c.args.self.now.pending) c.args.side one d way c.take_udp.result table c.take_udp.new.outbox a c.requires.judged.same content.0
+    refl (udp_like kept_rules live way.side one way c.take_udp.result table c.take_udp.new.outbox on c.take_udp.ensures.taken) c.take_udp.ensures.memory c.take_udp.ensures.wants
 
 pub returns-in-Icmp : goal.returns-in-Icmp
 returns-in-Icmp c =

@@ -7,13 +7,18 @@ use Rattle.session_table.specs.Joined.{replaced}
 use Rattle.gate_world.specs.Stream.{key_in, session_in, stepped}
 use Rattle.gate_world.specs.World.{Tracked}
 use Rattle.kept_world.specs.Kept.{KeptSession, kept_rules}
-use Rattle.gate_core.specs.Found.{image_of}
-use Rattle.gate_core.specs.Gates.{world_of, world_in}
-use Rattle.gate_core.specs.Segments.{IsSegmentTaken, Enters}
-use Rattle.gate_core.proofs.NotedConnections.{at_place, place_replaced, session_replaced}
-use Rattle.gate_core.proofs.SegmentsPassed.{session_goes_on, session_is_over, lost_in_session, lost_done}
-use Rattle.gate_core.proofs.SessionUsed.{enters_by, called_by, still_within, planned_used}
+use Rattle.kept_world.proofs.Listing.{kept_have_lists}
+use Rattle.gate_steps.specs.Found.{image_of}
+use Rattle.gate_steps.specs.Passed.{world_of}
+use Rattle.gate_core.specs.Gates.{world_in}
+use Rattle.gate_core.specs.Segments.{IsSegmentTaken}
+use Rattle.gate_steps.specs.Segments.{Enters}
+use Rattle.gate_steps.proofs.NotedConnections.{at_place, place_replaced, session_replaced}
+use Rattle.gate_steps.proofs.SegmentsPassed.{session_goes_on, session_is_over}
+use Rattle.gate_core.proofs.Lost.{lost_in_session, lost_done}
+use Rattle.gate_steps.proofs.SessionUsed.{enters_by, called_by, still_within, planned_used}
 use Rattle.gate_core.proofs.known.Known.take_by_session.Goals as goal
+use Rattle.gate_core.specs.Done.{gate_tells}
 
 same_session : (a b : Tracked KeptSession) → Some a ≡ Some b → a ≡ b
 same_session a b e = cc
@@ -24,7 +29,7 @@ step_session-requires-clause-enters c = λ x e.
     let side = c.args.way.now.side in
     let d = c.args.segment.now.datagram.now in
     let found = ap (λ (k : ConnKey). session_in (connection_of k c.args.self.now.connections)) c.requires.key ∙ p.found in
-    subst (λ (y : Tracked KeptSession). Enters side d y c.deref.result.now) (same_session t x (sym found ∙ e)) (enters_by (world_in c.args.self.now) side d t c.args.plan.now c.deref.result.now p c.deref.ensures.value)
+    subst (λ (y : Tracked KeptSession). Enters kept_rules side d y c.deref.result.now) (same_session t x (sym found ∙ e)) (enters_by kept_rules (world_in c.args.self.now) side d t c.args.plan.now c.deref.result.now p c.deref.ensures.value)
 
 pub returns-in_err-waiting : goal.returns-in_err-waiting
 returns-in_err-waiting c =
@@ -44,10 +49,10 @@ use_segment-requires-clause-client c = λ x e.
     let d = c.args.segment.now.datagram.now in
     let live = world_in c.args.self.now in
     let found = ap (λ (k : ConnKey). session_in (connection_of k c.args.self.now.connections)) c.requires.key ∙ p.found in
-    let s = stepped kept_rules (image_of live side d) side d t in
-    let next = c.in_ok-waiting.ensures.next (image_of live side d) t found (called_by live side d t c.args.plan.now c.deref.result.now p c.deref.ensures.value) in
+    let s = stepped kept_rules (image_of kept_rules live side d) side d t in
+    let next = c.in_ok-waiting.ensures.next (image_of kept_rules live side d) t found (called_by kept_rules live side d t c.args.plan.now c.deref.result.now p c.deref.ensures.value) in
     let is : Some x ≡ Some s = sym e ∙ ap (λ (all : List (Connection (Tracked KeptSession))). session_in (connection_of c.args.key.now all)) next ∙ session_replaced c.args.key.now c.args.self.now.connections t s found in
-    still_within live side d t x true c.args.plan.now.client (same_session x s is) p.client
+    still_within kept_rules kept_have_lists live side d t x true c.args.plan.now.client (same_session x s is) p.client
 
 pub use_segment-requires-clause-server : goal.use_segment-requires-clause-server
 use_segment-requires-clause-server c = λ x e.
@@ -56,10 +61,10 @@ use_segment-requires-clause-server c = λ x e.
     let d = c.args.segment.now.datagram.now in
     let live = world_in c.args.self.now in
     let found = ap (λ (k : ConnKey). session_in (connection_of k c.args.self.now.connections)) c.requires.key ∙ p.found in
-    let s = stepped kept_rules (image_of live side d) side d t in
-    let next = c.in_ok-waiting.ensures.next (image_of live side d) t found (called_by live side d t c.args.plan.now c.deref.result.now p c.deref.ensures.value) in
+    let s = stepped kept_rules (image_of kept_rules live side d) side d t in
+    let next = c.in_ok-waiting.ensures.next (image_of kept_rules live side d) t found (called_by kept_rules live side d t c.args.plan.now c.deref.result.now p c.deref.ensures.value) in
     let is : Some x ≡ Some s = sym e ∙ ap (λ (all : List (Connection (Tracked KeptSession))). session_in (connection_of c.args.key.now all)) next ∙ session_replaced c.args.key.now c.args.self.now.connections t s found in
-    still_within live side d t x false c.args.plan.now.server (same_session x s is) p.server
+    still_within kept_rules kept_have_lists live side d t x false c.args.plan.now.server (same_session x s is) p.server
 
 pub note-requires-clause-room : goal.note-requires-clause-room
 note-requires-clause-room c = λ h.
@@ -69,9 +74,9 @@ note-requires-clause-room c = λ h.
     let d = c.args.segment.now.datagram.now in
     let live = world_in c.args.self.now in
     let found = ap (λ (k : ConnKey). session_in (connection_of k c.args.self.now.connections)) c.requires.key ∙ p.found in
-    let image = image_of live side d in
+    let image = image_of kept_rules live side d in
     let s = stepped kept_rules image side d t in
-    let called = called_by live side d t c.args.plan.now c.deref.result.now p c.deref.ensures.value in
+    let called = called_by kept_rules live side d t c.args.plan.now c.deref.result.now p c.deref.ensures.value in
     let next = c.in_ok-waiting.ensures.next image t found called in
     let there : session_in (connection_of c.args.key.now c.step_session.new.connections) ≡ Some s = ap (λ (all : List (Connection (Tracked KeptSession))). session_in (connection_of c.args.key.now all)) next ∙ session_replaced c.args.key.now c.args.self.now.connections t s found in
     let a = at_place c.args.key.now c.args.self.now.connections t found in
@@ -85,10 +90,10 @@ use_segment-requires-in-None-clause-client c = λ x e.
     let d = c.args.segment.now.datagram.now in
     let live = world_in c.args.self.now in
     let found = ap (λ (k : ConnKey). session_in (connection_of k c.args.self.now.connections)) c.requires.key ∙ p.found in
-    let s = stepped kept_rules (image_of live side d) side d t in
-    let next = c.in_ok-waiting.ensures.next (image_of live side d) t found (called_by live side d t c.args.plan.now c.deref.result.now p c.deref.ensures.value) in
+    let s = stepped kept_rules (image_of kept_rules live side d) side d t in
+    let next = c.in_ok-waiting.ensures.next (image_of kept_rules live side d) t found (called_by kept_rules live side d t c.args.plan.now c.deref.result.now p c.deref.ensures.value) in
     let is : Some x ≡ Some s = sym e ∙ ap (λ (all : List (Connection (Tracked KeptSession))). session_in (connection_of c.args.key.now all)) next ∙ session_replaced c.args.key.now c.args.self.now.connections t s found in
-    still_within live side d t x true c.args.plan.now.client (same_session x s is) p.client
+    still_within kept_rules kept_have_lists live side d t x true c.args.plan.now.client (same_session x s is) p.client
 
 pub use_segment-requires-in-None-clause-server : goal.use_segment-requires-in-None-clause-server
 use_segment-requires-in-None-clause-server c = λ x e.
@@ -97,10 +102,10 @@ use_segment-requires-in-None-clause-server c = λ x e.
     let d = c.args.segment.now.datagram.now in
     let live = world_in c.args.self.now in
     let found = ap (λ (k : ConnKey). session_in (connection_of k c.args.self.now.connections)) c.requires.key ∙ p.found in
-    let s = stepped kept_rules (image_of live side d) side d t in
-    let next = c.in_ok-waiting.ensures.next (image_of live side d) t found (called_by live side d t c.args.plan.now c.deref.result.now p c.deref.ensures.value) in
+    let s = stepped kept_rules (image_of kept_rules live side d) side d t in
+    let next = c.in_ok-waiting.ensures.next (image_of kept_rules live side d) t found (called_by kept_rules live side d t c.args.plan.now c.deref.result.now p c.deref.ensures.value) in
     let is : Some x ≡ Some s = sym e ∙ ap (λ (all : List (Connection (Tracked KeptSession))). session_in (connection_of c.args.key.now all)) next ∙ session_replaced c.args.key.now c.args.self.now.connections t s found in
-    still_within live side d t x false c.args.plan.now.server (same_session x s is) p.server
+    still_within kept_rules kept_have_lists live side d t x false c.args.plan.now.server (same_session x s is) p.server
 
 pub returns-in-Some : goal.returns-in-Some
 returns-in-Some c =
@@ -110,16 +115,16 @@ returns-in-Some c =
     let d = c.args.segment.now.datagram.now in
     let live = world_in c.args.self.now in
     let found = ap (λ (k : ConnKey). session_in (connection_of k c.args.self.now.connections)) c.requires.key ∙ p.found in
-    let image = image_of live side d in
+    let image = image_of kept_rules live side d in
     let s = stepped kept_rules image side d t in
-    let called = called_by live side d t c.args.plan.now c.deref.result.now p c.deref.ensures.value in
+    let called = called_by kept_rules live side d t c.args.plan.now c.deref.result.now p c.deref.ensures.value in
     let next = c.in_ok-waiting.ensures.next image t found called in
     let there : session_in (connection_of c.args.key.now c.step_session.new.connections) ≡ Some s = ap (λ (all : List (Connection (Tracked KeptSession))). session_in (connection_of c.args.key.now all)) next ∙ session_replaced c.args.key.now c.args.self.now.connections t s found in
     let flags = c.flags-flags.ensures ∙ ap (λ (x : Tcp). x.flags) c.requires.whole.tcp_is in
     let hold = c.hold_of-hold.ensures.is ∙ ap (λ (k : ConnKey). hold_of c.args.self.now.connections k side c.flags-flags.result) c.requires.key ∙ ap (hold_of c.args.self.now.connections (key_in c.args.self.now.table side d) side) flags in
     subst (λ (n : ℕ). IsSegmentTaken live side d None (world_of c.args.self.now.clock.0 c.use_segment.new.table c.note.new.self n) c.step_session.new.outbox) (sym c.max-self.ensures)
-    (session_goes_on live way d t c.in-Some.waiting c.use_segment.new.table c.note.new.self c.step_session.new.outbox c.requires.way p.found (sym p.units.passes) (sym c.in-Some.is ∙ c.in_ok-waiting.ensures.waits image t found called)
-    (λ h. planned_used live way d t s c.args.plan.now c.hold_of-hold.result c.use_segment.new.table c.requires.listed.lawful c.requires.way p refl (h ∙ sym hold) (c.use_segment.ensures s there))
+    (session_goes_on kept_rules gate_tells live way d t c.in-Some.waiting c.use_segment.new.table c.note.new.self c.step_session.new.outbox c.requires.way p.found (sym p.units.passes) (sym c.in-Some.is ∙ c.in_ok-waiting.ensures.waits image t found called)
+    (λ h. planned_used kept_rules kept_have_lists live way d t s c.args.plan.now c.hold_of-hold.result c.use_segment.new.table c.requires.listed.lawful c.requires.way p refl (h ∙ sym hold) (c.use_segment.ensures s there))
     (c.note.ensures.noted
     ∙ ap (λ (x : List (Connection (Tracked KeptSession))). noted x c.args.key.now side c.flags-flags.result None way.moment) next
     ∙ ap (λ (k : ConnKey). noted (replaced c.args.self.now.connections k s) k side c.flags-flags.result None way.moment) c.requires.key
@@ -134,13 +139,13 @@ returns-in-None c =
     let d = c.args.segment.now.datagram.now in
     let live = world_in c.args.self.now in
     let found = ap (λ (k : ConnKey). session_in (connection_of k c.args.self.now.connections)) c.requires.key ∙ p.found in
-    let image = image_of live side d in
+    let image = image_of kept_rules live side d in
     let s = stepped kept_rules image side d t in
-    let called = called_by live side d t c.args.plan.now c.deref.result.now p c.deref.ensures.value in
+    let called = called_by kept_rules live side d t c.args.plan.now c.deref.result.now p c.deref.ensures.value in
     let next = c.in_ok-waiting.ensures.next image t found called in
     let there : session_in (connection_of c.args.key.now c.step_session.new.connections) ≡ Some s = ap (λ (all : List (Connection (Tracked KeptSession))). session_in (connection_of c.args.key.now all)) next ∙ session_replaced c.args.key.now c.args.self.now.connections t s found in
-    session_is_over live way d t c.use_segment-in-None.new.table c.remove.new.self c.step_session.new.outbox c.requires.way p.found (sym p.units.passes) (sym c.in-None.is ∙ c.in_ok-waiting.ensures.waits image t found called)
-    (λ h. planned_used live way d t s c.args.plan.now short_hold c.use_segment-in-None.new.table c.requires.listed.lawful c.requires.way p refl h (c.use_segment-in-None.ensures s there))
+    session_is_over kept_rules gate_tells live way d t c.use_segment-in-None.new.table c.remove.new.self c.step_session.new.outbox c.requires.way p.found (sym p.units.passes) (sym c.in-None.is ∙ c.in_ok-waiting.ensures.waits image t found called)
+    (λ h. planned_used kept_rules kept_have_lists live way d t s c.args.plan.now short_hold c.use_segment-in-None.new.table c.requires.listed.lawful c.requires.way p refl h (c.use_segment-in-None.ensures s there))
     (c.remove.ensures
     ∙ ap (λ (x : List (Connection (Tracked KeptSession))). without x c.args.key.now) next
     ∙ ap (λ (k : ConnKey). without (replaced c.args.self.now.connections k s) k) c.requires.key)

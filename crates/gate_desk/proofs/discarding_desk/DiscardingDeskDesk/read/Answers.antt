@@ -1,12 +1,17 @@
-use Rattle.std.proofs.Common.{arith}
+use Rattle.std.proofs.Common.{ℕ, List, take, drop, length, ap, ◌∙◌, arith}
+use Rattle.gate_desk.specs.Slots.{put}
 use Rattle.gate_desk.proofs.DiscardedLaws.{discarded_takes, discarded_next, discarded_end}
 use Rattle.gate_desk.proofs.discarding_desk.DiscardingDeskDesk.read.Goals as goal
 
 pub returns-clause-ok : goal.returns-clause-ok
-returns-clause-ok c = rw (← c.self.view_is) (discarded_takes c.args.slot c.take_from.result c.self.inside.left c.take_from.new.left c.take_from.ensures.rest)
+returns-clause-ok c =
+    let rest = ap (put c.self.inside.left c.args.slot) (c.take.ensures.rest ∙ ap (drop c.take.result) c.at_mut.ensures.value) in
+    rw (← c.self.view_is) (discarded_takes c.args.slot c.take.result c.self.inside.left (put c.self.inside.left c.args.slot c.take.new.self) rest)
 
 pub returns-clause-octets : goal.returns-clause-octets
-returns-clause-octets c = rw (← c.self.view_is) (discarded_next c.args.slot c.take_from.result c.self.inside.left c.take_from.new.buffer (omega (arith, c.take_from.ensures.count, c.take_from.auto.buffer)) c.take_from.ensures.octets)
+returns-clause-octets c =
+    rw (← c.self.view_is) (discarded_next c.args.slot c.take.result c.self.inside.left c.take.new.buffer (omega (arith, c.take.ensures.count, c.take.auto.buffer)) (c.take.ensures.octets ∙ ap (take c.take.result) c.at_mut.ensures.value))
 
 pub returns-clause-end : goal.returns-clause-end
-returns-clause-end c = rw (← c.self.view_is) (λ none some. discarded_end c.args.slot c.self.inside.left (omega (arith, c.take_from.ensures.count, none, some)))
+returns-clause-end c =
+    rw (← c.self.view_is) (λ none some. discarded_end c.args.slot c.self.inside.left (omega (arith, c.take.ensures.count, none, some, ap (λ (xs : List ℕ). length xs) c.at_mut.ensures.value)))

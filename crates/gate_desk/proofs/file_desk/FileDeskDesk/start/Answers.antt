@@ -3,3 +3,6 @@ use Rattle.gate_desk.proofs.file_desk.FileDeskDesk.start.Goals as goal
 
 pub returns-in-Ok-clause-ok : goal.returns-in-Ok-clause-ok
 returns-in-Ok-clause-ok g c = rw (← c.self.view_is) (untold_starts c.args.slot c.args.name.now c.args.way c.self.inside.faults c.self.inside.start_faults)
+
+pub returns-in-Ok-clause-ways : goal.returns-in-Ok-clause-ways
+returns-in-Ok-clause-ways g c = rw (← c.self.view_is) c.in-Ok.ensures.ways

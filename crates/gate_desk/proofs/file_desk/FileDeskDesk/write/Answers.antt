@@ -7,3 +7,6 @@ returns-in-Ok-clause-ok g c = rw (← c.self.view_is) (untold_writes c.args.slot
 
 pub returns-in-Err-clause-err : goal.returns-in-Err-clause-err
 returns-in-Err-clause-err g c = rw (← c.self.view_is) (untold_write_fails c.args.slot c.self.inside.faults c.raise.new.counts c.self.inside.start_faults c.raise.ensures)
+
+pub returns-in-Ok-clause-takes : goal.returns-in-Ok-clause-takes
+returns-in-Ok-clause-takes g c = rw (← c.self.view_is) c.in-Ok.ensures.takes

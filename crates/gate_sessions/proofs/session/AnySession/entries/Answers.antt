@@ -1,7 +1,7 @@
 use Rattle.std.proofs.Common.{◌∷◌, ◌++◌, [], List, sym, ◌∙◌, ap}
 use Rattle.dialogue.specs.Learning.{Entry}
 use Rattle.kept_world.specs.Kept.{kept_rules}
-use Rattle.gate_sessions.proofs.ListedLemmas.{take-next}
+use Rattle.unit_plans.proofs.EnteredLemmas.{take-next}
 use Rattle.gate_sessions.proofs.session.AnySession.entries.Goals as goal
 
 pub loop-place-preserved : goal.loop-place-preserved

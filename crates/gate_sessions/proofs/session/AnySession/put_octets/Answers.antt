@@ -1,7 +1,6 @@
 use Rattle.std.proofs.Common.{◌≡◌, ◌++◌, ℕ, List, true, length, drop, min, ap, sym, ◌∙◌}
-use Rattle.stream_model.specs.Session.{Segment, arrival}
+use Rattle.stream_model.specs.Session.{Segment, arrival, segment_in}
 use Rattle.stream_model.specs.Verdict.{is_data}
-use Rattle.stream_gate.specs.Segments.{segment_of}
 use Rattle.stream_kept.specs.Outs.{start_kept}
 use Rattle.stream_kept.specs.Sessions.{sender_kept}
 use Rattle.kept_world.specs.Kept.{KeptSession, kept_units}
@@ -17,7 +16,7 @@ returns-then-is_data c =
     let f = c.args.from_client in
     let pair = c.self.inside.pair in
     let d : DnsKept = c.in-Units.session.value in
-    let g : Segment = segment_of c.args.segment.now in
+    let g : Segment = segment_in c.args.segment.now in
     let seen : dns_session pair d ≡ c.args.self.now = ap (session_of pair) (sym c.in-Units.is) ∙ c.self.view_is in
     let repeated : c.repeated-repeated.result ≡ min (length g.octets) (start_kept (sender_kept f d.kept) g).before = c.repeated-repeated.ensures ∙ ap (λ (x : DnsKept). min (length g.octets) (start_kept (sender_kept f x.kept) g).before) c.deref.ensures in
     let fresh : drop c.repeated-repeated.result c.payload.result.now ≡ drop (min (length g.octets) (start_kept (sender_kept f d.kept) g).before) g.octets = ap (λ (n : ℕ). drop n c.payload.result.now) repeated ∙ ap (drop (min (length g.octets) (start_kept (sender_kept f d.kept) g).before)) c.payload.ensures.octets in

@@ -1,8 +1,0 @@
-use Rattle.std.proofs.Common.{◌≡◌, ◌≤◌}
-use Rattle.expiring_table.proofs.tests.drop_ended.Given as goal
-
-abbrev pub invariant-loop : goal.invariant-loop
-invariant-loop l = record {
-  few : l.gone ≤ l.counter;
-  most : l.rows.most ≡ l.initial.rows.most;
-}

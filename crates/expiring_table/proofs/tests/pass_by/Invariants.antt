@@ -1,8 +1,0 @@
-use Rattle.std.proofs.Common.{◌≡◌, ◌≤◌}
-use Rattle.expiring_table.proofs.tests.pass_by.Given as goal
-
-abbrev pub invariant-loop-round : goal.invariant-loop-round
-invariant-loop-round l = record {
-  few : l.good ≤ l.round;
-  most : l.rows.most ≡ 8;
-}

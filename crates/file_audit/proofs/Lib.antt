@@ -1,0 +1,10 @@
+mod TakenRecords
+mod FoundLines
+mod ReportAhead
+mod Alikes
+mod Walked
+mod TakenFiles
+mod FoundEvents
+mod FoundLast
+mod BegunCaptures
+pub mod LeftCounts

@@ -1,0 +1,173 @@
+use Rattle.std.proofs.Common.{ℕ, Ok, Err, Bool, refl, sym, ap, subst, ◌∙◌, arith}
+use Rattle.frag_join.specs.Arrivals.{arrival}
+use Rattle.frag_join.specs.Joining.{by_known}
+use Rattle.gate_base.specs.Events.{event_of}
+use Rattle.gate_desk.proofs.Laws.{grows_on, grows_not}
+use Rattle.gate_report.specs.Counts.{nothing_counted}
+use Rattle.gate_report.specs.declared.totals.Totals.{Totals}
+use Rattle.gate_settings.specs.declared.settings.Settings.{Settings}
+use Rattle.gate_world.specs.Sessions.{WholeSession}
+use Rattle.gate_world.specs.World.{World}
+use Rattle.pcap_merge.specs.Merge.{Advances}
+use Rattle.lawful_files.specs.Files.{State}
+use Rattle.file_audit.specs.Events.{Finds, FindsLast, state_of, stop_of}
+use Rattle.file_audit.specs.Stops.{LeavesCounts}
+use Rattle.file_audit.proofs.LeftCounts.{leaves_on, leaves_all, leaves_as, stop_leaves, stops_at}
+use Rattle.file_audit.proofs.Walked.{arrived_at, expecting, walked_none, finds_stop, finds_done, finds_left, finds_at, walked_event, gives}
+use Rattle.file_audit.proofs.events.audit_events.Goals as goal
+
+pub returns-in-Err-clause-answer : goal.returns-in-Err-clause-answer
+returns-in-Err-clause-answer g c =
+    let old = g.D.Desk.outside c.args.desk.now in
+    let now = g.D.Desk.outside c.events.desk in
+    let new = g.D.Desk.outside c.advance.new.desk in
+    let i = c.events.invariant in
+    subst (λ e. Finds (Err e) c.args.auditor.now.settings c.args.merge.now c.args.given.now old new) (sym c.stop_of.ensures)
+    (finds_stop c.in-Err.stop c.args.auditor.now.settings c.args.merge.now c.events.merge c.args.given.now c.events.given old now new c.events.joiner (state_of c.events.auditor c.events.totals) i.walked i.grows (c.in-Err.ensures.first i.stop).1)
+
+pub returns-in-Ok-take_rest-clause-answer : goal.returns-in-Ok-take_rest-clause-answer
+returns-in-Ok-take_rest-clause-answer g c =
+    let old = g.D.Desk.outside c.args.desk.now in
+    let now = g.D.Desk.outside c.events.desk in
+    let mid = g.D.Desk.outside c.advance.new.desk in
+    let new = g.D.Desk.outside c.take_rest.new.desk in
+    let i = c.events.invariant in
+    let finished = subst (λ (b : Bool). Advances (Ok b) c.events.merge c.advance.new.self now mid) c.if-not-more.true (c.in-Ok.ensures.first i.stop) in
+    finds_done c.args.auditor.now.settings c.args.merge.now c.events.merge c.advance.new.self c.args.given.now c.events.given old now mid new c.events.joiner (state_of c.events.auditor c.events.totals) i.walked finished
+    (subst (λ (s : Settings). FindsLast (Ok tt) s (state_of c.events.auditor c.events.totals) c.events.given mid new) i.settings c.in-Ok-take_rest.ensures.answer)
+
+pub returns-in-Err-take_rest-clause-answer : goal.returns-in-Err-take_rest-clause-answer
+returns-in-Err-take_rest-clause-answer g c =
+    let old = g.D.Desk.outside c.args.desk.now in
+    let now = g.D.Desk.outside c.events.desk in
+    let mid = g.D.Desk.outside c.advance.new.desk in
+    let new = g.D.Desk.outside c.take_rest.new.desk in
+    let i = c.events.invariant in
+    let finished = subst (λ (b : Bool). Advances (Ok b) c.events.merge c.advance.new.self now mid) c.if-not-more.true (c.in-Ok.ensures.first i.stop) in
+    finds_left c.in-Err-take_rest.stop c.args.auditor.now.settings c.args.merge.now c.events.merge c.advance.new.self c.args.given.now c.events.given old now mid new c.events.joiner (state_of c.events.auditor c.events.totals) i.walked i.grows finished
+    (subst (λ (s : Settings). FindsLast (Err c.in-Err-take_rest.stop) s (state_of c.events.auditor c.events.totals) c.events.given mid new) i.settings c.in-Err-take_rest.ensures.answer)
+
+pub take_event-requires-clause-moment : goal.take_event-requires-clause-moment
+take_event-requires-clause-moment g c =
+    let now = g.D.Desk.outside c.events.desk in
+    let mid = g.D.Desk.outside c.advance.new.desk in
+    let e = event_of c.event.result in
+    let came = gives c.in-Ok.more e c.events.merge c.advance.new.self now mid c.if-not-more.false (c.in-Ok.ensures.first c.events.invariant.stop) c.event.ensures in
+    let head = c.in-Ok-expect.ensures.answer.0.moment in
+    omega (arith, head, arrived_at c.events.joiner e, came.small.moment)
+
+pub returns-in-Err-take_event-clause-answer : goal.returns-in-Err-take_event-clause-answer
+returns-in-Err-take_event-clause-answer g c =
+    let old = g.D.Desk.outside c.args.desk.now in
+    let now = g.D.Desk.outside c.events.desk in
+    let mid = g.D.Desk.outside c.advance.new.desk in
+    let new = g.D.Desk.outside c.take_event.new.desk in
+    let i = c.events.invariant in
+    let e = event_of c.event.result in
+    let came = gives c.in-Ok.more e c.events.merge c.advance.new.self now mid c.if-not-more.false (c.in-Ok.ensures.first i.stop) c.event.ensures in
+    let s = state_of c.events.auditor c.events.totals in
+    let x = arrival by_known c.events.joiner e in
+    let expects = expecting c.in-Ok-expect.head c.events.totals c.events.auditor c.expect.new.auditor x c.in-Ok-expect.ensures.answer in
+    finds_at c.in-Err-take_event.stop c.args.auditor.now.settings c.args.merge.now c.events.merge c.advance.new.self c.args.given.now c.events.given c.take_event.new.given c.expect.new.auditor c.take_event.new.auditor c.events.joiner s e old now mid new
+    i.walked i.grows came (c.in-Ok-expect.ensures.answer.1.settings ∙ i.settings) (c.in-Err-take_event.ensures.answer s x expects)
+
+pub events-preserved : goal.events-preserved
+events-preserved g c =
+    let old = g.D.Desk.outside c.args.desk.now in
+    let now = g.D.Desk.outside c.events.desk in
+    let mid = g.D.Desk.outside c.advance.new.desk in
+    let new = g.D.Desk.outside c.take_event.new.desk in
+    let i = c.events.invariant in
+    let e = event_of c.event.result in
+    let came = gives c.in-Ok.more e c.events.merge c.advance.new.self now mid c.if-not-more.false (c.in-Ok.ensures.first i.stop) c.event.ensures in
+    let s = state_of c.events.auditor c.events.totals in
+    let x = arrival by_known c.events.joiner e in
+    let expected = c.in-Ok-expect.ensures.answer in
+    let expects = expecting c.in-Ok-expect.head c.events.totals c.events.auditor c.expect.new.auditor x expected in
+    let found = c.in-Ok-take_event.ensures.answer s x expects in
+    let reads = c.take_event.ensures.reads in
+    let events = ap (λ (k : State). k.totals.events) found.1.state_is in
+    let settings = expected.1.settings ∙ i.settings in
+    record {
+      stop = came.stop;
+      settings = found.1.settings_are ∙ settings;
+      kept = found.1.kept;
+      few = omega (arith, i.few, came.work, events);
+      running = found.1.running;
+      fits = found.1.fits;
+      starts = reads.starts ∙ came.reads.starts ∙ i.starts;
+      written = reads.written ∙ came.reads.written ∙ i.written;
+      faults = c.in-Ok-take_event.ensures.leaves ∙ c.in-Ok.ensures.leaves ∙ i.faults;
+      start_faults = reads.start_faults ∙ came.reads.start_faults ∙ i.start_faults;
+      grows = grows_on old now new i.grows (grows_on now mid new came.reads.grows reads.grows);
+      walked = walked_event c.args.auditor.now.settings c.args.merge.now c.events.merge c.advance.new.self c.args.given.now c.events.given c.take_event.new.given c.expect.new.auditor c.take_event.new.auditor c.in-Ok-take_event.now c.events.joiner c.expect.new.joiner s (state_of c.take_event.new.auditor c.in-Ok-take_event.now) e found.0 old now mid new
+          i.walked came reads c.expect.ensures.joiner settings found.1.state_is found.1;
+    }
+
+pub events-init : goal.events-init
+events-init g c =
+    let old = g.D.Desk.outside c.args.desk.now in
+    record {
+      stop = c.requires.stop;
+      settings = refl;
+      kept = c.requires.opening.kept;
+      few = omega (arith, c.requires.work);
+      running = c.requires.running;
+      fits = c.requires.fits;
+      starts = refl;
+      written = refl;
+      faults = refl;
+      start_faults = refl;
+      grows = grows_not old;
+      walked = walked_none c.args.auditor.now.settings c.args.merge.now c.args.given.now old c.args.joiner.now (state_of c.args.auditor.now nothing_counted)
+          (ap (λ (w : World WholeSession). let k : State = record { world = w; totals = nothing_counted } in k) c.requires.opening.world_is) c.requires.joiner;
+    }
+
+pub returns-in-Err-clause-leaves : goal.returns-in-Err-clause-leaves
+returns-in-Err-clause-leaves g c =
+    let old = g.D.Desk.outside c.args.desk.now in
+    let now = g.D.Desk.outside c.events.desk in
+    let new = g.D.Desk.outside c.advance.new.desk in
+    let i = c.events.invariant in
+    let stop = stops_at c.in-Err.stop c.events.merge c.advance.new.self now new (c.in-Err.ensures.first i.stop) in
+    subst (λ e. LeavesCounts {A = ℕ} (Err e) old new) (sym c.stop_of.ensures)
+    (leaves_all {A = ℕ} (Err (stop_of c.in-Err.stop)) old new (leaves_on {A = ℕ} (Err (stop_of c.in-Err.stop)) old now new i.faults (stop_leaves ℕ c.in-Err.stop now new c.in-Err.ensures.leaves)) (stop ∙ i.start_faults))
+
+pub returns-in-Ok-take_rest-clause-leaves : goal.returns-in-Ok-take_rest-clause-leaves
+returns-in-Ok-take_rest-clause-leaves g c =
+    let old = g.D.Desk.outside c.args.desk.now in
+    let now = g.D.Desk.outside c.events.desk in
+    let mid = g.D.Desk.outside c.advance.new.desk in
+    let i = c.events.invariant in
+    let finished = subst (λ (b : Bool). Advances (Ok b) c.events.merge c.advance.new.self now mid) c.if-not-more.true (c.in-Ok.ensures.first i.stop) in
+    record { faults = c.in-Ok-take_rest.ensures.leaves ∙ c.in-Ok.ensures.leaves ∙ i.faults; start_faults = c.take_rest.ensures.reads.start_faults ∙ finished.reads.start_faults ∙ i.start_faults }
+
+pub returns-in-Err-take_rest-clause-leaves : goal.returns-in-Err-take_rest-clause-leaves
+returns-in-Err-take_rest-clause-leaves g c =
+    let old = g.D.Desk.outside c.args.desk.now in
+    let now = g.D.Desk.outside c.events.desk in
+    let mid = g.D.Desk.outside c.advance.new.desk in
+    let new = g.D.Desk.outside c.take_rest.new.desk in
+    let i = c.events.invariant in
+    let stop = c.in-Err-take_rest.stop in
+    let finished = subst (λ (b : Bool). Advances (Ok b) c.events.merge c.advance.new.self now mid) c.if-not-more.true (c.in-Ok.ensures.first i.stop) in
+    leaves_all {A = ℕ} (Err stop) old new (leaves_on {A = ℕ} (Err stop) old mid new (c.in-Ok.ensures.leaves ∙ i.faults) (leaves_as (Unit {0}) ℕ stop mid new c.in-Err-take_rest.ensures.leaves)) (c.take_rest.ensures.reads.start_faults ∙ finished.reads.start_faults ∙ i.start_faults)
+
+pub returns-in-Err-expect-clause-leaves : goal.returns-in-Err-expect-clause-leaves
+returns-in-Err-expect-clause-leaves g c =
+    let now = g.D.Desk.outside c.events.desk in
+    let mid = g.D.Desk.outside c.advance.new.desk in
+    let i = c.events.invariant in
+    let came = gives c.in-Ok.more (event_of c.event.result) c.events.merge c.advance.new.self now mid c.if-not-more.false (c.in-Ok.ensures.first i.stop) c.event.ensures in
+    record { faults = c.in-Ok.ensures.leaves ∙ i.faults; start_faults = came.reads.start_faults ∙ i.start_faults }
+
+pub returns-in-Err-take_event-clause-leaves : goal.returns-in-Err-take_event-clause-leaves
+returns-in-Err-take_event-clause-leaves g c =
+    let old = g.D.Desk.outside c.args.desk.now in
+    let now = g.D.Desk.outside c.events.desk in
+    let mid = g.D.Desk.outside c.advance.new.desk in
+    let new = g.D.Desk.outside c.take_event.new.desk in
+    let i = c.events.invariant in
+    let stop = c.in-Err-take_event.stop in
+    let came = gives c.in-Ok.more (event_of c.event.result) c.events.merge c.advance.new.self now mid c.if-not-more.false (c.in-Ok.ensures.first i.stop) c.event.ensures in
+    leaves_all {A = ℕ} (Err stop) old new (leaves_on {A = ℕ} (Err stop) old mid new (c.in-Ok.ensures.leaves ∙ i.faults) (leaves_as Totals ℕ stop mid new c.in-Err-take_event.ensures.leaves)) (c.take_event.ensures.reads.start_faults ∙ came.reads.start_faults ∙ i.start_faults)

@@ -1,0 +1,13 @@
+use Rattle.std.proofs.Common.{[], refl, sym, subst, ◌∙◌, append-nil}
+use Rattle.file_audit.specs.Lines.{IsLast, octets_of}
+use Rattle.file_audit.proofs.ReportAhead.{is_it}
+use Rattle.file_audit.proofs.FoundLines.{not_other}
+use Rattle.file_audit.proofs.line.is_line.Goals as goal
+
+pub returns-then-found : goal.returns-then-found
+returns-then-found c = is_it c.in_ok-found.found c.args.json c.args.line.now c.args.octets.now _ c.in_ok-found.ensures.is c.if-found.true refl
+
+pub returns-else-found : goal.returns-else-found
+returns-else-found c =
+    subst (λ b. IsLast b c.args.json c.args.line.now c.args.octets.now) (sym c.if-found.false)
+    (λ same. not_other c.in_ok-found.found (octets_of c.args.json c.args.line.now) c.args.octets.now [] c.in_ok-found.ensures.is c.if-found.false (same ∙ sym (append-nil (octets_of c.args.json c.args.line.now))))

@@ -1,0 +1,84 @@
+-- The lines of a given report, as they are found and taken.
+use Rattle.std.specs.Prelude.{◌≡◌, ◌<◌, ◌+◌, ◌-◌, ◌*◌, ◌^◌, ℕ, Bool, true, false, ◌&&◌, ◌==◌, nat_lt, if◌then◌else◌, List, [], ◌∷◌, ◌++◌, length, take, drop, Option, Some, None, Result, Ok, Err, IfSome}
+use Rattle.std.specs.Char.{is_ascii_digit}
+use Rattle.std.specs.List.{common_prefix_len}
+use Rattle.gate_desk.specs.Outside.{Outside, Takes, HasFailed, told_at}
+use Rattle.gate_desk.specs.declared.slot.Slot.TheVariants.{ReportGiven}
+use Rattle.gate_report.specs.Lines.{text_of, json_of}
+use Rattle.gate_report.specs.declared.line.Line.{Line}
+use Rattle.gate_report.specs.declared.line.Line.TheVariants.{Event}
+use Rattle.file_audit.specs.declared.line.Extent.{Extent}
+use Rattle.file_audit.specs.declared.line.Found.{Found}
+use Rattle.file_audit.specs.declared.line.LineHead.{LineHead}
+use Rattle.file_audit.specs.declared.stop.AuditStop.{AuditStop}
+use Rattle.file_audit.specs.declared.stop.AuditStop.TheVariants.{Unlawful, Capture, Desk, OutOfMemory}
+
+-- the line of a frame for which so many were sent
+abbrev pub line_with : LineHead → ℕ → Line
+line_with h frames = Event h.number h.side h.moment h.verdict frames
+
+-- the octets of a line
+abbrev pub octets_of : Bool → Line → List ℕ
+octets_of json line = if json then json_of line else text_of line
+
+-- ## How a line is found
+
+-- how many octets agree with a line's, from the first on
+abbrev pub agreed : List ℕ → List ℕ → ℕ
+agreed line octets = common_prefix_len (λ (x y : ℕ). x == y) line octets
+
+abbrev pub agreement : List ℕ → List ℕ → Extent
+agreement line octets = record { count = agreed line octets; whole = agreed line octets == length line }
+
+-- a number with one digit more, where an octet is a digit and the number is below 2 ^ 32
+abbrev pub with_digit : ℕ → ℕ → Option ℕ
+with_digit number octet = if is_ascii_digit octet && nat_lt number (2 ^ 32) then Some (10 * number + (octet - 48)) else None
+
+-- the number that octets go on with, behind digits of this number: no further than to the first that is 2 ^ 32 or more
+abbrev pub number_after : ℕ → List ℕ → ℕ
+number_after number [] = number
+number_after number (octet ∷ octets) = if is_ascii_digit octet && nat_lt number (2 ^ 32) then number_after (10 * number + (octet - 48)) octets else number
+
+-- octets go on with the line for no number of frames
+abbrev pub HasNoLine : Bool → LineHead → List ℕ → Type 0
+HasNoLine json h octets = (frames : ℕ) (rest : List ℕ) → frames < 2 ^ 32 → octets ≡ octets_of json (line_with h frames) ++ rest → ⊥
+
+-- octets go on with the line for this number of frames, or for none
+abbrev pub FindsLine : Option Found → Bool → LineHead → List ℕ → Type 0
+FindsLine (Some found) json h octets = (found.frames < 2 ^ 32) × (found.length ≡ length (octets_of json (line_with h found.frames))) × (take found.length octets ≡ octets_of json (line_with h found.frames))
+FindsLine None json h octets = HasNoLine json h octets
+
+-- ## What is taken
+
+-- some octets of the given report, and nothing else, were taken
+abbrev pub TakesReport : Outside → Outside → Type 0
+TakesReport old new = (count : ℕ) × Takes ReportGiven count old new
+
+-- the report goes on with the line for this many frames, and it was taken
+pub record TakesFrames (frames : ℕ) (json : Bool) (h : LineHead) (ahead ahead' : List ℕ) (old new : Outside) : Type 0 where
+  pub few : frames < 2 ^ 32
+  pub count : ℕ
+  pub takes : Takes ReportGiven count old new
+  pub goes : IfSome (told_at old.left ReportGiven) (λ all. ahead ++ all ≡ octets_of json (line_with h frames) ++ (ahead' ++ drop count all))
+
+-- or it goes on with that line for no number; or a read failed; or memory was wanting
+abbrev pub TakesLine : Result (Option ℕ) AuditStop → Bool → LineHead → List ℕ → List ℕ → Outside → Outside → Type 0
+TakesLine (Ok (Some frames)) json h ahead ahead' old new = TakesFrames frames json h ahead ahead' old new
+TakesLine (Ok None) json h ahead ahead' old new = TakesReport old new × IfSome (told_at old.left ReportGiven) (λ all. HasNoLine json h (ahead ++ all))
+TakesLine (Err (Desk slot)) json h ahead ahead' old new = TakesReport old new × (slot ≡ ReportGiven) × HasFailed ReportGiven old new
+TakesLine (Err OutOfMemory) json h ahead ahead' old new = TakesReport old new
+TakesLine (Err (Unlawful number reason)) json h ahead ahead' old new = ⊥
+TakesLine (Err (Capture side fault place)) json h ahead ahead' old new = ⊥
+
+-- these octets are this line and nothing more, or they aren't
+abbrev pub IsLast : Bool → Bool → Line → List ℕ → Type 0
+IsLast true json line octets = octets ≡ octets_of json line
+IsLast false json line octets = octets ≡ octets_of json line → ⊥
+
+-- the rest of the report was taken
+abbrev pub TakesLast : Result Bool AuditStop → Bool → Line → List ℕ → List ℕ → Outside → Outside → Type 0
+TakesLast (Ok answer) json line ahead ahead' old new = TakesReport old new × IfSome (told_at old.left ReportGiven) (λ all. IsLast answer json line (ahead ++ all))
+TakesLast (Err (Desk slot)) json line ahead ahead' old new = TakesReport old new × (slot ≡ ReportGiven) × HasFailed ReportGiven old new
+TakesLast (Err OutOfMemory) json line ahead ahead' old new = TakesReport old new
+TakesLast (Err (Unlawful number reason)) json line ahead ahead' old new = ⊥
+TakesLast (Err (Capture side fault place)) json line ahead ahead' old new = ⊥

@@ -1,0 +1,112 @@
+// The given files.
+ghost use Rattle.std.specs.Prelude.{◌≡◌, false};
+ghost use Rattle.gate_desk.specs.Outside.{CanRead};
+ghost use Rattle.gate_desk.specs.declared.slot.Slot.TheVariants.{LeftGiven, RightGiven};
+ghost use Rattle.lawful_files.specs.Progress.{begun};
+ghost use Rattle.file_audit.specs.Events.{BeginsGiven};
+ghost use Rattle.file_audit.specs.Frames.{BeginsCapture, TakesNext};
+ghost use Rattle.file_audit.specs.Given.{IsRunning, ReadsGiven};
+ghost use Rattle.file_audit.specs.Stops.{LeavesCounts, LeavesFaults};
+
+use crate::ahead::Ahead;
+use crate::records::take_records;
+use crate::stop::AuditStop;
+use gate_audit::Auditor;
+use gate_base::{Link, Side};
+use gate_desk::{Desk, Failed, Slot};
+use gate_settings::Settings;
+use lawful_files::AuditReason;
+use pcap_files::{CaptureReader, ReadStop};
+use std::alloc::Global;
+
+/// The given files as far as they are read: both captures record by record, and the report with what of it was read ahead.
+#[derive(Drop)]
+pub struct GivenFiles {
+    pub(crate) left: CaptureReader,
+    pub(crate) right: CaptureReader,
+    pub(crate) report: Ahead,
+}
+
+// Reads the head of a given capture, and takes room for one record.
+fn begin_capture<D: Desk>(
+    alloc: Global,
+    desk: &mut D,
+    slot: Slot,
+    link: Link,
+) -> Result<CaptureReader, AuditStop>
+    requires { CanRead (D.outside desk.old) slot }
+    ensures begins { BeginsCapture result slot link (D.outside desk.old) (D.outside desk.new) }
+    ensures leaves { LeavesFaults result (D.outside desk.old) (D.outside desk.new) }
+{
+    match CaptureReader::begin(alloc, desk, slot) {
+        Ok(reader) => {
+            if reader.link() != link {
+                return Err(AuditStop::Unlawful(0, AuditReason::Capture));
+            }
+            Ok(reader)
+        }
+        Err(ReadStop::Fault(_, _)) => Err(AuditStop::Unlawful(0, AuditReason::Capture)),
+        Err(ReadStop::Desk(slot)) => Err(AuditStop::Desk(slot)),
+        Err(ReadStop::OutOfMemory) => Err(AuditStop::OutOfMemory),
+    }
+}
+
+impl GivenFiles {
+    /// Reads the heads of both given captures, the left one first, and takes room for one record of each. The error is that
+    /// one has no head with the settings' link, that a read failed, or that there is too little memory.
+    pub fn begin<D: Desk>(
+        alloc: Global,
+        desk: &mut D,
+        settings: &Settings,
+    ) -> Result<GivenFiles, AuditStop>
+        requires left { CanRead (D.outside desk.old) LeftGiven }
+        requires right { CanRead (D.outside desk.old) RightGiven }
+        ensures answer { BeginsGiven result settings.now (D.outside desk.old) (D.outside desk.new) }
+        ensures reads { ReadsGiven (D.outside desk.old) (D.outside desk.new) }
+        ensures leaves { LeavesCounts result (D.outside desk.old) (D.outside desk.new) }
+    {
+        let left = match begin_capture(alloc, desk, Slot::LeftGiven, settings.left.link) {
+            Ok(left) => left,
+            Err(stop) => return Err(stop),
+        };
+        let right = match begin_capture(alloc, desk, Slot::RightGiven, settings.right.link) {
+            Ok(right) => right,
+            Err(stop) => return Err(stop),
+        };
+        Ok(GivenFiles {
+            left,
+            right,
+            report: Ahead::new(),
+        })
+    }
+}
+
+/// Takes so many records of the capture to which the frames of a side go, and lets the auditor judge each: whether there are
+/// so many.
+pub fn take_next<D: Desk>(
+    desk: &mut D,
+    given: &mut GivenFiles,
+    auditor: &mut Auditor,
+    from: Side,
+    frames: u32,
+) -> Result<bool, AuditStop>
+    requires left { CanRead (D.outside desk.old) LeftGiven }
+    requires right { CanRead (D.outside desk.old) RightGiven }
+    requires running { IsRunning given.old }
+    requires kept { auditor.old.lost ≡ false }
+    requires begun { auditor.old.expecting.so_far ≡ begun }
+    ensures answer { TakesNext result frames from given.old given.new auditor.old auditor.new (D.outside desk.old) (D.outside desk.new) }
+    ensures reads { ReadsGiven (D.outside desk.old) (D.outside desk.new) }
+    ensures leaves { LeavesFaults result (D.outside desk.old) (D.outside desk.new) }
+{
+    match from {
+        Side::Left => match take_records(desk, &mut given.right, auditor, frames) {
+            Ok(there) => Ok(there),
+            Err(Failed) => Err(AuditStop::Desk(Slot::RightGiven)),
+        },
+        Side::Right => match take_records(desk, &mut given.left, auditor, frames) {
+            Ok(there) => Ok(there),
+            Err(Failed) => Err(AuditStop::Desk(Slot::LeftGiven)),
+        },
+    }
+}

@@ -1,0 +1,15 @@
+//! The audit of given files over a desk: two captures and a report that some gateway made, beside the events of two captures.
+#![tactic(auto)]
+
+mod ahead;
+mod event;
+mod events;
+mod expect;
+mod given;
+mod line;
+mod records;
+mod stop;
+
+pub use events::audit_events;
+pub use given::GivenFiles;
+pub use stop::AuditStop;

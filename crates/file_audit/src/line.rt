@@ -1,0 +1,211 @@
+// The lines of the given report.
+ghost use Rattle.std.specs.Prelude.{◌≡◌, ◌<◌, ◌≤◌, ◌*◌, ◌^◌, IfOk, length};
+ghost use Rattle.gate_desk.specs.declared.slot.Slot.TheVariants.{ReportGiven};
+ghost use Rattle.gate_desk.specs.Outside.{CanRead};
+ghost use Rattle.file_audit.specs.Lines.{agreed, agreement, number_after, with_digit, octets_of, line_with, FindsLine, IsLast, TakesLine, TakesLast};
+ghost use Rattle.file_audit.specs.Stops.{LeavesFaults};
+
+use crate::ahead::Ahead;
+use crate::stop::AuditStop;
+use gate_base::{Moment, OutOfMemory, Side, Verdict};
+use gate_desk::{Desk, Failed, Slot};
+use gate_report::{LINE, Line, json_line, text_line};
+use std::alloc::Global;
+
+/// What the line of a frame tells but for how many were sent for it.
+#[derive(Clone, Copy, Debug, PartialEq, Eq)]
+pub struct LineHead {
+    /// The number of the event.
+    pub number: u64,
+    /// The side from which the frame came.
+    pub side: Side,
+    /// Its moment.
+    pub moment: Moment,
+    /// Its verdict.
+    pub verdict: Verdict,
+}
+
+/// How far octets agree with a line, and whether they have all of it.
+#[derive(Clone, Copy, Debug, PartialEq, Eq)]
+pub struct Extent {
+    pub count: usize,
+    pub whole: bool,
+}
+
+/// The line that a report goes on with: how many frames it tells, and how many octets it has.
+#[derive(Clone, Copy, Debug, PartialEq, Eq)]
+pub struct Found {
+    pub frames: u32,
+    pub length: usize,
+}
+
+impl LineHead {
+    fn with(self, frames: u32) -> Line
+        ensures { result ≡ line_with self frames }
+    {
+        Line::Event {
+            number: self.number,
+            side: self.side,
+            moment: self.moment,
+            verdict: self.verdict,
+            frames,
+        }
+    }
+}
+
+/// How many octets agree with a line's, from the first on.
+fn agreed(line: &[u8], octets: &[u8]) -> usize
+    ensures is { result ≡ agreed line.now octets.now }
+    ensures bound { result ≤ length octets.now }
+{
+    let limit = line.len().min(octets.len());
+    for place in 0..limit {
+        if line[place] != octets[place] {
+            return place;
+        }
+    }
+    limit
+}
+
+fn agreement(line: &[u8], octets: &[u8]) -> Extent
+    ensures is { result ≡ agreement line.now octets.now }
+    ensures bound { result.count ≤ length octets.now }
+{
+    let count = agreed(line, octets);
+    Extent {
+        count,
+        whole: count == line.len(),
+    }
+}
+
+/// Compares octets with a line, as JSON or as text. As text it takes no memory.
+fn compare(alloc: Global, json: bool, line: &Line, octets: &[u8]) -> Result<Extent, OutOfMemory>
+    ensures is { IfOk result (λ found. found ≡ agreement (octets_of json line.now) octets.now) }
+    ensures bound { IfOk result (λ found. found.count ≤ length octets.now) }
+{
+    if json {
+        let made = json_line(alloc, line)?;
+        Ok(agreement(&made, octets))
+    } else {
+        let mut room = [0; LINE];
+        let begin = text_line(line, &mut room);
+        Ok(agreement(&room[begin..], octets))
+    }
+}
+
+/// Whether octets are a line and nothing more.
+fn is_line(alloc: Global, json: bool, line: &Line, octets: &[u8]) -> Result<bool, OutOfMemory>
+    ensures { IfOk result (λ answer. IsLast answer json line.now octets.now) }
+{
+    let found = compare(alloc, json, line, octets)?;
+    Ok(found.whole && found.count == octets.len())
+}
+
+/// A number with one digit more, where an octet is a digit and the number is below 2^32.
+fn with_digit(number: u64, octet: u8) -> Option<u64>
+    ensures { result ≡ with_digit number octet }
+{
+    if octet.is_ascii_digit() && number < 1 << 32 {
+        Some(10 * number + u64::from(octet - b'0'))
+    } else {
+        None
+    }
+}
+
+/// The number that stands in front of octets, as far as it is read: no further than to the first that is 2^32 or more.
+fn number_in_front(octets: &[u8]) -> u64
+    ensures { result ≡ number_after 0 octets.now }
+{
+    let mut number = 0;
+    for &octet in octets {
+        match with_digit(number, octet) {
+            Some(more) => number = more,
+            None => return number,
+        }
+    }
+    number
+}
+
+/// The line that octets go on with, with whatever number of frames; or none.
+fn find_line(
+    alloc: Global,
+    json: bool,
+    head: LineHead,
+    octets: &[u8],
+) -> Result<Option<Found>, OutOfMemory>
+    ensures { IfOk result (λ found. FindsLine found json head octets.now) }
+{
+    let none = compare(alloc, json, &head.with(0), octets)?;
+    if none.whole {
+        return Ok(Some(Found {
+            frames: 0,
+            length: none.count,
+        }));
+    }
+    let number = number_in_front(&octets[none.count..]);
+    if number >= 1 << 32 {
+        return Ok(None);
+    }
+    let frames = number as u32;
+    let found = compare(alloc, json, &head.with(frames), octets)?;
+    if found.whole {
+        Ok(Some(Found {
+            frames,
+            length: found.count,
+        }))
+    } else {
+        Ok(None)
+    }
+}
+
+/// Takes the line of a frame from the given report, whatever number of frames it tells, which is answered; or finds that the
+/// report doesn't go on with it.
+pub fn take_line<D: Desk>(
+    alloc: Global,
+    desk: &mut D,
+    report: &mut Ahead,
+    json: bool,
+    head: LineHead,
+) -> Result<Option<u32>, AuditStop>
+    requires can { CanRead (D.outside desk.old) ReportGiven }
+    requires number { head.number < 2 ^ 64 }
+    requires moment { head.moment.0 < 2 ^ 32 * 1000000000 }
+    ensures takes { TakesLine result json head report.old report.new (D.outside desk.old) (D.outside desk.new) }
+    ensures leaves { LeavesFaults result (D.outside desk.old) (D.outside desk.new) }
+{
+    match report.fill(desk) {
+        Ok(()) => {}
+        Err(Failed) => return Err(AuditStop::Desk(Slot::ReportGiven)),
+    }
+    match find_line(alloc, json, head, report.octets()) {
+        Ok(Some(found)) => {
+            report.take(found.length);
+            Ok(Some(found.frames))
+        }
+        Ok(None) => Ok(None),
+        Err(OutOfMemory) => Err(AuditStop::OutOfMemory),
+    }
+}
+
+/// Whether the rest of the given report is this line and nothing more.
+pub fn take_last<D: Desk>(
+    alloc: Global,
+    desk: &mut D,
+    report: &mut Ahead,
+    json: bool,
+    line: &Line,
+) -> Result<bool, AuditStop>
+    requires can { CanRead (D.outside desk.old) ReportGiven }
+    requires short { length (octets_of json line.now) < 256 }
+    ensures takes { TakesLast result json line.now report.old report.new (D.outside desk.old) (D.outside desk.new) }
+    ensures leaves { LeavesFaults result (D.outside desk.old) (D.outside desk.new) }
+{
+    match report.fill(desk) {
+        Ok(()) => {}
+        Err(Failed) => return Err(AuditStop::Desk(Slot::ReportGiven)),
+    }
+    match is_line(alloc, json, line, report.octets()) {
+        Ok(answer) => Ok(answer),
+        Err(OutOfMemory) => Err(AuditStop::OutOfMemory),
+    }
+}

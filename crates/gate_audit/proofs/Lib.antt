@@ -1,0 +1,4 @@
+mod ExpectedEvents
+mod FirstSegments
+mod SteppedStreams
+mod WholeGiven

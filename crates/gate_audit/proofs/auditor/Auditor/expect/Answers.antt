@@ -1,0 +1,67 @@
+use Rattle.std.proofs.Common.{◌≡◌, false, refl, ap, subst, sym, ◌∙◌}
+use Rattle.gate_base.specs.Events.{event_of}
+use Rattle.gate_base.specs.Tests.{first_that_holds}
+use Rattle.gate_world.specs.Frame.{datagram_in, kind_of}
+use Rattle.gate_world.specs.Held.{KeepsListed}
+use Rattle.gate_world.specs.Reading.{world_as}
+use Rattle.gate_world.specs.Verdict.{tests}
+use Rattle.gate_world.specs.World.{World, at_moment}
+use Rattle.gate_world.proofs.ListsWorld.{moment_lists, next_lists}
+use Rattle.lawful_files.specs.Progress.{IsSound, begun}
+use Rattle.lawful_files.specs.Wanted.{Wanted}
+use Rattle.lawful_files.proofs.SoundWanted.{wanted_sound}
+use Rattle.audit_records.specs.Kept.{Expecting}
+use Rattle.heard_sessions.specs.Heard.{HeardSession, heard_rules, session_in}
+use Rattle.heard_sessions.proofs.HeardLaws.{heard_lists}
+use Rattle.gate_audit.specs.Auditing.{Auditing}
+use Rattle.gate_audit.specs.Given.{IsGiven}
+use Rattle.gate_audit.specs.Knowing.{world_in}
+use Rattle.gate_audit.proofs.ExpectedEvents.{expected}
+use Rattle.gate_audit.proofs.WholeGiven.{is_whole}
+use Rattle.gate_audit.proofs.auditor.Auditor.expect.Goals as goal
+
+pub take_frame-requires-clause-listed : goal.take_frame-requires-clause-listed
+take_frame-requires-clause-listed c =
+    let kept : c.self.inside.lost ≡ false = ap (λ (a : Auditing). a.lost) c.self.view_is ∙ c.requires.kept in
+    subst (λ (x : World HeardSession). KeepsListed heard_rules x) (sym c.expire.ensures.live) (moment_lists heard_rules (world_in c.self.inside.known) (event_of c.args.event.now).moment (c.self.invariant kept))
+
+pub want-verdict-requires : goal.want-verdict-requires
+want-verdict-requires c =
+    let e = event_of c.args.event.now in
+    let live = world_in c.expire.new.self in
+    is_whole (first_that_holds (tests heard_rules live e)) (kind_of (datagram_in e)) live e.side (datagram_in e) c.in_ok-taken.taken (world_in c.take_frame.new.self) c.take_frame.new.outbox c.in_ok-taken.ensures
+
+pub invariant_of-self-2 : goal.invariant_of-self-2
+invariant_of-self-2 c = λ lost.
+    let e = event_of c.args.event.now in
+    let w = c.args.self.now.world in
+    let kept : c.self.inside.lost ≡ false = ap (λ (a : Auditing). a.lost) c.self.view_is ∙ c.requires.kept in
+    let known : world_in c.self.inside.known ≡ w = ap (λ (a : Auditing). a.world) c.self.view_is in
+    let live : world_in c.expire.new.self ≡ at_moment w e.moment = c.expire.ensures.live ∙ ap (λ (x : World HeardSession). at_moment x e.moment) known in
+    let s = expected w e c.in_ok-taken.taken (world_in c.take_frame.new.self) c.take_frame.new.outbox (subst (λ (x : World HeardSession). IsGiven (first_that_holds (tests heard_rules x e)) (kind_of (datagram_in e)) x e.side (datagram_in e) c.in_ok-taken.taken (world_in c.take_frame.new.self) c.take_frame.new.outbox) live c.in_ok-taken.ensures) in
+    subst (λ (x : World HeardSession). KeepsListed heard_rules x) (sym s.kept_is) (next_lists heard_rules heard_lists w e (subst (λ (x : World HeardSession). KeepsListed heard_rules x) known (c.self.invariant kept)))
+
+pub returns-clause-verdict : goal.returns-clause-verdict
+returns-clause-verdict c =
+    let e = event_of c.args.event.now in
+    let w = c.args.self.now.world in
+    let known : world_in c.self.inside.known ≡ w = ap (λ (a : Auditing). a.world) c.self.view_is in
+    let live : world_in c.expire.new.self ≡ at_moment w e.moment = c.expire.ensures.live ∙ ap (λ (x : World HeardSession). at_moment x e.moment) known in
+    let s = expected w e c.in_ok-taken.taken (world_in c.take_frame.new.self) c.take_frame.new.outbox (subst (λ (x : World HeardSession). IsGiven (first_that_holds (tests heard_rules x e)) (kind_of (datagram_in e)) x e.side (datagram_in e) c.in_ok-taken.taken (world_in c.take_frame.new.self) c.take_frame.new.outbox) live c.in_ok-taken.ensures) in
+    c.want-verdict.ensures.verdict ∙ s.verdict_is
+
+pub returns-clause-next : goal.returns-clause-next
+returns-clause-next c =
+    let e = event_of c.args.event.now in
+    let w = c.args.self.now.world in
+    let known : world_in c.self.inside.known ≡ w = ap (λ (a : Auditing). a.world) c.self.view_is in
+    let live : world_in c.expire.new.self ≡ at_moment w e.moment = c.expire.ensures.live ∙ ap (λ (x : World HeardSession). at_moment x e.moment) known in
+    let s = expected w e c.in_ok-taken.taken (world_in c.take_frame.new.self) c.take_frame.new.outbox (subst (λ (x : World HeardSession). IsGiven (first_that_holds (tests heard_rules x e)) (kind_of (datagram_in e)) x e.side (datagram_in e) c.in_ok-taken.taken (world_in c.take_frame.new.self) c.take_frame.new.outbox) live c.in_ok-taken.ensures) in
+    let expecting : c.want-verdict.new.expected ≡ _ = c.want-verdict.ensures.wanted ∙ ap (λ (x : Wanted). let y : Expecting = record { side = e.side; moment = e.moment; wanted = x; so_far = begun } in y) s.wanted_is in
+    record {
+      settings = ap (λ (a : Auditing). a.settings) c.self.view_is;
+      world = s.next_is;
+      expecting = expecting;
+      sound = subst IsSound (sym (ap (λ (y : Expecting). y.wanted) expecting)) (wanted_sound (world_as session_in w) e c.are_octets.ensures);
+      kept = refl;
+    }

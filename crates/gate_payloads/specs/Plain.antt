@@ -1,0 +1,35 @@
+-- A world without sessions, over which it is said what becomes of a datagram that no session takes.
+use Rattle.std.specs.Prelude.{Bool, true, false, [], None}
+use Rattle.gate_world.specs.Frame.{Kind, Udp, Echo, Error, Dns, Snmp, Stream}
+use Rattle.gate_world.specs.Rules.{SessionRules}
+use Rattle.gate_world.specs.World.{World}
+
+-- a session that knows nothing
+abbrev pub PlainSession : Type 0
+PlainSession = Unit {0}
+
+abbrev pub plain_rules : SessionRules PlainSession
+plain_rules = record {
+  made = λ port pair sequence mss. tt;
+  verdict = λ from_client x segment. None;
+  units = λ from_client x segment. [];
+  listed = λ client x. [];
+  next = λ image from_client x segment. tt;
+  out = λ image from_client x segment. [];
+  ends = λ from_client x segment. false;
+  inner = λ from_client x number. None;
+  pending = λ x. 0;
+}
+
+-- the same clock and bindings, without connections
+abbrev pub like : {S : Type 0} → World S → World PlainSession
+like live = record { clock = live.clock; table = live.table; connections = []; pending = 0 }
+
+-- a kind that asks for no session
+abbrev pub asks_none : Kind → Bool
+asks_none Udp = true
+asks_none Echo = true
+asks_none Dns = true
+asks_none Snmp = true
+asks_none Error = false
+asks_none Stream = false

@@ -1,0 +1,135 @@
+-- Causes and starts.
+use Rattle.std.proofs.Common.{◌≡◌, ℕ, ◌+◌, List, [], ◌∷◌, ◌++◌, IsTrue, Result, Ok, Err, IsErrAnd, Option, Some, None, IfSome, if◌then◌else◌, take, length, fold, refl, sym, ap, subst, ◌∙◌, append_assoc, append-nil, arith, length-append}
+use Rattle.std.proofs.Math.Seq.{take-append-add}
+use Rattle.std.proofs.lemmas.List.{take_all, take-append-le}
+use Rattle.std.proofs.lemmas.List.Sums.{fold-append}
+use Rattle.gate_desk.specs.declared.slot.Slot.{Slot}
+use Rattle.gate_desk.specs.declared.slot.Way.{Way}
+use Rattle.gate_desk.specs.Slots.{same_slot}
+use Rattle.gate_desk.specs.Outside.{Outside, Start, Starts, FailsToStart, Grows, started, last_way}
+use Rattle.gate_desk.proofs.Laws.{grows_on, grows_starts, grows_fails_to_start, none_failed_on, failed_since, failed_to_start_since}
+use Rattle.gate_phases.specs.declared.status.Status.{Status}
+use Rattle.gate_phases.specs.declared.status.Status.TheVariants.{Done, Usage, SettingsRefused, CaptureRefused, ReadFault, WriteFault, OpenFault, OutOfMemory}
+use Rattle.gate_phases.specs.Causes.{Causes, started_all, StartsSome, StartsAll, StartsBefore, StartedBy, Stops, Opens, is_started}
+
+-- what a `?` hands on
+pub handed_on : {T E : Type 0} (Goal : Result T E → Type 0) (r : Result T E) (e : E) → IsErrAnd r (λ y. y ≡ e) → Goal (Err e) → Goal r
+handed_on Goal (Ok x) e h g = absurd h
+handed_on Goal (Err y) e h g = subst (λ z. Goal (Err z)) (sym h) g
+
+pub causes_since : (e : Status) (a b c : Outside) → Grows a b → Causes e b c → Causes e a c
+causes_since (ReadFault s) a b c h k = (k.0, failed_since s a b c h k.1)
+causes_since (WriteFault s) a b c h k = (k.0, failed_since s a b c h k.1)
+causes_since (OpenFault s) a b c h k = (k.0, failed_to_start_since s a b c h k.1)
+causes_since OutOfMemory a b c h k = tt
+causes_since e a b c h k = k
+
+pub no_start : (o : Option (List Start)) → started_all [] o ≡ o
+unfolding started_all
+no_start None = refl
+no_start (Some xs) = ap Some (append-nil xs)
+
+one_start : (s : Slot) (name : List ℕ) (way : Way) (o : Option (List Start)) → started s name way o ≡ started_all ((record { slot = s; name = name; way = way }) ∷ []) o
+unfolding started started_all
+one_start s name way o = refl
+
+pub more_starts : (xs ys : List Start) (o : Option (List Start)) → started_all ys (started_all xs o) ≡ started_all (xs ++ ys) o
+unfolding started_all
+more_starts xs ys None = refl
+more_starts xs ys (Some zs) = ap Some (append_assoc zs xs ys)
+
+pub starts_none : (xs : List Start) (a b : Outside) → b.starts ≡ a.starts → StartsSome xs a b
+starts_none xs a b e = (0, omega arith, e ∙ sym (no_start a.starts))
+
+pub starts_all : (xs : List Start) (a b : Outside) → b.starts ≡ started_all xs a.starts → StartsSome xs a b
+starts_all xs a b e = (length xs, omega arith, e ∙ ap (λ (ys : List Start). started_all ys a.starts) (sym (take_all (length xs) xs (omega arith))))
+
+pub starts_more : (xs ys : List Start) (a b : Outside) → StartsSome xs a b → StartsSome (xs ++ ys) a b
+starts_more xs ys a b h = (h.0, omega (arith, h.1, length-append xs ys), h.2 ∙ ap (λ (zs : List Start). started_all zs a.starts) (sym (take-append-le h.0 xs ys h.1)))
+
+pub starts_on : (xs ys : List Start) (a b c : Outside) → b.starts ≡ started_all xs a.starts → StartsSome ys b c → StartsSome (xs ++ ys) a c
+starts_on xs ys a b c e h =
+    let cut : take (length xs + h.0) (xs ++ ys) ≡ xs ++ take h.0 ys = take-append-add xs ys h.0 in
+    (length xs + h.0, omega (arith, h.1, length-append xs ys), h.2 ∙ ap (started_all (take h.0 ys)) e ∙ more_starts xs (take h.0 ys) a.starts ∙ ap (λ (zs : List Start). started_all zs a.starts) (sym cut))
+
+pub opens_one : (s : Slot) (name : List ℕ) (way : Way) (a b : Outside) → Starts s name way a b → b.start_faults ≡ a.start_faults → StartsAll ((record { slot = s; name = name; way = way }) ∷ []) a b
+opens_one s name way a b h leaves = record {
+  starts = h.starts ∙ one_start s name way a.starts;
+  left = h.left;
+  written = h.written;
+  grows = grows_starts s name way a b h;
+  counts = record { faults = h.faults; start_faults = leaves };
+}
+
+pub open_fails : (s : Slot) (name : List ℕ) (way : Way) (a b : Outside) → IsTrue (is_started s) → FailsToStart s a b → Opens (Err (OpenFault s)) ((record { slot = s; name = name; way = way }) ∷ []) a b
+open_fails s name way a b is h = record {
+  cause = (is, h.cause);
+  started = record { front = []; start = record { slot = s; name = name; way = way }; others = []; split = refl; slot_is = refl; starts = h.starts ∙ sym (no_start a.starts) };
+  written = h.written;
+  grows = grows_fails_to_start s a b h;
+}
+
+-- the starts in front of a slot's, where others come behind
+pub before_more : (s : Slot) (xs ys : List Start) (a b : Outside) → StartsBefore s xs a b → StartsBefore s (xs ++ ys) a b
+before_more s xs ys a b h = record {
+  front = h.front;
+  start = h.start;
+  others = h.others ++ ys;
+  split = ap (λ (zs : List Start). zs ++ ys) h.split ∙ append_assoc h.front (h.start ∷ h.others) ys;
+  slot_is = h.slot_is;
+  starts = h.starts;
+}
+
+-- and where others came before
+pub before_on : (s : Slot) (xs ys : List Start) (a b c : Outside) → b.starts ≡ started_all xs a.starts → StartsBefore s ys b c → StartsBefore s (xs ++ ys) a c
+before_on s xs ys a b c e h = record {
+  front = xs ++ h.front;
+  start = h.start;
+  others = h.others;
+  split = ap (λ (zs : List Start). xs ++ zs) h.split ∙ sym (append_assoc xs h.front (h.start ∷ h.others));
+  slot_is = h.slot_is;
+  starts = h.starts ∙ ap (started_all h.front) e ∙ more_starts xs h.front a.starts;
+}
+
+pub all_on : (xs ys : List Start) (a b c : Outside) → b.starts ≡ started_all xs a.starts → c.starts ≡ started_all ys b.starts → c.starts ≡ started_all (xs ++ ys) a.starts
+all_on xs ys a b c e k = k ∙ ap (started_all ys) e ∙ more_starts xs ys a.starts
+
+started_on : (e : Status) (xs ys : List Start) (a b c : Outside) → b.starts ≡ started_all xs a.starts → StartedBy e ys b c → StartedBy e (xs ++ ys) a c
+started_on (OpenFault s) xs ys a b c e k = before_on s xs ys a b c e k
+started_on status xs ys a b c e k = all_on xs ys a b c e k
+
+pub opens_more : (e : Status) (xs ys : List Start) (a b : Outside) → Opens (Err e) xs a b → Opens (Err e) (xs ++ ys) a b
+opens_more (OpenFault s) xs ys a b h = record { cause = h.cause; started = before_more s xs ys a b h.started; written = h.written; grows = h.grows }
+opens_more e xs ys a b h = h
+
+pub stops_on : (e : Status) (xs ys : List Start) (a b c : Outside) → b.starts ≡ started_all xs a.starts → b.written ≡ a.written → Grows a b → Stops e ys b c → Stops e (xs ++ ys) a c
+stops_on e xs ys a b c starts written grows h = record {
+  cause = causes_since e a b c grows h.cause;
+  started = started_on e xs ys a b c starts h.started;
+  written = h.written ∙ written;
+  grows = grows_on a b c grows h.grows;
+}
+
+pub opens_on : (r : Result (Unit {0}) Status) (xs ys : List Start) (a b c : Outside) → StartsAll xs a b → Opens r ys b c → Opens r (xs ++ ys) a c
+opens_on (Ok u) xs ys a b c h k = record {
+  starts = k.starts ∙ ap (started_all ys) h.starts ∙ more_starts xs ys a.starts;
+  left = k.left ∙ h.left;
+  written = k.written ∙ h.written;
+  grows = grows_on a b c h.grows k.grows;
+  counts = none_failed_on a b c h.counts k.counts;
+}
+opens_on (Err (OpenFault s)) xs ys a b c h k = stops_on (OpenFault s) xs ys a b c h.starts h.written h.grows k
+opens_on (Err e) xs ys a b c h k = k
+
+way-after : (slot : Slot) (way : Way) (news : List Start) (o : Option (List Start))
+    → ((w : Option Way) → fold (λ (x : Option Way) (s : Start). if same_slot s.slot slot then Some s.way else x) w news ≡ Some way)
+    → IfSome (started_all news o) (λ starts. last_way slot starts ≡ Some way)
+unfolding started_all
+way-after slot way news None h = tt
+way-after slot way news (Some olds) h = fold-append _ None olds news ∙ h (last_way slot olds)
+
+-- the last start of a slot is the last one of these
+pub way_of : (slot : Slot) (way : Way) (news : List Start) (a b : Outside) → b.starts ≡ started_all news a.starts
+    → ((w : Option Way) → fold (λ (x : Option Way) (s : Start). if same_slot s.slot slot then Some s.way else x) w news ≡ Some way)
+    → IfSome b.starts (λ starts. last_way slot starts ≡ Some way)
+way_of slot way news a b e h = subst (λ o. IfSome o (λ starts. last_way slot starts ≡ Some way)) (sym e) (way-after slot way news a.starts h)

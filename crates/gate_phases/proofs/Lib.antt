@@ -1,0 +1,4 @@
+pub mod Lines
+pub mod Causes
+pub mod Beginning
+pub mod Untaken

@@ -1,0 +1,5 @@
+pub mod Status
+pub mod Stops
+pub mod Causes
+pub mod Beginning
+pub mod Telling

@@ -1,0 +1,47 @@
+// What a session of either kind puts into the outbox.
+ghost use Rattle.std.specs.Prelude.{◌≡◌, ◌≤◌, [], map, None, IfOk, OnOk, OnErr};
+ghost use Rattle.stream_kept.specs.Outs.{kept_out, kept_ends};
+ghost use Rattle.stream_kept.specs.Sessions.{kept_verdict, kept_next};
+ghost use Rattle.stream_gate.specs.Memory.{KeptCompletes};
+ghost use Rattle.gate_world.specs.Stream.{tcp_of, segment_of, sent_as};
+
+use crate::session::Passing;
+use dialogue::Dialogue;
+use gate_base::OutOfMemory;
+use gate_outbox::{Outbox, Scratch};
+use stream_gate::StreamGate;
+
+/// Passes a segment: puts what its session sends into the outbox, and says whether the session ends. There is too little memory only where
+/// the segment completes a unit that bears, and then nothing has changed.
+pub fn put_segments<C: Dialogue, S: Dialogue, const N: usize>(
+    session: &mut StreamGate<C, S, N>,
+    passing: &Passing<'_>,
+    outbox: &mut Outbox,
+    scratch: &mut Scratch,
+) -> Result<bool, OutOfMemory>
+    requires empty { outbox.old ≡ [] }
+    requires segment { passing.now.segment.now.tcp.now ≡ tcp_of passing.now.segment.now.datagram.now }
+    requires alive { 1 ≤ passing.now.segment.now.datagram.now.lifetime }
+    requires passes { kept_verdict passing.now.from_client session.old.kept (segment_of passing.now.segment.now.datagram.now) ≡ None }
+    ensures next { OnOk result (session.new ≡ record session.old { kept = kept_next (C.meaning session.old.client_dialogue) (S.meaning session.old.server_dialogue) passing.now.from_client session.old.kept (segment_of passing.now.segment.now.datagram.now) }) }
+    ensures out { OnOk result (outbox.new ≡ map (sent_as passing.now.segment.now.datagram.now passing.now.source.0 passing.now.destination.0) (kept_out (C.meaning session.old.client_dialogue) (S.meaning session.old.server_dialogue) passing.now.from_client session.old.kept (segment_of passing.now.segment.now.datagram.now))) }
+    ensures over { IfOk result (λ b. b ≡ kept_ends passing.now.from_client session.old.kept (segment_of passing.now.segment.now.datagram.now)) }
+    ensures memory { OnErr result (KeptCompletes (C.meaning session.old.client_dialogue) (S.meaning session.old.server_dialogue) passing.now.from_client session.old.kept (segment_of passing.now.segment.now.datagram.now)) }
+    ensures same { OnErr result (session.new ≡ session.old) }
+    ensures nothing { OnErr result (outbox.new ≡ []) }
+{
+    let segment = passing.segment;
+    // No datagram is longer than 65,535 octets: the segment's own header leaves room for a piece.
+    let _header = segment.tcp.header();
+    session.step(
+        passing.from_client,
+        segment.tcp,
+        segment.datagram.header(),
+        passing.source,
+        passing.destination,
+        segment.datagram.lifetime() - 1,
+        &mut outbox.octets,
+        &mut outbox.ends,
+        &mut scratch.octets,
+    )
+}

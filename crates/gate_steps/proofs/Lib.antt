@@ -1,0 +1,15 @@
+pub mod ErrorsTaken
+pub mod ListedBound
+pub mod NoUnits
+pub mod NotedConnections
+pub mod SegmentTests
+pub mod SegmentsPassed
+pub mod SessionUsed
+pub mod SteppedSessions
+pub mod Stepping
+pub mod Taking
+pub mod UnitsJudged
+pub mod UnitsPlanned
+pub mod UnitsUsed
+pub mod UsesListed
+pub mod Results

@@ -1,0 +1,28 @@
+// The memory and the rooms to work with.
+use binding_table::Firsts;
+use expiring_table::Seed;
+use gate_base::OutOfMemory;
+use gate_outbox::Scratch;
+use std::alloc::Global;
+use unit_plans::UnitOctets;
+
+/// The memory and the rooms to work with.
+#[derive(Drop)]
+pub struct Rooms {
+    pub alloc: Global,
+    pub scratch: Scratch,
+    pub firsts: Firsts,
+    pub octets: UnitOctets,
+}
+
+impl Rooms {
+    /// The rooms; the seed spreads the addresses that are counted in one. The error is that there is too little memory.
+    pub fn make(alloc: Global, seed: Seed) -> Result<Rooms, OutOfMemory> {
+        Ok(Rooms {
+            alloc,
+            scratch: Scratch::make(alloc)?,
+            firsts: Firsts::make(alloc, seed)?,
+            octets: UnitOctets::make(alloc)?,
+        })
+    }
+}

@@ -1,0 +1,255 @@
+-- A whole audit, by its parts.
+use Rattle.std.proofs.Common.{◌≡◌, ℕ, List, true, Option, Some, None, Result, Ok, Err, IfSome, option_map, take, length, inl, inr, refl, sym, ap, subst, ◌∙◌}
+use Rattle.gate_base.specs.declared.side.Side.{Side}
+use Rattle.gate_base.specs.declared.side.Side.TheVariants.{Left, Right}
+use Rattle.gate_desk.specs.declared.slot.Slot.{Slot}
+use Rattle.gate_desk.specs.declared.slot.Slot.TheVariants.{Settings, LeftIn, RightIn, LeftGiven, RightGiven, ReportGiven, Report}
+use Rattle.gate_desk.specs.declared.slot.PerSlot.{PerSlot}
+use Rattle.gate_desk.specs.declared.slot.Way.TheVariants.{Read}
+use Rattle.gate_desk.specs.Outside.{Outside, Told, Grows, NoneFailed, HasFailed, Writes, WritesPart, took, wrote}
+use Rattle.gate_desk.proofs.Laws.{grows_on, none_failed_on, grows_writes, failed_since, failed_to_start_since}
+use Rattle.gate_settings.specs.declared.settings.Settings.{Settings as GateSettings}
+use Rattle.frag_join.specs.Arrivals.{arrivals_of}
+use Rattle.pcap_merge.specs.Events.{Merged, Done as BothEnded, Fault as EndsFaulty, have_good_heads}
+use Rattle.pcap_merge.specs.Merge.{Merging, all_events, ahead}
+use Rattle.lawful_files.specs.declared.reason.AuditReason.TheVariants.{Capture}
+use Rattle.lawful_files.specs.Files.{Given, HasLink, LawfulFrom, opening}
+use Rattle.lawful_files.specs.Reasons.{IsFirst}
+use Rattle.file_audit.specs.declared.given.GivenFiles.{GivenFiles}
+use Rattle.file_audit.specs.declared.stop.AuditStop.{AuditStop}
+use Rattle.file_audit.specs.declared.stop.AuditStop.TheVariants as stops
+use Rattle.file_audit.specs.Events.{Finds, IsReadInAudit}
+use Rattle.file_audit.specs.Stops.{LeavesCounts}
+use Rattle.file_audit.specs.Given.{IfBoth, given_slot, given_told}
+use Rattle.gate_phases.specs.declared.status.Status.{Status}
+use Rattle.gate_phases.specs.declared.status.Status.TheVariants.{CaptureRefused, ReadFault, WriteFault, OpenFault, OutOfMemory}
+use Rattle.gate_phases.specs.Beginning.{IsAccepted, events_in}
+use Rattle.gate_phases.specs.Causes.{started_all}
+use Rattle.gate_phases.proofs.Causes.{all_on, before_on, starts_all, starts_on, way_of}
+use Rattle.gate_phases.proofs.Beginning.{if_some}
+use Rattle.gateway_audit.specs.declared.verdict.Verdict.{Verdict}
+use Rattle.gateway_audit.specs.declared.verdict.Verdict.TheVariants.{Lawful, Unlawful}
+use Rattle.gateway_audit.specs.Stops.{verdict_of}
+use Rattle.gateway_audit.specs.Names.{Names, first_starts, given_starts, plan}
+use Rattle.gateway_audit.specs.Lines.{answer_line}
+use Rattle.gateway_audit.specs.Causes.{AreLawful, IsRead, IsVerdict}
+use Rattle.gateway_audit.specs.Audits.{IsAudit, HasStartedToRead, HasAnswered}
+use Rattle.gateway_audit.specs.Phases.{Prepared, HaveLinks, Readied, StopsAtGiven, AreToWalk, Walks, Judged, Judges, Says, status_of, given_in}
+use Rattle.gateway_audit.proofs.Phases.{behind_inputs, refused}
+
+-- ## What is told
+
+-- what stays of the given files where the settings and the incoming captures are read, and of the incoming captures where the given files are
+given_kept : (i j k : ℕ) (t : Told) → option_map given_in (took RightIn k (took LeftIn j (took Settings i t))) ≡ option_map given_in t
+unfolding took
+given_kept i j k None = refl
+given_kept i j k (Some all) = refl
+
+heads_kept : (P : List ℕ → List ℕ → Type 0) (i j k : ℕ) (t : Told) → IfSome (took RightIn k (took LeftIn j (took Settings i t))) (λ all. P all.left_given all.right_given) → IfSome t (λ all. P all.left_given all.right_given)
+unfolding took
+heads_kept P i j k None h = tt
+heads_kept P i j k (Some all) h = h
+
+ahead_kept : (m : Merging) (i j k : ℕ) (t : Told) → ahead m (took ReportGiven k (took RightGiven j (took LeftGiven i t))) ≡ ahead m t
+unfolding ahead took
+ahead_kept m i j k None = refl
+ahead_kept m i j k (Some all) = refl
+
+both_told : (t : Told) (o : Option Merged) (p : Option Given) (R : Merged → Given → Type 0) → all_events t ≡ o → p ≡ option_map given_in t → IfBoth o p R → IfSome t (λ all. R (events_in all) (given_in all))
+unfolding all_events
+both_told None o p R e f h = tt
+both_told (Some all) o p R e f h = subst (λ q. IfSome q (R (events_in all))) f (subst (λ q. IfBoth q p R) (sym e) h)
+
+with_some : {A : Type 0} (t : Option A) (P Q S : A → Type 0) → IfSome t P → IfSome t Q → ((x : A) → P x → Q x → S x) → IfSome t S
+with_some None P Q S h k f = tt
+with_some (Some x) P Q S h k f = f x h k
+
+-- ## The parts before the events, joined
+
+started : (found : Option GivenFiles) (settings : GateSettings) (m : Merging) (names : Names) (a b c : Outside) → Prepared settings m names a b → Readied found settings names b c → c.starts ≡ started_all (plan names) a.starts
+started found settings m names a b c h k = all_on (first_starts names) (behind_inputs names) a b c h.starts k.starts
+
+-- a given head could not be read
+unread : (side : Side) (settings : GateSettings) (m : Merging) (names : Names) (a b c : Outside) → Prepared settings m names a b → StopsAtGiven (ReadFault (given_slot side)) names b c → IsAudit (ReadFault (given_slot side)) names a c
+unread Left settings m names a b c h k = record {
+  cause = (tt, failed_since LeftGiven a b c h.grows k.cause.1);
+  starts = inl (all_on (first_starts names) (given_starts names) a b c h.starts k.started);
+  written = k.written ∙ h.written;
+  grows = grows_on a b c h.grows k.grows;
+}
+unread Right settings m names a b c h k = record {
+  cause = (tt, failed_since RightGiven a b c h.grows k.cause.1);
+  starts = inl (all_on (first_starts names) (given_starts names) a b c h.starts k.started);
+  written = k.written ∙ h.written;
+  grows = grows_on a b c h.grows k.grows;
+}
+
+-- the given files could not be begun
+pub not_ready : (e : Status) (settings : GateSettings) (m : Merging) (names : Names) (a b c : Outside) → Prepared settings m names a b → StopsAtGiven e names b c → IsAudit e names a c
+not_ready (ReadFault s) settings m names a b c h k =
+    let is = k.cause.0.1 in
+    subst (λ u. IsAudit (ReadFault u) names a c) (sym is) (unread k.cause.0.0 settings m names a b c h (subst (λ u. StopsAtGiven (ReadFault u) names b c) is k))
+not_ready (OpenFault s) settings m names a b c h k = record {
+  cause = (k.cause.0, failed_to_start_since s a b c h.grows k.cause.1);
+  starts = before_on s (first_starts names) (behind_inputs names) a b c h.starts k.started;
+  written = k.written ∙ h.written;
+  grows = grows_on a b c h.grows k.grows;
+}
+not_ready OutOfMemory settings m names a b c h k = record {
+  cause = tt;
+  starts = starts_on (first_starts names) (behind_inputs names) a b c h.starts k.started;
+  written = k.written ∙ h.written;
+  grows = grows_on a b c h.grows k.grows;
+}
+not_ready e settings m names a b c h k = absurd k.cause
+
+-- both heads are good: the events are to be taken
+pub to_walk : (settings : GateSettings) (m : Merging) (r : GivenFiles) (names : Names) (a b c : Outside) → Prepared settings m names a b → Readied (Some r) settings names b c → AreToWalk settings m r c
+to_walk settings m r names a b c h k =
+    let all = started (Some r) settings m names a b c h k in
+    record {
+      sound = h.sound;
+      forms = h.forms;
+      stop = h.stop;
+      work = h.work;
+      running = k.heads.0;
+      fits = k.heads.1;
+      left_in = way_of LeftIn Read (plan names) a c all (λ w. refl);
+      right_in = way_of RightIn Read (plan names) a c all (λ w. refl);
+      left_given = way_of LeftGiven Read (plan names) a c all (λ w. refl);
+      right_given = way_of RightGiven Read (plan names) a c all (λ w. refl);
+      report_given = way_of ReportGiven Read (plan names) a c all (λ w. refl);
+    }
+
+-- ## What is found
+
+-- the settings are accepted, and both incoming heads are good
+abbrev AreGood : GateSettings → PerSlot (List ℕ) → Type 0
+AreGood settings all = IsAccepted settings all × (have_good_heads all.left_in all.right_in ≡ true)
+
+good : (settings : GateSettings) (m : Merging) (names : Names) (a b : Outside) → Prepared settings m names a b → IfSome a.left (AreGood settings)
+good settings m names a b h = with_some a.left (IsAccepted settings) (λ all. have_good_heads all.left_in all.right_in ≡ true) (AreGood settings) h.accepted h.heads (λ all is heads. (is, heads))
+
+-- a given head isn't good
+pub no_head : (settings : GateSettings) (m : Merging) (names : Names) (a b c : Outside) → Prepared settings m names a b → Readied None settings names b c → Judged (Unlawful 0 Capture) names a c
+no_head settings m names a b c h k =
+    let bad = heads_kept (λ l r. HasLink settings.left.link l × HasLink settings.right.link r → ⊥) h.settings_count h.left_count h.right_count a.left (subst (λ (t : Told). IfSome t (λ all. HaveLinks settings all → ⊥)) h.left k.heads) in
+    record {
+      verdict_is = with_some a.left (AreGood settings) (λ all. HaveLinks settings all → ⊥) (IsVerdict (Unlawful 0 Capture)) (good settings m names a b h) bad (λ all is no. (settings, is.0, is.1, inl (refl, refl, no)));
+      starts = started None settings m names a b c h k;
+      written = k.written ∙ h.written;
+      grows = grows_on a b c h.grows k.grows;
+      counts = none_failed_on a b c h.counts k.counts;
+    }
+
+-- what is found of the events and the given files is so of the octets that were told as the audit began
+of_files : (settings : GateSettings) (m : Merging) (r : GivenFiles) (names : Names) (a b c : Outside) (R : Merged → Given → Type 0) (S : PerSlot (List ℕ) → Type 0) → Prepared settings m names a b → Readied (Some r) settings names b c → IfBoth (ahead m c.left) (given_told r c.left) R
+    → ((all : PerSlot (List ℕ)) → AreGood settings all → HaveLinks settings all → R (events_in all) (given_in all) → S all) → IfSome a.left S
+of_files settings m r names a b c R S h k both f =
+    let links = heads_kept (λ l r. HasLink settings.left.link l × HasLink settings.right.link r) h.settings_count h.left_count h.right_count a.left (subst (λ (t : Told). IfSome t (HaveLinks settings)) h.left k.heads.2) in
+    let events = h.events ∙ sym (ap (ahead m) k.left ∙ ahead_kept m k.left_count k.right_count k.report_count b.left) in
+    let given = k.heads.3 ∙ ap (option_map given_in) h.left ∙ given_kept h.settings_count h.left_count h.right_count a.left in
+    let told = both_told a.left (ahead m c.left) (given_told r c.left) R events given both in
+    with_some a.left (AreGood settings) (λ all. HaveLinks settings all × R (events_in all) (given_in all)) S (good settings m names a b h)
+    (with_some a.left (HaveLinks settings) (λ all. R (events_in all) (given_in all)) (λ all. HaveLinks settings all × R (events_in all) (given_in all)) links told (λ all l q. (l, q))) (λ all is p. f all is p.0 p.1)
+
+-- the events were taken
+judged : (verdict : Verdict) (settings : GateSettings) (m : Merging) (r : GivenFiles) (names : Names) (a b c d : Outside) → Prepared settings m names a b → Readied (Some r) settings names b c → d.starts ≡ c.starts → d.written ≡ c.written → Grows c d → NoneFailed c d
+    → IfSome a.left (IsVerdict verdict) → Judged verdict names a d
+judged verdict settings m r names a b c d h k starts written grows counts is = record {
+  verdict_is = is;
+  starts = starts ∙ started (Some r) settings m names a b c h k;
+  written = written ∙ k.written ∙ h.written;
+  grows = grows_on a b d h.grows (grows_on b c d k.grows grows);
+  counts = none_failed_on a b d h.counts (none_failed_on b c d k.counts counts);
+}
+
+is_read : (s : Slot) → IsReadInAudit s → IsRead s
+is_read LeftIn h = tt
+is_read RightIn h = tt
+is_read LeftGiven h = tt
+is_read RightGiven h = tt
+is_read ReportGiven h = tt
+is_read s h = absurd h
+
+started_to_read : (s : Slot) (names : Names) (a b : Outside) → IsReadInAudit s → b.starts ≡ started_all (plan names) a.starts → HasStartedToRead s names a b
+started_to_read LeftIn names a b h e = inr e
+started_to_read RightIn names a b h e = inr e
+started_to_read LeftGiven names a b h e = inr e
+started_to_read RightGiven names a b h e = inr e
+started_to_read ReportGiven names a b h e = e
+started_to_read s names a b h e = absurd h
+
+pub walks_of : (found : Result ℕ AuditStop) (settings : GateSettings) (m : Merging) (r : GivenFiles) (old new : Outside) → Finds found settings m r old new → LeavesCounts found old new → Walks (verdict_of found) settings m r old new
+walks_of (Ok events) settings m r old new finds leaves = (finds, leaves)
+walks_of (Err (stops.Unlawful number reason)) settings m r old new finds leaves = (finds, leaves)
+walks_of (Err (stops.Capture side fault place)) settings m r old new finds leaves = (finds, leaves)
+walks_of (Err (stops.Desk slot)) settings m r old new finds leaves = finds
+walks_of (Err stops.OutOfMemory) settings m r old new finds leaves = tt
+
+pub walked : (found : Result Verdict Status) (settings : GateSettings) (m : Merging) (r : GivenFiles) (names : Names) (a b c d : Outside) → Prepared settings m names a b → Readied (Some r) settings names b c → Walks found settings m r c d
+    → d.starts ≡ c.starts → d.written ≡ c.written → Grows c d → Judges found names a d
+walked (Ok (Lawful events)) settings m r names a b c d h k f starts written grows =
+    judged (Lawful events) settings m r names a b c d h k starts written grows f.1
+    (of_files settings m r names a b c (λ all g. (all.ending ≡ BothEnded) × (events ≡ length all.events) × LawfulFrom settings (opening settings) (arrivals_of settings.join all.events) all.ending g) (IsVerdict (Lawful events)) h k f.0
+    (λ all is links q. (settings, is.0, q.0, record { left_head = links.0; right_head = links.1; goes = q.2 }, q.1)))
+walked (Ok (Unlawful number reason)) settings m r names a b c d h k f starts written grows =
+    judged (Unlawful number reason) settings m r names a b c d h k starts written grows f.1
+    (of_files settings m r names a b c (λ all g. IsFirst settings (opening settings) (arrivals_of settings.join all.events) all.ending g number reason) (IsVerdict (Unlawful number reason)) h k f.0
+    (λ all is links q. (settings, is.0, is.1, inr (links.0, links.1, q))))
+walked (Err (CaptureRefused side fault place)) settings m r names a b c d h k f starts written grows = record {
+  cause = (
+    of_files settings m r names a b c (λ all g. (all.ending ≡ EndsFaulty side fault place) × LawfulFrom settings (opening settings) (arrivals_of settings.join all.events) all.ending g)
+        (λ all. (s : GateSettings) × IsAccepted s all × ((events_in all).ending ≡ EndsFaulty side fault place) × (have_good_heads all.left_in all.right_in ≡ true → AreLawful s all)) h k f.0
+        (λ all is links q. (settings, is.0, q.0, λ heads. record { left_head = links.0; right_head = links.1; goes = q.1 })),
+    none_failed_on a b d h.counts (none_failed_on b c d k.counts f.1),
+  );
+  starts = refused true a.left names a d h.heads (starts ∙ started (Some r) settings m names a b c h k);
+  written = written ∙ k.written ∙ h.written;
+  grows = grows_on a b d h.grows (grows_on b c d k.grows grows);
+}
+walked (Err (ReadFault s)) settings m r names a b c d h k f starts written grows = record {
+  cause = (is_read s f.0, failed_since s a c d (grows_on a b c h.grows k.grows) f.1);
+  starts = started_to_read s names a d f.0 (starts ∙ started (Some r) settings m names a b c h k);
+  written = written ∙ k.written ∙ h.written;
+  grows = grows_on a b d h.grows (grows_on b c d k.grows grows);
+}
+walked (Err OutOfMemory) settings m r names a b c d h k f starts written grows = record {
+  cause = tt;
+  starts = starts_all (plan names) a d (starts ∙ started (Some r) settings m names a b c h k);
+  written = written ∙ k.written ∙ h.written;
+  grows = grows_on a b d h.grows (grows_on b c d k.grows grows);
+}
+walked (Err e) settings m r names a b c d h k f starts written grows = absurd f
+
+-- ## The answer
+
+answered : (verdict : Verdict) (names : Names) (a b c : Outside) → Judged verdict names a b → Writes Report (answer_line verdict) b c → NoneFailed b c → IsAudit (status_of verdict) names a c
+answered (Lawful events) names a b c h k counts = record {
+  cause = (if_some a.left _ _ h.verdict_is (λ all p. (p.0, p.1, p.2, p.3, refl)), none_failed_on a b c h.counts counts);
+  starts = k.starts ∙ h.starts;
+  written = if_some a.left _ _ h.verdict_is (λ all p. subst (λ (n : ℕ). HasAnswered (Lawful n) a c) p.4 (k.written ∙ ap (wrote Report (answer_line (Lawful events))) h.written));
+  grows = grows_on a b c h.grows (grows_writes Report (answer_line (Lawful events)) b c k);
+}
+answered (Unlawful number reason) names a b c h k counts = record {
+  cause = (h.verdict_is, none_failed_on a b c h.counts counts);
+  starts = k.starts ∙ h.starts;
+  written = k.written ∙ ap (wrote Report (answer_line (Unlawful number reason))) h.written;
+  grows = grows_on a b c h.grows (grows_writes Report (answer_line (Unlawful number reason)) b c k);
+}
+
+unanswered : (verdict : Verdict) (names : Names) (a b c : Outside) → Judged verdict names a b → WritesPart Report (answer_line verdict) b c → HasFailed Report b c → IsAudit (WriteFault Report) names a c
+unanswered verdict names a b c h k failed = record {
+  cause = (refl, failed_since Report a b c h.grows failed);
+  starts = k.2.starts ∙ h.starts;
+  written = (verdict, h.verdict_is, (k.0, k.1, k.2.written ∙ ap (wrote Report (take k.0 (answer_line verdict))) h.written));
+  grows = grows_on a b c h.grows (grows_writes Report (take k.0 (answer_line verdict)) b c k.2);
+}
+
+-- the line of the verdict was written, or a front of it
+pub said : (status : Status) (verdict : Verdict) (names : Names) (a b c : Outside) → Judged verdict names a b → Says status verdict b c → IsAudit status names a c
+said status verdict names a b c h k =
+    elim k [
+      | inl all ↦ subst (λ s. IsAudit s names a c) (sym all.0) (answered verdict names a b c h all.1 all.2)
+      | inr part ↦ subst (λ s. IsAudit s names a c) (sym part.0) (unanswered verdict names a b c h part.1 part.2)
+    ]

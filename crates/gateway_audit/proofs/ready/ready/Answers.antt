@@ -1,0 +1,48 @@
+use Rattle.std.proofs.Common.{refl}
+use Rattle.gate_desk.specs.declared.slot.Slot.TheVariants.{LeftGiven, RightGiven}
+use Rattle.gate_desk.specs.declared.slot.Way.TheVariants.{Read}
+use Rattle.gate_phases.proofs.Causes.{handed_on, way_of}
+use Rattle.gateway_audit.specs.Names.{names_of, given_starts}
+use Rattle.gateway_audit.specs.Phases.{Readies}
+use Rattle.gateway_audit.proofs.Phases.{not_opened, not_begun, no_report, readied}
+use Rattle.gateway_audit.proofs.ready.ready.Goals as goal
+
+pub returns-in_err-open_given : goal.returns-in_err-open_given
+returns-in_err-open_given g c =
+    let names = names_of c.args.names in
+    let old = g.D.Desk.outside c.args.desk.now in
+    let new = g.D.Desk.outside c.open_given.new.desk in
+    let status = c.in_err-open_given.field-0.0 in
+    handed_on (λ r. Readies r c.args.settings.now names old new) c.from_residual.result status c.from_residual.ensures.1 (not_opened status names old new c.in_err-open_given.ensures.answer)
+
+pub begin_given-requires-clause-left : goal.begin_given-requires-clause-left
+begin_given-requires-clause-left g c = way_of LeftGiven Read (given_starts (names_of c.args.names)) (g.D.Desk.outside c.args.desk.now) (g.D.Desk.outside c.open_given.new.desk) c.in_ok-open_given.ensures.answer.starts (λ w. refl)
+
+pub begin_given-requires-clause-right : goal.begin_given-requires-clause-right
+begin_given-requires-clause-right g c = way_of RightGiven Read (given_starts (names_of c.args.names)) (g.D.Desk.outside c.args.desk.now) (g.D.Desk.outside c.open_given.new.desk) c.in_ok-open_given.ensures.answer.starts (λ w. refl)
+
+pub returns-in_err-given : goal.returns-in_err-given
+returns-in_err-given g c =
+    let names = names_of c.args.names in
+    let old = g.D.Desk.outside c.args.desk.now in
+    let mid = g.D.Desk.outside c.open_given.new.desk in
+    let new = g.D.Desk.outside c.begin_given.new.desk in
+    let status = c.in_err-given.field-0.0 in
+    handed_on (λ r. Readies r c.args.settings.now names old new) c.from_residual-in_err-given.result status c.from_residual-in_err-given.ensures.1
+    (not_begun status c.args.settings.now names old mid new c.in_ok-open_given.ensures.answer c.begin_given.ensures.reads c.in_err-given.ensures.answer)
+
+pub returns-in_err-start_slot : goal.returns-in_err-start_slot
+returns-in_err-start_slot g c =
+    let names = names_of c.args.names in
+    let old = g.D.Desk.outside c.args.desk.now in
+    let mid = g.D.Desk.outside c.open_given.new.desk in
+    let begun = g.D.Desk.outside c.begin_given.new.desk in
+    let new = g.D.Desk.outside c.start_slot.new.desk in
+    let status = c.in_err-start_slot.field-0.0 in
+    handed_on (λ r. Readies r c.args.settings.now names old new) c.from_residual-in_err-start_slot.result status c.from_residual-in_err-start_slot.ensures.1
+    (no_report status names old mid begun new c.in_ok-open_given.ensures.answer c.begin_given.ensures.reads c.in_err-start_slot.ensures.answer)
+
+pub returns : goal.returns
+returns g c =
+    readied c.in_ok-given.given c.args.settings.now (names_of c.args.names) (g.D.Desk.outside c.args.desk.now) (g.D.Desk.outside c.open_given.new.desk) (g.D.Desk.outside c.begin_given.new.desk) (g.D.Desk.outside c.start_slot.new.desk)
+    c.in_ok-open_given.ensures.answer c.begin_given.ensures.reads c.in_ok-given.ensures.answer c.in_ok-start_slot.ensures.answer

@@ -1,0 +1,63 @@
+-- What an audit answers, starts and writes.
+use Rattle.std.specs.Prelude.{◌≡◌, ◌⊎◌, ℕ, ◌≤◌, List, Bool, IfSome, if◌then◌else◌, length, take}
+use Rattle.gate_desk.specs.declared.slot.Slot.{Slot}
+use Rattle.gate_desk.specs.declared.slot.Slot.TheVariants.{Settings, LeftIn, RightIn, LeftGiven, RightGiven, Report}
+use Rattle.gate_desk.specs.Outside.{Outside, Start, Grows, wrote}
+use Rattle.pcap_merge.specs.Events.{have_good_heads}
+use Rattle.gate_phases.specs.declared.status.Status.{Status}
+use Rattle.gate_phases.specs.declared.status.Status.TheVariants.{Done, SettingsRefused, CaptureRefused, ReadFault, WriteFault, OpenFault, OutOfMemory, Unlawful}
+use Rattle.gate_phases.specs.Beginning.{events_in, settings_start}
+use Rattle.gate_phases.specs.Causes.{started_all, StartsSome, StartsBefore}
+use Rattle.gateway_audit.specs.declared.verdict.Verdict.{Verdict}
+use Rattle.gateway_audit.specs.declared.verdict.Verdict.TheVariants as verdicts
+use Rattle.gateway_audit.specs.Names.{Names, first_starts, read_starts, plan}
+use Rattle.gateway_audit.specs.Lines.{answer_line}
+use Rattle.gateway_audit.specs.Causes.{IsVerdict, HasCause}
+
+-- what is started where an incoming capture is refused: all, or where a head is faulty no more than both incoming captures
+abbrev pub refused_starts : Bool → Names → List Start
+refused_starts good names = if good then plan names else first_starts names
+
+-- these are started, or all
+abbrev pub HasStartedOrAll : List Start → Names → Outside → Outside → Type 0
+HasStartedOrAll starts names old new = (new.starts ≡ started_all starts old.starts) ⊎ (new.starts ≡ started_all (plan names) old.starts)
+
+-- what is started where reading a slot failed: a head is read before what stands behind it is started, and the given report is read behind all starts
+abbrev pub HasStartedToRead : Slot → Names → Outside → Outside → Type 0
+HasStartedToRead Settings names old new = new.starts ≡ started_all (settings_start names.settings) old.starts
+HasStartedToRead LeftIn names old new = HasStartedOrAll (first_starts names) names old new
+HasStartedToRead RightIn names old new = HasStartedOrAll (first_starts names) names old new
+HasStartedToRead LeftGiven names old new = HasStartedOrAll (read_starts names) names old new
+HasStartedToRead RightGiven names old new = HasStartedOrAll (read_starts names) names old new
+HasStartedToRead slot names old new = new.starts ≡ started_all (plan names) old.starts
+
+-- what an audit has started, by its status
+abbrev pub HasStarted : Status → Names → Outside → Outside → Type 0
+HasStarted (SettingsRefused fault) names old new = new.starts ≡ started_all (settings_start names.settings) old.starts
+HasStarted (CaptureRefused side fault place) names old new = IfSome old.left (λ all. new.starts ≡ started_all (refused_starts (have_good_heads all.left_in all.right_in) names) old.starts)
+HasStarted (ReadFault slot) names old new = HasStartedToRead slot names old new
+HasStarted (OpenFault slot) names old new = StartsBefore slot (plan names) old new
+HasStarted OutOfMemory names old new = StartsSome (plan names) old new
+HasStarted status names old new = new.starts ≡ started_all (plan names) old.starts
+
+-- this line stands written on the report
+abbrev pub HasAnswered : Verdict → Outside → Outside → Type 0
+HasAnswered verdict old new = new.written ≡ wrote Report (answer_line verdict) old.written
+
+-- or a front of it
+abbrev pub HasAnsweredPartly : Verdict → Outside → Outside → Type 0
+HasAnsweredPartly verdict old new = (n : ℕ) × (n ≤ length (answer_line verdict)) × (new.written ≡ wrote Report (take n (answer_line verdict)) old.written)
+
+-- what stands written after an audit, by its status: its answer, or a front of that, or nothing
+abbrev pub HasWritten : Status → Outside → Outside → Type 0
+HasWritten Done old new = IfSome old.left (λ all. HasAnswered (verdicts.Lawful (length (events_in all).events)) old new)
+HasWritten (Unlawful number reason) old new = HasAnswered (verdicts.Unlawful number reason) old new
+HasWritten (WriteFault slot) old new = (verdict : Verdict) × IfSome old.left (IsVerdict verdict) × HasAnsweredPartly verdict old new
+HasWritten status old new = new.written ≡ old.written
+
+-- what an audit answers: its cause, what it started, and what it wrote
+pub record IsAudit (status : Status) (names : Names) (old new : Outside) : Type 0 where
+  pub cause : HasCause status old new
+  pub starts : HasStarted status names old new
+  pub written : HasWritten status old new
+  pub grows : Grows old new

@@ -1,0 +1,6 @@
+pub mod Names
+pub mod Lines
+pub mod Stops
+pub mod Causes
+pub mod Audits
+pub mod Phases

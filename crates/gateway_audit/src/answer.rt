@@ -1,0 +1,63 @@
+// The line in which an audit answers.
+ghost use Rattle.std.specs.Prelude.{◌≡◌, ◌≤◌, length};
+ghost use Rattle.gate_desk.specs.declared.slot.Slot.TheVariants.{Report};
+ghost use Rattle.gate_desk.specs.Outside.{CanWrite};
+ghost use Rattle.gateway_audit.specs.Lines.{answer_line, reason_name};
+ghost use Rattle.gateway_audit.specs.Phases.{Says};
+
+use crate::verdict::Verdict;
+use arrayvec::ArrayString;
+use gate_desk::{Desk, Failed, Slot, write_whole};
+use gate_phases::Status;
+use itoa::Buffer;
+use lawful_files::AuditReason;
+
+/// The most octets of the line.
+const LINE: usize = 64;
+
+#[tactic(auto, unfolding(crate::specs::Lines::reason_name))]
+fn reason_name(reason: AuditReason) -> &'static str
+    ensures name { result.now ≡ reason_name reason }
+    ensures short { length result.now ≤ 7 }
+{
+    match reason {
+        AuditReason::Capture => "Capture",
+        AuditReason::Line => "Line",
+        AuditReason::Missing => "Missing",
+        AuditReason::Frame => "Frame",
+        AuditReason::Left => "Left",
+    }
+}
+
+/// The line of a verdict.
+fn line_of(verdict: Verdict) -> ArrayString<LINE>
+    ensures { result.bytes ≡ answer_line verdict }
+{
+    let mut line = ArrayString::new();
+    let mut digits = Buffer::new();
+    match verdict {
+        Verdict::Lawful(events) => {
+            line.push_str("lawful events=");
+            line.push_str(digits.format(events));
+        }
+        Verdict::Unlawful(number, reason) => {
+            line.push_str("unlawful event=");
+            line.push_str(digits.format(number));
+            line.push_str(" ");
+            line.push_str(reason_name(reason));
+        }
+    }
+    line.push_str("\n");
+    line
+}
+
+/// Writes the line of a verdict on the report: the verdict's status, or that the write failed.
+pub fn say<D: Desk>(desk: &mut D, verdict: Verdict) -> Status
+    requires { CanWrite (D.outside desk.old) Report }
+    ensures { Says result verdict (D.outside desk.old) (D.outside desk.new) }
+{
+    match write_whole(desk, Slot::Report, line_of(verdict).as_str().as_bytes()) {
+        Ok(()) => verdict.status(),
+        Err(Failed) => Status::WriteFault(Slot::Report),
+    }
+}

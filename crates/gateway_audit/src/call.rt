@@ -1,0 +1,21 @@
+// The audit.
+ghost use Rattle.gateway_audit.specs.Names.{names_of};
+ghost use Rattle.gateway_audit.specs.Audits.{IsAudit};
+
+use crate::answer::say;
+use crate::judge::judge;
+use crate::names::AuditNames;
+use gate_desk::Desk;
+use gate_phases::Status;
+use std::alloc::Global;
+
+/// Audits given files: the report says for how many events they are lawful for the incoming captures, or which event is the
+/// first for which they aren't, and why.
+pub fn audit<D: Desk>(alloc: Global, desk: &mut D, names: AuditNames<'_>) -> Status
+    ensures { IsAudit result (names_of names.entry) (D.outside desk.old) (D.outside desk.new) }
+{
+    match judge(alloc, desk, names) {
+        Ok(verdict) => say(desk, verdict),
+        Err(status) => status,
+    }
+}

@@ -1,0 +1,16 @@
+//! The audit as a command: given captures and their report are lawful for two incoming captures, or this is the first reason why not.
+#![tactic(auto)]
+
+mod answer;
+mod call;
+mod judge;
+mod names;
+mod open;
+mod prepare;
+mod ready;
+mod stops;
+mod verdict;
+mod walk;
+
+pub use call::audit;
+pub use names::AuditNames;

@@ -1,0 +1,27 @@
+// What an audit does before it opens the given files: the settings, and the heads of both incoming captures.
+ghost use Rattle.std.specs.Prelude.{MatchResult};
+ghost use Rattle.gateway_audit.specs.Audits.{IsAudit};
+ghost use Rattle.gateway_audit.specs.Names.{names_of};
+ghost use Rattle.gateway_audit.specs.Phases.{Prepared};
+
+use crate::names::AuditNames;
+use gate_desk::Desk;
+use gate_phases::{Status, begin, settle};
+use gate_settings::Settings;
+use pcap_merge::Merge;
+use std::alloc::Global;
+
+/// Reads the settings and the heads of both incoming captures.
+pub fn prepare<D: Desk>(
+    alloc: Global,
+    desk: &mut D,
+    names: AuditNames<'_>,
+) -> Result<(Settings, Merge), Status>
+    ensures { MatchResult result
+        (λ p. Prepared p.0 p.1 (names_of names.entry) (D.outside desk.old) (D.outside desk.new))
+        (λ status. IsAudit status (names_of names.entry) (D.outside desk.old) (D.outside desk.new)) }
+{
+    let settings = settle(alloc, desk, names.settings)?;
+    let merge = begin(alloc, desk, names.left_in, names.right_in)?;
+    Ok((settings, merge))
+}

@@ -1,0 +1,4 @@
+pub mod CompletedUnits
+pub mod LearnedSessions
+pub mod HeardLaws
+pub mod SeenSessions

@@ -1,0 +1,221 @@
+// A session of one of two kinds, over its whole lists.
+ghost use Rattle.std.specs.Prelude.{◌≡◌, ◌≤◌, ◌<◌, [], Option, length, slice_get, Some, None, IfOk, OnOk};
+ghost use Rattle.gate_base.specs.declared.address.Addr.{Addr};
+ghost use Rattle.stream_model.specs.Session.{own, arrival, segment_in};
+ghost use Rattle.stream_model.specs.Verdict.{is_data, session_verdict};
+ghost use Rattle.audit_streams.specs.Hosts.{unheard};
+ghost use Rattle.audit_streams.specs.Sending.{handed};
+ghost use Rattle.gate_world.specs.Lists.{addresses_in};
+ghost use Rattle.gate_world.specs.Sessions.{completed};
+ghost use Rattle.unit_plans.specs.Plans.{whole_units, beside};
+ghost use Rattle.unit_plans.specs.Steps.{entered_all};
+ghost use Rattle.heard_sessions.specs.Heard.{heard_rules, heard_sent};
+ghost use Rattle.heard_sessions.specs.Sessions.{streams_of};
+
+use crate::kinds::{Dialog, DnsSession, FtpSession};
+use crate::learned::step_units;
+use audit_streams::{Sent, WholeStreams};
+use dns_stream::DnsUnits;
+use ftp_lines::{ClientLines, ServerLines};
+use gate_base::{DNS_PORT, OutOfMemory, Pair, Refusal};
+use std::alloc::Global;
+use std::marker::Model;
+use tcp_segments::{TcpView, flags_of};
+use unit_plans::{Entry, UnitOctets};
+
+/// A session of one of two kinds: of FTP, which has no lists, or of DNS. It is seen as what was heard of its hosts, and answers as the
+/// rules of such sessions say.
+#[derive(Drop)]
+pub struct AuditedSession {
+    alloc: Global,
+    pair: Pair,
+    dialog: Dialog,
+}
+
+impl Model for AuditedSession {
+    ghost use Rattle.heard_sessions.specs.Heard.{HeardSession, IsSession};
+    ghost use Rattle.heard_sessions.specs.Sessions.{session_by, IsOfPair};
+
+    ghost Value = { HeardSession };
+
+    ghost view = { λ session. session_by session.pair session.dialog };
+
+    ghost invariant = { λ session. IsOfPair session.pair session.dialog × IsSession (session_by session.pair session.dialog) };
+}
+
+fn ftp_session(alloc: Global, pair: Pair, initial: u32, mss: u16) -> FtpSession
+    ensures { result ≡ record { client_dialogue = record { pair = pair }; server_dialogue = record { pair = pair }; client = unheard (Some initial) mss; server = unheard None 536 } }
+{
+    WholeStreams::make(
+        alloc,
+        ClientLines { pair },
+        ServerLines { pair },
+        initial,
+        mss,
+    )
+}
+
+fn dns_session(alloc: Global, initial: u32, mss: u16) -> Result<DnsSession, OutOfMemory>
+    ensures { IfOk result (λ session. session ≡ record { client_dialogue = []; server_dialogue = []; client = unheard (Some initial) mss; server = unheard None 536 }) }
+{
+    let client = DnsUnits::make(alloc)?;
+    let server = DnsUnits::make(alloc)?;
+    Ok(WholeStreams::make(alloc, client, server, initial, mss))
+}
+
+impl AuditedSession {
+    /// The session that a client's first SYN to a port of the server makes, by the SYN's number and maximum segment size: one of DNS on
+    /// the port of DNS, and else one of FTP.
+    pub fn make(
+        alloc: Global,
+        port: u16,
+        pair: Pair,
+        initial: u32,
+        mss: u16,
+    ) -> Result<AuditedSession, OutOfMemory>
+        ensures { IfOk result (λ session. session ≡ heard_rules.made port pair initial mss) }
+    {
+        if port == DNS_PORT {
+            return Ok(AuditedSession {
+                alloc,
+                pair,
+                dialog: Dialog::Units(dns_session(alloc, initial, mss)?),
+            });
+        }
+        Ok(AuditedSession {
+            alloc,
+            pair,
+            dialog: Dialog::Lines(ftp_session(alloc, pair, initial, mss)),
+        })
+    }
+
+    /// Why a segment of the client, or else of the server, is refused; None where it passes.
+    pub fn verdict(&self, from_client: bool, segment: &TcpView<'_>) -> Option<Refusal>
+        ensures { result ≡ heard_rules.verdict from_client self.now (segment_in segment.now) }
+    {
+        match &self.dialog {
+            Dialog::Lines(session) => session.verdict(from_client, segment),
+            Dialog::Units(session) => session.verdict(from_client, segment),
+        }
+    }
+
+    /// What the sequence number of a datagram that an ICMP error brings back was at the client, or else the server, that sent it.
+    pub fn inner(&self, from_client: bool, sequence: u32) -> Option<u32>
+        ensures { result ≡ heard_rules.inner from_client self.now sequence }
+    {
+        match &self.dialog {
+            Dialog::Lines(session) => session.inner(from_client, sequence),
+            Dialog::Units(session) => session.inner(from_client, sequence),
+        }
+    }
+
+    /// How many changed lines or units wait in it to be acknowledged.
+    pub fn pending(&self) -> u64
+        ensures { result ≡ heard_rules.pending self.now }
+    {
+        match &self.dialog {
+            Dialog::Lines(session) => session.pending() as u64,
+            Dialog::Units(session) => session.pending() as u64,
+        }
+    }
+
+    /// How many entries the list of the client, or else of the server, has, at most 256: none in a session of FTP.
+    pub fn listed(&self, client: bool) -> usize
+        ensures count { result ≡ length (heard_rules.listed client self.now) }
+        ensures few { result ≤ 256 }
+    {
+        match &self.dialog {
+            Dialog::Lines(_) => 0,
+            Dialog::Units(session) => session.listed(client),
+        }
+    }
+
+    /// The address and its image at a place of that list; None for an address that is kept. The place must lie below `listed`.
+    pub fn entry(&self, client: bool, place: usize) -> Entry
+        requires { place < length (heard_rules.listed client self.now) }
+        ensures { slice_get (heard_rules.listed client self.now) place ≡ Some result }
+    {
+        match &self.dialog {
+            Dialog::Lines(_) => unreachable!(),
+            Dialog::Units(session) => session.entry(client, place),
+        }
+    }
+
+    /// A copy of that list.
+    pub fn entries(&self, alloc: Global, client: bool) -> Result<Vec<Entry>, OutOfMemory>
+        ensures { IfOk result (λ entries. entries.items ≡ heard_rules.listed client self.now) }
+    {
+        let count = self.listed(client);
+        let mut entries = Vec::with_capacity(alloc, count)?;
+        for place in 0..count {
+            entries.push(self.entry(client, place))?;
+        }
+        Ok(entries)
+    }
+
+    /// Puts the octets whose whole units a segment of the client, or else of the server, completes: a held rest and what goes on behind
+    /// it, in a session of DNS. The segment must pass.
+    pub fn put_octets(&self, from_client: bool, segment: &TcpView<'_>, octets: &mut UnitOctets)
+        requires passes { heard_rules.verdict from_client self.now (segment_in segment.now) ≡ None }
+        ensures { whole_units octets.new ≡ heard_rules.units from_client self.now (segment_in segment.now) }
+    {
+        octets.clear();
+        if let Dialog::Units(session) = &self.dialog {
+            put_units(session, from_client, segment, octets);
+        }
+    }
+
+    /// Passes a segment: enters what its units name into the list of its sender, and tells what is sent for it, or OutOfMemory. The
+    /// segment must pass, the entries must be the addresses in its units beside what they are called, and the list must get no longer
+    /// than 256 entries. After OutOfMemory the session is forgotten: it must not be used again.
+    pub fn step(
+        &mut self,
+        from_client: bool,
+        segment: &TcpView<'_>,
+        entries: &[Entry],
+    ) -> Result<Sent, OutOfMemory>
+        requires few { length (entered_all (heard_rules.listed from_client self.old) entries.now) ≤ 256 }
+        requires named { (image : Addr → Option Addr) × (entries.now ≡ beside image (addresses_in (heard_rules.units from_client self.old (segment_in segment.now)))) }
+        requires passes { heard_rules.verdict from_client self.old (segment_in segment.now) ≡ None }
+        ensures next { (image : Addr → Option Addr) → entries.now ≡ beside image (addresses_in (heard_rules.units from_client self.old (segment_in segment.now))) → OnOk result (self.new ≡ heard_rules.next image from_client self.old (segment_in segment.now)) }
+        ensures sent { (image : Addr → Option Addr) → entries.now ≡ beside image (addresses_in (heard_rules.units from_client self.old (segment_in segment.now))) → IfOk result (λ s. s ≡ handed (heard_sent image from_client self.old (segment_in segment.now)) (heard_rules.ends from_client self.old (segment_in segment.now))) }
+    {
+        match &mut self.dialog {
+            Dialog::Lines(session) => return session.step(from_client, segment),
+            Dialog::Units(session) => {
+                match step_units(session, from_client, segment, entries) {
+                    Ok(sent) => return Ok(sent),
+                    Err(error) => {
+                        self.dialog = Dialog::Lines(ftp_session(self.alloc, self.pair, 0, 536));
+                        return Err(error);
+                    }
+                }
+            }
+        }
+    }
+}
+
+/// Puts the octets whose whole units a segment that passes completes.
+fn put_units(
+    session: &DnsSession,
+    from_client: bool,
+    segment: &TcpView<'_>,
+    octets: &mut UnitOctets,
+)
+    requires empty { octets.old ≡ [] }
+    requires passes { session_verdict from_client (streams_of session.now) (segment_in segment.now) ≡ None }
+    ensures { whole_units octets.new ≡ completed (own from_client (streams_of session.now)) (segment_in segment.now) }
+{
+    if is_data(segment) {
+        let repeated = session.repeated(from_client, segment);
+        octets.join(session.rest(from_client), &segment.payload()[repeated..]);
+    }
+}
+
+/// Whether it has neither SYN nor RST.
+fn is_data(segment: &TcpView<'_>) -> bool
+    ensures { result ≡ is_data (arrival (segment_in segment.now)) }
+{
+    let flags = flags_of(segment.flags());
+    !flags.syn && !flags.reset
+}
