@@ -263,6 +263,7 @@ impl Table {
     }
 
     /// Drops the bindings that don't live, and makes their aliases free, without a walk over the others.
+    #[inline(always)]
     pub fn expire(&mut self, now: Moment)
         ensures { self.new ≡ tables.expired self.old now }
     {
@@ -312,6 +313,7 @@ fn give_back_alias(left: &mut Aliases, right: &mut Aliases, binding: &Binding)
 }
 
 // Takes out the bindings that don't live, and makes their aliases free.
+#[inline(always)]
 fn drop_ended(bindings: &mut Entries, left: &mut Aliases, right: &mut Aliases, now: Moment)
     requires { AreKept left.old right.old bindings.old.rows }
     ensures rows { bindings.new ≡ record bindings.old { rows = map filed (filter (tables.is_live now) (entries_in bindings.old.rows)) } }

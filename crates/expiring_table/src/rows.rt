@@ -104,6 +104,7 @@ impl<T: Copy> Rows<T> {
     }
 
     /// Takes out a row whose end has come at a moment, if there is one; which of them is left open.
+    #[inline(always)]
     pub fn next_ended(&mut self, now: u64) -> Option<Row<T>>
         ensures some { IfSome result (IsTakenOut now self.old self.new) }
         ensures none { IfNone result (self.new ≡ self.old) }

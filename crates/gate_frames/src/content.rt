@@ -42,6 +42,7 @@ fn transport_refusal(fault: TransportFault) -> Refusal
 }
 
 /// The datagram of a frame, or why its header is refused.
+#[inline(always)]
 pub fn datagram_in<'a>(event: &Event<'a>, octets: &'a [u8]) -> Result<IpView<'a>, Refusal>
     requires { octets.now ≡ octets_in (event_of event.now).link (event_of event.now).octets }
     ensures judged { result ≡ judged (first_that_holds (frame.header_tests (event_of event.now))) (frame.datagram_in (event_of event.now)) }
@@ -75,6 +76,7 @@ fn is_other_protocol(datagram: &IpView<'_>) -> bool
     }
 }
 
+#[inline(always)]
 fn has_other_address(datagram: &IpView<'_>) -> bool
     ensures { result ≡ frame.has_other_address datagram.now }
 {
@@ -82,6 +84,7 @@ fn has_other_address(datagram: &IpView<'_>) -> bool
 }
 
 /// Why a datagram with a good header is refused, whatever it carries.
+#[inline(always)]
 pub fn datagram_refusal(datagram: &IpView<'_>) -> Option<Refusal>
     ensures refusal { result ≡ first_that_holds (frame.datagram_tests datagram.now) }
     ensures alive { result ≡ None → 2 ≤ datagram.now.lifetime }
@@ -98,6 +101,7 @@ pub fn datagram_refusal(datagram: &IpView<'_>) -> Option<Refusal>
 }
 
 /// What a datagram carries, or why it is refused for it.
+#[inline(always)]
 pub fn content_of<'a>(datagram: &IpView<'a>) -> Result<Content<'a>, Refusal>
     ensures { Carries datagram.now result }
 {

@@ -16,6 +16,7 @@ pub struct Judged<'a> {
 }
 
 /// The datagram of a frame, or the first reason to refuse it that asks for nothing that is known.
+#[inline(always)]
 pub fn judge<'a>(event: &Event<'a>) -> Result<Judged<'a>, Refusal>
     ensures { JudgedBy (event_of event.now) result }
 {

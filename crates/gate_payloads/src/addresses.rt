@@ -23,6 +23,7 @@ pub struct Way {
 
 impl Way {
     /// The way between two addresses by a table.
+    #[inline(always)]
     pub fn of(table: &Table, side: Side, moment: Moment, source: Addr, destination: Addr) -> Way
         ensures { result ≡ record { side = side; moment = moment; source = source; destination = destination; of_source = cross table.now side source; of_destination = cross table.now side destination } }
     {
@@ -114,6 +115,7 @@ fn is_reachable(table: &Table, way: &Way) -> bool
 }
 
 /// Why a datagram is refused for its addresses.
+#[inline(always)]
 pub fn address_refusal(table: &Table, way: &Way) -> Option<Refusal>
     requires { IsWay table.now way.now }
     ensures { result ≡ first_that_holds (way_tests table.now way.now) }

@@ -15,6 +15,7 @@ use gate_payloads::{UDP_HOLD, UdpDatagram, Way, take_dns, take_plain, take_snmp}
 use udp_icmp::UdpView;
 
 /// Takes a UDP datagram, by its ports. There is too little memory only at one of DNS, and then nothing has changed.
+#[inline(always)]
 pub fn take_udp(
     rooms: &mut Rooms,
     table: &mut Table,

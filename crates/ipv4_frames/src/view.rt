@@ -24,6 +24,7 @@ impl<'a> Model for IpView<'a> {
 impl<'a> IpView<'a> {
     /// The datagram at the front of these octets, or the first fault.
     #[tactic(auto, unfolding(crate::specs::Ipv4::read_datagram))]
+    #[inline(always)]
     pub fn of(octets: &'a [u8]) -> Result<IpView<'a>, IpFault>
         ensures { result ≡ read_datagram octets.now }
     {

@@ -88,6 +88,7 @@ impl CaptureReader {
     }
 
     /// Reads the next record: true where there is one, false at the end of the capture. After a stop each call answers the same stop, and reads nothing.
+    #[inline(always)]
     pub fn advance<D: Desk>(&mut self, desk: &mut D) -> Result<bool, ReadStop>
         requires { CanRead (D.outside desk.old) self.old.slot }
         ensures first { self.old.stop ≡ None → Advances result self.old self.new (D.outside desk.old) (D.outside desk.new) }

@@ -58,6 +58,7 @@ fn judge(form: Form, place: u64, head: &[u8]) -> Result<RecordHead, CaptureFault
 }
 
 /// Reads the head of the next record, if there is one.
+#[inline(always)]
 fn read_head<D: Desk>(
     desk: &mut D,
     slot: Slot,
@@ -87,6 +88,7 @@ fn read_head<D: Desk>(
 }
 
 /// Reads the next record, if there is one, its octets into the front of the buffer.
+#[inline(always)]
 pub fn read_record<D: Desk>(
     desk: &mut D,
     slot: Slot,

@@ -61,6 +61,7 @@ impl Merge {
     }
 
     /// Comes to the next event: true where there is one, false where both captures are at their ends. After a stop each call answers the same stop, and reads nothing.
+    #[inline(always)]
     pub fn advance<D: Desk>(&mut self, desk: &mut D) -> Result<bool, MergeStop>
         requires left { CanRead (D.outside desk.old) Slot.LeftIn }
         requires right { CanRead (D.outside desk.old) Slot.RightIn }

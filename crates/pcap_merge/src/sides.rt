@@ -35,6 +35,7 @@ fn read_side<D: Desk>(
 }
 
 /// Reads the sides that are to be read before the next event, left first.
+#[inline(always)]
 pub fn read_sides<D: Desk>(
     desk: &mut D,
     last: Last,

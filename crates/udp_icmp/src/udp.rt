@@ -24,6 +24,7 @@ impl<'a> Model for UdpView<'a> {
 impl<'a> UdpView<'a> {
     /// The UDP datagram that a payload between these addresses is, or the first fault.
     #[tactic(auto, unfolding(crate::specs::Udp::read_udp))]
+    #[inline(always)]
     pub fn of(
         payload: &'a [u8],
         source: Addr,
