@@ -1,5 +1,6 @@
 -- Segments for which memory runs out, and what goes out of those that a session takes.
 use Rattle.std.proofs.Common.{◌≡◌, ℕ, true, List, [], Option, Some, None, Result, Ok, Err, refl, sym, ap, subst, ◌≤◌, length, inl, inr}
+use Rattle.gate_base.specs.Tests.{unless_refused}
 use Rattle.std.specs.Prelude.{IsErr}
 use Rattle.gate_base.specs.declared.event.OutOfMemory.{OutOfMemory}
 use Rattle.gate_base.specs.declared.refusal.Refusal.{Refusal}
@@ -8,7 +9,7 @@ use Rattle.ipv4_frames.specs.Ipv4.{Datagram}
 use Rattle.tcp_tracker.specs.Connections.{after}
 use Rattle.gate_world.specs.Frame.{Stream}
 use Rattle.gate_world.specs.Stream.{segment_of, found_in, session_in, begins, session_refusal}
-use Rattle.gate_world.specs.Units.{unless_refused, units_in}
+use Rattle.gate_world.specs.Units.{units_in}
 use Rattle.gate_world.specs.World.{Tracked, World, is_client}
 use Rattle.kept_world.specs.Kept.{KeptSession, kept_rules}
 use Rattle.gate_core.specs.Done.{IsLost}
@@ -24,7 +25,7 @@ lost_by : (live : World KeptSession) (side : Side) (d : Datagram) (t : Tracked K
 lost_by live side d t e verdict p None l h = inl (sym p, inr (record { tracked = t; found = e; completes = h }))
 lost_by live side d t e verdict p (Some lists) l h =
     let units = kept_rules.units (is_client side t) t.session (segment_of d) in
-    let same : units_in kept_rules side d (Some t) ≡ units = ap (λ (v : Option Refusal). unless_refused v units) verdict in
+    let same : units_in kept_rules side d (Some t) ≡ units = ap (λ (v : Option Refusal). unless_refused v units []) verdict in
     inr (record { tracked = t; found = e; completes = subst (λ (us : List (List ℕ)). 1 ≤ length us) (sym same) h })
 
 pub lost_in_session : (live : World KeptSession) (side : Side) (d : Datagram) (t : Tracked KeptSession) (after : World KeptSession) (sent : List (List ℕ)) → session_in (found_in live side d) ≡ Some t → session_refusal kept_rules side d (Some t) ≡ None → MayWantIn (is_client side t) t.session (segment_of d) → None ≡ stream_refusal kept_rules live side d → after ≡ live → sent ≡ [] → IsLost None Stream live side d after sent

@@ -23,7 +23,7 @@ use Rattle.udp_icmp.specs.Udp.{has_bad_length, read_udp}
 use Rattle.twice_translate.specs.Content.{of_udp, read_content}
 use Rattle.twice_translate.specs.Renamed.{CanGoOn, datagram_of, renamed, rebuilt}
 use Rattle.twice_translate.proofs.Accepted.{ok_as, reads_udp, udp_long}
-use Rattle.gate_base.specs.Tests.{first_that_holds}
+use Rattle.gate_base.specs.Tests.{first_that_holds, unless_refused}
 use Rattle.gate_base.specs.declared.refusal.Refusal.{Refusal}
 use Rattle.gate_base.specs.declared.refusal.Refusal.TheVariants.{BadDns, DnsUnbound, PoolEmpty}
 use Rattle.gate_world.specs.Frame.{Dns, Udp}
@@ -34,7 +34,7 @@ use Rattle.gate_world.specs.World.{World, source_of, destination_of, called}
 use Rattle.gate_world.specs.Rules.{SessionRules}
 use Rattle.gate_payloads.specs.Named.{named_uses}
 use Rattle.gate_payloads.specs.Taken.{IsTaken, IsWayOf}
-use Rattle.gate_payloads.specs.Ways.{image_by, is_empty, table_by, out_by}
+use Rattle.gate_payloads.specs.Ways.{image_by, is_empty}
 use Rattle.gate_payloads.specs.declared.addresses.Way.{Way}
 use Rattle.gate_payloads.proofs.Passes.{of_crossing, used_called, still_after, called_is, host_bound, free_is}
 use Rattle.gate_payloads.proofs.HeadersOnly.{of_source_is, of_destination_is}
@@ -286,9 +286,9 @@ nothing_named {S = S} rules live side d r table sent some none same t =
     let S : List ℕ → List (List ℕ) = λ payload. rebuilt d (called (after []) side one).0 (called (after []) side two).0 payload ∷ [] in
     record {
       answer = t.answer ∙ ap (A false) (sym none) ∙ ap (λ (bad : Bool). A bad (named_in (message_in d))) (sym some);
-      bound = t.bound ∙ ap (λ (named : List Addr). table_by r (after named) live.table) (sym none);
+      bound = t.bound ∙ ap (λ (named : List Addr). unless_refused r (after named) live.table) (sym none);
       gone = t.gone
-          ∙ ap (λ (x : List ℕ). out_by r (x ∷ [])) (same (called (after []) side one).0 (called (after []) side two).0)
-          ∙ ap (λ (xs : List ℕ). out_by r (S xs)) (none_replied (carried d) (message_in d))
-          ∙ ap (λ (named : List Addr). out_by r (rebuilt d (called (after named) side one).0 (called (after named) side two).0 (reply_by (map (image_after live.table (after named) side) named) (carried d) (message_in d)) ∷ [])) (sym none);
+          ∙ ap (λ (x : List ℕ). unless_refused r (x ∷ []) []) (same (called (after []) side one).0 (called (after []) side two).0)
+          ∙ ap (λ (xs : List ℕ). unless_refused r (S xs) []) (none_replied (carried d) (message_in d))
+          ∙ ap (λ (named : List Addr). unless_refused r (rebuilt d (called (after named) side one).0 (called (after named) side two).0 (reply_by (map (image_after live.table (after named) side) named) (carried d) (message_in d)) ∷ []) []) (sym none);
     }

@@ -8,7 +8,7 @@ use Rattle.binding_table.specs.Bindings.{Bindings, cross, is_settled}
 use Rattle.binding_table.specs.Plan.{Use, after_uses}
 use Rattle.ipv4_frames.specs.Ipv4.{Datagram}
 use Rattle.twice_translate.specs.Renamed.{renamed}
-use Rattle.gate_base.specs.Tests.{first_that_holds}
+use Rattle.gate_base.specs.Tests.{first_that_holds, unless_refused}
 use Rattle.std.proofs.Common.{◌||◌, ◌==◌, slice_index}
 use Rattle.gate_base.specs.Fields.{u16_at}
 use Rattle.udp_icmp.specs.Icmp.{is_error_type}
@@ -18,11 +18,11 @@ use Rattle.gate_world.specs.Units.{uses_until}
 use Rattle.gate_world.specs.World.{World, source_of, destination_of, called}
 use Rattle.gate_world.specs.Rules.{SessionRules}
 use Rattle.gate_payloads.specs.Taken.{IsTaken, IsWayOf}
-use Rattle.gate_payloads.specs.Ways.{image_by, is_empty, table_by, out_by}
+use Rattle.gate_payloads.specs.Ways.{image_by, is_empty}
 use Rattle.gate_payloads.specs.declared.addresses.Way.{Way}
 use Rattle.gate_payloads.proofs.Passes.{pool_empty_is, source_called, destination_called}
 
-by_refusal : (b : Bool) (r : Option Refusal) (x y : List (List ℕ)) → r ≡ first_that_holds ((b, PoolEmpty) ∷ []) → (b ≡ false → x ≡ y) → out_by r x ≡ out_by r y
+by_refusal : (b : Bool) (r : Option Refusal) (x y : List (List ℕ)) → r ≡ first_that_holds ((b, PoolEmpty) ∷ []) → (b ≡ false → x ≡ y) → unless_refused r x [] ≡ unless_refused r y []
 by_refusal true r x y e f = rw e refl
 by_refusal false r x y e f = rw e (f refl)
 
@@ -70,20 +70,20 @@ uses_are live side d way hold w =
     ∙ ap (λ (a : Addr). after_uses live.table (uses_until side (live.clock + hold) (source_of d ∷ a ∷ []))) w.destination_is
 
 pub udp_taken : {S : Type 0} (rules : SessionRules S) (live : World S) (side : Side) (d : Datagram) (way : Way) (r : Option Refusal) (table : Bindings) (sent : List (List ℕ)) → IsWayOf live side d way → r ≡ first_that_holds ((is_empty way.of_source, PoolEmpty) ∷ [])
-    → table ≡ table_by r (after_uses live.table (uses_until way.side (way.moment.0 + udp_hold) (way.source ∷ way.destination ∷ []))) live.table
-    → sent ≡ out_by r (renamed d (image_by way.of_source way.source).0 (image_by way.of_destination way.destination).0 ∷ []) → IsTaken rules live side d Udp r table sent
+    → table ≡ unless_refused r (after_uses live.table (uses_until way.side (way.moment.0 + udp_hold) (way.source ∷ way.destination ∷ []))) live.table
+    → sent ≡ unless_refused r (renamed d (image_by way.of_source way.source).0 (image_by way.of_destination way.destination).0 ∷ []) [] → IsTaken rules live side d Udp r table sent
 udp_taken rules live side d way r table sent w e t o = record {
   answer = e ∙ ap (λ (b : Bool). first_that_holds ((b, PoolEmpty) ∷ [])) (empty_is rules live side d way w);
-  bound = t ∙ ap (λ (x : Bindings). table_by r x live.table) (uses_are live side d way udp_hold w);
+  bound = t ∙ ap (λ (x : Bindings). unless_refused r x live.table) (uses_are live side d way udp_hold w);
   gone = o ∙ by_refusal (is_empty way.of_source) r _ _ e (images_are live side d way (live.clock + udp_hold) w);
 }
 
 pub echo_taken : {S : Type 0} (rules : SessionRules S) (live : World S) (side : Side) (d : Datagram) (way : Way) (r : Option Refusal) (table : Bindings) (sent : List (List ℕ)) → IsWayOf live side d way → r ≡ first_that_holds ((is_empty way.of_source, PoolEmpty) ∷ [])
-    → table ≡ table_by r (after_uses live.table (uses_until way.side (way.moment.0 + icmp_hold) (way.source ∷ way.destination ∷ []))) live.table
-    → sent ≡ out_by r (renamed d (image_by way.of_source way.source).0 (image_by way.of_destination way.destination).0 ∷ []) → IsTaken rules live side d Echo r table sent
+    → table ≡ unless_refused r (after_uses live.table (uses_until way.side (way.moment.0 + icmp_hold) (way.source ∷ way.destination ∷ []))) live.table
+    → sent ≡ unless_refused r (renamed d (image_by way.of_source way.source).0 (image_by way.of_destination way.destination).0 ∷ []) [] → IsTaken rules live side d Echo r table sent
 echo_taken rules live side d way r table sent w e t o = record {
   answer = e ∙ ap (λ (b : Bool). first_that_holds ((b, PoolEmpty) ∷ [])) (empty_is rules live side d way w);
-  bound = t ∙ ap (λ (x : Bindings). table_by r x live.table) (uses_are live side d way icmp_hold w);
+  bound = t ∙ ap (λ (x : Bindings). unless_refused r x live.table) (uses_are live side d way icmp_hold w);
   gone = o ∙ by_refusal (is_empty way.of_source) r _ _ e (images_are live side d way (live.clock + icmp_hold) w);
 }
 
@@ -96,5 +96,5 @@ pub udp_plain : (d : Datagram) (p q : ℕ) → p ≡ u16_at 0 d.payload → q �
 udp_plain d p q e f x y z = rw (← e, ← f, x, y, z) refl
 
 -- over the same table
-pub over_table : (r : Option Refusal) (uses : List Use) (one two table : Bindings) → two ≡ one → table ≡ table_by r (after_uses one uses) one → table ≡ table_by r (after_uses two uses) two
-over_table r uses one two table e t = t ∙ ap (λ (x : Bindings). table_by r (after_uses x uses) x) (sym e)
+pub over_table : (r : Option Refusal) (uses : List Use) (one two table : Bindings) → two ≡ one → table ≡ unless_refused r (after_uses one uses) one → table ≡ unless_refused r (after_uses two uses) two
+over_table r uses one two table e t = t ∙ ap (λ (x : Bindings). unless_refused r (after_uses x uses) x) (sym e)

@@ -21,7 +21,7 @@ use Rattle.snmp_gateway.specs.declared.message.SnmpKind.{SnmpKind}
 use Rattle.snmp_oids.specs.Elements.{oid_renamed}
 use Rattle.snmp_oids.proofs.Lengths.{message_length}
 use Rattle.snmp_oids.proofs.Messages.{no_rule}
-use Rattle.gate_base.specs.Tests.{first_that_holds}
+use Rattle.gate_base.specs.Tests.{first_that_holds, unless_refused}
 use Rattle.twice_translate.specs.Renamed.{rebuilt}
 use Rattle.gate_world.specs.Frame.{Snmp}
 use Rattle.gate_world.specs.Management.{number_seen, management_after, is_bad_snmp, is_snmp_too_long}
@@ -31,7 +31,7 @@ use Rattle.gate_world.specs.Units.{uses_until}
 use Rattle.gate_world.specs.World.{World, source_of, destination_of, called}
 use Rattle.gate_world.specs.Rules.{SessionRules}
 use Rattle.gate_payloads.specs.Taken.{IsTaken, IsWayOf}
-use Rattle.gate_payloads.specs.Ways.{image_by, is_empty, table_by, out_by}
+use Rattle.gate_payloads.specs.Ways.{image_by, is_empty}
 use Rattle.gate_payloads.specs.declared.addresses.Way.{Way}
 use Rattle.gate_payloads.specs.Planned.{number_planned}
 use Rattle.gate_payloads.proofs.HeadersOnly.{are_images, empty_is, uses_are, of_source_is, of_destination_is}
@@ -118,20 +118,20 @@ planned_is rules live side d way w room =
 -- a message that the rules rename
 pub message_by_rules : {S : Type 0} (rules : SessionRules S) (live : World S) (side : Side) (d : Datagram) (way : Way) (r : Option Refusal) (table : Bindings) (sent : List (List ℕ)) → IsWayOf live side d way → is_bad_snmp d ≡ false → is_empty way.of_source ≡ false
     → r ≡ first_that_holds ((nat_lt 65507 (length (oid_renamed (number_planned live.table way) live.table.oids (carried d))), SnmpTooLong) ∷ [])
-    → table ≡ table_by r (after_uses live.table (uses_until way.side (way.moment.0 + udp_hold) (way.source ∷ way.destination ∷ []))) live.table
-    → sent ≡ out_by r (rebuilt d (image_by way.of_source way.source).0 (image_by way.of_destination way.destination).0 (oid_renamed (number_planned live.table way) live.table.oids (carried d)) ∷ []) → IsTaken rules live side d Snmp r table sent
+    → table ≡ unless_refused r (after_uses live.table (uses_until way.side (way.moment.0 + udp_hold) (way.source ∷ way.destination ∷ []))) live.table
+    → sent ≡ unless_refused r (rebuilt d (image_by way.of_source way.source).0 (image_by way.of_destination way.destination).0 (oid_renamed (number_planned live.table way) live.table.oids (carried d)) ∷ []) [] → IsTaken rules live side d Snmp r table sent
 message_by_rules rules live side d way r table sent w good room e t s =
     let planned = oid_renamed (number_planned live.table way) live.table.oids (carried d) in
     let same = planned_is rules live side d way w room in
     let images = are_images live side d way (live.clock + udp_hold) w room in
     let after = after_uses live.table (uses_until side (live.clock + udp_hold) (source_of d ∷ destination_of d ∷ [])) in
-    let R : List ℕ → Addr → Addr → List (List ℕ) = λ x a b. out_by r (rebuilt d a.0 b.0 x ∷ []) in
+    let R : List ℕ → Addr → Addr → List (List ℕ) = λ x a b. unless_refused r (rebuilt d a.0 b.0 x ∷ []) [] in
     record {
       answer =
           e
           ∙ ap (λ (b : Bool). first_by false b (nat_lt 65507 (length planned))) (sym room)
           ∙ first_is rules live side d way (nat_lt 65507 (length planned)) w good (ap (λ (xs : List ℕ). nat_lt 65507 (length xs)) same);
-      bound = t ∙ ap (λ (x : Bindings). table_by r x live.table) (uses_are live side d way udp_hold w);
+      bound = t ∙ ap (λ (x : Bindings). unless_refused r x live.table) (uses_are live side d way udp_hold w);
       gone = s
           ∙ ap (λ (x : List ℕ). R x (image_by way.of_source way.source) (image_by way.of_destination way.destination)) same
           ∙ ap (λ (a : Addr). R (management_after after side d) a (image_by way.of_destination way.destination)) images.source
@@ -141,13 +141,13 @@ message_by_rules rules live side d way r table sent w good room e t s =
 -- the same over an equal table and payload
 pub taken_by_rules : {S : Type 0} (rules : SessionRules S) (live : World S) (side : Side) (d : Datagram) (way : Way) (old : Bindings) (payload : List ℕ) (r : Option Refusal) (table : Bindings) (sent : List (List ℕ)) → live.table ≡ old → payload ≡ carried d → IsWayOf live side d way → is_bad_snmp d ≡ false → is_empty way.of_source ≡ false
     → r ≡ first_that_holds ((nat_lt 65507 (length (oid_renamed (number_planned old way) old.oids payload)), SnmpTooLong) ∷ [])
-    → table ≡ table_by r (after_uses old (uses_until way.side (way.moment.0 + udp_hold) (way.source ∷ way.destination ∷ []))) old
-    → sent ≡ out_by r (rebuilt d (image_by way.of_source way.source).0 (image_by way.of_destination way.destination).0 (oid_renamed (number_planned old way) old.oids payload) ∷ []) → IsTaken rules live side d Snmp r table sent
+    → table ≡ unless_refused r (after_uses old (uses_until way.side (way.moment.0 + udp_hold) (way.source ∷ way.destination ∷ []))) old
+    → sent ≡ unless_refused r (rebuilt d (image_by way.of_source way.source).0 (image_by way.of_destination way.destination).0 (oid_renamed (number_planned old way) old.oids payload) ∷ []) [] → IsTaken rules live side d Snmp r table sent
 taken_by_rules rules live side d way old payload r table sent same p w good room =
     let P : Bindings → List ℕ → Type 0 = λ x xs.
     r ≡ first_that_holds ((nat_lt 65507 (length (oid_renamed (number_planned x way) x.oids xs)), SnmpTooLong) ∷ [])
-    → table ≡ table_by r (after_uses x (uses_until way.side (way.moment.0 + udp_hold) (way.source ∷ way.destination ∷ []))) x
-    → sent ≡ out_by r (rebuilt d (image_by way.of_source way.source).0 (image_by way.of_destination way.destination).0 (oid_renamed (number_planned x way) x.oids xs) ∷ []) → IsTaken rules live side d Snmp r table sent in
+    → table ≡ unless_refused r (after_uses x (uses_until way.side (way.moment.0 + udp_hold) (way.source ∷ way.destination ∷ []))) x
+    → sent ≡ unless_refused r (rebuilt d (image_by way.of_source way.source).0 (image_by way.of_destination way.destination).0 (oid_renamed (number_planned x way) x.oids xs) ∷ []) [] → IsTaken rules live side d Snmp r table sent in
     subst (λ (x : Bindings). P x payload) same (subst (λ (xs : List ℕ). P live.table xs) (sym p) (message_by_rules rules live side d way r table sent w good room))
 
 -- one where there is no rule

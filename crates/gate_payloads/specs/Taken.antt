@@ -5,7 +5,7 @@ use Rattle.gate_base.specs.declared.refusal.Refusal.TheVariants.{PoolEmpty}
 use Rattle.gate_base.specs.declared.side.Side.{Side}
 use Rattle.binding_table.specs.Bindings.{Bindings, in_pool, is_settled}
 use Rattle.ipv4_frames.specs.Ipv4.{Datagram}
-use Rattle.gate_base.specs.Tests.{first_that_holds}
+use Rattle.gate_base.specs.Tests.{first_that_holds, unless_refused}
 use Rattle.twice_translate.specs.Renamed.{CanGoOn, datagram_of}
 use Rattle.gate_world.specs.Frame.{Kind}
 use Rattle.gate_world.specs.Names.{carried}
@@ -13,14 +13,14 @@ use Rattle.gate_world.specs.Step.{out_kind}
 use Rattle.gate_world.specs.Verdict.{kind_tests, late_tests, is_pool_empty, table_after}
 use Rattle.gate_world.specs.World.{World, source_of, destination_of}
 use Rattle.gate_world.specs.Rules.{SessionRules}
-use Rattle.gate_payloads.specs.Ways.{IsWay, table_by, out_by}
+use Rattle.gate_payloads.specs.Ways.{IsWay}
 use Rattle.gate_payloads.specs.declared.addresses.Way.{Way}
 
 -- a datagram of a kind is refused by the tests of that kind and its pool, or passes: the bindings, and what goes out
 pub record IsTaken {S : Type 0} (rules : SessionRules S) (live : World S) (side : Side) (d : Datagram) (kind : Kind) (refusal : Option Refusal) (table : Bindings) (sent : List (List ℕ)) : Type 0 where
   pub answer : refusal ≡ first_that_holds (kind_tests rules live side live.clock d kind ++ (is_pool_empty rules live side d kind, PoolEmpty) ∷ late_tests rules live side live.clock d kind)
-  pub bound : table ≡ table_by refusal (table_after rules live side live.clock d kind) live.table
-  pub gone : sent ≡ out_by refusal (out_kind rules live side live.clock d kind)
+  pub bound : table ≡ unless_refused refusal (table_after rules live side live.clock d kind) live.table
+  pub gone : sent ≡ unless_refused refusal (out_kind rules live side live.clock d kind) []
 
 -- the way is that of a datagram, over what lives, and its addresses are not refused
 pub record IsWayOf {S : Type 0} (live : World S) (side : Side) (d : Datagram) (way : Way) : Type 0 where

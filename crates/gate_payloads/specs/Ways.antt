@@ -1,5 +1,5 @@
 -- Both addresses of a datagram, and how they cross.
-use Rattle.std.specs.Prelude.{◌≡◌, ℕ, Bool, true, false, not, List, [], ◌∷◌, Option, Some, None}
+use Rattle.std.specs.Prelude.{◌≡◌, Bool, true, false, not, List, [], ◌∷◌}
 use Rattle.gate_base.specs.declared.address.Addr.{Addr}
 use Rattle.gate_base.specs.declared.refusal.Refusal.{Refusal}
 use Rattle.gate_base.specs.declared.refusal.Refusal.TheVariants.{SourceInPool, NoBinding}
@@ -24,16 +24,6 @@ image_by _ address = address
 abbrev pub is_empty : Crossing → Bool
 is_empty Empty = true
 is_empty _ = false
-
--- the table after a datagram that passes, or is refused
-abbrev pub table_by : Option Refusal → Bindings → Bindings → Bindings
-table_by None passed live = passed
-table_by (Some refusal) passed live = live
-
--- the datagrams that go out of one that passes; of one that is refused none do
-abbrev pub out_by : Option Refusal → List (List ℕ) → List (List ℕ)
-out_by None sent = sent
-out_by (Some refusal) sent = []
 
 -- the tests of both addresses
 abbrev pub way_tests : Bindings → Way → List (Bool × Refusal)

@@ -2,11 +2,11 @@
 ghost use Rattle.std.specs.Prelude.{◌≡◌, ◌+◌, ◌*◌, ◌^◌, ◌<◌, ◌≤◌, [], ◌∷◌, None, length, true};
 ghost use Rattle.binding_table.specs.Plan.{after_uses};
 ghost use Rattle.binding_table.specs.Bindings.{is_settled};
-ghost use Rattle.gate_base.specs.Tests.{first_that_holds};
+ghost use Rattle.gate_base.specs.Tests.{first_that_holds, unless_refused};
 ghost use Rattle.twice_translate.specs.Renamed.{CanGoOn, datagram_of, renamed};
 ghost use Rattle.gate_base.specs.declared.refusal.Refusal.TheVariants.{PoolEmpty};
 ghost use Rattle.gate_world.specs.Units.{uses_until};
-ghost use Rattle.gate_payloads.specs.Ways.{IsWay, image_by, is_empty, table_by, out_by};
+ghost use Rattle.gate_payloads.specs.Ways.{IsWay, image_by, is_empty};
 
 use crate::addresses::{Way, lacks_alias};
 use binding_table::Table;
@@ -51,8 +51,8 @@ pub fn take_plain(
     requires few { length octets.now ≤ 65535 }
     requires can { CanGoOn octets.now }
     ensures refusal { result ≡ first_that_holds ((is_empty way.now.of_source, PoolEmpty) ∷ []) }
-    ensures table { table.new ≡ table_by result (after_uses table.old (uses_until way.now.side (way.now.moment.0 + hold) (way.now.source ∷ way.now.destination ∷ []))) table.old }
-    ensures out { outbox.new ≡ out_by result (renamed (datagram_of octets.now) (image_by way.now.of_source way.now.source).0 (image_by way.now.of_destination way.now.destination).0 ∷ []) }
+    ensures table { table.new ≡ unless_refused result (after_uses table.old (uses_until way.now.side (way.now.moment.0 + hold) (way.now.source ∷ way.now.destination ∷ []))) table.old }
+    ensures out { outbox.new ≡ unless_refused result (renamed (datagram_of octets.now) (image_by way.now.of_source way.now.source).0 (image_by way.now.of_destination way.now.destination).0 ∷ []) [] }
 {
     if lacks_alias(way) {
         return Some(Refusal::PoolEmpty);

@@ -3,7 +3,7 @@ ghost use Rattle.std.specs.Prelude.{◌≡◌, ◌+◌, ◌*◌, ◌^◌, ◌<�
 ghost use Rattle.binding_table.specs.Bindings.{is_settled};
 ghost use Rattle.binding_table.specs.Plan.{after_uses};
 ghost use Rattle.twice_translate.specs.Renamed.{datagram_of, rebuilt};
-ghost use Rattle.gate_base.specs.Tests.{first_that_holds};
+ghost use Rattle.gate_base.specs.Tests.{first_that_holds, unless_refused};
 ghost use Rattle.gate_base.specs.declared.refusal.Refusal.TheVariants.{SnmpTooLong};
 ghost use Rattle.gate_world.specs.Frame as kinds;
 ghost use Rattle.gate_world.specs.Management.{number_seen};
@@ -13,7 +13,7 @@ ghost use Rattle.gate_world.specs.World.{World};
 ghost use Rattle.snmp_gateway.specs.Message.{message};
 ghost use Rattle.snmp_oids.specs.Elements.{oid_renamed};
 ghost use Rattle.gate_payloads.specs.Planned.{number_planned};
-ghost use Rattle.gate_payloads.specs.Ways.{IsWay, image_by, table_by, out_by};
+ghost use Rattle.gate_payloads.specs.Ways.{IsWay, image_by};
 ghost use Rattle.gate_payloads.specs.Plain.{PlainSession, plain_rules};
 ghost use Rattle.gate_payloads.specs.Taken.{IsTaken, IsUdpOf, IsWayOf};
 
@@ -103,8 +103,8 @@ fn pass_by_rules(
     requires whole { IsUdpOf datagram.now.octets.now datagram.now.payload.now }
     requires message { IsSome (message datagram.now.payload.now) }
     ensures refusal { result ≡ first_that_holds ((nat_lt 65507 (length (oid_renamed (number_planned table.old way.now) table.old.oids datagram.now.payload.now)), SnmpTooLong) ∷ []) }
-    ensures table { table.new ≡ table_by result (after_uses table.old (uses_until way.now.side (way.now.moment.0 + udp_hold) (way.now.source ∷ way.now.destination ∷ []))) table.old }
-    ensures out { outbox.new ≡ out_by result (rebuilt (datagram_of datagram.now.octets.now) (image_by way.now.of_source way.now.source).0 (image_by way.now.of_destination way.now.destination).0 (oid_renamed (number_planned table.old way.now) table.old.oids datagram.now.payload.now) ∷ []) }
+    ensures table { table.new ≡ unless_refused result (after_uses table.old (uses_until way.now.side (way.now.moment.0 + udp_hold) (way.now.source ∷ way.now.destination ∷ []))) table.old }
+    ensures out { outbox.new ≡ unless_refused result (rebuilt (datagram_of datagram.now.octets.now) (image_by way.now.of_source way.now.source).0 (image_by way.now.of_destination way.now.destination).0 (oid_renamed (number_planned table.old way.now) table.old.oids datagram.now.payload.now) ∷ []) [] }
 {
     let fits = outbox.put_snmp_by_rules(
         datagram.octets,

@@ -1,5 +1,6 @@
 -- A segment that no session takes, or that begins one: it completes no unit, and uses the addresses of its header alone.
 use Rattle.std.proofs.Common.{◌≡◌, ℕ, ◌+◌, ◌&&◌, not, Bool, true, false, List, [], ◌∷◌, ◌++◌, length, nat_lt, Option, Some, None, refl, ap, ◌∙◌}
+use Rattle.gate_base.specs.Tests.{unless_refused}
 use Rattle.std.specs.List.{list_any}
 use Rattle.std.proofs.lemmas.Bool.{and_parts}
 use Rattle.gate_base.specs.Side.{other}
@@ -16,7 +17,7 @@ use Rattle.gate_world.specs.Frame.{Udp, Stream, is_tracked_port}
 use Rattle.gate_world.specs.Held.{HasLists}
 use Rattle.gate_world.specs.Lists.{most_entries, addresses_in, entered, is_bad, grows_too_much}
 use Rattle.gate_world.specs.Stream.{tcp_of, segment_of, is_opening, found_in, session_in, stream_hold, made_by, pair_in}
-use Rattle.gate_world.specs.Units.{uses_until, unless_refused, units_in, names_in, entries_in, uses_of_lists, is_new_unbound, unit_tests, growth_tests}
+use Rattle.gate_world.specs.Units.{uses_until, units_in, names_in, entries_in, uses_of_lists, is_new_unbound, unit_tests, growth_tests}
 use Rattle.gate_world.specs.Verdict.{is_pool_empty, table_after}
 use Rattle.gate_world.specs.World.{Tracked, World, addresses_of, is_client}
 use Rattle.gate_world.specs.Rules.{SessionRules}
@@ -29,7 +30,7 @@ pub record NamesNothing {S : Type 0} (rules : SessionRules S) (side : Side) (d :
 pub none_names : {S : Type 0} (rules : SessionRules S) (side : Side) (d : Datagram) → NamesNothing rules side d None
 none_names rules side d = record { units = refl; entries = refl }
 
-unless : (v : Option Refusal) (us : List (List ℕ)) → us ≡ [] → unless_refused v us ≡ []
+unless : (v : Option Refusal) (us : List (List ℕ)) → us ≡ [] → unless_refused v us [] ≡ []
 unless None us e = e
 unless (Some r) us e = refl
 

@@ -17,7 +17,7 @@ use Rattle.gate_base.specs.Tests.{first_that_holds}
 use Rattle.gate_world.specs.Held.{HasLists}
 use Rattle.gate_world.specs.Frame.{Stream, is_tracked_port}
 use Rattle.gate_world.specs.Step.{taker_in}
-use Rattle.gate_world.specs.Stream.{tcp_of, segment_of, key_in, found_in, session_in, is_opening, lacks_session, is_full, made_by, taker_by, session_refusal}
+use Rattle.gate_world.specs.Stream.{most_connections, most_sessions, tcp_of, segment_of, key_in, found_in, session_in, is_opening, lacks_session, is_full, made_by, taker_by, session_refusal}
 use Rattle.gate_world.specs.Units.{unit_tests, growth_tests}
 use Rattle.gate_world.specs.Verdict.{refusal_tests, is_pool_empty, late_tests, table_after, image_in}
 use Rattle.gate_world.specs.World.{Tracked, World, is_client}
@@ -122,7 +122,7 @@ new_joined {S = S} rules live side d none lacks other = record {
   names = none_names rules side d;
 }
   where
-    by_test : (a b : Bool) → b ≡ false → (a || (b && nat_le 4096 (count_by is_tracked live.connections))) ≡ a
+    by_test : (a b : Bool) → b ≡ false → (a || (b && nat_le most_sessions (count_by is_tracked live.connections))) ≡ a
     by_test true true e = refl
     by_test true false e = refl
     by_test false true e = absurd (cc)
@@ -130,11 +130,11 @@ new_joined {S = S} rules live side d none lacks other = record {
 
 -- the session that it makes takes the segment
 pub begun_joined : {S : Type 0} (rules : SessionRules S) (lists : HasLists rules) (live : World S) (side : Side) (d : Datagram) → found_in live side d ≡ None → (is_opening (tcp_of d).flags && is_tracked_port (tcp_of d).destination_port) ≡ true →
-    IsJoined rules live side d (Some (made_by rules (table_after rules live side live.clock d Stream) side d)) (not (flags_of (tcp_of d).flags).reset && nat_le 65536 (length live.connections) || nat_le 4096 (count_by is_tracked live.connections))
+    IsJoined rules live side d (Some (made_by rules (table_after rules live side live.clock d Stream) side d)) (not (flags_of (tcp_of d).flags).reset && nat_le most_connections (length live.connections) || nat_le most_sessions (count_by is_tracked live.connections))
 begun_joined {S = S} rules lists live side d none begun = record {
   begins = ap (λ (o : Option (Connection (Tracked S))). lacks_session o d) none ∙ ap (λ (b : Bool). (is_tracked_port (tcp_of d).source_port || is_tracked_port (tcp_of d).destination_port) && not b) (and_parts (is_opening (tcp_of d).flags) (is_tracked_port (tcp_of d).destination_port) begun).0 ∙ and_false _;
   taker_is = ap (λ (o : Option (Connection (Tracked S))). taker_by rules (table_after rules live side live.clock d Stream) side d o) none ∙ ap (λ (b : Bool). if b then Some (made_by rules (table_after rules live side live.clock d Stream) side d) else None) begun;
-  full_is = ap (λ (o : Option (Connection (Tracked S))). is_full live.connections o d) none ∙ ap (λ (b : Bool). not (flags_of (tcp_of d).flags).reset && nat_le 65536 (length live.connections) || (b && nat_le 4096 (count_by is_tracked live.connections))) begun;
+  full_is = ap (λ (o : Option (Connection (Tracked S))). is_full live.connections o d) none ∙ ap (λ (b : Bool). not (flags_of (tcp_of d).flags).reset && nat_le most_connections (length live.connections) || (b && nat_le most_sessions (count_by is_tracked live.connections))) begun;
   alone = none_alone (found_in live side d) none;
   names = made_names rules lists (table_after rules live side live.clock d Stream) side d begun;
 }
@@ -166,10 +166,10 @@ made_enters rules lists way tcp d image is opens verdict =
 -- a first segment of a connection that doesn't live: the session that it makes takes it, with this verdict
 pub record IsFirst {S : Type 0} (rules : SessionRules S) (live : World S) (side : Side) (d : Datagram) (verdict : Option Refusal) : Type 0 where
   pub none : found_in live side d ≡ None
-  pub joined : IsJoined rules live side d (Some (made_by rules (table_after rules live side live.clock d Stream) side d)) (not (flags_of (tcp_of d).flags).reset && nat_le 65536 (length live.connections) || nat_le 4096 (count_by is_tracked live.connections))
+  pub joined : IsJoined rules live side d (Some (made_by rules (table_after rules live side live.clock d Stream) side d)) (not (flags_of (tcp_of d).flags).reset && nat_le most_connections (length live.connections) || nat_le most_sessions (count_by is_tracked live.connections))
   pub told : session_refusal rules side d (Some (made_by rules (table_after rules live side live.clock d Stream) side d)) ≡ verdict
   pub plain : verdict ≡ None → (flags_of (tcp_of d).flags).reset ≡ false
-  pub full : verdict ≡ None → (not (flags_of (tcp_of d).flags).reset && nat_le 65536 (length live.connections) || nat_le 4096 (count_by is_tracked live.connections)) ≡ (nat_le 65536 (length live.connections) || nat_le 4096 (count_by is_tracked live.connections))
+  pub full : verdict ≡ None → (not (flags_of (tcp_of d).flags).reset && nat_le most_connections (length live.connections) || nat_le most_sessions (count_by is_tracked live.connections)) ≡ (nat_le most_connections (length live.connections) || nat_le most_sessions (count_by is_tracked live.connections))
 
 pub first_is : {S : Type 0} (rules : SessionRules S) (lists : HasLists rules) (live : World S) (side : Side) (d : Datagram) (key : ConnKey) (tcp : Tcp) (verdict : Option Refusal) → key ≡ key_in live.table side d → connection_of key live.connections ≡ None → tcp ≡ tcp_of d →
     (is_opening tcp.flags && is_tracked_port tcp.destination_port) ≡ true → session_refusal rules side d (Some (made_by rules (table_after rules live side live.clock d Stream) side d)) ≡ verdict → (verdict ≡ None → (flags_of (tcp_of d).flags).reset ≡ false) → IsFirst rules live side d verdict
@@ -180,7 +180,7 @@ first_is rules lists live side d key tcp verdict named absent is first told plai
       joined = begun_joined rules lists live side d none (ap (λ (t : Tcp). is_opening t.flags && is_tracked_port t.destination_port) (sym is) ∙ first);
       told = told;
       plain = plain;
-      full = λ n. ap (λ (b : Bool). not b && nat_le 65536 (length live.connections) || nat_le 4096 (count_by is_tracked live.connections)) (plain n);
+      full = λ n. ap (λ (b : Bool). not b && nat_le most_connections (length live.connections) || nat_le most_sessions (count_by is_tracked live.connections)) (plain n);
     }
 
 -- ## What is refused

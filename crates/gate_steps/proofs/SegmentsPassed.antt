@@ -17,7 +17,7 @@ use Rattle.tcp_tracker.specs.declared.connection.ConnKey.{ConnKey}
 use Rattle.tcp_tracker.specs.declared.connection.Connection.{Connection}
 use Rattle.session_table.specs.Joined.{replaced}
 use Rattle.twice_translate.specs.Renamed.{datagram_of, renamed}
-use Rattle.gate_base.specs.Tests.{first_that_holds}
+use Rattle.gate_base.specs.Tests.{first_that_holds, unless_refused}
 use Rattle.gate_world.specs.Frame.{Stream, is_tracked_port}
 use Rattle.gate_world.specs.Step.{taker_in, with_connection}
 use Rattle.gate_world.specs.Stream.{tcp_of, key_in, found_in, session_in, begins, is_opening, pair_in, made_by, session_refusal, stepped, ends_by, stream_hold, connection_after, connections_with, pending_by, pending_in}
@@ -26,12 +26,12 @@ use Rattle.gate_world.specs.Units.{uses_until}
 use Rattle.gate_world.specs.World.{Tracked, World, called, source_of, destination_of}
 use Rattle.gate_world.specs.Rules.{SessionRules}
 use Rattle.gate_payloads.specs.Taken.{IsWayOf}
-use Rattle.gate_payloads.specs.Ways.{image_by, is_empty, table_by, out_by}
+use Rattle.gate_payloads.specs.Ways.{image_by, is_empty}
 use Rattle.gate_payloads.specs.declared.addresses.Way.{Way}
 use Rattle.gate_payloads.proofs.Passes.{source_called, destination_called}
 use Rattle.gate_payloads.proofs.HeadersOnly.{of_source_is, of_destination_is, uses_are}
 use Rattle.gate_steps.specs.Passed.{world_of, Tells, IsSegmentTaken}
-use Rattle.gate_steps.specs.Segments.{stream_refusal, connections_by, room_tests, lacks_place, waiting_after, pair_on, made_on}
+use Rattle.gate_steps.specs.Segments.{stream_refusal, room_tests, lacks_place, waiting_after, pair_on, made_on}
 use Rattle.gate_steps.specs.Found.{image_of}
 use Rattle.gate_steps.proofs.NotedConnections.{noted_replaced, noted_untracked, noted_begun, without_replaced, session_left, session_begun, none_left}
 use Rattle.gate_steps.proofs.NoUnits.{table_is}
@@ -104,9 +104,9 @@ pub untracked_taken : {S A : Type 0} (rules : SessionRules S) (tells : Tells S A
     let key = key_in live.table way.side d in let flags = (tcp_of d).flags in
     IsWayOf live way.side d way → IsJoined rules live way.side d None full → session_in (found_in live way.side d) ≡ None →
     refusal ≡ first_that_holds (room_tests full (is_empty way.of_source)) →
-    table_new ≡ table_by refusal (after_uses live.table (uses_until way.side (way.moment.0 + hold_of live.connections key way.side flags) (way.source ∷ way.destination ∷ []))) live.table →
-    connections_new ≡ connections_by refusal (noted live.connections key way.side flags None way.moment) live.connections →
-    sent ≡ tells.whole (out_by refusal (renamed d (image_by way.of_source way.source).0 (image_by way.of_destination way.destination).0 ∷ [])) →
+    table_new ≡ unless_refused refusal (after_uses live.table (uses_until way.side (way.moment.0 + hold_of live.connections key way.side flags) (way.source ∷ way.destination ∷ []))) live.table →
+    connections_new ≡ unless_refused refusal (noted live.connections key way.side flags None way.moment) live.connections →
+    sent ≡ tells.whole (unless_refused refusal (renamed d (image_by way.of_source way.source).0 (image_by way.of_destination way.destination).0 ∷ []) []) →
     IsSegmentTaken rules tells live way.side d refusal (world_of live.clock table_new connections_new live.pending) sent
 untracked_taken {S = S} rules tells live way d full (Some r) table_new connections_new sent w j lone a b c g = record {
   answer = a ∙ joined_refusal rules live way.side d way None full w j;
@@ -128,22 +128,22 @@ untracked_taken {S = S} rules tells live way d full None table_new connections_n
 pub untracked_by : {S A : Type 0} (rules : SessionRules S) (tells : Tells S A) (live : World S) (way : Way) (d : Datagram) (key : ConnKey) (tcp : Tcp) (octets : List ℕ) (full : Bool) (refusal : Option Refusal) (table_new : Bindings) (connections_new : List (Connection (Tracked S))) (sent : A) →
     IsWayOf live way.side d way → key ≡ key_in live.table way.side d → tcp ≡ tcp_of d → datagram_of octets ≡ d → lacks_place live.connections (connection_of key live.connections) tcp.flags ≡ full → IsJoined rules live way.side d None full → session_in (found_in live way.side d) ≡ None →
     refusal ≡ first_that_holds (room_tests (lacks_place live.connections (connection_of key live.connections) tcp.flags) (is_empty way.of_source)) →
-    table_new ≡ table_by refusal (after_uses live.table (uses_until way.side (way.moment.0 + hold_of live.connections key way.side tcp.flags) (way.source ∷ way.destination ∷ []))) live.table →
-    connections_new ≡ connections_by refusal (noted live.connections key way.side tcp.flags None way.moment) live.connections →
-    sent ≡ tells.whole (out_by refusal (renamed (datagram_of octets) (image_by way.of_source way.source).0 (image_by way.of_destination way.destination).0 ∷ [])) →
+    table_new ≡ unless_refused refusal (after_uses live.table (uses_until way.side (way.moment.0 + hold_of live.connections key way.side tcp.flags) (way.source ∷ way.destination ∷ []))) live.table →
+    connections_new ≡ unless_refused refusal (noted live.connections key way.side tcp.flags None way.moment) live.connections →
+    sent ≡ tells.whole (unless_refused refusal (renamed (datagram_of octets) (image_by way.of_source way.source).0 (image_by way.of_destination way.destination).0 ∷ []) []) →
     IsSegmentTaken rules tells live way.side d refusal (world_of live.clock table_new connections_new live.pending) sent
 untracked_by {S = S} rules tells live way d key tcp octets full refusal table_new connections_new sent w k t o f j lone a b c g =
     untracked_taken rules tells live way d full refusal table_new connections_new sent w j lone
     (a ∙ ap (λ (x : Bool). first_that_holds (room_tests x (is_empty way.of_source))) f)
     (b ∙ ap (λ (x : ConnKey). T x tcp) k ∙ ap (T (key_in live.table way.side d)) t)
     (c ∙ ap (λ (x : ConnKey). C x tcp) k ∙ ap (C (key_in live.table way.side d)) t)
-    (g ∙ ap (λ (x : Datagram). tells.whole (out_by refusal (renamed x (image_by way.of_source way.source).0 (image_by way.of_destination way.destination).0 ∷ []))) o)
+    (g ∙ ap (λ (x : Datagram). tells.whole (unless_refused refusal (renamed x (image_by way.of_source way.source).0 (image_by way.of_destination way.destination).0 ∷ []) [])) o)
   where
     T : ConnKey → Tcp → Bindings
-    T x y = table_by refusal (after_uses live.table (uses_until way.side (way.moment.0 + hold_of live.connections x way.side y.flags) (way.source ∷ way.destination ∷ []))) live.table
+    T x y = unless_refused refusal (after_uses live.table (uses_until way.side (way.moment.0 + hold_of live.connections x way.side y.flags) (way.source ∷ way.destination ∷ []))) live.table
 
     C : ConnKey → Tcp → List (Connection (Tracked S))
-    C x y = connections_by refusal (noted live.connections x way.side y.flags None way.moment) live.connections
+    C x y = unless_refused refusal (noted live.connections x way.side y.flags None way.moment) live.connections
 
 -- ## A segment that a session takes
 

@@ -1,5 +1,6 @@
 -- A segment that a session takes by a plan: what it enters, and what is used.
 use Rattle.std.proofs.Common.{◌≡◌, ◌≢◌, ◌≤◌, ◌+◌, ℕ, Bool, true, false, List, [], ◌∷◌, ◌++◌, length, take, Option, Some, refl, sym, ap, subst, ◌∙◌, arith}
+use Rattle.gate_base.specs.Tests.{unless_refused}
 use Rattle.std.specs.List.{All}
 use Rattle.std.proofs.lemmas.Bool.{le-ltb}
 use Rattle.std.proofs.lemmas.List.{length-append}
@@ -16,7 +17,7 @@ use Rattle.ipv4_frames.specs.Ipv4.{Datagram}
 use Rattle.gate_world.specs.Held.{HasLists}
 use Rattle.gate_world.specs.Lists.{addresses_in, entered, renamed_in}
 use Rattle.gate_world.specs.Stream.{segment_of, stepped, stream_hold}
-use Rattle.gate_world.specs.Units.{uses_until, unless_refused, names_in, uses_of_lists}
+use Rattle.gate_world.specs.Units.{uses_until, names_in, uses_of_lists}
 use Rattle.gate_world.specs.World.{Tracked, World, addresses_of, source_of, destination_of, is_client}
 use Rattle.gate_world.specs.Rules.{SessionRules}
 use Rattle.gate_world.proofs.ListsKept.{needed_front, all_front}
@@ -37,7 +38,7 @@ use Rattle.gate_steps.proofs.UnitsUsed.{until_of, table_with, header_called}
 -- ## What is entered
 
 named_in_session : {S : Type 0} (rules : SessionRules S) (side : Side) (d : Datagram) (t : Tracked S) (live : World S) (plan : SegmentPlan) → IsPlanOf rules live side d t plan → names_in rules side d (Some t) ≡ addresses_in (rules.units (is_client side t) t.session (segment_of d))
-named_in_session rules side d t live plan p = ap (λ (v : Option Refusal). addresses_in (unless_refused v (rules.units (is_client side t) t.session (segment_of d)))) p.verdict
+named_in_session rules side d t live plan p = ap (λ (v : Option Refusal). addresses_in (unless_refused v (rules.units (is_client side t) t.session (segment_of d)) [])) p.verdict
 
 pub called_by : {S : Type 0} (rules : SessionRules S) (live : World S) (side : Side) (d : Datagram) (t : Tracked S) (plan : SegmentPlan) (entries : List Entry) → IsPlanOf rules live side d t plan → entries ≡ plan.units.entries.items → AreCalled rules (image_of rules live side d) side d t entries
 called_by rules live side d t plan entries p e = e ∙ p.units.entries ∙ ap (beside (image_of rules live side d)) (named_in_session rules side d t live plan p)

@@ -12,7 +12,7 @@ use Rattle.gate_base.specs.declared.refusal.Refusal.TheVariants.{SourceInPool, N
 use Rattle.gate_base.specs.declared.side.Side.{Side}
 use Rattle.binding_table.specs.Bindings.{Bindings, cross, in_pool}
 use Rattle.ipv4_frames.specs.Ipv4.{Datagram}
-use Rattle.gate_base.specs.Tests.{first_that_holds}
+use Rattle.gate_base.specs.Tests.{first_that_holds, unless_refused}
 use Rattle.gate_world.specs.Frame.{Kind, Udp, Echo, Error, Dns, Snmp, Stream, udp_kind, icmp_kind, kind_of}
 use Rattle.gate_world.specs.Step.{after_kind, out_kind}
 use Rattle.gate_world.specs.Verdict.{is_reachable, address_tests, kind_tests, late_tests, is_pool_empty, world_tests, table_after}
@@ -24,7 +24,7 @@ use Rattle.gate_payloads.specs.Plain.{plain_rules, asks_none}
 use Rattle.gate_payloads.proofs.Alike.{way_like, taken_like}
 use Rattle.gate_steps.proofs.UnitsJudged.{by_ok}
 use Rattle.gate_steps.specs.Passed.{plain_world, Tells, told_kind, told_by, left_as, IsPassed}
-use Rattle.gate_payloads.specs.Ways.{table_by, out_by, way_tests}
+use Rattle.gate_payloads.specs.Ways.{way_tests}
 use Rattle.gate_payloads.specs.declared.addresses.Way.{Way}
 use Rattle.gate_payloads.proofs.Passes.{reached_settled}
 use Rattle.gate_frames.proofs.Tests.{first-append}
@@ -154,11 +154,11 @@ taken_as {S = S} rules tells live side d kind r table sent given leaves t g = re
   gone = g ∙ ap tells.whole t.gone ∙ by_told r;
 }
   where
-    by_refusal : (o : Option Refusal) → (let w : World S = record live { table = table_by o (table_after rules live side live.clock d kind) live.table } in w) ≡ left_as rules kind o live side d
+    by_refusal : (o : Option Refusal) → (let w : World S = record live { table = unless_refused o (table_after rules live side live.clock d kind) live.table } in w) ≡ left_as rules kind o live side d
     by_refusal None = sym (table_alone rules live side d kind leaves)
     by_refusal (Some s) = refl
 
-    by_told : (o : Option Refusal) → tells.whole (out_by o (out_kind rules live side live.clock d kind)) ≡ told_by tells o (told_kind rules tells live side d kind)
+    by_told : (o : Option Refusal) → tells.whole (unless_refused o (out_kind rules live side live.clock d kind) []) ≡ told_by tells o (told_kind rules tells live side d kind)
     by_told None = whole_kind rules tells live side d kind leaves
     by_told (Some s) = refl
 

@@ -5,7 +5,7 @@ use Rattle.std.specs.Result.{IsErrAnd}
 use Rattle.std.specs.List.{All, AllByRecursion, list_any}
 use Rattle.std.proofs.lemmas.Bool.{ltb-false, le-ltb}
 use Rattle.gate_base.specs.Side.{other}
-use Rattle.gate_base.specs.Tests.{first_that_holds}
+use Rattle.gate_base.specs.Tests.{first_that_holds, unless_refused}
 use Rattle.gate_base.specs.declared.address.Addr.{Addr}
 use Rattle.gate_base.specs.declared.refusal.Refusal.{Refusal}
 use Rattle.gate_base.specs.declared.refusal.Refusal.TheVariants.{NoSession, BadUnit, UnitUnbound, RenamesFull, SessionsFull, PoolEmpty, UnitGrows}
@@ -21,7 +21,7 @@ use Rattle.gate_world.specs.Frame.{Stream, Udp}
 use Rattle.gate_world.specs.Lists.{most_entries, addresses_in, entered, is_bad, grows_too_much}
 use Rattle.gate_world.specs.Step.{taker_in}
 use Rattle.gate_world.specs.Stream.{segment_of, found_in, session_in, lacks_session, is_full, session_refusal}
-use Rattle.gate_world.specs.Units.{uses_until, is_new_unbound, unless_refused, units_in, names_in, entries_in, unit_tests, growth_tests}
+use Rattle.gate_world.specs.Units.{uses_until, is_new_unbound, units_in, names_in, entries_in, unit_tests, growth_tests}
 use Rattle.gate_world.specs.Verdict.{refusal_tests, is_pool_empty, table_after}
 use Rattle.gate_world.specs.World.{Tracked, World, addresses_of, source_of, destination_of, is_client}
 use Rattle.gate_world.specs.Rules.{SessionRules}
@@ -76,7 +76,7 @@ refusal_is {S = S} rules live side d t found verdict =
 
 -- the units of its session
 units_are : {S : Type 0} (rules : SessionRules S) (side : Side) (d : Datagram) (t : Tracked S) (us : List (List ℕ)) → session_refusal rules side d (Some t) ≡ None → us ≡ rules.units (is_client side t) t.session (segment_of d) → units_in rules side d (Some t) ≡ us
-units_are rules side d t us verdict e = ap (λ (v : Option Refusal). unless_refused v (rules.units (is_client side t) t.session (segment_of d))) verdict ∙ sym e
+units_are rules side d t us verdict e = ap (λ (v : Option Refusal). unless_refused v (rules.units (is_client side t) t.session (segment_of d)) []) verdict ∙ sym e
 
 abbrev pub ends_of : Side → Datagram → Endpoints
 ends_of side d = record { side = side; source = source_of d; destination = destination_of d }

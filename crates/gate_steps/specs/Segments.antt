@@ -38,11 +38,6 @@ refusal_as rules kind live side d = first_that_holds (kind_tests rules live side
 abbrev pub stream_refusal : {S : Type 0} (rules : SessionRules S) → World S → Side → Datagram → Option Refusal
 stream_refusal rules live side d = refusal_as rules Stream live side d
 
--- the connections after a segment that is refused or passes
-abbrev pub connections_by : {S : Type 0} → Option Refusal → List (Connection S) → List (Connection S) → List (Connection S)
-connections_by None passed live = passed
-connections_by (Some refusal) passed live = live
-
 -- the tests behind those of a session
 abbrev pub room_tests : Bool → Bool → List (Bool × Refusal)
 room_tests full empty = (full, SessionsFull) ∷ (empty, PoolEmpty) ∷ []

@@ -5,10 +5,11 @@ ghost use Rattle.binding_table.specs.Plan.{after_uses};
 ghost use Rattle.twice_translate.specs.Renamed.{CanGoOn, datagram_of, renamed};
 ghost use Rattle.tcp_segments.specs.Flags.{flags_of};
 ghost use Rattle.tcp_tracker.specs.Connections.{connection_of, hold_of, noted, is_tracked};
-ghost use Rattle.gate_base.specs.Tests.{first_that_holds};
+ghost use Rattle.gate_base.specs.Tests.{first_that_holds, unless_refused};
+ghost use Rattle.gate_world.specs.Stream.{most_connections, most_sessions};
 ghost use Rattle.gate_world.specs.Units.{uses_until};
-ghost use Rattle.gate_payloads.specs.Ways.{IsWay, image_by, is_empty, table_by, out_by};
-ghost use Rattle.gate_steps.specs.Segments.{connections_by, room_tests, lacks_place};
+ghost use Rattle.gate_payloads.specs.Ways.{IsWay, image_by, is_empty};
+ghost use Rattle.gate_steps.specs.Segments.{room_tests, lacks_place};
 
 use binding_table::Table;
 use gate_base::Refusal;
@@ -41,9 +42,9 @@ pub fn take_untracked<X>(
     requires few { length segment.now.octets.now ≤ 65535 }
     requires can { CanGoOn segment.now.octets.now }
     ensures refusal { result ≡ first_that_holds (room_tests (lacks_place connections.old (connection_of key.now connections.old) segment.now.tcp.now.flags) (is_empty way.now.of_source)) }
-    ensures table { table.new ≡ table_by result (after_uses table.old (uses_until way.now.side (way.now.moment.0 + hold_of connections.old key.now way.now.side segment.now.tcp.now.flags) (way.now.source ∷ way.now.destination ∷ []))) table.old }
-    ensures connections { connections.new ≡ connections_by result (noted connections.old key.now way.now.side segment.now.tcp.now.flags None way.now.moment) connections.old }
-    ensures out { outbox.new ≡ out_by result (renamed (datagram_of segment.now.octets.now) (image_by way.now.of_source way.now.source).0 (image_by way.now.of_destination way.now.destination).0 ∷ []) }
+    ensures table { table.new ≡ unless_refused result (after_uses table.old (uses_until way.now.side (way.now.moment.0 + hold_of connections.old key.now way.now.side segment.now.tcp.now.flags) (way.now.source ∷ way.now.destination ∷ []))) table.old }
+    ensures connections { connections.new ≡ unless_refused result (noted connections.old key.now way.now.side segment.now.tcp.now.flags None way.now.moment) connections.old }
+    ensures out { outbox.new ≡ unless_refused result (renamed (datagram_of segment.now.octets.now) (image_by way.now.of_source way.now.source).0 (image_by way.now.of_destination way.now.destination).0 ∷ []) [] }
 {
     let flags = segment.tcp.flags();
     if lacks_place(connections, key, flags) {
@@ -88,7 +89,7 @@ fn lacks_place<X>(connections: &SessionTable<X>, key: &ConnKey, flags: u8) -> bo
 
 /// The most connections live, or the most sessions.
 pub fn is_full<X>(connections: &SessionTable<X>) -> bool
-    ensures { result ≡ (nat_le 65536 (length connections.now) || nat_le 4096 (count_by is_tracked connections.now)) }
+    ensures { result ≡ (nat_le most_connections (length connections.now) || nat_le most_sessions (count_by is_tracked connections.now)) }
 {
     CONNECTIONS <= connections.len() || SESSIONS <= connections.sessions()
 }
