@@ -1,0 +1,43 @@
+"""The workloads of `bench/run`: settings and two raw captures."""
+from itertools import cycle, islice
+
+from datagrams import REALMS, paced, record, tcp, udp, write_run
+
+SETTINGS = REALMS + """static = [
+    { side = "left", host = "10.0.0.5", alias = "172.16.9.1" },
+    { side = "right", host = "10.0.0.5", alias = "192.168.200.1" },
+]
+"""
+LENGTHS = (60, 576, 60, 1400)
+
+
+def filling(length):
+    return bytes(i * 7 & 255 for i in range(length))
+
+
+def from_one_side(folder, frames):
+    """UDP of one host, half of it 60 octets, a quarter 576 and a quarter 1,400."""
+    kinds = [udp("10.0.0.5", 4000, "192.168.200.1", 4001, filling(length - 28)) for length in LENGTHS]
+    write_run(folder, SETTINGS, paced(islice(cycle(kinds), frames), 1000000))
+
+
+def from_both_sides(folder, frames):
+    """UDP and TCP of 253 hosts and, to every second frame, an answer: two thirds of the frames from the left."""
+    def kinds(host, far):
+        for length in LENGTHS:
+            yield udp(host, 4000, far, 4001, filling(length - 28))
+            yield tcp(host, 4000, far, 4001, 24, 1, 1, filling(length - 40))
+
+    hosts = ["10.0.0.5"] + [f"10.0.1.{number}" for number in range(1, 253)]
+    asked = [list(kinds(host, "192.168.200.1")) for host in hosts]
+    answered = [list(kinds("10.0.0.5", f"172.16.9.{number + 1}")) for number in range(253)]
+    sides = ([], [])
+    for turn in range(frames * 2 // 3):
+        moment = divmod(2 * turn, 1000000)
+        sides[0].append(record(moment[0] + 1, moment[1], asked[turn % 253][turn // 253 % 8]))
+        if turn % 2:
+            sides[1].append(record(moment[0] + 1, moment[1] + 1, answered[turn % 253][turn // 253 % 8]))
+    write_run(folder, SETTINGS, *sides)
+
+
+WORKLOADS = {"UDP, one side": from_one_side, "UDP and TCP of 253 hosts, both sides": from_both_sides}
