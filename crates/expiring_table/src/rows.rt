@@ -45,10 +45,8 @@ impl<T: Copy> Rows<T> {
     pub fn find(&self, key: u128) -> Option<&Row<T>>
         ensures { option_copied result ≡ row_of key self.now.rows }
     {
-        match self.store.place_of(self.most, key) {
-            Some(place) => self.store.cells[place].as_ref(),
-            None => None,
-        }
+        let place = self.store.place_of(self.most, key)?;
+        self.store.cells[place].as_ref()
     }
 
     /// The row with a key, and the place at which it is kept, by which `set_at` finds it at once.
@@ -87,9 +85,8 @@ impl<T: Copy> Rows<T> {
         ensures { self.new ≡ record self.old { rows = with_row row self.old.rows } }
     {
         self.store.make_room(self.most);
-        match self.store.place_near(self.most, place, row.key) {
-            Some(place) => self.store.replace(self.most, place, row),
-            None => {}
+        if let Some(place) = self.store.place_near(self.most, place, row.key) {
+            self.store.replace(self.most, place, row);
         }
     }
 
@@ -97,9 +94,8 @@ impl<T: Copy> Rows<T> {
     pub fn remove(&mut self, key: u128)
         ensures { self.new ≡ record self.old { rows = without key self.old.rows } }
     {
-        match self.store.place_of(self.most, key) {
-            Some(place) => self.store.clear_at(self.most, place, key),
-            None => {}
+        if let Some(place) = self.store.place_of(self.most, key) {
+            self.store.clear_at(self.most, place, key);
         }
     }
 

@@ -225,10 +225,7 @@ impl<T: Copy> Store<T> {
 fn is_watched<T: Copy>(cell: Option<Row<T>>, alarm: u64, end: u64) -> bool
     ensures { result ≡ is_watched alarm end cell }
 {
-    match cell {
-        Some(row) => row.end.is_some() && alarm <= end,
-        None => false,
-    }
+    matches!(cell, Some(row) if row.end.is_some() && alarm <= end)
 }
 
 // The moment of the first alarm of a row with this end.

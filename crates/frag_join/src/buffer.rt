@@ -181,10 +181,7 @@ impl Buffer {
 fn differ(held: Option<u8>, octet: u8) -> bool
     ensures { result ≡ known.are_unlike held (Some octet) }
 {
-    match held {
-        Some(held) => held != octet,
-        None => false,
-    }
+    matches!(held, Some(held) if held != octet)
 }
 
 // Writes octets from a place on.

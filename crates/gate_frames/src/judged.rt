@@ -21,17 +21,11 @@ pub fn judge<'a>(event: &Event<'a>) -> Result<Judged<'a>, Refusal>
     ensures { JudgedBy (event_of event.now) result }
 {
     let octets = octets_in(event);
-    let datagram = match datagram_in(event, octets) {
-        Ok(datagram) => datagram,
-        Err(refusal) => return Err(refusal),
-    };
+    let datagram = datagram_in(event, octets)?;
     if let Some(refusal) = datagram_refusal(&datagram) {
         return Err(refusal);
     }
-    let content = match content_of(&datagram) {
-        Ok(content) => content,
-        Err(refusal) => return Err(refusal),
-    };
+    let content = content_of(&datagram)?;
     let total = usize::from(get_u16(octets, 2));
     Ok(Judged {
         octets: &octets[..total],
