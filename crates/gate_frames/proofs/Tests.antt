@@ -1,5 +1,5 @@
 -- Tests in their order, and faults as refusals.
-use Rattle.std.proofs.Common.{◌≡◌, ℕ, ◌==◌, nat_lt, Bool, true, false, not, ◌||◌, List, [], ◌∷◌, ◌++◌, Option, Some, None, Result, Ok, Err, length, refl, sym, ap, subst, ◌∙◌}
+use Rattle.std.proofs.Common.{◌≡◌, ℕ, ◌==◌, nat_lt, Bool, true, false, not, ◌||◌, List, [], ◌∷◌, ◌++◌, Option, Some, None, Result, Ok, Err, IfOk, IsOkAnd, IsErrAnd, MatchResult, length, refl, sym, ap, subst, ◌∙◌}
 use Rattle.std.proofs.Common.{inl, inr}
 use Rattle.std.specs.Option.{option_or}
 use Rattle.std.specs.Result.{is_ok}
@@ -22,7 +22,8 @@ use Rattle.gate_base.specs.Tests.{first_that_holds}
 use Rattle.ether_frames.specs.Ether.{octets_in}
 use Rattle.gate_world.specs.Frame.{has_other_address, datagram_in, header_tests, datagram_tests, transport_tests}
 use Rattle.gate_world.specs.Stream.{tcp_of}
-use Rattle.gate_frames.specs.Judged.{ip_refusal, transport_refusal, judged, front_tests}
+use Rattle.gate_frames.specs.declared.content.Content.{Content as Carried}
+use Rattle.gate_frames.specs.Judged.{ip_refusal, transport_refusal, judged, front_tests, IsContentOf, Carries}
 
 -- ## Headers
 
@@ -36,6 +37,17 @@ whole_tests octets =
 abbrev pub refused : Result Datagram IpFault → Result Datagram Refusal
 refused (Ok d) = Ok d
 refused (Err fault) = Err (ip_refusal fault)
+
+-- what reading answers, with its fault as a refusal
+pub refused_is : (r : Result Datagram IpFault) (s : Result Datagram Refusal) → MatchResult r (λ d. s ≡ Ok d) (λ f. IsErrAnd s (λ y. y ≡ ip_refusal f)) → s ≡ refused r
+refused_is (Ok d) s h = h
+refused_is (Err f) (Ok d) h = absurd h
+refused_is (Err f) (Err y) h = ap Err h
+
+pub was_read : (r : Result Datagram IpFault) (s : Result Datagram Refusal) → MatchResult r (λ d. s ≡ Ok d) (λ f. IsErrAnd s (λ y. y ≡ ip_refusal f)) → IfOk s (λ d. r ≡ Ok d)
+was_read (Ok d) s h = rw h refl
+was_read (Err f) (Ok d) h = absurd h
+was_read (Err f) (Err y) h = _
 
 five_tests : (a b c d e : Bool) (x : Datagram) → refused (first_fault_or ((a, NotIpv4) ∷ (b, BadHeader) ∷ (c, BadHeaderSum) ∷ (d, Fragment) ∷ (e, IpOptions) ∷ []) x)
     ≡ judged (first_that_holds ((a, refusals.NotIpv4) ∷ (b, refusals.BadHeader) ∷ (c, refusals.BadHeaderSum) ∷ (d, refusals.Fragment) ∷ (e, refusals.IpOptions) ∷ [])) x
@@ -89,6 +101,18 @@ tcp_read d payload s t r p e f g h = subst (λ (x : Result Tcp TransportFault). 
 
 pub icmp_read : (d : Datagram) (payload : List ℕ) (r : Result Icmp TransportFault) → (d.protocol == 17) ≡ false → (d.protocol == 6) ≡ false → payload ≡ d.payload → r ≡ read_icmp payload → Told (icmp_fields_of d.payload) (first_that_holds (transport_tests d)) r
 icmp_read d payload r p q e h = subst (λ (x : Result Icmp TransportFault). Told (icmp_fields_of d.payload) (first_that_holds (transport_tests d)) x) (sym (h ∙ ap read_icmp e)) (icmp_told d p q)
+
+-- a view as content, and a fault as a refusal
+pub carries : {V : Type 0} (d : Datagram) (kind : V → Carried) (x : V) (r : Result V TransportFault) (m : Result Carried TransportFault) (s : Result Carried Refusal) →
+    Told x (first_that_holds (transport_tests d)) r →
+    MatchResult r (λ v. IsOkAnd m (λ y. y ≡ kind v)) (λ f. m ≡ Err f) →
+    MatchResult m (λ y. s ≡ Ok y) (λ f. IsErrAnd s (λ y. y ≡ transport_refusal f)) →
+    IsContentOf d (kind x) → Carries d s
+carries d kind x (Ok v) (Ok y) s told m e is = rw (e, m, told.1) (told.0, is)
+carries d kind x (Ok v) (Err f) s told m e is = absurd m
+carries d kind x (Err f) (Ok y) s told m e is = absurd (cc)
+carries d kind x (Err f) (Err g) (Ok y) told m e is = absurd e
+carries d kind x (Err f) (Err g) (Err y) told m e is = let same : g ≡ f = cc in told ∙ ap Some (sym (e ∙ ap transport_refusal same))
 
 -- ## In their order
 

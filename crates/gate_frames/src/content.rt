@@ -51,10 +51,7 @@ pub fn datagram_in<'a>(event: &Event<'a>, octets: &'a [u8]) -> Result<IpView<'a>
     if !event.whole {
         return Err(Refusal::Snapped);
     }
-    match IpView::of(octets) {
-        Ok(datagram) => Ok(datagram),
-        Err(fault) => Err(ip_refusal(fault)),
-    }
+    IpView::of(octets).map_err(ip_refusal)
 }
 
 fn is_known_icmp(kind: u8) -> bool
@@ -108,19 +105,16 @@ pub fn content_of<'a>(datagram: &IpView<'a>) -> Result<Content<'a>, Refusal>
     let payload = datagram.payload();
     let (source, destination) = (datagram.source(), datagram.destination());
     if datagram.protocol() == UDP {
-        match UdpView::of(payload, source, destination) {
-            Ok(view) => Ok(Content::Udp(view)),
-            Err(fault) => Err(transport_refusal(fault)),
-        }
+        UdpView::of(payload, source, destination)
+            .map(Content::Udp)
+            .map_err(transport_refusal)
     } else if datagram.protocol() == TCP {
-        match TcpView::of(payload, source, destination) {
-            Ok(view) => Ok(Content::Tcp(view)),
-            Err(fault) => Err(transport_refusal(fault)),
-        }
+        TcpView::of(payload, source, destination)
+            .map(Content::Tcp)
+            .map_err(transport_refusal)
     } else {
-        match IcmpView::of(payload) {
-            Ok(view) => Ok(Content::Icmp(view)),
-            Err(fault) => Err(transport_refusal(fault)),
-        }
+        IcmpView::of(payload)
+            .map(Content::Icmp)
+            .map_err(transport_refusal)
     }
 }

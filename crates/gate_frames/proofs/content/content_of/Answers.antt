@@ -1,39 +1,27 @@
-use Rattle.std.proofs.Common.{◌==◌, Some, Ok, Err, sym, ap, ◌∙◌}
+use Rattle.std.proofs.Common.{◌==◌, refl, sym, ap, ◌∙◌}
 use Rattle.std.proofs.lemmas.Bool.{ne_eqb}
-use Rattle.gate_frames.proofs.Tests.{udp_read, tcp_read, icmp_read}
+use Rattle.udp_icmp.specs.Udp.{udp_fields_of}
+use Rattle.udp_icmp.specs.Icmp.{icmp_fields_of}
+use Rattle.gate_world.specs.Stream.{tcp_of}
+use Rattle.gate_frames.specs.declared.content.Content.TheVariants.{Udp, Icmp, Tcp}
+use Rattle.gate_frames.proofs.Tests.{udp_read, tcp_read, icmp_read, carries}
 use Rattle.gate_frames.proofs.content.content_of.Goals as goal
 
-pub returns-in-Ok : goal.returns-in-Ok
-returns-in-Ok c =
+pub returns-then-protocol-eq-UDP : goal.returns-then-protocol-eq-UDP
+returns-then-protocol-eq-UDP c =
+    let d = c.args.datagram.now in
     let p = sym c.protocol.ensures ∙ c.if-protocol-eq-UDP.true in
-    let x = udp_read c.args.datagram.now c.payload-payload.result.now c.source-source.result.0 c.destination-destination.result.0 (Ok c.in-Ok.view) p c.payload-payload.ensures.octets c.source-source.ensures c.destination-destination.ensures c.in-Ok.ensures in
-    (x.0, (p, x.1))
+    carries d Udp (udp_fields_of d.payload) c.of.result c.map.result c.map_err.result (udp_read d c.payload-payload.result.now c.source-source.result.0 c.destination-destination.result.0 c.of.result p c.payload-payload.ensures.octets c.source-source.ensures c.destination-destination.ensures c.of.ensures) c.map.ensures.cases c.map_err.ensures.cases (p, refl)
 
-pub returns-in-Err : goal.returns-in-Err
-returns-in-Err c =
-    udp_read c.args.datagram.now c.payload-payload.result.now c.source-source.result.0 c.destination-destination.result.0 (Err c.in-Err.fault) (sym c.protocol.ensures ∙ c.if-protocol-eq-UDP.true) c.payload-payload.ensures.octets c.source-source.ensures c.destination-destination.ensures c.in-Err.ensures
-    ∙ ap Some (sym c.transport_refusal.ensures)
-
-pub returns-in-Ok-of : goal.returns-in-Ok-of
-returns-in-Ok-of c =
+pub returns-then-protocol-eq-TCP : goal.returns-then-protocol-eq-TCP
+returns-then-protocol-eq-TCP c =
+    let d = c.args.datagram.now in
     let p = sym c.protocol-else-protocol-eq-UDP.ensures ∙ c.if-protocol-eq-TCP.true in
-    let x = tcp_read c.args.datagram.now c.payload-payload.result.now c.source-source.result.0 c.destination-destination.result.0 (Ok c.in-Ok-of.view) p c.payload-payload.ensures.octets c.source-source.ensures c.destination-destination.ensures c.in-Ok-of.ensures in
-    (x.0, (p, x.1))
+    carries d Tcp (tcp_of d) c.of-then-protocol-eq-TCP.result c.map-then-protocol-eq-TCP.result c.map_err-then-protocol-eq-TCP.result (tcp_read d c.payload-payload.result.now c.source-source.result.0 c.destination-destination.result.0 c.of-then-protocol-eq-TCP.result p c.payload-payload.ensures.octets c.source-source.ensures c.destination-destination.ensures c.of-then-protocol-eq-TCP.ensures) c.map-then-protocol-eq-TCP.ensures.cases c.map_err-then-protocol-eq-TCP.ensures.cases (p, refl)
 
-pub returns-in-Err-of : goal.returns-in-Err-of
-returns-in-Err-of c =
-    tcp_read c.args.datagram.now c.payload-payload.result.now c.source-source.result.0 c.destination-destination.result.0 (Err c.in-Err-of.fault) (sym c.protocol-else-protocol-eq-UDP.ensures ∙ c.if-protocol-eq-TCP.true) c.payload-payload.ensures.octets c.source-source.ensures c.destination-destination.ensures c.in-Err-of.ensures
-    ∙ ap Some (sym c.transport_refusal-in-Err-of.ensures)
-
-pub returns-in-Ok-of-2 : goal.returns-in-Ok-of-2
-returns-in-Ok-of-2 c =
+pub returns-else-protocol-eq-TCP : goal.returns-else-protocol-eq-TCP
+returns-else-protocol-eq-TCP c =
+    let d = c.args.datagram.now in
     let p = ap (λ n. n == 17) (sym c.protocol.ensures) ∙ ne_eqb _ _ c.if-protocol-eq-UDP.false in
     let q = ap (λ n. n == 6) (sym c.protocol-else-protocol-eq-UDP.ensures) ∙ ne_eqb _ _ c.if-protocol-eq-TCP.false in
-    let x = icmp_read c.args.datagram.now c.payload-payload.result.now (Ok c.in-Ok-of-2.view) p q c.payload-payload.ensures.octets c.in-Ok-of-2.ensures in
-    (x.0, (p, q, x.1))
-
-pub returns-in-Err-of-2 : goal.returns-in-Err-of-2
-returns-in-Err-of-2 c =
-    let p = ap (λ n. n == 17) (sym c.protocol.ensures) ∙ ne_eqb _ _ c.if-protocol-eq-UDP.false in
-    let q = ap (λ n. n == 6) (sym c.protocol-else-protocol-eq-UDP.ensures) ∙ ne_eqb _ _ c.if-protocol-eq-TCP.false in
-    icmp_read c.args.datagram.now c.payload-payload.result.now (Err c.in-Err-of-2.fault) p q c.payload-payload.ensures.octets c.in-Err-of-2.ensures ∙ ap Some (sym c.transport_refusal-in-Err-of-2.ensures)
+    carries d Icmp (icmp_fields_of d.payload) c.of-else-protocol-eq-TCP.result c.map-else-protocol-eq-TCP.result c.map_err-else-protocol-eq-TCP.result (icmp_read d c.payload-payload.result.now c.of-else-protocol-eq-TCP.result p q c.payload-payload.ensures.octets c.of-else-protocol-eq-TCP.ensures) c.map-else-protocol-eq-TCP.ensures.cases c.map_err-else-protocol-eq-TCP.ensures.cases (p, q, refl)
