@@ -1,5 +1,5 @@
 -- What becomes of a datagram by what it carries.
-use Rattle.std.specs.Prelude.{◌≡◌, ◌≤◌, ℕ, length, false, true, List, ◌∷◌, ◌++◌, Option}
+use Rattle.std.specs.Prelude.{[], ◌≡◌, ◌≤◌, ℕ, length, false, true, List, ◌∷◌, ◌++◌, Option}
 use Rattle.gate_base.specs.declared.refusal.Refusal.{Refusal}
 use Rattle.gate_base.specs.declared.refusal.Refusal.TheVariants.{PoolEmpty}
 use Rattle.gate_base.specs.declared.side.Side.{Side}
