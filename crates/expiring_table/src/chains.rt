@@ -1,9 +1,10 @@
 // Which places of a list are in each bucket.
-ghost use Rattle.std.specs.Prelude.{◌≡◌, ◌+◌, ◌^◌, ◌<◌, ◌≤◌, ◌++◌, ◌∷◌, [], length, slice_index, IfOk};
+ghost use Rattle.std.specs.Prelude.{◌≡◌, ◌+◌, ◌^◌, ◌<◌, ◌++◌, ◌∷◌, [], length, slice_index, IfOk};
 ghost use Rattle.expiring_table.specs.Buckets.{bucket_in};
 ghost use Rattle.expiring_table.specs.Chained.{IsLast, IsNext, without_place, emptied, with_place, no_places};
 
 use crate::buckets::bucket_in;
+use crate::link::Link;
 use crate::seed::Seed;
 use std::alloc::{AllocError, Global};
 use std::marker::Model;
@@ -14,11 +15,11 @@ use std::marker::Model;
 pub struct Chains {
     seed: Seed,
     // the last place in each bucket
-    heads: Vec<Option<u32>>,
+    heads: Vec<Link>,
     // the bucket of each place
     buckets: Vec<u32>,
     // the last earlier place in the same bucket
-    previous: Vec<Option<u32>>,
+    previous: Vec<Link>,
 }
 
 impl Model for Chains {
@@ -36,12 +37,12 @@ impl Model for Chains {
 impl Chains {
     /// No places, and room for so many in so many buckets; the error is that there is too little memory.
     pub fn make(alloc: Global, seed: Seed, width: usize, room: usize) -> Result<Chains, AllocError>
-        requires { room ≤ 2 ^ 32 }
+        requires { room < 2 ^ 32 }
         ensures { IfOk result (λ chains. chains ≡ no_places seed width room) }
     {
         Ok(Chains {
             seed,
-            heads: vec![in alloc; None; width]?,
+            heads: vec![in alloc; Link::none(); width]?,
             buckets: Vec::with_capacity(alloc, room)?,
             previous: Vec::with_capacity(alloc, room)?,
         })
@@ -69,7 +70,7 @@ impl Chains {
         requires { bucket < self.now.width }
         ensures { IsLast bucket self.now.buckets (length self.now.buckets) result }
     {
-        widened(self.heads[bucket])
+        self.heads[bucket].place()
     }
 
     /// The last place before another in the same bucket.
@@ -78,7 +79,7 @@ impl Chains {
         requires there { slice_index self.now.buckets place < self.now.width }
         ensures { IsLast (slice_index self.now.buckets place) self.now.buckets place result }
     {
-        widened(self.previous[place])
+        self.previous[place].place()
     }
 
     /// The next place is in this bucket.
@@ -90,7 +91,7 @@ impl Chains {
         let place = self.buckets.len();
         let head = bucket as usize;
         self.previous.push_reserved(self.heads[head]);
-        self.heads[head] = Some(place as u32);
+        self.heads[head] = Link::to(place);
         self.buckets.push_reserved(bucket);
     }
 
@@ -136,12 +137,6 @@ impl Chains {
         self.seed = seed;
         self.buckets.clear();
         self.previous.clear();
-        self.heads.fill(None);
+        self.heads.fill(Link::none());
     }
-}
-
-fn widened(place: Option<u32>) -> Option<usize>
-    ensures { result ≡ place }
-{
-    place.map(|place| place as usize)
 }

@@ -5,6 +5,7 @@
 mod alarms;
 mod buckets;
 mod chains;
+mod link;
 mod row;
 mod rows;
 mod seed;
