@@ -54,17 +54,17 @@ module _ {T : Type 0} where
   shorter (Some row ∷ cells) = omega (arith, shorter cells)
 
   -- no cell is listed yet
-  pub listed_none : (most : ℕ) (seed : Seed) (old new : Store T) → IsWhole most old → new.cells.items ≡ filter is_some old.cells.items → vec_capacity new.cells ≡ vec_capacity old.cells → new.moments.items ≡ [] → vec_capacity new.moments ≡ vec_capacity old.moments → new.chains ≡ emptied seed old.chains → new.alarms ≡ silenced old.alarms → new.count ≡ old.count → IsListed most 0 new
-  listed_none most seed old new whole cells cells_room moments looks_room chains alarms count =
+  pub listed_none : (seed : Seed) (old new : Store T) → IsWhole old → new.most ≡ old.most → new.cells.items ≡ filter is_some old.cells.items → vec_capacity new.cells ≡ vec_capacity old.cells → new.moments.items ≡ [] → vec_capacity new.moments ≡ vec_capacity old.moments → new.chains ≡ emptied seed old.chains → new.alarms ≡ silenced old.alarms → new.count ≡ old.count → IsListed 0 new
+  listed_none seed old new whole most cells cells_room moments looks_room chains alarms count =
       let room = whole.room in
       let no_alarm : length new.alarms.alarms ≡ 0 = ap (λ x. length x.alarms) alarms in
       let fewer : length new.cells.items ≤ length old.cells.items = omega (arith, ap length cells, shorter old.cells.items) in
       let counts : length (rows_in new.cells.items) ≡ length (rows_in old.cells.items) = ap (λ all. length (rows_in all)) cells ∙ ap length (rows_full old.cells.items) in
       record {
         room = record {
-          some = room.some;
-          few = room.few;
-          width = ap (λ x. x.width) chains ∙ room.width;
+          some = omega (arith, room.some);
+          few = omega (arith, room.few);
+          width = omega (arith, ap (λ x. x.width) chains, room.width);
           cells = omega (arith, room.cells);
           moments = omega (arith, room.moments);
           chains = let e : new.chains.room ≡ old.chains.room = ap (λ x. x.room) chains in omega (arith, room.chains);

@@ -74,8 +74,8 @@ module _ {T : Type 0} where
       subst R c (subst Q b (subst P a h))
 
   -- one more cell is listed
-  pub listed_more : (most place : ℕ) (old new : Store T) (row : Row T) → IsListed most place old → place < length old.cells.items → row_at old.cells.items place ≡ Some row → HasRoom most new → new.cells ≡ old.cells → new.count ≡ old.count → new.moments.items ≡ old.moments.items ++ first_moment row.end ∷ [] → new.chains ≡ with_place (bucket_of old.chains row.key) old.chains → HasAlarm row.end (length old.moments.items) old.alarms.alarms new.alarms.alarms → IsListed most (place + 1) new
-  listed_more most place old new row listed within at room cells count moments chains alarmed =
+  pub listed_more : (place : ℕ) (old new : Store T) (row : Row T) → IsListed place old → place < length old.cells.items → row_at old.cells.items place ≡ Some row → HasRoom new → new.most ≡ old.most → new.cells ≡ old.cells → new.count ≡ old.count → new.moments.items ≡ old.moments.items ++ first_moment row.end ∷ [] → new.chains ≡ with_place (bucket_of old.chains row.key) old.chains → HasAlarm row.end (length old.moments.items) old.alarms.alarms new.alarms.alarms → IsListed (place + 1) new
+  listed_more place old new row listed within at room same cells count moments chains alarmed =
       let items : new.cells.items ≡ old.cells.items = ap (λ v. v.items) cells in
       let more : take place old.cells.items ++ Some row ∷ [] ≡ take (place + 1) new.cells.items =
       ap (λ cell. take place old.cells.items ++ cell ∷ []) (sym at) ∙ sym (take_more old.cells.items place None within) ∙ ap (take (place + 1)) (sym items)
@@ -92,17 +92,17 @@ module _ {T : Type 0} where
       }
 
   -- one more row stands behind the others, with an index that has it
-  pub whole_push : (most : ℕ) (old listed new : Store T) (row : Row T) → IsWhole most old → CanAppend most old → old.count < most → IsPlaceOf row.key old.cells.items None → HasRoom most listed → listed.cells ≡ old.cells → listed.count ≡ old.count → listed.moments.items ≡ old.moments.items ++ first_moment row.end ∷ [] → listed.chains ≡ with_place (bucket_of old.chains row.key) old.chains → HasAlarm row.end (length old.moments.items) old.alarms.alarms listed.alarms.alarms → new.cells.items ≡ listed.cells.items ++ Some row ∷ [] → vec_capacity new.cells ≡ vec_capacity listed.cells → new.moments ≡ listed.moments → new.chains ≡ listed.chains → new.alarms ≡ listed.alarms → new.count ≡ listed.count + 1 → IsWhole most new
-  whole_push most old listed new row whole can few none room cells count moments chains alarmed pushed capacity same_moments same_chains same_alarms counted =
+  pub whole_push : (old listed new : Store T) (row : Row T) → IsWhole old → CanAppend old → old.count < old.most → IsPlaceOf row.key old.cells.items None → HasRoom listed → listed.most ≡ old.most → listed.cells ≡ old.cells → listed.count ≡ old.count → listed.moments.items ≡ old.moments.items ++ first_moment row.end ∷ [] → listed.chains ≡ with_place (bucket_of old.chains row.key) old.chains → HasAlarm row.end (length old.moments.items) old.alarms.alarms listed.alarms.alarms → new.most ≡ listed.most → new.cells.items ≡ listed.cells.items ++ Some row ∷ [] → vec_capacity new.cells ≡ vec_capacity listed.cells → new.moments ≡ listed.moments → new.chains ≡ listed.chains → new.alarms ≡ listed.alarms → new.count ≡ listed.count + 1 → IsWhole new
+  whole_push old listed new row whole can few none room listed_most cells count moments chains alarmed same_most pushed capacity same_moments same_chains same_alarms counted =
       let items : new.cells.items ≡ old.cells.items ++ Some row ∷ [] = pushed ∙ ap (λ v. v.items ++ Some row ∷ []) cells in
       let long : length new.cells.items ≡ length old.cells.items + 1 = ap length items ∙ length-append old.cells.items (Some row ∷ []) in
       let pushed_rows : rows_in new.cells.items ≡ rows_in old.cells.items ++ row ∷ [] = ap rows_in items ∙ rows_push old.cells.items row in
       let counts : length (rows_in new.cells.items) ≡ length (rows_in old.cells.items) + 1 = ap length pushed_rows ∙ length-append (rows_in old.cells.items) (row ∷ []) in
       record {
         room = record {
-          some = room.some;
-          few = room.few;
-          width = ap (λ x. x.width) same_chains ∙ room.width;
+          some = omega (arith, room.some);
+          few = omega (arith, room.few);
+          width = omega (arith, ap (λ x. x.width) same_chains, room.width);
           cells = omega (arith, room.cells, capacity);
           moments = let e : vec_capacity new.moments ≡ vec_capacity listed.moments = ap vec_capacity same_moments in omega (arith, room.moments);
           chains = let e : new.chains.room ≡ listed.chains.room = ap (λ x. x.room) same_chains in omega (arith, room.chains);

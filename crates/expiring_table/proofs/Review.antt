@@ -107,25 +107,25 @@ module _ {T : Type 0} where
       let later : now < slice_index moments place = All-contains (λ (one : Reverse (ℕ × ℕ)). now < one.0.0) alarms (alarm (slice_index moments place) place) late (watch.1) in
       omega (arith, watch.0)))
 
-  pub room_kept : (most : ℕ) (old new : Store T) → HasRoom most old → length new.cells.items ≡ length old.cells.items → vec_capacity new.cells ≡ vec_capacity old.cells → vec_capacity new.moments ≡ vec_capacity old.moments → new.chains ≡ old.chains → old.alarms.room ≤ new.alarms.room → length new.alarms.alarms ≤ 2 * most → HasRoom most new
-  room_kept most old new room long cells moments chains alarms alarmed = record {
-    some = room.some;
-    few = room.few;
-    width = ap (λ x. x.width) chains ∙ room.width;
+  pub room_kept : (old new : Store T) → HasRoom old → new.most ≡ old.most → length new.cells.items ≡ length old.cells.items → vec_capacity new.cells ≡ vec_capacity old.cells → vec_capacity new.moments ≡ vec_capacity old.moments → new.chains.width ≡ old.chains.width → new.chains.room ≡ old.chains.room → old.alarms.room ≤ new.alarms.room → length new.alarms.alarms ≤ 2 * new.most → HasRoom new
+  room_kept old new room most long cells moments width chains alarms alarmed = record {
+    some = omega (arith, room.some);
+    few = omega (arith, room.few);
+    width = omega (arith, room.width);
     cells = omega (arith, room.cells);
     moments = omega (arith, room.moments);
-    chains = let e : new.chains.room ≡ old.chains.room = ap (λ x. x.room) chains in omega (arith, room.chains);
+    chains = omega (arith, room.chains);
     alarms = omega (arith, room.alarms);
     within = omega (arith, room.within);
     alarmed = alarmed;
   }
 
-  pub open_popped : (most moment place : ℕ) (old new : Store T) → IsWhole most old → new.cells ≡ old.cells → new.moments ≡ old.moments → new.chains ≡ old.chains → new.count ≡ old.count → new.alarms.room ≡ old.alarms.room → IsPermutation old.alarms.alarms (alarm moment place ∷ new.alarms.alarms) → IsOpen most moment place new
-  open_popped most moment place old new whole cells moments chains count room taken =
+  pub open_popped : (moment place : ℕ) (old new : Store T) → IsWhole old → new.most ≡ old.most → new.cells ≡ old.cells → new.moments ≡ old.moments → new.chains ≡ old.chains → new.count ≡ old.count → new.alarms.room ≡ old.alarms.room → IsPermutation old.alarms.alarms (alarm moment place ∷ new.alarms.alarms) → IsOpen moment place new
+  open_popped moment place old new whole most cells moments chains count room taken =
       let shorter : length (alarm moment place ∷ new.alarms.alarms) ≡ length old.alarms.alarms = length_permutation old.alarms.alarms (alarm moment place ∷ new.alarms.alarms) taken in
       let items : new.cells.items ≡ old.cells.items = ap (λ v. v.items) cells in
       record {
-        room = room_kept most old new whole.room (ap length items) (ap vec_capacity cells) (ap vec_capacity moments) chains (omega arith) (omega (arith, shorter, whole.room.alarmed));
+        room = room_kept old new whole.room most (ap length items) (ap vec_capacity cells) (ap vec_capacity moments) (ap (λ x. x.width) chains) (ap (λ x. x.room) chains) (omega arith) (omega (arith, shorter, whole.room.alarmed));
         indexed =
             let P : List (Option (Row T)) → Type 0 = λ all. IsIndexed all new.moments.items new.chains (alarm moment place ∷ new.alarms.alarms) in
             let Q : List ℕ → Type 0 = λ all. IsIndexed old.cells.items all new.chains (alarm moment place ∷ new.alarms.alarms) in
@@ -145,8 +145,8 @@ module _ {T : Type 0} where
       }
 
   -- an alarm that no row waits for is gone
-  pub whole_dropped : (most moment place : ℕ) (store : Store T) → IsOpen most moment place store → ((row : Row T) (end : ℕ) → row_at store.cells.items place ≡ Some row → row.end ≡ Some end → slice_index store.moments.items place ≢ moment) → IsWhole most store
-  whole_dropped most moment place store open' spare = record {
+  pub whole_dropped : (moment place : ℕ) (store : Store T) → IsOpen moment place store → ((row : Row T) (end : ℕ) → row_at store.cells.items place ≡ Some row → row.end ≡ Some end → slice_index store.moments.items place ≢ moment) → IsWhole store
+  whole_dropped moment place store open' spare = record {
     room = open'.room;
     indexed = drop_alarm store.cells.items store.moments.items store.chains store.alarms.alarms moment place open'.indexed spare;
     once = open'.once;
@@ -156,16 +156,3 @@ module _ {T : Type 0} where
 
   pub row_cleared : (cells : List (Option (Row T))) (place : ℕ) → place < length cells → row_at (set cells place None) place ≡ None
   row_cleared cells place within = get_or-set_same cells place None None within
-
-  pub room_cleared : (most : ℕ) (old new : Store T) → HasRoom most old → length new.cells.items ≡ length old.cells.items → vec_capacity new.cells ≡ vec_capacity old.cells → vec_capacity new.moments ≡ vec_capacity old.moments → new.chains.width ≡ old.chains.width → new.chains.room ≡ old.chains.room → old.alarms.room ≤ new.alarms.room → length new.alarms.alarms ≤ 2 * most → HasRoom most new
-  room_cleared most old new room long cells moments width chains alarms alarmed = record {
-    some = room.some;
-    few = room.few;
-    width = width ∙ room.width;
-    cells = omega (arith, room.cells);
-    moments = omega (arith, room.moments);
-    chains = omega (arith, room.chains);
-    alarms = omega (arith, room.alarms);
-    within = omega (arith, room.within);
-    alarmed = alarmed;
-  }

@@ -8,6 +8,7 @@ use Rattle.expiring_table.specs.declared.store.Store.{Store}
 use Rattle.expiring_table.specs.Buckets.{bucket_in}
 use Rattle.expiring_table.specs.Chained.{Chained}
 use Rattle.expiring_table.specs.Armed.{alarm}
+use Rattle.expiring_table.specs.Rows.{Table}
 
 -- the bucket of a key
 abbrev pub bucket_of : Chained → ℕ → ℕ
@@ -38,6 +39,10 @@ module _ {T : Type 0} where
   rows_in [] = []
   rows_in (None ∷ cells) = rows_in cells
   rows_in (Some row ∷ cells) = row ∷ rows_in cells
+
+  -- how many rows there may be, and the rows
+  abbrev pub table_of : Store T → Table T
+  table_of store = record { most = store.most; rows = rows_in store.cells.items }
 
   -- the row at a place
   abbrev pub row_at : List (Option (Row T)) → ℕ → Option (Row T)
@@ -73,45 +78,45 @@ module _ {T : Type 0} where
     pub watched : AreWatched cells moments alarms
 
   -- there is room for so many rows twice
-  pub record HasRoom (most : ℕ) (store : Store T) : Type 0 where
-    pub some : 0 < most
-    pub few : 2 * most < 2 ^ 32
-    pub width : store.chains.width ≡ 2 * most
-    pub cells : 2 * most ≤ vec_capacity store.cells
-    pub moments : 2 * most ≤ vec_capacity store.moments
-    pub chains : 2 * most ≤ store.chains.room
-    pub alarms : 2 * most ≤ store.alarms.room
-    pub within : length store.cells.items ≤ 2 * most
-    pub alarmed : length store.alarms.alarms ≤ 2 * most
+  pub record HasRoom (store : Store T) : Type 0 where
+    pub some : 0 < store.most
+    pub few : 2 * store.most < 2 ^ 32
+    pub width : store.chains.width ≡ 2 * store.most
+    pub cells : 2 * store.most ≤ vec_capacity store.cells
+    pub moments : 2 * store.most ≤ vec_capacity store.moments
+    pub chains : 2 * store.most ≤ store.chains.room
+    pub alarms : 2 * store.most ≤ store.alarms.room
+    pub within : length store.cells.items ≤ 2 * store.most
+    pub alarmed : length store.alarms.alarms ≤ 2 * store.most
 
-  pub record IsWhole (most : ℕ) (store : Store T) : Type 0 where
-    pub room : HasRoom most store
+  pub record IsWhole (store : Store T) : Type 0 where
+    pub room : HasRoom store
     pub indexed : IsIndexed store.cells.items store.moments.items store.chains store.alarms.alarms
     pub once : AreOnce store.cells.items
     pub counted : store.count ≡ length (rows_in store.cells.items)
-    pub few : store.count ≤ most
+    pub few : store.count ≤ store.most
 
   -- a store from which an alarm was taken out, whose row was not looked at yet
-  pub record IsOpen (most moment place : ℕ) (store : Store T) : Type 0 where
-    pub room : HasRoom most store
+  pub record IsOpen (moment place : ℕ) (store : Store T) : Type 0 where
+    pub room : HasRoom store
     pub indexed : IsIndexed store.cells.items store.moments.items store.chains (alarm moment place ∷ store.alarms.alarms)
     pub once : AreOnce store.cells.items
     pub counted : store.count ≡ length (rows_in store.cells.items)
-    pub few : store.count ≤ most
-    pub spare : length store.alarms.alarms < 2 * most
+    pub few : store.count ≤ store.most
+    pub spare : length store.alarms.alarms < 2 * store.most
 
   -- a store with room for a row at once
-  pub record CanAppend (most : ℕ) (store : Store T) : Type 0 where
-    pub cells : length store.cells.items < 2 * most
-    pub alarms : length store.alarms.alarms < 2 * most
+  pub record CanAppend (store : Store T) : Type 0 where
+    pub cells : length store.cells.items < 2 * store.most
+    pub alarms : length store.alarms.alarms < 2 * store.most
 
   -- a store without empty cells, of which so many are listed
-  pub record IsListed (most places : ℕ) (store : Store T) : Type 0 where
-    pub room : HasRoom most store
+  pub record IsListed (places : ℕ) (store : Store T) : Type 0 where
+    pub room : HasRoom store
     pub indexed : IsIndexed (take places store.cells.items) store.moments.items store.chains store.alarms.alarms
     pub once : AreOnce store.cells.items
     pub full : (place : ℕ) → place < length store.cells.items → IsSome (row_at store.cells.items place)
     pub reach : places ≤ length store.cells.items
     pub alarmed : length store.alarms.alarms ≤ places
     pub counted : store.count ≡ length (rows_in store.cells.items)
-    pub few : store.count ≤ most
+    pub few : store.count ≤ store.most

@@ -12,7 +12,6 @@ use std::marker::Model;
 /// found without a look at the rest. No call after `make` takes memory.
 #[derive(Drop)]
 pub struct Rows<T> {
-    most: usize,
     store: Store<T>,
 }
 
@@ -21,11 +20,11 @@ impl<T> Model for Rows<T> {
 
     ghost Value = { Table T };
 
-    ghost use Rattle.expiring_table.specs.Kept.{rows_in, IsWhole};
+    ghost use Rattle.expiring_table.specs.Kept.{table_of, IsWhole};
 
-    ghost view = { λ table. record { most = table.most; rows = rows_in table.store.cells.items } };
+    ghost view = { λ table. table_of table.store };
 
-    ghost invariant = { λ table. IsWhole table.most table.store };
+    ghost invariant = { λ table. IsWhole table.store };
 }
 
 impl<T: Copy> Rows<T> {
@@ -36,7 +35,6 @@ impl<T: Copy> Rows<T> {
         ensures { IfOk result (λ table. table ≡ no_rows most) }
     {
         Ok(Rows {
-            most,
             store: Store::make(alloc, most, seed)?,
         })
     }
@@ -45,7 +43,7 @@ impl<T: Copy> Rows<T> {
     pub fn find(&self, key: u128) -> Option<&Row<T>>
         ensures { option_copied result ≡ row_of key self.now.rows }
     {
-        let place = self.store.place_of(self.most, key)?;
+        let place = self.store.place_of(key)?;
         self.store.cells[place].as_ref()
     }
 
@@ -53,7 +51,7 @@ impl<T: Copy> Rows<T> {
     pub fn locate(&self, key: u128) -> Option<(usize, &Row<T>)>
         ensures { option_map (λ found. found.1.now) result ≡ row_of key self.now.rows }
     {
-        let place = self.store.place_of(self.most, key)?;
+        let place = self.store.place_of(key)?;
         let row = self.store.cells[place].as_ref()?;
         Some((place, row))
     }
@@ -73,8 +71,8 @@ impl<T: Copy> Rows<T> {
         requires new { row_of row.key self.old.rows ≡ None }
         ensures { self.new ≡ record self.old { rows = self.old.rows ++ row ∷ [] } }
     {
-        self.store.make_room(self.most);
-        self.store.append(self.most, row);
+        self.store.make_room();
+        self.store.append(row);
     }
 
     /// Puts a row in the place of the one with its key, which is there. It is looked for at a place first, that at which it was
@@ -84,9 +82,9 @@ impl<T: Copy> Rows<T> {
         requires { IsSome (row_of row.key self.old.rows) }
         ensures { self.new ≡ record self.old { rows = with_row row self.old.rows } }
     {
-        self.store.make_room(self.most);
-        if let Some(place) = self.store.place_near(self.most, place, row.key) {
-            self.store.replace(self.most, place, row);
+        self.store.make_room();
+        if let Some(place) = self.store.place_near(place, row.key) {
+            self.store.replace(place, row);
         }
     }
 
@@ -94,8 +92,8 @@ impl<T: Copy> Rows<T> {
     pub fn remove(&mut self, key: u128)
         ensures { self.new ≡ record self.old { rows = without key self.old.rows } }
     {
-        if let Some(place) = self.store.place_of(self.most, key) {
-            self.store.clear_at(self.most, place, key);
+        if let Some(place) = self.store.place_of(key) {
+            self.store.clear_at(place, key);
         }
     }
 
@@ -107,13 +105,13 @@ impl<T: Copy> Rows<T> {
         ensures live { IfNone result (living now self.new.rows ≡ self.new.rows) }
         ensures distinct { AreDistinct self.old.rows }
     {
-        self.store.next_ended(self.most, now)
+        self.store.next_ended(now)
     }
 
     /// Spreads the keys by another seed, at the cost of a look at all rows. What the rows are stays as it is.
     pub fn reseed(&mut self, seed: Seed)
         ensures { self.new ≡ self.old }
     {
-        self.store.compact(self.most, seed);
+        self.store.compact(seed);
     }
 }

@@ -1,8 +1,8 @@
 // Where rows stand, and how they are found.
 ghost use Rattle.std.specs.Prelude.{◌≡◌, ◌+◌, ◌*◌, ◌<◌, ◌≤◌, ◌^◌, ◌++◌, ◌∷◌, [], None, Some, length, IfOk, IfSome, IfNone};
 ghost use Rattle.expiring_table.specs.Chained.{with_place};
-ghost use Rattle.expiring_table.specs.Rows.{with_row, without, living, IsEnded};
-ghost use Rattle.expiring_table.specs.Kept.{bucket_of, first_moment, rows_in, row_at, count_due, is_watched, IsPlaceOf, HasAlarm, IsWhole, IsOpen, IsListed, HasRoom, CanAppend};
+ghost use Rattle.expiring_table.specs.Rows.{no_rows, with_row, without, living, IsTakenOut};
+ghost use Rattle.expiring_table.specs.Kept.{bucket_of, first_moment, rows_in, table_of, row_at, count_due, is_watched, IsPlaceOf, HasAlarm, IsWhole, IsOpen, IsListed, HasRoom, CanAppend};
 
 use crate::alarms::Alarms;
 use crate::chains::Chains;
@@ -13,6 +13,8 @@ use std::alloc::{AllocError, Global};
 /// Cells, each with a row or none.
 #[derive(Drop)]
 pub(crate) struct Store<T> {
+    // how many rows there may be
+    pub(crate) most: usize,
     pub(crate) cells: Vec<Option<Row<T>>>,
     // the moment of the alarm of each row that ends
     pub(crate) moments: Vec<u64>,
@@ -26,10 +28,11 @@ impl<T: Copy> Store<T> {
     pub(crate) fn make(alloc: Global, most: usize, seed: Seed) -> Result<Store<T>, AllocError>
         requires some { 0 < most }
         requires few { 2 * most < 2 ^ 32 }
-        ensures whole { IfOk result (IsWhole most) }
-        ensures empty { IfOk result (λ store. store.cells.items ≡ []) }
+        ensures whole { IfOk result IsWhole }
+        ensures table { IfOk result (λ store. table_of store ≡ no_rows most) }
     {
         Ok(Store {
+            most,
             cells: Vec::with_capacity(alloc, 2 * most)?,
             moments: Vec::with_capacity(alloc, 2 * most)?,
             chains: Chains::make(alloc, seed, 2 * most, 2 * most)?,
@@ -39,8 +42,8 @@ impl<T: Copy> Store<T> {
     }
 
     /// The place of the row with a key.
-    pub(crate) fn place_of(&self, most: usize, key: u128) -> Option<usize>
-        requires { IsWhole most self.now }
+    pub(crate) fn place_of(&self, key: u128) -> Option<usize>
+        requires { IsWhole self.now }
         ensures { IsPlaceOf key self.now.cells.items result }
     {
         let mut at = self.chains.last(self.chains.bucket_of(key) as usize);
@@ -54,65 +57,66 @@ impl<T: Copy> Store<T> {
     }
 
     /// The same, where a place is looked at first.
-    pub(crate) fn place_near(&self, most: usize, near: usize, key: u128) -> Option<usize>
-        requires { IsWhole most self.now }
+    pub(crate) fn place_near(&self, near: usize, key: u128) -> Option<usize>
+        requires { IsWhole self.now }
         ensures { IsPlaceOf key self.now.cells.items result }
     {
         if near < self.cells.len() && is_cell_of(self.cells[near], key) {
             return Some(near);
         }
-        self.place_of(most, key)
+        self.place_of(key)
     }
 
     /// Makes room for a row and an alarm more, at the cost of a look at all rows where there is none.
-    pub(crate) fn make_room(&mut self, most: usize)
-        requires { IsWhole most self.old }
-        ensures whole { IsWhole most self.new }
-        ensures rows { rows_in self.new.cells.items ≡ rows_in self.old.cells.items }
-        ensures room { CanAppend most self.new }
+    pub(crate) fn make_room(&mut self)
+        requires { IsWhole self.old }
+        ensures whole { IsWhole self.new }
+        ensures table { table_of self.new ≡ table_of self.old }
+        ensures room { CanAppend self.new }
     {
-        if 2 * most <= self.cells.len() || 2 * most <= self.alarms.len() {
+        if 2 * self.most <= self.cells.len() || 2 * self.most <= self.alarms.len() {
             let seed = self.chains.seed();
-            self.compact(most, seed);
+            self.compact(seed);
         }
     }
 
     /// Drops the empty cells, and lists each row anew, with its key spread by this seed.
-    pub(crate) fn compact(&mut self, most: usize, seed: Seed)
-        requires { IsWhole most self.old }
-        ensures whole { IsWhole most self.new }
-        ensures rows { rows_in self.new.cells.items ≡ rows_in self.old.cells.items }
-        ensures room { CanAppend most self.new }
+    pub(crate) fn compact(&mut self, seed: Seed)
+        requires { IsWhole self.old }
+        ensures whole { IsWhole self.new }
+        ensures table { table_of self.new ≡ table_of self.old }
+        ensures room { CanAppend self.new }
     {
         self.cells.retain(|cell| cell.is_some());
         self.moments.clear();
         self.chains.clear(seed);
         self.alarms.clear();
         for place in 0..self.cells.len() {
-            self.list_cell(most, place);
+            self.list_cell(place);
         }
     }
 
     // Lists the next cell, which is not empty.
-    fn list_cell(&mut self, most: usize, place: usize)
-        requires whole { IsListed most place self.old }
+    fn list_cell(&mut self, place: usize)
+        requires whole { IsListed place self.old }
         requires within { place < length self.old.cells.items }
-        ensures whole { IsListed most (place + 1) self.new }
+        ensures whole { IsListed (place + 1) self.new }
+        ensures most { self.new.most ≡ self.old.most }
         ensures cells { self.new.cells ≡ self.old.cells }
-        ensures count { self.new.count ≡ self.old.count }
     {
         if let Some(row) = self.cells[place] {
-            self.list_row(most, row.key, row.end);
+            self.list_row(row.key, row.end);
         }
     }
 
     // A row behind the others can be found by its key, and by its end.
-    fn list_row(&mut self, most: usize, key: u128, end: Option<u64>)
-        requires room { HasRoom most self.old }
-        requires moments { length self.old.moments.items < 2 * most }
-        requires links { length self.old.chains.buckets < 2 * most }
-        requires alarms { length self.old.alarms.alarms < 2 * most }
-        ensures room { HasRoom most self.new }
+    fn list_row(&mut self, key: u128, end: Option<u64>)
+        requires room { HasRoom self.old }
+        requires moments { length self.old.moments.items < 2 * self.old.most }
+        requires links { length self.old.chains.buckets < 2 * self.old.most }
+        requires alarms { length self.old.alarms.alarms < 2 * self.old.most }
+        ensures room { HasRoom self.new }
+        ensures most { self.new.most ≡ self.old.most }
         ensures cells { self.new.cells ≡ self.old.cells }
         ensures count { self.new.count ≡ self.old.count }
         ensures moments { self.new.moments.items ≡ self.old.moments.items ++ first_moment end ∷ [] }
@@ -128,26 +132,26 @@ impl<T: Copy> Store<T> {
     }
 
     /// Puts a row with a new key behind the others.
-    pub(crate) fn append(&mut self, most: usize, row: Row<T>)
-        requires whole { IsWhole most self.old }
-        requires room { CanAppend most self.old }
-        requires few { self.old.count < most }
+    pub(crate) fn append(&mut self, row: Row<T>)
+        requires whole { IsWhole self.old }
+        requires room { CanAppend self.old }
+        requires few { self.old.count < self.old.most }
         requires new { IsPlaceOf row.key self.old.cells.items None }
-        ensures whole { IsWhole most self.new }
-        ensures rows { rows_in self.new.cells.items ≡ rows_in self.old.cells.items ++ row ∷ [] }
+        ensures whole { IsWhole self.new }
+        ensures table { table_of self.new ≡ record (table_of self.old) { rows = rows_in self.old.cells.items ++ row ∷ [] } }
     {
-        self.list_row(most, row.key, row.end);
+        self.list_row(row.key, row.end);
         self.cells.push_reserved(Some(row));
         self.count += 1;
     }
 
     /// Another row with the same key stands at a place.
-    pub(crate) fn replace(&mut self, most: usize, place: usize, row: Row<T>)
-        requires whole { IsWhole most self.old }
-        requires room { CanAppend most self.old }
+    pub(crate) fn replace(&mut self, place: usize, row: Row<T>)
+        requires whole { IsWhole self.old }
+        requires room { CanAppend self.old }
         requires place { IsPlaceOf row.key self.old.cells.items (Some place) }
-        ensures whole { IsWhole most self.new }
-        ensures rows { rows_in self.new.cells.items ≡ with_row row (rows_in self.old.cells.items) }
+        ensures whole { IsWhole self.new }
+        ensures table { table_of self.new ≡ record (table_of self.old) { rows = with_row row (rows_in self.old.cells.items) } }
     {
         let was = self.cells[place];
         self.cells[place] = Some(row);
@@ -162,11 +166,11 @@ impl<T: Copy> Store<T> {
     }
 
     /// The row at a place goes.
-    pub(crate) fn clear_at(&mut self, most: usize, place: usize, key: u128)
-        requires whole { IsWhole most self.old }
+    pub(crate) fn clear_at(&mut self, place: usize, key: u128)
+        requires whole { IsWhole self.old }
         requires place { IsPlaceOf key self.old.cells.items (Some place) }
-        ensures whole { IsWhole most self.new }
-        ensures rows { rows_in self.new.cells.items ≡ without key (rows_in self.old.cells.items) }
+        ensures whole { IsWhole self.new }
+        ensures table { table_of self.new ≡ record (table_of self.old) { rows = without key (rows_in self.old.cells.items) } }
     {
         self.chains.remove(place);
         self.cells[place] = None;
@@ -174,15 +178,16 @@ impl<T: Copy> Store<T> {
     }
 
     /// Takes out a row that doesn't live, if there is one.
-    pub(crate) fn next_ended(&mut self, most: usize, now: u64) -> Option<Row<T>>
-        requires { IsWhole most self.old }
-        ensures whole { IsWhole most self.new }
-        ensures some { IfSome result (IsEnded now (rows_in self.old.cells.items) (rows_in self.new.cells.items)) }
-        ensures none { IfNone result (rows_in self.new.cells.items ≡ rows_in self.old.cells.items) }
+    #[inline(always)]
+    pub(crate) fn next_ended(&mut self, now: u64) -> Option<Row<T>>
+        requires { IsWhole self.old }
+        ensures whole { IsWhole self.new }
+        ensures some { IfSome result (IsTakenOut now (table_of self.old) (table_of self.new)) }
+        ensures none { IfNone result (table_of self.new ≡ table_of self.old) }
         ensures live { IfNone result (living now (rows_in self.new.cells.items) ≡ rows_in self.new.cells.items) }
     {
         while let Some((moment, place)) = self.alarms.pop_due(now) {
-            if let Some(row) = self.review(most, moment, place as usize, now) {
+            if let Some(row) = self.review(moment, place as usize, now) {
                 return Some(row);
             }
         }
@@ -190,12 +195,12 @@ impl<T: Copy> Store<T> {
     }
 
     // Looks at the place of an alarm that was taken out: takes out its row if that doesn't live, and else sets an alarm at its end.
-    fn review(&mut self, most: usize, moment: u64, place: usize, now: u64) -> Option<Row<T>>
-        requires open { IsOpen most moment place self.old }
+    fn review(&mut self, moment: u64, place: usize, now: u64) -> Option<Row<T>>
+        requires open { IsOpen moment place self.old }
         requires due { moment ≤ now }
-        ensures whole { IsWhole most self.new }
-        ensures some { IfSome result (IsEnded now (rows_in self.old.cells.items) (rows_in self.new.cells.items)) }
-        ensures none { IfNone result (self.new.cells ≡ self.old.cells) }
+        ensures whole { IsWhole self.new }
+        ensures some { IfSome result (IsTakenOut now (table_of self.old) (table_of self.new)) }
+        ensures none { IfNone result (table_of self.new ≡ table_of self.old) }
         ensures due { IfNone result (count_due now self.new.alarms.alarms ≡ count_due now self.old.alarms.alarms) }
     {
         let row = self.row_at(place)?;

@@ -6,4 +6,4 @@ use Rattle.expiring_table.proofs.rows.Rows.push.Goals as goal
 pub append-requires-clause-new : goal.append-requires-clause-new
 append-requires-clause-new g c =
     none_from c.args.row.key c.make_room.new.self.cells.items c.make_room.ensures.whole.once
-    (ap (row_of c.args.row.key) (c.make_room.ensures.rows ∙ ap (λ (one : Table g.row.T.Denot). one.rows) c.self.view_is) ∙ c.requires.new)
+    (ap (row_of c.args.row.key) (ap (λ (one : Table g.row.T.Denot). one.rows) (c.make_room.ensures.table ∙ c.self.view_is)) ∙ c.requires.new)

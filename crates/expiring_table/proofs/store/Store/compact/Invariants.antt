@@ -4,6 +4,7 @@ use Rattle.expiring_table.proofs.store.Store.compact.Given as goal
 
 abbrev pub invariant-loop-place : goal.invariant-loop-place
 invariant-loop-place g l = record {
-  listed : IsListed l.most l.place l.self;
+  listed : IsListed l.place l.self;
+  most : l.self.most ≡ l.initial.self.most;
   cells : l.self.cells ≡ l.initial.self.cells;
 }

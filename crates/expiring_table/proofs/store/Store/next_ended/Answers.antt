@@ -6,7 +6,7 @@ use Rattle.expiring_table.proofs.Review.{open_popped, due_less, none_due}
 use Rattle.expiring_table.proofs.store.Store.next_ended.Goals as goal
 
 pub review-requires-clause-open : goal.review-requires-clause-open
-review-requires-clause-open g c = open_popped c.args.most c.in-Some.moment c.in-Some.place c.loop-moment.self _ c.loop-moment.invariant.whole refl refl refl refl c.pop_due.ensures.room c.in-Some.ensures.rest
+review-requires-clause-open g c = open_popped c.in-Some.moment c.in-Some.place c.loop-moment.self _ c.loop-moment.invariant.whole refl refl refl refl refl c.pop_due.ensures.room c.in-Some.ensures.rest
 
 pub loop-moment-smaller : goal.loop-moment-smaller
 loop-moment-smaller g c =

@@ -10,14 +10,14 @@ use Rattle.expiring_table.proofs.Indexed.{contains_front, contains_rest}
 use Rattle.expiring_table.proofs.Review.{room_kept}
 use Rattle.expiring_table.proofs.store.Store.replace.Goals as goal
 
-pub returns-in_default-clause-rows : goal.returns-in_default-clause-rows
-returns-in_default-clause-rows g c = rows_set c.args.self.now.cells.items c.args.place c.requires.place.1.0 c.args.row c.requires.whole.once c.requires.place.1.1 c.requires.place.1.2
+pub returns-in_default-clause-table : goal.returns-in_default-clause-table
+returns-in_default-clause-table g c = ap (λ rows. record { most = c.args.self.now.most; rows = rows }) (rows_set c.args.self.now.cells.items c.args.place c.requires.place.1.0 c.args.row c.requires.whole.once c.requires.place.1.1 c.requires.place.1.2)
 
-pub returns-then-is_watched-clause-rows : goal.returns-then-is_watched-clause-rows
-returns-then-is_watched-clause-rows g c = rows_set c.args.self.now.cells.items c.args.place c.requires.place.1.0 c.args.row c.requires.whole.once c.requires.place.1.1 c.requires.place.1.2
+pub returns-then-is_watched-clause-table : goal.returns-then-is_watched-clause-table
+returns-then-is_watched-clause-table g c = ap (λ rows. record { most = c.args.self.now.most; rows = rows }) (rows_set c.args.self.now.cells.items c.args.place c.requires.place.1.0 c.args.row c.requires.whole.once c.requires.place.1.1 c.requires.place.1.2)
 
-pub returns-clause-rows : goal.returns-clause-rows
-returns-clause-rows g c = rows_set c.args.self.now.cells.items c.args.place c.requires.place.1.0 c.args.row c.requires.whole.once c.requires.place.1.1 c.requires.place.1.2
+pub returns-clause-table : goal.returns-clause-table
+returns-clause-table g c = ap (λ rows. record { most = c.args.self.now.most; rows = rows }) (rows_set c.args.self.now.cells.items c.args.place c.requires.place.1.0 c.args.row c.requires.whole.once c.requires.place.1.1 c.requires.place.1.2)
 
 pub returns-in_default-clause-whole : goal.returns-in_default-clause-whole
 returns-in_default-clause-whole g c =
@@ -26,7 +26,7 @@ returns-in_default-clause-whole g c =
     let whole = c.requires.whole in
     let place = c.requires.place in
     record {
-      room = room_kept c.args.most c.args.self.now _ whole.room (length-set cells c.args.place (Some c.args.row)) refl refl refl (omega arith) whole.room.alarmed;
+      room = room_kept c.args.self.now _ whole.room refl (length-set cells c.args.place (Some c.args.row)) refl refl refl refl (omega arith) whole.room.alarmed;
       indexed = indexed_set cells c.args.self.now.moments.items c.args.self.now.moments.items c.args.self.now.chains alarms alarms c.args.place place.1.0 c.args.row place.0 place.1.1 place.1.2 whole.indexed refl
           (λ other not_here. refl) (λ one there. there) (λ end ends. absurd (none-some end (sym c.in_default.is ∙ ends)));
       once = once_set cells c.args.place place.1.0 c.args.row place.0 whole.once place.1.1 place.1.2;
@@ -42,7 +42,7 @@ returns-then-is_watched-clause-whole g c =
     let whole = c.requires.whole in
     let place = c.requires.place in
     record {
-      room = room_kept c.args.most c.args.self.now _ whole.room (length-set cells c.args.place (Some c.args.row)) refl refl refl (omega arith) whole.room.alarmed;
+      room = room_kept c.args.self.now _ whole.room refl (length-set cells c.args.place (Some c.args.row)) refl refl refl refl (omega arith) whole.room.alarmed;
       indexed = indexed_set cells moments moments c.args.self.now.chains alarms alarms c.args.place place.1.0 c.args.row place.0 place.1.1 place.1.2 whole.indexed refl
           (λ other not_here. refl) (λ one there. there) (λ end ends.
           let ring = get_or_read moments c.args.place c.index.result.now (omega (arith, place.0, whole.indexed.watches)) c.index.ensures 0 in
@@ -66,7 +66,7 @@ returns-clause-whole g c =
     let place = c.requires.place in
     let within : c.args.place < length moments = omega (arith, place.0, whole.indexed.watches) in
     record {
-      room = room_kept c.args.most c.args.self.now _ whole.room (length-set cells c.args.place (Some c.args.row)) refl refl refl c.push.ensures.room (omega (arith, c.push.ensures.len, c.requires.room.alarms));
+      room = room_kept c.args.self.now _ whole.room refl (length-set cells c.args.place (Some c.args.row)) refl refl refl refl c.push.ensures.room (omega (arith, c.push.ensures.len, c.requires.room.alarms));
       indexed = indexed_set cells moments (set moments c.args.place end) c.args.self.now.chains alarms alarms' c.args.place place.1.0 c.args.row place.0 place.1.1 place.1.2 whole.indexed (length-set moments c.args.place end)
           (λ other not_here. get_or-set_other moments c.args.place other end 0 not_here)
           (λ one there. Contains-permutation (alarm end c.args.place ∷ alarms) alarms' one c.push.ensures.alarms (contains_rest one (alarm end c.args.place) alarms there))
