@@ -120,6 +120,7 @@ impl Table {
         }
     }
 
+    #[inline(always)]
     fn host_crossing(&self, side: Side, address: Addr) -> Crossing
         ensures { result ≡ tables.host_crossing self.now side address }
     {

@@ -57,6 +57,7 @@ fn use_lists(table: &mut Table, tracked: &TrackedSession, plan: &SegmentPlan, un
 
 /// Uses the addresses of a segment's header, those that its units name, and those that the lists of its session rename, which has taken
 /// it.
+#[inline(always)]
 pub fn use_segment(
     table: &mut Table,
     connections: &SessionTable<TrackedSession>,

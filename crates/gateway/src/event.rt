@@ -88,6 +88,7 @@ fn send<D: Desk>(
 }
 
 /// Sends the datagrams of an outbox to a realm, in their order.
+#[inline(always)]
 fn send_all<D: Desk>(
     desk: &mut D,
     settings: &Settings,

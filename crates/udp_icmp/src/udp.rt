@@ -71,6 +71,7 @@ fn has_bad_length(segment: &[u8]) -> bool
     segment.len() < 8 || usize::from(get_u16(segment, 4)) != segment.len()
 }
 
+#[inline(always)]
 fn has_bad_sum(segment: &[u8], source: Addr, destination: Addr) -> bool
     requires long { 8 ≤ length segment.now }
     requires short { length segment.now ≤ 65535 }
