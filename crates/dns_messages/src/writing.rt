@@ -33,7 +33,11 @@ fn put_u32(writer: &mut NameWriter, number: u32) -> Result<(), OutOfMemory>
     put_octets(writer, &number.to_be_bytes())
 }
 
-fn put_two(writer: &mut NameWriter, first: &Name, second: &Name) -> Result<(), OutOfMemory>
+fn put_two<'a>(
+    writer: &mut NameWriter<'a>,
+    first: &'a Name,
+    second: &'a Name,
+) -> Result<(), OutOfMemory>
     ensures text { OnOk result (writer.new ≡ wrote writer.old (name first.now ⨟ name second.now)) }
     ensures names { OnOk result (IsName first.now × IsName second.now) }
 {
@@ -42,10 +46,10 @@ fn put_two(writer: &mut NameWriter, first: &Name, second: &Name) -> Result<(), O
     Ok(())
 }
 
-fn put_soa(
-    writer: &mut NameWriter,
-    first: &Name,
-    second: &Name,
+fn put_soa<'a>(
+    writer: &mut NameWriter<'a>,
+    first: &'a Name,
+    second: &'a Name,
     octets: &[u8],
 ) -> Result<(), OutOfMemory>
     ensures text { OnOk result (writer.new ≡ wrote writer.old (name first.now ⨟ name second.now ⨟ put octets.now)) }
@@ -57,7 +61,11 @@ fn put_soa(
     Ok(())
 }
 
-fn put_mx(writer: &mut NameWriter, preference: u16, exchange: &Name) -> Result<(), OutOfMemory>
+fn put_mx<'a>(
+    writer: &mut NameWriter<'a>,
+    preference: u16,
+    exchange: &'a Name,
+) -> Result<(), OutOfMemory>
     ensures text { OnOk result (writer.new ≡ wrote writer.old (put (big_bytes 2 preference) ⨟ name exchange.now)) }
     ensures names { OnOk result (IsName exchange.now) }
 {
@@ -66,7 +74,7 @@ fn put_mx(writer: &mut NameWriter, preference: u16, exchange: &Name) -> Result<(
     Ok(())
 }
 
-fn put_content(writer: &mut NameWriter, content: &Content) -> Result<(), OutOfMemory>
+fn put_content<'a>(writer: &mut NameWriter<'a>, content: &'a Content) -> Result<(), OutOfMemory>
     ensures text { OnOk result (writer.new ≡ wrote writer.old (content_written content.now)) }
     ensures fits { OnOk result (ContentFits content.now) }
 {
@@ -81,7 +89,7 @@ fn put_content(writer: &mut NameWriter, content: &Content) -> Result<(), OutOfMe
 }
 
 /// The content behind its length.
-fn put_sized(writer: &mut NameWriter, content: &Content) -> Result<(), WriteStop>
+fn put_sized<'a>(writer: &mut NameWriter<'a>, content: &'a Content) -> Result<(), WriteStop>
     ensures text { Writes result writer.old writer.new (sized (content_written content.now)) }
     ensures fits { OnOk result (ContentFits content.now) }
     ensures short { OnOk result (length writer.new.octets < 2 ^ 16) }
@@ -97,7 +105,7 @@ fn put_sized(writer: &mut NameWriter, content: &Content) -> Result<(), WriteStop
     Ok(())
 }
 
-fn put_head(writer: &mut NameWriter, resource: &Resource) -> Result<(), OutOfMemory>
+fn put_head<'a>(writer: &mut NameWriter<'a>, resource: &'a Resource) -> Result<(), OutOfMemory>
     ensures text { OnOk result (writer.new ≡ wrote writer.old (head_written resource.now)) }
     ensures name { OnOk result (IsName resource.now.name) }
     ensures kind { resource.now.kind < 2 ^ 16 }
@@ -112,7 +120,7 @@ fn put_head(writer: &mut NameWriter, resource: &Resource) -> Result<(), OutOfMem
     Ok(())
 }
 
-fn put_resource(writer: &mut NameWriter, resource: &Resource) -> Result<(), WriteStop>
+fn put_resource<'a>(writer: &mut NameWriter<'a>, resource: &'a Resource) -> Result<(), WriteStop>
     ensures text { Writes result writer.old writer.new (resource_written resource.now) }
     ensures fits { OnOk result (ResourceFits resource.now) }
 {
@@ -121,7 +129,10 @@ fn put_resource(writer: &mut NameWriter, resource: &Resource) -> Result<(), Writ
 }
 
 /// Writes records, and stops as soon as all is too long.
-fn put_resources(writer: &mut NameWriter, resources: &[Resource]) -> Result<(), WriteStop>
+fn put_resources<'a>(
+    writer: &mut NameWriter<'a>,
+    resources: &'a [Resource],
+) -> Result<(), WriteStop>
     ensures text { Writes result writer.old writer.new (resources_written resources.now) }
     ensures fits { OnOk result (AllByRecursion ResourceFits resources.now) }
 {
@@ -131,7 +142,10 @@ fn put_resources(writer: &mut NameWriter, resources: &[Resource]) -> Result<(), 
     Ok(())
 }
 
-fn put_one_question(writer: &mut NameWriter, question: &Question) -> Result<(), OutOfMemory>
+fn put_one_question<'a>(
+    writer: &mut NameWriter<'a>,
+    question: &'a Question,
+) -> Result<(), OutOfMemory>
     ensures text { OnOk result (writer.new ≡ wrote writer.old (name question.now.name ⨟ put (big_bytes 2 question.now.kind) ⨟ put (big_bytes 2 question.now.class))) }
     ensures name { OnOk result (IsName question.now.name) }
     ensures kind { question.now.kind < 2 ^ 16 }
@@ -144,7 +158,10 @@ fn put_one_question(writer: &mut NameWriter, question: &Question) -> Result<(), 
     Ok(())
 }
 
-fn put_question(writer: &mut NameWriter, question: &Option<Question>) -> Result<(), OutOfMemory>
+fn put_question<'a>(
+    writer: &mut NameWriter<'a>,
+    question: &'a Option<Question>,
+) -> Result<(), OutOfMemory>
     ensures text { OnOk result (writer.new ≡ wrote writer.old (questions_written question.now)) }
     ensures fits { OnOk result (IfSome question.now QuestionFits) }
 {
@@ -191,7 +208,7 @@ fn put_header(writer: &mut NameWriter, message: &Message) -> Result<(), OutOfMem
     Ok(())
 }
 
-fn put_message(writer: &mut NameWriter, message: &Message) -> Result<(), WriteStop>
+fn put_message<'a>(writer: &mut NameWriter<'a>, message: &'a Message) -> Result<(), WriteStop>
     requires answers { length message.now.answers < 2 ^ 16 }
     requires authority { length message.now.authority < 2 ^ 16 }
     requires additional { length message.now.additional < 2 ^ 16 }
@@ -209,7 +226,7 @@ fn put_message(writer: &mut NameWriter, message: &Message) -> Result<(), WriteSt
 const ROOM: usize = 512;
 
 /// A writer with that room.
-fn writer_in(alloc: Global) -> Result<NameWriter, OutOfMemory>
+fn writer_in<'a>(alloc: Global) -> Result<NameWriter<'a>, OutOfMemory>
     ensures { IfOk result (λ writer. writer ≡ nothing) }
 {
     NameWriter::make(Vec::with_capacity(alloc, ROOM)?)

@@ -1,7 +1,7 @@
 -- The label starts that a writer's map holds.
 use Rattle.std.proofs.Common.{◌≡◌, ℕ, ◌+◌, ◌<◌, ◌≤◌, Bool, true, false, cond, List, [], ◌∷◌, ◌++◌, Option, Some, None, refl, sym, ap, subst, ◌∙◌, arith, inl, inr}
 use Rattle.std.specs.Prelude.{nat_lt}
-use Rattle.std.specs.Global.{Vec}
+use Rattle.std.specs.Borrow.{Bor}
 use Rattle.std.specs.Str.{bytes_eq}
 use Rattle.std.specs.Ordering.{nat_cmp, is_eq, match_ordering}
 use Rattle.std.specs.declared.cmp.Ordering.{Ordering}
@@ -38,12 +38,12 @@ others : {K X : Type 0} (eq : K → K → Bool) (test : K → Bool) (old new : L
 unfolding KeepsOthers
 others eq test old new h = h
 
-insert-place : (key : Vec ℕ) (m n : BTreeMap (Vec ℕ) ℕ) (w : Option ℕ) → UpdatesBy (λ x y. slice_cmp nat_cmp x.items y.items) (λ k. slice_cmp nat_cmp key.items k.items) m n w
-    → (cs : List ℕ) → place_in n.entries cs ≡ cond (bytes_eq key.items cs) w (place_in m.entries cs)
+insert-place : (key : Bor (List ℕ)) (m n : BTreeMap (Bor (List ℕ)) ℕ) (w : Option ℕ) → UpdatesBy (λ x y. slice_cmp nat_cmp x.now y.now) (λ k. slice_cmp nat_cmp key.now k.now) m n w
+    → (cs : List ℕ) → place_in n.entries cs ≡ cond (bytes_eq key.now cs) w (place_in m.entries cs)
 insert-place key m n w h cs =
-    elim (cases_Bool (bytes_eq key.items cs)) [
-      | inl t ↦ rw t (subst (λ (o : List ℕ). place_in n.entries o ≡ w) ((bytes_eq-Decides key.items cs).0 t) h.1)
-      | inr f ↦ rw f (others _ _ m.entries n.entries h.3 (λ k. is_eq (slice_cmp nat_cmp cs k.items)) (λ x y. (eq_by_cmp_equiv nat_list_cmp_total).congr cs x.items y.items) (λ k. apart_in_order key.items cs k.items f))
+    elim (cases_Bool (bytes_eq key.now cs)) [
+      | inl t ↦ rw t (subst (λ (o : List ℕ). place_in n.entries o ≡ w) ((bytes_eq-Decides key.now cs).0 t) h.1)
+      | inr f ↦ rw f (others _ _ m.entries n.entries h.3 (λ k. is_eq (slice_cmp nat_cmp cs k.now)) (λ x y. (eq_by_cmp_equiv nat_list_cmp_total).congr cs x.now y.now) (λ k. apart_in_order key.now cs k.now f))
     ]
 
 -- ---- starts in the order of their places
@@ -75,20 +75,20 @@ put_start-all P s (t ∷ ts) all =
     ]
 
 -- a new key with the greatest place comes last
-starts_in-insert : (es : List (Vec ℕ × ℕ)) (key : Vec ℕ) (place : ℕ) → place_in es key.items ≡ None → AllByRecursion (IsBelow place) (starts_in es)
-    → starts_in (insert_entry (λ x y. slice_cmp nat_cmp x.items y.items) es key place) ≡ starts_in es ++ record { place = place; octets = key.items } ∷ []
+starts_in-insert : (es : List (Bor (List ℕ) × ℕ)) (key : Bor (List ℕ)) (place : ℕ) → place_in es key.now ≡ None → AllByRecursion (IsBelow place) (starts_in es)
+    → starts_in (insert_entry (λ x y. slice_cmp nat_cmp x.now y.now) es key place) ≡ starts_in es ++ record { place = place; octets = key.now } ∷ []
 starts_in-insert [] key place absent all = refl
 starts_in-insert (e ∷ es) key place absent all =
-    by_order (slice_cmp nat_cmp key.items e.0.items) refl (λ a b. starts_in-insert es key place a b)
+    by_order (slice_cmp nat_cmp key.now e.0.now) refl (λ a b. starts_in-insert es key place a b)
   where
-    by_order : (o : Ordering) → slice_cmp nat_cmp key.items e.0.items ≡ o
-        → (place_in es key.items ≡ None → AllByRecursion (IsBelow place) (starts_in es) → starts_in (insert_entry (λ x y. slice_cmp nat_cmp x.items y.items) es key place) ≡ starts_in es ++ record { place = place; octets = key.items } ∷ [])
-        → starts_in (match_ordering o ((key, place) ∷ e ∷ es) ((e.0, place) ∷ es) (e ∷ insert_entry (λ x y. slice_cmp nat_cmp x.items y.items) es key place)) ≡ starts_in (e ∷ es) ++ record { place = place; octets = key.items } ∷ []
-    by_order Less is next = put_start-last (record { place = place; octets = key.items }) (starts_in (e ∷ es)) all
+    by_order : (o : Ordering) → slice_cmp nat_cmp key.now e.0.now ≡ o
+        → (place_in es key.now ≡ None → AllByRecursion (IsBelow place) (starts_in es) → starts_in (insert_entry (λ x y. slice_cmp nat_cmp x.now y.now) es key place) ≡ starts_in es ++ record { place = place; octets = key.now } ∷ [])
+        → starts_in (match_ordering o ((key, place) ∷ e ∷ es) ((e.0, place) ∷ es) (e ∷ insert_entry (λ x y. slice_cmp nat_cmp x.now y.now) es key place)) ≡ starts_in (e ∷ es) ++ record { place = place; octets = key.now } ∷ []
+    by_order Less is next = put_start-last (record { place = place; octets = key.now }) (starts_in (e ∷ es)) all
     by_order Equal is next = absurd (let q : Some e.1 ≡ None = rw is at absent in cc)
     by_order Greater is next =
-        let parts = put_start-all (IsBelow place) (record { place = e.1; octets = e.0.items }) (starts_in es) all in
-        rw (next (rw is at absent) parts.1) (put_start-before (record { place = e.1; octets = e.0.items }) (record { place = place; octets = key.items }) (starts_in es) parts.0)
+        let parts = put_start-all (IsBelow place) (record { place = e.1; octets = e.0.now }) (starts_in es) all in
+        rw (next (rw is at absent) parts.1) (put_start-before (record { place = e.1; octets = e.0.now }) (record { place = place; octets = key.now }) (starts_in es) parts.0)
 
 -- ---- one start more
 
@@ -130,20 +130,20 @@ near_below : (limit : ℕ) (starts : List Start) → AllByRecursion (IsNear limi
 near_below limit [] all = tt
 near_below limit (s ∷ starts) all = (all.0.0, near_below limit starts all.1)
 
-pub IsIndex-later : (entries : List (Vec ℕ × ℕ)) (limit more : ℕ) → IsIndex entries limit → limit ≤ more → IsIndex entries more
+pub IsIndex-later : (entries : List (Bor (List ℕ) × ℕ)) (limit more : ℕ) → IsIndex entries limit → limit ≤ more → IsIndex entries more
 IsIndex-later entries limit more index le = record { finds = index.finds; near = near_later limit more (starts_in entries) le index.near }
 
-pub record Remembers (old new : List (Vec ℕ × ℕ)) (place : ℕ) (octets : List ℕ) : Type 0 where
+pub record Remembers (old new : List (Bor (List ℕ) × ℕ)) (place : ℕ) (octets : List ℕ) : Type 0 where
   pub starts : starts_in new ≡ starts_in old ++ with_start place octets []
   pub index : IsIndex new (place + 1)
 
 -- a start that can be pointed to was put in
-pub remembers-near : (m n : BTreeMap (Vec ℕ) ℕ) (key : Vec ℕ) (place : ℕ) (octets : List ℕ) → key.items ≡ octets → IsIndex m.entries place → place_in m.entries octets ≡ None → place < 16384
-    → n.entries ≡ insert_entry (λ x y. slice_cmp nat_cmp x.items y.items) m.entries key place → UpdatesBy (λ x y. slice_cmp nat_cmp x.items y.items) (λ k. slice_cmp nat_cmp key.items k.items) m n (Some place)
+pub remembers-near : (m n : BTreeMap (Bor (List ℕ)) ℕ) (key : Bor (List ℕ)) (place : ℕ) (octets : List ℕ) → key.now ≡ octets → IsIndex m.entries place → place_in m.entries octets ≡ None → place < 16384
+    → n.entries ≡ insert_entry (λ x y. slice_cmp nat_cmp x.now y.now) m.entries key place → UpdatesBy (λ x y. slice_cmp nat_cmp x.now y.now) (λ k. slice_cmp nat_cmp key.now k.now) m n (Some place)
     → Remembers m.entries n.entries place octets
 remembers-near m n key place octets is index absent near entries updates =
     let s : Start = record { place = place; octets = octets } in
-    let gone : place_in m.entries key.items ≡ None = ap (place_in m.entries) is ∙ absent in
+    let gone : place_in m.entries key.now ≡ None = ap (place_in m.entries) is ∙ absent in
     let push : starts_in n.entries ≡ starts_in m.entries ++ s ∷ [] =
     ap starts_in entries ∙ starts_in-insert m.entries key place gone (near_below place (starts_in m.entries) index.near) ∙ ap (λ (o : List ℕ). starts_in m.entries ++ record { place = place; octets = o } ∷ []) is in
     let none : found (starts_in m.entries) octets ≡ None = sym (index.finds octets) ∙ absent in
@@ -161,7 +161,7 @@ remembers-near m n key place octets is index absent near entries updates =
     }
 
 -- one that can't be was left out
-pub remembers-far : (entries : List (Vec ℕ × ℕ)) (place : ℕ) (octets : List ℕ) → IsIndex entries place → 16384 ≤ place → Remembers entries entries place octets
+pub remembers-far : (entries : List (Bor (List ℕ) × ℕ)) (place : ℕ) (octets : List ℕ) → IsIndex entries place → 16384 ≤ place → Remembers entries entries place octets
 remembers-far entries place octets index far = record {
   starts = rw (le-ltb _ _ far) (sym (append-nil (starts_in entries)));
   index = IsIndex-later entries place (place + 1) index (omega arith);

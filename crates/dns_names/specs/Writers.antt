@@ -1,6 +1,6 @@
 -- What a writer keeps: a map from octets to the places at which they stand.
 use Rattle.std.specs.Prelude.{◌≡◌, ℕ, ◌<◌, nat_lt, if◌then◌else◌, List, [], ◌∷◌, ◌++◌, Option}
-use Rattle.std.specs.Global.{Vec}
+use Rattle.std.specs.Borrow.{Bor}
 use Rattle.std.specs.Ordering.{nat_cmp}
 use Rattle.std.specs.Cmp.Lexicographic.{slice_cmp}
 use Rattle.std.specs.BTreeMap.{is_at}
@@ -14,13 +14,13 @@ put_start s [] = s ∷ []
 put_start s (t ∷ ts) = if nat_lt s.place t.place then s ∷ t ∷ ts else t ∷ put_start s ts
 
 -- the label starts that a map holds, in the order of their places
-abbrev pub starts_in : List (Vec ℕ × ℕ) → List Start
+abbrev pub starts_in : List (Bor (List ℕ) × ℕ) → List Start
 starts_in [] = []
-starts_in (e ∷ es) = put_start (record { place = e.1; octets = e.0.items }) (starts_in es)
+starts_in (e ∷ es) = put_start (record { place = e.1; octets = e.0.now }) (starts_in es)
 
 -- the place that a map holds for octets
-abbrev pub place_in : List (Vec ℕ × ℕ) → List ℕ → Option ℕ
-place_in entries octets = lookup (is_at (λ k. slice_cmp nat_cmp octets k.items)) entries
+abbrev pub place_in : List (Bor (List ℕ) × ℕ) → List ℕ → Option ℕ
+place_in entries octets = lookup (is_at (λ k. slice_cmp nat_cmp octets k.now)) entries
 
 -- octets and label starts stand behind those that stood
 abbrev pub GrewBy : List Start → List ℕ → List Start → List ℕ → Type 0
@@ -31,6 +31,6 @@ abbrev pub IsNear : ℕ → Start → Type 0
 IsNear limit s = (s.place < limit) × (s.place < 16384)
 
 -- the map finds what its starts find, and they lie below an end
-pub record IsIndex (entries : List (Vec ℕ × ℕ)) (limit : ℕ) : Type 0 where
+pub record IsIndex (entries : List (Bor (List ℕ) × ℕ)) (limit : ℕ) : Type 0 where
   pub finds : (octets : List ℕ) → place_in entries octets ≡ found (starts_in entries) octets
   pub near : AllByRecursion (IsNear limit) (starts_in entries)

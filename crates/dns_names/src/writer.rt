@@ -6,21 +6,20 @@ ghost use Rattle.dns_names.specs.Writers.{starts_in, place_in, GrewBy, IsIndex};
 
 use crate::name::Name;
 use gate_base::{OutOfMemory, put_u16};
-use std::alloc::{AllocError, Global};
+use std::alloc::AllocError;
 use std::collections::BTreeMap;
 use std::marker::Model;
 
-fn place_of(places: &BTreeMap<Vec<u8>, u16>, octets: &[u8]) -> Option<u16>
+fn place_of(places: &BTreeMap<&[u8], u16>, octets: &[u8]) -> Option<u16>
     ensures { result ≡ place_in places.now.entries octets.now }
 {
     places.get(octets).copied()
 }
 
 /// Keeps the place of a label start, if a pointer can lead there.
-fn remember(
-    places: &mut BTreeMap<Vec<u8>, u16>,
-    alloc: Global,
-    octets: &[u8],
+fn remember<'a>(
+    places: &mut BTreeMap<&'a [u8], u16>,
+    octets: &'a [u8],
     place: usize,
 ) -> Result<(), AllocError>
     requires absent { place_in places.old.entries octets.now ≡ None }
@@ -30,8 +29,7 @@ fn remember(
     ensures index { IsIndex places.new.entries (place + 1) }
 {
     if place < 16_384 {
-        let key = Vec::from_slice(alloc, octets)?;
-        places.insert(key, place as u16)?;
+        places.insert(octets, place as u16)?;
     }
     Ok(())
 }
@@ -49,10 +47,9 @@ fn put_pointer(out: &mut Vec<u8>, place: u16) -> Result<(), AllocError>
 
 /// Writes a name, and keeps its label starts.
 #[tactic(auto, using(crate::proofs::Putting::grew_none, crate::proofs::Putting::grew_octets))]
-fn put_labels(
-    places: &mut BTreeMap<Vec<u8>, u16>,
-    alloc: Global,
-    name: &[u8],
+fn put_labels<'a>(
+    places: &mut BTreeMap<&'a [u8], u16>,
+    name: &'a [u8],
     out: &mut Vec<u8>,
 ) -> Result<(), AllocError>
     requires spelled { IsSpelled name.now (labels_in name.now) }
@@ -72,7 +69,7 @@ fn put_labels(
         let place = out.len();
         let (label, after) = rest.split_at(1 + count);
         out.extend_from_slice(label)?;
-        remember(places, alloc, rest, place)?;
+        remember(places, rest, place)?;
         rest = after;
     }
     out.push(0)?;
@@ -80,14 +77,14 @@ fn put_labels(
 }
 
 /// Octets and names, one behind the other. Contracts see the octets, and the label starts below 16,384 in them with what
-/// stands there.
+/// stands there. The names are lent to it.
 #[derive(Drop)]
-pub struct NameWriter {
+pub struct NameWriter<'a> {
     octets: Vec<u8>,
-    places: BTreeMap<Vec<u8>, u16>,
+    places: BTreeMap<&'a [u8], u16>,
 }
 
-impl Model for NameWriter {
+impl<'a> Model for NameWriter<'a> {
     ghost use Rattle.std.specs.Prelude.{length};
     ghost use Rattle.dns_names.specs.Spelling.{Text};
 
@@ -100,14 +97,14 @@ impl Model for NameWriter {
     ghost invariant = { λ w. IsIndex w.places.entries (length w.octets.items) };
 }
 
-impl NameWriter {
+impl<'a> NameWriter<'a> {
     ghost use Rattle.std.specs.Prelude.{IfOk};
     ghost use Rattle.dns_names.specs.Names.{IsName};
     ghost use Rattle.dns_names.specs.Spelling as spelling;
     ghost use Rattle.dns_names.specs.Texts.{nothing};
 
     /// A writer behind a target that is empty, whose allocator it goes on with. Nothing is written yet.
-    pub fn make(target: Vec<u8>) -> Result<NameWriter, OutOfMemory>
+    pub fn make(target: Vec<u8>) -> Result<NameWriter<'a>, OutOfMemory>
         requires { target.items ≡ [] }
         ensures { IfOk result (λ writer. writer ≡ nothing) }
     {
@@ -136,13 +133,12 @@ impl NameWriter {
 
     /// Writes a name label by label, until a suffix of it stands already. Then a pointer to its lowest place ends the name.
     /// Where memory runs out, what was written before stands, and perhaps a part of the name behind it.
-    pub fn put_name(&mut self, name: &Name) -> Result<(), OutOfMemory>
+    pub fn put_name(&mut self, name: &'a Name) -> Result<(), OutOfMemory>
         ensures text { OnOk result (self.new ≡ spelling.put_name self.old name.now) }
         ensures kept { spelling.BeginsWith self.old self.new }
         ensures name { IsName name.now }
     {
-        let alloc = *self.octets.allocator();
-        put_labels(&mut self.places, alloc, name.octets(), &mut self.octets)?;
+        put_labels(&mut self.places, name.octets(), &mut self.octets)?;
         Ok(())
     }
 
@@ -156,7 +152,7 @@ impl NameWriter {
 
     /// The octets that were written.
     pub fn finish(self) -> Vec<u8>
-        ensures { result.items ≡ self.octets }
+        ensures { result.items ≡ self.entry.octets }
     {
         let NameWriter { octets, .. } = self;
         octets

@@ -54,9 +54,9 @@ fn reversed(alloc: Global, old: &[u8], address: u32) -> Option<Vec<u8>> {
 
 /// Two names behind two octets.
 fn spelled(alloc: Global, first: &[u8], second: &[u8]) -> Option<Vec<u8>> {
-    let mut writer = NameWriter::make(Vec::new(alloc)).ok()?;
     let (first, _) = read_name(alloc, first, 0).ok()?;
     let (second, _) = read_name(alloc, second, 0).ok()?;
+    let mut writer = NameWriter::make(Vec::new(alloc)).ok()?;
     writer.put_octets(b"\x09\x09").ok()?;
     writer.put_name(&first).ok()?;
     writer.put_name(&second).ok()?;
