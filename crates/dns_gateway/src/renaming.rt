@@ -40,35 +40,35 @@ fn count_of(address: Option<Addr>) -> usize
     }
 }
 
-fn name_to(alloc: Global, image: Option<Addr>, name: &Name) -> Result<Name, OutOfMemory>
-    requires { IfSome image (λ _. IsSome (full_reverse name.now)) }
-    ensures { IfOk result (λ renamed. renamed ≡ name_to image name.now) }
+fn name_to(alloc: Global, image: Option<Addr>, name: Name) -> Result<Name, OutOfMemory>
+    requires { IfSome image (λ _. IsSome (full_reverse name)) }
+    ensures { IfOk result (λ renamed. renamed ≡ name_to image name) }
 {
     match image {
-        Some(address) => reverse_of(alloc, address, name),
-        None => name.try_clone(alloc),
+        Some(address) => reverse_of(alloc, address, &name),
+        None => Ok(name),
     }
 }
 
-fn content_to(alloc: Global, image: Option<Addr>, content: &Content) -> Result<Content, OutOfMemory>
-    ensures { IfOk result (λ renamed. renamed ≡ content_to image content.now) }
+fn content_to(image: Option<Addr>, content: Content) -> Content
+    ensures { result ≡ content_to image content }
 {
     match image {
-        Some(address) => Ok(Content::Address(address)),
-        None => content.try_clone(alloc),
+        Some(address) => Content::Address(address),
+        None => content,
     }
 }
 
 /// A record whose images stand from a place on, and the place after them.
 fn rename_resource(
     alloc: Global,
-    resource: &Resource,
+    resource: Resource,
     images: &[Option<Addr>],
     place: usize,
 ) -> Result<(Resource, usize), OutOfMemory>
-    requires { place + length (resource_addresses resource.now) ≤ length images.now }
-    ensures renamed { IfOk result (λ x. x.0 ≡ resource_renamed images.now place resource.now) }
-    ensures after { IfOk result (λ x. x.1 ≡ place + length (resource_addresses resource.now)) }
+    requires { place + length (resource_addresses resource) ≤ length images.now }
+    ensures renamed { IfOk result (λ x. x.0 ≡ resource_renamed images.now place resource) }
+    ensures after { IfOk result (λ x. x.1 ≡ place + length (resource_addresses resource)) }
 {
     let owner = address_of(&resource.name);
     let value = address_in(&resource.content);
@@ -76,8 +76,8 @@ fn rename_resource(
     let after = behind + count_of(value);
     let owner = image_of(owner, images, place);
     let value = image_of(value, images, behind);
-    let name = name_to(alloc, owner, &resource.name)?;
-    let content = content_to(alloc, value, &resource.content)?;
+    let name = name_to(alloc, owner, resource.name)?;
+    let content = content_to(value, resource.content);
     let lifetime = if owner.is_some() || value.is_some() {
         0
     } else {
@@ -98,15 +98,16 @@ fn rename_resource(
 /// Records whose images stand from a place on, and the place after them.
 fn rename_resources(
     alloc: Global,
-    resources: &[Resource],
+    resources: Resources,
     images: &[Option<Addr>],
     start: usize,
 ) -> Result<(Vec<Resource>, usize), OutOfMemory>
-    requires { start + length (resources_addresses resources.now) ≤ length images.now }
-    ensures renamed { IfOk result (λ x. x.0.items ≡ resources_renamed images.now start resources.now) }
-    ensures after { IfOk result (λ x. x.1 ≡ start + length (resources_addresses resources.now)) }
+    requires { start + length (resources_addresses resources) ≤ length images.now }
+    ensures renamed { IfOk result (λ x. x.0.items ≡ resources_renamed images.now start resources) }
+    ensures after { IfOk result (λ x. x.1 ≡ start + length (resources_addresses resources)) }
 {
-    let mut renamed = Vec::new(alloc);
+    let resources = resources.into_items();
+    let mut renamed = Vec::with_capacity(alloc, resources.len())?;
     let mut place = start;
     for resource in resources {
         let (next, after) = rename_resource(alloc, resource, images, place)?;
@@ -119,11 +120,11 @@ fn rename_resources(
 /// A question whose image stands first, and the place after it.
 fn rename_question(
     alloc: Global,
-    question: &Option<Question>,
+    question: Option<Question>,
     images: &[Option<Addr>],
 ) -> Result<(Option<Question>, usize), OutOfMemory>
-    ensures renamed { IfOk result (λ x. x.0 ≡ question_renamed images.now question.now) }
-    ensures after { IfOk result (λ x. x.1 ≡ length (question_addresses question.now)) }
+    ensures renamed { IfOk result (λ x. x.0 ≡ question_renamed images.now question) }
+    ensures after { IfOk result (λ x. x.1 ≡ length (question_addresses question)) }
 {
     match question {
         None => Ok((None, 0)),
@@ -131,7 +132,7 @@ fn rename_question(
             let address = address_of(&question.name);
             let after = count_of(address);
             let image = image_of(address, images, 0);
-            let name = name_to(alloc, image, &question.name)?;
+            let name = name_to(alloc, image, question.name)?;
             let (kind, class) = (question.kind, question.class);
             Ok((Some(Question { name, kind, class }), after))
         }
@@ -139,21 +140,21 @@ fn rename_question(
 }
 
 /// The message with the images of the addresses that `addresses_of` lists, in their order. No image keeps an address; an
-/// image takes its place, and makes the lifetime of its record 0.
+/// image takes its place, and makes the lifetime of its record 0. What stays is moved into it.
 pub fn rename(
     alloc: Global,
-    message: &Message,
+    message: Message,
     images: &[Option<Addr>],
 ) -> Result<Message, OutOfMemory>
-    requires { length images.now ≡ length (message_addresses message.now) }
-    ensures renamed { IfOk result (λ renamed. renamed ≡ message_renamed images.now message.now) }
+    requires { length images.now ≡ length (message_addresses message) }
+    ensures renamed { IfOk result (λ renamed. renamed ≡ message_renamed images.now message) }
     // It keeps the form that a message needs to be written.
-    ensures suits { MessageSuits message.now → IfOk result MessageSuits }
+    ensures suits { MessageSuits message → IfOk result MessageSuits }
 {
-    let (question, place) = rename_question(alloc, &message.question, images)?;
-    let (answers, place) = rename_resources(alloc, message.answers.items(), images, place)?;
-    let (authority, place) = rename_resources(alloc, message.authority.items(), images, place)?;
-    let (additional, _) = rename_resources(alloc, message.additional.items(), images, place)?;
+    let (question, place) = rename_question(alloc, message.question, images)?;
+    let (answers, place) = rename_resources(alloc, message.answers, images, place)?;
+    let (authority, place) = rename_resources(alloc, message.authority, images, place)?;
+    let (additional, _) = rename_resources(alloc, message.additional, images, place)?;
     Ok(Message {
         id: message.id,
         flags: message.flags,

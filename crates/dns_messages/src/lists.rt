@@ -1,9 +1,7 @@
 // Lists in messages.
-ghost use Rattle.std.specs.Prelude.{◌≡◌, IfOk};
+ghost use Rattle.std.specs.Prelude.{◌≡◌};
 
 use crate::message::Resource;
-use gate_base::OutOfMemory;
-use std::alloc::Global;
 use std::marker::Model;
 
 /// A list of octets.
@@ -33,14 +31,6 @@ impl Octets {
         ensures { result.now ≡ self.now }
     {
         &self.items
-    }
-
-    /// The same list once more.
-    pub fn try_clone(&self, alloc: Global) -> Result<Octets, OutOfMemory>
-        ensures { IfOk result (λ octets. octets ≡ self.now) }
-    {
-        let items = Vec::from_slice(alloc, &self.items)?;
-        Ok(Octets { items })
     }
 }
 
@@ -72,5 +62,12 @@ impl Resources {
         ensures { result.now ≡ self.now }
     {
         &self.items
+    }
+
+    /// The records themselves, in their order.
+    pub fn into_items(self) -> Vec<Resource>
+        ensures { result.items ≡ self }
+    {
+        self.items
     }
 }

@@ -1,10 +1,7 @@
 // Messages (RFC 1035, 4.1).
-ghost use Rattle.std.specs.Prelude.{◌≡◌, IfOk};
-
 use crate::lists::{Octets, Resources};
 use dns_names::Name;
-use gate_base::{Addr, OutOfMemory};
-use std::alloc::Global;
+use gate_base::Addr;
 
 /// What the data of a record holds.
 #[derive(Drop)]
@@ -21,28 +18,6 @@ pub enum Content {
     Mx(u16, Name),
     /// The octets of any other type, and none with each type.
     Octets(Octets),
-}
-
-impl Content {
-    /// The same content once more.
-    pub fn try_clone(&self, alloc: Global) -> Result<Content, OutOfMemory>
-        ensures { IfOk result (λ content. content ≡ self.now) }
-    {
-        Ok(match self {
-            Content::Address(address) => Content::Address(*address),
-            Content::One(name) => Content::One(name.try_clone(alloc)?),
-            Content::Soa(first, second, octets) => Content::Soa(
-                first.try_clone(alloc)?,
-                second.try_clone(alloc)?,
-                octets.try_clone(alloc)?,
-            ),
-            Content::Two(first, second) => {
-                Content::Two(first.try_clone(alloc)?, second.try_clone(alloc)?)
-            }
-            Content::Mx(preference, name) => Content::Mx(*preference, name.try_clone(alloc)?),
-            Content::Octets(octets) => Content::Octets(octets.try_clone(alloc)?),
-        })
-    }
 }
 
 /// A question (RFC 1035, 4.1.2).

@@ -86,14 +86,14 @@ fn has_image(images: &[Option<Addr>]) -> bool
 /// it is.
 fn reply_by(
     alloc: Global,
-    message: &Message,
+    message: Message,
     images: &[Option<Addr>],
     payload: &[u8],
 ) -> Result<Option<Vec<u8>>, OutOfMemory>
-    requires images { length images.now ≡ 2 + length (message_addresses message.now) }
-    requires suits { MessageSuits message.now }
+    requires images { length images.now ≡ 2 + length (message_addresses message) }
+    requires suits { MessageSuits message }
     requires few { length payload.now ≤ 65507 }
-    ensures is { IfOk result (λ reply. unwrap_or (option_map (λ v. v.items) reply) payload.now ≡ reply_by (drop 2 images.now) payload.now (Some message.now)) }
+    ensures is { IfOk result (λ reply. unwrap_or (option_map (λ v. v.items) reply) payload.now ≡ reply_by (drop 2 images.now) payload.now (Some message)) }
     ensures fits { IfOk result (λ reply. IfSome reply (λ v. 28 + length v.items ≤ 65535)) }
 {
     let images = &images[2..];
@@ -198,7 +198,7 @@ fn take_unnamed(table: &mut Table, way: &Way, octets: &[u8], outbox: &mut Outbox
 /// Takes a datagram with this message.
 fn take_message(
     alloc: Global,
-    message: &Message,
+    message: Message,
     table: &mut Table,
     firsts: &mut Firsts,
     way: &Way,
@@ -211,12 +211,12 @@ fn take_message(
     requires moment { way.now.moment.0 < 2 ^ 32 * 1000000000 }
     requires empty { outbox.old ≡ [] }
     requires whole { IsUdpOf datagram.now.octets.now datagram.now.payload.now }
-    requires message { message_at datagram.now.payload.now ≡ Some message.now }
-    requires suits { MessageSuits message.now }
+    requires message { message_at datagram.now.payload.now ≡ Some message }
+    requires suits { MessageSuits message }
     ensures taken { (live : World PlainSession) → live.table ≡ table.old → IsWayOf live way.now.side (datagram_of datagram.now.octets.now) way.now → IfOk result (λ r. IsTaken plain_rules live way.now.side (datagram_of datagram.now.octets.now) (kinds.Dns) r table.new outbox.new) }
     ensures memory { OnErr result ((table.new ≡ table.old) × (outbox.new ≡ [])) }
 {
-    let named = named_in(alloc, message)?;
+    let named = named_in(alloc, &message)?;
     if named.is_empty() {
         return Ok(take_unnamed(table, way, datagram.octets, outbox));
     }
@@ -253,6 +253,6 @@ pub fn take_dns(
 {
     match message_in(alloc, datagram.payload)? {
         None => Ok(Some(Refusal::BadDns)),
-        Some(message) => take_message(alloc, &message, table, firsts, way, datagram, outbox),
+        Some(message) => take_message(alloc, message, table, firsts, way, datagram, outbox),
     }
 }

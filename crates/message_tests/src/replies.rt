@@ -87,7 +87,7 @@ fn sent(alloc: Global, octets: &[u8]) -> Option<Vec<u8>> {
     let message = read_message(alloc, octets).ok()?;
     let addresses = addresses_of(alloc, &message).ok()?;
     let images: Vec<Option<Addr>> = addresses.iter().map(image).collect(alloc).ok()?;
-    let renamed = rename(alloc, &message, &images).ok()?;
+    let renamed = rename(alloc, message, &images).ok()?;
     reply(alloc, &renamed, octets.len()).ok()
 }
 
