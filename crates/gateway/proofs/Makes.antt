@@ -1,6 +1,5 @@
 -- A run over a workload in memory.
-use Rattle.std.proofs.Common.{◌≡◌, ℕ, List, [], ◌∷◌, ◌≤◌, Result, Ok, Err, MatchResult, IsTrue, inl, inr, refl, sym, ap, subst, ◌∙◌, arith}
-use Rattle.std.proofs.lemmas.Bool.{false≢true}
+use Rattle.std.proofs.Common.{◌≡◌, ℕ, List, [], ◌∷◌, ◌≤◌, Result, Ok, Err, MatchResult, refl, sym, ap, subst, ◌∙◌, arith}
 use Rattle.gate_desk.specs.declared.slot.Slot.{Slot}
 use Rattle.gate_desk.specs.declared.slot.Slot.TheVariants.{Report}
 use Rattle.gate_desk.specs.declared.slot.PerSlot.{PerSlot}
@@ -11,16 +10,14 @@ use Rattle.gate_desk.specs.Memory.{inputs}
 use Rattle.gate_report.specs.declared.line.Line.{Line}
 use Rattle.gate_workload.specs.declared.workload.Workload.{Workload}
 use Rattle.gate_workload.specs.Workloads.{workload}
-use Rattle.gate_phases.specs.Status.{is_settings_fault}
 use Rattle.gate_phases.specs.declared.status.Status.{Status}
 use Rattle.gate_phases.specs.declared.status.Status.TheVariants.{Done, SettingsRefused, CaptureRefused, ReadFault, WriteFault, OpenFault, OutOfMemory}
-use Rattle.gateway.specs.Command.{Names, make_starts}
+use Rattle.gateway.specs.Names.{Names, make_starts}
 use Rattle.gate_phases.specs.Causes.{StartsAll}
 use Rattle.gateway.specs.Causes.{WritesPieces}
 use Rattle.gateway.specs.Pieces.{wrote_pieces, WritesAll, IsFront}
 use Rattle.gateway.specs.Making.{workload_in, made_piece, IsLineOf, IsMake}
-use Rattle.gateway.specs.Answers.{Runs, IsToldMake, AnswersMake}
-use Rattle.gate_phases.specs.Telling.{Tells}
+use Rattle.gateway.specs.Answers.{Runs}
 use Rattle.gateway.proofs.Accepted.{never_refused, never_faulty}
 
 -- no count of a desk that discards rises
@@ -84,24 +81,3 @@ not_written e line number count report a b c h is same k =
       left = failed.1.only.left ∙ h.left;
       grows = grows_on a b c h.grows failed.1.only.grows;
     })
-
--- ## The line
-
-untold : (e : Status) (number count : ℕ) (report : List ℕ) (a b : Outside) → IsTrue (is_settings_fault e) → IsMake e number count report a b → IsMake OutOfMemory number count report a b
-untold (SettingsRefused f) number count report a b is h = absurd h.made
-untold e number count report a b is h = absurd (false≢true is)
-
-told_make : (e answer : Status) (number count : ℕ) (report : List ℕ) (a b c : Outside) → IsMake e number count report a b → Tells e answer b c → IsToldMake answer number count report a c
-told_make e answer number count report a b c h t =
-    elim t.answer_is [
-      | inl same ↦ record { ended = b; make = subst (λ s. IsMake s number count report a b) (sym same) h; line = t.line }
-      | inr memory ↦ record { ended = b; make = subst (λ s. IsMake s number count report a b) (sym memory.0) (untold e number count report a b memory.1 h); line = t.line }
-    ]
-
-not_done : (e : Status) (b c : Outside) → (e ≡ Done → ⊥) → Tells e Done b c → ⊥
-not_done e b c undone t = elim t.answer_is [ inl same ↦ undone (sym same) | inr memory ↦ cc ]
-
--- what the call answers to the words of a make
-pub answers_make : (e answer : Status) (number count : ℕ) (report : List ℕ) (a b c : Outside) → (e ≡ Done → ⊥) → IsMake e number count report a b → Tells e answer b c → AnswersMake answer number count report a c
-answers_make e Done number count report a b c undone h t = absurd (not_done e b c undone t)
-answers_make e answer number count report a b c undone h t = told_make e answer number count report a b c h t

@@ -2,7 +2,7 @@
 ghost use Rattle.std.specs.Prelude.{◌≡◌, ◌≤◌, MatchResult};
 ghost use Rattle.gateway.specs.Making.{IsMake, IsLineOf};
 
-use crate::command::FileNames;
+use crate::names::FileNames;
 use crate::report::put_text;
 use crate::run::run;
 use gate_desk::{Desk, DiscardingDesk, Slot, Way};

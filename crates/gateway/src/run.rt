@@ -1,10 +1,10 @@
 // A run over files.
 ghost use Rattle.std.specs.Prelude.{OnErr};
-ghost use Rattle.gateway.specs.Command.{names_of};
+ghost use Rattle.gateway.specs.Names.{names_of};
 ghost use Rattle.gateway.specs.Answers.{Runs, TookForWritten};
 
-use crate::command::FileNames;
 use crate::forward::forward;
+use crate::names::FileNames;
 use crate::prepare::prepare;
 use crate::ready::ready;
 use frag_join::open_joiner;

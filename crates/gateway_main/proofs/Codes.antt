@@ -5,7 +5,7 @@ use Rattle.gate_desk.specs.declared.slot.Slot.{Slot}
 use Rattle.gate_desk.specs.Outside.{Outside}
 use Rattle.gate_desk.specs.Untold.{Files}
 use Rattle.gate_phases.specs.declared.status.Status.TheVariants.{WriteFault}
-use Rattle.gateway.specs.Command.{Command}
+use Rattle.gate_command.specs.Command.{Command}
 use Rattle.gateway_main.specs.Exit.{IsExit, IsCode, Finishes}
 
 -- what is answered in the end is the code of a status

@@ -5,9 +5,9 @@ use Rattle.gate_desk.specs.Outside.{Outside, HasFailed}
 use Rattle.gate_desk.specs.Untold.{Files, told_by, HandsOutAll, all_dropped}
 use Rattle.gate_phases.specs.declared.status.Status.{Status}
 use Rattle.gate_phases.specs.declared.status.Status.TheVariants.{WriteFault}
-use Rattle.gateway.specs.Command.{Command}
+use Rattle.gate_command.specs.Command.{Command}
 use Rattle.gate_phases.specs.Status.{code_of}
-use Rattle.gateway.specs.Answers.{Answers}
+use Rattle.gate_command.specs.Answers.{Answers}
 use Rattle.gate_phases.specs.Telling.{TellsLine}
 
 -- a command was carried out, and this is the code of its status

@@ -3,15 +3,16 @@
 #![tactic(auto)]
 
 ghost use Rattle.std.specs.String.{string_bytes};
-ghost use Rattle.gateway.specs.Command.{command_of};
+ghost use Rattle.gate_command.specs.Command.{command_of};
 ghost use Rattle.gate_phases.specs.Telling.{TellsLine};
 ghost use Rattle.std.specs.Prelude.{◌≡◌, map};
 ghost use Rattle.gate_phases.specs.Status.{error_line};
 ghost use Rattle.gate_phases.specs.declared.status.Status.TheVariants.{WriteFault};
 ghost use Rattle.gateway_main.specs.Exit.{IsExit, IsCode, Finishes, IsFinished};
 
+use gate_command::realm_gate;
 use gate_desk::{Desk, FileDesk, Slot, write_whole};
-use gateway::{Status, realm_gate};
+use gate_phases::Status;
 use std::alloc::{AllocError, Global};
 use std::env;
 use std::io::ErrorKind;

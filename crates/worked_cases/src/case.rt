@@ -1,6 +1,7 @@
 // A worked case: files that a run is given, and files that say what it must answer and write.
+use gate_command::realm_gate;
 use gate_desk::{CountedDesk, Desk, MemoryDesk, Slot};
-use gateway::{Status, realm_gate};
+use gate_phases::Status;
 use std::alloc::{AllocError, Global};
 use std::{fs, io};
 

@@ -1,7 +1,7 @@
 // Checks beside the worked cases.
 use crate::case::{run_failing, run_gate, words_of};
 use gate_desk::{Desk, MemoryDesk, Slot};
-use gateway::Status;
+use gate_phases::Status;
 use std::alloc::{AllocError, Global};
 use std::io;
 

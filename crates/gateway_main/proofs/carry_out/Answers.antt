@@ -1,6 +1,6 @@
 use Rattle.std.specs.Prelude.{map}
 use Rattle.std.specs.String.{string_bytes}
-use Rattle.gateway.specs.Command.{command_of}
+use Rattle.gate_command.specs.Command.{command_of}
 use Rattle.gate_desk.specs.Untold.{told_by}
 use Rattle.gateway_main.proofs.Codes.{finished_code}
 use Rattle.gateway_main.proofs.carry_out.Goals as goal

@@ -2,7 +2,7 @@
 use Rattle.std.proofs.Common.{◌≡◌, ℕ, ◌+◌, ◌*◌, ◌<◌, List, [], ◌∷◌, Some, None, nat_le, true, false, inl, inr, length, refl, arith}
 use Rattle.std.proofs.lemmas.Bool.{cases_Bool, leb-true}
 use Rattle.gate_base.specs.Address.{number_of}
-use Rattle.gateway.specs.Command.{number_behind}
+use Rattle.gate_command.specs.Command.{number_behind}
 
 pub no_digits : (limit number : ℕ) (xs : List ℕ) → length xs ≡ 0 → number_behind limit number xs ≡ Some number
 unfolding number_behind

@@ -4,8 +4,9 @@ use Rattle.gate_desk.specs.Outside.{Outside}
 use Rattle.gate_report.specs.declared.line.Line.{Line}
 use Rattle.gate_phases.specs.declared.status.Status.{Status}
 use Rattle.gate_phases.specs.declared.status.Status.TheVariants.{Done}
-use Rattle.gateway.specs.Command.{Names}
-use Rattle.gateway.specs.Answers.{IsRun, Runs, IsDoneRun, IsToldRun, AnswersRun, TookForWritten}
+use Rattle.gateway.specs.Names.{Names}
+use Rattle.gateway.specs.Answers.{IsRun, Runs, TookForWritten}
+use Rattle.gate_command.specs.Answers.{IsDoneRun, IsToldRun, AnswersRun}
 use Rattle.gate_phases.specs.Telling.{Tells}
 use Rattle.gateway.proofs.Promises.{promise_kept}
 use Rattle.gateway.proofs.Runs.{run_of, untold}

@@ -11,7 +11,7 @@ use Rattle.gate_phases.specs.Telling.{Tells}
 use Rattle.gate_phases.proofs.Causes.{starts_all, starts_more}
 use Rattle.gateway_audit.specs.Names.{Names, given_starts, answer_start}
 use Rattle.gateway_audit.specs.Audits.{IsAudit}
-use Rattle.gateway.specs.Answers.{IsToldAudit, AnswersAudit}
+use Rattle.gate_command.specs.Answers.{IsToldAudit, AnswersAudit}
 
 -- there was no memory to tell the fault of the settings
 untold : (e : Status) (names : Names) (a b : Outside) → IsTrue (is_settings_fault e) → IsAudit e names a b → IsAudit OutOfMemory names a b

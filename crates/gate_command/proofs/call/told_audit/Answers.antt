@@ -1,6 +1,6 @@
 use Rattle.gateway_audit.specs.Names.{names_of as audit_names_of}
-use Rattle.gateway.proofs.Audited.{answers_audit}
-use Rattle.gateway.proofs.call.told_audit.Goals as goal
+use Rattle.gate_command.proofs.Audited.{answers_audit}
+use Rattle.gate_command.proofs.call.told_audit.Goals as goal
 
 pub returns-in_default : goal.returns-in_default
 returns-in_default g c =

@@ -1,5 +1,5 @@
-use Rattle.gateway.proofs.Makes.{answers_make}
-use Rattle.gateway.proofs.call.told_make.Goals as goal
+use Rattle.gate_command.proofs.Makes.{answers_make}
+use Rattle.gate_command.proofs.call.told_make.Goals as goal
 
 pub returns-in_default : goal.returns-in_default
 returns-in_default g c =

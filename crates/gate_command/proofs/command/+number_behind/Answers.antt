@@ -1,8 +1,8 @@
 use Rattle.std.proofs.Common.{sym, ap, ◌∙◌, arith}
 use Rattle.std.proofs.lemmas.Bool.{le-leb}
-use Rattle.gateway.specs.Command.{number_behind}
-use Rattle.gateway.proofs.Numbers.{no_digits, other_octet, above_limit, one_digit, more_than}
-use Rattle.gateway.proofs.command.+number_behind.Goals as goal
+use Rattle.gate_command.specs.Command.{number_behind}
+use Rattle.gate_command.proofs.Numbers.{no_digits, other_octet, above_limit, one_digit, more_than}
+use Rattle.gate_command.proofs.command.+number_behind.Goals as goal
 
 pub returns-in_default-clause-number : goal.returns-in_default-clause-number
 returns-in_default-clause-number t c = sym (no_digits c.args.limit c.args.number c.args.digits.now c.in_default.ensures.cases)

@@ -1,6 +1,6 @@
-use Rattle.gateway.specs.Command.{names_of}
-use Rattle.gateway.proofs.Answered.{done_run, answers_run}
-use Rattle.gateway.proofs.call.told_run.Goals as goal
+use Rattle.gateway.specs.Names.{names_of}
+use Rattle.gate_command.proofs.Answered.{done_run, answers_run}
+use Rattle.gate_command.proofs.call.told_run.Goals as goal
 
 pub returns-in-Ok : goal.returns-in-Ok
 returns-in-Ok g c = done_run c.in-Ok.field-0 (names_of c.args.names) (g.D.Desk.outside c.args.desk.now) (g.D.Desk.outside c.run.new.desk) c.in-Ok.ensures.answer
