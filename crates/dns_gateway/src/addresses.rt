@@ -43,6 +43,7 @@ fn add_resource(addresses: &mut Vec<Addr>, resource: &Resource) -> Result<(), Ou
     Ok(())
 }
 
+#[inline(always)]
 fn add_resources(addresses: &mut Vec<Addr>, resources: &[Resource]) -> Result<(), OutOfMemory>
     ensures { OnOk result (map (λ a. a.0) addresses.new.items ≡ map (λ a. a.0) addresses.old.items ++ resources_addresses resources.now) }
 {
@@ -54,6 +55,7 @@ fn add_resources(addresses: &mut Vec<Addr>, resources: &[Resource]) -> Result<()
 
 /// The addresses in a message that are renamed, in its order, as often as they stand there: those whose full reverse name is
 /// the question's or the owner's of a record, and the data of records of type 1 in class 1, behind their owner's.
+#[inline(always)]
 pub fn addresses_of(alloc: Global, message: &Message) -> Result<Vec<Addr>, OutOfMemory>
     ensures { IfOk result (λ addresses. map (λ a. a.0) addresses.items ≡ message_addresses message.now) }
 {

@@ -47,6 +47,7 @@ impl<'a> NameReader<'a> {
     }
 
     /// The name that stands at a place, and the place after it. `BadDns` exactly where none stands there, as for `read_name`.
+    #[inline(always)]
     pub fn read(&self, alloc: Global, place: usize) -> Result<(Name, usize), NameStop>
         ensures found { IfOk result (λ x. NameAt self.now place x.0 x.1) }
         ensures none { result ≡ Err NameStop.BadDns → (labels : List (List ℕ)) (after : ℕ) → NameAt self.now place labels after → ⊥ }
