@@ -3,7 +3,7 @@ use Rattle.gate_phases.specs.declared.status.Status.TheVariants.{OutOfMemory}
 use Rattle.gateway.specs.Making.{IsLineOf}
 use Rattle.gate_phases.proofs.Causes.{handed_on}
 use Rattle.gateway.proofs.Makes.{holds_workload, rehearses}
-use Rattle.gateway.proofs.make.rehearse.Goals as goal
+use Rattle.gateway.proofs.making.rehearse.Goals as goal
 
 pub returns-in_err-workload : goal.returns-in_err-workload
 returns-in_err-workload c =

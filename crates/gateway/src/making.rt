@@ -4,7 +4,7 @@ ghost use Rattle.gateway.specs.Making.{IsMake, IsLineOf};
 
 use crate::names::FileNames;
 use crate::report::put_text;
-use crate::run::run;
+use crate::running::run;
 use gate_desk::{Desk, DiscardingDesk, Slot, Way};
 use gate_phases::Status;
 use gate_report::{LINE, Line};

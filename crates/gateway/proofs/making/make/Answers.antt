@@ -3,7 +3,7 @@ use Rattle.gate_desk.specs.declared.slot.Way.TheVariants.{Write}
 use Rattle.gate_desk.proofs.Laws.{can_write_started}
 use Rattle.gate_phases.proofs.Causes.{opens_one}
 use Rattle.gateway.proofs.Makes.{not_made, made, not_written}
-use Rattle.gateway.proofs.make.make.Goals as goal
+use Rattle.gateway.proofs.making.make.Goals as goal
 
 pub returns-in-Err-rehearse : goal.returns-in-Err-rehearse
 returns-in-Err-rehearse g c =
