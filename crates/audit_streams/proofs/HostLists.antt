@@ -74,17 +74,6 @@ ends_rise_here m released l is = subst (λ (es : List ℕ). EndsRise es) (sym (a
 pub ends_are : (m : Meaning) (released : Bool) (l : Transcribed) → IsOf m l released → l.ends ≡ (let c = cut m l.octets in changed_ends 0 (pushes_of m c c.rest))
 ends_are m released l is = ap (λ (k : Transcribed). k.ends) is.lists
 
--- a number is read as a place less than 2 ^ 31 behind another
-pub near_after : (initial place number : ℕ) → (place_near initial place number).after < 2 ^ 31
-near_after initial place number = by ((number + (2 ^ 32 - number_at initial place)) % 2 ^ 32)
-  where
-    by : (ahead : ℕ) → (near_by ahead).after < 2 ^ 31
-    by ahead =
-        elim (cases_lt ahead (2 ^ 31)) [
-          | inl l ↦ rw (lt-ltb ahead (2 ^ 31) l) l
-          | inr l ↦ rw (le-ltb ahead (2 ^ 31) l) (omega arith)
-        ]
-
 -- a segment that passes
 pub can_take : (f : Bool) (a b : Sender) (g : Segment) → refusal_of f (extent a) (extent b) (arrival g) (repeats_unlike a g) ≡ None → g.flags.syn ≡ false → g.flags.reset ≡ false → CanTake a g
 can_take f a b g e syn reset =

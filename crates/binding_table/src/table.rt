@@ -22,13 +22,25 @@ use std::marker::Model;
 
 /// The bindings between the hosts of two realms. A call after `make` takes no memory. But for `reseed`, and for a tidying of the rows
 /// once in very many changes, none looks at all bindings.
-#[derive(Drop)]
 pub struct Table {
     same: Blocks,
     left: Aliases,
     right: Aliases,
     bindings: Entries,
     oids: OidRules,
+}
+
+// By a call of its own, since a drop that is written out wherever it happens is slow to prove.
+impl Drop for Table {
+    fn drop(self) {
+        let Self {
+            same,
+            left,
+            right,
+            bindings,
+            oids,
+        } = self;
+    }
 }
 
 impl Model for Table {

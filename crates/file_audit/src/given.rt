@@ -20,11 +20,21 @@ use pcap_files::{CaptureReader, ReadStop};
 use std::alloc::Global;
 
 /// The given files as far as they are read: both captures record by record, and the report with what of it was read ahead.
-#[derive(Drop)]
 pub struct GivenFiles {
     pub(crate) left: CaptureReader,
     pub(crate) right: CaptureReader,
     pub(crate) report: Ahead,
+}
+
+// By a call of its own, since a drop that is written out wherever it happens is slow to prove.
+impl Drop for GivenFiles {
+    fn drop(self) {
+        let Self {
+            left,
+            right,
+            report,
+        } = self;
+    }
 }
 
 // Reads the head of a given capture, and takes room for one record.

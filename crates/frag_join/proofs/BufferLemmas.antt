@@ -147,19 +147,6 @@ known-sealed b new whole complete is =
     let header : (known_inside new).header ≡ (sealed (known_inside b)).header = header_sealed new.headed b.headed b.ended (take 20 new.octets.items) (take 20 b.octets.items) b.reach is.headed all.headed all.ended is.header in
     λ i. record { places = places i; known_end = known_end i; header = header i }
 
-pub whole-sealed : (b new : Inside) → IsWhole b → new.count ≡ b.count → length new.octets.items ≡ length b.octets.items → IsSealed b new → IsWhole new
-whole-sealed b new whole count size is = record {
-  octets = size ∙ whole.octets;
-  units = ap (λ held. length held.items) is.held ∙ whole.units;
-  fits = omega (arith, is.reach, whole.fits);
-  counted = count ∙ whole.counted ∙ ap (count_below (λ place. is_some (octet_inside b place))) (sym is.reach)
-      ∙ same-count (λ place. is_some (octet_inside b place)) (λ place. is_some (octet_inside new place)) new.reach (λ place below. ap is_some (sym (octet-sealed b new place is)));
-  free = λ unit past. ap (λ held. get_or held.items unit false) is.held ∙ whole.free unit (omega (arith, is.reach));
-  even = λ open_. ap (λ n. n % 8) is.reach ∙ whole.even (sym is.ended ∙ open_);
-  some = λ ended. omega (arith, is.reach, whole.some (sym is.ended ∙ ended));
-  headed = λ held. is.headed ∙ whole.headed (sym (ap (λ units. get_or units.items 0 false) is.held) ∙ held);
-}
-
 -- ## A buffer that is cleared
 
 -- the units below the reach are given back, and none was held behind it

@@ -26,7 +26,6 @@ use std::marker::Model;
 const SPREAD: u64 = 0;
 
 /// The settings, what is known, and what is wanted of the last frame.
-#[derive(Drop)]
 pub struct Auditor {
     settings: Settings,
     known: Known,
@@ -34,6 +33,19 @@ pub struct Auditor {
     expected: Expected,
     // memory ran out in the middle of an event: nothing is said of what is known any more
     lost: bool,
+}
+
+// By a call of its own, since a drop that is written out wherever it happens is slow to prove.
+impl Drop for Auditor {
+    fn drop(self) {
+        let Self {
+            settings,
+            known,
+            outbox,
+            expected,
+            lost,
+        } = self;
+    }
 }
 
 impl Model for Auditor {

@@ -19,12 +19,22 @@ use std::alloc::Global;
 use std::marker::Model;
 
 /// The settings, and what is known.
-#[derive(Drop)]
 pub struct Gate {
     settings: Settings,
     known: Known,
     // what the tables spread their keys by besides, until the first event
     salt: Option<u64>,
+}
+
+// By a call of its own, since a drop that is written out wherever it happens is slow to prove.
+impl Drop for Gate {
+    fn drop(self) {
+        let Self {
+            settings,
+            known,
+            salt,
+        } = self;
+    }
 }
 
 impl Model for Gate {

@@ -34,13 +34,25 @@ use udp_icmp::IcmpView;
 
 /// What is known: the clock, the bindings, the connections with their sessions, and the greatest number of changed lines or units
 /// that ever waited; and the rooms to work with.
-#[derive(Drop)]
 pub struct Known {
     pub clock: Moment,
     pub table: Table,
     pub connections: SessionTable<TrackedSession>,
     pub pending: u64,
     pub rooms: Rooms,
+}
+
+// By a call of its own, since a drop that is written out wherever it happens is slow to prove.
+impl Drop for Known {
+    fn drop(self) {
+        let Self {
+            clock,
+            table,
+            connections,
+            pending,
+            rooms,
+        } = self;
+    }
 }
 
 impl Known {

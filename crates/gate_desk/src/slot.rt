@@ -58,7 +58,6 @@ pub enum Way {
 }
 
 /// One value for each slot.
-#[derive(Drop)]
 pub struct PerSlot<T> {
     pub settings: T,
     pub left_in: T,
@@ -70,6 +69,24 @@ pub struct PerSlot<T> {
     pub right_out: T,
     pub report: T,
     pub errors: T,
+}
+
+// By a call of its own, since a drop that is written out wherever it happens is slow to prove.
+impl<T: Drop> Drop for PerSlot<T> {
+    fn drop(self) {
+        let Self {
+            settings,
+            left_in,
+            right_in,
+            left_given,
+            right_given,
+            report_given,
+            left_out,
+            right_out,
+            report,
+            errors,
+        } = self;
+    }
 }
 
 impl<T> PerSlot<T> {

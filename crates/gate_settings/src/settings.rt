@@ -172,7 +172,6 @@ impl OidRules {
 }
 
 /// What a gateway is set to.
-#[derive(Drop)]
 pub struct Settings {
     /// Whether the report is JSON, and else plain text.
     pub json: bool,
@@ -188,6 +187,21 @@ pub struct Settings {
     pub statics: Statics,
     /// Where object identifiers of SNMP messages hold addresses.
     pub oids: OidRules,
+}
+
+// By a call of its own, since a drop that is written out wherever it happens is slow to prove.
+impl Drop for Settings {
+    fn drop(self) {
+        let Self {
+            json,
+            join,
+            same,
+            left,
+            right,
+            statics,
+            oids,
+        } = self;
+    }
 }
 
 impl Settings {

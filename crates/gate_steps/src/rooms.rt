@@ -7,12 +7,23 @@ use std::alloc::Global;
 use unit_plans::UnitOctets;
 
 /// The memory and the rooms to work with.
-#[derive(Drop)]
 pub struct Rooms {
     pub alloc: Global,
     pub scratch: Scratch,
     pub firsts: Firsts,
     pub octets: UnitOctets,
+}
+
+// By a call of its own, since a drop that is written out wherever it happens is slow to prove.
+impl Drop for Rooms {
+    fn drop(self) {
+        let Self {
+            alloc,
+            scratch,
+            firsts,
+            octets,
+        } = self;
+    }
 }
 
 impl Rooms {

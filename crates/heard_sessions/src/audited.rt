@@ -7,11 +7,21 @@ use gate_base::{Pair, Side};
 use std::marker::Model;
 
 /// A session that is tracked: its client's realm, the pair of its hosts, and the session itself.
-#[derive(Drop)]
 pub struct Audited {
     pub client: Side,
     pub pair: Pair,
     pub session: AuditedSession,
+}
+
+// By a call of its own, since a drop that is written out wherever it happens is slow to prove.
+impl Drop for Audited {
+    fn drop(self) {
+        let Self {
+            client,
+            pair,
+            session,
+        } = self;
+    }
 }
 
 impl Model for Audited {

@@ -16,13 +16,25 @@ use std::alloc::Global;
 use std::marker::Model;
 
 /// The merge of the captures of both sides, which are read as far as the next event needs.
-#[derive(Drop)]
 pub struct Merge {
     left: CaptureReader,
     right: CaptureReader,
     clock: u64,
     last: Last,
     stopped: Option<MergeStop>,
+}
+
+// By a call of its own, since a drop that is written out wherever it happens is slow to prove.
+impl Drop for Merge {
+    fn drop(self) {
+        let Self {
+            left,
+            right,
+            clock,
+            last,
+            stopped,
+        } = self;
+    }
 }
 
 impl Model for Merge {
