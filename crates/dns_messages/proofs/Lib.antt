@@ -4,3 +4,4 @@ pub mod Fitting
 pub mod Again
 pub mod Wrote
 pub mod Rows
+pub mod Alone

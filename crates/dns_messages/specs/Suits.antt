@@ -30,6 +30,10 @@ pub record MessageSuits (m : Message) : Type 0 where
   pub authority : AllByRecursion ResourceSuits m.authority
   pub additional : AllByRecursion ResourceSuits m.additional
 
+-- at most a question
+abbrev pub HasNoRecords : Message → Type 0
+HasNoRecords m = (m.answers ≡ []) × (m.authority ≡ []) × (m.additional ≡ [])
+
 -- What is known of each value: names are names, and numbers fit.
 
 abbrev pub ContentFits : Content → Type 0

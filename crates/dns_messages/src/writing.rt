@@ -5,7 +5,7 @@ ghost use Rattle.byteorder.specs.Endian.{big_bytes};
 ghost use Rattle.dns_names.specs.Names.{IsName};
 ghost use Rattle.dns_names.specs.Texts.{nothing};
 ghost use Rattle.dns_messages.specs.Relation.{IsMessage};
-ghost use Rattle.dns_messages.specs.Suits.{MessageSuits, ContentFits, ResourceFits, QuestionFits, MessageFits};
+ghost use Rattle.dns_messages.specs.Suits.{HasNoRecords, MessageSuits, ContentFits, ResourceFits, QuestionFits, MessageFits};
 ghost use Rattle.dns_messages.specs.Writing.{content_written, sized, head_written, resource_written, resources_written, questions_written, header_written, question_count, message_written, spelling, put, name, ◌⨟◌};
 ghost use Rattle.dns_messages.specs.Writers.{wrote, Writes};
 
@@ -232,6 +232,38 @@ fn writer_in<'a>(alloc: Global) -> Result<NameWriter<'a>, OutOfMemory>
     NameWriter::make(Vec::with_capacity(alloc, ROOM)?)
 }
 
+/// Whether a message has no records.
+fn has_no_records(message: &Message) -> bool
+    ensures { result ≡ true → HasNoRecords message.now }
+{
+    message.answers.items().is_empty()
+        && message.authority.items().is_empty()
+        && message.additional.items().is_empty()
+}
+
+/// Writes a message without records. The name of its question is written as it stands, since no other stands before it.
+/// It can't be too long.
+fn write_question(alloc: Global, message: &Message) -> Result<Vec<u8>, OutOfMemory>
+    requires { HasNoRecords message.now }
+    ensures written { IfOk result (λ octets. octets.items ≡ spelling message.now) }
+    ensures short { IfOk result (λ octets. length octets.items < 2 ^ 16) }
+    ensures fits { OnOk result (MessageFits message.now) }
+{
+    let (id, flags) = (message.id, message.flags);
+    let count = asked(&message.question) as u8;
+    let ([a, b], [c, d]) = (id.to_be_bytes(), flags.to_be_bytes());
+    let mut octets = Vec::with_capacity(alloc, ROOM)?;
+    octets.extend_from_slice(&[a, b, c, d, 0, count, 0, 0, 0, 0, 0, 0])?;
+    let Some(question) = &message.question else {
+        return Ok(octets);
+    };
+    let (kind, class) = (question.kind, question.class);
+    let ([a, b], [c, d]) = (kind.to_be_bytes(), class.to_be_bytes());
+    octets.extend_from_slice(question.name.octets())?;
+    octets.extend_from_slice(&[0, a, b, c, d])?;
+    Ok(octets)
+}
+
 /// The one spelling of a message: each name is as short as what stands before it lets it be. `TooLong` exactly where it, or
 /// the data of one record in it, would have more than 65,535 octets. The data of each record must be what its type and
 /// class hold.
@@ -243,6 +275,9 @@ pub fn write_message(alloc: Global, message: &Message) -> Result<Vec<u8>, WriteS
     // It reads back as the message.
     ensures again { IfOk result (λ octets. IsMessage octets.items message.now) }
 {
+    if has_no_records(message) {
+        return Ok(write_question(alloc, message)?);
+    }
     if !can_be_counted(message) {
         return Err(WriteStop::TooLong);
     }

@@ -6,6 +6,11 @@ use Rattle.dns_messages.proofs.Again.{message-again}
 use Rattle.dns_messages.proofs.Exact.{message-is}
 use Rattle.dns_messages.proofs.writing.write_message.Goals as goal
 
+pub returns-then-has_no_records-clause-again : goal.returns-then-has_no_records-clause-again
+returns-then-has_no_records-clause-again c =
+    let wrote = c.in_ok-write_question.ensures in
+    rw wrote.written (message-is (spelling c.args.message.now) c.args.message.now (message-again c.args.message.now wrote.fits c.requires (rw wrote.written at wrote.short)))
+
 pub returns-then-not-can_be_counted-clause-long : goal.returns-then-not-can_be_counted-clause-long
 returns-then-not-can_be_counted-clause-long c = λ _. omega (arith, message-least c.args.message.now, c.if-not-can_be_counted.ensures.many refl)
 
