@@ -11,8 +11,8 @@ use Rattle.std.specs.Map.{lookup}
 use Rattle.expiring_table.specs.declared.row.Row.{Row}
 use Rattle.expiring_table.specs.Rows.{IsTakenOut, Table, row_of, with_row, without, is_of, lives, living}
 use Rattle.binding_table.specs.declared.binding.Binding.{Binding}
-use Rattle.binding_table.specs.EntriesInside.{fixed_row, all_rows, ending, AreApart, HaveNoneOf}
-use Rattle.binding_table.specs.Steps.{filed}
+use Rattle.binding_table.specs.EntriesInside.{fixed_row, all_rows, AreApart, HaveNoneOf}
+use Rattle.binding_table.specs.Steps.{ending, filed}
 
 -- ## Fixed rows
 
@@ -96,11 +96,11 @@ found_has P key (one ∷ rest) row all h = elim (cases_Bool (one.key == key)) [
   | inr other_key ↦ found_has P key rest row (All-tail P one rest all) (rw other_key at h)
 ]
 
-pub located : (key : ℕ) (fixed : List (Row Binding)) (moving : Table Binding) (row : Row Binding) → AreApart fixed moving → row_of key moving.rows ≡ Some row → Some row.value ≡ option_and_then ending (row_of key (fixed ++ moving.rows))
+pub located : (key : ℕ) (fixed : List (Row Binding)) (moving : Table Binding) (row : Row Binding) → AreApart fixed moving → row_of key moving.rows ≡ Some row → Some row ≡ option_and_then ending (row_of key (fixed ++ moving.rows))
 located key fixed moving row are h =
     let front = are.apart key (ap is_some h) in
     let ends = found_has (λ one. IsSome one.end) key moving.rows row are.ends h in
-    let own : ending row ≡ Some row.value = rw ends refl in
+    let own : ending row ≡ Some row = rw ends refl in
     sym (ap (option_and_then ending) (found_behind key fixed moving.rows front ∙ h) ∙ own)
 
 pub not_located : (key : ℕ) (entries : List (ℕ × Binding)) (rows : List (Row Binding)) → row_of key rows ≡ None → None ≡ option_and_then ending (row_of key (map fixed_row entries ++ rows))

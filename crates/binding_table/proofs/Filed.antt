@@ -1,7 +1,7 @@
 -- Bindings as rows.
-use Rattle.std.proofs.Common.{◌≡◌, ℕ, Bool, true, false, if◌then◌else◌, cond, not, ◌&&◌, ◌==◌, List, [], ◌∷◌, map, Option, Some, None, option_map, option_and_then, refl, ap, sym, ◌∙◌, arith, inl, inr}
+use Rattle.std.proofs.Common.{◌≡◌, ℕ, Bool, true, false, if◌then◌else◌, cond, not, ◌&&◌, ◌==◌, List, [], ◌∷◌, map, Option, Some, None, option_map, option_and_then, is_some, refl, ap, sym, ◌∙◌, arith, inl, inr}
 use Rattle.std.specs.List.{find, filter}
-use Rattle.std.proofs.lemmas.Bool.{cases_Bool}
+use Rattle.std.proofs.lemmas.Bool.{cases_Bool, eqb-true}
 use Rattle.std.proofs.lemmas.Option.{same_Some}
 use Rattle.std.proofs.lemmas.Bool.Decides.{nat_tests}
 use Rattle.gate_base.specs.Side.{same_side}
@@ -12,8 +12,7 @@ use Rattle.expiring_table.specs.declared.row.Row.{Row}
 use Rattle.expiring_table.specs.Rows.{Table, row_of, with_row, without, lives, living}
 use Rattle.binding_table.specs.declared.binding.Binding.{Binding}
 use Rattle.binding_table.specs.Bindings.{is_live, is_of_host}
-use Rattle.binding_table.specs.Steps.{entries_in, filed, number_of, unless_fixed}
-use Rattle.binding_table.specs.EntriesInside.{ending}
+use Rattle.binding_table.specs.Steps.{ending, entries_in, filed, moving_row, number_of, unless_fixed}
 
 abbrev table_of : {T : Type 0} → ℕ → List (Row T) → Table T
 table_of most rows = record { most = most; rows = rows }
@@ -61,22 +60,50 @@ pub found_value : (side : Side) (host : ℕ) (entries : List Binding) (rows : Li
 found_value side host entries rows kept =
     ap (λ all. option_map (λ (row : Row Binding). row.value) (row_of (number_of side host) all)) kept ∙ ap (option_map (λ (row : Row Binding). row.value)) (found_filed side host entries) ∙ value_filed (find (is_of_host side host) entries)
 
-ending_filed : (found : Option Binding) → option_and_then ending (option_map filed found) ≡ option_and_then unless_fixed found
+ending_filed : (found : Option Binding) → option_and_then ending (option_map filed found) ≡ option_map filed (option_and_then unless_fixed found)
 ending_filed None = refl
 ending_filed (Some binding) = elim (cases_Bool binding.fixed) [ inl e ↦ rw e refl | inr e ↦ rw e refl ]
 
--- and the same unless it is fixed
-pub found_moving : (side : Side) (host : ℕ) (entries : List Binding) (rows : List (Row Binding)) → rows ≡ map filed entries → option_and_then ending (row_of (number_of side host) rows) ≡ option_and_then unless_fixed (find (is_of_host side host) entries)
-found_moving side host entries rows kept =
-    ap (λ all. option_and_then ending (row_of (number_of side host) all)) kept ∙ ap (option_and_then ending) (found_filed side host entries) ∙ ending_filed (find (is_of_host side host) entries)
+-- and its row unless it is fixed
+pub found_moving : (side : Side) (host : ℕ) (entries : List Binding) → moving_row (number_of side host) entries ≡ option_map filed (option_and_then unless_fixed (find (is_of_host side host) entries))
+found_moving side host entries = ap (option_and_then ending) (found_filed side host entries) ∙ ending_filed (find (is_of_host side host) entries)
 
-pub moving_is : (o : Option Binding) (binding : Binding) → option_and_then unless_fixed o ≡ Some binding → (o ≡ Some binding) × (binding.fixed ≡ false)
-moving_is None binding h = cc
-moving_is (Some one) binding h = let kept = chosen one.fixed h in (kept.0, sym (ap (λ (b : Binding). b.fixed) (same_Some _ _ kept.0)) ∙ kept.1)
+found_key : (key : ℕ) (rows : List (Row Binding)) (row : Row Binding) → row_of key rows ≡ Some row → row.key ≡ key
+found_key key [] row h = cc
+found_key key (one ∷ rest) row h = elim (cases_Bool (one.key == key)) [
+  | inl e ↦ let same : Some one ≡ Some row = rw e at h in sym (ap (λ (r : Row Binding). r.key) (same_Some _ _ same)) ∙ eqb-true one.key key e
+  | inr e ↦ found_key key rest row (rw e at h)
+]
+
+-- a row is that of a binding that isn't fixed
+pub record IsMoving (entries : List Binding) (row : Row Binding) : Type 0 where
+  pub there : find (is_of_host row.value.side row.value.host.0) entries ≡ Some row.value
+  pub filed_is : row ≡ filed row.value
+  pub moving : row.value.fixed ≡ false
+
+unfixed : (binding : Binding) → is_some (filed binding).end ≡ true → binding.fixed ≡ false
+unfixed binding h = elim (cases_Bool binding.fixed) [ inl e ↦ cc (rw e at h) | inr e ↦ e ]
+
+pub moving_is : (number : ℕ) (entries : List Binding) (row : Row Binding) → moving_row number entries ≡ Some row → IsMoving entries row
+moving_is number entries row h =
+    let kept = from (row_of number (map filed entries)) refl h in
+    let is = found_is number entries row kept.0 in
+    let key = ap (λ (r : Row Binding). r.key) (sym is) ∙ found_key number (map filed entries) row kept.0 in
+    let binding = row.value in
+    let there : option_map filed (find (is_of_host binding.side binding.host.0) entries) ≡ Some row = sym (found_filed binding.side binding.host.0 entries) ∙ ap (λ k. row_of k (map filed entries)) key ∙ kept.0 in
+    record {
+      there = sym (value_filed _) ∙ ap (option_map (λ (r : Row Binding). r.value)) there;
+      filed_is = is;
+      moving = unfixed binding (ap (λ (r : Row Binding). is_some r.end) (sym is) ∙ kept.1);
+    }
   where
-    chosen : (test : Bool) → (if test then None else Some one) ≡ Some binding → (Some one ≡ Some binding) × (test ≡ false)
-    chosen true h = cc
-    chosen false h = (h, refl)
+    chosen : (one : Row Binding) (test : Bool) → is_some one.end ≡ test → (if test then Some one else None) ≡ Some row → (Some one ≡ Some row) × (is_some row.end ≡ true)
+    chosen one true e same = (same, ap (λ (r : Row Binding). is_some r.end) (sym (same_Some _ _ same)) ∙ e)
+    chosen one false e same = cc
+
+    from : (o : Option (Row Binding)) → row_of number (map filed entries) ≡ o → option_and_then ending o ≡ Some row → (row_of number (map filed entries) ≡ Some row) × (is_some row.end ≡ true)
+    from None e same = cc
+    from (Some one) e same = let kept = chosen one (is_some one.end) refl same in (e ∙ kept.0, kept.1)
 
 -- the other bindings
 abbrev pub others : Binding → List Binding → List Binding

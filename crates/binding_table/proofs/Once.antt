@@ -1,5 +1,5 @@
 -- What the bindings of a lawful table are to one another.
-use Rattle.std.proofs.Common.{◌≡◌, ◌≢◌, ℕ, zero, suc, ◌<◌, Bool, true, false, ◌&&◌, ◌||◌, ◌==◌, List, [], ◌∷◌, length, map, get_or, Some, None, option_map, refl, sym, ◌∙◌, ap, arith, inl, inr}
+use Rattle.std.proofs.Common.{◌≡◌, ◌≢◌, ℕ, zero, suc, ◌<◌, Bool, true, false, ◌&&◌, ◌||◌, ◌==◌, List, [], ◌∷◌, length, map, get_or, if◌then◌else◌, Option, Some, None, option_map, option_and_then, refl, sym, ◌∙◌, ap, arith, inl, inr}
 use Rattle.std.specs.List.{find}
 use Rattle.std.proofs.lemmas.Bool.{cases_Bool, cases_eq, cases_lt, and_parts, and_from, or_left, or_right, eqb-true, eq-eqb}
 use Rattle.std.proofs.lemmas.List.{get_or-map, get_or_default, length-map, same_lists}
@@ -12,7 +12,7 @@ use Rattle.expiring_table.specs.Rows.{row_of, with_row}
 use Rattle.binding_table.specs.declared.binding.Binding.{Binding}
 use Rattle.binding_table.specs.Bindings.{Bindings, extend_through, host_of, is_of_alias, is_of_host, is_through, lasting}
 use Rattle.binding_table.specs.Lawful.{IsLawful, collides}
-use Rattle.binding_table.specs.Steps.{filed, lasts, number_of}
+use Rattle.binding_table.specs.Steps.{extended_by, filed, lasts, number_of, unless_fixed}
 use Rattle.binding_table.proofs.Filed.{found_filed, replaced, with_filed}
 use Rattle.binding_table.proofs.Kept.{IsSamePair, lasting_pair, lasting_same}
 use Rattle.binding_table.proofs.Pools.{same_side-true, same_side-itself}
@@ -180,3 +180,12 @@ none_through from_pool side address until (one ∷ rest) none = elim (cases_Bool
   | inl passes ↦ cc (rw passes at none)
   | inr fails ↦ rw fails (ap (λ more. one ∷ more) (none_through from_pool side address until rest (rw fails at none)))
 ]
+
+-- to extend by the row of the binding through which an address crosses, unless it is fixed, is to extend it
+pub through_moving : (table : Bindings) (from_pool : Bool) (side : Side) (address : Addr) (until : Moment) → IsLawful table → (found : Option Binding) → find (is_through from_pool side address) table.entries ≡ found → extended_by (option_map filed (option_and_then unless_fixed found)) until table.entries ≡ map (extend_through from_pool side address until) table.entries
+through_moving table from_pool side address until lawful None known = sym (none_through from_pool side address until table.entries known)
+through_moving table from_pool side address until lawful (Some binding) known = chosen binding.fixed refl
+  where
+    chosen : (test : Bool) → binding.fixed ≡ test → extended_by (option_map filed (if test then None else Some binding)) until table.entries ≡ map (extend_through from_pool side address until) table.entries
+    chosen true fixed = sym (through_same table from_pool side address until binding lawful known (rw fixed refl))
+    chosen false fixed = sym (through_extended table false binding.side binding.host until binding lawful (through_found table from_pool side address binding lawful known)) ∙ through_extended table from_pool side address until binding lawful known

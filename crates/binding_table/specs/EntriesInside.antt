@@ -1,5 +1,5 @@
 -- What the entries of a table keep.
-use Rattle.std.specs.Prelude.{◌≡◌, ◌<◌, ◌*◌, ◌^◌, ℕ, List, ◌++◌, map, if◌then◌else◌, Option, Some, None, is_some, All, IsSome}
+use Rattle.std.specs.Prelude.{◌≡◌, ◌<◌, ◌*◌, ◌^◌, ℕ, List, ◌++◌, map, None, All, IsSome}
 use Rattle.expiring_table.specs.declared.row.Row.{Row}
 use Rattle.expiring_table.specs.Rows.{Table, row_of}
 use Rattle.binding_table.specs.declared.binding.Binding.{Binding}
@@ -18,10 +18,6 @@ all_rows fixed moving = record { most = moving.most; rows = fixed ++ moving.rows
 
 abbrev pub rows_inside : Inside → Table Binding
 rows_inside entries = all_rows (fixed_rows entries) entries.moving
-
--- the binding of a row that has an end
-abbrev pub ending : Row Binding → Option Binding
-ending row = if is_some row.end then Some row.value else None
 
 -- no row of the second list has the number of one of the first
 abbrev pub HaveNoneOf : List (Row Binding) → List (Row Binding) → Type 0

@@ -1,5 +1,5 @@
 -- What the table's inner calls need and give.
-use Rattle.std.specs.Prelude.{◌≡◌, ℕ, ◌+◌, ◌-◌, ◌*◌, ◌<◌, length, nat_le, ◌||◌, IfSome, Bool, true, false, if◌then◌else◌, List, [], map, replicate, position, slice_index_or, slice_set, Option, Some, None, is_some, All, AllPairs}
+use Rattle.std.specs.Prelude.{◌≡◌, ℕ, ◌+◌, ◌-◌, ◌*◌, ◌<◌, length, nat_le, ◌||◌, IfSome, Bool, true, false, if◌then◌else◌, List, [], map, replicate, position, slice_index_or, slice_set, Option, Some, None, is_some, option_and_then, All, AllPairs}
 use Rattle.std.specs.List.{range_with_len}
 use Rattle.expiring_table.specs.declared.row.Row.{Row}
 use Rattle.expiring_table.specs.Rows.{Table, row_of}
@@ -12,7 +12,7 @@ use Rattle.realm_pools.specs.Addresses.{Range, Addresses, unused, place_of, with
 use Rattle.binding_table.specs.declared.binding.Binding.{Binding}
 use Rattle.binding_table.specs.declared.binding.Crossing.{Crossing}
 use Rattle.binding_table.specs.declared.binding.Crossing.TheVariants.{Same, Known}
-use Rattle.binding_table.specs.Bindings.{Bindings, cross, in_pool, range_of, host_of, pool_with}
+use Rattle.binding_table.specs.Bindings.{Bindings, cross, extend_through, in_pool, range_of, host_of, pool_with}
 use Rattle.binding_table.specs.Lawful.{IsInPlace, collides}
 use Rattle.binding_table.specs.Plan.{is_address, needs_binding}
 
@@ -80,6 +80,19 @@ lasts until binding = binding.fixed || nat_le until.0 binding.until.0
 -- the binding, unless it is fixed
 abbrev pub unless_fixed : Binding → Option Binding
 unless_fixed binding = if binding.fixed then None else Some binding
+
+-- the row, unless it has no end
+abbrev pub ending : Row Binding → Option (Row Binding)
+ending row = if is_some row.end then Some row else None
+
+-- the row with a number, unless it is that of a fixed binding
+abbrev pub moving_row : ℕ → List Binding → Option (Row Binding)
+moving_row number entries = option_and_then ending (row_of number (map filed entries))
+
+-- the bindings, where that of a row lives at least until a moment
+abbrev pub extended_by : Option (Row Binding) → Moment → List Binding → List Binding
+extended_by None until entries = entries
+extended_by (Some row) until entries = map (extend_through false row.value.side row.value.host until) entries
 
 abbrev pub entries_in : List (Row Binding) → List Binding
 entries_in rows = map (λ row. row.value) rows

@@ -1,8 +1,7 @@
 // The bindings of a table: fixed ones, and others.
-ghost use Rattle.std.specs.Prelude.{◌≡◌, ◌*◌, ◌<◌, ◌^◌, ◌++◌, ◌∷◌, [], true, None, length, map, option_map, option_and_then, All, IfOk, IfSome, IfNone, IsSome, IsSomeAnd, OnErr, OnOk};
+ghost use Rattle.std.specs.Prelude.{◌≡◌, ◌*◌, ◌<◌, ◌^◌, ◌++◌, ◌∷◌, [], true, None, Some, length, map, option_map, option_and_then, All, IfOk, IfSome, IfNone, IsSome, IsSomeAnd, OnErr, OnOk};
 ghost use Rattle.expiring_table.specs.Rows.{no_rows, row_of, with_row, living, IsTakenOut};
-ghost use Rattle.binding_table.specs.EntriesInside.{ending};
-ghost use Rattle.binding_table.specs.Steps.{filed};
+ghost use Rattle.binding_table.specs.Steps.{ending, filed};
 
 use crate::binding::{Binding, number_of};
 use expiring_table::{Row, Rows, Seed};
@@ -61,15 +60,23 @@ impl Entries {
         }
     }
 
-    /// The binding with a number unless it is fixed, and the place at which it is kept, by which `set_at` finds it at once.
+    /// The row with a number unless it is that of a fixed binding, and the place at which it is kept, by which `set_at` finds it at once.
     #[inline(always)]
-    pub fn locate(&self, number: u128) -> Option<(usize, &Binding)>
-        ensures { option_map (λ found. found.1.now) result ≡ option_and_then ending (row_of number self.now.rows) }
+    pub fn locate(&self, number: u128) -> Option<(usize, Row<Binding>)>
+        ensures { option_map (λ found. found.1) result ≡ option_and_then ending (row_of number self.now.rows) }
     {
         match self.moving.locate(number) {
-            Some((place, row)) => Some((place, &row.value)),
+            Some((place, row)) => Some((place, *row)),
             None => None,
         }
+    }
+
+    /// The same, if it is kept at a place: any will do.
+    #[inline(always)]
+    pub fn row_at(&self, place: usize, number: u128) -> Option<Row<Binding>>
+        ensures { IfSome result (λ row. option_and_then ending (row_of number self.now.rows) ≡ Some row) }
+    {
+        self.moving.row_at(place, number).copied()
     }
 
     /// The number of bindings.

@@ -1,7 +1,7 @@
 // The table of bindings.
 ghost use Rattle.std.specs.Prelude.{◌≡◌, true, false, Some, None, map, option_map, option_and_then, length, All, IfOk, IsTrue, OnOk};
 ghost use Rattle.std.specs.List.{find, filter};
-ghost use Rattle.binding_table.specs.Steps.{aliases_of, aliases_with, changed, entries_in, filed, unless_fixed, AreKept, CanHold};
+ghost use Rattle.binding_table.specs.Steps.{aliases_of, aliases_with, changed, entries_in, extended_by, filed, moving_row, unless_fixed, AreKept, CanHold};
 ghost use Rattle.binding_table.specs.Bindings as tables;
 ghost use Rattle.binding_table.specs.Lawful.{IsLawful};
 ghost use Rattle.gate_base.specs.Rules.{AreRules};
@@ -13,7 +13,7 @@ ghost use Rattle.realm_pools.specs.Addresses.{is_free, is_taken};
 use crate::aliases::Aliases;
 use crate::binding::{Binding, Crossing, number_of};
 use crate::entries::Entries;
-use expiring_table::Seed;
+use expiring_table::{Row, Seed};
 use gate_base::{Addr, Moment, OidRule, OutOfMemory, Side, is_unicast};
 use gate_settings::{Block, Blocks, OidRules, Settings};
 use realm_pools::Pool;
@@ -161,18 +161,23 @@ impl Table {
         self.bindings.find(number_of(side, host))
     }
 
-    // The binding of a host of the realm unless it is fixed, and where its row is kept.
+    // The number of a host of the realm whose binding isn't fixed, and where its row is kept.
     #[inline(always)]
-    fn moving_of(&self, side: Side, host: Addr) -> Option<(usize, &Binding)>
-        ensures { option_map (λ found. found.1.now) result ≡ option_and_then unless_fixed (find (tables.is_of_host side host.0) self.now.entries) }
+    fn moving_of(&self, side: Side, host: Addr) -> Option<(usize, u128)>
+        ensures { option_and_then (λ found. moving_row found.1 self.now.entries) result ≡ option_map filed (option_and_then unless_fixed (find (tables.is_of_host side host.0) self.now.entries)) }
     {
-        self.bindings.locate(number_of(side, host))
+        let number = number_of(side, host);
+        match self.bindings.locate(number) {
+            Some((place, _)) => Some((place, number)),
+            None => None,
+        }
     }
 
-    // The binding through which an address of the realm crosses unless it is fixed, and where its row is kept.
+    // The number of the host through whose binding an address of the realm crosses unless that is fixed, and where its row is kept.
     #[inline(always)]
-    fn moving_through(&self, side: Side, address: Addr) -> Option<(usize, &Binding)>
-        ensures { option_map (λ found. found.1.now) result ≡ option_and_then unless_fixed (find (tables.is_through (tables.in_pool self.now side address) side address) self.now.entries) }
+    fn moving_through(&self, side: Side, address: Addr) -> Option<(usize, u128)>
+        ensures value { option_and_then (λ found. moving_row found.1 self.now.entries) result ≡ option_map filed (option_and_then unless_fixed (find (tables.is_through (tables.in_pool self.now side address) side address) self.now.entries)) }
+        ensures lawful { IsLawful self.now }
     {
         if self.pool(side).contains(address) {
             let host = self.host_of(side, address)?;
@@ -265,14 +270,46 @@ impl Table {
         requires { tables.IsKnown (tables.cross self.old side address) }
         ensures { self.new ≡ tables.extended self.old side address until }
     {
-        let Some((place, binding)) = self.moving_through(side, address) else {
-            return;
-        };
-        if binding.lasts(until) {
+        if let Some((place, number)) = self.moving_through(side, address) {
+            self.extend_numbered(place, number, until);
+        }
+    }
+
+    // Lets the binding with a number live at least until a moment, unless it is fixed. Its row is looked for at a place first.
+    #[inline(never)]
+    fn extend_numbered(&mut self, near: usize, number: u128, until: Moment)
+        requires { IsLawful self.old }
+        ensures { self.new ≡ record self.old { entries = extended_by (moving_row number self.old.entries) until self.old.entries } }
+    {
+        let at_once = self.bindings.row_at(near, number);
+        if let Some(row) = at_once {
+            self.extend_row(near, row, until);
             return;
         }
-        let row = binding.lasting(until).filed();
-        self.bindings.set_at(place, row);
+        let located = self.bindings.locate(number);
+        if let Some((place, row)) = located {
+            self.extend_row(place, row, until);
+        }
+    }
+
+    // Lets a binding that isn't fixed, whose row is near a place, live at least until a moment.
+    #[inline(always)]
+    fn extend_row(&mut self, near: usize, row: Row<Binding>, until: Moment)
+        requires lawful { IsLawful self.old }
+        requires there { find (tables.is_of_host row.value.side row.value.host.0) self.old.entries ≡ Some row.value }
+        requires filed { row ≡ filed row.value }
+        requires moving { row.value.fixed ≡ false }
+        ensures { self.new ≡ record self.old { entries = extended_by (Some row) until self.old.entries } }
+    {
+        if row.value.lasts(until) {
+            return;
+        }
+        // with the key as it stands there, so that it isn't compared and written anew
+        let later = Row {
+            key: row.key,
+            ..row.value.lasting(until).filed()
+        };
+        self.bindings.set_at(near, later);
     }
 
     /// Drops the bindings that don't live, and makes their aliases free, without a walk over the others.

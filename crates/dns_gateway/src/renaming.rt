@@ -1,15 +1,15 @@
 // A message with the images of its addresses (RFC 2694).
-ghost use Rattle.std.specs.Prelude.{◌≡◌, ◌+◌, ◌≤◌, length, option_map, IfOk, IfSome, IsSome};
-ghost use Rattle.dns_names.specs.Reverse.{full_reverse};
+ghost use Rattle.std.specs.Prelude.{◌≡◌, ◌+◌, ◌≤◌, length, option_map, IfOk, OnOk};
 ghost use Rattle.dns_messages.specs.Suits.{MessageSuits};
 ghost use Rattle.dns_gateway.specs.Addresses.{at_most_one, question_addresses, resource_addresses, resources_addresses, message_addresses};
-ghost use Rattle.dns_gateway.specs.Renaming.{image_at, image_of, name_to, content_to, resource_renamed, resources_renamed, question_renamed, message_renamed};
+ghost use Rattle.dns_gateway.specs.Renaming.{image_at, image_of, resource_renamed, resources_renamed, question_renamed, message_renamed};
 
 use crate::addresses::address_in;
 use dns_messages::{Content, Message, Question, Resource, Resources};
-use dns_names::{Name, address_of, reverse_of};
+use dns_names::{address_of, reverse_of};
 use gate_base::{Addr, OutOfMemory};
 use std::alloc::Global;
+use std::mem::replace;
 
 fn image_at(images: &[Option<Addr>], place: usize) -> Option<Addr>
     ensures { result ≡ image_at images.now place }
@@ -40,35 +40,16 @@ fn count_of(address: Option<Addr>) -> usize
     }
 }
 
-fn name_to(alloc: Global, image: Option<Addr>, name: Name) -> Result<Name, OutOfMemory>
-    requires { IfSome image (λ _. IsSome (full_reverse name)) }
-    ensures { IfOk result (λ renamed. renamed ≡ name_to image name) }
-{
-    match image {
-        Some(address) => reverse_of(alloc, address, &name),
-        None => Ok(name),
-    }
-}
-
-fn content_to(image: Option<Addr>, content: Content) -> Content
-    ensures { result ≡ content_to image content }
-{
-    match image {
-        Some(address) => Content::Address(address),
-        None => content,
-    }
-}
-
-/// A record whose images stand from a place on, and the place after them.
+/// Gives a record its images, which stand from a place on, and answers the place after them.
 fn rename_resource(
     alloc: Global,
-    resource: Resource,
+    resource: &mut Resource,
     images: &[Option<Addr>],
     place: usize,
-) -> Result<(Resource, usize), OutOfMemory>
-    requires { place + length (resource_addresses resource) ≤ length images.now }
-    ensures renamed { IfOk result (λ x. x.0 ≡ resource_renamed images.now place resource) }
-    ensures after { IfOk result (λ x. x.1 ≡ place + length (resource_addresses resource)) }
+) -> Result<usize, OutOfMemory>
+    requires { place + length (resource_addresses resource.old) ≤ length images.now }
+    ensures renamed { OnOk result (resource.new ≡ resource_renamed images.now place resource.old) }
+    ensures after { IfOk result (λ x. x ≡ place + length (resource_addresses resource.old)) }
 {
     let owner = address_of(&resource.name);
     let value = address_in(&resource.content);
@@ -76,91 +57,89 @@ fn rename_resource(
     let after = behind + count_of(value);
     let owner = image_of(owner, images, place);
     let value = image_of(value, images, behind);
-    let name = name_to(alloc, owner, resource.name)?;
-    let content = content_to(value, resource.content);
-    let lifetime = if owner.is_some() || value.is_some() {
-        0
-    } else {
-        resource.lifetime
-    };
-    Ok((
-        Resource {
-            name,
-            kind: resource.kind,
-            class: resource.class,
-            lifetime,
-            content,
-        },
-        after,
-    ))
+    if owner.is_some() || value.is_some() {
+        resource.lifetime = 0;
+    }
+    if let Some(address) = owner {
+        resource.name = reverse_of(alloc, address, &resource.name)?;
+    }
+    if let Some(address) = value {
+        resource.content = Content::Address(address);
+    }
+    Ok(after)
 }
 
-/// Records whose images stand from a place on, and the place after them.
+/// Gives records their images, which stand from a place on, and answers the place after them.
 fn rename_resources(
     alloc: Global,
-    resources: Resources,
+    resources: &mut [Resource],
     images: &[Option<Addr>],
     start: usize,
-) -> Result<(Vec<Resource>, usize), OutOfMemory>
-    requires { start + length (resources_addresses resources) ≤ length images.now }
-    ensures renamed { IfOk result (λ x. x.0.items ≡ resources_renamed images.now start resources) }
-    ensures after { IfOk result (λ x. x.1 ≡ start + length (resources_addresses resources)) }
+) -> Result<usize, OutOfMemory>
+    requires { start + length (resources_addresses resources.old) ≤ length images.now }
+    ensures renamed { OnOk result (resources.new ≡ resources_renamed images.now start resources.old) }
+    ensures after { IfOk result (λ x. x ≡ start + length (resources_addresses resources.old)) }
 {
-    let resources = resources.into_items();
-    let mut renamed = Vec::with_capacity(alloc, resources.len())?;
     let mut place = start;
-    for resource in resources {
-        let (next, after) = rename_resource(alloc, resource, images, place)?;
-        renamed.push(next)?;
-        place = after;
+    for resource in resources.iter_mut() {
+        place = rename_resource(alloc, resource, images, place)?;
     }
-    Ok((renamed, place))
+    Ok(place)
 }
 
-/// A question whose image stands first, and the place after it.
+/// Gives a list its images, which stand from a place on, and answers the place after them.
+fn rename_list(
+    alloc: Global,
+    list: &mut Resources,
+    images: &[Option<Addr>],
+    start: usize,
+) -> Result<usize, OutOfMemory>
+    requires { start + length (resources_addresses list.old) ≤ length images.now }
+    ensures renamed { OnOk result (list.new ≡ resources_renamed images.now start list.old) }
+    ensures after { IfOk result (λ x. x ≡ start + length (resources_addresses list.old)) }
+{
+    let Some(mut items) = replace(list, Resources::none()).into_items() else {
+        return Ok(start);
+    };
+    let after = rename_resources(alloc, &mut items, images, start)?;
+    *list = Resources::of(items);
+    Ok(after)
+}
+
+/// Gives a question its image, which stands first, and answers the place after it.
 fn rename_question(
     alloc: Global,
-    question: Option<Question>,
+    question: &mut Option<Question>,
     images: &[Option<Addr>],
-) -> Result<(Option<Question>, usize), OutOfMemory>
-    ensures renamed { IfOk result (λ x. x.0 ≡ question_renamed images.now question) }
-    ensures after { IfOk result (λ x. x.1 ≡ length (question_addresses question)) }
+) -> Result<usize, OutOfMemory>
+    ensures renamed { OnOk result (question.new ≡ question_renamed images.now question.old) }
+    ensures after { IfOk result (λ x. x ≡ length (question_addresses question.old)) }
 {
-    match question {
-        None => Ok((None, 0)),
-        Some(question) => {
-            let address = address_of(&question.name);
-            let after = count_of(address);
-            let image = image_of(address, images, 0);
-            let name = name_to(alloc, image, question.name)?;
-            let (kind, class) = (question.kind, question.class);
-            Ok((Some(Question { name, kind, class }), after))
-        }
+    let Some(question) = question else {
+        return Ok(0);
+    };
+    let address = address_of(&question.name);
+    if let Some(image) = image_of(address, images, 0) {
+        question.name = reverse_of(alloc, image, &question.name)?;
     }
+    Ok(count_of(address))
 }
 
-/// The message with the images of the addresses that `addresses_of` lists, in their order. No image keeps an address; an
-/// image takes its place, and makes the lifetime of its record 0. What stays is moved into it.
+/// Gives a message the images of the addresses that `addresses_of` lists, in their order. No image keeps an address; an image takes its
+/// place, and makes the lifetime of its record 0. The error is that there is too little memory: the message has some of its images then.
 pub fn rename(
     alloc: Global,
-    message: Message,
+    message: &mut Message,
     images: &[Option<Addr>],
-) -> Result<Message, OutOfMemory>
-    requires { length images.now ≡ length (message_addresses message) }
-    ensures renamed { IfOk result (λ renamed. renamed ≡ message_renamed images.now message) }
+) -> Result<(), OutOfMemory>
+    requires { length images.now ≡ length (message_addresses message.old) }
+    ensures renamed { OnOk result (message.new ≡ message_renamed images.now message.old) }
     // It keeps the form that a message needs to be written.
-    ensures suits { MessageSuits message → IfOk result MessageSuits }
+    ensures suits { MessageSuits message.old → OnOk result (MessageSuits message.new) }
 {
-    let (question, place) = rename_question(alloc, message.question, images)?;
-    let (answers, place) = rename_resources(alloc, message.answers, images, place)?;
-    let (authority, place) = rename_resources(alloc, message.authority, images, place)?;
-    let (additional, _) = rename_resources(alloc, message.additional, images, place)?;
-    Ok(Message {
-        id: message.id,
-        flags: message.flags,
-        question,
-        answers: Resources::of(answers),
-        authority: Resources::of(authority),
-        additional: Resources::of(additional),
-    })
+    let place = rename_question(alloc, &mut message.question, images)?;
+    let place = rename_list(alloc, &mut message.answers, images, place)?;
+    let place = rename_list(alloc, &mut message.authority, images, place)?;
+    rename_list(alloc, &mut message.additional, images, place)?;
+    Ok(())
 }

@@ -32,9 +32,9 @@ fn cut(alloc: Global, message: &Message) -> Result<Message, OutOfMemory>
         id: message.id,
         flags: message.flags | 0x0200,
         question: question_of(alloc, &message.question)?,
-        answers: Resources::of(Vec::new(alloc)),
-        authority: Resources::of(Vec::new(alloc)),
-        additional: Resources::of(Vec::new(alloc)),
+        answers: Resources::none(),
+        authority: Resources::none(),
+        additional: Resources::none(),
     })
 }
 

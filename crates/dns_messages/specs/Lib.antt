@@ -1,4 +1,5 @@
 pub mod Forms
+pub mod Held
 pub mod Relation
 pub mod Reading
 pub mod Suits

@@ -1,5 +1,5 @@
 // Lists in messages.
-ghost use Rattle.std.specs.Prelude.{◌≡◌};
+ghost use Rattle.std.specs.Prelude.{◌≡◌, []};
 
 use crate::message::Resource;
 use std::marker::Model;
@@ -34,10 +34,10 @@ impl Octets {
     }
 }
 
-/// A list of records.
+/// A list of records. One without a record holds no memory.
 #[derive(Drop)]
 pub struct Resources {
-    items: Vec<Resource>,
+    items: Option<Vec<Resource>>,
 }
 
 impl Model for Resources {
@@ -46,27 +46,41 @@ impl Model for Resources {
 
     ghost Value = { List Resource };
 
-    ghost view = { λ a. a.items.items };
+    ghost use Rattle.dns_messages.specs.Held.{held};
+
+    ghost view = { λ a. held a.items };
 }
 
 impl Resources {
+    ghost use Rattle.dns_messages.specs.Held.{held};
+
+    /// No records.
+    pub fn none() -> Resources
+        ensures { result ≡ [] }
+    {
+        Resources { items: None }
+    }
+
     /// The list of these records.
     pub fn of(items: Vec<Resource>) -> Resources
         ensures { result ≡ items.items }
     {
-        Resources { items }
+        Resources { items: Some(items) }
     }
 
     /// The records in their order.
     pub fn items(&self) -> &[Resource]
         ensures { result.now ≡ self.now }
     {
-        &self.items
+        match &self.items {
+            Some(items) => items,
+            None => &[],
+        }
     }
 
-    /// The records themselves, in their order.
-    pub fn into_items(self) -> Vec<Resource>
-        ensures { result.items ≡ self }
+    /// The records themselves, in their order, where memory is held for some.
+    pub fn into_items(self) -> Option<Vec<Resource>>
+        ensures { held result ≡ self }
     {
         self.items
     }

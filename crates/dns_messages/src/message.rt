@@ -41,7 +41,6 @@ pub struct Resource {
 }
 
 /// A message with at most one question.
-#[derive(Drop)]
 pub struct Message {
     pub id: u16,
     /// The second 16 bits of the header (RFC 1035, 4.1.1).
@@ -50,4 +49,19 @@ pub struct Message {
     pub answers: Resources,
     pub authority: Resources,
     pub additional: Resources,
+}
+
+// By a call of its own, since a drop that is written out wherever it happens is slow to prove.
+impl Drop for Message {
+    #[inline(always)]
+    fn drop(self) {
+        let Self {
+            id,
+            flags,
+            question,
+            answers,
+            authority,
+            additional,
+        } = self;
+    }
 }

@@ -224,6 +224,22 @@ fn resources_of(
     Ok((resources, at))
 }
 
+#[tactic(auto, unfolding(crate::specs::Reading::resources_at))]
+fn list_of(
+    alloc: Global,
+    count: u16,
+    reader: &NameReader<'_>,
+    place: usize,
+) -> Result<(Resources, usize), NameStop>
+    ensures { ReturnsRead (λ x. (x.0, x.1)) result (resources_at count reader.now place) }
+{
+    if count == 0 {
+        return Ok((Resources::none(), place));
+    }
+    let (resources, after) = resources_of(alloc, count, reader, place)?;
+    Ok((Resources::of(resources), after))
+}
+
 #[tactic(auto, unfolding(crate::specs::Reading::question_at))]
 fn question_of(
     alloc: Global,
@@ -268,9 +284,9 @@ fn message_of(alloc: Global, reader: &NameReader<'_>) -> Result<Message, NameSto
     let (backed, place) = u16_at(reader, place)?;
     let (added, place) = u16_at(reader, place)?;
     let (question, place) = questions_of(alloc, asked, reader, place)?;
-    let (answers, place) = resources_of(alloc, answered, reader, place)?;
-    let (authority, place) = resources_of(alloc, backed, reader, place)?;
-    let (additional, place) = resources_of(alloc, added, reader, place)?;
+    let (answers, place) = list_of(alloc, answered, reader, place)?;
+    let (authority, place) = list_of(alloc, backed, reader, place)?;
+    let (additional, place) = list_of(alloc, added, reader, place)?;
     if place != reader.message().len() {
         return Err(NameStop::BadDns);
     }
@@ -278,9 +294,9 @@ fn message_of(alloc: Global, reader: &NameReader<'_>) -> Result<Message, NameSto
         id,
         flags,
         question,
-        answers: Resources::of(answers),
-        authority: Resources::of(authority),
-        additional: Resources::of(additional),
+        answers,
+        authority,
+        additional,
     })
 }
 

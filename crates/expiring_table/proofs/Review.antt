@@ -14,7 +14,9 @@ use Rattle.expiring_table.specs.declared.store.Store.{Store}
 use Rattle.expiring_table.specs.Armed.{alarm}
 use Rattle.expiring_table.specs.Chained.{Chained}
 use Rattle.expiring_table.specs.Rows.{is_before, lives, living}
-use Rattle.expiring_table.specs.Kept.{rows_in, row_at, count_due, AreOnce, AreWatched, IsIndexed, IsWhole, IsOpen, HasRoom}
+use Rattle.std.specs.Vec.{with_item}
+use Rattle.expiring_table.specs.Kept.{rows_in, row_at, count_due, is_watched, AreOnce, AreWatched, IsIndexed, IsPlaceOf, IsWhole, IsOpen, HasRoom}
+use Rattle.expiring_table.proofs.Changes.{count_set, once_set, indexed_set, watched_then}
 use Rattle.expiring_table.proofs.Indexed.{contains_front, contains_rest}
 
 contains_none : (one : Reverse (ℕ × ℕ)) → Contains [] one → ⊥
@@ -156,3 +158,19 @@ module _ {T : Type 0} where
 
   pub row_cleared : (cells : List (Option (Row T))) (place : ℕ) → place < length cells → row_at (set cells place None) place ≡ None
   row_cleared cells place within = get_or-set_same cells place None None within
+
+  -- another row with the key of one that ends stands at its place, and its alarm stays
+  pub whole_watched : (store : Store T) (place end : ℕ) (new : Row T) → IsWhole store → IsPlaceOf new.key store.cells.items (Some place) → new.end ≡ Some end → is_watched (slice_index store.moments.items place) end (row_at store.cells.items place) ≡ true → IsWhole (record store { cells = with_item store.cells place (Some new) })
+  whole_watched store place end new whole at is watched =
+      let cells = store.cells.items in
+      let moments = store.moments.items in
+      let alarms = store.alarms.alarms in
+      record {
+        room = room_kept store _ whole.room refl (length-set cells place (Some new)) refl refl refl refl (omega arith) whole.room.alarmed;
+        indexed = indexed_set cells moments moments store.chains alarms alarms place at.1.0 new at.0 at.1.1 at.1.2 whole.indexed refl (λ other not_here. refl) (λ one there. there) (λ other ends.
+            let same : end ≡ other = same_Some end other (sym is ∙ ends) in
+            watched_then cells moments alarms place (row_at cells place) other whole.indexed.watched refl (ap (λ one. is_watched (slice_index moments place) one (row_at cells place)) (sym same) ∙ watched));
+        once = once_set cells place at.1.0 new at.0 whole.once at.1.1 at.1.2;
+        counted = whole.counted ∙ sym (count_set cells place at.1.0 new at.1.1);
+        few = whole.few;
+      }

@@ -48,12 +48,25 @@ impl<T: Copy> Rows<T> {
     }
 
     /// The row with a key, and the place at which it is kept, by which `set_at` finds it at once.
+    #[inline(always)]
     pub fn locate(&self, key: u128) -> Option<(usize, &Row<T>)>
         ensures { option_map (λ found. found.1.now) result ≡ row_of key self.now.rows }
     {
         let place = self.store.place_of(key)?;
         let row = self.store.cells[place].as_ref()?;
         Some((place, row))
+    }
+
+    /// The row at a place, if it has this key: any place will do.
+    #[inline(always)]
+    pub fn row_at(&self, place: usize, key: u128) -> Option<&Row<T>>
+        ensures { IfSome result (λ row. row_of key self.now.rows ≡ Some row.now) }
+    {
+        if self.store.cells.len() <= place {
+            return None;
+        }
+        let row = self.store.cells[place].as_ref()?;
+        if row.key == key { Some(row) } else { None }
     }
 
     /// The number of rows. No two of them have one key.
@@ -77,8 +90,19 @@ impl<T: Copy> Rows<T> {
 
     /// Puts a row in the place of the one with its key, which is there. It is looked for at a place first, that at which it was
     /// located; any will do.
-    #[inline(never)]
+    #[inline(always)]
     pub fn set_at(&mut self, place: usize, row: Row<T>)
+        requires { IsSome (row_of row.key self.old.rows) }
+        ensures { self.new ≡ record self.old { rows = with_row row self.old.rows } }
+    {
+        if !self.store.replace_watched(place, row) {
+            self.set_anew(place, row);
+        }
+    }
+
+    // The same, where room for an alarm may be wanting, or the row be elsewhere.
+    #[inline(never)]
+    fn set_anew(&mut self, place: usize, row: Row<T>)
         requires { IsSome (row_of row.key self.old.rows) }
         ensures { self.new ≡ record self.old { rows = with_row row self.old.rows } }
     {

@@ -1,5 +1,5 @@
 // Where rows stand, and how they are found.
-ghost use Rattle.std.specs.Prelude.{◌≡◌, ◌+◌, ◌*◌, ◌<◌, ◌≤◌, ◌^◌, ◌++◌, ◌∷◌, [], None, Some, length, IfOk, IfSome, IfNone};
+ghost use Rattle.std.specs.Prelude.{◌≡◌, ◌+◌, ◌*◌, ◌<◌, ◌≤◌, ◌^◌, ◌++◌, ◌∷◌, [], true, false, None, Some, length, IfOk, IfSome, IfNone};
 ghost use Rattle.expiring_table.specs.Chained.{with_place};
 ghost use Rattle.expiring_table.specs.Rows.{no_rows, with_row, without, living, IsTakenOut};
 ghost use Rattle.expiring_table.specs.Kept.{bucket_of, first_moment, rows_in, table_of, row_at, count_due, is_watched, IsPlaceOf, HasAlarm, IsWhole, IsOpen, IsListed, HasRoom, CanAppend};
@@ -42,6 +42,7 @@ impl<T: Copy> Store<T> {
     }
 
     /// The place of the row with a key.
+    #[inline(always)]
     pub(crate) fn place_of(&self, key: u128) -> Option<usize>
         requires { IsWhole self.now }
         ensures { IsPlaceOf key self.now.cells.items result }
@@ -163,6 +164,31 @@ impl<T: Copy> Store<T> {
         }
         self.moments[place] = end;
         self.alarms.push(end, place as u32);
+    }
+
+    /// The same at once, where the row at a place has this key, and an alarm no later than the end; else nothing changes.
+    #[inline(always)]
+    pub(crate) fn replace_watched(&mut self, near: usize, row: Row<T>) -> bool
+        requires { IsWhole self.old }
+        ensures whole { IsWhole self.new }
+        ensures done { result ≡ true → table_of self.new ≡ record (table_of self.old) { rows = with_row row (rows_in self.old.cells.items) } }
+        ensures kept { result ≡ false → table_of self.new ≡ table_of self.old }
+    {
+        let Some(end) = row.end else {
+            return false;
+        };
+        if self.cells.len() <= near {
+            return false;
+        }
+        let was = self.cells[near];
+        if !is_cell_of(was, row.key) {
+            return false;
+        }
+        if !is_watched(was, self.moments[near], end) {
+            return false;
+        }
+        self.cells[near] = Some(row);
+        true
     }
 
     /// The row at a place goes.

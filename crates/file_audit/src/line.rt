@@ -13,7 +13,7 @@ use gate_report::{LINE, Line, json_line, text_line};
 use std::alloc::Global;
 
 /// What the line of a frame tells but for how many were sent for it.
-#[derive(Clone, Copy, Debug, PartialEq, Eq)]
+#[derive(Clone, Copy)]
 pub struct LineHead {
     /// The number of the event.
     pub number: u64,
@@ -26,14 +26,14 @@ pub struct LineHead {
 }
 
 /// How far octets agree with a line, and whether they have all of it.
-#[derive(Clone, Copy, Debug, PartialEq, Eq)]
+#[derive(Clone, Copy)]
 pub struct Extent {
     pub count: usize,
     pub whole: bool,
 }
 
 /// The line that a report goes on with: how many frames it tells, and how many octets it has.
-#[derive(Clone, Copy, Debug, PartialEq, Eq)]
+#[derive(Clone, Copy)]
 pub struct Found {
     pub frames: u32,
     pub length: usize,

@@ -8,7 +8,7 @@ use pcap_files::CaptureFault;
 use pcap_merge::MergeStop;
 
 /// Why an audit doesn't find given files lawful.
-#[derive(Clone, Copy, Debug, PartialEq, Eq)]
+#[derive(Clone, Copy)]
 pub enum AuditStop {
     /// This is the first reason against them, at the event of this number.
     Unlawful(u64, AuditReason),

@@ -4,7 +4,7 @@ use Rattle.gate_desk.specs.Outside.{Outside}
 use Rattle.gate_report.specs.declared.line.Line.{Line}
 use Rattle.gate_phases.specs.declared.status.Status.{Status}
 use Rattle.gate_phases.specs.declared.status.Status.TheVariants.{Done}
-use Rattle.gateway.specs.Names.{Names}
+use Rattle.gate_phases.specs.RunNames.{Names}
 use Rattle.gateway.specs.Answers.{IsRun, Runs, TookForWritten}
 use Rattle.gate_command.specs.Answers.{IsDoneRun, IsToldRun, AnswersRun}
 use Rattle.gate_phases.specs.Telling.{Tells}

@@ -9,7 +9,7 @@ use Rattle.gate_phases.specs.declared.status.Status.TheVariants.{Done, SettingsR
 use Rattle.gate_phases.specs.Beginning.{settings_start, inputs_start}
 use Rattle.gate_phases.specs.Telling.{Tells}
 use Rattle.gate_phases.proofs.Causes.{starts_all, starts_more}
-use Rattle.gateway_audit.specs.Names.{Names, given_starts, answer_start}
+use Rattle.gate_phases.specs.AuditNames.{Names, given_starts, answer_start}
 use Rattle.gateway_audit.specs.Audits.{IsAudit}
 use Rattle.gate_command.specs.Answers.{IsToldAudit, AnswersAudit}
 

@@ -1,4 +1,4 @@
 pub mod Answered
 pub mod Audited
 pub mod Makes
-pub mod Numbers
+pub mod Codes

@@ -4,13 +4,13 @@ use Rattle.gate_desk.specs.Outside.{Outside}
 use Rattle.gate_phases.specs.declared.status.Status.{Status}
 use Rattle.gate_phases.specs.declared.status.Status.TheVariants.{Done, Usage, Unlawful}
 use Rattle.gate_phases.specs.Telling.{TellsLine}
-use Rattle.gateway.specs.Names.{Names}
+use Rattle.gate_phases.specs.RunNames.{Names}
 use Rattle.gateway.specs.Answers.{IsRun, IsPromised, TookForWritten}
 use Rattle.gateway.specs.Making.{IsMake}
-use Rattle.gateway_audit.specs.Names.{Names as AuditNames}
+use Rattle.gate_phases.specs.AuditNames.{Names as AuditNames}
 use Rattle.gateway_audit.specs.Audits.{IsAudit}
-use Rattle.gate_command.specs.Command.{Command, Run, Make, Audit}
-use Rattle.gate_command.specs.Command as commands
+use Rattle.gate_phases.specs.Command.{Command, Run, Make, Audit}
+use Rattle.gate_phases.specs.Command as commands
 
 -- a run that is done
 pub record IsDoneRun (names : Names) (old new : Outside) : Type 0 where

@@ -1,16 +1,15 @@
 // The whole call.
 ghost use Rattle.std.specs.Prelude.{◌≤◌, map};
 ghost use Rattle.std.specs.String.{string_bytes};
-ghost use Rattle.gateway.specs.Names.{names_of};
-ghost use Rattle.gate_command.specs.Command.{command_of};
+ghost use Rattle.gate_phases.specs.RunNames.{names_of};
+ghost use Rattle.gate_phases.specs.Command.{command_of};
 ghost use Rattle.gate_command.specs.Answers.{Answers, AnswersRun, AnswersMake, AnswersAudit};
-ghost use Rattle.gateway_audit.specs.Names.{names_of as audit_names_of};
+ghost use Rattle.gate_phases.specs.AuditNames.{names_of as audit_names_of};
 
-use crate::command::{Command, read_words};
 use gate_desk::Desk;
-use gate_phases::{Status, tell, tell_usage};
-use gateway::{FileNames, make, run};
-use gateway_audit::{AuditNames, audit};
+use gate_phases::{AuditNames, Command, FileNames, Status, read_words, tell, tell_usage};
+use gateway::{make, run};
+use gateway_audit::audit;
 use std::alloc::Global;
 
 /// A run, and the line about what went wrong.

@@ -34,6 +34,10 @@ pub untold_writes : (s : Slot) (xs : List ℕ) (a b : PerSlot ℕ) → Writes s 
 unfolding wrote
 untold_writes s xs a b = record { written = refl; left = refl; starts = refl; start_faults = refl; faults = rises_not s a }
 
+pub untold_writes_same : (s : Slot) (xs ys : List ℕ) (a a' b b' : PerSlot ℕ) → Writes s xs (untold a b) (untold a' b') → Writes s ys (untold a b) (untold a' b')
+unfolding wrote
+untold_writes_same s xs ys a a' b b' h = record { written = refl; left = refl; starts = refl; start_faults = h.start_faults; faults = h.faults }
+
 pub untold_write_fails : (s : Slot) (a a' b : PerSlot ℕ) → a' ≡ put a s (raised (at a s)) → Writes s [] (untold a b) (untold a' b)
 unfolding wrote
 untold_write_fails s a a' b e = record { written = refl; left = refl; starts = refl; start_faults = refl; faults = rises_one s a a' e }

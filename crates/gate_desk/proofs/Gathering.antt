@@ -3,7 +3,7 @@ use Rattle.std.proofs.Common.{◌≡◌, inr, ℕ, List, [], ◌++◌, Result, O
 use Rattle.gate_desk.specs.declared.gathered.Gathering.{Gathering}
 use Rattle.gate_desk.specs.declared.gathered.Gathering.TheVariants.{Gathered, NoRoom}
 use Rattle.gate_desk.specs.declared.slot.Slot.{Slot}
-use Rattle.gate_desk.specs.declared.slot.Slot.TheVariants.{Settings, LeftIn, RightIn, LeftGiven, RightGiven, ReportGiven, LeftOut, RightOut, Report, Errors}
+use Rattle.gate_desk.specs.declared.slot.Slot.TheVariants.{Errors}
 use Rattle.gate_desk.specs.declared.slot.PerSlot.{PerSlot}
 use Rattle.gate_desk.specs.Slots.{at, put}
 use Rattle.gate_desk.specs.Memory.{each}

@@ -50,6 +50,10 @@ mapped-put f p s x = every (λ s. mapped f (put p s x) ≡ put (mapped f p) s (f
 pub mapped-same : {A B : Type 0} (f : A → B) (p : PerSlot A) (s : Slot) (x : A) → f x ≡ f (at p s) → mapped f (put p s x) ≡ mapped f p
 mapped-same f p s x e = mapped-put f p s x ∙ ap (put (mapped f p) s) (e ∙ sym (at-mapped f p s)) ∙ put-at (mapped f p) s
 
+-- no value but that of one slot changed
+pub mapped-put_only : {A B : Type 0} (f : A → B) (p : PerSlot A) (s : Slot) (x : A) → mapped f (put p s x) ≡ put (mapped f p) s (at (mapped f (put p s x)) s)
+mapped-put_only f p s x = mapped-put f p s x ∙ ap (put (mapped f p) s) (sym (at-mapped f (put p s x) s ∙ ap f (at-put p s x)))
+
 pub wrote-wrote : (s : Slot) (xs ys : List ℕ) (told : Told) → wrote s ys (wrote s xs told) ≡ wrote s (xs ++ ys) told
 unfolding wrote
 wrote-wrote s xs ys None = refl
@@ -115,6 +119,11 @@ next_none-of (Some all) = refl
 pub next_none : (s : Slot) (a : Outside) → AreNext [] a s
 next_none s a = next_none-of (told_at a.left s)
 
+-- all that is left, where it is told
+pub next_all : (s : Slot) (p : PerSlot (List ℕ)) (a : Outside) (xs : List ℕ) → a.left ≡ Some p → xs ≡ at p s → AreNext xs a s
+unfolding told_at
+next_all s p a xs e f = subst (λ (o : Told). IfSome (told_at o s) (λ all. take (length xs) all ≡ xs)) (sym e) (ap (take (length xs)) (sym f) ∙ take_all (length xs) xs (omega arith))
+
 next_on-of : (xs ys : List ℕ) (o : Option (List ℕ)) → IfSome o (λ all. take (length xs) all ≡ xs) → IfSome (option_map (drop (length xs)) o) (λ all. take (length ys) all ≡ ys) → IfSome o (λ all. take (length (xs ++ ys)) all ≡ xs ++ ys)
 next_on-of xs ys None h k = tt
 next_on-of xs ys (Some all) h k = rw (length-append, take-add, h, k) refl
@@ -137,16 +146,6 @@ pub up_to_end : (s : Slot) (xs : List ℕ) (m wanted : ℕ) (a b : Outside) → 
 up_to_end s xs m wanted a b e le t h k =
     let there : told_at b.left s ≡ option_map (drop (length xs)) (told_at a.left s) = ap (λ (o : Told). told_at o s) t.left ∙ told_at-took s m a.left ∙ ap (λ (n : ℕ). option_map (drop n) (told_at a.left s)) (sym e) in
     up_to_end-of xs wanted (told_at a.left s) (omega arith) h (subst (λ o. IfSome o (λ all. length all ≡ 0)) there k)
-
-up_to_on-of : (xs ys : List ℕ) (k : ℕ) (o : Option (List ℕ)) → IfSome o (λ all. take (length xs) all ≡ xs) → IfSome (option_map (drop (length xs)) o) (λ all. ys ≡ take k all) → IfSome o (λ all. xs ++ ys ≡ take (length xs + k) all)
-up_to_on-of xs ys k None h e = tt
-up_to_on-of xs ys k (Some all) h e = sym (take-add (length xs) k all ∙ ap (λ (zs : List ℕ). zs ++ take k (drop (length xs) all)) h ∙ ap (λ (zs : List ℕ). xs ++ zs) (sym e))
-
--- the next octets, and then as many as wanted or else all that are left
-pub up_to_on : (s : Slot) (xs ys : List ℕ) (m k : ℕ) (a b : Outside) → length xs ≡ m → Takes s m a b → AreNext xs a s → AreUpTo k ys b s → AreUpTo (m + k) (xs ++ ys) a s
-up_to_on s xs ys m k a b e t h f =
-    let there : told_at b.left s ≡ option_map (drop (length xs)) (told_at a.left s) = ap (λ (o : Told). told_at o s) t.left ∙ told_at-took s m a.left ∙ ap (λ (n : ℕ). option_map (drop n) (told_at a.left s)) (sym e) in
-    subst (λ n. AreUpTo (n + k) (xs ++ ys) a s) e (up_to_on-of xs ys k (told_at a.left s) h (subst (λ o. IfSome o (λ all. ys ≡ take k all)) there f))
 
 -- a buffer after more was read into it
 pub buffer_on : (xs ys : List ℕ) (a n : ℕ) → a ≤ length xs → n ≤ length ys → take (a + n) (put_mid a (length xs - a) xs ys) ≡ take a xs ++ take n ys

@@ -1,5 +1,5 @@
 -- What the steps of a desk in memory tell.
-use Rattle.std.proofs.Common.{◌≡◌, ℕ, ◌+◌, ◌≤◌, List, [], ◌∷◌, ◌++◌, Some, min, take, drop, length, refl, sym, ap, subst, ◌∙◌, arith}
+use Rattle.std.proofs.Common.{◌≡◌, ℕ, ◌+◌, ◌≤◌, List, [], ◌∷◌, ◌++◌, Some, min, take, drop, length, refl, sym, ap, subst, ◌∙◌, arith, length-append}
 use Rattle.std.proofs.lemmas.List.{length-take-le, take_all}
 use Rattle.gate_desk.specs.declared.slot.Slot.{Slot}
 use Rattle.gate_desk.specs.declared.slot.Way.{Way}
@@ -7,8 +7,8 @@ use Rattle.gate_desk.specs.declared.slot.PerSlot.{PerSlot}
 use Rattle.gate_desk.specs.Slots.{at, put}
 use Rattle.gate_desk.specs.Outside.{Start, Starts, FailsToStart, Takes, Writes, Rises, AreNext, IsAtEnd, wrote, took, told_at, started}
 use Rattle.gate_desk.specs.Counts.{raised}
-use Rattle.gate_desk.specs.Memory.{Memory, told_of}
-use Rattle.gate_desk.proofs.Laws.{at-put, rises_not, wrote-nil, took-none}
+use Rattle.gate_desk.specs.Memory.{Memory, told_of, total}
+use Rattle.gate_desk.proofs.Laws.{every, at-put, rises_not, wrote-nil, took-none}
 
 pub rises_one : (s : Slot) (a b : PerSlot ℕ) → b ≡ put a s (raised (at a s)) → Rises s a b
 rises_one s a b e =
@@ -42,9 +42,25 @@ memory_end s m e = e
 pub memory_write_fails : (s : Slot) (m : Memory) (n : PerSlot ℕ) → n ≡ put m.faults s (raised (at m.faults s)) → Writes s [] (told_of m) (told_of (record m { faults = n }))
 memory_write_fails s m n e = record { written = sym (wrote-nil s (Some m.written)); left = refl; starts = refl; start_faults = refl; faults = rises_one s m.faults n e }
 
-pub memory_writes : (s : Slot) (piece : List ℕ) (m : Memory) (w : PerSlot (List ℕ)) → w ≡ put m.written s (at m.written s ++ piece) → Writes s (take (length piece) piece) (told_of m) (told_of (record m { written = w }))
+pub memory_wrote : (s : Slot) (piece : List ℕ) (m : Memory) (w : PerSlot (List ℕ)) → w ≡ put m.written s (at m.written s ++ piece) → Writes s piece (told_of m) (told_of (record m { written = w }))
 unfolding wrote
-memory_writes s piece m w e = record { written = ap Some (e ∙ ap (λ (xs : List ℕ). put m.written s (at m.written s ++ xs)) (sym (take_all (length piece) piece (omega arith)))); left = refl; starts = refl; start_faults = refl; faults = rises_not s m.faults }
+memory_wrote s piece m w e = record { written = ap Some e; left = refl; starts = refl; start_faults = refl; faults = rises_not s m.faults }
+
+pub memory_writes : (s : Slot) (piece : List ℕ) (m : Memory) (w : PerSlot (List ℕ)) → w ≡ put m.written s (at m.written s ++ piece) → Writes s (take (length piece) piece) (told_of m) (told_of (record m { written = w }))
+memory_writes s piece m w e = subst (λ (xs : List ℕ). Writes s xs (told_of m) (told_of (record m { written = w }))) (sym (take_all (length piece) piece (omega arith))) (memory_wrote s piece m w e)
+
+total-put : (s : Slot) (xs : List ℕ) (p : PerSlot (List ℕ)) → total (put p s (at p s ++ xs)) ≡ total p + length xs
+total-put s xs p =
+    every (λ s. total (put p s (at p s ++ xs)) ≡ total p + length xs) (omega (arith, length-append p.settings xs)) (omega (arith, length-append p.left_in xs)) (omega (arith, length-append p.right_in xs)) (omega (arith, length-append p.left_given xs))
+    (omega (arith, length-append p.right_given xs)) (omega (arith, length-append p.report_given xs)) (omega (arith, length-append p.left_out xs)) (omega (arith, length-append p.right_out xs)) (omega (arith, length-append p.report xs)) (omega (arith, length-append p.errors xs)) s
+
+-- the octets of all slots, once some were written
+pub total-wrote : (s : Slot) (xs : List ℕ) (m n : Memory) → Writes s xs (told_of m) (told_of n) → total n.written ≡ total m.written + length xs
+unfolding wrote
+total-wrote s xs m n h =
+    let told : Some n.written ≡ Some (put m.written s (at m.written s ++ xs)) = h.written in
+    let is : n.written ≡ put m.written s (at m.written s ++ xs) = cc in
+    ap total is ∙ total-put s xs m.written
 
 pub listed_write : (s : Slot) (m m' n : Memory) → m' ≡ m → n ≡ record m' { faults = put m'.faults s (raised (at m'.faults s)) } → Writes s [] (told_of m) (told_of n)
 listed_write s m m' n e f =

@@ -1,14 +1,14 @@
 -- What the files of slots got, and what waits for them.
-use Rattle.std.proofs.Common.{◌≡◌, ℕ, List, [], ◌++◌, Bool, true, false, Option, Some, None, Result, OnOk, cond, if◌then◌else◌, refl, sym, ap, subst, ◌∙◌, append_assoc, append-nil}
+use Rattle.std.proofs.Common.{◌≡◌, ℕ, List, [], ◌++◌, Option, Some, None, Result, OnOk, if◌then◌else◌, sym, ap, subst, ◌∙◌, append_assoc, append-nil}
 use Rattle.std.specs.Io.KnownBytes.{Appends, append_known}
 use Rattle.gate_desk.specs.declared.gathered.Gathering.{Gathering}
 use Rattle.gate_desk.specs.declared.gathered.Gathering.TheVariants.{Gathered, NoRoom}
 use Rattle.gate_desk.specs.declared.slot.Slot.{Slot}
-use Rattle.gate_desk.specs.declared.slot.Slot.TheVariants.{Settings, LeftIn, RightIn, LeftGiven, RightGiven, ReportGiven, LeftOut, RightOut, Report, Errors}
+use Rattle.gate_desk.specs.declared.slot.Slot.TheVariants.{Errors}
 use Rattle.gate_desk.specs.declared.slot.PerSlot.{PerSlot}
 use Rattle.gate_desk.specs.Slots.{at, put, same_slot}
 use Rattle.gate_desk.specs.Memory.{each}
-use Rattle.gate_desk.specs.Gathering.{HandsOut, IsFile, TakesPiece, gathered_after, taken_at}
+use Rattle.gate_desk.specs.Gathering.{HandsOut, TakesPiece, gathered_after, taken_at}
 use Rattle.gate_desk.proofs.Laws.{at-each, at-put_append, put-at}
 
 appends_none : (g : Option (List ℕ)) → Appends g g []

@@ -1,5 +1,5 @@
 -- A desk in memory of which some calls fail.
-use Rattle.std.specs.Prelude.{ℕ, ◌+◌, ◌-◌, ◌^◌, ◌<◌, List, Contains, min}
+use Rattle.std.specs.Prelude.{ℕ, ◌+◌, ◌-◌, ◌^◌, ◌<◌, ◌⊎◌, ◌==◌, if◌then◌else◌, List, Contains, min, length}
 use Rattle.gate_desk.specs.Outside.{Outside}
 use Rattle.gate_desk.specs.Memory.{Memory, told_of}
 
@@ -20,3 +20,11 @@ IsListed d = (d.calls < 2 ^ 64 - 1) × Contains d.failing (d.calls + 1)
 -- one call more, of which no more than 2^64 - 1 are counted
 abbrev pub counted : Counted → Counted
 counted d = record d { calls = min (d.calls + 1) (2 ^ 64 - 1) }
+
+-- one call for a piece that isn't empty
+abbrev pub counted_with : List ℕ → Counted → Counted
+counted_with piece d = record d { calls = if length piece == 0 then d.calls else (counted d).calls }
+
+-- a piece that isn't empty can't be written where so many octets are: its call is to fail, or the octets of all slots would be more than 64 MiB
+abbrev pub FailsToWrite : List ℕ → ℕ → Counted → Type 0
+FailsToWrite piece written d = (0 < length piece) × (IsListed d ⊎ (2 ^ 26 < written + length piece))

@@ -1,6 +1,7 @@
 -- What is gathered for the slots of a desk over files, before it is written out.
 use Rattle.std.specs.Io.KnownBytes.{Appends, append_known}
-use Rattle.std.specs.Prelude.{◌≡◌, ◌⊎◌, ℕ, List, [], ◌++◌, Option, Some, None, Result, Ok, Err, if◌then◌else◌}
+use Rattle.std.specs.Io.Buffered.{reader_buffer}
+use Rattle.std.specs.Prelude.{◌≡◌, ◌⊎◌, ℕ, List, [], ◌++◌, Option, Some, None, Result, Ok, Err, if◌then◌else◌, take, drop}
 use Rattle.gate_desk.specs.declared.gathered.Gathering.{Gathering}
 use Rattle.gate_desk.specs.declared.gathered.Gathering.TheVariants.{Gathered, NoRoom, Refused}
 use Rattle.gate_desk.specs.declared.place.Place.{Place}
@@ -32,6 +33,24 @@ waiting_in p = mapped waiting p
 abbrev pub Waits : Slot → List ℕ → PerSlot (List ℕ) → PerSlot (List ℕ) → Type 0
 Waits Errors piece old new = Unit {0}
 Waits slot piece old new = (at new slot ≡ at old slot ++ piece) ⊎ (at new slot ≡ piece)
+
+-- what was read ahead of a place
+abbrev pub ahead : {F A : Type 0} → Place F A → List ℕ
+ahead (Input reader) = reader_buffer reader
+ahead _ = []
+
+-- the same of each slot
+abbrev pub ahead_in : {F A : Type 0} → PerSlot (Place F A) → PerSlot (List ℕ)
+ahead_in p = mapped ahead p
+
+-- so many of the octets that were read ahead stand in the buffer, and are gone
+abbrev pub TakesAhead : ℕ → List ℕ → List ℕ → List ℕ → Type 0
+TakesAhead n buffer old new = (take n buffer ≡ take n old) × (new ≡ drop n old)
+
+-- nothing stands ahead of a slot that was started, and all else stays
+abbrev pub ahead_after : {T E : Type 0} → Result T E → Slot → PerSlot (List ℕ) → PerSlot (List ℕ)
+ahead_after (Ok x) slot ahead = put ahead slot []
+ahead_after (Err e) slot ahead = ahead
 
 -- for what a place is open
 abbrev pub way_of : {F A : Type 0} → Place F A → Option Way

@@ -1,5 +1,5 @@
 -- A desk over files, which tells only how often its calls failed.
-use Rattle.std.specs.Prelude.{◌≡◌, ℕ, List, [], Option, None}
+use Rattle.std.specs.Prelude.{◌≡◌, ℕ, List, [], drop, Option, Some, None}
 use Rattle.gate_desk.specs.declared.slot.Slot.{Slot}
 use Rattle.gate_desk.specs.declared.slot.PerSlot.{PerSlot}
 use Rattle.gate_desk.specs.declared.slot.Way.{Way}
@@ -9,9 +9,10 @@ use Rattle.gate_desk.specs.Gathering.{HandsOut}
 use Rattle.gate_desk.specs.Memory.{each}
 use Rattle.gate_desk.specs.Outside.{Outside}
 
--- for what each slot is open, what its file got, where it tells that, what is taken for each slot and isn't handed to the system yet, the slot of which the system refused such octets, and how often a read or write, and how often a start of each slot failed
+-- for what each slot is open, what was read ahead of it, what its file got, where it tells that, what is taken for each slot and isn't handed to the system yet, the slot of which the system refused such octets, and how often a read or write, and how often a start of each slot failed
 pub record Files : Type 0 where
   pub ways : PerSlot (Option Way)
+  pub ahead : PerSlot (List ℕ)
   pub got : PerSlot (Option (List ℕ))
   pub waiting : PerSlot (List ℕ)
   pub refused : Option Slot
@@ -25,6 +26,19 @@ untold faults start_faults = record { left = None; written = None; starts = None
 abbrev pub told_by : Files → Outside
 told_by d = untold d.faults d.start_faults
 
+-- these octets stand ready, unless the system refused some
+abbrev pub ready_of : Option Slot → List ℕ → List ℕ
+ready_of None octets = octets
+ready_of (Some refused) octets = []
+
+-- what stands ready of a slot
+abbrev pub ready : Files → Slot → List ℕ
+ready d slot = ready_of d.refused (at d.ahead slot)
+
+-- so many octets that were read ahead of a slot are gone, and nothing else changed
+abbrev pub skipped : Slot → ℕ → Files → Files
+skipped slot count d = record d { ahead = put d.ahead slot (drop count (at d.ahead slot)) }
+
 -- nothing waits any more, and these are what the files got
 abbrev pub all_written : PerSlot (Option (List ℕ)) → Files → Files
 all_written got d = record d { got = got; waiting = each [] }
@@ -36,4 +50,4 @@ pub record HandsOutAll (old new : Files) : Type 0 where
 
 -- all files are closed, and nothing waits any more, since the system refused octets of this slot, which counts as a failed write
 abbrev pub all_dropped : Slot → Files → Files
-all_dropped slot d = record { ways = each None; got = each None; waiting = each []; refused = None; faults = put d.faults slot (raised (at d.faults slot)); start_faults = d.start_faults }
+all_dropped slot d = record { ways = each None; ahead = each []; got = each None; waiting = each []; refused = None; faults = put d.faults slot (raised (at d.faults slot)); start_faults = d.start_faults }

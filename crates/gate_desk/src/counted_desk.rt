@@ -1,10 +1,10 @@
 // A desk of which some calls fail.
-ghost use Rattle.std.specs.Prelude.{◌≡◌, ◌+◌, ◌-◌, ◌<◌, ◌≤◌, ◌^◌, ◌↔◌, ◌⊎◌, [], IsTrue, IsErr, IfOk, OnOk, OnErr, Contains, min, take, length};
+ghost use Rattle.std.specs.Prelude.{◌≡◌, ◌+◌, ◌-◌, ◌<◌, ◌≤◌, ◌^◌, ◌↔◌, ◌⊎◌, ◌++◌, [], IsTrue, IsErr, IfOk, OnOk, OnErr, Contains, min, take, length};
 ghost use Rattle.gate_desk.specs.Slots.{at};
 ghost use Rattle.gate_desk.specs.Counts.{counts_after};
 ghost use Rattle.gate_desk.specs.Memory.{total};
-ghost use Rattle.gate_desk.specs.Counted.{IsListed, counted, told_by};
-ghost use Rattle.gate_desk.specs.Outside.{names_size, Starts, FailsToStart, Takes, AreNext, IsAtEnd, Writes, HasFailed};
+ghost use Rattle.gate_desk.specs.Counted.{IsListed, FailsToWrite, counted, counted_with, told_by};
+ghost use Rattle.gate_desk.specs.Outside.{names_size, Starts, FailsToStart, Takes, AreNext, IsAtEnd, Writes, WritesPart, HasFailed};
 
 use crate::{Desk, Failed, MemoryDesk, Slot, Way};
 use std::marker::Model;
@@ -61,10 +61,30 @@ impl CountedDesk {
         self.calls += 1;
         is_listed(&self.failing, self.calls)
     }
+
+    // Writes a piece, by one call where it isn't empty.
+    fn write_piece(&mut self, slot: Slot, piece: &[u8]) -> Result<(), Failed>
+        ensures ok { OnOk result (Writes slot piece.now (told_by self.old) (told_by self.new)) }
+        ensures err { OnErr result (Writes slot [] (told_by self.old) (told_by self.new)) }
+        ensures cause { OnErr result (HasFailed slot (told_by self.old) (told_by self.new)) }
+        ensures leaves { OnOk result ((told_by self.new).faults ≡ (told_by self.old).faults) }
+        ensures exact { IsErr result ↔ FailsToWrite piece.now (total self.old.inner.written) self.old }
+        ensures calls { self.new.calls ≡ (counted_with piece.now self.old).calls }
+        ensures list { self.new.failing ≡ self.old.failing }
+        ensures counts { self.new.inner.faults ≡ counts_after result slot self.old.inner.faults }
+    {
+        if piece.is_empty() {
+            return Ok(());
+        }
+        self.write(slot, piece)?;
+        Ok(())
+    }
 }
 
 impl Desk for CountedDesk {
     ghost outside = { told_by };
+
+    ghost ready = { λ d slot. 0 };
 
     /// Fails exactly where the call is listed or the names would be more than 64 KiB.
     fn start(&mut self, slot: Slot, name: &str, way: Way) -> Result<(), Failed>
@@ -108,6 +128,7 @@ impl Desk for CountedDesk {
     fn write(&mut self, slot: Slot, piece: &[u8]) -> Result<usize, Failed>
         ensures fits { IfOk result (λ n. n ≤ length piece.now) }
         ensures some { IfOk result (λ n. 0 < length piece.now → 0 < n) }
+        ensures whole { IfOk result (λ n. n ≡ length piece.now) }
         ensures ok { IfOk result (λ n. Writes slot (take n piece.now) (told_by self.old) (told_by self.new)) }
         ensures err { OnErr result (Writes slot [] (told_by self.old) (told_by self.new)) }
         ensures cause { OnErr result (HasFailed slot (told_by self.old) (told_by self.new)) }
@@ -122,5 +143,36 @@ impl Desk for CountedDesk {
             return Err(Failed);
         }
         self.inner.write(slot, piece)
+    }
+
+    /// Nothing stands ready, so that all is read by calls that are counted.
+    fn ahead(&self, _slot: Slot) -> &[u8]
+        ensures count { length result.now ≡ 0 }
+        ensures octets { AreNext result.now (told_by self.now) _slot }
+    {
+        &[]
+    }
+
+    fn skip(&mut self, _slot: Slot, _count: usize)
+        requires { _count ≤ 0 }
+        ensures takes { Takes _slot _count (told_by self.old) (told_by self.new) }
+        ensures leaves { (told_by self.new).faults ≡ (told_by self.old).faults }
+        ensures exact { self.new ≡ self.old }
+    {}
+
+    /// Writes the one piece and then the other, each by a call that is counted, and none for an empty one.
+    fn write_both(&mut self, slot: Slot, first: &[u8], second: &[u8]) -> Result<(), Failed>
+        ensures ok { OnOk result (Writes slot (first.now ++ second.now) (told_by self.old) (told_by self.new)) }
+        ensures err { OnErr result (WritesPart slot (first.now ++ second.now) (told_by self.old) (told_by self.new)) }
+        ensures cause { OnErr result (HasFailed slot (told_by self.old) (told_by self.new)) }
+        ensures leaves { OnOk result ((told_by self.new).faults ≡ (told_by self.old).faults) }
+        ensures exact { IsErr result ↔ (FailsToWrite first.now (total self.old.inner.written) self.old ⊎ FailsToWrite second.now (total self.old.inner.written + length first.now) (counted_with first.now self.old)) }
+        ensures stops { FailsToWrite first.now (total self.old.inner.written) self.old → self.new.calls ≡ (counted_with first.now self.old).calls }
+        ensures goes_on { ¬ FailsToWrite first.now (total self.old.inner.written) self.old → self.new.calls ≡ (counted_with second.now (counted_with first.now self.old)).calls }
+        ensures list { self.new.failing ≡ self.old.failing }
+        ensures counts { self.new.inner.faults ≡ counts_after result slot self.old.inner.faults }
+    {
+        self.write_piece(slot, first)?;
+        self.write_piece(slot, second)
     }
 }

@@ -1,6 +1,7 @@
 // The outside of the program, as far as it matters.
-ghost use Rattle.std.specs.Prelude.{◌≡◌, ◌<◌, ◌≤◌, take, length, IfOk, OnOk, OnErr, MatchResult, []};
-ghost use Rattle.gate_desk.specs.Outside.{Outside, Starts, FailsToStart, Takes, AreNext, IsAtEnd, Writes, HasFailed, CanRead, CanWrite};
+ghost use Rattle.std.specs.Prelude.{◌≡◌, ◌<◌, ◌≤◌, ◌++◌, ℕ, take, length, IfOk, OnOk, OnErr, MatchResult, []};
+ghost use Rattle.gate_desk.specs.declared.slot.Slot.{Slot};
+ghost use Rattle.gate_desk.specs.Outside.{Outside, Starts, FailsToStart, Takes, AreNext, IsAtEnd, Writes, WritesPart, HasFailed, CanRead, CanWrite};
 
 use crate::{Slot, Way};
 
@@ -13,6 +14,9 @@ pub struct Failed;
 pub trait Desk {
     /// The outside as far as the desk tells it, and the counts of what has failed.
     ghost outside: { Self → Outside };
+
+    /// How many octets of a slot stand ready, to be looked at before they are taken.
+    ghost ready: { Self → Slot → ℕ };
 
     /// Prepares a slot under a name. It fails only where the slot's count of failed starts rose, and changes no contents.
     fn start(&mut self, slot: Slot, name: &str, way: Way) -> Result<(), Failed>
@@ -40,6 +44,26 @@ pub trait Desk {
         ensures some { IfOk result (λ n. 0 < length piece.now → 0 < n) }
         ensures ok { IfOk result (λ n. Writes slot (take n piece.now) (outside self.old) (outside self.new)) }
         ensures err { OnErr result (Writes slot [] (outside self.old) (outside self.new)) }
+        ensures cause { OnErr result (HasFailed slot (outside self.old) (outside self.new)) }
+        ensures leaves { OnOk result ((outside self.new).faults ≡ (outside self.old).faults) };
+
+    /// The next octets of a slot that stand ready. There may be none though more are to come.
+    fn ahead(&self, slot: Slot) -> &[u8]
+        ensures count { length result.now ≡ ready self.now slot }
+        ensures octets { AreNext result.now (outside self.now) slot };
+
+    /// Takes so many of the octets that stand ready.
+    fn skip(&mut self, slot: Slot, count: usize)
+        requires { count ≤ ready self.old slot }
+        ensures takes { Takes slot count (outside self.old) (outside self.new) }
+        ensures leaves { (outside self.new).faults ≡ (outside self.old).faults };
+
+    /// Appends two pieces whole, the one behind the other. It fails only where the slot's count of faults rose; a prefix of
+    /// both was written then.
+    fn write_both(&mut self, slot: Slot, first: &[u8], second: &[u8]) -> Result<(), Failed>
+        requires { CanWrite (outside self.old) slot }
+        ensures ok { OnOk result (Writes slot (first.now ++ second.now) (outside self.old) (outside self.new)) }
+        ensures err { OnErr result (WritesPart slot (first.now ++ second.now) (outside self.old) (outside self.new)) }
         ensures cause { OnErr result (HasFailed slot (outside self.old) (outside self.new)) }
         ensures leaves { OnOk result ((outside self.new).faults ≡ (outside self.old).faults) };
 }

@@ -1,8 +1,9 @@
 // A desk that discards what is written.
-ghost use Rattle.std.specs.Prelude.{◌≡◌, ◌<◌, ◌≤◌, [], IfOk, IsOk, OnOk, OnErr, length, take};
+ghost use Rattle.std.specs.Prelude.{◌≡◌, ◌<◌, ◌≤◌, ◌++◌, [], IfOk, IsOk, OnOk, OnErr, length, take, drop};
 ghost use Rattle.gate_desk.specs.Memory.{inputs};
 ghost use Rattle.gate_desk.specs.Discarded.{told_by};
-ghost use Rattle.gate_desk.specs.Outside.{Starts, FailsToStart, Takes, AreNext, IsAtEnd, Writes, HasFailed};
+ghost use Rattle.gate_desk.specs.Outside.{Starts, FailsToStart, Takes, AreNext, IsAtEnd, Writes, WritesPart, HasFailed};
+ghost use Rattle.gate_desk.specs.Slots.{at, put};
 
 use crate::memory::Source;
 use crate::per_slot::inputs;
@@ -40,6 +41,8 @@ impl DiscardingDesk {
 impl Desk for DiscardingDesk {
     ghost outside = { told_by };
 
+    ghost ready = { λ left slot. length (at left slot) };
+
     fn start(&mut self, _slot: Slot, _name: &str, _way: Way) -> Result<(), Failed>
         ensures ok { OnOk result (Starts _slot _name.now _way (told_by self.old) (told_by self.new)) }
         ensures err { OnErr result (FailsToStart _slot (told_by self.old) (told_by self.new)) }
@@ -72,5 +75,32 @@ impl Desk for DiscardingDesk {
         ensures exact { IsOk result }
     {
         Ok(piece.len())
+    }
+
+    fn ahead(&self, slot: Slot) -> &[u8]
+        ensures count { length result.now ≡ length (at self.now slot) }
+        ensures octets { AreNext result.now (told_by self.now) slot }
+        ensures exact { result.now ≡ at self.now slot }
+    {
+        self.left.at(slot).octets()
+    }
+
+    fn skip(&mut self, slot: Slot, count: usize)
+        requires { count ≤ length (at self.old slot) }
+        ensures takes { Takes slot count (told_by self.old) (told_by self.new) }
+        ensures leaves { (told_by self.new).faults ≡ (told_by self.old).faults }
+        ensures exact { self.new ≡ put self.old slot (drop count (at self.old slot)) }
+    {
+        self.left.at_mut(slot).skip(count);
+    }
+
+    fn write_both(&mut self, _slot: Slot, _first: &[u8], _second: &[u8]) -> Result<(), Failed>
+        ensures ok { OnOk result (Writes _slot (_first.now ++ _second.now) (told_by self.old) (told_by self.new)) }
+        ensures err { OnErr result (WritesPart _slot (_first.now ++ _second.now) (told_by self.old) (told_by self.new)) }
+        ensures cause { OnErr result (HasFailed _slot (told_by self.old) (told_by self.new)) }
+        ensures leaves { OnOk result ((told_by self.new).faults ≡ (told_by self.old).faults) }
+        ensures exact { IsOk result }
+    {
+        Ok(())
     }
 }

@@ -1,7 +1,7 @@
 // A desk over real files: the trusted edge of the program.
-ghost use Rattle.std.specs.Prelude.{◌≡◌, ◌<◌, ◌≤◌, ℕ, List, Option, [], None, length, take, IfOk, IfErr, IfSome, IsSome, IsErr, IsErrOf, OnOk, OnErr};
+ghost use Rattle.std.specs.Prelude.{◌≡◌, ◌<◌, ◌≤◌, ◌++◌, ℕ, List, Option, [], None, length, take, drop, IfOk, IfErr, IfSome, IsSome, IsErr, IsErrOf, OnOk, OnErr};
 ghost use Rattle.gate_desk.specs.Counts.{counts_after, raised};
-ghost use Rattle.gate_desk.specs.Gathering.{waiting_in, got_in, way_of, ways_in, ways_after, gathered_after, HandsOut, TakesPiece, Waits};
+ghost use Rattle.gate_desk.specs.Gathering.{waiting_in, got_in, way_of, ways_in, ahead_in, ahead_after, ways_after, gathered_after, HandsOut, TakesAhead, TakesPiece, Waits};
 ghost use Rattle.gate_desk.specs.Memory.{each};
 ghost use Rattle.gate_desk.specs.Slots.{at, put};
 
@@ -34,17 +34,18 @@ pub struct FileDesk<R: Runtime> {
 
 impl<R: Runtime> Model for FileDesk<R> {
     ghost use Rattle.gate_desk.specs.Untold.{Files};
-    ghost use Rattle.gate_desk.specs.Gathering.{got_in, waiting_in, ways_in};
+    ghost use Rattle.gate_desk.specs.Gathering.{got_in, waiting_in, ways_in, ahead_in};
 
     ghost Value = { Files };
 
-    ghost view = { λ d. record { ways = ways_in d.places; got = got_in R.File.contents d.places; waiting = waiting_in d.places; refused = d.refused; faults = d.faults; start_faults = d.start_faults } };
+    ghost view = { λ d. record { ways = ways_in d.places; ahead = ahead_in d.places; got = got_in R.File.contents d.places; waiting = waiting_in d.places; refused = d.refused; faults = d.faults; start_faults = d.start_faults } };
 }
 
 fn nowhere<F: Read + Drop, A: Allocator>() -> PerSlot<Place<F, A>>
     ensures waiting { waiting_in result ≡ each [] }
     ensures got { (contents : F → Option (List ℕ)) → got_in contents result ≡ each None }
     ensures ways { ways_in result ≡ each None }
+    ensures ahead { ahead_in result ≡ each [] }
 {
     PerSlot {
         settings: Place::Nowhere,
@@ -63,6 +64,7 @@ fn nowhere<F: Read + Drop, A: Allocator>() -> PerSlot<Place<F, A>>
 // Writes out all that is gathered, the report last, so that no line comes before its frame. The error is the slot that failed.
 fn write_out_all<R: Runtime>(rt: &R, places: &mut PerSlot<Place<R::File, R::A>>) -> Result<(), Slot>
     ensures ways { ways_in places.new ≡ ways_in places.old }
+    ensures ahead { ahead_in places.new ≡ ahead_in places.old }
     ensures none { OnOk result (waiting_in places.new ≡ each []) }
     ensures files { OnOk result (HandsOut (got_in R.File.contents places.old) (waiting_in places.old) (got_in R.File.contents places.new)) }
 {
@@ -86,6 +88,7 @@ fn hand_out<R: Runtime>(
     refused: &mut Option<Slot>,
 ) -> Result<(), Failed>
     ensures ways { ways_in places.new ≡ ways_in places.old }
+    ensures ahead { ahead_in places.new ≡ ahead_in places.old }
     ensures all { OnOk result (waiting_in places.new ≡ each []) }
     ensures files { OnOk result (HandsOut (got_in R.File.contents places.old) (waiting_in places.old) (got_in R.File.contents places.new)) }
     ensures none { OnOk result (refused.new ≡ None) }
@@ -116,6 +119,7 @@ fn start_slot<R: Runtime>(
 ) -> Result<(), Failed>
     ensures refused { IsSome refused.old → IsErr result }
     ensures ways { ways_in places.new ≡ ways_after result slot way (ways_in places.old) }
+    ensures ahead { ahead_in places.new ≡ ahead_after result slot (ahead_in places.old) }
 {
     hand_out(rt, places, refused)?;
     match open_place(rt, slot, name, way) {
@@ -128,7 +132,6 @@ fn start_slot<R: Runtime>(
 }
 
 // Reads a slot. Before the system is asked for octets, all that is gathered is written out.
-#[inline(always)]
 fn read_slot<R: Runtime>(
     rt: &R,
     places: &mut PerSlot<Place<R::File, R::A>>,
@@ -139,6 +142,8 @@ fn read_slot<R: Runtime>(
     ensures fits { IfOk result (λ n. n ≤ length buffer.new) }
     ensures refused { IsSome refused.old → IsErr result }
     ensures ways { ways_in places.new ≡ ways_in places.old }
+    ensures ahead { IfOk result (λ n. 0 < length (at (ahead_in places.old) slot) → TakesAhead n buffer.new (at (ahead_in places.old) slot) (at (ahead_in places.new) slot)) }
+    ensures others { ahead_in places.new ≡ put (ahead_in places.old) slot (at (ahead_in places.new) slot) }
 {
     if refused.is_some() {
         return Err(Failed);
@@ -152,74 +157,87 @@ fn read_slot<R: Runtime>(
     }
 }
 
-// Takes a whole piece of a slot.
+// Takes two whole pieces of a slot, the one behind the other.
 #[inline(always)]
 fn write_slot<R: Runtime>(
     rt: &R,
     places: &mut PerSlot<Place<R::File, R::A>>,
     refused: &mut Option<Slot>,
     slot: Slot,
-    piece: &[u8],
-) -> Result<usize, Failed>
+    first: &[u8],
+    second: &[u8],
+) -> Result<(), Failed>
     ensures ways { ways_in places.new ≡ ways_in places.old }
-    ensures whole { IfOk result (λ n. n ≡ length piece.now) }
-    ensures waits { OnOk result (Waits slot piece.now (waiting_in places.old) (waiting_in places.new)) }
-    ensures takes { OnOk result (TakesPiece slot piece.now (got_in R.File.contents places.old) (waiting_in places.old) (got_in R.File.contents places.new) (waiting_in places.new)) }
+    ensures ahead { ahead_in places.new ≡ ahead_in places.old }
+    ensures waits { OnOk result (Waits slot (first.now ++ second.now) (waiting_in places.old) (waiting_in places.new)) }
+    ensures takes { OnOk result (TakesPiece slot (first.now ++ second.now) (got_in R.File.contents places.old) (waiting_in places.old) (got_in R.File.contents places.new) (waiting_in places.new)) }
     ensures refused { IsSome refused.old → IsErr result }
 {
     if slot == Slot::Errors {
-        return write_errors(rt, places, refused, piece);
+        return write_errors(rt, places, refused, first, second);
     }
     if refused.is_some() {
         return Err(Failed);
     }
-    match places.at_mut(slot).gather(piece) {
-        Gathering::Gathered => Ok(piece.len()),
-        Gathering::NoRoom => gather_alone(rt, places, refused, slot, piece),
+    match places.at_mut(slot).gather(first, second) {
+        Gathering::Gathered => Ok(()),
+        Gathering::NoRoom => gather_alone(rt, places, refused, slot, first, second),
         Gathering::Refused => Err(Failed),
     }
 }
 
-// Takes a whole piece of a slot, once all that is gathered is written out.
+// The same, once all that is gathered is written out.
 #[inline(never)]
 fn gather_alone<R: Runtime>(
     rt: &R,
     places: &mut PerSlot<Place<R::File, R::A>>,
     refused: &mut Option<Slot>,
     slot: Slot,
-    piece: &[u8],
-) -> Result<usize, Failed>
+    first: &[u8],
+    second: &[u8],
+) -> Result<(), Failed>
     ensures ways { ways_in places.new ≡ ways_in places.old }
-    ensures whole { IfOk result (λ n. n ≡ length piece.now) }
-    ensures waits { OnOk result (Waits slot piece.now (waiting_in places.old) (waiting_in places.new)) }
-    ensures takes { OnOk result (TakesPiece slot piece.now (got_in R.File.contents places.old) (waiting_in places.old) (got_in R.File.contents places.new) (waiting_in places.new)) }
+    ensures ahead { ahead_in places.new ≡ ahead_in places.old }
+    ensures waits { OnOk result (Waits slot (first.now ++ second.now) (waiting_in places.old) (waiting_in places.new)) }
+    ensures takes { OnOk result (TakesPiece slot (first.now ++ second.now) (got_in R.File.contents places.old) (waiting_in places.old) (got_in R.File.contents places.new) (waiting_in places.new)) }
 {
     hand_out(rt, places, refused)?;
-    match places.at_mut(slot).gather(piece) {
-        Gathering::Gathered => Ok(piece.len()),
+    match places.at_mut(slot).gather(first, second) {
+        Gathering::Gathered => Ok(()),
         _ => Err(Failed),
     }
 }
 
-// Writes a line of errors, once all that is gathered is written out.
+// Writes two pieces of a line of errors, once all that is gathered is written out.
 #[inline(never)]
 fn write_errors<R: Runtime>(
     rt: &R,
     places: &mut PerSlot<Place<R::File, R::A>>,
     refused: &mut Option<Slot>,
-    piece: &[u8],
-) -> Result<usize, Failed>
+    first: &[u8],
+    second: &[u8],
+) -> Result<(), Failed>
     ensures ways { ways_in places.new ≡ ways_in places.old }
-    ensures whole { IfOk result (λ n. n ≡ length piece.now) }
-    ensures takes { OnOk result (TakesPiece Slot.Errors piece.now (got_in R.File.contents places.old) (waiting_in places.old) (got_in R.File.contents places.new) (waiting_in places.new)) }
+    ensures ahead { ahead_in places.new ≡ ahead_in places.old }
+    ensures takes { OnOk result (TakesPiece Slot.Errors (first.now ++ second.now) (got_in R.File.contents places.old) (waiting_in places.old) (got_in R.File.contents places.new) (waiting_in places.new)) }
     ensures refused { IsSome refused.old → IsErr result }
 {
     hand_out(rt, places, refused)?;
+    print(rt, first)?;
+    print(rt, second)?;
+    Ok(())
+}
+
+// Writes a piece to standard error, where it is text.
+fn print<R: Runtime>(rt: &R, piece: &[u8]) -> Result<(), Failed> {
+    if piece.is_empty() {
+        return Ok(());
+    }
     let Ok(text) = str::from_utf8(piece) else {
         return Err(Failed);
     };
     match rt.eprint(text) {
-        Ok(()) => Ok(piece.len()),
+        Ok(()) => Ok(()),
         Err(_) => Err(Failed),
     }
 }
@@ -230,7 +248,7 @@ impl<R: Runtime> FileDesk<R> {
 
     /// A desk none of whose slots is started. It keeps the runtime, through which it reaches files and the standard streams.
     pub fn make(rt: R) -> FileDesk<R>
-        ensures { result ≡ record { ways = each None; got = each None; waiting = each []; refused = None; faults = each 0; start_faults = each 0 } }
+        ensures { result ≡ record { ways = each None; ahead = each []; got = each None; waiting = each []; refused = None; faults = each 0; start_faults = each 0 } }
     {
         FileDesk {
             rt,
@@ -264,10 +282,12 @@ impl<R: Runtime> FileDesk<R> {
 }
 
 impl<R: Runtime> Desk for FileDesk<R> {
-    ghost use Rattle.gate_desk.specs.Outside.{Starts, FailsToStart, Takes, AreNext, IsAtEnd, Writes, HasFailed};
-    ghost use Rattle.gate_desk.specs.Untold.{told_by};
+    ghost use Rattle.gate_desk.specs.Outside.{Starts, FailsToStart, Takes, AreNext, IsAtEnd, Writes, WritesPart, HasFailed};
+    ghost use Rattle.gate_desk.specs.Untold.{told_by, ready, skipped};
 
     ghost outside = { told_by };
+
+    ghost ready = { λ d slot. length (ready d slot) };
 
     fn start(&mut self, slot: Slot, name: &str, way: Way) -> Result<(), Failed>
         ensures ok { OnOk result (Starts slot name.now way (told_by self.old) (told_by self.new)) }
@@ -275,6 +295,7 @@ impl<R: Runtime> Desk for FileDesk<R> {
         ensures leaves { OnOk result ((told_by self.new).start_faults ≡ (told_by self.old).start_faults) }
         ensures counts { self.new.start_faults ≡ counts_after result slot self.old.start_faults }
         ensures ways { self.new.ways ≡ ways_after result slot way self.old.ways }
+        ensures ahead { self.new.ahead ≡ ahead_after result slot self.old.ahead }
         ensures refused { IsSome self.old.refused → IsErr result }
     {
         let started = start_slot(
@@ -294,7 +315,6 @@ impl<R: Runtime> Desk for FileDesk<R> {
         }
     }
 
-    #[inline(always)]
     fn read(&mut self, slot: Slot, buffer: &mut [u8]) -> Result<usize, Failed>
         ensures fits { IfOk result (λ n. n ≤ length buffer.new) }
         ensures ok { IfOk result (λ n. Takes slot n (told_by self.old) (told_by self.new)) }
@@ -305,6 +325,8 @@ impl<R: Runtime> Desk for FileDesk<R> {
         ensures leaves { OnOk result ((told_by self.new).faults ≡ (told_by self.old).faults) }
         ensures counts { self.new.faults ≡ counts_after result slot self.old.faults }
         ensures ways { self.new.ways ≡ self.old.ways }
+        ensures ahead { IfOk result (λ n. 0 < length (at self.old.ahead slot) → TakesAhead n buffer.new (at self.old.ahead slot) (at self.new.ahead slot)) }
+        ensures others { self.new.ahead ≡ put self.old.ahead slot (at self.new.ahead slot) }
         ensures refused { IsSome self.old.refused → IsErr result }
     {
         match read_slot(&self.rt, &mut self.places, &mut self.refused, slot, buffer) {
@@ -326,13 +348,61 @@ impl<R: Runtime> Desk for FileDesk<R> {
         ensures leaves { OnOk result ((told_by self.new).faults ≡ (told_by self.old).faults) }
         ensures counts { self.new.faults ≡ counts_after result slot self.old.faults }
         ensures ways { self.new.ways ≡ self.old.ways }
+        ensures ahead { self.new.ahead ≡ self.old.ahead }
         ensures whole { IfOk result (λ n. n ≡ length piece.now) }
         ensures waits { OnOk result (Waits slot piece.now self.old.waiting self.new.waiting) }
         ensures takes { OnOk result (TakesPiece slot piece.now self.old.got self.old.waiting self.new.got self.new.waiting) }
         ensures refused { IsSome self.old.refused → IsErr result }
     {
-        match write_slot(&self.rt, &mut self.places, &mut self.refused, slot, piece) {
-            Ok(n) => Ok(n),
+        self.write_both(slot, piece, &[])?;
+        Ok(piece.len())
+    }
+
+    /// What was read ahead of the slot. Once the system refused a gathered octet there is none, so that what is read next fails.
+    #[inline(always)]
+    fn ahead(&self, slot: Slot) -> &[u8]
+        ensures count { length result.now ≡ length (ready self.now slot) }
+        ensures octets { AreNext result.now (told_by self.now) slot }
+        ensures exact { result.now ≡ ready self.now slot }
+    {
+        if self.refused.is_some() {
+            return &[];
+        }
+        self.places.at(slot).ahead()
+    }
+
+    #[inline(always)]
+    fn skip(&mut self, slot: Slot, count: usize)
+        ensures takes { Takes slot count (told_by self.old) (told_by self.new) }
+        ensures leaves { (told_by self.new).faults ≡ (told_by self.old).faults }
+        ensures exact { self.new ≡ skipped slot count self.old }
+    {
+        self.places.at_mut(slot).skip(count);
+    }
+
+    #[inline(always)]
+    fn write_both(&mut self, slot: Slot, first: &[u8], second: &[u8]) -> Result<(), Failed>
+        ensures ok { OnOk result (Writes slot (first.now ++ second.now) (told_by self.old) (told_by self.new)) }
+        ensures err { OnErr result (WritesPart slot (first.now ++ second.now) (told_by self.old) (told_by self.new)) }
+        ensures cause { OnErr result (HasFailed slot (told_by self.old) (told_by self.new)) }
+        ensures leaves { OnOk result ((told_by self.new).faults ≡ (told_by self.old).faults) }
+        ensures counts { self.new.faults ≡ counts_after result slot self.old.faults }
+        ensures ways { self.new.ways ≡ self.old.ways }
+        ensures ahead { self.new.ahead ≡ self.old.ahead }
+        ensures waits { OnOk result (Waits slot (first.now ++ second.now) self.old.waiting self.new.waiting) }
+        ensures takes { OnOk result (TakesPiece slot (first.now ++ second.now) self.old.got self.old.waiting self.new.got self.new.waiting) }
+        ensures refused { IsSome self.old.refused → IsErr result }
+    {
+        let written = write_slot(
+            &self.rt,
+            &mut self.places,
+            &mut self.refused,
+            slot,
+            first,
+            second,
+        );
+        match written {
+            Ok(()) => Ok(()),
             Err(e) => {
                 raise(&mut self.faults, slot);
                 Err(e)

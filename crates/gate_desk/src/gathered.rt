@@ -1,5 +1,5 @@
 // Octets on their way to a file.
-ghost use Rattle.std.specs.Prelude.{◌≡◌, ◌≤◌, ◌++◌, [], take, length, IfOk, OnOk, OnErr};
+ghost use Rattle.std.specs.Prelude.{◌≡◌, ◌+◌, ◌≤◌, ◌++◌, [], take, length, IfOk, OnOk, OnErr};
 ghost use Rattle.std.specs.Io.KnownBytes.{Appends};
 ghost use Rattle.gate_desk.specs.Gathering.{gathered_after};
 
@@ -40,6 +40,18 @@ impl<A: Allocator> Model for Gathered<A> {
     ghost invariant = { λ d. d.count ≤ length d.octets.items };
 }
 
+// Puts a piece behind the first octets of the room, and answers how many stand there then.
+#[inline(always)]
+fn put_behind(room: &mut [u8], count: usize, piece: &[u8]) -> usize
+    requires { count + length piece.now ≤ length room.old }
+    ensures count { result ≡ count + length piece.now }
+    ensures octets { take result room.new ≡ take count room.old ++ piece.now }
+{
+    let end = count + piece.len();
+    room[count..end].copy_from_slice(piece);
+    end
+}
+
 impl<A: Allocator> Gathered<A> {
     /// None, with their room. The error is want of memory.
     pub fn make(alloc: A) -> Result<Gathered<A>, AllocError>
@@ -49,33 +61,37 @@ impl<A: Allocator> Gathered<A> {
         Ok(Gathered { octets, count: 0 })
     }
 
-    /// Takes a whole piece, or nothing of it. A piece that is greater than the room is taken where nothing else is gathered.
+    /// Takes two whole pieces, the one behind the other, or nothing of them. What is greater than the room is taken where
+    /// nothing else is gathered.
     #[inline(always)]
-    pub fn take(&mut self, piece: &[u8]) -> Gathering
-        ensures { self.new ≡ gathered_after result piece.now self.old }
+    pub fn take(&mut self, first: &[u8], second: &[u8]) -> Gathering
+        ensures { self.new ≡ gathered_after result (first.now ++ second.now) self.old }
     {
-        if self.octets.len() - self.count < piece.len() {
-            return self.take_alone(piece);
+        let room = self.octets.len() - self.count;
+        if room < first.len() || room - first.len() < second.len() {
+            return self.take_alone(first, second);
         }
-        let end = self.count + piece.len();
-        self.octets[self.count..end].copy_from_slice(piece);
-        self.count = end;
+        let middle = put_behind(&mut self.octets, self.count, first);
+        self.count = put_behind(&mut self.octets, middle, second);
         Gathering::Gathered
     }
 
-    // The same of a piece for which there is no room behind what is gathered.
+    // The same of pieces for which there is no room behind what is gathered.
     #[inline(never)]
-    fn take_alone(&mut self, piece: &[u8]) -> Gathering
-        ensures { self.new ≡ gathered_after result piece.now self.old }
+    fn take_alone(&mut self, first: &[u8], second: &[u8]) -> Gathering
+        ensures { self.new ≡ gathered_after result (first.now ++ second.now) self.old }
     {
         if self.count > 0 {
             return Gathering::NoRoom;
         }
-        if self.octets.resize(piece.len(), 0).is_err() {
+        let Some(size) = first.len().checked_add(second.len()) else {
+            return Gathering::Refused;
+        };
+        if self.octets.resize(size, 0).is_err() {
             return Gathering::Refused;
         }
-        self.octets.copy_from_slice(piece);
-        self.count = piece.len();
+        let middle = put_behind(&mut self.octets, 0, first);
+        self.count = put_behind(&mut self.octets, middle, second);
         Gathering::Gathered
     }
 

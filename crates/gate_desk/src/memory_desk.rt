@@ -1,9 +1,9 @@
 // A desk in memory.
-ghost use Rattle.std.specs.Prelude.{◌≡◌, ◌+◌, ◌^◌, ◌<◌, ◌≤◌, ◌↔◌, [], Some, take, IfOk, OnOk, OnErr, IsOk, IsErr, length};
+ghost use Rattle.std.specs.Prelude.{◌≡◌, ◌+◌, ◌^◌, ◌<◌, ◌≤◌, ◌↔◌, ◌++◌, [], Some, take, drop, IfOk, OnOk, OnErr, IsOk, IsErr, length};
 ghost use Rattle.gate_desk.specs.Slots.{at, put};
 ghost use Rattle.gate_desk.specs.Counts.{raised, counts_after};
 ghost use Rattle.gate_desk.specs.Memory.{each, total, told_of};
-ghost use Rattle.gate_desk.specs.Outside.{names_size, Starts, FailsToStart, Takes, AreNext, IsAtEnd, Writes, HasFailed};
+ghost use Rattle.gate_desk.specs.Outside.{names_size, Starts, FailsToStart, Takes, AreNext, IsAtEnd, Writes, WritesPart, HasFailed};
 
 use crate::log::StartLog;
 use crate::memory::{Sink, Source};
@@ -129,6 +129,8 @@ impl MemoryDesk {
 impl Desk for MemoryDesk {
     ghost outside = { told_of };
 
+    ghost ready = { λ m slot. length (at m.left slot) };
+
     /// Fails exactly where the names would be more than 64 KiB.
     fn start(&mut self, slot: Slot, name: &str, way: Way) -> Result<(), Failed>
         ensures ok { OnOk result (Starts slot name.now way (told_of self.old) (told_of self.new)) }
@@ -164,6 +166,7 @@ impl Desk for MemoryDesk {
     fn write(&mut self, slot: Slot, piece: &[u8]) -> Result<usize, Failed>
         ensures fits { IfOk result (λ n. n ≤ length piece.now) }
         ensures some { IfOk result (λ n. 0 < length piece.now → 0 < n) }
+        ensures whole { IfOk result (λ n. n ≡ length piece.now) }
         ensures ok { IfOk result (λ n. Writes slot (take n piece.now) (told_of self.old) (told_of self.new)) }
         ensures err { OnErr result (Writes slot [] (told_of self.old) (told_of self.new)) }
         ensures cause { OnErr result (HasFailed slot (told_of self.old) (told_of self.new)) }
@@ -177,5 +180,45 @@ impl Desk for MemoryDesk {
         }
         self.written.at_mut(slot).push(piece);
         Ok(piece.len())
+    }
+
+    /// All that is left stands ready.
+    fn ahead(&self, slot: Slot) -> &[u8]
+        ensures count { length result.now ≡ length (at self.now.left slot) }
+        ensures octets { AreNext result.now (told_of self.now) slot }
+        ensures exact { result.now ≡ at self.now.left slot }
+    {
+        self.left.at(slot).octets()
+    }
+
+    fn skip(&mut self, slot: Slot, count: usize)
+        requires { count ≤ length (at self.old.left slot) }
+        ensures takes { Takes slot count (told_of self.old) (told_of self.new) }
+        ensures leaves { (told_of self.new).faults ≡ (told_of self.old).faults }
+        ensures exact { self.new ≡ record self.old { left = put self.old.left slot (drop count (at self.old.left slot)) } }
+    {
+        self.left.at_mut(slot).skip(count);
+    }
+
+    /// Fails exactly where the octets of all slots would be more than 64 MiB, and then writes nothing.
+    fn write_both(&mut self, slot: Slot, first: &[u8], second: &[u8]) -> Result<(), Failed>
+        ensures ok { OnOk result (Writes slot (first.now ++ second.now) (told_of self.old) (told_of self.new)) }
+        ensures err { OnErr result (WritesPart slot (first.now ++ second.now) (told_of self.old) (told_of self.new)) }
+        ensures cause { OnErr result (HasFailed slot (told_of self.old) (told_of self.new)) }
+        ensures leaves { OnOk result ((told_of self.new).faults ≡ (told_of self.old).faults) }
+        ensures exact { IsErr result ↔ (2 ^ 26 < total self.old.written + (length first.now + length second.now)) }
+        ensures counts { self.new.faults ≡ counts_after result slot self.old.faults }
+    {
+        if first.len() > WRITTEN_LIMIT
+            || second.len() > WRITTEN_LIMIT
+            || total_of(&self.written) + first.len() + second.len() > WRITTEN_LIMIT
+        {
+            raise(&mut self.faults, slot);
+            return Err(Failed);
+        }
+        let sink = self.written.at_mut(slot);
+        sink.push(first);
+        sink.push(second);
+        Ok(())
     }
 }

@@ -1,7 +1,7 @@
 // Where a slot of the desk over files leads.
-ghost use Rattle.std.specs.Prelude.{◌≡◌, ◌≤◌, ℕ, List, Option, Some, [], length, IfOk, IfSome, OnOk};
+ghost use Rattle.std.specs.Prelude.{◌≡◌, ◌≤◌, ◌++◌, ℕ, List, Option, Some, [], length, drop, IfOk, IfSome, MatchOption, OnOk};
 ghost use Rattle.std.specs.Io.KnownBytes.{Appends};
-ghost use Rattle.gate_desk.specs.Gathering.{waiting, got, way_of, gathered_after};
+ghost use Rattle.gate_desk.specs.Gathering.{waiting, got, way_of, ahead, gathered_after, TakesAhead};
 
 use crate::gathered::{Gathered, Gathering};
 use crate::{Failed, Slot, Way};
@@ -32,6 +32,7 @@ pub fn open_place<R: Runtime>(
 ) -> io::Result<Place<R::File, R::A>>
     ensures none { IfOk result (λ place. waiting place ≡ []) }
     ensures way { IfOk result (λ place. way_of place ≡ Some way) }
+    ensures ahead { IfOk result (λ place. ahead place ≡ []) }
 {
     match way {
         Way::Read => {
@@ -50,44 +51,51 @@ pub fn open_place<R: Runtime>(
     }
 }
 
-// Takes all octets that were read ahead, where there are some, but fewer than the buffer holds.
-#[inline(never)]
-fn take_some<F: Read, A: Allocator>(
-    reader: &mut BufReader<F, A>,
-    buffer: &mut [u8],
-) -> Option<usize>
-    ensures fits { IfSome result (λ n. n ≤ length buffer.new) }
-{
-    let ahead = reader.buffer();
-    if ahead.is_empty() {
-        return None;
-    }
-    let n = ahead.len().min(buffer.len());
-    buffer[..n].copy_from_slice(&ahead[..n]);
-    reader.consume(n);
-    Some(n)
-}
-
 impl<F: Read + Drop, A: Allocator> Place<F, A> {
     /// Takes octets that were read ahead, where there are some, so that the system isn't asked.
-    #[inline(always)]
     pub fn take_ahead(&mut self, buffer: &mut [u8]) -> Option<usize>
         ensures fits { IfSome result (λ n. n ≤ length buffer.new) }
+        ensures ahead { MatchOption result (ahead self.old ≡ []) (λ n. TakesAhead n buffer.new (ahead self.old) (ahead self.new)) }
         ensures waiting { waiting self.new ≡ waiting self.old }
         ensures way { way_of self.new ≡ way_of self.old }
     {
         match self {
             Place::Input(reader) => {
                 let ahead = reader.buffer();
-                let n = buffer.len();
-                if ahead.len() < n {
-                    return take_some(reader, buffer);
+                if ahead.is_empty() {
+                    return None;
                 }
-                buffer.copy_from_slice(&ahead[..n]);
+                let n = ahead.len().min(buffer.len());
+                buffer[..n].copy_from_slice(&ahead[..n]);
                 reader.consume(n);
                 Some(n)
             }
             _ => None,
+        }
+    }
+
+    /// The octets that were read ahead.
+    #[inline(always)]
+    pub fn ahead(&self) -> &[u8]
+        ensures { result.now ≡ ahead self.now }
+    {
+        match self {
+            Place::Input(reader) => reader.buffer(),
+            _ => &[],
+        }
+    }
+
+    /// Takes so many of the octets that were read ahead, or all.
+    #[inline(always)]
+    pub fn skip(&mut self, count: usize)
+        ensures ahead { ahead self.new ≡ drop count (ahead self.old) }
+        ensures waiting { waiting self.new ≡ waiting self.old }
+        ensures got { (contents : F → Option (List ℕ)) → got contents self.new ≡ got contents self.old }
+        ensures way { way_of self.new ≡ way_of self.old }
+    {
+        match self {
+            Place::Input(reader) => reader.consume(count),
+            _ => {}
         }
     }
 
@@ -104,16 +112,17 @@ impl<F: Read + Drop, A: Allocator> Place<F, A> {
         }
     }
 
-    /// Gathers a whole piece, or nothing of it.
+    /// Gathers two whole pieces, the one behind the other, or nothing of them.
     #[inline(always)]
-    pub fn gather(&mut self, piece: &[u8]) -> Gathering
-        ensures waits { waiting self.new ≡ gathered_after result piece.now (waiting self.old) }
+    pub fn gather(&mut self, first: &[u8], second: &[u8]) -> Gathering
+        ensures waits { waiting self.new ≡ gathered_after result (first.now ++ second.now) (waiting self.old) }
         ensures got { (contents : F → Option (List ℕ)) → got contents self.new ≡ got contents self.old }
         ensures way { way_of self.new ≡ way_of self.old }
+        ensures ahead { ahead self.new ≡ ahead self.old }
     {
         match self {
-            Place::Output(_, gathered) => gathered.take(piece),
-            Place::StandardOutput(gathered) => gathered.take(piece),
+            Place::Output(_, gathered) => gathered.take(first, second),
+            Place::StandardOutput(gathered) => gathered.take(first, second),
             _ => Gathering::Refused,
         }
     }
@@ -144,6 +153,7 @@ pub fn write_out<R: Runtime>(
 ) -> Result<(), Slot>
     ensures none { OnOk result (waiting place.new ≡ []) }
     ensures way { way_of place.new ≡ way_of place.old }
+    ensures ahead { ahead place.new ≡ ahead place.old }
     ensures written { OnOk result (Appends (got R.File.contents place.old) (got R.File.contents place.new) (waiting place.old)) }
 {
     match place {

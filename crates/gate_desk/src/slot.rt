@@ -91,6 +91,7 @@ impl<T: Drop> Drop for PerSlot<T> {
 
 impl<T> PerSlot<T> {
     /// The value of a slot.
+    #[inline(always)]
     pub fn at(&self, slot: Slot) -> &T
         ensures { result.now ≡ at self.now slot }
     {

@@ -50,30 +50,7 @@ fn write_rest<D: Desk>(desk: &mut D, slot: Slot, piece: &[u8]) -> Result<(), Fai
 }
 
 /// Fills the buffer from a slot, or takes what is left there.
-#[inline(always)]
 pub fn read_full<D: Desk>(desk: &mut D, slot: Slot, buffer: &mut [u8]) -> Result<usize, Failed>
-    requires { CanRead (D.outside desk.old) slot }
-    ensures fits { IfOk result (λ n. n ≤ length buffer.old) }
-    ensures ok { IfOk result (λ n. Takes slot n (D.outside desk.old) (D.outside desk.new)) }
-    ensures octets { IfOk result (λ n. AreUpTo (length buffer.old) (take n buffer.new) (D.outside desk.old) slot) }
-    ensures err { OnErr result (TakesFewer slot (length buffer.old) (D.outside desk.old) (D.outside desk.new)) }
-    ensures cause { OnErr result (HasFailed slot (D.outside desk.old) (D.outside desk.new)) }
-    ensures leaves { OnOk result ((D.outside desk.new).faults ≡ (D.outside desk.old).faults) }
-{
-    if buffer.is_empty() {
-        return Ok(0);
-    }
-    let n = desk.read(slot, buffer)?;
-    if n == 0 || n == buffer.len() {
-        return Ok(n);
-    }
-    let more = read_rest(desk, slot, &mut buffer[n..])?;
-    Ok(n + more)
-}
-
-// Fills what a first read left of the buffer, or takes what is left of the slot. Out of line, since most reads fill the buffer.
-#[inline(never)]
-fn read_rest<D: Desk>(desk: &mut D, slot: Slot, buffer: &mut [u8]) -> Result<usize, Failed>
     requires { CanRead (D.outside desk.old) slot }
     ensures fits { IfOk result (λ n. n ≤ length buffer.old) }
     ensures ok { IfOk result (λ n. Takes slot n (D.outside desk.old) (D.outside desk.new)) }

@@ -86,22 +86,22 @@ fn has_image(images: &[Option<Addr>]) -> bool
 /// it is.
 fn reply_by(
     alloc: Global,
-    message: Message,
+    message: &mut Message,
     images: &[Option<Addr>],
     payload: &[u8],
 ) -> Result<Option<Vec<u8>>, OutOfMemory>
-    requires images { length images.now ≡ 2 + length (message_addresses message) }
-    requires suits { MessageSuits message }
+    requires images { length images.now ≡ 2 + length (message_addresses message.old) }
+    requires suits { MessageSuits message.old }
     requires few { length payload.now ≤ 65507 }
-    ensures is { IfOk result (λ reply. unwrap_or (option_map (λ v. v.items) reply) payload.now ≡ reply_by (drop 2 images.now) payload.now (Some message)) }
+    ensures is { IfOk result (λ reply. unwrap_or (option_map (λ v. v.items) reply) payload.now ≡ reply_by (drop 2 images.now) payload.now (Some message.old)) }
     ensures fits { IfOk result (λ reply. IfSome reply (λ v. 28 + length v.items ≤ 65535)) }
 {
     let images = &images[2..];
     if !has_image(images) {
         return Ok(None);
     }
-    let renamed = rename(alloc, message, images)?;
-    Ok(Some(reply(alloc, &renamed, payload.len())?))
+    rename(alloc, message, images)?;
+    Ok(Some(reply(alloc, message, payload.len())?))
 }
 
 /// What addresses will be called once all of them are used, or None where the other realm's pool has too few addresses for them.
@@ -195,10 +195,10 @@ fn take_unnamed(table: &mut Table, way: &Way, octets: &[u8], outbox: &mut Outbox
     take_plain(table, way, UDP_HOLD, octets, outbox)
 }
 
-/// Takes a datagram with this message.
+/// Takes a datagram with this message, which may have images of its addresses then.
 fn take_message(
     alloc: Global,
-    message: Message,
+    message: &mut Message,
     table: &mut Table,
     firsts: &mut Firsts,
     way: &Way,
@@ -211,12 +211,12 @@ fn take_message(
     requires moment { way.now.moment.0 < 2 ^ 32 * 1000000000 }
     requires empty { outbox.old ≡ [] }
     requires whole { IsUdpOf datagram.now.octets.now datagram.now.payload.now }
-    requires message { message_at datagram.now.payload.now ≡ Some message }
-    requires suits { MessageSuits message }
+    requires message { message_at datagram.now.payload.now ≡ Some message.old }
+    requires suits { MessageSuits message.old }
     ensures taken { (live : World PlainSession) → live.table ≡ table.old → IsWayOf live way.now.side (datagram_of datagram.now.octets.now) way.now → IfOk result (λ r. IsTaken plain_rules live way.now.side (datagram_of datagram.now.octets.now) (kinds.Dns) r table.new outbox.new) }
     ensures memory { OnErr result ((table.new ≡ table.old) × (outbox.new ≡ [])) }
 {
-    let named = named_in(alloc, &message)?;
+    let named = named_in(alloc, message)?;
     if named.is_empty() {
         return Ok(take_unnamed(table, way, datagram.octets, outbox));
     }
@@ -253,6 +253,8 @@ pub fn take_dns(
 {
     match message_in(alloc, datagram.payload)? {
         None => Ok(Some(Refusal::BadDns)),
-        Some(message) => take_message(alloc, message, table, firsts, way, datagram, outbox),
+        Some(mut message) => {
+            take_message(alloc, &mut message, table, firsts, way, datagram, outbox)
+        }
     }
 }

@@ -2,3 +2,4 @@ pub mod Lines
 pub mod Causes
 pub mod Beginning
 pub mod Untaken
+pub mod Numbers

@@ -7,7 +7,7 @@ use lawful_files::AuditReason;
 use pcap_files::CaptureFault;
 
 /// What a call of the gateway comes to.
-#[derive(Clone, Copy, Debug, PartialEq, Eq)]
+#[derive(Clone, Copy)]
 pub enum Status {
     /// All was accepted, both captures were read to their ends, and all was written; or the given files are lawful.
     Done,

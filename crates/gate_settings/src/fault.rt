@@ -11,7 +11,7 @@ use std::fmt;
 /// What is wrong with a settings document. This is the order of testing, but that `Missing`, `Kind` and `BadAddress`
 /// are tested together, key by key in the order of `Key`. Where a fault names a realm the left one is tested first, and
 /// where it names an entry of `static`, numbered from 1, it is the first such entry.
-#[derive(Clone, Copy, Debug, PartialEq, Eq)]
+#[derive(Clone, Copy)]
 pub enum SettingsFault {
     /// It has more than 1,048,576 octets.
     TooLong,
@@ -38,7 +38,7 @@ pub enum SettingsFault {
 }
 
 /// Why there are no settings.
-#[derive(Clone, Copy, Debug, PartialEq, Eq)]
+#[derive(Clone, Copy)]
 pub enum ReadSettings {
     /// The document's first fault.
     Fault(SettingsFault),

@@ -6,7 +6,7 @@ use gate_base::Side;
 use std::fmt;
 
 /// A key of the settings document. Entries of `static` and of `oid` are numbered from 1.
-#[derive(Clone, Copy, Debug, PartialEq, Eq)]
+#[derive(Clone, Copy)]
 pub enum Key {
     /// `report`
     Report,

@@ -8,7 +8,7 @@ use std::marker::Model;
 
 /// A block of addresses that cross unchanged: those whose first `bits` bits are those of `base` (RFC 4632, 3.1).
 /// In settings that were read `bits` is at most 32, and `base` is zero past its first `bits` bits.
-#[derive(Clone, Copy, Debug, PartialEq, Eq)]
+#[derive(Clone, Copy, PartialEq, Eq)]
 pub struct Block {
     pub base: Addr,
     pub bits: u8,
@@ -33,7 +33,7 @@ impl Block {
 }
 
 /// One realm's pool and link.
-#[derive(Clone, Copy, Debug, PartialEq, Eq)]
+#[derive(Clone, Copy, PartialEq, Eq)]
 pub struct SideSettings {
     /// The least address of the pool.
     pub first: Addr,
@@ -57,7 +57,7 @@ impl SideSettings {
 }
 
 /// A binding that never ends.
-#[derive(Clone, Copy, Debug, PartialEq, Eq)]
+#[derive(Clone, Copy, PartialEq, Eq)]
 pub struct Fixed {
     /// The realm of the host.
     pub side: Side,

@@ -67,6 +67,30 @@ first_is rules live side d way inner source destination number w k =
     ∙ ap (λ (b : Bool). first_by (is_inner (inside d)) b (is_empty way.of_source)) (sym (unbound_is rules live side d inner source destination number k))
     ∙ ap (first_by (is_inner (inside d)) (is_inner_unbound rules live side (inner_fields (inside d)))) (empty_is rules live side d way w)
 
+-- the datagram inside can't be read
+pub error_bad : {S : Type 0} (rules : SessionRules S) (live : World S) (side : Side) (d : Datagram) (octets : List ℕ) (e : NoInner) (table : Bindings) (sent : List (List ℕ)) → octets ≡ inside d → read_inner octets ≡ Err e → table ≡ live.table → sent ≡ [] → IsTaken rules live side d Error (Some BadInner) table sent
+error_bad rules live side d octets e table sent same read t s = record {
+  answer = ap (λ (b : Bool). first_by b (is_inner_unbound rules live side (inner_fields (inside d))) (is_pool_empty rules live side d Error)) (sym (ap is_inner (sym same) ∙ by_test (is_inner octets) refl read));
+  bound = t;
+  gone = s;
+}
+  where
+    by_test : (holds : Bool) → is_inner octets ≡ holds → answer holds (inner_fields octets) ≡ Err e → is_inner octets ≡ false
+    by_test true e r = absurd (cc)
+    by_test false e r = e
+
+-- one of its addresses has no image
+pub error_unseen : {S : Type 0} (rules : SessionRules S) (live : World S) (side : Side) (d : Datagram) (inner : Inner) (table : Bindings) (sent : List (List ℕ)) → IsRead (inside d) inner → (is_none (seen live.table side inner.source) || is_none (seen live.table side inner.destination)) ≡ true → table ≡ live.table → sent ≡ [] → IsTaken rules live side d Error (Some InnerUnbound) table sent
+error_unseen rules live side d inner table sent read unseen t s =
+    let empty = is_pool_empty rules live side d Error in
+    let unbound : is_inner_unbound rules live side (inner_fields (inside d)) ≡ true =
+    ap (is_inner_unbound rules live side) (sym read.fields) ∙ ap (λ (b : Bool). b || is_unknown (inner_number rules live side inner)) unseen in
+    record {
+      answer = ap (λ (b : Bool). first_by true b empty) (sym unbound) ∙ ap (λ (b : Bool). first_by b (is_inner_unbound rules live side (inner_fields (inside d))) empty) (sym read.holds);
+      bound = t;
+      gone = s;
+    }
+
 pub error_unknown : {S : Type 0} (rules : SessionRules S) (live : World S) (side : Side) (d : Datagram) (way : Way) (inner : Inner) (source destination : Addr) (number : Option (Option ℕ)) (table : Bindings) (sent : List (List ℕ)) → IsWayOf live side d way → IsKnown rules live side d inner source destination number → is_unknown number ≡ true → table ≡ live.table → sent ≡ [] → IsTaken rules live side d Error (Some InnerUnbound) table sent
 error_unknown rules live side d way inner source destination number table sent w k unknown t s = record {
   answer = ap (λ (b : Bool). first_by true b (is_empty way.of_source)) (sym unknown) ∙ first_is rules live side d way inner source destination number w k;

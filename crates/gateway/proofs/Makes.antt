@@ -12,7 +12,7 @@ use Rattle.gate_workload.specs.declared.workload.Workload.{Workload}
 use Rattle.gate_workload.specs.Workloads.{workload}
 use Rattle.gate_phases.specs.declared.status.Status.{Status}
 use Rattle.gate_phases.specs.declared.status.Status.TheVariants.{Done, SettingsRefused, CaptureRefused, ReadFault, WriteFault, OpenFault, OutOfMemory}
-use Rattle.gateway.specs.Names.{Names, make_starts}
+use Rattle.gate_phases.specs.RunNames.{Names, make_starts}
 use Rattle.gate_phases.specs.Causes.{StartsAll}
 use Rattle.gateway.specs.Causes.{WritesPieces}
 use Rattle.gateway.specs.Pieces.{wrote_pieces, WritesAll, IsFront}

@@ -23,7 +23,7 @@ use Rattle.gate_world.specs.World.{World}
 use Rattle.gate_world.proofs.Promises.{promised}
 use Rattle.gate_phases.specs.declared.status.Status.{Status}
 use Rattle.gate_phases.specs.declared.status.Status.TheVariants.{Done, Usage, SettingsRefused, CaptureRefused, ReadFault, WriteFault, OpenFault, OutOfMemory}
-use Rattle.gateway.specs.Names.{Names}
+use Rattle.gate_phases.specs.RunNames.{Names}
 use Rattle.gateway.specs.Pieces.{Piece, IsFront, wrote_pieces}
 use Rattle.gateway.specs.Machine.{State, opening, after_one, after, arrivals_by, sent, event_piece, given_by, given_by_all, given_by_merged, ended_by, heads, files}
 use Rattle.gateway.specs.Standing.{promised_of, EachStands, KeepsPromise}

@@ -19,7 +19,7 @@ use Rattle.gate_phases.specs.declared.status.Status.{Status}
 use Rattle.gate_phases.specs.declared.status.Status.TheVariants.{Done, Usage, SettingsRefused, CaptureRefused, ReadFault, WriteFault, OpenFault, OutOfMemory, Unlawful}
 use Rattle.gateway.specs.Answers.{TookForWritten}
 use Rattle.gateway.specs.Causes.{WritesPieces}
-use Rattle.gateway.specs.Names.{Names, first_starts, output_starts}
+use Rattle.gate_phases.specs.RunNames.{Names, first_starts, output_starts}
 use Rattle.gateway.specs.Machine.{State, heads}
 use Rattle.gateway.specs.Ends.{StandWritten}
 use Rattle.gateway.specs.Phases.{Prepared, Readied, TookFew, WritesLastLine, Handles, OfEvents}

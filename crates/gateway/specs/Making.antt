@@ -10,7 +10,7 @@ use Rattle.gate_workload.specs.Workloads.{workload}
 use Rattle.pcap_merge.specs.Events.{Done as BothEnded}
 use Rattle.gate_phases.specs.declared.status.Status.{Status}
 use Rattle.gate_phases.specs.declared.status.Status.TheVariants.{Done, WriteFault, OpenFault, OutOfMemory}
-use Rattle.gateway.specs.Names.{make_starts}
+use Rattle.gate_phases.specs.RunNames.{make_starts}
 use Rattle.gate_phases.specs.Causes.{started_all}
 use Rattle.gateway.specs.Pieces.{Piece, wrote_pieces, IsFront}
 use Rattle.gateway.specs.Machine.{line_piece, line_of}

@@ -2,11 +2,10 @@
 ghost use Rattle.std.specs.Prelude.{◌≡◌, ◌≤◌, MatchResult};
 ghost use Rattle.gateway.specs.Making.{IsMake, IsLineOf};
 
-use crate::names::FileNames;
 use crate::report::put_text;
 use crate::running::run;
 use gate_desk::{Desk, DiscardingDesk, Slot, Way};
-use gate_phases::Status;
+use gate_phases::{FileNames, Status};
 use gate_report::{LINE, Line};
 use gate_workload::Workload;
 use std::alloc::Global;

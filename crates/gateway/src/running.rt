@@ -1,18 +1,17 @@
 // A run over files.
 ghost use Rattle.std.specs.Prelude.{OnErr};
 ghost use Rattle.gate_desk.specs.Outside.{Outside};
-ghost use Rattle.gateway.specs.Names.{names_of, first_starts};
+ghost use Rattle.gate_phases.specs.RunNames.{names_of, first_starts};
 ghost use Rattle.gateway.specs.Phases.{Prepared, IsPrepared};
 ghost use Rattle.gateway.specs.Answers.{Runs, TookForWritten};
 
 use crate::forward::forward;
-use crate::names::FileNames;
 use crate::prepare::prepare;
 use crate::ready::ready;
 use frag_join::open_joiner;
 use gate_core::{Gate, Outbox};
 use gate_desk::Desk;
-use gate_phases::Status;
+use gate_phases::{FileNames, Status};
 use gate_report::Line;
 use pcap_merge::Merge;
 use std::alloc::Global;

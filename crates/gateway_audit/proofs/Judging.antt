@@ -30,7 +30,7 @@ use Rattle.gate_phases.proofs.Beginning.{if_some}
 use Rattle.gateway_audit.specs.declared.verdict.Verdict.{Verdict}
 use Rattle.gateway_audit.specs.declared.verdict.Verdict.TheVariants.{Lawful, Unlawful}
 use Rattle.gateway_audit.specs.Stops.{verdict_of}
-use Rattle.gateway_audit.specs.Names.{Names, first_starts, given_starts, plan}
+use Rattle.gate_phases.specs.AuditNames.{Names, first_starts, given_starts, plan}
 use Rattle.gateway_audit.specs.Lines.{answer_line}
 use Rattle.gateway_audit.specs.Causes.{AreLawful, IsRead, IsVerdict}
 use Rattle.gateway_audit.specs.Audits.{IsAudit, HasStartedToRead, HasAnswered}

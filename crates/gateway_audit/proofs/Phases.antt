@@ -18,7 +18,7 @@ use Rattle.gate_phases.specs.Beginning.{IsAccepted, events_in, settings_start, i
 use Rattle.gate_phases.specs.Causes.{started_all, StartsAll, Stops, Opens}
 use Rattle.gate_phases.proofs.Causes.{all_on, before_more, before_on, starts_all, starts_more}
 use Rattle.gate_phases.proofs.Beginning.{all_events-took_settings, heads_before, accepted_and, settled_stops}
-use Rattle.gateway_audit.specs.Names.{Names, first_starts, given_starts, answer_start}
+use Rattle.gate_phases.specs.AuditNames.{Names, first_starts, given_starts, answer_start}
 use Rattle.gateway_audit.specs.Causes.{AreLawful}
 use Rattle.gateway_audit.specs.Audits.{IsAudit, refused_starts}
 use Rattle.gateway_audit.specs.Phases.{Prepared, HaveLinks, HeadsGiven, Begins, Readied, StopsAtGiven, given_in}

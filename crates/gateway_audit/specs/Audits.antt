@@ -10,7 +10,7 @@ use Rattle.gate_phases.specs.Beginning.{events_in, settings_start}
 use Rattle.gate_phases.specs.Causes.{started_all, StartsSome, StartsBefore}
 use Rattle.gateway_audit.specs.declared.verdict.Verdict.{Verdict}
 use Rattle.gateway_audit.specs.declared.verdict.Verdict.TheVariants as verdicts
-use Rattle.gateway_audit.specs.Names.{Names, first_starts, read_starts, plan}
+use Rattle.gate_phases.specs.AuditNames.{Names, first_starts, read_starts, plan}
 use Rattle.gateway_audit.specs.Lines.{answer_line}
 use Rattle.gateway_audit.specs.Causes.{IsVerdict, HasCause}
 

@@ -20,7 +20,7 @@ use Rattle.gate_phases.specs.Beginning.{IsAccepted}
 use Rattle.gate_phases.specs.Causes.{started_all, StartsSome, StartsBefore, is_started}
 use Rattle.gateway_audit.specs.declared.verdict.Verdict.{Verdict}
 use Rattle.gateway_audit.specs.declared.verdict.Verdict.TheVariants as verdicts
-use Rattle.gateway_audit.specs.Names.{Names, first_starts, given_starts, answer_start, plan}
+use Rattle.gate_phases.specs.AuditNames.{Names, first_starts, given_starts, answer_start, plan}
 use Rattle.gateway_audit.specs.Lines.{answer_line}
 use Rattle.gateway_audit.specs.Causes.{IsVerdict}
 use Rattle.gateway_audit.specs.Audits.{IsAudit}

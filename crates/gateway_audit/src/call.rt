@@ -1,12 +1,11 @@
 // The audit.
-ghost use Rattle.gateway_audit.specs.Names.{names_of};
+ghost use Rattle.gate_phases.specs.AuditNames.{names_of};
 ghost use Rattle.gateway_audit.specs.Audits.{IsAudit};
 
 use crate::answer::say;
 use crate::judge::judge;
-use crate::names::AuditNames;
 use gate_desk::Desk;
-use gate_phases::Status;
+use gate_phases::{AuditNames, Status};
 use std::alloc::Global;
 
 /// Audits given files: the report says for how many events they are lawful for the incoming captures, or which event is the

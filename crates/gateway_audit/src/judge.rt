@@ -1,14 +1,13 @@
 // What an audit finds, before it answers.
-ghost use Rattle.gateway_audit.specs.Names.{names_of};
+ghost use Rattle.gate_phases.specs.AuditNames.{names_of};
 ghost use Rattle.gateway_audit.specs.Phases.{Judges};
 
-use crate::names::AuditNames;
 use crate::prepare::prepare;
 use crate::ready::ready;
 use crate::verdict::Verdict;
 use crate::walk::walk;
 use gate_desk::Desk;
-use gate_phases::Status;
+use gate_phases::{AuditNames, Status};
 use lawful_files::AuditReason;
 use std::alloc::Global;
 

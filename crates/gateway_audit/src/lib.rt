@@ -4,7 +4,6 @@
 mod answer;
 mod call;
 mod judge;
-mod names;
 mod open;
 mod prepare;
 mod ready;
@@ -13,4 +12,3 @@ mod verdict;
 mod walk;
 
 pub use call::audit;
-pub use names::AuditNames;

@@ -1,11 +1,10 @@
 // Starting the given files.
 ghost use Rattle.std.specs.Prelude.{◌≡◌};
 ghost use Rattle.gate_phases.specs.Causes.{Opens};
-ghost use Rattle.gateway_audit.specs.Names.{names_of, given_starts};
+ghost use Rattle.gate_phases.specs.AuditNames.{names_of, given_starts};
 
-use crate::names::AuditNames;
 use gate_desk::{Desk, Slot, Way};
-use gate_phases::{Status, start_slot};
+use gate_phases::{AuditNames, Status, start_slot};
 
 /// Starts the three given files, the left capture first and the report last.
 pub fn open_given<D: Desk>(desk: &mut D, names: AuditNames<'_>) -> Result<(), Status>

@@ -1,12 +1,11 @@
 // What an audit does before it opens the given files: the settings, and the heads of both incoming captures.
 ghost use Rattle.std.specs.Prelude.{MatchResult};
 ghost use Rattle.gateway_audit.specs.Audits.{IsAudit};
-ghost use Rattle.gateway_audit.specs.Names.{names_of};
+ghost use Rattle.gate_phases.specs.AuditNames.{names_of};
 ghost use Rattle.gateway_audit.specs.Phases.{Prepared};
 
-use crate::names::AuditNames;
 use gate_desk::Desk;
-use gate_phases::{Status, begin, settle};
+use gate_phases::{AuditNames, Status, begin, settle};
 use gate_settings::Settings;
 use pcap_merge::Merge;
 use std::alloc::Global;

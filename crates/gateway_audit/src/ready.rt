@@ -2,15 +2,14 @@
 ghost use Rattle.gate_desk.specs.Outside.{CanRead};
 ghost use Rattle.gate_desk.specs.declared.slot.Slot.TheVariants.{LeftGiven, RightGiven};
 ghost use Rattle.file_audit.specs.Given.{ReadsGiven};
-ghost use Rattle.gateway_audit.specs.Names.{names_of};
+ghost use Rattle.gate_phases.specs.AuditNames.{names_of};
 ghost use Rattle.gateway_audit.specs.Phases.{Begins, Readies};
 
-use crate::names::AuditNames;
 use crate::open::open_given;
 use crate::stops::status_of;
 use file_audit::{AuditStop, GivenFiles};
 use gate_desk::{Desk, Slot, Way};
-use gate_phases::{Status, start_slot};
+use gate_phases::{AuditNames, Status, start_slot};
 use gate_settings::Settings;
 use std::alloc::Global;
 

@@ -4,5 +4,5 @@
 use std::process::ExitCode;
 
 fn main(rt: HostRuntime) -> ExitCode {
-    ExitCode::from(gateway_main::run(rt))
+    ExitCode::from(gate_command::run(rt))
 }

@@ -84,11 +84,13 @@ fn image(address: &Addr) -> Option<Addr> {
 
 /// What is sent for a message.
 fn sent(alloc: Global, octets: &[u8]) -> Option<Vec<u8>> {
-    let message = read_message(alloc, octets).ok()?;
+    let mut message = read_message(alloc, octets).ok()?;
     let addresses = addresses_of(alloc, &message).ok()?;
     let images: Vec<Option<Addr>> = addresses.iter().map(image).collect(alloc).ok()?;
-    let renamed = rename(alloc, message, &images).ok()?;
-    reply(alloc, &renamed, octets.len()).ok()
+    match rename(alloc, &mut message, &images) {
+        Ok(()) => reply(alloc, &message, octets.len()).ok(),
+        Err(_) => None,
+    }
 }
 
 #[test]

@@ -1,6 +1,6 @@
 -- Steps of reading a capture, over what is told of the octets.
-use Rattle.std.proofs.Common.{◌≡◌, ℕ, ◌+◌, ◌<◌, ◌≤◌, List, [], ◌++◌, Bool, true, false, Option, Some, None, IfSome, nat_lt, ◌==◌, cond, take, drop, length, refl, sym, ap, ◌∙◌, arith, length-drop}
-use Rattle.std.proofs.lemmas.List.{take_all, take_at, length-take, length-take-le, drop-take}
+use Rattle.std.proofs.Common.{◌≡◌, ℕ, ◌+◌, ◌-◌, ◌<◌, ◌≤◌, List, [], ◌++◌, Bool, true, false, Option, Some, None, IfSome, nat_lt, ◌==◌, cond, take, drop, length, refl, sym, ap, ◌∙◌, arith, length-drop}
+use Rattle.std.proofs.lemmas.List.{take_all, take_at, take-take, length-take, length-take-le, drop-take}
 use Rattle.std.proofs.lemmas.Bool.Decides.{nat_tests}
 use Rattle.byteorder.specs.Endian.{little_number, big_number}
 use Rattle.byteorder.specs.Numbers.{little_from-take, big_from-take}
@@ -118,6 +118,19 @@ whole_body form place n stamp kept whole buffer (Some all) all_of fits h k =
     let size : length (take n buffer) ≡ n = length-take-le n buffer fits in
     let same : n ≡ length (take kept (drop 16 all)) = sym size ∙ ap length k in
     h ∙ came-of stamp kept whole (drop 16 all) (take kept buffer) (omega (arith, same, length-take kept (drop 16 all))) (ap (λ (m : ℕ). take m buffer) all_of ∙ k)
+
+-- a record that stands whole at the front of octets comes next of all that begins with them
+pub whole_ahead : (form : Form) (place stamp kept : ℕ) (whole : Bool) (octets buffer all : List ℕ) → 16 + kept ≤ length octets → ((rest : List ℕ) → after_head form place (take 16 octets) rest ≡ body_of stamp whole kept rest)
+    → take kept buffer ≡ take kept (drop 16 octets) → take (length octets) all ≡ octets → next_at form place all ≡ Came (record { stamp = stamp; whole = whole; octets = take kept buffer })
+whole_ahead form place stamp kept whole octets buffer all fits judged copied begins =
+    let n : ℕ = length octets in
+    let enough : n ≤ length all = omega (arith, ap length begins, length-take n all) in
+    let head : take 16 octets ≡ take 16 all = ap (take 16) (sym begins) ∙ take-take 16 n all (omega arith) in
+    let long : n ≡ 16 + (n - 16) = omega arith in
+    let rest : take kept (drop 16 octets) ≡ take kept (drop 16 all) =
+    ap (λ (xs : List ℕ). take kept (drop 16 xs)) (sym begins) ∙ ap (λ (k : ℕ). take kept (drop 16 (take k all))) long ∙ ap (take kept) (drop-take 16 (n - 16) all) ∙ take-take kept (n - 16) (drop 16 all) (omega arith) in
+    enough_octets form place all (omega arith) ∙ ap (λ (xs : List ℕ). after_head form place xs (drop 16 all)) (sym head) ∙ judged (drop 16 all)
+    ∙ came-of stamp kept whole (drop 16 all) (take kept buffer) (omega (arith, length-drop 16 all)) (copied ∙ rest)
 
 no_body-of : (stamp kept n : ℕ) (whole : Bool) (rest : List ℕ) → n < kept → TakesNoRecord (body_of stamp whole kept rest) (16 + n)
 unfolding body_of

@@ -39,6 +39,12 @@ abbrev pub Judges : Result RecordHead CaptureFault → Form → ℕ → List ℕ
 Judges (Err f) form place head = ((left : ℕ) → fault_size f left ≡ 16) × ((rest : List ℕ) → after_head form place head rest ≡ Broken f)
 Judges (Ok h) form place head = Fits place h × ((rest : List ℕ) → after_head form place head rest ≡ body_of h.stamp h.whole h.kept rest)
 
+-- the record stands whole at the front of these octets, and its own in the buffer: it comes next of all that begins with them
+pub record StandsWhole (h : RecordHead) (form : Form) (place : ℕ) (octets buffer : List ℕ) : Type 0 where
+  pub fits : Fits place h
+  pub size : 16 + h.kept ≤ length octets
+  pub next : (all : List ℕ) → take (length octets) all ≡ octets → next_at form place all ≡ Came (record { stamp = h.stamp; whole = h.whole; octets = take h.kept buffer })
+
 -- what stops the reading of a record
 abbrev pub StopsAt : ReadStop → Form → ℕ → Slot → Outside → Outside → Type 0
 StopsAt (Fault f at) form place slot old new = (at ≡ place) × TakesToFault slot place f old new × IfSome (told_at old.left slot) (λ octets. next_at form place octets ≡ Broken f)

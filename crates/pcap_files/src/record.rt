@@ -1,7 +1,7 @@
 // The records of a capture.
-ghost use Rattle.std.specs.Prelude.{◌≡◌, ◌^◌, ◌≤◌, length};
+ghost use Rattle.std.specs.Prelude.{◌≡◌, ◌^◌, ◌≤◌, length, IfSome};
 ghost use Rattle.gate_desk.specs.Outside.{CanRead};
-ghost use Rattle.pcap_files.specs.Heads.{Judges, TakesHead, TakesRecord};
+ghost use Rattle.pcap_files.specs.Heads.{Judges, StandsWhole, TakesHead, TakesRecord};
 ghost use Rattle.pcap_files.specs.Reader.{LeavesCounts};
 
 use crate::{CaptureFault, Form, ReadStop};
@@ -31,6 +31,7 @@ pub struct RecordHead {
 }
 
 /// What the head of a record says that begins at a place of a capture, or its first fault.
+#[inline(always)]
 #[tactic(auto, unfolding(crate::specs::Heads::after_head))]
 fn judge(form: Form, place: u64, head: &[u8]) -> Result<RecordHead, CaptureFault>
     requires long { length head.now ≡ 16 }
@@ -87,9 +88,52 @@ fn read_head<D: Desk>(
     }
 }
 
+/// The record that stands whole at the front of these octets, if there is one, its own copied into the front of the buffer.
+#[inline(always)]
+fn copy_record(form: Form, place: u64, octets: &[u8], buffer: &mut [u8]) -> Option<RecordHead>
+    requires small { place ≤ 2 ^ 40 }
+    requires room { length buffer.old ≡ 262144 }
+    ensures { IfSome result (λ h. StandsWhole h form place octets.now buffer.new) }
+{
+    if octets.len() < RECORD_HEAD {
+        return None;
+    }
+    let (head, rest) = octets.split_at(RECORD_HEAD);
+    let Ok(fields) = judge(form, place, head) else {
+        return None;
+    };
+    if rest.len() < fields.kept {
+        return None;
+    }
+    buffer[..fields.kept].copy_from_slice(&rest[..fields.kept]);
+    Some(fields)
+}
+
 /// Reads the next record, if there is one, its octets into the front of the buffer.
 #[inline(always)]
 pub fn read_record<D: Desk>(
+    desk: &mut D,
+    slot: Slot,
+    form: Form,
+    place: u64,
+    buffer: &mut [u8],
+) -> Result<Option<RecordHead>, ReadStop>
+    requires start { CanRead (D.outside desk.old) slot }
+    requires small { place ≤ 2 ^ 40 }
+    requires room { length buffer.old ≡ 262144 }
+    ensures takes { TakesRecord result form place slot buffer.new (D.outside desk.old) (D.outside desk.new) }
+    ensures leaves { LeavesCounts result (D.outside desk.old) (D.outside desk.new) }
+{
+    if let Some(fields) = copy_record(form, place, desk.ahead(slot), buffer) {
+        desk.skip(slot, RECORD_HEAD + fields.kept);
+        return Ok(Some(fields));
+    }
+    read_in_parts(desk, slot, form, place, buffer)
+}
+
+// The same by reads, where the record doesn't stand ready as a whole. Out of line, since most records do.
+#[inline(never)]
+fn read_in_parts<D: Desk>(
     desk: &mut D,
     slot: Slot,
     form: Form,

@@ -52,6 +52,7 @@ fn head_of_record(moment: Moment, kept: u32) -> [u8; 16]
 
 /// Writes a frame, the head of its link and what that carries, as a record at a moment: a moment below 2^32 times 10^9, at most
 /// 262,144 octets. Failed comes only where the count of the slot rose; a prefix of the record was written then.
+#[inline(always)]
 pub fn write_packet<D: Desk>(
     desk: &mut D,
     slot: Slot,
@@ -68,10 +69,14 @@ pub fn write_packet<D: Desk>(
     ensures leaves { OnOk result ((D.outside desk.new).faults ≡ (D.outside desk.old).faults) }
 {
     let front = head_of_record(moment, (head.len() + octets.len()) as u32);
+    if head.is_empty() {
+        return desk.write_both(slot, &front, octets);
+    }
     write_behind(desk, slot, &front, head, octets)
 }
 
-/// Writes the head of a record, and then the two parts of a frame behind it.
+/// Writes the head of a record, and then the two parts of a frame.
+#[inline(always)]
 fn write_behind<D: Desk>(
     desk: &mut D,
     slot: Slot,
@@ -80,23 +85,11 @@ fn write_behind<D: Desk>(
     octets: &[u8],
 ) -> Result<(), Failed>
     requires { CanWrite (D.outside desk.old) slot }
-    ensures ok { OnOk result (Writes slot (front.now ++ (head.now ++ octets.now)) (D.outside desk.old) (D.outside desk.new)) }
-    ensures err { OnErr result (WritesPart slot (front.now ++ (head.now ++ octets.now)) (D.outside desk.old) (D.outside desk.new)) }
+    ensures ok { OnOk result (Writes slot (front.now ++ head.now ++ octets.now) (D.outside desk.old) (D.outside desk.new)) }
+    ensures err { OnErr result (WritesPart slot (front.now ++ head.now ++ octets.now) (D.outside desk.old) (D.outside desk.new)) }
     ensures cause { OnErr result (HasFailed slot (D.outside desk.old) (D.outside desk.new)) }
     ensures leaves { OnOk result ((D.outside desk.new).faults ≡ (D.outside desk.old).faults) }
 {
-    write_whole(desk, slot, front)?;
-    write_apart(desk, slot, head, octets)
-}
-
-/// Writes a head, and then the octets behind it.
-fn write_apart<D: Desk>(desk: &mut D, slot: Slot, head: &[u8], octets: &[u8]) -> Result<(), Failed>
-    requires { CanWrite (D.outside desk.old) slot }
-    ensures ok { OnOk result (Writes slot (head.now ++ octets.now) (D.outside desk.old) (D.outside desk.new)) }
-    ensures err { OnErr result (WritesPart slot (head.now ++ octets.now) (D.outside desk.old) (D.outside desk.new)) }
-    ensures cause { OnErr result (HasFailed slot (D.outside desk.old) (D.outside desk.new)) }
-    ensures leaves { OnOk result ((D.outside desk.new).faults ≡ (D.outside desk.old).faults) }
-{
-    write_whole(desk, slot, head)?;
+    desk.write_both(slot, front, head)?;
     write_whole(desk, slot, octets)
 }

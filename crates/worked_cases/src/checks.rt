@@ -28,7 +28,7 @@ fn names_failure(status: Status) -> bool {
 pub(crate) fn failing_calls(rt: &HostRuntime, name: &str) -> io::Result<Option<u64>> {
     for call in 1..MOST_CALLS {
         let (status, in_front) = run_failing(rt, name, call)?;
-        if status == Status::Done {
+        if matches!(status, Status::Done) {
             return Ok(Some(call - 1));
         }
         if !in_front || !names_failure(status) {
@@ -55,7 +55,7 @@ fn status_of<D: Desk>(alloc: Global, line: &str, desk: &mut D) -> io::Result<Sta
 // Whether these words over this desk are answered by the one usage line.
 fn is_answered(alloc: Global, line: &str, desk: &mut MemoryDesk) -> io::Result<bool> {
     let status = status_of(alloc, line, desk)?;
-    Ok(status == Status::Usage && desk.output(Slot::Errors) == USAGE)
+    Ok(matches!(status, Status::Usage) && desk.output(Slot::Errors) == USAGE)
 }
 
 /// Whether the words of a line, which are no command, are answered by the one usage line.
@@ -73,7 +73,7 @@ fn has_line(desk: &MemoryDesk, line: &str) -> bool {
 // Whether a make over this desk writes just this line, on the report alone.
 fn makes(alloc: Global, words: &str, line: &str, desk: &mut MemoryDesk) -> io::Result<bool> {
     let status = status_of(alloc, words, desk)?;
-    Ok(status == Status::Done && has_line(desk, line))
+    Ok(matches!(status, Status::Done) && has_line(desk, line))
 }
 
 /// Whether the words of a make before an equals sign write the line behind it.

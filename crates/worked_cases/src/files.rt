@@ -1,8 +1,8 @@
 // Runs over real files.
 use crate::case::{is_part, words_of};
 use gate_base::read_number;
+use gate_command::carry_out;
 use gate_desk::FileDesk;
-use gateway_main::carry_out;
 use std::{fs, io};
 
 /// A device that takes nothing.

@@ -1,4 +1,4 @@
-use Rattle.gateway.specs.Names.{names_of}
+use Rattle.gate_phases.specs.RunNames.{names_of}
 use Rattle.gate_command.proofs.Answered.{done_run, answers_run}
 use Rattle.gate_command.proofs.call.told_run.Goals as goal
 

@@ -1,5 +1,5 @@
 use Rattle.std.proofs.Common.{◌≡◌, ◌+◌, [], ◌∷◌, Some, None, refl, sym, ap, ◌∙◌, ℕ, List, Option}
-use Rattle.std.specs.Prelude.{option_and_then, unwrap_or}
+use Rattle.std.specs.Prelude.{◌||◌, is_none, option_and_then, unwrap_or}
 use Rattle.std.specs.Option.{option_flatten}
 use Rattle.gate_base.specs.declared.address.Addr.{Addr}
 use Rattle.binding_table.specs.Bindings.{Bindings, seen}
@@ -11,8 +11,35 @@ use Rattle.gate_world.specs.Verdict.{icmp_hold}
 use Rattle.gate_world.specs.Units.{uses_until}
 use Rattle.kept_world.specs.Kept.{kept_rules}
 use Rattle.gate_payloads.specs.Ways.{image_by}
-use Rattle.gate_steps.proofs.ErrorsTaken.{IsKnown, inner_read, error_unknown, error_empty, error_passes}
+use Rattle.gate_steps.proofs.ErrorsTaken.{IsKnown, inner_read, error_bad, error_unseen, error_unknown, error_empty, error_passes}
 use Rattle.gate_core.proofs.errors.take_error.Goals as goal
+
+pub returns-in_default : goal.returns-in_default
+returns-in_default c = record {
+  taken = λ live t s w.
+      error_bad kept_rules live c.args.way.now.side (datagram_of c.args.octets.now) c.args.inside.now c.in_default.field-0 c.args.table.now c.args.outbox.now c.requires.inside (sym c.inner_of.ensures ∙ c.in_default.is) (sym t) c.requires.empty;
+}
+
+pub returns-in_default-seen : goal.returns-in_default-seen
+returns-in_default-seen c = record {
+  taken = λ live t s w.
+      let d = datagram_of c.args.octets.now in
+      let side = c.args.way.now.side in
+      let read = inner_read (inside d) c.in-Ok.inner (ap read_inner (sym c.requires.inside) ∙ sym c.inner_of.ensures ∙ c.in-Ok.is) in
+      let none : seen live.table side c.in-Ok.inner.source ≡ None = ap (λ (x : Bindings). seen x side c.in-Ok.inner.source) t ∙ sym c.seen.ensures ∙ c.in_default-seen.is in
+      error_unseen kept_rules live side d c.in-Ok.inner c.args.table.now c.args.outbox.now read (ap (λ (o : Option Addr). is_none o || is_none (seen live.table side c.in-Ok.inner.destination)) none) (sym t) c.requires.empty;
+}
+
+pub returns-in_default-seen-2 : goal.returns-in_default-seen-2
+returns-in_default-seen-2 c = record {
+  taken = λ live t s w.
+      let d = datagram_of c.args.octets.now in
+      let side = c.args.way.now.side in
+      let read = inner_read (inside d) c.in-Ok.inner (ap read_inner (sym c.requires.inside) ∙ sym c.inner_of.ensures ∙ c.in-Ok.is) in
+      let some : seen live.table side c.in-Ok.inner.source ≡ Some c.in-Some.source = ap (λ (x : Bindings). seen x side c.in-Ok.inner.source) t ∙ sym c.seen.ensures ∙ c.in-Some.is in
+      let none : seen live.table side c.in-Ok.inner.destination ≡ None = ap (λ (x : Bindings). seen x side c.in-Ok.inner.destination) t ∙ sym c.seen-2.ensures ∙ c.in_default-seen-2.is in
+      error_unseen kept_rules live side d c.in-Ok.inner c.args.table.now c.args.outbox.now read (ap (λ (o : Option Addr). is_none o || is_none (seen live.table side c.in-Ok.inner.destination)) some ∙ ap is_none none) (sym t) c.requires.empty;
+}
 
 pub returns-then-is_unknown : goal.returns-then-is_unknown
 returns-then-is_unknown c = record {

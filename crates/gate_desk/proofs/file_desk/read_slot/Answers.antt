@@ -1,6 +1,9 @@
-use Rattle.std.proofs.Common.{ap, ◌∙◌}
-use Rattle.gate_desk.proofs.Laws.{mapped-same}
-use Rattle.gate_desk.specs.Gathering.{way_of}
+use Rattle.std.proofs.Common.{◌≡◌, ℕ, ◌≤◌, List, [], length, ap, sym, ◌∙◌, arith}
+use Rattle.std.proofs.lemmas.Result.{IfOk-weaker}
+use Rattle.gate_desk.specs.declared.slot.PerSlot.{PerSlot}
+use Rattle.gate_desk.specs.Gathering.{ahead, ahead_in, way_of}
+use Rattle.gate_desk.specs.Slots.{at, put}
+use Rattle.gate_desk.proofs.Laws.{at-mapped, mapped-put, mapped-put_only, mapped-same, put-put}
 use Rattle.gate_desk.proofs.file_desk.read_slot.Goals as goal
 
 pub returns-in_err-hand_out-in-None-clause-ways : goal.returns-in_err-hand_out-in-None-clause-ways
@@ -11,3 +14,15 @@ pub returns-in_ok-hand_out-in-None-clause-ways : goal.returns-in_ok-hand_out-in-
 returns-in_ok-hand_out-in-None-clause-ways g c =
     mapped-same way_of c.hand_out.new.places c.args.slot c.read.new.self (c.read.ensures.way ∙ ap way_of c.at_mut-in-None.ensures.value)
     ∙ c.hand_out.ensures.ways ∙ mapped-same way_of c.args.places.now c.args.slot c.take_ahead.new.self (c.take_ahead.ensures.way ∙ ap way_of c.at_mut.ensures.value)
+
+pub returns-in_ok-hand_out-in-None-clause-ahead : goal.returns-in_ok-hand_out-in-None-clause-ahead
+returns-in_ok-hand_out-in-None-clause-ahead g c =
+    let none : at (ahead_in c.args.places.now) c.args.slot ≡ [] = at-mapped ahead c.args.places.now c.args.slot ∙ sym (ap ahead c.at_mut.ensures.value) ∙ c.in-None.ensures.ahead in
+    IfOk-weaker c.read.result (λ n. n ≤ length c.read.new.buffer) _ (λ n fits some. absurd (omega (arith, some, ap (λ (xs : List ℕ). length xs) none))) c.read.ensures.fits
+
+pub returns-in_ok-hand_out-in-None-clause-others : goal.returns-in_ok-hand_out-in-None-clause-others
+returns-in_ok-hand_out-in-None-clause-others g c =
+    let after = at (ahead_in (put c.hand_out.new.places c.args.slot c.read.new.self)) c.args.slot in
+    mapped-put_only ahead c.hand_out.new.places c.args.slot c.read.new.self
+    ∙ ap (λ (all : PerSlot (List ℕ)). put all c.args.slot after) (c.hand_out.ensures.ahead ∙ mapped-put ahead c.args.places.now c.args.slot c.take_ahead.new.self)
+    ∙ put-put (ahead_in c.args.places.now) c.args.slot (ahead c.take_ahead.new.self) after

@@ -1,7 +1,7 @@
-use Rattle.std.proofs.Common.{Option, Some, ap, ◌∙◌}
+use Rattle.std.proofs.Common.{ℕ, List, [], Option, Some, ap, ◌∙◌}
 use Rattle.gate_desk.specs.declared.slot.PerSlot.{PerSlot}
 use Rattle.gate_desk.specs.declared.slot.Way.{Way}
-use Rattle.gate_desk.specs.Gathering.{way_of, ways_in}
+use Rattle.gate_desk.specs.Gathering.{ahead, ahead_in, way_of, ways_in}
 use Rattle.gate_desk.specs.Slots.{put}
 use Rattle.gate_desk.proofs.Laws.{mapped-put}
 use Rattle.gate_desk.proofs.file_desk.start_slot.Goals as goal
@@ -11,3 +11,9 @@ returns-in-Ok-clause-ways g c =
     mapped-put way_of c.hand_out.new.places c.args.slot c.in-Ok.place
     ∙ ap (λ (w : Option Way). put (ways_in c.hand_out.new.places) c.args.slot w) c.in-Ok.ensures.way
     ∙ ap (λ (ways : PerSlot (Option Way)). put ways c.args.slot (Some c.args.way)) c.hand_out.ensures.ways
+
+pub returns-in-Ok-clause-ahead : goal.returns-in-Ok-clause-ahead
+returns-in-Ok-clause-ahead g c =
+    mapped-put ahead c.hand_out.new.places c.args.slot c.in-Ok.place
+    ∙ ap (λ (xs : List ℕ). put (ahead_in c.hand_out.new.places) c.args.slot xs) c.in-Ok.ensures.ahead
+    ∙ ap (λ (all : PerSlot (List ℕ)). put all c.args.slot []) c.hand_out.ensures.ahead

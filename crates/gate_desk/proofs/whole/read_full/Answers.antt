@@ -1,38 +1,42 @@
-use Rattle.std.proofs.Common.{◌≡◌, ◌+◌, ◌-◌, ◌≤◌, ◌<◌, ◌++◌, take, drop, length, ap, sym, subst, arith, length-drop}
-use Rattle.std.proofs.lemmas.List.{take_rest, length-take-le}
+use Rattle.std.proofs.Common.{◌≡◌, ◌+◌, ◌-◌, ◌≤◌, length, arith, refl, sym, subst, ◌∙◌}
+use Rattle.std.proofs.lemmas.List.{length-take-le}
+use Rattle.std.proofs.lemmas.Slice.{take-put_mid_below}
 use Rattle.std.proofs.lemmas.Result.{err_from_is_err_and}
-use Rattle.gate_desk.specs.Outside.{AreUpTo}
-use Rattle.gate_desk.proofs.Laws.{takes_none, takes_on, up_to_on, buffer_on}
+use Rattle.gate_desk.specs.Outside.{AreNext, AreUpTo}
+use Rattle.gate_desk.proofs.Laws.{takes_none, takes_on, next_none, next_on, up_to_end, buffer_on}
 use Rattle.gate_desk.proofs.whole.read_full.Goals as goal
 
-pub returns-then-is_empty-clause-ok : goal.returns-then-is_empty-clause-ok
-returns-then-is_empty-clause-ok g c = takes_none c.args.slot _
+pub loop-filled-init : goal.loop-filled-init
+loop-filled-init g c = record { bound = omega arith; takes = takes_none c.args.slot _; next = next_none c.args.slot (g.D.Desk.outside c.args.desk.now); leaves = refl }
 
-pub returns-in_err-more-clause-err : goal.returns-in_err-more-clause-err
-returns-in_err-more-clause-err g c =
-    let p = err_from_is_err_and c.from_residual-in_err-more.result c.from_residual-in_err-more.ensures.1 in
-    let n = c.in_ok-n.n in
-    let buffer = c.read.new.buffer in
-    let few = c.in_err-more.ensures.err in
-    let all = takes_on c.args.slot _ _ _ _ _ c.in_ok-n.ensures.ok few.2 in
-    let less : n + few.0 < length c.args.buffer.now = omega (arith, few.1, ap length (take_rest buffer n), length-drop n buffer, c.in_ok-n.ensures.fits) in
-    rw p.1 (n + few.0, less, all)
+pub returns-in_err-n-clause-err : goal.returns-in_err-n-clause-err
+returns-in_err-n-clause-err g c =
+    let p = err_from_is_err_and c.from_residual.result c.from_residual.ensures.1 in
+    let all = takes_on c.args.slot _ _ _ _ _ c.loop-filled.invariant.takes c.in_err-n.ensures.err in
+    rw p.1 (c.loop-filled.filled + 0, omega arith, all)
 
-pub returns-clause-ok : goal.returns-clause-ok
-returns-clause-ok g c = takes_on c.args.slot _ _ _ _ _ c.in_ok-n.ensures.ok c.in_ok-more.ensures.ok
+pub returns-then-n-eq0-clause-ok : goal.returns-then-n-eq0-clause-ok
+returns-then-n-eq0-clause-ok g c =
+    let e : c.loop-filled.filled + c.in_ok-n.n ≡ c.loop-filled.filled = omega arith in
+    rw e at (takes_on c.args.slot _ _ _ _ _ c.loop-filled.invariant.takes c.in_ok-n.ensures.ok)
 
-pub returns-clause-octets : goal.returns-clause-octets
-returns-clause-octets g c =
-    let old = g.D.Desk.outside c.args.desk.now in
-    let n = c.in_ok-n.n in
-    let more = c.in_ok-more.more in
-    let buffer = c.read.new.buffer in
-    let rest = take (length buffer - n) (drop n buffer) in
-    let behind = c.read_rest.new.buffer in
-    let bound : n ≤ length buffer = c.in_ok-n.ensures.fits in
-    let long : length rest ≡ length buffer - n = omega (arith, ap length (take_rest buffer n), length-drop n buffer) in
-    let fits : more ≤ length behind = omega (arith, c.in_ok-more.ensures.fits) in
-    let whole : n + length rest ≡ length c.args.buffer.now = omega (arith, long, bound) in
-    let all = up_to_on c.args.slot (take n buffer) (take more behind) n (length rest) _ _ (length-take-le n buffer bound) c.in_ok-n.ensures.ok c.in_ok-n.ensures.octets c.in_ok-more.ensures.octets in
-    subst (λ xs. AreUpTo (length c.args.buffer.now) xs old c.args.slot) (sym (buffer_on buffer behind n more bound fits))
-    (subst (λ k. AreUpTo k (take n buffer ++ take more behind) old c.args.slot) whole all)
+pub returns-then-n-eq0-clause-octets : goal.returns-then-n-eq0-clause-octets
+returns-then-n-eq0-clause-octets g c =
+    let bound : c.loop-filled.filled ≤ length c.loop-filled.buffer = omega arith in
+    let size = length-take-le c.loop-filled.filled c.loop-filled.buffer bound in
+    let same = take-put_mid_below c.loop-filled.filled (length c.loop-filled.buffer - c.loop-filled.filled) c.loop-filled.buffer c.read.new.buffer c.loop-filled.filled (omega arith) bound in
+    let all = up_to_end c.args.slot _ _ (length c.args.buffer.now) _ _ size c.loop-filled.invariant.bound c.loop-filled.invariant.takes c.loop-filled.invariant.next (c.in_ok-n.ensures.end c.if-n-eq0.true (omega arith)) in
+    subst (λ xs. AreUpTo (length c.args.buffer.now) xs (g.D.Desk.outside c.args.desk.now) c.args.slot) (sym same) all
+
+pub loop-filled-preserved : goal.loop-filled-preserved
+loop-filled-preserved g c =
+    let bound : c.loop-filled.filled ≤ length c.loop-filled.buffer = omega arith in
+    let size = length-take-le c.loop-filled.filled c.loop-filled.buffer bound in
+    let more = next_on c.args.slot _ _ _ _ _ size c.loop-filled.invariant.takes c.loop-filled.invariant.next c.in_ok-n.ensures.octets in
+    let same = buffer_on c.loop-filled.buffer c.read.new.buffer c.loop-filled.filled c.in_ok-n.n bound c.in_ok-n.ensures.fits in
+    record {
+      bound = omega (arith, c.in_ok-n.ensures.fits);
+      takes = takes_on c.args.slot _ _ _ _ _ c.loop-filled.invariant.takes c.in_ok-n.ensures.ok;
+      leaves = c.in_ok-n.ensures.leaves ∙ c.loop-filled.invariant.leaves;
+      next = subst (λ xs. AreNext xs (g.D.Desk.outside c.args.desk.now) c.args.slot) (sym same) more;
+    }

@@ -30,7 +30,7 @@ returns-clause-taken c = λ live same w.
     let table = c.args.table.now in
     let way = c.args.way.now in
     let d = datagram_of c.args.datagram.now.octets.now in
-    let m = c.args.message in
+    let m = c.args.message.now in
     let named = c.in_ok-named.named.items in
     let uses = named_uses way.side way.moment.0 way.source way.destination named in
     let addresses = c.in_ok-addresses.ensures ∙ ap (λ (xs : List Addr). way.source ∷ way.destination ∷ xs) c.deref-2.ensures.value in
@@ -50,6 +50,6 @@ returns-clause-taken c = λ live same w.
 pub returns-then-is_empty-clause-taken : goal.returns-then-is_empty-clause-taken
 returns-then-is_empty-clause-taken c = λ live same w.
     let d = datagram_of c.args.datagram.now.octets.now in
-    let message : message_in d ≡ Some c.args.message = ap message_at (sym c.requires.whole.same) ∙ c.requires.message in
+    let message : message_in d ≡ Some c.args.message.now = ap message_at (sym c.requires.whole.same) ∙ c.requires.message in
     let none = no_items c.in_ok-named.named.items (grind (arith, c.in_ok-named.named.ok, c.is_empty.ensures, c.if-is_empty.true)) in
     c.take_unnamed.ensures.taken live same w (ap is_none message) (ap named_in message ∙ sym c.in_ok-named.ensures ∙ none)

@@ -1,4 +1,4 @@
-use Rattle.gateway.specs.Names.{names_of}
+use Rattle.gate_phases.specs.RunNames.{names_of}
 use Rattle.gateway.specs.Answers.{Runs}
 use Rattle.gate_phases.proofs.Causes.{handed_on}
 use Rattle.gateway.proofs.Runs.{run_unwritten}

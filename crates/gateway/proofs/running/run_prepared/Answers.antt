@@ -1,7 +1,7 @@
 use Rattle.std.proofs.Common.{OnErr, refl, subst}
 use Rattle.gate_desk.specs.declared.slot.Slot.TheVariants.{LeftIn, RightIn, LeftOut, RightOut, Report}
 use Rattle.gate_desk.specs.declared.slot.Way.TheVariants.{Read, Write}
-use Rattle.gateway.specs.Names.{names_of, first_starts, output_starts, plan}
+use Rattle.gate_phases.specs.RunNames.{names_of, first_starts, output_starts, plan}
 use Rattle.gate_phases.specs.declared.status.Status.TheVariants.{OutOfMemory}
 use Rattle.gateway.specs.Phases.{Readied, StopsInFront}
 use Rattle.gateway.specs.Machine.{heads}

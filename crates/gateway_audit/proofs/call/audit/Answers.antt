@@ -2,7 +2,7 @@ use Rattle.std.proofs.Common.{refl}
 use Rattle.gate_desk.specs.declared.slot.Slot.TheVariants.{Report}
 use Rattle.gate_desk.specs.declared.slot.Way.TheVariants.{Write}
 use Rattle.gate_phases.proofs.Causes.{way_of}
-use Rattle.gateway_audit.specs.Names.{names_of, plan}
+use Rattle.gate_phases.specs.AuditNames.{names_of, plan}
 use Rattle.gateway_audit.proofs.Judging.{said}
 use Rattle.gateway_audit.proofs.call.audit.Goals as goal
 

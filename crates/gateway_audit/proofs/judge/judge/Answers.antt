@@ -1,6 +1,6 @@
 use Rattle.std.proofs.Common.{subst}
 use Rattle.gate_phases.proofs.Causes.{handed_on}
-use Rattle.gateway_audit.specs.Names.{names_of}
+use Rattle.gate_phases.specs.AuditNames.{names_of}
 use Rattle.gateway_audit.specs.Phases.{Readied, Judges}
 use Rattle.gateway_audit.proofs.Judging.{not_ready, no_head, to_walk, walked}
 use Rattle.gateway_audit.proofs.judge.judge.Goals as goal

@@ -3,7 +3,7 @@ use Rattle.gate_desk.specs.declared.slot.Slot.TheVariants.{LeftGiven, RightGiven
 use Rattle.gate_desk.specs.declared.slot.Way.TheVariants.{Read}
 use Rattle.gate_phases.specs.Causes.{Opens}
 use Rattle.gate_phases.proofs.Causes.{handed_on, opens_on, opens_more}
-use Rattle.gateway_audit.specs.Names.{names_of, given_starts}
+use Rattle.gate_phases.specs.AuditNames.{names_of, given_starts}
 use Rattle.gateway_audit.proofs.open.open_given.Goals as goal
 
 pub returns-in_err-start_slot-clause-answer : goal.returns-in_err-start_slot-clause-answer

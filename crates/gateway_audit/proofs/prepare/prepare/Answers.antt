@@ -1,7 +1,7 @@
 use Rattle.std.proofs.Common.{MatchResult}
 use Rattle.gate_phases.proofs.Causes.{handed_on}
 use Rattle.gateway_audit.specs.Audits.{IsAudit}
-use Rattle.gateway_audit.specs.Names.{names_of}
+use Rattle.gate_phases.specs.AuditNames.{names_of}
 use Rattle.gateway_audit.specs.Phases.{Prepared}
 use Rattle.gateway_audit.proofs.Phases.{settings_end, heads_end, prepared}
 use Rattle.gateway_audit.proofs.prepare.prepare.Goals as goal

@@ -2,7 +2,7 @@ use Rattle.std.proofs.Common.{refl}
 use Rattle.gate_desk.specs.declared.slot.Slot.TheVariants.{LeftGiven, RightGiven}
 use Rattle.gate_desk.specs.declared.slot.Way.TheVariants.{Read}
 use Rattle.gate_phases.proofs.Causes.{handed_on, way_of}
-use Rattle.gateway_audit.specs.Names.{names_of, given_starts}
+use Rattle.gate_phases.specs.AuditNames.{names_of, given_starts}
 use Rattle.gateway_audit.specs.Phases.{Readies}
 use Rattle.gateway_audit.proofs.Phases.{not_opened, not_begun, no_report, readied}
 use Rattle.gateway_audit.proofs.ready.ready.Goals as goal

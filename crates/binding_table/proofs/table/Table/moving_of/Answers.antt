@@ -1,16 +1,18 @@
 use Rattle.std.proofs.Common.{◌∙◌, ap, option_and_then}
-use Rattle.std.specs.List.{find}
 use Rattle.expiring_table.specs.Rows.{row_of}
-use Rattle.binding_table.specs.Bindings.{Bindings, is_of_host}
-use Rattle.binding_table.specs.EntriesInside.{ending}
-use Rattle.binding_table.specs.Inside.{bindings_of}
-use Rattle.binding_table.specs.Steps.{unless_fixed}
+use Rattle.binding_table.specs.Bindings.{Bindings}
+use Rattle.binding_table.specs.Steps.{ending, moving_row}
 use Rattle.binding_table.proofs.Filed.{found_moving}
 use Rattle.binding_table.proofs.table.Table.moving_of.Goals as goal
 
-pub returns : goal.returns
-returns c =
-    let rows = c.self.inside.bindings.rows in
-    c.locate.ensures ∙ ap (λ number. option_and_then ending (row_of number rows)) c.number_of.ensures
-    ∙ found_moving c.args.side c.args.host.0 (bindings_of c.self.inside).entries rows c.self.invariant.rows
-    ∙ ap (λ (table : Bindings). option_and_then unless_fixed (find (is_of_host c.args.side c.args.host.0) table.entries)) c.self.view_is
+pub returns-in-Some : goal.returns-in-Some
+returns-in-Some c = ap (λ number. moving_row number c.args.self.now.entries) c.number_of-number.ensures ∙ found_moving c.args.side c.args.host.0 c.args.self.now.entries
+
+pub returns-in-None : goal.returns-in-None
+returns-in-None c =
+    let number = c.number_of-number.result in
+    c.in-None.ensures
+    ∙ ap (λ rows. option_and_then ending (row_of number rows)) c.self.invariant.rows
+    ∙ ap (λ (t : Bindings). moving_row number t.entries) c.self.view_is
+    ∙ ap (λ n. moving_row n c.args.self.now.entries) c.number_of-number.ensures
+    ∙ found_moving c.args.side c.args.host.0 c.args.self.now.entries

@@ -1,4 +1,4 @@
-use Rattle.std.proofs.Common.{◌≡◌, ℕ, ◌+◌, Bool, true, false, cond, [], List, length, take, drop, set, Option, sym, ap, subst, ◌∙◌, arith}
+use Rattle.std.proofs.Common.{◌≡◌, ℕ, ◌+◌, Bool, true, false, cond, [], List, length, set, Option, sym, ap, subst, arith}
 use mir.Val.{bool_byte}
 use Rattle.std.proofs.lemmas.List.{take_more}
 use Rattle.gate_base.specs.Side.{other}

@@ -4,10 +4,10 @@ use Rattle.std.proofs.lemmas.List.{length-set, get_or_read, get_or-set_same, get
 use Rattle.std.proofs.lemmas.List.Sorted.{Contains-permutation}
 use Rattle.std.proofs.lemmas.Option.{none-some, same_Some}
 use Rattle.expiring_table.specs.Armed.{alarm}
-use Rattle.expiring_table.specs.Kept.{is_watched}
-use Rattle.expiring_table.proofs.Changes.{rows_set, count_set, once_set, indexed_set, watched_then}
+use Rattle.expiring_table.specs.Kept.{is_watched, row_at}
+use Rattle.expiring_table.proofs.Changes.{rows_set, count_set, once_set, indexed_set}
 use Rattle.expiring_table.proofs.Indexed.{contains_front, contains_rest}
-use Rattle.expiring_table.proofs.Review.{room_kept}
+use Rattle.expiring_table.proofs.Review.{room_kept, whole_watched}
 use Rattle.expiring_table.proofs.store.Store.replace.Goals as goal
 
 pub returns-in_default-clause-table : goal.returns-in_default-clause-table
@@ -38,22 +38,11 @@ pub returns-then-is_watched-clause-whole : goal.returns-then-is_watched-clause-w
 returns-then-is_watched-clause-whole g c =
     let cells = c.args.self.now.cells.items in
     let moments = c.args.self.now.moments.items in
-    let alarms = c.args.self.now.alarms.alarms in
-    let whole = c.requires.whole in
     let place = c.requires.place in
-    record {
-      room = room_kept c.args.self.now _ whole.room refl (length-set cells c.args.place (Some c.args.row)) refl refl refl refl (omega arith) whole.room.alarmed;
-      indexed = indexed_set cells moments moments c.args.self.now.chains alarms alarms c.args.place place.1.0 c.args.row place.0 place.1.1 place.1.2 whole.indexed refl
-          (λ other not_here. refl) (λ one there. there) (λ end ends.
-          let ring = get_or_read moments c.args.place c.index.result.now (omega (arith, place.0, whole.indexed.watches)) c.index.ensures 0 in
-          let was = get_or_read cells c.args.place c.index-was.result.now place.0 c.index-was.ensures None in
-          let end_is : c.in-Some.end ≡ end = same_Some c.in-Some.end end (sym c.in-Some.is ∙ ends) in
-          watched_then cells moments alarms c.args.place c.index-was.result.now end whole.indexed.watched (sym was)
-          (ap (λ one. is_watched one end c.index-was.result.now) (sym ring) ∙ ap (λ one. is_watched c.index.result.now one c.index-was.result.now) (sym end_is) ∙ sym c.is_watched.ensures ∙ c.if-is_watched.true));
-      once = once_set cells c.args.place place.1.0 c.args.row place.0 whole.once place.1.1 place.1.2;
-      counted = whole.counted ∙ sym (count_set cells c.args.place place.1.0 c.args.row place.1.1);
-      few = whole.few;
-    }
+    let ring = get_or_read moments c.args.place c.index.result.now (omega (arith, place.0, c.requires.whole.indexed.watches)) c.index.ensures 0 in
+    let was = get_or_read cells c.args.place c.index-was.result.now place.0 c.index-was.ensures None in
+    whole_watched c.args.self.now c.args.place c.in-Some.end c.args.row c.requires.whole place c.in-Some.is
+    (ap (λ one. is_watched one c.in-Some.end (row_at cells c.args.place)) (sym ring) ∙ ap (is_watched c.index.result.now c.in-Some.end) (sym was) ∙ sym c.is_watched.ensures ∙ c.if-is_watched.true)
 
 pub returns-clause-whole : goal.returns-clause-whole
 returns-clause-whole g c =

@@ -6,3 +6,6 @@ returns-in-Ok-clause-ok g c = rw (← c.self.view_is) (untold_starts c.args.slot
 
 pub returns-in-Ok-clause-ways : goal.returns-in-Ok-clause-ways
 returns-in-Ok-clause-ways g c = rw (← c.self.view_is) c.in-Ok.ensures.ways
+
+pub returns-in-Ok-clause-ahead : goal.returns-in-Ok-clause-ahead
+returns-in-Ok-clause-ahead g c = rw (← c.self.view_is) c.in-Ok.ensures.ahead

@@ -1,12 +1,9 @@
-use Rattle.std.proofs.Common.{take}
-use Rattle.gate_desk.proofs.FileLaws.{untold_writes, untold_write_fails}
+use Rattle.std.proofs.Common.{[]}
+use Rattle.std.proofs.lemmas.Result.{err_from_is_err_and}
+use Rattle.gate_desk.proofs.FileLaws.{untold_writes_same}
 use Rattle.gate_desk.proofs.file_desk.FileDeskDesk.write.Goals as goal
 
-pub returns-in-Ok-clause-ok : goal.returns-in-Ok-clause-ok
-returns-in-Ok-clause-ok g c = rw (← c.self.view_is) (untold_writes c.args.slot (take c.in-Ok.n c.args.piece.now) c.self.inside.faults c.self.inside.start_faults)
-
-pub returns-in-Err-clause-err : goal.returns-in-Err-clause-err
-returns-in-Err-clause-err g c = rw (← c.self.view_is) (untold_write_fails c.args.slot c.self.inside.faults c.raise.new.counts c.self.inside.start_faults c.raise.ensures)
-
-pub returns-in-Ok-clause-takes : goal.returns-in-Ok-clause-takes
-returns-in-Ok-clause-takes g c = rw (← c.self.view_is) c.in-Ok.ensures.takes
+pub returns-in_err-write_both-clause-err : goal.returns-in_err-write_both-clause-err
+returns-in_err-write_both-clause-err g c =
+    let p = err_from_is_err_and c.from_residual.result c.from_residual.ensures.1 in
+    rw p.1 (untold_writes_same c.args.slot _ [] _ _ _ _ c.in_err-write_both.ensures.err.2)

@@ -1,0 +1,22 @@
+use Rattle.std.proofs.Common.{◌≡◌, refl, inl, inr, subst}
+use Rattle.gate_desk.specs.Outside.{HasFailed}
+use Rattle.gate_desk.specs.Untold.{Files, told_by, all_dropped}
+use Rattle.gate_phases.specs.Telling.{TellsLine}
+use Rattle.gate_phases.specs.declared.status.Status.TheVariants.{WriteFault}
+use Rattle.gate_command.proofs.Codes.{first_refused}
+use Rattle.gate_command.proofs.program.finish.Goals as goal
+
+pub returns-in-Ok : goal.returns-in-Ok
+returns-in-Ok g c = inl (record { code_is = refl; none = c.in-Ok.ensures.none; all = c.in-Ok.ensures.ok })
+
+pub returns-in-Err : goal.returns-in-Err
+returns-in-Err g c =
+    let slot = c.in-Err.slot in
+    let dropped : c.finish.new.self ≡ all_dropped slot c.args.desk.now = c.in-Err.ensures.err in
+    inr (record {
+      slot = slot;
+      first = first_refused slot c.args.desk.now.refused c.in-Err.ensures.named;
+      cause = subst (λ (d : Files). HasFailed slot (told_by c.args.desk.now) (told_by d)) dropped c.in-Err.ensures.cause;
+      code_is = c.code.ensures;
+      line = subst (λ (d : Files). TellsLine (WriteFault slot) (told_by d) (told_by c.tell_refused.new.desk)) dropped c.tell_refused.ensures;
+    })

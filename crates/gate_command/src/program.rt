@@ -1,0 +1,98 @@
+// The program over real files.
+ghost use Rattle.std.specs.String.{string_bytes};
+ghost use Rattle.gate_phases.specs.Command.{command_of};
+ghost use Rattle.gate_phases.specs.Telling.{TellsLine};
+ghost use Rattle.std.specs.Prelude.{◌≡◌, map};
+ghost use Rattle.gate_phases.specs.Status.{error_line};
+ghost use Rattle.gate_phases.specs.declared.status.Status.TheVariants.{WriteFault};
+ghost use Rattle.gate_command.specs.Exit.{IsExit, IsCode, Finishes, IsFinished};
+
+use crate::call::realm_gate;
+use gate_desk::{Desk, FileDesk, Slot, write_whole};
+use gate_phases::Status;
+use std::alloc::{AllocError, Global};
+use std::env;
+use std::io::ErrorKind;
+use std::rt::Runtime;
+
+// The words behind the program's name. Where one of them isn't text there are none, which is no command.
+fn words(rt: &HostRuntime) -> Result<Vec<String>, AllocError> {
+    let mut words = Vec::new(rt.alloc());
+    let arguments = match env::args(rt) {
+        Ok(arguments) => arguments,
+        Err(error) if error.kind() == ErrorKind::InvalidData => return Ok(words),
+        Err(_) => return Err(AllocError),
+    };
+    for word in arguments.skip(1) {
+        words.push(word)?;
+    }
+    Ok(words)
+}
+
+/// Carries out the command of these words over a desk, and answers the exit status.
+fn exit_status<D: Desk>(alloc: Global, words: &[String], desk: &mut D) -> u8
+    ensures { IsExit result (command_of (map string_bytes words.now)) (D.outside desk.old) (D.outside desk.new) }
+{
+    realm_gate(alloc, words, desk).code()
+}
+
+// The line of a failed write of a slot.
+#[tactic(auto, unfolding(gate_phases::specs::Status::error_line, gate_desk::specs::Slots::name_of))]
+fn refused_line(slot: Slot) -> &'static str
+    ensures { result.now ≡ error_line (WriteFault slot) }
+{
+    match slot {
+        Slot::Settings => "write failed: settings\n",
+        Slot::LeftIn => "write failed: left_in\n",
+        Slot::RightIn => "write failed: right_in\n",
+        Slot::LeftGiven => "write failed: left_given\n",
+        Slot::RightGiven => "write failed: right_given\n",
+        Slot::ReportGiven => "write failed: report_given\n",
+        Slot::LeftOut => "write failed: left_out\n",
+        Slot::RightOut => "write failed: right_out\n",
+        Slot::Report => "write failed: report\n",
+        Slot::Errors => "write failed: errors\n",
+    }
+}
+
+// Writes the line of a failed write of a slot. Nothing is done about a failure there.
+fn tell_refused<D: Desk>(desk: &mut D, slot: Slot)
+    ensures { TellsLine (WriteFault slot) (D.outside desk.old) (D.outside desk.new) }
+{
+    let _ = write_whole(desk, Slot::Errors, refused_line(slot).as_bytes());
+}
+
+/// Hands all that was written to the system, and answers the exit status. Where the system refuses octets that had been
+/// taken, that is a failed write of their slot, which a line on standard error names, whatever the status was before.
+fn finish<R: Runtime>(desk: &mut FileDesk<R>, code: u8) -> u8
+    ensures { Finishes code result desk.old desk.new }
+{
+    match desk.finish() {
+        Ok(()) => code,
+        Err(slot) => {
+            tell_refused(desk, slot);
+            Status::WriteFault(slot).code()
+        }
+    }
+}
+
+/// Carries out the command of these words over real files, and answers the exit status.
+pub fn carry_out<R: Runtime>(alloc: Global, words: &[String], desk: &mut FileDesk<R>) -> u8
+    ensures exit { IsFinished result (command_of (map string_bytes words.now)) desk.old desk.new }
+    ensures code { IsCode result }
+{
+    let code = exit_status(alloc, words, desk);
+    finish(desk, code)
+}
+
+/// Carries out the command of the program's words over real files, and answers the exit status.
+pub fn run(rt: HostRuntime) -> u8
+    ensures { IsCode result }
+{
+    let Ok(words) = words(&rt) else {
+        return Status::OutOfMemory.code();
+    };
+    let alloc = rt.alloc();
+    let mut desk = FileDesk::make(rt);
+    carry_out(alloc, &words, &mut desk)
+}

@@ -1,0 +1,9 @@
+use Rattle.std.proofs.Common.{arith}
+use Rattle.stream_gate.proofs.gate.StreamGate.rest.Goals as goal
+
+-- a rest is smaller than memory
+pub rest-requires-room-H-HoldsRest : goal.rest-requires-room-H-HoldsRest
+rest-requires-room-H-HoldsRest g c κs within = omega (arith, g.N.fits)
+
+pub rest-requires-2-room-H-HoldsRest : goal.rest-requires-2-room-H-HoldsRest
+rest-requires-2-room-H-HoldsRest g c κs within = omega (arith, g.N.fits)
