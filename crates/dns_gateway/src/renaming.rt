@@ -126,7 +126,7 @@ fn rename_question(
 }
 
 /// Gives a message the images of the addresses that `addresses_of` lists, in their order. No image keeps an address; an image takes its
-/// place, and makes the lifetime of its record 0. The error is that there is too little memory: the message has some of its images then.
+/// place, and makes the lifetime of its record 0. The error is that there is too little memory: the message is no longer whole then.
 pub fn rename(
     alloc: Global,
     message: &mut Message,
