@@ -3,7 +3,8 @@ ghost use Rattle.std.specs.Prelude.{◌≡◌, OnOk};
 ghost use Rattle.gate_desk.specs.Outside.{CanRead};
 
 use gate_base::Side;
-use gate_desk::{Desk, Failed, MemoryDesk, Slot, Way};
+use gate_desk::{Desk, Failed, Slot, Way};
+use memory_desks::MemoryDesk;
 use pcap_merge::{Merge, MergeStop};
 use std::alloc::{AllocError, Global};
 use std::test::Fail;

@@ -1,6 +1,7 @@
 -- The exit status of the program.
-use Rattle.std.specs.Prelude.{◌≡◌, ◌⊎◌, ℕ, None, IfSome}
+use Rattle.std.specs.Prelude.{◌≡◌, ◌<◌, ◌⊎◌, ℕ, None, IfSome, length}
 use Rattle.gate_desk.specs.declared.slot.Slot.{Slot}
+use Rattle.gate_desk.specs.Slots.{at}
 use Rattle.gate_desk.specs.Outside.{Outside, HasFailed}
 use Rattle.gate_desk.specs.Untold.{Files, told_by, HandsOutAll, all_dropped}
 use Rattle.gate_phases.specs.declared.status.Status.{Status}
@@ -26,10 +27,11 @@ pub record IsHandedOut (code answer : ℕ) (old new : Files) : Type 0 where
   pub none : old.refused ≡ None
   pub all : HandsOutAll old new
 
--- the system refused octets of a slot that had been taken, of the first one where it did so before: what waits is dropped, this is the code of a failed write of it, and its line is told
+-- the system refused octets of a slot that had been taken, of the first one where it did so before, and some still wait there: what waits is dropped, this is the code of a failed write of the slot, and its line is told
 pub record IsRefused (code : ℕ) (old new : Files) : Type 0 where
   pub slot : Slot
   pub first : IfSome old.refused (λ refused. refused ≡ slot)
+  pub waited : 0 < length (at old.waiting slot)
   pub cause : HasFailed slot (told_by old) (told_by (all_dropped slot old))
   pub code_is : code ≡ code_of (WriteFault slot)
   pub line : TellsLine (WriteFault slot) (told_by (all_dropped slot old)) (told_by new)

@@ -4,9 +4,8 @@ use Rattle.std.proofs.lemmas.List.{length-take-le}
 use Rattle.gate_desk.specs.declared.slot.Slot.{Slot}
 use Rattle.gate_desk.specs.declared.slot.Way.{Way}
 use Rattle.gate_desk.specs.declared.slot.PerSlot.{PerSlot}
-use Rattle.gate_desk.specs.Slots.{at, put}
+use Rattle.gate_desk.specs.Slots.{at, put, each}
 use Rattle.gate_desk.specs.Outside.{Starts, Takes, Writes, AreNext, IsAtEnd, wrote, took, told_at, started}
-use Rattle.gate_desk.specs.Memory.{each}
 use Rattle.gate_desk.specs.Discarded.{told_by}
 use Rattle.gate_desk.proofs.Laws.{rises_not}
 

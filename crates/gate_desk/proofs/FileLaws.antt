@@ -7,8 +7,7 @@ use Rattle.gate_desk.specs.Slots.{at, put}
 use Rattle.gate_desk.specs.Outside.{Starts, Takes, Writes, AreNext, IsAtEnd, wrote, took, told_at, started}
 use Rattle.gate_desk.specs.Untold.{untold}
 use Rattle.gate_desk.specs.Counts.{raised}
-use Rattle.gate_desk.proofs.Laws.{rises_not}
-use Rattle.gate_desk.proofs.MemoryLaws.{rises_one}
+use Rattle.gate_desk.proofs.Laws.{rises_not, rises_one}
 
 pub untold_starts : (s : Slot) (name : List ℕ) (way : Way) (a b : PerSlot ℕ) → Starts s name way (untold a b) (untold a b)
 unfolding started

@@ -5,8 +5,7 @@ use Rattle.gate_desk.specs.declared.gathered.Gathering.TheVariants.{Gathered, No
 use Rattle.gate_desk.specs.declared.slot.Slot.{Slot}
 use Rattle.gate_desk.specs.declared.slot.Slot.TheVariants.{Errors}
 use Rattle.gate_desk.specs.declared.slot.PerSlot.{PerSlot}
-use Rattle.gate_desk.specs.Slots.{at, put}
-use Rattle.gate_desk.specs.Memory.{each}
+use Rattle.gate_desk.specs.Slots.{at, put, each}
 use Rattle.gate_desk.specs.declared.place.Place.{Place}
 use Rattle.gate_desk.specs.Gathering.{Waits, waiting, waiting_in, gathered_after}
 use Rattle.gate_desk.proofs.Laws.{at-each, at-mapped, mapped-put, put-at}

@@ -10,8 +10,8 @@ use Rattle.gate_desk.specs.declared.slot.Slot.TheVariants.{Settings, LeftIn, Rig
 use Rattle.gate_desk.specs.declared.slot.PerSlot.{PerSlot}
 use Rattle.gate_desk.specs.declared.slot.Way.{Way}
 use Rattle.gate_desk.specs.declared.slot.Way.TheVariants.{Read, Write}
-use Rattle.gate_desk.specs.Slots.{at, put, mapped, number_of, same_slot}
-use Rattle.gate_desk.specs.Memory.{each}
+use Rattle.gate_desk.specs.Slots.{at, put, mapped, number_of, same_slot, each}
+use Rattle.gate_desk.specs.Counts.{raised}
 use Rattle.gate_desk.specs.Outside.{Outside, wrote, took, told_at, Told, Rises, NoneFailed, Writes, Takes, AreNext, IsAtEnd, AreUpTo, HasFailed, HasFailedToStart, Grows, NoneFell, WritesPart, Starts, FailsToStart, Start, started, last_way, CanRead, CanWrite}
 
 -- the ten slots, one by one
@@ -76,6 +76,12 @@ took-none s (Some p) = ap Some (rw put-at refl)
 
 pub rises_not : (s : Slot) (a : PerSlot ℕ) → Rises s a a
 rises_not s a = record { never_falls = omega arith; only = sym (put-at a s) }
+
+-- one failure more
+pub rises_one : (s : Slot) (a b : PerSlot ℕ) → b ≡ put a s (raised (at a s)) → Rises s a b
+rises_one s a b e =
+    let there : at b s ≡ raised (at a s) = ap (λ (p : PerSlot ℕ). at p s) e ∙ at-put a s (raised (at a s)) in
+    record { never_falls = omega (arith, there); only = e ∙ ap (put a s) (sym there) }
 
 pub rises_on : (s : Slot) (a b c : PerSlot ℕ) → Rises s a b → Rises s b c → Rises s a c
 rises_on s a b c e f = record {

@@ -6,8 +6,7 @@ use Rattle.gate_desk.specs.declared.gathered.Gathering.TheVariants.{Gathered, No
 use Rattle.gate_desk.specs.declared.slot.Slot.{Slot}
 use Rattle.gate_desk.specs.declared.slot.Slot.TheVariants.{Errors}
 use Rattle.gate_desk.specs.declared.slot.PerSlot.{PerSlot}
-use Rattle.gate_desk.specs.Slots.{at, put, same_slot}
-use Rattle.gate_desk.specs.Memory.{each}
+use Rattle.gate_desk.specs.Slots.{at, put, same_slot, each}
 use Rattle.gate_desk.specs.Gathering.{HandsOut, TakesPiece, gathered_after, taken_at}
 use Rattle.gate_desk.proofs.Laws.{at-each, at-put_append, put-at}
 

@@ -1,7 +1,7 @@
 -- A desk that discards what is written.
 use Rattle.std.specs.Prelude.{ℕ, List, Some, None}
 use Rattle.gate_desk.specs.declared.slot.PerSlot.{PerSlot}
-use Rattle.gate_desk.specs.Memory.{each}
+use Rattle.gate_desk.specs.Slots.{each}
 use Rattle.gate_desk.specs.Outside.{Outside}
 
 -- what is left to be read is told, and nothing of what is written and started; no call fails

@@ -1,7 +1,7 @@
 -- What is gathered for the slots of a desk over files, before it is written out.
 use Rattle.std.specs.Io.KnownBytes.{Appends, append_known}
 use Rattle.std.specs.Io.Buffered.{reader_buffer}
-use Rattle.std.specs.Prelude.{◌≡◌, ◌⊎◌, ℕ, List, [], ◌++◌, Option, Some, None, Result, Ok, Err, if◌then◌else◌, take, drop}
+use Rattle.std.specs.Prelude.{◌≡◌, ◌<◌, ◌⊎◌, ℕ, List, [], ◌++◌, Option, Some, None, IfSome, Result, Ok, Err, if◌then◌else◌, take, drop, length}
 use Rattle.gate_desk.specs.declared.gathered.Gathering.{Gathering}
 use Rattle.gate_desk.specs.declared.gathered.Gathering.TheVariants.{Gathered, NoRoom, Refused}
 use Rattle.gate_desk.specs.declared.place.Place.{Place}
@@ -33,6 +33,14 @@ waiting_in p = mapped waiting p
 abbrev pub Waits : Slot → List ℕ → PerSlot (List ℕ) → PerSlot (List ℕ) → Type 0
 Waits Errors piece old new = Unit {0}
 Waits slot piece old new = (at new slot ≡ at old slot ++ piece) ⊎ (at new slot ≡ piece)
+
+-- something waits on a slot, and is left as it is
+abbrev pub StaysWaiting : Slot → PerSlot (List ℕ) → PerSlot (List ℕ) → Type 0
+StaysWaiting slot old new = (0 < length (at old slot)) × (at new slot ≡ at old slot)
+
+-- where the system refused octets of a slot, some wait there
+abbrev pub RefusedWaits : Option Slot → PerSlot (List ℕ) → Type 0
+RefusedWaits refused waiting = IfSome refused (λ slot. 0 < length (at waiting slot))
 
 -- what was read ahead of a place
 abbrev pub ahead : {F A : Type 0} → Place F A → List ℕ

@@ -1,5 +1,5 @@
 -- The slots, and one value for each.
-use Rattle.std.specs.Prelude.{ℕ, Bool, ◌==◌, List, codes}
+use Rattle.std.specs.Prelude.{ℕ, Bool, ◌==◌, List, [], codes}
 use Rattle.std.specs.Borrow.{Lends, MutBor, Fml, RattleType}
 use Rattle.gate_desk.specs.declared.slot.Slot.{Slot}
 use Rattle.gate_desk.specs.declared.slot.Slot.TheVariants.{Settings, LeftIn, RightIn, LeftGiven, RightGiven, ReportGiven, LeftOut, RightOut, Report, Errors}
@@ -35,6 +35,14 @@ put p Errors x = record p { errors = x }
 -- once the borrow r ends, the slot has the last value written through r
 abbrev pub lends_slot : (X : RattleType) → MutBor (PerSlot X.Denot) → Slot → MutBor X.Denot → Fml
 lends_slot X p slot r = Lends (the_row X) X p r (put p.now slot)
+
+-- the same value in each slot
+abbrev pub each : {A : Type 0} → A → PerSlot A
+each x = record { settings = x; left_in = x; right_in = x; left_given = x; right_given = x; report_given = x; left_out = x; right_out = x; report = x; errors = x }
+
+-- settings and two captures to be read
+abbrev pub inputs : List ℕ → List ℕ → List ℕ → PerSlot (List ℕ)
+inputs settings left right = record (each []) { settings = settings; left_in = left; right_in = right }
 
 -- what f makes of each value
 abbrev pub mapped : {A B : Type 0} → (A → B) → PerSlot A → PerSlot B

@@ -3,10 +3,9 @@ use Rattle.std.specs.Prelude.{◌≡◌, ℕ, List, [], drop, Option, Some, None
 use Rattle.gate_desk.specs.declared.slot.Slot.{Slot}
 use Rattle.gate_desk.specs.declared.slot.PerSlot.{PerSlot}
 use Rattle.gate_desk.specs.declared.slot.Way.{Way}
-use Rattle.gate_desk.specs.Slots.{at, put}
+use Rattle.gate_desk.specs.Slots.{at, put, each}
 use Rattle.gate_desk.specs.Counts.{raised}
 use Rattle.gate_desk.specs.Gathering.{HandsOut}
-use Rattle.gate_desk.specs.Memory.{each}
 use Rattle.gate_desk.specs.Outside.{Outside}
 
 -- for what each slot is open, what was read ahead of it, what its file got, where it tells that, what is taken for each slot and isn't handed to the system yet, the slot of which the system refused such octets, and how often a read or write, and how often a start of each slot failed

@@ -1,13 +1,10 @@
 // A desk that discards what is written.
 ghost use Rattle.std.specs.Prelude.{◌≡◌, ◌<◌, ◌≤◌, ◌++◌, [], IfOk, IsOk, OnOk, OnErr, length, take, drop};
-ghost use Rattle.gate_desk.specs.Memory.{inputs};
 ghost use Rattle.gate_desk.specs.Discarded.{told_by};
 ghost use Rattle.gate_desk.specs.Outside.{Starts, FailsToStart, Takes, AreNext, IsAtEnd, Writes, WritesPart, HasFailed};
-ghost use Rattle.gate_desk.specs.Slots.{at, put};
+ghost use Rattle.gate_desk.specs.Slots.{at, put, inputs};
 
-use crate::memory::Source;
-use crate::per_slot::inputs;
-use crate::{Desk, Failed, PerSlot, Slot, Way};
+use crate::{Desk, Failed, PerSlot, Slot, Source, Way};
 use std::alloc::Global;
 use std::marker::Model;
 
@@ -33,7 +30,7 @@ impl DiscardingDesk {
         ensures { result ≡ inputs settings.items left.items right.items }
     {
         DiscardingDesk {
-            left: inputs(alloc, settings, left, right),
+            left: PerSlot::inputs(alloc, settings, left, right),
         }
     }
 }

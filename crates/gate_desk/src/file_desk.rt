@@ -1,12 +1,10 @@
 // A desk over real files: the trusted edge of the program.
 ghost use Rattle.std.specs.Prelude.{◌≡◌, ◌<◌, ◌≤◌, ◌++◌, ℕ, List, Option, [], None, length, take, drop, IfOk, IfErr, IfSome, IsSome, IsErr, IsErrOf, OnOk, OnErr};
 ghost use Rattle.gate_desk.specs.Counts.{counts_after, raised};
-ghost use Rattle.gate_desk.specs.Gathering.{waiting_in, got_in, way_of, ways_in, ahead_in, ahead_after, ways_after, gathered_after, HandsOut, TakesAhead, TakesPiece, Waits};
-ghost use Rattle.gate_desk.specs.Memory.{each};
-ghost use Rattle.gate_desk.specs.Slots.{at, put};
+ghost use Rattle.gate_desk.specs.Gathering.{waiting_in, got_in, way_of, ways_in, ahead_in, ahead_after, ways_after, gathered_after, HandsOut, RefusedWaits, StaysWaiting, TakesAhead, TakesPiece, Waits};
+ghost use Rattle.gate_desk.specs.Slots.{at, put, each};
 
 use crate::gathered::Gathering;
-use crate::per_slot::{no_counts, raise};
 use crate::place::{Place, open_place, write_out};
 use crate::{Desk, Failed, PerSlot, Slot, Way};
 use std::alloc::Allocator;
@@ -34,11 +32,14 @@ pub struct FileDesk<R: Runtime> {
 
 impl<R: Runtime> Model for FileDesk<R> {
     ghost use Rattle.gate_desk.specs.Untold.{Files};
-    ghost use Rattle.gate_desk.specs.Gathering.{got_in, waiting_in, ways_in, ahead_in};
+    ghost use Rattle.gate_desk.specs.Gathering.{got_in, waiting_in, ways_in, ahead_in, RefusedWaits};
 
     ghost Value = { Files };
 
     ghost view = { λ d. record { ways = ways_in d.places; ahead = ahead_in d.places; got = got_in R.File.contents d.places; waiting = waiting_in d.places; refused = d.refused; faults = d.faults; start_faults = d.start_faults } };
+
+    // Where the system refused octets of a slot, some wait there.
+    ghost invariant = { λ d. RefusedWaits d.refused (waiting_in d.places) };
 }
 
 fn nowhere<F: Read + Drop, A: Allocator>() -> PerSlot<Place<F, A>>
@@ -67,6 +68,7 @@ fn write_out_all<R: Runtime>(rt: &R, places: &mut PerSlot<Place<R::File, R::A>>)
     ensures ahead { ahead_in places.new ≡ ahead_in places.old }
     ensures none { OnOk result (waiting_in places.new ≡ each []) }
     ensures files { OnOk result (HandsOut (got_in R.File.contents places.old) (waiting_in places.old) (got_in R.File.contents places.new)) }
+    ensures stays { IfErr result (λ slot. StaysWaiting slot (waiting_in places.old) (waiting_in places.new)) }
 {
     write_out(rt, Slot::Settings, &mut places.settings)?;
     write_out(rt, Slot::LeftIn, &mut places.left_in)?;
@@ -94,6 +96,7 @@ fn hand_out<R: Runtime>(
     ensures none { OnOk result (refused.new ≡ None) }
     ensures err { OnErr result (IsSome refused.new) }
     ensures kept { IsSome refused.old → refused.new ≡ refused.old }
+    ensures stays { RefusedWaits refused.old (waiting_in places.old) → IfSome refused.new (λ slot. StaysWaiting slot (waiting_in places.old) (waiting_in places.new)) }
 {
     if refused.is_some() {
         return Err(Failed);
@@ -120,6 +123,7 @@ fn start_slot<R: Runtime>(
     ensures refused { IsSome refused.old → IsErr result }
     ensures ways { ways_in places.new ≡ ways_after result slot way (ways_in places.old) }
     ensures ahead { ahead_in places.new ≡ ahead_after result slot (ahead_in places.old) }
+    ensures still { RefusedWaits refused.old (waiting_in places.old) → RefusedWaits refused.new (waiting_in places.new) }
 {
     hand_out(rt, places, refused)?;
     match open_place(rt, slot, name, way) {
@@ -144,6 +148,7 @@ fn read_slot<R: Runtime>(
     ensures ways { ways_in places.new ≡ ways_in places.old }
     ensures ahead { IfOk result (λ n. 0 < length (at (ahead_in places.old) slot) → TakesAhead n buffer.new (at (ahead_in places.old) slot) (at (ahead_in places.new) slot)) }
     ensures others { ahead_in places.new ≡ put (ahead_in places.old) slot (at (ahead_in places.new) slot) }
+    ensures still { RefusedWaits refused.old (waiting_in places.old) → RefusedWaits refused.new (waiting_in places.new) }
 {
     if refused.is_some() {
         return Err(Failed);
@@ -172,6 +177,7 @@ fn write_slot<R: Runtime>(
     ensures waits { OnOk result (Waits slot (first.now ++ second.now) (waiting_in places.old) (waiting_in places.new)) }
     ensures takes { OnOk result (TakesPiece slot (first.now ++ second.now) (got_in R.File.contents places.old) (waiting_in places.old) (got_in R.File.contents places.new) (waiting_in places.new)) }
     ensures refused { IsSome refused.old → IsErr result }
+    ensures still { RefusedWaits refused.old (waiting_in places.old) → RefusedWaits refused.new (waiting_in places.new) }
 {
     if slot == Slot::Errors {
         return write_errors(rt, places, refused, first, second);
@@ -200,6 +206,7 @@ fn gather_alone<R: Runtime>(
     ensures ahead { ahead_in places.new ≡ ahead_in places.old }
     ensures waits { OnOk result (Waits slot (first.now ++ second.now) (waiting_in places.old) (waiting_in places.new)) }
     ensures takes { OnOk result (TakesPiece slot (first.now ++ second.now) (got_in R.File.contents places.old) (waiting_in places.old) (got_in R.File.contents places.new) (waiting_in places.new)) }
+    ensures still { RefusedWaits refused.old (waiting_in places.old) → RefusedWaits refused.new (waiting_in places.new) }
 {
     hand_out(rt, places, refused)?;
     match places.at_mut(slot).gather(first, second) {
@@ -221,6 +228,7 @@ fn write_errors<R: Runtime>(
     ensures ahead { ahead_in places.new ≡ ahead_in places.old }
     ensures takes { OnOk result (TakesPiece Slot.Errors (first.now ++ second.now) (got_in R.File.contents places.old) (waiting_in places.old) (got_in R.File.contents places.new) (waiting_in places.new)) }
     ensures refused { IsSome refused.old → IsErr result }
+    ensures still { RefusedWaits refused.old (waiting_in places.old) → RefusedWaits refused.new (waiting_in places.new) }
 {
     hand_out(rt, places, refused)?;
     print(rt, first)?;
@@ -254,19 +262,21 @@ impl<R: Runtime> FileDesk<R> {
             rt,
             places: nowhere(),
             refused: None,
-            faults: no_counts(),
-            start_faults: no_counts(),
+            faults: PerSlot::no_counts(),
+            start_faults: PerSlot::no_counts(),
         }
     }
 
     /// Writes out all that is gathered. The error is the slot of which the system refused octets that had been taken, now or
-    /// before; that counts as a failed write of it, what is left of all slots is dropped, and all are closed.
+    /// before, and of which some still wait; that counts as a failed write of it, what is left of all slots is dropped, and
+    /// all are closed.
     pub fn finish(&mut self) -> Result<(), Slot>
         ensures ok { OnOk result (HandsOutAll self.old self.new) }
         ensures none { OnOk result (self.old.refused ≡ None) }
         ensures err { IfErr result (λ slot. self.new ≡ all_dropped slot self.old) }
         ensures cause { IfErr result (λ slot. HasFailed slot (told_by self.old) (told_by self.new)) }
         ensures named { IfSome self.old.refused (λ slot. IsErrOf result slot) }
+        ensures waited { IfErr result (λ slot. 0 < length (at self.old.waiting slot)) }
     {
         let _ = hand_out(&self.rt, &mut self.places, &mut self.refused);
         match self.refused {
@@ -274,7 +284,7 @@ impl<R: Runtime> FileDesk<R> {
             Some(slot) => {
                 self.refused = None;
                 self.places = nowhere();
-                raise(&mut self.faults, slot);
+                self.faults.raise(slot);
                 Err(slot)
             }
         }
@@ -309,7 +319,7 @@ impl<R: Runtime> Desk for FileDesk<R> {
         match started {
             Ok(()) => Ok(()),
             Err(e) => {
-                raise(&mut self.start_faults, slot);
+                self.start_faults.raise(slot);
                 Err(e)
             }
         }
@@ -332,7 +342,7 @@ impl<R: Runtime> Desk for FileDesk<R> {
         match read_slot(&self.rt, &mut self.places, &mut self.refused, slot, buffer) {
             Ok(n) => Ok(n),
             Err(e) => {
-                raise(&mut self.faults, slot);
+                self.faults.raise(slot);
                 Err(e)
             }
         }
@@ -404,7 +414,7 @@ impl<R: Runtime> Desk for FileDesk<R> {
         match written {
             Ok(()) => Ok(()),
             Err(e) => {
-                raise(&mut self.faults, slot);
+                self.faults.raise(slot);
                 Err(e)
             }
         }

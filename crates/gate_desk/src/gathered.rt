@@ -1,5 +1,5 @@
 // Octets on their way to a file.
-ghost use Rattle.std.specs.Prelude.{◌≡◌, ◌+◌, ◌≤◌, ◌++◌, [], take, length, IfOk, OnOk, OnErr};
+ghost use Rattle.std.specs.Prelude.{◌≡◌, ◌+◌, ◌≤◌, ◌<◌, ◌++◌, [], take, length, IfOk, OnOk, OnErr};
 ghost use Rattle.std.specs.Io.KnownBytes.{Appends};
 ghost use Rattle.gate_desk.specs.Gathering.{gathered_after};
 
@@ -95,12 +95,16 @@ impl<A: Allocator> Gathered<A> {
         Gathering::Gathered
     }
 
-    /// Writes all of them to a file. After an error they stay, though the file may have got some.
+    /// Writes all of them to a file. It fails only where there are some; they stay then, though the file may have got some.
     pub fn write_out<W: Write>(&mut self, file: &mut W) -> Result<(), Failed>
         ensures written { OnOk result (Appends (W.contents file.old) (W.contents file.new) self.old) }
         ensures none { OnOk result (self.new ≡ []) }
         ensures err { OnErr result (self.new ≡ self.old) }
+        ensures some { OnErr result (0 < length self.old) }
     {
+        if self.count == 0 {
+            return Ok(());
+        }
         file.write_all(&self.octets[..self.count])
             .map_err(|_: io::Error| Failed)?;
         self.count = 0;

@@ -1,5 +1,5 @@
 // Where a slot of the desk over files leads.
-ghost use Rattle.std.specs.Prelude.{◌≡◌, ◌≤◌, ◌++◌, ℕ, List, Option, Some, [], length, drop, IfOk, IfSome, MatchOption, OnOk};
+ghost use Rattle.std.specs.Prelude.{◌≡◌, ◌<◌, ◌≤◌, ◌++◌, ℕ, List, Option, Some, [], length, drop, IfOk, IfErr, IfSome, MatchOption, OnOk, OnErr};
 ghost use Rattle.std.specs.Io.KnownBytes.{Appends};
 ghost use Rattle.gate_desk.specs.Gathering.{waiting, got, way_of, ahead, gathered_after, TakesAhead};
 
@@ -144,8 +144,8 @@ impl<'a, R: Runtime> Write for StandardOutput<'a, R> {
     }
 }
 
-/// Writes out all that is gathered for a slot's place. After an error, which names the slot, it stays, though the system may
-/// have got some of it.
+/// Writes out all that is gathered for a slot's place. An error names the slot, and comes only where something is gathered;
+/// it stays then, though the system may have got some of it.
 pub fn write_out<R: Runtime>(
     rt: &R,
     slot: Slot,
@@ -155,6 +155,8 @@ pub fn write_out<R: Runtime>(
     ensures way { way_of place.new ≡ way_of place.old }
     ensures ahead { ahead place.new ≡ ahead place.old }
     ensures written { OnOk result (Appends (got R.File.contents place.old) (got R.File.contents place.new) (waiting place.old)) }
+    ensures named { IfErr result (λ refused. refused ≡ slot) }
+    ensures refuses { OnErr result ((0 < length (waiting place.old)) × (waiting place.new ≡ waiting place.old)) }
 {
     match place {
         Place::Output(file, gathered) => gathered.write_out(file).map_err(|_: Failed| slot),

@@ -129,3 +129,34 @@ impl<T> PerSlot<T> {
         }
     }
 }
+
+impl PerSlot<u64> {
+    ghost use Rattle.gate_desk.specs.Slots.{each, put};
+    ghost use Rattle.gate_desk.specs.Counts.{raised};
+
+    /// No failure of any slot.
+    pub fn no_counts() -> PerSlot<u64>
+        ensures { result ≡ each 0 }
+    {
+        PerSlot {
+            settings: 0,
+            left_in: 0,
+            right_in: 0,
+            left_given: 0,
+            right_given: 0,
+            report_given: 0,
+            left_out: 0,
+            right_out: 0,
+            report: 0,
+            errors: 0,
+        }
+    }
+
+    /// One failure more of a slot. A count that can't go on stands still.
+    pub fn raise(&mut self, slot: Slot)
+        ensures { self.new ≡ put self.old slot (raised (at self.old slot)) }
+    {
+        let count = self.at_mut(slot);
+        *count = count.saturating_add(1);
+    }
+}

@@ -6,7 +6,7 @@ use Rattle.gate_desk.specs.declared.slot.PerSlot.{PerSlot}
 use Rattle.gate_desk.specs.Discarded.{told_by}
 use Rattle.gate_desk.specs.Outside.{Outside, Told, FailsToStart, HasFailed, HasFailedToStart}
 use Rattle.gate_desk.proofs.Laws.{at-each, grows_on, grows_fails_to_start, none_failed_on, failed_since}
-use Rattle.gate_desk.specs.Memory.{inputs}
+use Rattle.gate_desk.specs.Slots.{inputs}
 use Rattle.gate_report.specs.declared.line.Line.{Line}
 use Rattle.gate_workload.specs.declared.workload.Workload.{Workload}
 use Rattle.gate_workload.specs.Workloads.{workload}

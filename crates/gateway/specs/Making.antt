@@ -2,7 +2,7 @@
 use Rattle.std.specs.Prelude.{◌≡◌, ℕ, List, [], ◌∷◌, false}
 use Rattle.gate_desk.specs.declared.slot.PerSlot.{PerSlot}
 use Rattle.gate_desk.specs.declared.slot.Slot.TheVariants.{Report}
-use Rattle.gate_desk.specs.Memory.{inputs}
+use Rattle.gate_desk.specs.Slots.{inputs}
 use Rattle.gate_desk.specs.Outside.{Outside, Grows, NoneFailed, HasFailed, HasFailedToStart}
 use Rattle.gate_settings.specs.declared.settings.Settings.{Settings as GateSettings}
 use Rattle.gate_report.specs.declared.line.Line.{Line}

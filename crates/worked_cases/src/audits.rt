@@ -1,6 +1,7 @@
 // Audits of the files of worked cases, as they are or with one octet changed.
 use crate::case::{read_part, run_gate, words_of};
-use gate_desk::{MemoryDesk, Slot};
+use gate_desk::Slot;
+use memory_desks::MemoryDesk;
 use std::alloc::AllocError;
 use std::io;
 

@@ -1,7 +1,8 @@
 // A worked case: files that a run is given, and files that say what it must answer and write.
 use gate_command::realm_gate;
-use gate_desk::{CountedDesk, Desk, MemoryDesk, Slot};
+use gate_desk::{Desk, Slot};
 use gate_phases::Status;
+use memory_desks::{CountedDesk, MemoryDesk};
 use std::alloc::{AllocError, Global};
 use std::{fs, io};
 

@@ -1,7 +1,8 @@
 // Checks beside the worked cases.
 use crate::case::{run_failing, run_gate, words_of};
-use gate_desk::{Desk, MemoryDesk, Slot};
+use gate_desk::{Desk, Slot};
 use gate_phases::Status;
+use memory_desks::MemoryDesk;
 use std::alloc::{AllocError, Global};
 use std::io;
 

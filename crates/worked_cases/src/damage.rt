@@ -1,7 +1,8 @@
 // Captures that are cut off or damaged, each given on the left, on the right, and on both sides.
 use crate::case::{WORDS, desk_over, has_status, is_part, read_part, run_gate, words_of};
 use gate_base::{Addr, put_u32, read_number, read_quad};
-use gate_desk::{Desk, MemoryDesk, Slot};
+use gate_desk::{Desk, Slot};
+use memory_desks::MemoryDesk;
 use std::io;
 
 /// The case whose captures are heads alone, and whose outgoing captures are what stands written behind good heads.

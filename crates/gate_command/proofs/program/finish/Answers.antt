@@ -16,6 +16,7 @@ returns-in-Err g c =
     inr (record {
       slot = slot;
       first = first_refused slot c.args.desk.now.refused c.in-Err.ensures.named;
+      waited = c.in-Err.ensures.waited;
       cause = subst (λ (d : Files). HasFailed slot (told_by c.args.desk.now) (told_by d)) dropped c.in-Err.ensures.cause;
       code_is = c.code.ensures;
       line = subst (λ (d : Files). TellsLine (WriteFault slot) (told_by d) (told_by c.tell_refused.new.desk)) dropped c.tell_refused.ensures;

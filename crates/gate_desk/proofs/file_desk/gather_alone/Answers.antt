@@ -13,7 +13,7 @@ pub returns-in-Gathered-clause-ahead : goal.returns-in-Gathered-clause-ahead
 returns-in-Gathered-clause-ahead g c = mapped-same ahead c.hand_out.new.places c.args.slot c.gather.new.self (c.gather.ensures.ahead ∙ ap ahead c.at_mut.ensures.value) ∙ c.hand_out.ensures.ahead
 
 pub returns-in_default : goal.returns-in_default
-returns-in_default g c = record { ways = mapped-same way_of c.hand_out.new.places c.args.slot c.gather.new.self (c.gather.ensures.way ∙ ap way_of c.at_mut.ensures.value) ∙ c.hand_out.ensures.ways; ahead = mapped-same ahead c.hand_out.new.places c.args.slot c.gather.new.self (c.gather.ensures.ahead ∙ ap ahead c.at_mut.ensures.value) ∙ c.hand_out.ensures.ahead; waits = tt; takes = tt }
+returns-in_default g c = record { ways = mapped-same way_of c.hand_out.new.places c.args.slot c.gather.new.self (c.gather.ensures.way ∙ ap way_of c.at_mut.ensures.value) ∙ c.hand_out.ensures.ways; ahead = mapped-same ahead c.hand_out.new.places c.args.slot c.gather.new.self (c.gather.ensures.ahead ∙ ap ahead c.at_mut.ensures.value) ∙ c.hand_out.ensures.ahead; waits = tt; takes = tt; still = λ waits. rw c.in_ok-hand_out.ensures.none tt }
 
 pub returns-in-Gathered-clause-waits : goal.returns-in-Gathered-clause-waits
 returns-in-Gathered-clause-waits g c =

@@ -1,7 +1,7 @@
 use Rattle.std.proofs.Common.{◌≡◌, ℕ, ◌≤◌, List, [], length, ap, sym, ◌∙◌, arith}
 use Rattle.std.proofs.lemmas.Result.{IfOk-weaker}
 use Rattle.gate_desk.specs.declared.slot.PerSlot.{PerSlot}
-use Rattle.gate_desk.specs.Gathering.{ahead, ahead_in, way_of}
+use Rattle.gate_desk.specs.Gathering.{ahead, ahead_in, way_of, TakesAhead}
 use Rattle.gate_desk.specs.Slots.{at, put}
 use Rattle.gate_desk.proofs.Laws.{at-mapped, mapped-put, mapped-put_only, mapped-same, put-put}
 use Rattle.gate_desk.proofs.file_desk.read_slot.Goals as goal
@@ -18,7 +18,8 @@ returns-in_ok-hand_out-in-None-clause-ways g c =
 pub returns-in_ok-hand_out-in-None-clause-ahead : goal.returns-in_ok-hand_out-in-None-clause-ahead
 returns-in_ok-hand_out-in-None-clause-ahead g c =
     let none : at (ahead_in c.args.places.now) c.args.slot ≡ [] = at-mapped ahead c.args.places.now c.args.slot ∙ sym (ap ahead c.at_mut.ensures.value) ∙ c.in-None.ensures.ahead in
-    IfOk-weaker c.read.result (λ n. n ≤ length c.read.new.buffer) _ (λ n fits some. absurd (omega (arith, some, ap (λ (xs : List ℕ). length xs) none))) c.read.ensures.fits
+    let after = put c.hand_out.new.places c.args.slot c.read.new.self in
+    IfOk-weaker c.read.result (λ n. n ≤ length c.read.new.buffer) _ (λ n fits some. absurd {A = TakesAhead n c.read.new.buffer (at (ahead_in c.args.places.now) c.args.slot) (at (ahead_in after) c.args.slot)} (omega (arith, some, ap (λ (xs : List ℕ). length xs) none))) c.read.ensures.fits
 
 pub returns-in_ok-hand_out-in-None-clause-others : goal.returns-in_ok-hand_out-in-None-clause-others
 returns-in_ok-hand_out-in-None-clause-others g c =

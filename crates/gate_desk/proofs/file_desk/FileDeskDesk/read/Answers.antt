@@ -12,4 +12,4 @@ pub returns-in-Ok-clause-end : goal.returns-in-Ok-clause-end
 returns-in-Ok-clause-end g c = λ none some. untold_end c.args.slot c.args.self.now.faults c.args.self.now.start_faults
 
 pub returns-in-Err-clause-err : goal.returns-in-Err-clause-err
-returns-in-Err-clause-err g c = rw (← c.self.view_is) (untold_read_fails c.args.slot c.self.inside.faults c.raise.new.counts c.self.inside.start_faults c.raise.ensures)
+returns-in-Err-clause-err g c = rw (← c.self.view_is) (untold_read_fails c.args.slot c.self.inside.faults c.raise.new.self c.self.inside.start_faults c.raise.ensures)

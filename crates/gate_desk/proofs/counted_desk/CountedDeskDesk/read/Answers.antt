@@ -1,8 +1,0 @@
-use Rattle.std.proofs.Common.{ap, ◌∙◌}
-use Rattle.gate_desk.specs.Counted.{Counted}
-use Rattle.gate_desk.proofs.MemoryLaws.{listed_read}
-use Rattle.gate_desk.proofs.counted_desk.CountedDeskDesk.read.Goals as goal
-
-pub returns-then-next_call-clause-err : goal.returns-then-next_call-clause-err
-returns-then-next_call-clause-err c =
-    listed_read c.args.slot c.args.self.now.inner c.self.inside.inner c.fail_call.new.self (ap (λ (d : Counted). d.inner) c.self.view_is ∙ ap (λ (d : Counted). d.inner) c.next_call.ensures.after) c.fail_call.ensures

@@ -1,9 +1,0 @@
-use Rattle.gate_desk.proofs.MemoryLaws.{memory_fails_to_start, memory_starts}
-use Rattle.gate_desk.specs.contracts.memory_desk.MemoryDesk.{the_view}
-use Rattle.gate_desk.proofs.memory_desk.MemoryDeskDesk.start.Goals as goal
-
-pub returns-then-name-gt-NAMES_LIMIT-clause-err : goal.returns-then-name-gt-NAMES_LIMIT-clause-err
-returns-then-name-gt-NAMES_LIMIT-clause-err c = rw (← c.self.view_is) (memory_fails_to_start c.args.slot (the_view c.self.inside) c.raise.new.counts c.raise.ensures)
-
-pub returns-clause-ok : goal.returns-clause-ok
-returns-clause-ok c = rw (← c.self.view_is) (memory_starts c.args.slot c.args.name.now c.args.way (the_view c.self.inside) c.push.new.self (rw c.as_bytes.ensures.value at c.push.ensures))
