@@ -8,3 +8,4 @@ mod FoundEvents
 mod FoundLast
 mod BegunCaptures
 pub mod LeftCounts
+pub mod IncomingEnds

@@ -1,11 +1,11 @@
 // All events of both captures.
-ghost use Rattle.std.specs.Prelude.{◌≡◌, ◌≤◌, ◌^◌, None};
+ghost use Rattle.std.specs.Prelude.{◌≡◌, ◌≤◌, ◌^◌, None, OnOk};
 ghost use Rattle.frag_join.specs.Arrivals.{opened};
-ghost use Rattle.gate_desk.specs.Outside.{CanRead, Grows};
+ghost use Rattle.gate_desk.specs.Outside.{CanRead, Grows, IsAtEnd};
 ghost use Rattle.gate_desk.specs.declared.slot.Slot.TheVariants.{LeftIn, RightIn, LeftGiven, RightGiven, ReportGiven};
 ghost use Rattle.gate_audit.specs.Auditing.{IsOpening};
 ghost use Rattle.gate_report.specs.Counts.{nothing_counted};
-ghost use Rattle.pcap_merge.specs.Merge.{work};
+ghost use Rattle.pcap_merge.specs.Merge.{work, AtEnds};
 ghost use Rattle.file_audit.specs.Events.{Finds};
 ghost use Rattle.file_audit.specs.Given.{Fits, IsRunning};
 ghost use Rattle.file_audit.specs.Stops.{LeavesCounts};
@@ -40,11 +40,14 @@ pub fn audit_events<D: Desk>(
     requires report_given { CanRead (D.outside desk.old) ReportGiven }
     requires stop { merge.old.stop ≡ None }
     requires work { work merge.old ≤ 2 ^ 41 }
+    requires ends { AtEnds merge.old (D.outside desk.old) }
     requires joiner { joiner.old ≡ opened auditor.old.settings.join }
     requires opening { IsOpening auditor.old.settings auditor.old }
     requires running { IsRunning given.old }
     requires fits { Fits nothing_counted given.old }
     ensures answer { Finds result auditor.old.settings merge.old given.old (D.outside desk.old) (D.outside desk.new) }
+    ensures left_end { OnOk result (IsAtEnd (D.outside desk.new) LeftIn) }
+    ensures right_end { OnOk result (IsAtEnd (D.outside desk.new) RightIn) }
     ensures starts { (D.outside desk.new).starts ≡ (D.outside desk.old).starts }
     ensures written { (D.outside desk.new).written ≡ (D.outside desk.old).written }
     ensures counts { Grows (D.outside desk.old) (D.outside desk.new) }

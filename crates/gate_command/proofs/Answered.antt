@@ -12,8 +12,8 @@ use Rattle.gateway.proofs.Promises.{promise_kept}
 use Rattle.gateway.proofs.Runs.{run_of, untold}
 
 -- a run that is done keeps the promise
-pub done_run : (line : Line) (names : Names) (a b : Outside) → Runs (Ok line) names a b → IsDoneRun names a b
-done_run line names a b h = record { run = h.0; promise = promise_kept Done names a b h.0 }
+pub done_run : (line : Line) (names : Names) (a b : Outside) → Runs (Ok line) names a b → TookForWritten a b → IsDoneRun names a b
+done_run line names a b h took = record { run = h.0; promise = promise_kept Done names a b h.0; taken = took }
 
 told_run : (e answer : Status) (names : Names) (a b c : Outside) → Runs (Err e) names a b → TookForWritten a b → Tells e answer b c → IsToldRun answer names a c
 told_run e answer names a b c h took t =

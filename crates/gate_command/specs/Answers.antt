@@ -16,6 +16,7 @@ use Rattle.gate_phases.specs.Command as commands
 pub record IsDoneRun (names : Names) (old new : Outside) : Type 0 where
   pub run : IsRun Done names old new
   pub promise : IsPromised Done old new
+  pub taken : TookForWritten old new
 
 -- a run that isn't done, and then the line of its status
 pub record IsToldRun (status : Status) (names : Names) (old new : Outside) : Type 0 where

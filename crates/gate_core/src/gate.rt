@@ -81,8 +81,8 @@ impl Gate {
     /// Takes an event, whose moment isn't before that of an earlier one: its frame passes, or is refused for the first reason
     /// that holds, and its datagrams are put into the outbox. A refused one moves the clock, by which bindings and connections
     /// may end, and changes nothing else; nor does one for which memory runs out. That happens only at a datagram of DNS that is
-    /// refused neither by itself nor for its addresses, and at a segment that isn't refused: the first of a session, or one that
-    /// completes a line that bears an address.
+    /// refused neither by itself nor for its addresses, at a segment that isn't refused, the first of a session or one that
+    /// completes a line that bears an address, and at one that completes a unit of a session of DNS, which doesn't refuse it.
     pub fn step(&mut self, event: &Event<'_>, outbox: &mut Outbox) -> Result<Verdict, OutOfMemory>
         requires moment { event.now.moment.0 < 2 ^ 32 * 1000000000 }
         ensures verdict { IfOk result (λ v. v ≡ verdict kept_rules self.old.world (event_of event.now)) }

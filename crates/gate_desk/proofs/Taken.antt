@@ -1,14 +1,15 @@
 -- What the files of slots got, and what waits for them.
-use Rattle.std.proofs.Common.{◌≡◌, ℕ, List, [], ◌++◌, Option, Some, None, Result, OnOk, if◌then◌else◌, sym, ap, subst, ◌∙◌, append_assoc, append-nil}
+use Rattle.std.proofs.Common.{◌≡◌, ℕ, List, [], ◌++◌, Option, Some, None, Result, OnOk, false, cond, if◌then◌else◌, sym, ap, subst, ◌∙◌, append_assoc, append-nil}
 use Rattle.std.specs.Io.KnownBytes.{Appends, append_known}
 use Rattle.gate_desk.specs.declared.gathered.Gathering.{Gathering}
 use Rattle.gate_desk.specs.declared.gathered.Gathering.TheVariants.{Gathered, NoRoom}
 use Rattle.gate_desk.specs.declared.slot.Slot.{Slot}
 use Rattle.gate_desk.specs.declared.slot.Slot.TheVariants.{Errors}
 use Rattle.gate_desk.specs.declared.slot.PerSlot.{PerSlot}
-use Rattle.gate_desk.specs.Slots.{at, put, same_slot, each}
-use Rattle.gate_desk.specs.Gathering.{HandsOut, TakesPiece, gathered_after, taken_at}
-use Rattle.gate_desk.proofs.Laws.{at-each, at-put_append, put-at}
+use Rattle.gate_desk.specs.declared.place.Place.{Place}
+use Rattle.gate_desk.specs.Slots.{at, put, mapped, same_slot, each}
+use Rattle.gate_desk.specs.Gathering.{HandsOut, TakesNothing, TakesNothingElse, TakesPiece, gathered_after, got, got_in, taken_at, waiting, waiting_in}
+use Rattle.gate_desk.proofs.Laws.{at-each, at-mapped, at-put_any, at-put_append, put-at}
 
 appends_none : (g : Option (List ℕ)) → Appends g g []
 appends_none None = tt
@@ -63,3 +64,26 @@ taken_later result slot piece got mid got' waiting middle waiting' r same e is h
 pub taken_for_none : (piece : List ℕ) (got got' : PerSlot (Option (List ℕ))) (waiting waiting' : PerSlot (List ℕ)) → HandsOut got waiting got' → waiting' ≡ each [] → TakesPiece Errors piece got waiting got' waiting'
 taken_for_none piece got got' waiting waiting' h none Errors file = absurd file
 taken_for_none piece got got' waiting waiting' h none s file = handed_all got got' waiting waiting' h none s
+
+-- neither changed
+pub nothing_taken : (got got' : PerSlot (Option (List ℕ))) (waiting waiting' : PerSlot (List ℕ)) → got' ≡ got → waiting' ≡ waiting → TakesNothing got waiting got' waiting'
+nothing_taken got got' waiting waiting' e f = λ s.
+    subst (λ (g : PerSlot (Option (List ℕ))). Appends (taken_at got waiting s) (taken_at g waiting' s) []) (sym e)
+    (subst (λ (w : PerSlot (List ℕ)). Appends (taken_at got waiting s) (taken_at got w s) []) (sym f) (appends_none (taken_at got waiting s)))
+
+-- all that waited was got, and then neither changed
+pub nothing_behind : (got mid got' : PerSlot (Option (List ℕ))) (waiting none waiting' : PerSlot (List ℕ)) → HandsOut got waiting mid → none ≡ each [] → got' ≡ mid → waiting' ≡ none → TakesNothing got waiting got' waiting'
+nothing_behind got mid got' waiting none waiting' h e same w = λ s.
+    appends_on (taken_at got waiting s) (taken_at mid none s) (taken_at got' waiting' s) [] (handed_all got mid waiting none h e s) (nothing_taken mid got' none waiting' same w s)
+
+-- the value of another slot stayed
+stayed : {A B : Type 0} (f : A → B) (p : PerSlot A) (slot s : Slot) (x : A) → same_slot slot s ≡ false → at (mapped f (put p slot x)) s ≡ at (mapped f p) s
+stayed f p slot s x other = at-mapped f (put p slot x) s ∙ ap f (at-put_any p slot s x ∙ ap (λ r. cond r x (at p s)) other) ∙ sym (at-mapped f p s)
+
+-- all that waited was got, and then another place stood at a slot
+pub nothing_else : {F A : Type 0} (contents : F → Option (List ℕ)) (slot : Slot) (places mid : PerSlot (Place F A)) (place : Place F A) → HandsOut (got_in contents places) (waiting_in places) (got_in contents mid) → waiting_in mid ≡ each []
+    → TakesNothingElse slot (got_in contents places) (waiting_in places) (got_in contents (put mid slot place)) (waiting_in (put mid slot place))
+nothing_else contents slot places mid place h none = λ s other.
+    let before = handed_all (got_in contents places) (got_in contents mid) (waiting_in places) (waiting_in mid) h none s in
+    subst (λ (g : Option (List ℕ)). Appends (taken_at (got_in contents places) (waiting_in places) s) (append_known g (at (waiting_in (put mid slot place)) s)) []) (sym (stayed (got contents) mid slot s place other))
+    (subst (λ (w : List ℕ). Appends (taken_at (got_in contents places) (waiting_in places) s) (append_known (at (got_in contents mid) s) w) []) (sym (stayed waiting mid slot s place other)) before)

@@ -1,7 +1,7 @@
 -- What is gathered for the slots of a desk over files, before it is written out.
 use Rattle.std.specs.Io.KnownBytes.{Appends, append_known}
 use Rattle.std.specs.Io.Buffered.{reader_buffer}
-use Rattle.std.specs.Prelude.{◌≡◌, ◌<◌, ◌⊎◌, ℕ, List, [], ◌++◌, Option, Some, None, IfSome, Result, Ok, Err, if◌then◌else◌, take, drop, length}
+use Rattle.std.specs.Prelude.{◌≡◌, ◌<◌, ◌⊎◌, ℕ, List, [], ◌++◌, Option, Some, None, IfSome, Result, Ok, Err, false, if◌then◌else◌, min, take, drop, length}
 use Rattle.gate_desk.specs.declared.gathered.Gathering.{Gathering}
 use Rattle.gate_desk.specs.declared.gathered.Gathering.TheVariants.{Gathered, NoRoom, Refused}
 use Rattle.gate_desk.specs.declared.place.Place.{Place}
@@ -51,9 +51,9 @@ ahead _ = []
 abbrev pub ahead_in : {F A : Type 0} → PerSlot (Place F A) → PerSlot (List ℕ)
 ahead_in p = mapped ahead p
 
--- so many of the octets that were read ahead stand in the buffer, and are gone
+-- so many of the octets that were read ahead stand in the buffer, and are gone: as many as there is room for, or all
 abbrev pub TakesAhead : ℕ → List ℕ → List ℕ → List ℕ → Type 0
-TakesAhead n buffer old new = (take n buffer ≡ take n old) × (new ≡ drop n old)
+TakesAhead n buffer old new = (n ≡ min (length old) (length buffer)) × (take n buffer ≡ take n old) × (new ≡ drop n old)
 
 -- nothing stands ahead of a slot that was started, and all else stays
 abbrev pub ahead_after : {T E : Type 0} → Result T E → Slot → PerSlot (List ℕ) → PerSlot (List ℕ)
@@ -101,3 +101,11 @@ IsFile s = Unit {0}
 -- of each such slot, what its file got and what waits for it grew by the piece, where it is the piece's own, and stayed else
 abbrev pub TakesPiece : Slot → List ℕ → PerSlot (Option (List ℕ)) → PerSlot (List ℕ) → PerSlot (Option (List ℕ)) → PerSlot (List ℕ) → Type 0
 TakesPiece slot piece got waiting got' waiting' = (s : Slot) → IsFile s → Appends (taken_at got waiting s) (taken_at got' waiting' s) (if same_slot slot s then piece else [])
+
+-- of no slot did what its file got and what waits for it change together
+abbrev pub TakesNothing : PerSlot (Option (List ℕ)) → PerSlot (List ℕ) → PerSlot (Option (List ℕ)) → PerSlot (List ℕ) → Type 0
+TakesNothing got waiting got' waiting' = (s : Slot) → Appends (taken_at got waiting s) (taken_at got' waiting' s) []
+
+-- nor of any but this one
+abbrev pub TakesNothingElse : Slot → PerSlot (Option (List ℕ)) → PerSlot (List ℕ) → PerSlot (Option (List ℕ)) → PerSlot (List ℕ) → Type 0
+TakesNothingElse slot got waiting got' waiting' = (s : Slot) → same_slot slot s ≡ false → Appends (taken_at got waiting s) (taken_at got' waiting' s) []

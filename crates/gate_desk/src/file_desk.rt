@@ -1,7 +1,7 @@
 // A desk over real files: the trusted edge of the program.
 ghost use Rattle.std.specs.Prelude.{◌≡◌, ◌<◌, ◌≤◌, ◌++◌, ℕ, List, Option, [], None, length, take, drop, IfOk, IfErr, IfSome, IsSome, IsErr, IsErrOf, OnOk, OnErr};
 ghost use Rattle.gate_desk.specs.Counts.{counts_after, raised};
-ghost use Rattle.gate_desk.specs.Gathering.{waiting_in, got_in, way_of, ways_in, ahead_in, ahead_after, ways_after, gathered_after, HandsOut, RefusedWaits, StaysWaiting, TakesAhead, TakesPiece, Waits};
+ghost use Rattle.gate_desk.specs.Gathering.{waiting_in, got_in, way_of, ways_in, ahead_in, ahead_after, ways_after, gathered_after, HandsOut, RefusedWaits, StaysWaiting, TakesAhead, TakesNothing, TakesNothingElse, TakesPiece, Waits};
 ghost use Rattle.gate_desk.specs.Slots.{at, put, each};
 
 use crate::gathered::Gathering;
@@ -122,6 +122,7 @@ fn start_slot<R: Runtime>(
 ) -> Result<(), Failed>
     ensures refused { IsSome refused.old → IsErr result }
     ensures ways { ways_in places.new ≡ ways_after result slot way (ways_in places.old) }
+    ensures takes { OnOk result (TakesNothingElse slot (got_in R.File.contents places.old) (waiting_in places.old) (got_in R.File.contents places.new) (waiting_in places.new)) }
     ensures ahead { ahead_in places.new ≡ ahead_after result slot (ahead_in places.old) }
     ensures still { RefusedWaits refused.old (waiting_in places.old) → RefusedWaits refused.new (waiting_in places.new) }
 {
@@ -148,6 +149,7 @@ fn read_slot<R: Runtime>(
     ensures ways { ways_in places.new ≡ ways_in places.old }
     ensures ahead { IfOk result (λ n. 0 < length (at (ahead_in places.old) slot) → TakesAhead n buffer.new (at (ahead_in places.old) slot) (at (ahead_in places.new) slot)) }
     ensures others { ahead_in places.new ≡ put (ahead_in places.old) slot (at (ahead_in places.new) slot) }
+    ensures takes { OnOk result (TakesNothing (got_in R.File.contents places.old) (waiting_in places.old) (got_in R.File.contents places.new) (waiting_in places.new)) }
     ensures still { RefusedWaits refused.old (waiting_in places.old) → RefusedWaits refused.new (waiting_in places.new) }
 {
     if refused.is_some() {
@@ -306,6 +308,7 @@ impl<R: Runtime> Desk for FileDesk<R> {
         ensures counts { self.new.start_faults ≡ counts_after result slot self.old.start_faults }
         ensures ways { self.new.ways ≡ ways_after result slot way self.old.ways }
         ensures ahead { self.new.ahead ≡ ahead_after result slot self.old.ahead }
+        ensures takes { OnOk result (TakesNothingElse slot self.old.got self.old.waiting self.new.got self.new.waiting) }
         ensures refused { IsSome self.old.refused → IsErr result }
     {
         let started = start_slot(
@@ -337,6 +340,7 @@ impl<R: Runtime> Desk for FileDesk<R> {
         ensures ways { self.new.ways ≡ self.old.ways }
         ensures ahead { IfOk result (λ n. 0 < length (at self.old.ahead slot) → TakesAhead n buffer.new (at self.old.ahead slot) (at self.new.ahead slot)) }
         ensures others { self.new.ahead ≡ put self.old.ahead slot (at self.new.ahead slot) }
+        ensures takes { OnOk result (TakesNothing self.old.got self.old.waiting self.new.got self.new.waiting) }
         ensures refused { IsSome self.old.refused → IsErr result }
     {
         match read_slot(&self.rt, &mut self.places, &mut self.refused, slot, buffer) {

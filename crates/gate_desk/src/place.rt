@@ -57,6 +57,7 @@ impl<F: Read + Drop, A: Allocator> Place<F, A> {
         ensures fits { IfSome result (λ n. n ≤ length buffer.new) }
         ensures ahead { MatchOption result (ahead self.old ≡ []) (λ n. TakesAhead n buffer.new (ahead self.old) (ahead self.new)) }
         ensures waiting { waiting self.new ≡ waiting self.old }
+        ensures got { (contents : F → Option (List ℕ)) → got contents self.new ≡ got contents self.old }
         ensures way { way_of self.new ≡ way_of self.old }
     {
         match self {
@@ -104,6 +105,7 @@ impl<F: Read + Drop, A: Allocator> Place<F, A> {
     pub fn read(&mut self, buffer: &mut [u8]) -> Result<usize, Failed>
         ensures fits { IfOk result (λ n. n ≤ length buffer.new) }
         ensures waiting { waiting self.new ≡ waiting self.old }
+        ensures got { (contents : F → Option (List ℕ)) → got contents self.new ≡ got contents self.old }
         ensures way { way_of self.new ≡ way_of self.old }
     {
         match self {

@@ -1,6 +1,7 @@
 pub mod Status
 pub mod Stops
 pub mod Causes
+pub mod Decided
 pub mod Beginning
 pub mod Telling
 pub mod RunNames

@@ -1,5 +1,5 @@
--- What a run took of the captures where it ended early.
-use Rattle.std.proofs.Common.{◌≡◌, inl, inr, List, [], Result, Ok, Err, Option, Some, None, IfSome, OnErr, option_map, refl, sym, ap, subst, ◌∙◌}
+-- What a run took of the captures.
+use Rattle.std.proofs.Common.{◌≡◌, inl, inr, List, [], ◌∷◌, Bool, Result, Ok, Err, Option, Some, None, IfSome, option_map, refl, sym, ap, subst, ◌∙◌}
 use Rattle.gate_base.specs.Events.{Event}
 use Rattle.frag_join.specs.Arrivals.{Arrival}
 use Rattle.gate_desk.specs.Outside.{Outside, Told, Start, told_at}
@@ -20,10 +20,10 @@ use Rattle.gate_phases.specs.declared.status.Status.TheVariants.{Done, Usage, Se
 use Rattle.gateway.specs.Answers.{TookForWritten}
 use Rattle.gateway.specs.Causes.{WritesPieces}
 use Rattle.gate_phases.specs.RunNames.{Names, first_starts, output_starts}
-use Rattle.gateway.specs.Machine.{State, heads}
+use Rattle.gateway.specs.Machine.{State, heads, line_piece}
 use Rattle.gateway.specs.Ends.{StandWritten}
 use Rattle.gateway.specs.Phases.{Prepared, Readied, TookFew, WritesLastLine, Handles, OfEvents}
-use Rattle.gateway.specs.Pieces.{Piece, WritesFront, IsFront, wrote_pieces}
+use Rattle.gateway.specs.Pieces.{Piece, IsFront, wrote_pieces}
 use Rattle.gate_phases.proofs.Beginning.{if_some}
 use Rattle.gateway.proofs.Pieces.{is_front_all, wrote_pieces-nil}
 use Rattle.gateway.proofs.Progress.{Progress, Joiner, with_front, given_first, given_kept, failed_only}
@@ -61,27 +61,28 @@ took_stop stop settings m0 m old now new s joiner h k =
       stand = stands settings m0 m old now s joiner [] new h (is_front_all [] now.written new.written (stopped.1 ∙ sym (wrote_pieces-nil now.written)));
     }
 
--- the last line was not written
-pub took_end : (r : Result Line Status) (settings : GateSettings) (m0 m m' : Merging) (old now mid new : Outside) (s : State KeptSession) (joiner : Joiner) (line : Line) → Progress settings m0 old now m s joiner → FinishesMerge m m' now mid → WritesLastLine r settings.json line mid new → OnErr r (TookFew settings m0 old new)
-took_end (Ok done) settings m0 m m' old now mid new s joiner line h k f = tt
-took_end (Err e) settings m0 m m' old now mid new s joiner line h k f =
-    let front = line_front e f in
+-- of the last line a front was written, or all of it
+line_front : (r : Result Line Status) (json : Bool) (line : Line) (mid new : Outside) → WritesLastLine r json line mid new → (new.left ≡ mid.left) × IsFront (line_piece json line ∷ []) mid.written new.written
+line_front (Ok done) json line mid new f = (f.1.only.left, is_front_all (line_piece json line ∷ []) mid.written new.written f.1.written)
+line_front (Err OutOfMemory) json line mid new f = (f.1.only.left, f.1.front)
+line_front (Err Done) json line mid new f = (f.1.only.left, f.1.front)
+line_front (Err Usage) json line mid new f = (f.1.only.left, f.1.front)
+line_front (Err (SettingsRefused x)) json line mid new f = (f.1.only.left, f.1.front)
+line_front (Err (CaptureRefused x y z)) json line mid new f = (f.1.only.left, f.1.front)
+line_front (Err (ReadFault x)) json line mid new f = (f.1.only.left, f.1.front)
+line_front (Err (WriteFault x)) json line mid new f = (f.1.only.left, f.1.front)
+line_front (Err (OpenFault x)) json line mid new f = (f.1.only.left, f.1.front)
+line_front (Err (Unlawful x y)) json line mid new f = (f.1.only.left, f.1.front)
+
+-- all events were handled, and the last line was written or not
+pub took_end : (r : Result Line Status) (settings : GateSettings) (m0 m m' : Merging) (old now mid new : Outside) (s : State KeptSession) (joiner : Joiner) (line : Line) → Progress settings m0 old now m s joiner → FinishesMerge m m' now mid → WritesLastLine r settings.json line mid new → TookFew settings m0 old new
+took_end r settings m0 m m' old now mid new s joiner line h k f =
+    let front = line_front r settings.json line mid new f in
     record {
       handled = h.done;
-      few = λ start given. taken_later start mid new h.done (λ side. ap (λ (t : Told). told_at t (slot_of side)) front.1.only.left) (k.few start h.done (h.given start given));
-      stand = stands settings m0 m old now s joiner front.0 new h (subst (λ (t : Told). IsFront front.0 t new.written) k.reads.written front.1.front);
+      few = λ start given. taken_later start mid new h.done (λ side. ap (λ (t : Told). told_at t (slot_of side)) front.0) (k.few start h.done (h.given start given));
+      stand = stands settings m0 m old now s joiner (line_piece settings.json line ∷ []) new h (subst (λ (t : Told). IsFront (line_piece settings.json line ∷ []) t new.written) k.reads.written front.1);
     }
-  where
-    line_front : (e : Status) → WritesLastLine (Err e) settings.json line mid new → (behind : List Piece) × WritesFront behind mid new
-    line_front OutOfMemory f = (_, f.1)
-    line_front Done f = (_, f.1)
-    line_front Usage f = (_, f.1)
-    line_front (SettingsRefused x) f = (_, f.1)
-    line_front (CaptureRefused x y z) f = (_, f.1)
-    line_front (ReadFault x) f = (_, f.1)
-    line_front (WriteFault x) f = (_, f.1)
-    line_front (OpenFault x) f = (_, f.1)
-    line_front (Unlawful x y) f = (_, f.1)
 
 event_front : (e : Status) (gate gate' : Gateway) (totals : Totals) (event : Arrival) (mid new : Outside) → Handles (Err e) gate gate' totals event mid new → (behind : List Piece) × IsFront behind mid.written new.written
 event_front OutOfMemory gate gate' totals event mid new k = elim k as (λ x. (behind : List Piece) × IsFront behind mid.written new.written) [
@@ -109,14 +110,10 @@ took_unwritten a b few = record { handled = []; few = few; stand = inl refl }
 pub took_prepared : (gate : Gateway) (m : Merging) (xs : List Start) (a b c : Outside) → Prepared gate m xs a b → c.left ≡ b.left → TookForWritten a c
 took_prepared gate m xs a b c h e = took_unwritten a c (taken_later a b c [] (λ side. ap (λ (t : Told). told_at t (slot_of side)) e) (given_few a m b [] h.given))
 
-took_events : (gate : Gateway) (m : Merging) (names : Names) (a b c d : Outside) → Prepared gate m (first_starts names) a b → Readied gate.settings (output_starts names) b c → TookFew gate.settings m c d → TookForWritten a d
+pub took_events : (gate : Gateway) (m : Merging) (names : Names) (a b c d : Outside) → Prepared gate m (first_starts names) a b → Readied gate.settings (output_starts names) b c → TookFew gate.settings m c d → TookForWritten a d
 took_events gate m names a b c d h k f = record {
   handled = f.handled;
   few = f.few a (given_kept a m b c [] k.left h.given);
   stand = inr (of_events gate m names a b c (λ s all. StandWritten s f.handled all.events (wrote_pieces (heads s) a.written) d.written) h k.left
       (if_some (ahead m c.left) _ _ f.stand (λ all p. subst (λ (t : Told). StandWritten gate.settings f.handled all.events t d.written) (heads_written gate m names a b c h k) p)));
 }
-
-pub took_forwards : (r : Result Line Status) (gate : Gateway) (m : Merging) (names : Names) (a b c d : Outside) → Prepared gate m (first_starts names) a b → Readied gate.settings (output_starts names) b c → OnErr r (TookFew gate.settings m c d) → OnErr r (TookForWritten a d)
-took_forwards (Ok line) gate m names a b c d h k f = tt
-took_forwards (Err e) gate m names a b c d h k f = took_events gate m names a b c d h k f

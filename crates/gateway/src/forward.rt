@@ -1,5 +1,5 @@
 // The events of a run.
-ghost use Rattle.std.specs.Prelude.{◌≡◌, ◌≤◌, ◌^◌, None, length, OnErr};
+ghost use Rattle.std.specs.Prelude.{◌≡◌, ◌≤◌, ◌^◌, None, length};
 ghost use Rattle.gate_desk.specs.declared.slot.Slot.TheVariants.{LeftIn, RightIn, LeftOut, RightOut, Report};
 ghost use Rattle.gate_desk.specs.Outside.{CanRead, CanWrite, Grows};
 ghost use Rattle.pcap_merge.specs.Merge.{work, AtEnds};
@@ -55,7 +55,7 @@ pub fn forward<D: Desk>(
     requires joiner { joiner.old ≡ opened gate.old.settings.join }
     requires world { gate.old.world ≡ opening_world gate.old.settings }
     ensures answer { Forwards result gate.old.settings merge.old (D.outside desk.old) (D.outside desk.new) }
-    ensures taken { OnErr result (TookFew gate.old.settings merge.old (D.outside desk.old) (D.outside desk.new)) }
+    ensures taken { TookFew gate.old.settings merge.old (D.outside desk.old) (D.outside desk.new) }
     ensures starts { (D.outside desk.new).starts ≡ (D.outside desk.old).starts }
     ensures counts { Grows (D.outside desk.old) (D.outside desk.new) }
 {

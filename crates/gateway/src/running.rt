@@ -1,5 +1,4 @@
 // A run over files.
-ghost use Rattle.std.specs.Prelude.{OnErr};
 ghost use Rattle.gate_desk.specs.Outside.{Outside};
 ghost use Rattle.gate_phases.specs.RunNames.{names_of, first_starts};
 ghost use Rattle.gateway.specs.Phases.{Prepared, IsPrepared};
@@ -19,7 +18,7 @@ use std::alloc::Global;
 /// A run over these files. It answers the last line of its report.
 pub fn run<D: Desk>(alloc: Global, desk: &mut D, names: FileNames<'_>) -> Result<Line, Status>
     ensures answer { Runs result (names_of names.entry) (D.outside desk.old) (D.outside desk.new) }
-    ensures taken { OnErr result (TookForWritten (D.outside desk.old) (D.outside desk.new)) }
+    ensures taken { TookForWritten (D.outside desk.old) (D.outside desk.new) }
 {
     let (mut merge, mut gate) = prepare(alloc, desk, names)?;
     run_prepared(alloc, desk, names, &mut merge, &mut gate)
@@ -35,7 +34,7 @@ fn run_prepared<D: Desk>(
 ) -> Result<Line, Status>
     requires { IsPrepared gate.old merge.old (names_of names) (D.outside desk.old) }
     ensures answer { (since : Outside) → Prepared gate.old merge.old (first_starts (names_of names.entry)) since (D.outside desk.old) → Runs result (names_of names.entry) since (D.outside desk.new) }
-    ensures taken { (since : Outside) → Prepared gate.old merge.old (first_starts (names_of names.entry)) since (D.outside desk.old) → OnErr result (TookForWritten since (D.outside desk.new)) }
+    ensures taken { (since : Outside) → Prepared gate.old merge.old (first_starts (names_of names.entry)) since (D.outside desk.old) → TookForWritten since (D.outside desk.new) }
 {
     let mut outbox = Outbox::make(alloc)?;
     let mut joiner = open_joiner(alloc, gate.settings().join)?;

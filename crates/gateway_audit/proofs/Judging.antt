@@ -1,12 +1,12 @@
 -- A whole audit, by its parts.
-use Rattle.std.proofs.Common.{◌≡◌, ℕ, List, true, Option, Some, None, Result, Ok, Err, IfSome, option_map, take, length, inl, inr, refl, sym, ap, subst, ◌∙◌}
+use Rattle.std.proofs.Common.{◌≡◌, ℕ, List, true, Option, Some, None, Result, Ok, Err, IfSome, OnOk, option_map, take, length, inl, inr, refl, sym, ap, subst, ◌∙◌}
 use Rattle.gate_base.specs.declared.side.Side.{Side}
 use Rattle.gate_base.specs.declared.side.Side.TheVariants.{Left, Right}
 use Rattle.gate_desk.specs.declared.slot.Slot.{Slot}
 use Rattle.gate_desk.specs.declared.slot.Slot.TheVariants.{Settings, LeftIn, RightIn, LeftGiven, RightGiven, ReportGiven, Report}
 use Rattle.gate_desk.specs.declared.slot.PerSlot.{PerSlot}
 use Rattle.gate_desk.specs.declared.slot.Way.TheVariants.{Read}
-use Rattle.gate_desk.specs.Outside.{Outside, Told, Grows, NoneFailed, HasFailed, Writes, WritesPart, took, wrote}
+use Rattle.gate_desk.specs.Outside.{Outside, Told, Grows, NoneFailed, IsAtEnd, HasFailed, Writes, WritesPart, took, told_at, wrote}
 use Rattle.gate_desk.proofs.Laws.{grows_on, none_failed_on, grows_writes, failed_since, failed_to_start_since}
 use Rattle.gate_settings.specs.declared.settings.Settings.{Settings as GateSettings}
 use Rattle.frag_join.specs.Arrivals.{arrivals_of}
@@ -21,6 +21,7 @@ use Rattle.file_audit.specs.declared.stop.AuditStop.TheVariants as stops
 use Rattle.file_audit.specs.Events.{Finds, IsReadInAudit}
 use Rattle.file_audit.specs.Stops.{LeavesCounts}
 use Rattle.file_audit.specs.Given.{IfBoth, given_slot, given_told}
+use Rattle.file_audit.proofs.IncomingEnds.{ends_kept}
 use Rattle.gate_phases.specs.declared.status.Status.{Status}
 use Rattle.gate_phases.specs.declared.status.Status.TheVariants.{CaptureRefused, ReadFault, WriteFault, OpenFault, OutOfMemory}
 use Rattle.gate_phases.specs.Beginning.{IsAccepted, events_in}
@@ -34,7 +35,7 @@ use Rattle.gate_phases.specs.AuditNames.{Names, first_starts, given_starts, plan
 use Rattle.gateway_audit.specs.Lines.{answer_line}
 use Rattle.gateway_audit.specs.Causes.{AreLawful, IsRead, IsVerdict}
 use Rattle.gateway_audit.specs.Audits.{IsAudit, HasStartedToRead, HasAnswered}
-use Rattle.gateway_audit.specs.Phases.{Prepared, HaveLinks, Readied, StopsAtGiven, AreToWalk, Walks, Judged, Judges, Says, status_of, given_in}
+use Rattle.gateway_audit.specs.Phases.{Prepared, HaveLinks, Readied, StopsAtGiven, AreToWalk, Walks, WasRead, Judged, Judges, Says, status_of, given_in}
 use Rattle.gateway_audit.proofs.Phases.{behind_inputs, refused}
 
 -- ## What is told
@@ -112,6 +113,7 @@ to_walk settings m r names a b c h k =
       forms = h.forms;
       stop = h.stop;
       work = h.work;
+      ends = ends_kept m k.left_count k.right_count k.report_count b c k.left h.ends;
       running = k.heads.0;
       fits = k.heads.1;
       left_in = way_of LeftIn Read (plan names) a c all (λ w. refl);
@@ -136,6 +138,7 @@ no_head settings m names a b c h k =
     let bad = heads_kept (λ l r. HasLink settings.left.link l × HasLink settings.right.link r → ⊥) h.settings_count h.left_count h.right_count a.left (subst (λ (t : Told). IfSome t (λ all. HaveLinks settings all → ⊥)) h.left k.heads) in
     record {
       verdict_is = with_some a.left (AreGood settings) (λ all. HaveLinks settings all → ⊥) (IsVerdict (Unlawful 0 Capture)) (good settings m names a b h) bad (λ all is no. (settings, is.0, is.1, inl (refl, refl, no)));
+      read = tt;
       starts = started None settings m names a b c h k;
       written = k.written ∙ h.written;
       grows = grows_on a b c h.grows k.grows;
@@ -155,9 +158,10 @@ of_files settings m r names a b c R S h k both f =
 
 -- the events were taken
 judged : (verdict : Verdict) (settings : GateSettings) (m : Merging) (r : GivenFiles) (names : Names) (a b c d : Outside) → Prepared settings m names a b → Readied (Some r) settings names b c → d.starts ≡ c.starts → d.written ≡ c.written → Grows c d → NoneFailed c d
-    → IfSome a.left (IsVerdict verdict) → Judged verdict names a d
-judged verdict settings m r names a b c d h k starts written grows counts is = record {
+    → IfSome a.left (IsVerdict verdict) → WasRead verdict d → Judged verdict names a d
+judged verdict settings m r names a b c d h k starts written grows counts is read = record {
   verdict_is = is;
+  read = read;
   starts = starts ∙ started (Some r) settings m names a b c h k;
   written = written ∙ k.written ∙ h.written;
   grows = grows_on a b d h.grows (grows_on b c d k.grows grows);
@@ -180,23 +184,23 @@ started_to_read RightGiven names a b h e = inr e
 started_to_read ReportGiven names a b h e = e
 started_to_read s names a b h e = absurd h
 
-pub walks_of : (found : Result ℕ AuditStop) (settings : GateSettings) (m : Merging) (r : GivenFiles) (old new : Outside) → Finds found settings m r old new → LeavesCounts found old new → Walks (verdict_of found) settings m r old new
-walks_of (Ok events) settings m r old new finds leaves = (finds, leaves)
-walks_of (Err (stops.Unlawful number reason)) settings m r old new finds leaves = (finds, leaves)
-walks_of (Err (stops.Capture side fault place)) settings m r old new finds leaves = (finds, leaves)
-walks_of (Err (stops.Desk slot)) settings m r old new finds leaves = finds
-walks_of (Err stops.OutOfMemory) settings m r old new finds leaves = tt
+pub walks_of : (found : Result ℕ AuditStop) (settings : GateSettings) (m : Merging) (r : GivenFiles) (old new : Outside) → Finds found settings m r old new → LeavesCounts found old new → OnOk found (IsAtEnd new LeftIn) → OnOk found (IsAtEnd new RightIn) → Walks (verdict_of found) settings m r old new
+walks_of (Ok events) settings m r old new finds leaves left right = (finds, leaves, left, right)
+walks_of (Err (stops.Unlawful number reason)) settings m r old new finds leaves left right = (finds, leaves)
+walks_of (Err (stops.Capture side fault place)) settings m r old new finds leaves left right = (finds, leaves)
+walks_of (Err (stops.Desk slot)) settings m r old new finds leaves left right = finds
+walks_of (Err stops.OutOfMemory) settings m r old new finds leaves left right = tt
 
 pub walked : (found : Result Verdict Status) (settings : GateSettings) (m : Merging) (r : GivenFiles) (names : Names) (a b c d : Outside) → Prepared settings m names a b → Readied (Some r) settings names b c → Walks found settings m r c d
     → d.starts ≡ c.starts → d.written ≡ c.written → Grows c d → Judges found names a d
 walked (Ok (Lawful events)) settings m r names a b c d h k f starts written grows =
     judged (Lawful events) settings m r names a b c d h k starts written grows f.1
     (of_files settings m r names a b c (λ all g. (all.ending ≡ BothEnded) × (events ≡ length all.events) × LawfulFrom settings (opening settings) (arrivals_of settings.join all.events) all.ending g) (IsVerdict (Lawful events)) h k f.0
-    (λ all is links q. (settings, is.0, q.0, record { left_head = links.0; right_head = links.1; goes = q.2 }, q.1)))
+    (λ all is links q. (settings, is.0, q.0, record { left_head = links.0; right_head = links.1; goes = q.2 }, q.1))) (f.2, f.3)
 walked (Ok (Unlawful number reason)) settings m r names a b c d h k f starts written grows =
     judged (Unlawful number reason) settings m r names a b c d h k starts written grows f.1
     (of_files settings m r names a b c (λ all g. IsFirst settings (opening settings) (arrivals_of settings.join all.events) all.ending g number reason) (IsVerdict (Unlawful number reason)) h k f.0
-    (λ all is links q. (settings, is.0, is.1, inr (links.0, links.1, q))))
+    (λ all is links q. (settings, is.0, is.1, inr (links.0, links.1, q)))) tt
 walked (Err (CaptureRefused side fault place)) settings m r names a b c d h k f starts written grows = record {
   cause = (
     of_files settings m r names a b c (λ all g. (all.ending ≡ EndsFaulty side fault place) × LawfulFrom settings (opening settings) (arrivals_of settings.join all.events) all.ending g)
@@ -224,9 +228,13 @@ walked (Err e) settings m r names a b c d h k f starts written grows = absurd f
 
 -- ## The answer
 
+-- what is written changes nothing of what is left
+still_at_end : (slot : Slot) (a b : Outside) → b.left ≡ a.left → IsAtEnd a slot → IsAtEnd b slot
+still_at_end slot a b e h = subst (λ (t : Told). IfSome (told_at t slot) (λ all. length all ≡ 0)) (sym e) h
+
 answered : (verdict : Verdict) (names : Names) (a b c : Outside) → Judged verdict names a b → Writes Report (answer_line verdict) b c → NoneFailed b c → IsAudit (status_of verdict) names a c
 answered (Lawful events) names a b c h k counts = record {
-  cause = (if_some a.left _ _ h.verdict_is (λ all p. (p.0, p.1, p.2, p.3, refl)), none_failed_on a b c h.counts counts);
+  cause = (if_some a.left _ _ h.verdict_is (λ all p. (p.0, p.1, p.2, p.3, refl)), still_at_end LeftIn b c k.left h.read.0, still_at_end RightIn b c k.left h.read.1, none_failed_on a b c h.counts counts);
   starts = k.starts ∙ h.starts;
   written = if_some a.left _ _ h.verdict_is (λ all p. subst (λ (n : ℕ). HasAnswered (Lawful n) a c) p.4 (k.written ∙ ap (wrote Report (answer_line (Lawful events))) h.written));
   grows = grows_on a b c h.grows (grows_writes Report (answer_line (Lawful events)) b c k);

@@ -1,2 +1,3 @@
 mod Phases
 mod Judging
+mod Decided

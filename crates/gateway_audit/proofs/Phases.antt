@@ -92,6 +92,7 @@ prepared settings m names a b c h k = record {
   forms = h.forms;
   stop = k.stop;
   work = k.work;
+  ends = k.ends;
   heads = heads_before true settings (settings_start names.settings) a b h k.heads;
   events = sym (ap all_events h.left ∙ all_events-took_settings h.count a.left) ∙ k.events;
   settings_count = h.count;

@@ -4,7 +4,7 @@ use Rattle.frag_join.specs.Arrivals.{arrivals_of}
 use Rattle.gate_desk.specs.declared.slot.Slot.{Slot}
 use Rattle.gate_desk.specs.declared.slot.Slot.TheVariants.{Settings, LeftIn, RightIn, LeftGiven, RightGiven, ReportGiven, Report}
 use Rattle.gate_desk.specs.declared.slot.PerSlot.{PerSlot}
-use Rattle.gate_desk.specs.Outside.{Outside, NoneFailed, HasFailed, HasFailedToStart}
+use Rattle.gate_desk.specs.Outside.{Outside, NoneFailed, IsAtEnd, HasFailed, HasFailedToStart}
 use Rattle.gate_settings.specs.declared.settings.Settings.{Settings as GateSettings}
 use Rattle.gate_settings.specs.Cross.{settings_of}
 use Rattle.pcap_merge.specs.Events.{Done as BothEnded, Fault as EndsFaulty, have_good_heads}
@@ -43,7 +43,7 @@ IsRead slot = ⊥
 
 -- the cause of a status, and of the counts, none of which rose where the files decide it: where a capture is refused, the given files are lawful as far as the events go, if both heads are good
 abbrev pub HasCause : Status → Outside → Outside → Type 0
-HasCause Done old new = IfSome old.left (λ all. IsVerdict (verdicts.Lawful (length (events_in all).events)) all) × NoneFailed old new
+HasCause Done old new = IfSome old.left (λ all. IsVerdict (verdicts.Lawful (length (events_in all).events)) all) × IsAtEnd new LeftIn × IsAtEnd new RightIn × NoneFailed old new
 HasCause (Unlawful number reason) old new = IfSome old.left (IsVerdict (verdicts.Unlawful number reason)) × NoneFailed old new
 HasCause (SettingsRefused fault) old new = IfSome old.left (λ all. settings_of all.settings ≡ Err fault) × NoneFailed old new
 HasCause (CaptureRefused side fault place) old new =

@@ -3,3 +3,4 @@ pub mod Stops
 pub mod Causes
 pub mod Audits
 pub mod Phases
+pub mod Decided

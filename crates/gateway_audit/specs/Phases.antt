@@ -3,12 +3,12 @@ use Rattle.std.specs.Prelude.{◌≡◌, ◌⊎◌, ◌^◌, ◌≤◌, ℕ, tru
 use Rattle.gate_base.specs.declared.side.Side.{Side}
 use Rattle.gate_desk.specs.declared.slot.Slot.TheVariants.{Settings, LeftIn, RightIn, LeftGiven, RightGiven, ReportGiven, Report}
 use Rattle.gate_desk.specs.declared.slot.PerSlot.{PerSlot}
-use Rattle.gate_desk.specs.Outside.{Outside, Grows, NoneFailed, CanRead, HasFailed, HasFailedToStart, Writes, WritesPart, took}
+use Rattle.gate_desk.specs.Outside.{Outside, Grows, NoneFailed, IsAtEnd, CanRead, HasFailed, HasFailedToStart, Writes, WritesPart, took}
 use Rattle.gate_report.specs.Counts.{nothing_counted}
 use Rattle.gate_settings.specs.declared.settings.Settings.{Settings as GateSettings}
 use Rattle.gate_settings.specs.Sound.{IsSound}
 use Rattle.gate_settings.specs.Forms.{HasForms}
-use Rattle.pcap_merge.specs.Merge.{Merging, HeadsAre, all_events, ahead, work}
+use Rattle.pcap_merge.specs.Merge.{Merging, HeadsAre, all_events, ahead, work, AtEnds}
 use Rattle.lawful_files.specs.Files.{Given, HasLink, given_of}
 use Rattle.file_audit.specs.declared.given.GivenFiles.{GivenFiles}
 use Rattle.file_audit.specs.declared.stop.AuditStop.TheVariants as stops
@@ -34,6 +34,7 @@ pub record Prepared (settings : GateSettings) (m : Merging) (names : Names) (old
   pub forms : HasForms settings
   pub stop : m.stop ≡ None
   pub work : work m ≤ 2 ^ 41
+  pub ends : AtEnds m new
   pub heads : HeadsAre true old.left
   pub events : all_events old.left ≡ ahead m new.left
   pub settings_count : ℕ
@@ -111,6 +112,7 @@ pub record AreToWalk (settings : GateSettings) (m : Merging) (r : GivenFiles) (o
   pub forms : HasForms settings
   pub stop : m.stop ≡ None
   pub work : work m ≤ 2 ^ 41
+  pub ends : AtEnds m o
   pub running : IsRunning r
   pub fits : Fits nothing_counted r
   pub left_in : CanRead o LeftIn
@@ -121,7 +123,7 @@ pub record AreToWalk (settings : GateSettings) (m : Merging) (r : GivenFiles) (o
 
 -- what is found at the events: a verdict, or an incoming capture is faulty behind frames that are lawful; or a read failed, or memory was wanting
 abbrev pub Walks : Result Verdict Status → GateSettings → Merging → GivenFiles → Outside → Outside → Type 0
-Walks (Ok (verdicts.Lawful events)) settings m r old new = Finds (Ok events) settings m r old new × NoneFailed old new
+Walks (Ok (verdicts.Lawful events)) settings m r old new = Finds (Ok events) settings m r old new × NoneFailed old new × IsAtEnd new LeftIn × IsAtEnd new RightIn
 Walks (Ok (verdicts.Unlawful number reason)) settings m r old new = Finds (Err (stops.Unlawful number reason)) settings m r old new × NoneFailed old new
 Walks (Err (CaptureRefused side fault place)) settings m r old new = Finds (Err (stops.Capture side fault place)) settings m r old new × NoneFailed old new
 Walks (Err (ReadFault slot)) settings m r old new = Finds (Err (stops.Desk slot)) settings m r old new
@@ -130,9 +132,15 @@ Walks (Err status) settings m r old new = ⊥
 
 -- ## The verdict
 
+-- where the given files are lawful, both incoming captures were read to their ends
+abbrev pub WasRead : Verdict → Outside → Type 0
+WasRead (verdicts.Lawful events) new = IsAtEnd new LeftIn × IsAtEnd new RightIn
+WasRead (verdicts.Unlawful number reason) new = Unit {0}
+
 -- a verdict was found, and all slots are started
 pub record Judged (verdict : Verdict) (names : Names) (old new : Outside) : Type 0 where
   pub verdict_is : IfSome old.left (IsVerdict verdict)
+  pub read : WasRead verdict new
   pub starts : new.starts ≡ started_all (plan names) old.starts
   pub written : new.written ≡ old.written
   pub grows : Grows old new

@@ -4,6 +4,7 @@
 mod answer;
 mod call;
 mod judge;
+mod laws;
 mod open;
 mod prepare;
 mod ready;
@@ -12,3 +13,4 @@ mod verdict;
 mod walk;
 
 pub use call::audit;
+pub use laws::files_decide;

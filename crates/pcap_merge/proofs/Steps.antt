@@ -290,7 +290,9 @@ finishes l l' r r' clock last stop old mid new running h k e =
     let is = is_ready l l' r r' last old mid new h k in
     let none = none_chosen l'.packet r'.packet e in record {
       stop = running;
+      last = refl;
       reads = is.reads;
+      only = (is.kept_left, is.kept_right);
       events = ahead_is (merging l r clock last stop) old.left _ (both old.left _ _ _ is.left is.right (λ all left right.
           ap merge_from (ready l l' r r' clock last stop all.left_in all.right_in _ _ h.form k.form left right) ∙ both_end l' r' clock _ _ none.0 none.1));
       left = λ ends. subst (λ o. IfSome (told_at o LeftIn) (λ all. length all ≡ 0)) (sym is.reads.left)

@@ -166,10 +166,12 @@ pub record ComesTo (e : Event) (m m' : Merging) (old new : Outside) : Type 0 whe
   pub given : (start : Outside) (events : List Event) → HasGiven start m old events → HasGiven start m' new (events ++ e ∷ [])
   pub few : TakesFew m old new
 
--- the merge came to the end of both captures
+-- the merge came to the end of both captures: nothing is read after it, so an advance behind the end takes nothing
 pub record Finishes (m m' : Merging) (old new : Outside) : Type 0 where
   pub stop : m'.stop ≡ None
+  pub last : m'.last ≡ End
   pub reads : Reads old new
+  pub only : OnlyUnread m.last reads
   pub events : IfSome (ahead m old.left) (λ x. x ≡ record { events = []; ending = Done })
   pub left : AtEnds m old → IsAtEnd new LeftIn
   pub right : AtEnds m old → IsAtEnd new RightIn

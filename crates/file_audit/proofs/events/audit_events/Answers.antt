@@ -1,8 +1,10 @@
-use Rattle.std.proofs.Common.{ℕ, Ok, Err, Bool, refl, sym, ap, subst, ◌∙◌, arith}
+use Rattle.std.proofs.Common.{◌≡◌, ℕ, List, Option, length, IfSome, Ok, Err, Bool, refl, sym, ap, subst, ◌∙◌, arith}
 use Rattle.frag_join.specs.Arrivals.{arrival}
 use Rattle.frag_join.specs.Joining.{by_known}
 use Rattle.gate_base.specs.Events.{event_of}
 use Rattle.gate_desk.proofs.Laws.{grows_on, grows_not}
+use Rattle.gate_desk.specs.Outside.{Told, told_at}
+use Rattle.gate_desk.specs.declared.slot.Slot.TheVariants.{LeftIn, RightIn}
 use Rattle.gate_report.specs.Counts.{nothing_counted}
 use Rattle.gate_report.specs.declared.totals.Totals.{Totals}
 use Rattle.gate_settings.specs.declared.settings.Settings.{Settings}
@@ -12,6 +14,7 @@ use Rattle.pcap_merge.specs.Merge.{Advances}
 use Rattle.lawful_files.specs.Files.{State}
 use Rattle.file_audit.specs.Events.{Finds, FindsLast, state_of, stop_of}
 use Rattle.file_audit.specs.Stops.{LeavesCounts}
+use Rattle.file_audit.proofs.IncomingEnds.{ends_kept, left_kept, right_kept}
 use Rattle.file_audit.proofs.LeftCounts.{leaves_on, leaves_all, leaves_as, stop_leaves, stops_at}
 use Rattle.file_audit.proofs.Walked.{arrived_at, expecting, walked_none, finds_stop, finds_done, finds_left, finds_at, walked_event, gives}
 use Rattle.file_audit.proofs.events.audit_events.Goals as goal
@@ -100,6 +103,7 @@ events-preserved g c =
       faults = c.in-Ok-take_event.ensures.leaves ∙ c.in-Ok.ensures.leaves ∙ i.faults;
       start_faults = reads.start_faults ∙ came.reads.start_faults ∙ i.start_faults;
       grows = grows_on old now new i.grows (grows_on now mid new came.reads.grows reads.grows);
+      ends = ends_kept c.advance.new.self reads.left_count reads.right_count reads.report_count mid new reads.left (came.ends i.ends);
       walked = walked_event c.args.auditor.now.settings c.args.merge.now c.events.merge c.advance.new.self c.args.given.now c.events.given c.take_event.new.given c.expect.new.auditor c.take_event.new.auditor c.in-Ok-take_event.now c.events.joiner c.expect.new.joiner s (state_of c.take_event.new.auditor c.in-Ok-take_event.now) e found.0 old now mid new
           i.walked came reads c.expect.ensures.joiner settings found.1.state_is found.1;
     }
@@ -119,6 +123,7 @@ events-init g c =
       faults = refl;
       start_faults = refl;
       grows = grows_not old;
+      ends = c.requires.ends;
       walked = walked_none c.args.auditor.now.settings c.args.merge.now c.args.given.now old c.args.joiner.now (state_of c.args.auditor.now nothing_counted)
           (ap (λ (w : World WholeSession). let k : State = record { world = w; totals = nothing_counted } in k) c.requires.opening.world_is) c.requires.joiner;
     }
@@ -171,3 +176,23 @@ returns-in-Err-take_event-clause-leaves g c =
     let stop = c.in-Err-take_event.stop in
     let came = gives c.in-Ok.more (event_of c.event.result) c.events.merge c.advance.new.self now mid c.if-not-more.false (c.in-Ok.ensures.first i.stop) c.event.ensures in
     leaves_all {A = ℕ} (Err stop) old new (leaves_on {A = ℕ} (Err stop) old mid new (c.in-Ok.ensures.leaves ∙ i.faults) (leaves_as Totals ℕ stop mid new c.in-Err-take_event.ensures.leaves)) (c.take_event.ensures.reads.start_faults ∙ came.reads.start_faults ∙ i.start_faults)
+
+pub returns-in-Ok-take_rest-clause-left_end : goal.returns-in-Ok-take_rest-clause-left_end
+returns-in-Ok-take_rest-clause-left_end g c =
+    let now = g.D.Desk.outside c.events.desk in
+    let mid = g.D.Desk.outside c.advance.new.desk in
+    let i = c.events.invariant in
+    let finished = subst (λ (b : Bool). Advances (Ok b) c.events.merge c.advance.new.self now mid) c.if-not-more.true (c.in-Ok.ensures.first i.stop) in
+    let reads = c.take_rest.ensures.reads in
+    let same = ap (λ (t : Told). told_at t LeftIn) reads.left ∙ left_kept reads.left_count reads.right_count reads.report_count mid.left in
+    subst (λ (o : Option (List ℕ)). IfSome o (λ all. length all ≡ 0)) (sym same) (finished.left i.ends)
+
+pub returns-in-Ok-take_rest-clause-right_end : goal.returns-in-Ok-take_rest-clause-right_end
+returns-in-Ok-take_rest-clause-right_end g c =
+    let now = g.D.Desk.outside c.events.desk in
+    let mid = g.D.Desk.outside c.advance.new.desk in
+    let i = c.events.invariant in
+    let finished = subst (λ (b : Bool). Advances (Ok b) c.events.merge c.advance.new.self now mid) c.if-not-more.true (c.in-Ok.ensures.first i.stop) in
+    let reads = c.take_rest.ensures.reads in
+    let same = ap (λ (t : Told). told_at t RightIn) reads.left ∙ right_kept reads.left_count reads.right_count reads.report_count mid.left in
+    subst (λ (o : Option (List ℕ)). IfSome o (λ all. length all ≡ 0)) (sym same) (finished.right i.ends)

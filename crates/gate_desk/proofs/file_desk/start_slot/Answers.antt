@@ -4,6 +4,7 @@ use Rattle.gate_desk.specs.declared.slot.Way.{Way}
 use Rattle.gate_desk.specs.Gathering.{ahead, ahead_in, way_of, ways_in}
 use Rattle.gate_desk.specs.Slots.{put}
 use Rattle.gate_desk.proofs.Laws.{mapped-put}
+use Rattle.gate_desk.proofs.Taken.{nothing_else}
 use Rattle.gate_desk.proofs.file_desk.start_slot.Goals as goal
 
 pub returns-in-Ok-clause-ways : goal.returns-in-Ok-clause-ways
@@ -17,3 +18,6 @@ returns-in-Ok-clause-ahead g c =
     mapped-put ahead c.hand_out.new.places c.args.slot c.in-Ok.place
     ∙ ap (λ (xs : List ℕ). put (ahead_in c.hand_out.new.places) c.args.slot xs) c.in-Ok.ensures.ahead
     ∙ ap (λ (all : PerSlot (List ℕ)). put all c.args.slot []) c.hand_out.ensures.ahead
+
+pub returns-in-Ok-clause-takes : goal.returns-in-Ok-clause-takes
+returns-in-Ok-clause-takes g c = nothing_else g.R.File.Write.contents c.args.slot c.args.places.now c.hand_out.new.places c.in-Ok.place c.in_ok-hand_out.ensures.files c.in_ok-hand_out.ensures.all

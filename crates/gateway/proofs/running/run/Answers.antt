@@ -2,6 +2,7 @@ use Rattle.gate_phases.specs.RunNames.{names_of}
 use Rattle.gateway.specs.Answers.{Runs}
 use Rattle.gate_phases.proofs.Causes.{handed_on}
 use Rattle.gateway.proofs.Runs.{run_unwritten}
+use Rattle.gateway.proofs.Took.{took_unwritten}
 use Rattle.gateway.proofs.running.run.Goals as goal
 
 pub returns-in_err-merge-clause-answer : goal.returns-in_err-merge-clause-answer
@@ -19,3 +20,6 @@ returns-clause-answer g c = c.run_prepared.ensures.answer (g.D.Desk.outside c.ar
 
 pub returns-clause-taken : goal.returns-clause-taken
 returns-clause-taken g c = c.run_prepared.ensures.taken (g.D.Desk.outside c.args.desk.now) c.in_ok-merge.ensures.answer
+
+pub returns-in_err-merge-clause-taken : goal.returns-in_err-merge-clause-taken
+returns-in_err-merge-clause-taken g c = took_unwritten (g.D.Desk.outside c.args.desk.now) (g.D.Desk.outside c.prepare.new.desk) c.in_err-merge.ensures.taken

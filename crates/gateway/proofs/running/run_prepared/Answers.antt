@@ -1,14 +1,14 @@
-use Rattle.std.proofs.Common.{OnErr, refl, subst}
+use Rattle.std.proofs.Common.{refl, subst}
 use Rattle.gate_desk.specs.declared.slot.Slot.TheVariants.{LeftIn, RightIn, LeftOut, RightOut, Report}
 use Rattle.gate_desk.specs.declared.slot.Way.TheVariants.{Read, Write}
 use Rattle.gate_phases.specs.RunNames.{names_of, first_starts, output_starts, plan}
 use Rattle.gate_phases.specs.declared.status.Status.TheVariants.{OutOfMemory}
 use Rattle.gateway.specs.Phases.{Readied, StopsInFront}
 use Rattle.gateway.specs.Machine.{heads}
-use Rattle.gateway.specs.Answers.{Runs, TookForWritten}
+use Rattle.gateway.specs.Answers.{Runs}
 use Rattle.gate_phases.proofs.Causes.{handed_on, way_of}
 use Rattle.gateway.proofs.Runs.{run_no_memory, run_not_ready, run_forwards, whole}
-use Rattle.gateway.proofs.Took.{took_prepared, took_forwards}
+use Rattle.gateway.proofs.Took.{took_prepared, took_events}
 use Rattle.gateway.proofs.running.run_prepared.Goals as goal
 
 pub returns-in_err-outbox-clause-answer : goal.returns-in_err-outbox-clause-answer
@@ -19,8 +19,7 @@ returns-in_err-outbox-clause-answer g c since prepared =
 pub returns-in_err-outbox-clause-taken : goal.returns-in_err-outbox-clause-taken
 returns-in_err-outbox-clause-taken g c since prepared =
     let now = g.D.Desk.outside c.args.desk.now in
-    handed_on (λ r. OnErr r (TookForWritten since now)) c.from_residual.result OutOfMemory c.from_residual.ensures.1
-    (took_prepared c.args.gate.now c.args.merge.now (first_starts (names_of c.args.names)) since now now prepared refl)
+    took_prepared c.args.gate.now c.args.merge.now (first_starts (names_of c.args.names)) since now now prepared refl
 
 pub returns-in_err-joiner-clause-answer : goal.returns-in_err-joiner-clause-answer
 returns-in_err-joiner-clause-answer g c since prepared =
@@ -30,8 +29,7 @@ returns-in_err-joiner-clause-answer g c since prepared =
 pub returns-in_err-joiner-clause-taken : goal.returns-in_err-joiner-clause-taken
 returns-in_err-joiner-clause-taken g c since prepared =
     let now = g.D.Desk.outside c.args.desk.now in
-    handed_on (λ r. OnErr r (TookForWritten since now)) c.from_residual-in_err-joiner.result OutOfMemory c.from_residual-in_err-joiner.ensures.1
-    (took_prepared c.args.gate.now c.args.merge.now (first_starts (names_of c.args.names)) since now now prepared refl)
+    took_prepared c.args.gate.now c.args.merge.now (first_starts (names_of c.args.names)) since now now prepared refl
 
 pub returns-in_err-ready-clause-answer : goal.returns-in_err-ready-clause-answer
 returns-in_err-ready-clause-answer g c since prepared =
@@ -45,8 +43,7 @@ pub returns-in_err-ready-clause-taken : goal.returns-in_err-ready-clause-taken
 returns-in_err-ready-clause-taken g c since prepared =
     let mid = g.D.Desk.outside c.args.desk.now in
     let new = g.D.Desk.outside c.ready.new.desk in
-    handed_on (λ r. OnErr r (TookForWritten since new)) c.from_residual-in_err-ready.result c.in_err-ready.field-0.0 c.from_residual-in_err-ready.ensures.1
-    (took_prepared c.args.gate.now c.args.merge.now (first_starts (names_of c.args.names)) since mid new prepared c.ready.ensures.left)
+    took_prepared c.args.gate.now c.args.merge.now (first_starts (names_of c.args.names)) since mid new prepared c.ready.ensures.left
 
 pub forward-requires-clause-left_in : goal.forward-requires-clause-left_in
 forward-requires-clause-left_in g c =
@@ -95,4 +92,4 @@ returns-clause-taken g c since prepared =
     let mid = g.D.Desk.outside c.args.desk.now in
     let new = g.D.Desk.outside c.ready.new.desk in
     let ready = subst (λ s. Readied s (output_starts (names_of c.args.names)) mid new) c.settings-2.ensures c.in_ok-ready.ensures.answer in
-    took_forwards c.forward.result c.args.gate.now c.args.merge.now (names_of c.args.names) since mid new (g.D.Desk.outside c.forward.new.desk) prepared ready c.forward.ensures.taken
+    took_events c.args.gate.now c.args.merge.now (names_of c.args.names) since mid new (g.D.Desk.outside c.forward.new.desk) prepared ready c.forward.ensures.taken

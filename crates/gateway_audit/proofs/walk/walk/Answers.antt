@@ -11,7 +11,7 @@ returns g c =
     record {
       answer = subst (λ found. Walks found c.args.settings c.args.merge.now c.args.given.now old new) (sym c.verdict_of.ensures)
           (walks_of c.audit_events-found.result c.args.settings c.args.merge.now c.args.given.now old new
-          (subst (λ s. Finds c.audit_events-found.result s c.args.merge.now c.args.given.now old new) c.in_ok-auditor.ensures.settings_are c.audit_events-found.ensures.answer) c.audit_events-found.ensures.leaves);
+          (subst (λ s. Finds c.audit_events-found.result s c.args.merge.now c.args.given.now old new) c.in_ok-auditor.ensures.settings_are c.audit_events-found.ensures.answer) c.audit_events-found.ensures.leaves c.audit_events-found.ensures.left_end c.audit_events-found.ensures.right_end);
       starts = c.audit_events-found.ensures.starts;
       written = c.audit_events-found.ensures.written;
       counts = c.audit_events-found.ensures.counts;

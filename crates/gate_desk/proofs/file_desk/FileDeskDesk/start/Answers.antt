@@ -9,3 +9,6 @@ returns-in-Ok-clause-ways g c = rw (← c.self.view_is) c.in-Ok.ensures.ways
 
 pub returns-in-Ok-clause-ahead : goal.returns-in-Ok-clause-ahead
 returns-in-Ok-clause-ahead g c = rw (← c.self.view_is) c.in-Ok.ensures.ahead
+
+pub returns-in-Ok-clause-takes : goal.returns-in-Ok-clause-takes
+returns-in-Ok-clause-takes g c = rw (← c.self.view_is) c.in-Ok.ensures.takes
