@@ -1,0 +1,62 @@
+-- Two hosts that do what every host does: one sends again from the first octet that it has no acknowledgement of, and the other takes what goes on from what it has, and acknowledges what it has (RFC 9293, 3.8.1, 3.10.7.4).
+use Rattle.std.specs.Prelude.{◌≡◌, ◌≤◌, ◌<◌, ◌⊎◌, ℕ, Bool, true, not, List, [], ◌∷◌, length, None}
+use Rattle.stream_model.specs.Numbers.{known}
+use Rattle.stream_model.specs.Session.{Sender, Session, Segment, Outgoing, own, due_in, extent, arrival, place_acknowledged}
+use Rattle.stream_model.specs.Verdict.{is_data, session_verdict}
+use Rattle.stream_model.specs.Steps.{session_next, session_out}
+use Rattle.stream_model.specs.History.{OneShows}
+use Rattle.stream_model.specs.Progress.{acknowledged_of, BeginsBy, Covers, OneEnds}
+
+-- a host has so many octets of a stream from the first on, its end counted as one more, and so many after these segments: no fewer, and more where they show it the next one, or, behind all of them, the end
+pub record Hears (initial : ℕ) (stream : List ℕ) (had : ℕ) (outs : List Outgoing) (has : ℕ) : Type 0 where
+  pub keeps : had ≤ has
+  pub goes_on : OneShows initial stream had outs → had < has
+  pub ends : had ≡ length stream → OneEnds initial had outs → had < has
+
+-- what is sent again, how many octets of the image its receiver has then, and its answer
+pub record Round : Type 0 where
+  pub repeat : Segment
+  pub has : ℕ
+  pub answer : Segment
+
+-- the session after both segments, the first of the client (true), or of the server
+abbrev pub after_repeat : Bool → Session → Round → Session
+after_repeat client s x = session_next client s x.repeat
+
+abbrev pub after_round : Bool → Session → Round → Session
+after_round client s x = session_next (not client) (after_repeat client s x) x.answer
+
+-- not all that is due of a sender's octets is acknowledged, and it sends again the first that it doesn't know to be acknowledged
+pub record LacksOctets (a new : Sender) (g : Segment) (knows : ℕ) : Type 0 where
+  pub covers : Covers a g knows
+  pub lacks : a.acked < length (due_in new)
+
+-- its end isn't acknowledged, and it sends it again, from the first octet on that it doesn't know to be acknowledged
+pub record LacksEnd (a new : Sender) (g : Segment) (knows : ℕ) : Type 0 where
+  pub begins : BeginsBy a g knows
+  pub fin : g.flags.fin ≡ true
+  pub ended : new.ended ≡ true
+  pub lacks : a.acked ≤ length (due_in new)
+
+-- of the stream of the client (true), or of the server, of whose octets it knows so many to be acknowledged, and of whose image the other host has so many octets:
+pub record IsRound (client : Bool) (s : Session) (knows had : ℕ) (x : Round) : Type 0 where
+  -- while not all that is due is acknowledged, or the end isn't, a segment passes that has the first octet that isn't known to be acknowledged, or begins there and has the end;
+  pub passes : session_verdict client s x.repeat ≡ None
+  pub kind : is_data (arrival x.repeat) ≡ true
+  pub lacks : LacksOctets (own client s) (own client (after_repeat client s x)) x.repeat knows ⊎ LacksEnd (own client s) (own client (after_repeat client s x)) x.repeat knows
+  -- the other host hears what goes out for it,
+  pub hears : Hears (known (own client s).initial) (due_in (own client (after_repeat client s x))) had (session_out client s x.repeat) x.has
+  -- and acknowledges all that it has by a segment that passes
+  pub answered : session_verdict (not client) (after_repeat client s x) x.answer ≡ None
+  pub answers : is_data (arrival x.answer) ≡ true
+  pub all : place_acknowledged (extent (own client (after_repeat client s x))) (arrival x.answer) ≡ x.has
+
+-- one round after the other; what comes back with an answer is known from then on
+abbrev pub AllRounds : Bool → Session → ℕ → ℕ → List Round → Type 0
+AllRounds client s knows had [] = Unit {0}
+AllRounds client s knows had (x ∷ xs) = IsRound client s knows had x × AllRounds client (after_round client s x) (acknowledged_of (own client (after_round client s x))) x.has xs
+
+-- the session after them
+abbrev pub after_rounds : Bool → Session → List Round → Session
+after_rounds client s [] = s
+after_rounds client s (x ∷ xs) = after_rounds client (after_round client s x) xs
