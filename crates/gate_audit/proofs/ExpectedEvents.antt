@@ -19,8 +19,10 @@ use Rattle.heard_sessions.specs.Heard.{HeardSession, heard_rules, heard_sent, se
 use Rattle.heard_sessions.proofs.HeardLaws.{reads_whole}
 use Rattle.gate_steps.specs.Passed.{told_by, told_kind}
 use Rattle.gate_steps.proofs.Stepping.{left_next}
-use Rattle.gate_audit.specs.Given.{audit_tells, refusal_of, given_by, IsGiven}
-use Rattle.gate_audit.specs.declared.taken.Taken.{Taken}
+use Rattle.audit_records.specs.Cutting.{Cutting}
+use Rattle.heard_sessions.specs.Gives.{audit_tells, heard_gives}
+use Rattle.gate_known.specs.Given.{refusal_of, given_by, IsGiven}
+use Rattle.gate_known.specs.declared.taken.Taken.{Taken}
 
 kind_wanted : (live : World HeardSession) (side : Side) (d : Datagram) (kind : Kind) → told_kind heard_rules audit_tells live side d kind ≡ wanted_kind heard_rules heard_sent live side live.clock d kind
 kind_wanted live side d Udp = refl
@@ -35,19 +37,19 @@ event_wanted live e None m = kind_wanted live e.side (datagram_in e) (kind_of (d
 event_wanted live e (Some r) m = refl
 
 -- what is asked of an event, over whole lists
-pub record IsExpected (w : World HeardSession) (e : Event) (taken : Taken) (after : World HeardSession) (sent : List (List ℕ)) : Type 0 where
+pub record IsExpected (w : World HeardSession) (e : Event) (taken : Taken Cutting) (after : World HeardSession) (sent : List (List ℕ)) : Type 0 where
   pub verdict_is : verdict_of (refusal_of taken) ≡ verdict whole_rules (world_as session_in w) e
   pub kept_is : after ≡ next heard_rules w e
   pub next_is : world_as session_in after ≡ next whole_rules (world_as session_in w) e
-  pub wanted_is : given_by taken sent ≡ wanted (world_as session_in w) e
+  pub wanted_is : given_by heard_gives taken sent ≡ wanted (world_as session_in w) e
 
-pub expected : (w : World HeardSession) (e : Event) (taken : Taken) (after : World HeardSession) (sent : List (List ℕ)) → IsGiven (first_that_holds (tests heard_rules (at_moment w e.moment) e)) (kind_of (datagram_in e)) (at_moment w e.moment) e.side (datagram_in e) taken after sent → IsExpected w e taken after sent
+pub expected : (w : World HeardSession) (e : Event) (taken : Taken Cutting) (after : World HeardSession) (sent : List (List ℕ)) → IsGiven heard_rules heard_gives (first_that_holds (tests heard_rules (at_moment w e.moment) e)) (kind_of (datagram_in e)) (at_moment w e.moment) e.side (datagram_in e) taken after sent → IsExpected w e taken after sent
 unfolding verdict
 expected w e taken after sent h =
     let live = at_moment w e.moment in
     let answer : verdict_of (refusal_of taken) ≡ verdict heard_rules w e = ap verdict_of h.answer in
     let left : after ≡ next heard_rules w e = h.left ∙ left_next heard_rules live e (refusal_of taken) refl ∙ ap (next_by heard_rules live e) answer in
-    let gone : given_by taken sent ≡ wanted_in heard_rules heard_sent w e = h.gone ∙ event_wanted live e (refusal_of taken) refl ∙ ap (wanted_by heard_rules heard_sent live e) answer in
+    let gone : given_by heard_gives taken sent ≡ wanted_in heard_rules heard_sent w e = h.gone ∙ event_wanted live e (refusal_of taken) refl ∙ ap (wanted_by heard_rules heard_sent live e) answer in
     record {
       verdict_is = answer ∙ sym (verdict_as session_in heard_rules whole_rules reads_whole w e);
       kept_is = left;

@@ -1,4 +1,3 @@
 mod ExpectedEvents
-mod FirstSegments
-mod SteppedStreams
+mod Laws
 mod WholeGiven

@@ -9,15 +9,17 @@ ghost use Rattle.gate_world.specs.Verdict.{verdict, verdict_of};
 ghost use Rattle.lawful_files.specs.Progress.{begun, behind, is_closed};
 ghost use Rattle.lawful_files.specs.Wanted.{Exactly};
 ghost use Rattle.gate_audit.specs.Auditing.{IsOpening, Expects, whole_world};
-ghost use Rattle.gate_audit.specs.Given.{IsWhole, given_by, refusal_of};
+ghost use Rattle.gate_audit.specs.Given.{IsWhole};
+ghost use Rattle.gate_known.specs.Given.{given_by, refusal_of};
+ghost use Rattle.heard_sessions.specs.Gives.{heard_gives};
 
-use crate::known::Known;
-use crate::taken::Taken;
-use audit_records::Expected;
+use audit_records::{Expected, Pieces};
 use expiring_table::Seed;
 use gate_base::{Event, Moment, OutOfMemory, Side, Verdict};
+use gate_known::{Known, Taken};
 use gate_outbox::Outbox;
 use gate_settings::Settings;
+use heard_sessions::AuditedSession;
 use pcap_files::Packet;
 use std::alloc::Global;
 use std::marker::Model;
@@ -28,7 +30,7 @@ const SPREAD: u64 = 0;
 /// The settings, what is known, and what is wanted of the last frame.
 pub struct Auditor {
     settings: Settings,
-    known: Known,
+    known: Known<AuditedSession>,
     outbox: Outbox,
     expected: Expected,
     // memory ran out in the middle of an event: nothing is said of what is known any more
@@ -53,7 +55,7 @@ impl Model for Auditor {
     ghost use Rattle.gate_world.specs.Held.{KeepsListed};
     ghost use Rattle.heard_sessions.specs.Heard.{heard_rules};
     ghost use Rattle.gate_audit.specs.Auditing.{Auditing};
-    ghost use Rattle.gate_audit.specs.Knowing.{world_in};
+    ghost use Rattle.gate_known.specs.Knowing.{world_in};
 
     ghost Value = { Auditing };
 
@@ -155,11 +157,11 @@ fn want(
     expected: &mut Expected,
     side: Side,
     moment: Moment,
-    taken: Taken,
+    taken: Taken<Pieces>,
     outbox: &Outbox,
 ) -> Verdict
     requires { IsWhole taken outbox.now }
-    ensures wanted { expected.new ≡ record { side = side; moment = moment.0; wanted = given_by taken outbox.now; so_far = begun } }
+    ensures wanted { expected.new ≡ record { side = side; moment = moment.0; wanted = given_by heard_gives taken outbox.now; so_far = begun } }
     ensures verdict { result ≡ verdict_of (refusal_of taken) }
 {
     match taken {

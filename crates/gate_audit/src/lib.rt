@@ -3,11 +3,5 @@
 #![tactic(auto)]
 
 mod auditor;
-mod errors;
-mod found;
-mod known;
-mod stream;
-mod taken;
-mod uses;
 
 pub use auditor::Auditor;

@@ -1,6 +1,5 @@
 -- An event, by its first test that holds, and where memory runs out.
-use Rattle.std.proofs.Common.{◌≡◌, ℕ, List, Option, Some, None, refl, sym, ap, ◌∙◌}
-use Rattle.std.specs.Option.{option_or}
+use Rattle.std.proofs.Common.{◌≡◌, ◌⊎◌, ℕ, List, Option, Some, None, refl, ap, ◌∙◌, inl, inr}
 use Rattle.gate_base.specs.Events.{Event}
 use Rattle.gate_base.specs.declared.refusal.Refusal.{Refusal}
 use Rattle.gate_base.specs.declared.side.Side.{Side}
@@ -8,18 +7,21 @@ use Rattle.ipv4_frames.specs.Ipv4.{Datagram}
 use Rattle.gate_base.specs.Tests.{first_that_holds}
 use Rattle.gate_world.specs.Frame.{datagram_in, kind_of}
 use Rattle.gate_world.specs.Step.{out_kind, next, next_by, out, out_by}
-use Rattle.gate_world.specs.Verdict.{tests, address_tests, verdict, verdict_of}
+use Rattle.gate_world.specs.Verdict.{tests, verdict, verdict_of}
 use Rattle.gate_world.specs.World.{World, at_moment}
 use Rattle.kept_world.specs.Kept.{KeptSession, kept_rules}
-use Rattle.gate_core.specs.Memory.{early_tests, MayWant}
+use Rattle.gate_core.specs.Memory.{MayWant, MayWantAs}
+use Rattle.gate_core.proofs.Lost.{segment_wants}
+use Rattle.gate_known.specs.Given.{given_by}
+use Rattle.gate_known.specs.Lost as known
+use Rattle.gate_known.specs.Lost.{early_tests, IsLost}
+use Rattle.gate_known.specs.declared.taken.Taken.{Taken}
+use Rattle.gate_known.specs.declared.taken.Taken.TheVariants as takes
+use Rattle.gate_sessions.specs.Gives.{gate_tells, kept_gives}
 use Rattle.gate_steps.specs.Passed.{IsPassed}
-use Rattle.gate_core.specs.Done.{IsLost}
-use Rattle.gate_frames.specs.Judged.{front_tests}
-use Rattle.gate_frames.proofs.Tests.{first-append}
 use Rattle.gate_steps.proofs.Stepping.{left_next}
 use Rattle.gate_world.specs.Frame.{Kind, Udp, Echo, Error, Dns, Snmp, Stream}
 use Rattle.gate_steps.specs.Passed.{told_by, told_kind}
-use Rattle.gate_core.specs.Done.{gate_tells}
 
 kind_out : (live : World KeptSession) (side : Side) (d : Datagram) (kind : Kind) → told_kind kept_rules gate_tells live side d kind ≡ out_kind kept_rules live side live.clock d kind
 kind_out live side d Udp = refl
@@ -47,11 +49,16 @@ stepped w e r after sent h = record {
   out_is = h.gone ∙ sent_out (at_moment w e.moment) e r refl ∙ ap (λ (o : Option Refusal). out_by kept_rules (at_moment w e.moment) e (verdict_of o)) h.answer;
 }
 
--- so is the first of its addresses
-pub first_early : (live : World KeptSession) (e : Event) → first_that_holds (front_tests e) ≡ None → first_that_holds (address_tests live.table e.side (datagram_in e)) ≡ first_that_holds (early_tests live e)
-first_early live e none =
-    sym (first-append (front_tests e) (address_tests live.table e.side (datagram_in e)) ∙ ap (λ (o : Option Refusal). option_or o (first_that_holds (address_tests live.table e.side (datagram_in e)))) none)
+-- what is given of it is what was put
+pub put_is : {P : Type 0} (taken : Taken P) (sent : List (List ℕ)) → given_by kept_gives taken sent ≡ sent
+put_is (takes.Refused refusal) sent = refl
+put_is takes.Whole sent = refl
+put_is (takes.Cut x) sent = refl
 
 -- where memory runs out
-pub wanted : (live : World KeptSession) (e : Event) (after : World KeptSession) (sent : List (List ℕ)) → IsLost (first_that_holds (early_tests live e)) (kind_of (datagram_in e)) live e.side (datagram_in e) after sent → MayWant live e
-wanted live e after sent h = record { early = h.allowed; needs = h.wants }
+pub wanted : (live : World KeptSession) (e : Event) (after : World KeptSession) (sent : List (List ℕ)) → IsLost kept_rules (kept_gives {P = Unit {0}}) (first_that_holds (early_tests live e)) (kind_of (datagram_in e)) live e.side (datagram_in e) after sent → MayWant live e
+wanted live e after sent h = record { early = h.allowed; needs = needs_by h.wants }
+  where
+    needs_by : (kind_of (datagram_in e) ≡ Dns) ⊎ ((kind_of (datagram_in e) ≡ Stream) × known.SegmentMayWant kept_rules (kept_gives {P = Unit {0}}) live e.side (datagram_in e)) → MayWantAs (kind_of (datagram_in e)) live e.side (datagram_in e)
+    needs_by (inl dns) = inl dns
+    needs_by (inr (stream, wants)) = inr (stream, segment_wants live e.side (datagram_in e) wants)

@@ -1,24 +1,18 @@
 -- On which frames memory may be wanting.
-use Rattle.std.specs.Prelude.{◌≡◌, ◌⊎◌, true, List, ◌++◌, Bool, Some, None}
+use Rattle.std.specs.Prelude.{◌≡◌, ◌⊎◌, true, Some, None}
 use Rattle.gate_base.specs.Events.{Event}
 use Rattle.gate_base.specs.Tests.{first_that_holds}
-use Rattle.gate_base.specs.declared.refusal.Refusal.{Refusal}
 use Rattle.gate_base.specs.declared.side.Side.{Side}
 use Rattle.ftp_lines.specs.Renaming.{client_lines, server_lines}
-use Rattle.gate_frames.specs.Judged.{front_tests}
 use Rattle.ipv4_frames.specs.Ipv4.{Datagram}
 use Rattle.stream_gate.specs.Memory.{KeptCompletes}
 use Rattle.gate_world.specs.Frame.{Kind, Dns, Stream, datagram_in, kind_of}
 use Rattle.gate_world.specs.Stream.{begins, found_in, segment_of, session_in}
-use Rattle.gate_world.specs.Verdict.{address_tests}
 use Rattle.gate_world.specs.World.{Tracked, World, is_client}
 use Rattle.kept_world.specs.Kept.{KeptSession, kept_rules}
 use Rattle.gate_steps.specs.Segments.{refusal_as}
 use Rattle.gate_steps.specs.Found.{CompletesUnit}
-
--- the tests of a frame by itself, and those of its addresses
-abbrev pub early_tests : World KeptSession → Event → List (Bool × Refusal)
-early_tests live e = front_tests e ++ address_tests live.table e.side (datagram_in e)
+use Rattle.gate_known.specs.Lost.{early_tests}
 
 -- the segment is of a session of FTP, and completes a line that bears an address
 pub record CompletesLine (live : World KeptSession) (side : Side) (d : Datagram) : Type 0 where

@@ -8,12 +8,14 @@ ghost use Rattle.gate_settings.specs.Sound.{IsSound};
 ghost use Rattle.gate_settings.specs.Forms.{HasForms};
 ghost use Rattle.gate_world.specs.Step.{next, out};
 ghost use Rattle.gate_world.specs.Verdict.{verdict, verdict_of};
+ghost use Rattle.gate_known.specs.Given.{refusal_of};
 
-use crate::known::Known;
 use crate::salt::salt_of;
 use expiring_table::Seed;
-use gate_base::{Event, Moment, OutOfMemory, Refusal, Verdict};
+use gate_base::{Event, Moment, OutOfMemory, Verdict};
+use gate_known::{Known, Taken};
 use gate_outbox::Outbox;
+use gate_sessions::AnySession;
 use gate_settings::Settings;
 use std::alloc::Global;
 use std::marker::Model;
@@ -21,7 +23,7 @@ use std::marker::Model;
 /// The settings, and what is known.
 pub struct Gate {
     settings: Settings,
-    known: Known,
+    known: Known<AnySession>,
     // what the tables spread their keys by besides, until the first event
     salt: Option<u64>,
 }
@@ -40,7 +42,8 @@ impl Drop for Gate {
 impl Model for Gate {
     ghost use Rattle.gate_world.specs.Held.{KeepsListed};
     ghost use Rattle.kept_world.specs.Kept.{kept_rules};
-    ghost use Rattle.gate_core.specs.Gates.{Gateway, world_in};
+    ghost use Rattle.gate_core.specs.Gates.{Gateway};
+    ghost use Rattle.gate_known.specs.Knowing.{world_in};
 
     ghost Value = { Gateway };
 
@@ -94,8 +97,8 @@ impl Gate {
         self.spread_keys(event.moment);
         self.known.expire(event.moment);
         outbox.clear();
-        let refusal = self.known.take_frame(event, outbox)?;
-        Ok(verdict_of(refusal))
+        let taken = self.known.take_frame(event, outbox)?;
+        Ok(verdict_of(&taken))
     }
 
     // Before the first event, spreads the keys of the tables by its moment too, which no sender knows before.
@@ -110,11 +113,13 @@ impl Gate {
     }
 }
 
-fn verdict_of(refusal: Option<Refusal>) -> Verdict
-    ensures { result ≡ verdict_of refusal }
+/// The gateway's verdict on a frame of which this became.
+fn verdict_of(taken: &Taken<()>) -> Verdict
+    ensures { result ≡ verdict_of (refusal_of taken.now) }
 {
-    match refusal {
-        Some(refusal) => Verdict::Refused(refusal),
-        None => Verdict::Pass,
+    match taken {
+        Taken::Refused(refusal) => Verdict::Refused(*refusal),
+        Taken::Whole => Verdict::Pass,
+        Taken::Cut(_) => Verdict::Pass,
     }
 }

@@ -2,3 +2,4 @@ pub mod ListedLemmas
 pub mod Sent
 pub mod SessionLemmas
 pub mod Stepped
+mod Gone

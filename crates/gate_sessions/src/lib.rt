@@ -2,11 +2,10 @@
 //! (RFC 2694, RFC 7766).
 #![tactic(auto)]
 
+mod engine;
 mod kinds;
 mod learned;
 mod segments;
 mod session;
-mod tracked;
 
 pub use session::{AnySession, Passing};
-pub use tracked::TrackedSession;

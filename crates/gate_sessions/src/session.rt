@@ -3,7 +3,7 @@ ghost use Rattle.std.specs.Prelude.{◌≡◌, ◌≤◌, ◌<◌, ℕ, Option, 
 ghost use Rattle.gate_base.specs.declared.address.Addr.{Addr};
 ghost use Rattle.stream_model.specs.Session.{segment_in, arrival};
 ghost use Rattle.stream_gate.specs.Directions.{nothing_pushed};
-ghost use Rattle.stream_kept.specs.Sessions.{kept_made, kept_verdict};
+ghost use Rattle.stream_kept.specs.Sessions.{kept_made};
 ghost use Rattle.stream_model.specs.Verdict.{is_data};
 ghost use Rattle.gate_world.specs.Lists.{addresses_in};
 ghost use Rattle.gate_world.specs.Stream.{segment_of, sent_as, tcp_of};
@@ -25,7 +25,7 @@ use std::boxed::Box;
 use std::marker::Model;
 use stream_gate::StreamGate;
 use tcp_segments::{TcpView, flags_of};
-use unit_plans::{Entry, UnitOctets};
+use unit_plans::{Entry, Session, UnitOctets};
 
 /// A segment that passes: whether the client sends it, and the addresses between which it goes on.
 #[derive(Clone, Copy)]
@@ -89,10 +89,63 @@ fn dns_session(alloc: Global, initial: u32, mss: u16) -> Result<DnsSession, OutO
     ))
 }
 
+impl Session for AnySession {
+    ghost use Rattle.kept_world.specs.Kept.{kept_rules};
+
+    ghost rules = { kept_rules };
+
+    fn inner(&self, from_client: bool, sequence: u32) -> Option<u32> {
+        match &self.dialog {
+            Dialog::Lines(session) => session.inner(from_client, sequence),
+            Dialog::Units(session) => session.inner(from_client, sequence),
+        }
+    }
+
+    fn verdict(&self, from_client: bool, segment: &TcpView<'_>) -> Option<Refusal> {
+        match &self.dialog {
+            Dialog::Lines(session) => session.verdict(from_client, segment),
+            Dialog::Units(session) => session.verdict(from_client, segment),
+        }
+    }
+
+    fn listed(&self, client: bool) -> usize {
+        match &self.dialog {
+            Dialog::Lines(_) => 0,
+            Dialog::Units(session) => session.listed(client),
+        }
+    }
+
+    fn entry(&self, client: bool, place: usize) -> Entry {
+        match &self.dialog {
+            Dialog::Lines(_) => unreachable!(),
+            Dialog::Units(session) => session.entry(client, place),
+        }
+    }
+
+    fn entries(&self, alloc: Global, client: bool) -> Result<Vec<Entry>, OutOfMemory> {
+        let count = self.listed(client);
+        let mut entries = Vec::with_capacity(alloc, count)?;
+        for place in 0..count {
+            entries.push(self.entry(client, place))?;
+        }
+        Ok(entries)
+    }
+
+    fn put_octets(&self, from_client: bool, segment: &TcpView<'_>, octets: &mut UnitOctets) {
+        octets.clear();
+        if let Dialog::Units(session) = &self.dialog {
+            if is_data(segment) {
+                let repeated = session.repeated(from_client, segment);
+                octets.join(session.rest(from_client), &segment.payload()[repeated..]);
+            }
+        }
+    }
+}
+
 impl AnySession {
     /// The session that a client's first SYN to a port of the server makes, by the SYN's number and maximum segment size: one of DNS on
     /// the port of DNS, and else one of FTP.
-    pub fn make(
+    pub fn opened(
         alloc: Global,
         port: u16,
         pair: Pair,
@@ -114,34 +167,6 @@ impl AnySession {
         })
     }
 
-    /// Why the first segment of a client is refused by the session that it makes, on any port; None where it passes.
-    pub fn first_verdict(segment: &TcpView<'_>) -> Option<Refusal>
-        requires { length segment.now.payload ≤ 65535 }
-        ensures { result ≡ kept_verdict true (kept_made segment.now.sequence segment.now.mss nothing_pushed nothing_pushed) (segment_in segment.now) }
-    {
-        FtpSession::first_verdict(segment)
-    }
-
-    /// Why a segment of the client, or else of the server, is refused; None where it passes.
-    pub fn verdict(&self, from_client: bool, segment: &TcpView<'_>) -> Option<Refusal>
-        ensures { result ≡ kept_rules.verdict from_client self.now (segment_in segment.now) }
-    {
-        match &self.dialog {
-            Dialog::Lines(session) => session.verdict(from_client, segment),
-            Dialog::Units(session) => session.verdict(from_client, segment),
-        }
-    }
-
-    /// What the sequence number of a datagram that an ICMP error brings back was at the client, or else the server, that sent it.
-    pub fn inner(&self, from_client: bool, sequence: u32) -> Option<u32>
-        ensures { result ≡ kept_rules.inner from_client self.now sequence }
-    {
-        match &self.dialog {
-            Dialog::Lines(session) => session.inner(from_client, sequence),
-            Dialog::Units(session) => session.inner(from_client, sequence),
-        }
-    }
-
     /// How many changed lines or units wait in it to be acknowledged.
     pub fn pending(&self) -> u64
         ensures { result ≡ kept_rules.pending self.now }
@@ -149,54 +174,6 @@ impl AnySession {
         match &self.dialog {
             Dialog::Lines(session) => session.pending() as u64,
             Dialog::Units(session) => session.pending() as u64,
-        }
-    }
-
-    /// How many entries the list of the client, or else of the server, has, at most 256: none in a session of FTP.
-    pub fn listed(&self, client: bool) -> usize
-        ensures count { result ≡ length (kept_rules.listed client self.now) }
-        ensures few { result ≤ 256 }
-    {
-        match &self.dialog {
-            Dialog::Lines(_) => 0,
-            Dialog::Units(session) => session.listed(client),
-        }
-    }
-
-    /// The address and its image at a place of that list; None for an address that is kept. The place must lie below `listed`.
-    pub fn entry(&self, client: bool, place: usize) -> Entry
-        requires { place < length (kept_rules.listed client self.now) }
-        ensures { slice_get (kept_rules.listed client self.now) place ≡ Some result }
-    {
-        match &self.dialog {
-            Dialog::Lines(_) => unreachable!(),
-            Dialog::Units(session) => session.entry(client, place),
-        }
-    }
-
-    /// A copy of that list.
-    pub fn entries(&self, alloc: Global, client: bool) -> Result<Vec<Entry>, OutOfMemory>
-        ensures { IfOk result (λ entries. entries.items ≡ kept_rules.listed client self.now) }
-    {
-        let count = self.listed(client);
-        let mut entries = Vec::with_capacity(alloc, count)?;
-        for place in 0..count {
-            entries.push(self.entry(client, place))?;
-        }
-        Ok(entries)
-    }
-
-    /// Puts the octets whose whole units a segment of the client, or else of the server, completes: a held rest and what goes on behind
-    /// it, in a session of DNS.
-    pub fn put_octets(&self, from_client: bool, segment: &TcpView<'_>, octets: &mut UnitOctets)
-        ensures { whole_units octets.new ≡ kept_rules.units from_client self.now (segment_in segment.now) }
-    {
-        octets.clear();
-        if let Dialog::Units(session) = &self.dialog {
-            if is_data(segment) {
-                let repeated = session.repeated(from_client, segment);
-                octets.join(session.rest(from_client), &segment.payload()[repeated..]);
-            }
         }
     }
 

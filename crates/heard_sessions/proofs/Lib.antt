@@ -2,3 +2,5 @@ pub mod CompletedUnits
 pub mod LearnedSessions
 pub mod HeardLaws
 pub mod SeenSessions
+pub mod FreshSessions
+mod SteppedStreams

@@ -18,7 +18,7 @@ use Rattle.heard_sessions.specs.Sessions.{DnsHeard, listed_of, streams_of, IsLis
 use Rattle.heard_sessions.specs.declared.kinds.Dialog.{Dialog}
 use Rattle.heard_sessions.specs.declared.kinds.Dialog.TheVariants.{Lines, Units}
 
-abbrev FtpHeard : Type 0
+abbrev pub FtpHeard : Type 0
 FtpHeard = HeardStreams ClientLines ServerLines
 
 abbrev pub lines_of : FtpHeard → Session

@@ -2,12 +2,11 @@
 //! name (RFC 2694, RFC 7766). An auditor asks them: they stand on nothing that the gateway's own sessions keep.
 #![tactic(auto)]
 
-mod audited;
+mod engine;
 mod kinds;
 mod laws;
 mod learned;
 mod session;
 
-pub use audited::Audited;
 pub use laws::heard_sessions_are_whole;
 pub use session::AuditedSession;

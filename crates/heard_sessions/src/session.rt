@@ -21,7 +21,7 @@ use gate_base::{DNS_PORT, OutOfMemory, Pair, Refusal};
 use std::alloc::Global;
 use std::marker::Model;
 use tcp_segments::{TcpView, flags_of};
-use unit_plans::{Entry, UnitOctets};
+use unit_plans::{Entry, Session, UnitOctets};
 
 /// A session of one of two kinds: of FTP, which has no lists, or of DNS. It is seen as what was heard of its hosts, and answers as the
 /// rules of such sessions say.
@@ -43,7 +43,8 @@ impl Model for AuditedSession {
     ghost invariant = { λ session. IsOfPair session.pair session.dialog × IsSession (session_by session.pair session.dialog) };
 }
 
-fn ftp_session(alloc: Global, pair: Pair, initial: u32, mss: u16) -> FtpSession
+/// A session of FTP.
+pub fn ftp_session(alloc: Global, pair: Pair, initial: u32, mss: u16) -> FtpSession
     ensures { result ≡ record { client_dialogue = record { pair = pair }; server_dialogue = record { pair = pair }; client = unheard (Some initial) mss; server = unheard None 536 } }
 {
     WholeStreams::make(
@@ -63,10 +64,60 @@ fn dns_session(alloc: Global, initial: u32, mss: u16) -> Result<DnsSession, OutO
     Ok(WholeStreams::make(alloc, client, server, initial, mss))
 }
 
+impl Session for AuditedSession {
+    ghost use Rattle.heard_sessions.specs.Heard.{heard_rules};
+
+    ghost rules = { heard_rules };
+
+    fn inner(&self, from_client: bool, sequence: u32) -> Option<u32> {
+        match &self.dialog {
+            Dialog::Lines(session) => session.inner(from_client, sequence),
+            Dialog::Units(session) => session.inner(from_client, sequence),
+        }
+    }
+
+    fn verdict(&self, from_client: bool, segment: &TcpView<'_>) -> Option<Refusal> {
+        match &self.dialog {
+            Dialog::Lines(session) => session.verdict(from_client, segment),
+            Dialog::Units(session) => session.verdict(from_client, segment),
+        }
+    }
+
+    fn listed(&self, client: bool) -> usize {
+        match &self.dialog {
+            Dialog::Lines(_) => 0,
+            Dialog::Units(session) => session.listed(client),
+        }
+    }
+
+    fn entry(&self, client: bool, place: usize) -> Entry {
+        match &self.dialog {
+            Dialog::Lines(_) => unreachable!(),
+            Dialog::Units(session) => session.entry(client, place),
+        }
+    }
+
+    fn entries(&self, alloc: Global, client: bool) -> Result<Vec<Entry>, OutOfMemory> {
+        let count = self.listed(client);
+        let mut entries = Vec::with_capacity(alloc, count)?;
+        for place in 0..count {
+            entries.push(self.entry(client, place))?;
+        }
+        Ok(entries)
+    }
+
+    fn put_octets(&self, from_client: bool, segment: &TcpView<'_>, octets: &mut UnitOctets) {
+        octets.clear();
+        if let Dialog::Units(session) = &self.dialog {
+            put_units(session, from_client, segment, octets);
+        }
+    }
+}
+
 impl AuditedSession {
     /// The session that a client's first SYN to a port of the server makes, by the SYN's number and maximum segment size: one of DNS on
     /// the port of DNS, and else one of FTP.
-    pub fn make(
+    pub fn opened(
         alloc: Global,
         port: u16,
         pair: Pair,
@@ -89,26 +140,6 @@ impl AuditedSession {
         })
     }
 
-    /// Why a segment of the client, or else of the server, is refused; None where it passes.
-    pub fn verdict(&self, from_client: bool, segment: &TcpView<'_>) -> Option<Refusal>
-        ensures { result ≡ heard_rules.verdict from_client self.now (segment_in segment.now) }
-    {
-        match &self.dialog {
-            Dialog::Lines(session) => session.verdict(from_client, segment),
-            Dialog::Units(session) => session.verdict(from_client, segment),
-        }
-    }
-
-    /// What the sequence number of a datagram that an ICMP error brings back was at the client, or else the server, that sent it.
-    pub fn inner(&self, from_client: bool, sequence: u32) -> Option<u32>
-        ensures { result ≡ heard_rules.inner from_client self.now sequence }
-    {
-        match &self.dialog {
-            Dialog::Lines(session) => session.inner(from_client, sequence),
-            Dialog::Units(session) => session.inner(from_client, sequence),
-        }
-    }
-
     /// How many changed lines or units wait in it to be acknowledged.
     pub fn pending(&self) -> u64
         ensures { result ≡ heard_rules.pending self.now }
@@ -116,52 +147,6 @@ impl AuditedSession {
         match &self.dialog {
             Dialog::Lines(session) => session.pending() as u64,
             Dialog::Units(session) => session.pending() as u64,
-        }
-    }
-
-    /// How many entries the list of the client, or else of the server, has, at most 256: none in a session of FTP.
-    pub fn listed(&self, client: bool) -> usize
-        ensures count { result ≡ length (heard_rules.listed client self.now) }
-        ensures few { result ≤ 256 }
-    {
-        match &self.dialog {
-            Dialog::Lines(_) => 0,
-            Dialog::Units(session) => session.listed(client),
-        }
-    }
-
-    /// The address and its image at a place of that list; None for an address that is kept. The place must lie below `listed`.
-    pub fn entry(&self, client: bool, place: usize) -> Entry
-        requires { place < length (heard_rules.listed client self.now) }
-        ensures { slice_get (heard_rules.listed client self.now) place ≡ Some result }
-    {
-        match &self.dialog {
-            Dialog::Lines(_) => unreachable!(),
-            Dialog::Units(session) => session.entry(client, place),
-        }
-    }
-
-    /// A copy of that list.
-    pub fn entries(&self, alloc: Global, client: bool) -> Result<Vec<Entry>, OutOfMemory>
-        ensures { IfOk result (λ entries. entries.items ≡ heard_rules.listed client self.now) }
-    {
-        let count = self.listed(client);
-        let mut entries = Vec::with_capacity(alloc, count)?;
-        for place in 0..count {
-            entries.push(self.entry(client, place))?;
-        }
-        Ok(entries)
-    }
-
-    /// Puts the octets whose whole units a segment of the client, or else of the server, completes: a held rest and what goes on behind
-    /// it, in a session of DNS. The segment must pass.
-    pub fn put_octets(&self, from_client: bool, segment: &TcpView<'_>, octets: &mut UnitOctets)
-        requires passes { heard_rules.verdict from_client self.now (segment_in segment.now) ≡ None }
-        ensures { whole_units octets.new ≡ heard_rules.units from_client self.now (segment_in segment.now) }
-    {
-        octets.clear();
-        if let Dialog::Units(session) = &self.dialog {
-            put_units(session, from_client, segment, octets);
         }
     }
 

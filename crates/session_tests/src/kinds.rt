@@ -4,7 +4,7 @@ use gate_sessions::AnySession;
 use std::alloc::Global;
 use std::test::Fail;
 use tcp_segments::TcpView;
-use unit_plans::UnitOctets;
+use unit_plans::{Session, UnitOctets};
 
 const CLIENT: Addr = Addr(0x0a00_0005);
 
@@ -30,7 +30,7 @@ fn judged(
     port: u16,
     segment: &TcpView<'_>,
 ) -> Result<(Option<Refusal>, usize, usize), OutOfMemory> {
-    let session = AnySession::make(alloc, port, PAIR, 1000, 1460)?;
+    let session = AnySession::opened(alloc, port, PAIR, 1000, 1460)?;
     let mut octets = UnitOctets::make(alloc)?;
     session.put_octets(true, segment, &mut octets);
     let entries = session.entries(alloc, true)?;
@@ -56,7 +56,7 @@ fn sessions_begin(rt: HostRuntime) -> Result<(), Fail> {
     assert!(rt; judged(alloc, 53, &syn).ok() == Some((None, 0, 0)));
     assert!(rt; judged(alloc, 53, &question).ok() == Some((unknown, 31, 0)));
     assert!(rt; judged(alloc, 21, &question).ok() == Some((unknown, 0, 0)));
-    let session = AnySession::make(alloc, 53, PAIR, 1000, 1460)?;
+    let session = AnySession::opened(alloc, 53, PAIR, 1000, 1460)?;
     assert!(rt; session.pending() == 0 && session.inner(true, 1000) == Some(1000));
     Ok(())
 }

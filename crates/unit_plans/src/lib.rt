@@ -8,8 +8,10 @@ mod growth;
 mod named;
 mod octets;
 mod plan;
+mod session;
 mod stop;
 
 pub use octets::UnitOctets;
 pub use plan::{Endpoints, Entry, UnitPlan, plan_units};
+pub use session::{Session, Tracked};
 pub use stop::PlanStop;

@@ -14,9 +14,11 @@ use Rattle.audit_records.specs.Kept.{Expecting}
 use Rattle.heard_sessions.specs.Heard.{HeardSession, heard_rules, session_in}
 use Rattle.heard_sessions.proofs.HeardLaws.{heard_lists}
 use Rattle.gate_audit.specs.Auditing.{Auditing}
-use Rattle.gate_audit.specs.Given.{IsGiven}
-use Rattle.gate_audit.specs.Knowing.{world_in}
+use Rattle.heard_sessions.specs.Gives.{heard_gives}
+use Rattle.gate_known.specs.Given.{IsGiven}
+use Rattle.gate_known.specs.Knowing.{world_in}
 use Rattle.gate_audit.proofs.ExpectedEvents.{expected}
+use Rattle.gate_audit.proofs.Laws.{heard_laws}
 use Rattle.gate_audit.proofs.WholeGiven.{is_whole}
 use Rattle.gate_audit.proofs.auditor.Auditor.expect.Goals as goal
 
@@ -24,6 +26,9 @@ pub take_frame-requires-clause-listed : goal.take_frame-requires-clause-listed
 take_frame-requires-clause-listed c =
     let kept : c.self.inside.lost ≡ false = ap (λ (a : Auditing). a.lost) c.self.view_is ∙ c.requires.kept in
     subst (λ (x : World HeardSession). KeepsListed heard_rules x) (sym c.expire.ensures.live) (moment_lists heard_rules (world_in c.self.inside.known) (event_of c.args.event.now).moment (c.self.invariant kept))
+
+pub take_frame-requires-clause-laws : goal.take_frame-requires-clause-laws
+take_frame-requires-clause-laws c = heard_laws
 
 pub want-verdict-requires : goal.want-verdict-requires
 want-verdict-requires c =
@@ -38,7 +43,7 @@ invariant_of-self-2 c = λ lost.
     let kept : c.self.inside.lost ≡ false = ap (λ (a : Auditing). a.lost) c.self.view_is ∙ c.requires.kept in
     let known : world_in c.self.inside.known ≡ w = ap (λ (a : Auditing). a.world) c.self.view_is in
     let live : world_in c.expire.new.self ≡ at_moment w e.moment = c.expire.ensures.live ∙ ap (λ (x : World HeardSession). at_moment x e.moment) known in
-    let s = expected w e c.in_ok-taken.taken (world_in c.take_frame.new.self) c.take_frame.new.outbox (subst (λ (x : World HeardSession). IsGiven (first_that_holds (tests heard_rules x e)) (kind_of (datagram_in e)) x e.side (datagram_in e) c.in_ok-taken.taken (world_in c.take_frame.new.self) c.take_frame.new.outbox) live c.in_ok-taken.ensures) in
+    let s = expected w e c.in_ok-taken.taken (world_in c.take_frame.new.self) c.take_frame.new.outbox (subst (λ (x : World HeardSession). IsGiven heard_rules heard_gives (first_that_holds (tests heard_rules x e)) (kind_of (datagram_in e)) x e.side (datagram_in e) c.in_ok-taken.taken (world_in c.take_frame.new.self) c.take_frame.new.outbox) live c.in_ok-taken.ensures) in
     subst (λ (x : World HeardSession). KeepsListed heard_rules x) (sym s.kept_is) (next_lists heard_rules heard_lists w e (subst (λ (x : World HeardSession). KeepsListed heard_rules x) known (c.self.invariant kept)))
 
 pub returns-clause-verdict : goal.returns-clause-verdict
@@ -47,7 +52,7 @@ returns-clause-verdict c =
     let w = c.args.self.now.world in
     let known : world_in c.self.inside.known ≡ w = ap (λ (a : Auditing). a.world) c.self.view_is in
     let live : world_in c.expire.new.self ≡ at_moment w e.moment = c.expire.ensures.live ∙ ap (λ (x : World HeardSession). at_moment x e.moment) known in
-    let s = expected w e c.in_ok-taken.taken (world_in c.take_frame.new.self) c.take_frame.new.outbox (subst (λ (x : World HeardSession). IsGiven (first_that_holds (tests heard_rules x e)) (kind_of (datagram_in e)) x e.side (datagram_in e) c.in_ok-taken.taken (world_in c.take_frame.new.self) c.take_frame.new.outbox) live c.in_ok-taken.ensures) in
+    let s = expected w e c.in_ok-taken.taken (world_in c.take_frame.new.self) c.take_frame.new.outbox (subst (λ (x : World HeardSession). IsGiven heard_rules heard_gives (first_that_holds (tests heard_rules x e)) (kind_of (datagram_in e)) x e.side (datagram_in e) c.in_ok-taken.taken (world_in c.take_frame.new.self) c.take_frame.new.outbox) live c.in_ok-taken.ensures) in
     c.want-verdict.ensures.verdict ∙ s.verdict_is
 
 pub returns-clause-next : goal.returns-clause-next
@@ -56,7 +61,7 @@ returns-clause-next c =
     let w = c.args.self.now.world in
     let known : world_in c.self.inside.known ≡ w = ap (λ (a : Auditing). a.world) c.self.view_is in
     let live : world_in c.expire.new.self ≡ at_moment w e.moment = c.expire.ensures.live ∙ ap (λ (x : World HeardSession). at_moment x e.moment) known in
-    let s = expected w e c.in_ok-taken.taken (world_in c.take_frame.new.self) c.take_frame.new.outbox (subst (λ (x : World HeardSession). IsGiven (first_that_holds (tests heard_rules x e)) (kind_of (datagram_in e)) x e.side (datagram_in e) c.in_ok-taken.taken (world_in c.take_frame.new.self) c.take_frame.new.outbox) live c.in_ok-taken.ensures) in
+    let s = expected w e c.in_ok-taken.taken (world_in c.take_frame.new.self) c.take_frame.new.outbox (subst (λ (x : World HeardSession). IsGiven heard_rules heard_gives (first_that_holds (tests heard_rules x e)) (kind_of (datagram_in e)) x e.side (datagram_in e) c.in_ok-taken.taken (world_in c.take_frame.new.self) c.take_frame.new.outbox) live c.in_ok-taken.ensures) in
     let expecting : c.want-verdict.new.expected ≡ _ = c.want-verdict.ensures.wanted ∙ ap (λ (x : Wanted). let y : Expecting = record { side = e.side; moment = e.moment; wanted = x; so_far = begun } in y) s.wanted_is in
     record {
       settings = ap (λ (a : Auditing). a.settings) c.self.view_is;

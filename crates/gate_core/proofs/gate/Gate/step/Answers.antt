@@ -10,18 +10,24 @@ use Rattle.gate_world.specs.World.{World, at_moment}
 use Rattle.gate_world.proofs.ListsWorld.{moment_lists, next_lists}
 use Rattle.kept_world.specs.Kept.{KeptSession, kept_rules}
 use Rattle.kept_world.proofs.Listing.{kept_have_lists}
-use Rattle.gate_core.specs.Done.{IsPassed}
-use Rattle.gate_core.specs.Gates.{Gateway, world_in}
+use Rattle.gate_core.specs.Gates.{Gateway}
 use Rattle.gate_core.specs.Memory.{MayWant}
-use Rattle.gate_core.proofs.Stepping.{stepped, wanted}
+use Rattle.gate_core.proofs.Laws.{kept_laws}
+use Rattle.gate_core.proofs.Stepping.{stepped, wanted, put_is}
+use Rattle.gate_known.specs.Given.{IsGiven, refusal_of, given_by}
+use Rattle.gate_known.specs.Knowing.{world_in}
+use Rattle.gate_sessions.specs.Gives.{kept_gives}
 use Rattle.gate_steps.proofs.Results.{on_err}
 use Rattle.gate_core.proofs.gate.Gate.step.Goals as goal
 
 pub take_frame-requires-clause-listed : goal.take_frame-requires-clause-listed
 take_frame-requires-clause-listed c = subst (λ (x : World KeptSession). KeepsListed kept_rules x) (sym c.expire.ensures.live) (moment_lists kept_rules (world_in c.self.inside.known) (event_of c.args.event.now).moment c.self.invariant)
 
+pub take_frame-requires-clause-laws : goal.take_frame-requires-clause-laws
+take_frame-requires-clause-laws c = kept_laws
+
 pub invariant_of-self : goal.invariant_of-self
-invariant_of-self c = subst (λ (x : World KeptSession). KeepsListed kept_rules x) (sym (c.in_err-refusal.ensures.same ∙ c.expire.ensures.live)) (moment_lists kept_rules (world_in c.self.inside.known) (event_of c.args.event.now).moment c.self.invariant)
+invariant_of-self c = subst (λ (x : World KeptSession). KeepsListed kept_rules x) (sym ((c.in_err-taken.ensures tt).same ∙ c.expire.ensures.live)) (moment_lists kept_rules (world_in c.self.inside.known) (event_of c.args.event.now).moment c.self.invariant)
 
 pub invariant_of-self-2 : goal.invariant_of-self-2
 invariant_of-self-2 c =
@@ -29,7 +35,7 @@ invariant_of-self-2 c =
     let w = c.args.self.now.world in
     let known : world_in c.self.inside.known ≡ w = ap (λ g. g.world) (c.self.view_is ∙ c.spread_keys.ensures) in
     let live : world_in c.expire.new.self ≡ at_moment w e.moment = c.expire.ensures.live ∙ ap (λ x. at_moment x e.moment) known in
-    let s = stepped w e c.in_ok-refusal.refusal (world_in c.take_frame.new.self) c.take_frame.new.outbox (subst (λ x. IsPassed (first_that_holds (tests kept_rules x e)) (kind_of (datagram_in e)) x e.side (datagram_in e) c.in_ok-refusal.refusal (world_in c.take_frame.new.self) c.take_frame.new.outbox) live c.in_ok-refusal.ensures) in
+    let s = stepped w e (refusal_of c.in_ok-taken.taken) (world_in c.take_frame.new.self) (given_by kept_gives c.in_ok-taken.taken c.take_frame.new.outbox) (subst (λ x. IsGiven kept_rules kept_gives (first_that_holds (tests kept_rules x e)) (kind_of (datagram_in e)) x e.side (datagram_in e) c.in_ok-taken.taken (world_in c.take_frame.new.self) c.take_frame.new.outbox) live c.in_ok-taken.ensures) in
     subst (λ (x : World KeptSession). KeepsListed kept_rules x) (sym s.next_is) (next_lists kept_rules kept_have_lists w e (subst (λ (x : World KeptSession). KeepsListed kept_rules x) known c.self.invariant))
 
 pub returns-clause-verdict : goal.returns-clause-verdict
@@ -38,7 +44,7 @@ returns-clause-verdict c =
     let w = c.args.self.now.world in
     let known : world_in c.self.inside.known ≡ w = ap (λ g. g.world) (c.self.view_is ∙ c.spread_keys.ensures) in
     let live : world_in c.expire.new.self ≡ at_moment w e.moment = c.expire.ensures.live ∙ ap (λ x. at_moment x e.moment) known in
-    let s = stepped w e c.in_ok-refusal.refusal (world_in c.take_frame.new.self) c.take_frame.new.outbox (subst (λ x. IsPassed (first_that_holds (tests kept_rules x e)) (kind_of (datagram_in e)) x e.side (datagram_in e) c.in_ok-refusal.refusal (world_in c.take_frame.new.self) c.take_frame.new.outbox) live c.in_ok-refusal.ensures) in
+    let s = stepped w e (refusal_of c.in_ok-taken.taken) (world_in c.take_frame.new.self) (given_by kept_gives c.in_ok-taken.taken c.take_frame.new.outbox) (subst (λ x. IsGiven kept_rules kept_gives (first_that_holds (tests kept_rules x e)) (kind_of (datagram_in e)) x e.side (datagram_in e) c.in_ok-taken.taken (world_in c.take_frame.new.self) c.take_frame.new.outbox) live c.in_ok-taken.ensures) in
     c.verdict_of.ensures ∙ s.verdict_is
 
 pub returns-clause-next : goal.returns-clause-next
@@ -47,7 +53,7 @@ returns-clause-next c =
     let w = c.args.self.now.world in
     let known : world_in c.self.inside.known ≡ w = ap (λ g. g.world) (c.self.view_is ∙ c.spread_keys.ensures) in
     let live : world_in c.expire.new.self ≡ at_moment w e.moment = c.expire.ensures.live ∙ ap (λ x. at_moment x e.moment) known in
-    let s = stepped w e c.in_ok-refusal.refusal (world_in c.take_frame.new.self) c.take_frame.new.outbox (subst (λ x. IsPassed (first_that_holds (tests kept_rules x e)) (kind_of (datagram_in e)) x e.side (datagram_in e) c.in_ok-refusal.refusal (world_in c.take_frame.new.self) c.take_frame.new.outbox) live c.in_ok-refusal.ensures) in
+    let s = stepped w e (refusal_of c.in_ok-taken.taken) (world_in c.take_frame.new.self) (given_by kept_gives c.in_ok-taken.taken c.take_frame.new.outbox) (subst (λ x. IsGiven kept_rules kept_gives (first_that_holds (tests kept_rules x e)) (kind_of (datagram_in e)) x e.side (datagram_in e) c.in_ok-taken.taken (world_in c.take_frame.new.self) c.take_frame.new.outbox) live c.in_ok-taken.ensures) in
     let settings : c.self.inside.settings ≡ c.args.self.now.settings = ap (λ g. g.settings) (c.self.view_is ∙ c.spread_keys.ensures) in
     ap (λ (x : World KeptSession). let g : Gateway = record { settings = c.self.inside.settings; world = x } in g) s.next_is
     ∙ ap (λ (x : Settings). let g : Gateway = record { settings = x; world = next kept_rules w e } in g) settings
@@ -58,13 +64,27 @@ returns-clause-out c =
     let w = c.args.self.now.world in
     let known : world_in c.self.inside.known ≡ w = ap (λ g. g.world) (c.self.view_is ∙ c.spread_keys.ensures) in
     let live : world_in c.expire.new.self ≡ at_moment w e.moment = c.expire.ensures.live ∙ ap (λ x. at_moment x e.moment) known in
-    let s = stepped w e c.in_ok-refusal.refusal (world_in c.take_frame.new.self) c.take_frame.new.outbox (subst (λ x. IsPassed (first_that_holds (tests kept_rules x e)) (kind_of (datagram_in e)) x e.side (datagram_in e) c.in_ok-refusal.refusal (world_in c.take_frame.new.self) c.take_frame.new.outbox) live c.in_ok-refusal.ensures) in
-    s.out_is
+    let s = stepped w e (refusal_of c.in_ok-taken.taken) (world_in c.take_frame.new.self) (given_by kept_gives c.in_ok-taken.taken c.take_frame.new.outbox) (subst (λ x. IsGiven kept_rules kept_gives (first_that_holds (tests kept_rules x e)) (kind_of (datagram_in e)) x e.side (datagram_in e) c.in_ok-taken.taken (world_in c.take_frame.new.self) c.take_frame.new.outbox) live c.in_ok-taken.ensures) in
+    sym (put_is c.in_ok-taken.taken c.take_frame.new.outbox) ∙ s.out_is
 
-pub returns-in_err-refusal-clause-wants : goal.returns-in_err-refusal-clause-wants
-returns-in_err-refusal-clause-wants c =
+pub returns-in_err-taken-clause-wants : goal.returns-in_err-taken-clause-wants
+returns-in_err-taken-clause-wants c =
     let e = event_of c.args.event.now in
     let w = c.args.self.now.world in
     let known : world_in c.self.inside.known ≡ w = ap (λ g. g.world) (c.self.view_is ∙ c.spread_keys.ensures) in
     let live : world_in c.expire.new.self ≡ at_moment w e.moment = c.expire.ensures.live ∙ ap (λ x. at_moment x e.moment) known in
-    on_err c.from_residual.result (subst (λ (x : World KeptSession). MayWant x e) live (wanted _ e _ _ c.in_err-refusal.ensures))
+    on_err c.from_residual.result (subst (λ (x : World KeptSession). MayWant x e) live (wanted _ e _ _ (c.in_err-taken.ensures tt)))
+
+pub returns-in_err-taken-clause-memory : goal.returns-in_err-taken-clause-memory
+returns-in_err-taken-clause-memory c =
+    let e = event_of c.args.event.now in
+    let w = c.args.self.now.world in
+    let known : world_in c.self.inside.known ≡ w = ap (λ g. g.world) (c.self.view_is ∙ c.spread_keys.ensures) in
+    let live : world_in c.expire.new.self ≡ at_moment w e.moment = c.expire.ensures.live ∙ ap (λ x. at_moment x e.moment) known in
+    let settings : c.self.inside.settings ≡ c.args.self.now.settings = ap (λ g. g.settings) (c.self.view_is ∙ c.spread_keys.ensures) in
+    let lost = c.in_err-taken.ensures tt in
+    on_err c.from_residual.result (
+      ap (λ (x : World KeptSession). let g : Gateway = record { settings = c.self.inside.settings; world = x } in g) (lost.same ∙ live)
+          ∙ ap (λ (x : Settings). let g : Gateway = record { settings = x; world = at_moment w e.moment } in g) settings,
+      lost.nothing,
+    )

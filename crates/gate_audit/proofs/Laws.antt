@@ -1,0 +1,28 @@
+-- The laws of the rules by what was heard.
+use Rattle.std.proofs.Common.{◌≡◌, ◌&&◌, Bool, true, false, None, refl}
+use Rattle.gate_base.specs.declared.event.Pair.{Pair}
+use Rattle.tcp_segments.specs.Tcp.{Tcp}
+use Rattle.tcp_segments.specs.Flags.{flags_of}
+use Rattle.stream_model.specs.Session.{segment_in}
+use Rattle.audit_streams.proofs.HostLists.{opens_alone}
+use Rattle.gate_world.specs.Stream.{is_opening}
+use Rattle.heard_sessions.specs.Heard.{HeardSession, heard_rules, session_in}
+use Rattle.heard_sessions.proofs.FreshSessions.{fresh_verdict}
+use Rattle.heard_sessions.proofs.HeardLaws.{heard_lists}
+use Rattle.gate_steps.proofs.NoUnits.{syn_held}
+use Rattle.gate_known.specs.Engines.{HasLaws}
+
+-- a SYN that passes has no RST
+opens_plain : (pair : Pair) (tcp : Tcp) → is_opening tcp.flags ≡ true → heard_rules.verdict true (heard_rules.made tcp.destination_port pair tcp.sequence tcp.mss) (segment_in tcp) ≡ None → (flags_of tcp.flags).reset ≡ false
+opens_plain pair tcp opens none =
+    let s = (session_in (heard_rules.made tcp.destination_port pair tcp.sequence tcp.mss)).session in
+    opens_alone true s.client s.server (segment_in tcp) none (syn_held (flags_of tcp.flags).syn (flags_of tcp.flags).ack opens)
+
+false_and : (a b : Bool) → a ≡ false → (a && b) ≡ false
+false_and a b e = rw e refl
+
+goes_on : (f : Bool) (h : HeardSession) (tcp : Tcp) → (flags_of tcp.flags).reset ≡ false → heard_rules.ends f h (segment_in tcp) ≡ false
+goes_on f h tcp plain = false_and _ _ plain
+
+pub heard_laws : HasLaws heard_rules
+heard_laws = record { lists = heard_lists; pairs = fresh_verdict; opens = opens_plain; goes_on = goes_on }

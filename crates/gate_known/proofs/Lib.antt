@@ -1,0 +1,4 @@
+mod FirstSegments
+mod Lost
+pub mod Wholes
+pub mod Early

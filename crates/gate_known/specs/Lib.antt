@@ -1,0 +1,4 @@
+pub mod Engines
+pub mod Given
+pub mod Knowing
+pub mod Lost

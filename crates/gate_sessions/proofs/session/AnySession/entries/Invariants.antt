@@ -1,6 +1,0 @@
-use Rattle.std.proofs.Common.{◌≡◌, take}
-use Rattle.kept_world.specs.Kept.{kept_rules}
-use Rattle.gate_sessions.proofs.session.AnySession.entries.Given as goal
-
-abbrev pub invariant-loop-place : goal.invariant-loop-place
-invariant-loop-place l = l.entries.items ≡ take l.place (kept_rules.listed l.client l.self)

@@ -1,0 +1,43 @@
+use Rattle.std.proofs.Common.{◌≡◌, ◌≤◌, ◌++◌, ℕ, Bool, List, true, false, length, drop, min, ap, sym, subst, ◌∙◌}
+use Rattle.gate_base.specs.declared.event.Pair.{Pair}
+use Rattle.dns_stream.specs.Ends.{rest-short}
+use Rattle.stream_model.specs.Session.{Segment, arrival, segment_in}
+use Rattle.stream_model.specs.Verdict.{is_data}
+use Rattle.stream_kept.specs.Outs.{start_kept}
+use Rattle.stream_kept.specs.Sessions.{sender_kept}
+use Rattle.kept_world.specs.Kept.{KeptSession, kept_units}
+use Rattle.unit_plans.specs.Plans.{whole_units}
+use Rattle.unit_plans.proofs.NamedLemmas.{whole_part}
+use Rattle.gate_sessions.specs.Directions.{DnsKept, dns_session}
+use Rattle.gate_sessions.specs.Sessions.{session_of, IsSession}
+use Rattle.gate_sessions.specs.declared.kinds.Dialog.{Dialog}
+use Rattle.gate_sessions.proofs.SessionLemmas.{joined_units}
+use Rattle.gate_sessions.proofs.session.AnySessionSession.put_octets.Goals as goal
+
+-- no held rest is longer than a unit that isn't whole
+rest_in : (pair : Pair) (d : DnsKept) (f : Bool) → IsSession (dns_session pair d) → length (sender_kept f d.kept).rest ≤ 8193
+rest_in pair d true s = rest-short d.kept.client.rest s.some.stands.client.rest
+rest_in pair d false s = rest-short d.kept.server.rest s.some.stands.server.rest
+
+pub join-requires-clause-rest : goal.join-requires-clause-rest
+join-requires-clause-rest c =
+    let f = c.args.from_client in
+    let d : DnsKept = c.in-Units.session.value in
+    subst (λ (r : List ℕ). length r ≤ 8193) (sym (c.rest.ensures ∙ ap (λ (x : DnsKept). (sender_kept f x.kept).rest) c.deref-then-is_data.ensures))
+    (rest_in c.self.inside.pair d f (subst (λ (x : Dialog). IsSession (session_of c.self.inside.pair x)) c.in-Units.is c.self.invariant.1))
+
+pub returns-then-is_data : goal.returns-then-is_data
+returns-then-is_data c =
+    let f = c.args.from_client in
+    let pair = c.self.inside.pair in
+    let d : DnsKept = c.in-Units.session.value in
+    let g : Segment = segment_in c.args.segment.now in
+    let seen : dns_session pair d ≡ c.args.self.now = ap (session_of pair) (sym c.in-Units.is) ∙ c.self.view_is in
+    let repeated : c.repeated-repeated.result ≡ min (length g.octets) (start_kept (sender_kept f d.kept) g).before = c.repeated-repeated.ensures ∙ ap (λ (x : DnsKept). min (length g.octets) (start_kept (sender_kept f x.kept) g).before) c.deref.ensures in
+    let fresh : drop c.repeated-repeated.result c.payload.result.now ≡ drop (min (length g.octets) (start_kept (sender_kept f d.kept) g).before) g.octets = ap (λ (n : ℕ). drop n c.payload.result.now) repeated ∙ ap (drop (min (length g.octets) (start_kept (sender_kept f d.kept) g).before)) c.payload.ensures.octets in
+    let joined : c.join.new.self ≡ (sender_kept f d.kept).rest ++ drop (min (length g.octets) (start_kept (sender_kept f d.kept) g).before) g.octets =
+    c.join.ensures
+    ∙ ap (λ (t : List ℕ). c.rest.result.now ++ t) (whole_part c.repeated-repeated.result c.payload.result.now ∙ fresh)
+    ∙ ap (λ (r : List ℕ). r ++ drop (min (length g.octets) (start_kept (sender_kept f d.kept) g).before) g.octets) (c.rest.ensures ∙ ap (λ (x : DnsKept). (sender_kept f x.kept).rest) c.deref-then-is_data.ensures) in
+    let data_is : is_data (arrival g) ≡ true = sym c.is_data.ensures ∙ c.if-is_data.true in
+    ap whole_units joined ∙ joined_units pair d f g data_is ∙ ap (λ (k : KeptSession). kept_units f k g) seen

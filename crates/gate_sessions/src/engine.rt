@@ -1,0 +1,68 @@
+// The gate's sessions as those of an engine.
+ghost use Rattle.std.specs.Prelude.{◌≡◌, None, Some, if◌then◌else◌};
+ghost use Rattle.kept_world.specs.Kept.{kept_rules};
+
+use crate::kinds::FtpSession;
+use crate::session::{AnySession, Passing};
+use gate_base::{OutOfMemory, Pair, Refusal};
+use gate_known::{Engine, Stepped};
+use gate_outbox::{Outbox, Scratch, Segment};
+use gate_payloads::Way;
+use std::alloc::Global;
+use tcp_segments::TcpView;
+use unit_plans::{Entry, Tracked};
+
+impl Engine for AnySession {
+    ghost use Rattle.std.specs.Prelude.{ℕ, List};
+    ghost use Rattle.gate_sessions.specs.Gives.{kept_gives};
+
+    type Sent = ();
+
+    ghost Told = { List (List ℕ) };
+
+    ghost gives = { kept_gives };
+
+    fn make(
+        alloc: Global,
+        port: u16,
+        pair: Pair,
+        initial: u32,
+        mss: u16,
+    ) -> Result<AnySession, OutOfMemory> {
+        AnySession::opened(alloc, port, pair, initial, mss)
+    }
+
+    fn first_verdict(_alloc: Global, _pair: Pair, segment: &TcpView<'_>) -> Option<Refusal> {
+        FtpSession::first_verdict(segment)
+    }
+
+    fn take(
+        tracked: &mut Tracked<AnySession>,
+        _alloc: Global,
+        scratch: &mut Scratch,
+        way: &Way,
+        segment: &Segment<'_>,
+        entries: &[Entry],
+        outbox: &mut Outbox,
+    ) -> Result<Stepped<()>, OutOfMemory> {
+        let passing = Passing {
+            from_client: tracked.is_client(way.side),
+            segment,
+            source: way.source_image(),
+            destination: way.destination_image(),
+        };
+        let over = tracked.session.step(&passing, entries, outbox, scratch)?;
+        let waiting = waiting(&tracked.session, over);
+        Ok(Stepped { sent: (), waiting })
+    }
+}
+
+/// How many changed lines or units wait in a session; None where it is over.
+fn waiting(session: &AnySession, over: bool) -> Option<u64>
+    ensures { result ≡ (if over then None else Some (kept_rules.pending session.now)) }
+{
+    if over {
+        return None;
+    }
+    Some(session.pending())
+}
