@@ -1,9 +1,7 @@
 // Documents, and the settings or the first fault that they give.
 use gate_base::{Addr, Link, OidRule, Side};
-use gate_settings::{
-    Block, Blocks, Fixed, OidRules, ReadSettings, Settings, SideSettings, Statics, fault_text,
-    read_settings,
-};
+use gate_settings::{Block, Blocks, Fixed, OidRules, Settings, SideSettings, Statics};
+use settings_file::{ReadSettings, fault_text, read_settings};
 use std::alloc::Global;
 use std::test::Fail;
 

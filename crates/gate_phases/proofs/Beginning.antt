@@ -11,13 +11,13 @@ use Rattle.gate_desk.specs.Outside.{Outside, Told, Start, Takes, TakesFewer, Are
 use Rattle.gate_desk.specs.Stops.{HasStopped}
 use Rattle.gate_desk.proofs.Laws.{grows_on, grows_takes, none_failed_on, told_at-took, told_at-took_other}
 use Rattle.gate_settings.specs.declared.settings.Settings.{Settings as GateSettings}
-use Rattle.gate_settings.specs.declared.fault.SettingsFault.{SettingsFault}
-use Rattle.gate_settings.specs.declared.fault.SettingsFault.TheVariants.{TooLong}
-use Rattle.gate_settings.specs.declared.fault.ReadSettings.{ReadSettings}
-use Rattle.gate_settings.specs.declared.fault.ReadSettings.TheVariants as reads
-use Rattle.gate_settings.specs.Firsts.{ReturnsFound}
-use Rattle.gate_settings.specs.Document.{keys_of}
-use Rattle.gate_settings.specs.Cross.{settings_of}
+use Rattle.settings_file.specs.declared.fault.SettingsFault.{SettingsFault}
+use Rattle.settings_file.specs.declared.fault.SettingsFault.TheVariants.{TooLong}
+use Rattle.settings_file.specs.declared.fault.ReadSettings.{ReadSettings}
+use Rattle.settings_file.specs.declared.fault.ReadSettings.TheVariants as reads
+use Rattle.settings_file.specs.Firsts.{ReturnsFound}
+use Rattle.settings_file.specs.Document.{keys_of}
+use Rattle.settings_file.specs.Accepting.{settings_of}
 use Rattle.gate_settings.specs.Sound.{IsSound}
 use Rattle.gate_settings.specs.Forms.{HasForms}
 use Rattle.pcap_merge.specs.declared.stop.MergeStop.{MergeStop}

@@ -5,7 +5,7 @@ use Rattle.gate_desk.specs.declared.slot.Slot.TheVariants.{Settings, LeftIn, Rig
 use Rattle.gate_desk.specs.declared.slot.PerSlot.{PerSlot}
 use Rattle.gate_desk.specs.Outside.{Outside, Grows, NoneFailed, told_at, Start, took}
 use Rattle.gate_settings.specs.declared.settings.Settings.{Settings as GateSettings}
-use Rattle.gate_settings.specs.Cross.{settings_of}
+use Rattle.settings_file.specs.Accepting.{settings_of}
 use Rattle.pcap_merge.specs.Events.{Merged, Fault as EndsFaulty, events_of}
 use Rattle.gate_phases.specs.declared.status.Status.{Status}
 use Rattle.gate_phases.specs.declared.status.Status.TheVariants.{SettingsRefused, CaptureRefused, ReadFault, OpenFault, OutOfMemory}

@@ -2,7 +2,7 @@
 use Rattle.std.specs.Prelude.{ℕ, Bool, true, false, List, [], ◌++◌, codes, decimal}
 use Rattle.gate_base.specs.Side.{name_of}
 use Rattle.gate_desk.specs.Slots.{name_of as slot_name}
-use Rattle.gate_settings.specs.Faults.{text_of}
+use Rattle.settings_file.specs.Faults.{text_of}
 use Rattle.pcap_files.specs.declared.fault.CaptureFault.{CaptureFault}
 use Rattle.pcap_files.specs.declared.fault.CaptureFault.TheVariants.{NoHead, Magic, Link, RecordTooLong, Torn, CaptureTooLong, Stamp}
 use Rattle.gate_phases.specs.declared.status.Status.{Status}

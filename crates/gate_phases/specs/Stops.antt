@@ -1,8 +1,8 @@
 -- The status of a part that stopped.
 use Rattle.gate_desk.specs.declared.whole.TakeStop.{TakeStop}
 use Rattle.gate_desk.specs.declared.whole.TakeStop.TheVariants as takes
-use Rattle.gate_settings.specs.declared.fault.ReadSettings.{ReadSettings}
-use Rattle.gate_settings.specs.declared.fault.ReadSettings.TheVariants as reads
+use Rattle.settings_file.specs.declared.fault.ReadSettings.{ReadSettings}
+use Rattle.settings_file.specs.declared.fault.ReadSettings.TheVariants as reads
 use Rattle.pcap_merge.specs.declared.stop.MergeStop.{MergeStop}
 use Rattle.pcap_merge.specs.declared.stop.MergeStop.TheVariants as merges
 use Rattle.gate_phases.specs.declared.status.Status.{Status}

@@ -10,9 +10,9 @@ use crate::Status;
 use arrayvec::ArrayString;
 use gate_base::{OutOfMemory, Side};
 use gate_desk::{Desk, Slot, write_whole};
-use gate_settings::{SettingsFault, fault_text};
 use itoa::Buffer;
 use pcap_files::CaptureFault;
+use settings_file::{SettingsFault, fault_text};
 use std::alloc::Global;
 
 const USAGE: &str =

@@ -7,8 +7,9 @@ ghost use Rattle.gate_phases.specs.Beginning.{Settles, Merges, settings_start, i
 use crate::Status;
 use crate::open::start_slot;
 use gate_desk::{Desk, Slot, Way, read_up_to};
-use gate_settings::{Settings, read_settings};
+use gate_settings::Settings;
 use pcap_merge::Merge;
+use settings_file::read_settings;
 use std::alloc::Global;
 
 /// The most octets that settings may have.

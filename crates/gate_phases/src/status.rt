@@ -2,9 +2,9 @@ ghost use Rattle.std.specs.Prelude.{◌≡◌};
 
 use gate_base::Side;
 use gate_desk::Slot;
-use gate_settings::SettingsFault;
 use lawful_files::AuditReason;
 use pcap_files::CaptureFault;
+use settings_file::SettingsFault;
 
 /// What a call of the gateway comes to.
 #[derive(Clone, Copy)]

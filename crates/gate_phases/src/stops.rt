@@ -4,8 +4,8 @@ ghost use Rattle.std.specs.Prelude.{◌≡◌};
 use crate::Status;
 use gate_base::OutOfMemory;
 use gate_desk::TakeStop;
-use gate_settings::ReadSettings;
 use pcap_merge::MergeStop;
+use settings_file::ReadSettings;
 
 impl From<OutOfMemory> for Status {
     ghost use Rattle.gate_phases.specs.declared.status.Status.TheVariants.{OutOfMemory as MemoryOut};

@@ -1,19 +1,6 @@
-//! The settings of a gateway, read from a TOML document.
+//! The settings of a gateway.
 #![tactic(auto)]
 
-mod cross;
-mod document;
-mod fault;
-mod given;
-mod key;
-mod laws;
-mod prefixes;
 mod settings;
-mod texts;
-mod values;
 
-pub use document::read_settings;
-pub use fault::{ReadSettings, SettingsFault, fault_text};
-pub use key::Key;
-pub use laws::accepted_settings;
 pub use settings::{Block, Blocks, Fixed, OidRules, Settings, SideSettings, Statics};

@@ -6,13 +6,14 @@ use Rattle.gate_base.specs.Address.{quad, number_of}
 use Rattle.gate_base.specs.declared.side.Side.{Side}
 use Rattle.gate_base.specs.declared.side.Side.TheVariants.{Left, Right}
 use Rattle.gate_base.specs.declared.side.Link.TheVariants.{Raw}
-use Rattle.gate_settings.specs.declared.fault.SettingsFault.{SettingsFault}
+use Rattle.settings_file.specs.declared.fault.SettingsFault.{SettingsFault}
 use Rattle.gate_settings.specs.declared.settings.Settings.{Settings}
 use Rattle.gate_settings.specs.declared.settings.SideSettings.{SideSettings}
-use Rattle.gate_settings.specs.Document.{json, join, link, side, mac, address, block, blocks, side_keys, static_keys, static_entry, statics, side_table, all_keys, document_of, keys_of}
-use Rattle.gate_settings.specs.Cross.{block_end, host_is_taken, alias_is_outside, pool_size, same_in_pool, host_in_pool, static_outside_pool, static_repeated, mac_missing, first_fault, settings_of}
-use Rattle.gate_settings.specs.Texts.{json_text, join_text, link_text, side_text, address_text, block_text, hex_pair, mac_text}
-use Rattle.gate_settings.specs.Keys.{name_of, key_text}
+use Rattle.settings_file.specs.Document.{json, join, link, side, mac, address, block, blocks, side_keys, static_keys, static_entry, statics, side_table, all_keys, document_of, keys_of}
+use Rattle.gate_settings.specs.Cross.{block_end, host_is_taken, alias_is_outside}
+use Rattle.settings_file.specs.Accepting.{pool_size, same_in_pool, host_in_pool, static_outside_pool, static_repeated, mac_missing, first_fault, settings_of}
+use Rattle.settings_file.specs.Texts.{json_text, join_text, link_text, side_text, address_text, block_text, hex_pair, mac_text}
+use Rattle.settings_file.specs.Keys.{name_of, key_text}
 use Rattle.gate_workload.specs.Captures.{capture_form}
 use Rattle.gate_workload.specs.Workloads.{settings, workload, IsWhole}
 use Rattle.gate_workload.proofs.Whole.{left_whole, right_whole}

@@ -11,8 +11,9 @@ use Rattle.frag_join.proofs.ArrivalSteps.{arrivals_are}
 use Rattle.gate_desk.specs.declared.slot.PerSlot.{PerSlot}
 use Rattle.gate_desk.specs.declared.slot.Slot.TheVariants.{Settings, LeftIn, RightIn, LeftGiven, RightGiven, ReportGiven, LeftOut, RightOut, Report, Errors}
 use Rattle.gate_desk.specs.Outside.{Outside, Told}
-use Rattle.gate_settings.specs.Cross.{settings_of}
+use Rattle.settings_file.specs.Accepting.{settings_of}
 use Rattle.gate_settings.specs.declared.settings.Settings.{Settings as GateSettings}
+use Rattle.settings_file.proofs.Accepted.{accepted as accepted_settings}
 use Rattle.pcap_files.specs.Capture.{Head, Good, Bad, head_of}
 use Rattle.pcap_merge.specs.Events.{Merged, Done as BothEnded, are_good, have_good_heads, events_of, by_heads}
 use Rattle.gate_world.specs.Rules.{whole_rules}
@@ -171,7 +172,7 @@ keeps (Some all) status a b f w = λ s accepted. record {
   whole = λ e. w e s accepted;
   stands = each_stands s (events_in all);
   arrivals = arrivals_are s.join (events_in all).events;
-  promised = promised all.settings s (coming (arrivals_by s (events_in all).events)) accepted;
+  promised = let a = accepted_settings all.settings s accepted in promised s (coming (arrivals_by s (events_in all).events)) a.sound a.forms;
 }
 
 pub promise_kept : (status : Status) (names : Names) (a b : Outside) → IsRun status names a b → IsPromised status a b

@@ -5,7 +5,7 @@ use Rattle.gate_desk.specs.declared.slot.Slot.TheVariants.{LeftIn, RightIn}
 use Rattle.gate_desk.specs.declared.slot.PerSlot.{PerSlot}
 use Rattle.gate_desk.specs.Outside.{Outside, Told, Grows, NoneFailed, IsAtEnd}
 use Rattle.gate_settings.specs.declared.settings.Settings.{Settings as GateSettings}
-use Rattle.gate_settings.specs.Cross.{settings_of}
+use Rattle.settings_file.specs.Accepting.{settings_of}
 use Rattle.pcap_merge.specs.Events.{Merged, Done as BothEnded, Fault as EndsFaulty, have_good_heads}
 use Rattle.gate_phases.specs.declared.status.Status.{Status}
 use Rattle.gate_phases.specs.declared.status.Status.TheVariants.{Done, Usage, SettingsRefused, CaptureRefused, ReadFault, WriteFault, OpenFault, OutOfMemory, Unlawful}

@@ -6,7 +6,7 @@ use Rattle.gate_desk.specs.declared.slot.Slot.TheVariants.{Settings, LeftIn, Rig
 use Rattle.gate_desk.specs.declared.slot.PerSlot.{PerSlot}
 use Rattle.gate_desk.specs.Outside.{Outside, NoneFailed, IsAtEnd, HasFailed, HasFailedToStart}
 use Rattle.gate_settings.specs.declared.settings.Settings.{Settings as GateSettings}
-use Rattle.gate_settings.specs.Cross.{settings_of}
+use Rattle.settings_file.specs.Accepting.{settings_of}
 use Rattle.pcap_merge.specs.Events.{Done as BothEnded, Fault as EndsFaulty, have_good_heads}
 use Rattle.lawful_files.specs.declared.reason.AuditReason.{AuditReason}
 use Rattle.lawful_files.specs.Files.{LawfulFor}

@@ -10,18 +10,18 @@ use Rattle.gate_base.specs.declared.side.Side.{Side}
 use Rattle.gate_settings.specs.declared.settings.Block.{Block}
 use Rattle.gate_settings.specs.declared.settings.Fixed.{Fixed}
 use Rattle.gate_base.specs.declared.side.Side.TheVariants.{Left, Right}
-use Rattle.gate_settings.specs.declared.fault.SettingsFault.{SettingsFault}
-use Rattle.gate_settings.specs.declared.fault.SettingsFault.TheVariants.{TooLong, NotToml, Kind}
-use Rattle.gate_settings.specs.declared.given.Given.{Given}
-use Rattle.gate_settings.specs.declared.given.GivenSide.{GivenSide}
-use Rattle.gate_settings.specs.declared.key.Key.{Key}
-use Rattle.gate_settings.specs.declared.key.Key.TheVariants.{Report, Fragments, Same, Table, PoolFirst, PoolLast, Link, GatewayMac, NextMac, Statics, Oids}
+use Rattle.settings_file.specs.declared.fault.SettingsFault.{SettingsFault}
+use Rattle.settings_file.specs.declared.fault.SettingsFault.TheVariants.{TooLong, NotToml, Kind}
+use Rattle.settings_file.specs.declared.given.Given.{Given}
+use Rattle.settings_file.specs.declared.given.GivenSide.{GivenSide}
+use Rattle.settings_file.specs.declared.key.Key.{Key}
+use Rattle.settings_file.specs.declared.key.Key.TheVariants.{Report, Fragments, Same, Table, PoolFirst, PoolLast, Link, GatewayMac, NextMac, Statics, Oids}
 use Rattle.gate_settings.specs.declared.settings.Settings.{Settings}
-use Rattle.gate_settings.specs.Cross.{settings_of, unless, first_fault}
-use Rattle.gate_settings.specs.Document.{text, mac, given_mac, read_or, optional, zeros, is_ethernet, json, join, blocks, link, address, table, needed, statics, oids, side_keys, side_table, all_keys, document_of, keys_of}
-use Rattle.gate_settings.specs.Firsts.{◌>>=◌, Found}
-use Rattle.gate_settings.specs.Keys.{name_of}
-use Rattle.gate_settings.specs.Texts.{hex_pair, has_colons, six_pairs, mac_text}
+use Rattle.settings_file.specs.Accepting.{settings_of, unless, first_fault}
+use Rattle.settings_file.specs.Document.{text, mac, given_mac, read_or, optional, zeros, is_ethernet, json, join, blocks, link, address, table, needed, statics, oids, side_keys, side_table, all_keys, document_of, keys_of}
+use Rattle.settings_file.specs.Firsts.{◌>>=◌, Found}
+use Rattle.settings_file.specs.Keys.{name_of}
+use Rattle.settings_file.specs.Texts.{hex_pair, has_colons, six_pairs, mac_text}
 use Rattle.lawful_files.specs.Files.{HasMacAddresses, HaveMacAddresses}
 
 -- ## What holds of whatever is found

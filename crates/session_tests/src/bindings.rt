@@ -2,7 +2,7 @@
 use binding_table::{Crossing, Table};
 use expiring_table::Seed;
 use gate_base::{Addr, Moment, Side};
-use gate_settings::read_settings;
+use settings_file::read_settings;
 use std::test::Fail;
 
 const SETTINGS: &[u8] = b"left.pool_first = \"192.168.200.1\"

@@ -7,7 +7,7 @@ ghost use Rattle.gate_world.specs.Names.{is_unbound};
 use binding_table::{Crossing, Firsts, Table};
 use expiring_table::Seed;
 use gate_base::{Addr, OutOfMemory, Refusal, Side};
-use gate_settings::read_settings;
+use settings_file::read_settings;
 use std::alloc::Global;
 use std::test::Fail;
 use unit_plans::{Endpoints, Entry, PlanStop, UnitPlan, plan_units};

@@ -2,8 +2,8 @@ use Rattle.std.proofs.Common.{Ok, Err, OnErr, [], length, subst, refl}
 use Rattle.pcap_merge.specs.Given.{TakenFor}
 use Rattle.gate_desk.specs.declared.slot.Slot.TheVariants.{Settings}
 use Rattle.gate_desk.specs.declared.slot.Way.TheVariants.{Read}
-use Rattle.gate_settings.specs.Firsts.{ReturnsFound}
-use Rattle.gate_settings.specs.Cross.{settings_of}
+use Rattle.settings_file.specs.Firsts.{ReturnsFound}
+use Rattle.settings_file.specs.Accepting.{settings_of}
 use Rattle.gate_phases.specs.Beginning.{settings_start, Settles}
 use Rattle.gate_phases.specs.Stops.{status_of_settings, status_of_take}
 use Rattle.gate_phases.proofs.Causes.{handed_on, way_of}

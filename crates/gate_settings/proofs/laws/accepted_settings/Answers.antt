@@ -1,8 +1,0 @@
-use Rattle.gate_settings.proofs.Accepted.{accepted}
-use Rattle.gate_settings.proofs.laws.accepted_settings.Goals as goal
-
-pub returns-clause-sound : goal.returns-clause-sound
-returns-clause-sound c octets settings is = (accepted octets settings is).sound
-
-pub returns-clause-forms : goal.returns-clause-forms
-returns-clause-forms c octets settings is = (accepted octets settings is).forms

@@ -1,5 +1,0 @@
-use Rattle.std.proofs.Common.{length}
-use Rattle.gate_settings.proofs.prefixes.+arc_behind.Given as goal
-
-abbrev pub decreases-arc_behind : goal.decreases-arc_behind
-decreases-arc_behind l = length l.digits.now

@@ -1,8 +1,0 @@
-use Rattle.std.proofs.Common.{◌≡◌, ◌-◌}
-use Rattle.gate_settings.specs.Prefixes.{arcs_text}
-use Rattle.gate_settings.proofs.ArcTexts.{behind}
-use Rattle.gate_settings.proofs.prefixes.read_arcs.Given as goal
-
--- the arcs so far with those of what is left behind them are all
-abbrev pub invariant-loop : goal.invariant-loop
-invariant-loop l = behind l.arcs.items (arcs_text (64 - l.counter) l.rest) ≡ arcs_text 64 l.text

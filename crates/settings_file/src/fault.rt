@@ -1,0 +1,125 @@
+// What is wrong with a settings document.
+ghost use Rattle.std.specs.Prelude.{◌≡◌, IfOk};
+ghost use Rattle.settings_file.specs.Faults.{text_of};
+ghost use Rattle.settings_file.specs.declared.fault.ReadSettings.TheVariants.{Fault, OutOfMemory as memory};
+
+use crate::key::Key;
+use gate_base::{OutOfMemory, Side};
+use std::alloc::{AllocError, AllocFailed, Global};
+use std::fmt;
+
+/// What is wrong with a settings document. This is the order of testing, but that `Missing`, `Kind` and `BadAddress`
+/// are tested together, key by key in the order of `Key`. Where a fault names a realm the left one is tested first, and
+/// where it names an entry of `static`, numbered from 1, it is the first such entry.
+#[derive(Clone, Copy)]
+pub enum SettingsFault {
+    /// It has more than 1,048,576 octets.
+    TooLong,
+    /// It isn't UTF-8, or isn't a TOML document.
+    NotToml,
+    /// A key that must be there isn't.
+    Missing(Key),
+    /// A value is no text, table or array where its key wants one, or its text is no form of its key.
+    Kind(Key),
+    /// A text is no IPv4 address of a host, or no block of addresses.
+    BadAddress(Key),
+    /// The pool's last address is below its first, or the pool has more than 65,536 addresses.
+    PoolSize(Side),
+    /// A block of `same` shares an address with the realm's pool.
+    SameInPool(Side),
+    /// The static's host lies in the pool of its own realm, or in a block of `same`.
+    HostInPool(u32),
+    /// The static's alias lies outside the pool of the other realm.
+    StaticOutsidePool(u32),
+    /// An earlier static of the same realm has the static's host or its alias.
+    StaticRepeated(u32),
+    /// The realm's link is Ethernet, and `gateway_mac` or `next_mac` isn't given.
+    MacMissing(Side),
+}
+
+/// Why there are no settings.
+#[derive(Clone, Copy)]
+pub enum ReadSettings {
+    /// The document's first fault.
+    Fault(SettingsFault),
+    /// Memory ran out.
+    OutOfMemory,
+}
+
+impl From<SettingsFault> for ReadSettings {
+    ghost from_gives = { λ f e. e ≡ Fault f };
+
+    fn from(fault: SettingsFault) -> ReadSettings {
+        ReadSettings::Fault(fault)
+    }
+}
+
+impl From<OutOfMemory> for ReadSettings {
+    ghost from_gives = { λ _ e. e ≡ memory };
+
+    fn from(_error: OutOfMemory) -> ReadSettings {
+        ReadSettings::OutOfMemory
+    }
+}
+
+impl From<AllocError> for ReadSettings {
+    ghost from_gives = { λ _ e. e ≡ memory };
+
+    fn from(_error: AllocError) -> ReadSettings {
+        ReadSettings::OutOfMemory
+    }
+}
+
+impl<T: Drop> From<AllocFailed<T>> for ReadSettings {
+    ghost from_gives = { λ _ e. e ≡ memory };
+
+    fn from(_error: AllocFailed<T>) -> ReadSettings {
+        ReadSettings::OutOfMemory
+    }
+}
+
+impl fmt::Display for SettingsFault {
+    ghost use Rattle.std.specs.Prelude.{Some};
+
+    ghost output = { λ fault. Some (text_of fault) };
+
+    #[tactic(auto, unfolding(crate::specs::Faults::text_of))]
+    fn fmt<W: fmt::Write>(&self, f: &mut fmt::Formatter<W>) -> fmt::Result {
+        match self {
+            SettingsFault::TooLong => write!(f, "TooLong"),
+            SettingsFault::NotToml => write!(f, "NotToml"),
+            SettingsFault::Missing(key) => write!(f, "Missing {key}"),
+            SettingsFault::Kind(key) => write!(f, "Kind {key}"),
+            SettingsFault::BadAddress(key) => write!(f, "BadAddress {key}"),
+            SettingsFault::PoolSize(side) => {
+                let side = side.name();
+                write!(f, "PoolSize {side}")
+            }
+            SettingsFault::SameInPool(side) => {
+                let side = side.name();
+                write!(f, "SameInPool {side}")
+            }
+            SettingsFault::HostInPool(number) => write!(f, "HostInPool static.{number}"),
+            SettingsFault::StaticOutsidePool(number) => write!(
+                f,
+                "StaticOutsidePool static.{number}"
+            ),
+            SettingsFault::StaticRepeated(number) => write!(f, "StaticRepeated static.{number}"),
+            SettingsFault::MacMissing(side) => {
+                let side = side.name();
+                write!(f, "MacMissing {side}")
+            }
+        }
+    }
+}
+
+/// The text of a fault, as `Missing left.pool_first`: its name, and where it has one a space and its key, realm or
+/// static. The error means that memory ran out.
+pub fn fault_text(alloc: Global, fault: &SettingsFault) -> Result<Vec<u8>, OutOfMemory>
+    ensures { IfOk result (λ text. text.items ≡ text_of fault.now) }
+{
+    match format!(in alloc; "{fault}") {
+        Ok(text) => Ok(text.into_bytes()),
+        Err(_) => Err(OutOfMemory),
+    }
+}

@@ -1,0 +1,12 @@
+// What is true of all settings.
+ghost use Rattle.std.specs.Prelude.{◌≡◌, ℕ, List, Ok};
+ghost use Rattle.settings_file.specs.Accepting.{settings_of};
+ghost use Rattle.gate_settings.specs.Forms.{HasForms};
+ghost use Rattle.gate_settings.specs.Sound.{IsSound};
+ghost use Rattle.gate_settings.specs.declared.settings.Settings.{Settings};
+
+/// Settings that octets give fit one another, and their blocks, addresses and rules have their forms.
+pub fn accepted_settings()
+    ensures sound { (octets : List ℕ) (settings : Settings) → settings_of octets ≡ Ok settings → IsSound settings }
+    ensures forms { (octets : List ℕ) (settings : Settings) → settings_of octets ≡ Ok settings → HasForms settings }
+{}

@@ -1,0 +1,17 @@
+//! The settings of a gateway, read from a TOML document.
+#![tactic(auto)]
+
+mod cross;
+mod document;
+mod fault;
+mod given;
+mod key;
+mod laws;
+mod prefixes;
+mod texts;
+mod values;
+
+pub use document::read_settings;
+pub use fault::{ReadSettings, SettingsFault, fault_text};
+pub use key::Key;
+pub use laws::accepted_settings;

@@ -1,0 +1,14 @@
+mod RowsEdges
+mod RowsFirst
+mod RowsFull
+mod RowsGiven
+mod RowsGrowth
+mod RowsHeld
+mod RowsLists
+mod RowsMore
+mod RowsPayloads
+mod RowsRefused
+mod RowsRepeats
+mod RowsRules
+mod RowsSecond
+mod RowsUnits
