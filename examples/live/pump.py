@@ -143,24 +143,28 @@ class Pump:
             print("live", flush=True)
 
     def _watch_signals(self) -> None:
-        """SIGINT and SIGTERM end both captures, and SIGUSR1 moves the stamps ahead. What they do is done in the loop, so
-        that it never comes between a batch and its heartbeat."""
+        """SIGINT, SIGTERM and SIGHUP end both captures, SIGUSR2 tells the counts, and where `--skip` is given SIGUSR1 moves the
+        stamps ahead. What they do is done in the loop, so that it never comes between a batch and its heartbeat."""
         reader, writer = os.pipe()
         os.set_blocking(writer, False)
         signal.set_wakeup_fd(writer)
-        for number in (signal.SIGINT, signal.SIGTERM, signal.SIGUSR1):
+        for number in (signal.SIGINT, signal.SIGTERM, signal.SIGHUP, signal.SIGUSR1, signal.SIGUSR2):
             signal.signal(number, lambda *_: None)
 
         def came() -> None:
             for number in os.read(reader, 64):
                 if number == signal.SIGUSR1:
                     self._skip()
+                elif number == signal.SIGUSR2:
+                    self._tell_counts()
                 else:
                     self._end(None)
 
         self._loop.watch(reader, came)
 
     def _skip(self) -> None:
+        if not self._seconds_to_skip:
+            return
         self._stamps.skip(self._seconds_to_skip)
         if self._journal:
             self._journal.remark(f"the clock goes {self._seconds_to_skip} s ahead")
@@ -185,6 +189,12 @@ class Pump:
             print(f"pump: {self._failure}", file=sys.stderr)
         how = f"with status {status}" if status >= 0 else f"by signal {-status}"
         print(f"pump: the program ended {how}", file=sys.stderr)
+        self._tell_counts()
+
+    def _tell_counts(self) -> None:
+        """Says on standard error what each device counted, and the verdicts where there is a report."""
+        if self._journal:
+            print(f"pump: verdicts: {self._journal.counts() or 'none'}", file=sys.stderr)
         for side, device in enumerate(self._devices):
             try:
                 lost = str(device.lost_in_queue())
@@ -194,6 +204,7 @@ class Pump:
                 f"pump: {SIDES[side]}, {device}: {device.read} frames read, {device.given} given,"
                 f" {device.refused} not taken by the device, {lost} lost in its queue",
                 file=sys.stderr,
+                flush=True,
             )
 
 
@@ -207,7 +218,7 @@ def words_of_command() -> argparse.Namespace:
     add("right", help="the same for the right realm")
     add("--mtu", type=int, help="set the mtu of both devices")
     add("--queue", type=int, help="set the length of their queues, in frames")
-    add("--report", metavar="FILE", help="write the report there, each line with its frame in words (- is standard output)")
+    add("--report", metavar="FILE", help="append the report there, each line with its frame in words (- is standard output)")
     add("--refused", action="store_true", help="only lines of frames that don't pass")
     add("--save", metavar="FOLDER", help="keep what the program reads and writes")
     trial = parser.add_argument_group("for trials")
@@ -216,7 +227,7 @@ def words_of_command() -> argparse.Namespace:
     add("--late", type=float, default=0.0, metavar="P", help="let a frame come behind the next one")
     add("--twice", type=float, default=0.0, metavar="P", help="let it come twice")
     add("--seed", type=int, default=1, metavar="N", help="of these draws")
-    add("--skip", type=float, default=3600, metavar="SECONDS", help="how far each SIGUSR1 moves the stamps ahead")
+    add("--skip", type=float, default=0, metavar="SECONDS", help="let each SIGUSR1 move the stamps so far ahead")
     return parser.parse_args()
 
 
@@ -225,7 +236,7 @@ def open_journal(words: argparse.Namespace, devices: tuple[Device, Device]) -> J
     if not words.report and not words.save:
         return None
     name = words.report or os.devnull
-    file = sys.stdout if name == "-" else open(name, "w", encoding="ascii")
+    file = sys.stdout if name == "-" else open(name, "a", encoding="ascii")
     return Journal(file, (devices[LEFT].link, devices[RIGHT].link), words.refused)
 
 

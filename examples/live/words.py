@@ -1,6 +1,8 @@
 """A frame in a few words, and the program's report with them."""
+import contextlib
 import json
 import struct
+import sys
 from collections import Counter, deque
 from typing import TextIO
 
@@ -54,7 +56,7 @@ class Journal:
 
     def __init__(self, file: TextIO, links: tuple[int, int], only_refused: bool) -> None:
         self.verdicts: Counter[bytes] = Counter()
-        self._file = file
+        self._file: TextIO | None = file
         self._links = links
         self._only_refused = only_refused
         self._frames: tuple[deque[bytes | None], deque[bytes | None]] = (deque(), deque())
@@ -67,13 +69,29 @@ class Journal:
 
     def remark(self, text: str) -> None:
         """A line of the pump's own."""
-        self._file.write(f"# {text}\n")
+        self._write([f"# {text}\n"])
 
     def take(self, octets: bytes) -> None:
         """Octets of the report, whose last line may be cut."""
         *lines, self._rest = (self._rest + octets).split(b"\n")
-        self._file.writelines(filter(None, map(self._line, lines)))
-        self._file.flush()
+        self._write(list(filter(None, map(self._line, lines))))
+
+    def counts(self) -> str:
+        """How many frames had each verdict, heartbeats left out."""
+        return ", ".join(f"{count} {verdict.decode('ascii')}" for verdict, count in self.verdicts.most_common())
+
+    def _write(self, lines: list[str]) -> None:
+        """Where the report has no room any more the gateway goes on without it."""
+        if not self._file:
+            return
+        try:
+            self._file.writelines(lines)
+            self._file.flush()
+        except OSError as error:
+            print(f"pump: the report ends here: {error.strerror}", file=sys.stderr, flush=True)
+            with contextlib.suppress(OSError):
+                self._file.close()
+            self._file = None
 
     def _line(self, line: bytes) -> str:
         words = split(line)

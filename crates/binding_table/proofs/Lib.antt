@@ -16,3 +16,4 @@ pub mod Rows
 pub mod SeenAfter
 pub mod EntriesApart
 pub mod Pushed
+pub mod Moving

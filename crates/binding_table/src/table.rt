@@ -1,9 +1,11 @@
 // The table of bindings.
 ghost use Rattle.std.specs.Prelude.{◌≡◌, true, false, Some, None, map, option_map, option_and_then, length, All, IfOk, IsTrue, OnOk};
+ghost use Rattle.std.specs.Bool.{OnTrue, OnFalse};
 ghost use Rattle.std.specs.List.{find, filter};
 ghost use Rattle.binding_table.specs.Steps.{aliases_of, aliases_with, changed, entries_in, extended_by, filed, moving_row, unless_fixed, AreKept, CanHold};
 ghost use Rattle.binding_table.specs.Bindings as tables;
 ghost use Rattle.binding_table.specs.Lawful.{IsLawful};
+ghost use Rattle.binding_table.specs.Plan.{used};
 ghost use Rattle.gate_base.specs.Rules.{AreRules};
 ghost use Rattle.gate_settings.specs.Cross.{is_in_same};
 ghost use Rattle.gate_settings.specs.Sound.{IsSound};
@@ -272,6 +274,22 @@ impl Table {
     {
         if let Some((place, number)) = self.moving_through(side, address) {
             self.extend_numbered(place, number, until);
+        }
+    }
+
+    /// Uses a host of the realm that has a binding which isn't fixed: this lasts at least until a moment. False says that there is none.
+    #[inline(always)]
+    pub fn use_moving(&mut self, side: Side, host: Addr, until: Moment) -> bool
+        ensures used { OnTrue result (self.new ≡ used self.old (record { side = side; address = host; until = until })) }
+        ensures kept { OnFalse result (self.new ≡ self.old) }
+    {
+        let number = number_of(side, host);
+        match self.bindings.locate(number) {
+            Some((place, row)) => {
+                self.extend_row(place, row, until);
+                true
+            }
+            None => false,
         }
     }
 

@@ -68,28 +68,32 @@ pub(crate) fn walk(
     let mut octets = Vec::with_capacity(alloc, ROOM)?;
     let mut start = place;
     let mut at = place;
+    // the labels from here on aren't copied yet
+    let mut from = place;
     let mut after: Option<usize> = None;
     'pieces: loop {
         match piece_at(message, at) {
             Found::Root => {
+                octets.extend_from_slice(&message[from..at])?;
                 let end = after.unwrap_or(at + 1);
                 return Ok((Name { octets }, end));
             }
             Found::Label(label) => {
                 let next = at + 1 + label.len();
-                if octets.len() + 1 + label.len() > 254 {
+                if octets.len() + (next - from) > 254 {
                     return Err(NameStop::BadDns);
                 }
-                octets.extend_from_slice(&message[at..next])?;
                 at = next;
             }
             Found::Pointer(to) => {
                 if to >= start {
                     return Err(NameStop::BadDns);
                 }
+                octets.extend_from_slice(&message[from..at])?;
                 after = after.or(Some(at + 2));
                 start = end_at(ends, to);
                 at = start;
+                from = start;
             }
             Found::Nothing => return Err(NameStop::BadDns),
         }

@@ -46,6 +46,8 @@ fn address_in(octets: &[u8]) -> Option<Addr>
     ensures { option_map (λ address. address.0) result ≡ reverse_in octets.now }
 {
     let (d, rest) = first_label(octets)?;
+    // most names begin with no number
+    let _number = read_number(d)?;
     let (c, rest) = first_label(rest)?;
     let (b, rest) = first_label(rest)?;
     let (a, rest) = first_label(rest)?;

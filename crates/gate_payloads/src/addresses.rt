@@ -97,6 +97,9 @@ fn use_by(crossing: Crossing, table: &mut Table, side: Side, address: Addr, unti
 pub fn use_address(table: &mut Table, side: Side, address: Addr, until: Moment)
     ensures { table.new ≡ used table.old (record { side = side; address = address; until = until }) }
 {
+    if table.use_moving(side, address, until) {
+        return;
+    }
     use_by(table.cross(side, address), table, side, address, until);
 }
 

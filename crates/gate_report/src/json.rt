@@ -1,84 +1,104 @@
 // Lines in JSON.
-ghost use Rattle.std.specs.Prelude.{◌≡◌, IfOk};
-ghost use Rattle.serde_json.specs.View.{view};
+ghost use Rattle.std.specs.Prelude.{◌≡◌, IfOk, OnOk};
+ghost use Rattle.serde_json.specs.Events.{SendsValue};
 ghost use Rattle.gate_report.specs.Lines.{json_of};
 ghost use Rattle.gate_report.specs.Values.{value_of, event_value, done_value};
 
 use crate::line::Line;
 use gate_base::{Side, Verdict};
-use serde_json::{Value, json};
+use serde::{Described, Serialize, Serializer};
 use std::alloc::{AllocError, Global};
 
 /// A line in JSON, with its line feed.
 pub fn json_line(alloc: Global, line: &Line) -> Result<Vec<u8>, AllocError>
     ensures { IfOk result (λ octets. octets.items ≡ json_of line.now) }
 {
-    let mut octets = value_of(alloc, line)?.to_vec(alloc)?;
+    let mut octets = match serde_json::to_vec(alloc, line) {
+        Ok(octets) => octets,
+        Err(_) => return Err(AllocError),
+    };
     octets.push(b'\n')?;
     Ok(octets)
 }
 
-fn value_of(alloc: Global, line: &Line) -> Result<Value, AllocError>
-    ensures { IfOk result (λ value. view value ≡ value_of line.now) }
-{
-    match *line {
-        Line::Event {
-            number,
-            side,
-            moment,
-            verdict,
-            frames,
-        } => event_value(alloc, number, side, moment.0, verdict, frames),
-        Line::Done {
-            events,
-            passed,
-            refused,
-            to_left,
-            to_right,
-            pending,
-        } => done_value(alloc, events, passed, refused, to_left, to_right, pending),
+impl Described for Line {
+    ghost writes = { λ line. SendsValue (value_of line) };
+}
+
+impl Serialize for Line {
+    fn serialize<S: Serializer>(&self, out: &mut S) -> Result<(), S::Error> {
+        match *self {
+            Line::Event {
+                number,
+                side,
+                moment,
+                verdict,
+                frames,
+            } => send_event(out, number, side, moment.0, verdict, frames),
+            Line::Done {
+                events,
+                passed,
+                refused,
+                to_left,
+                to_right,
+                pending,
+            } => send_done(out, events, passed, refused, to_left, to_right, pending),
+        }
     }
 }
 
-#[tactic(auto, unfolding(crate::specs::Values::event_value))]
-fn event_value(
-    alloc: Global,
+// An event's line, key by key.
+#[inline(always)]
+fn send_event<S: Serializer>(
+    out: &mut S,
     number: u64,
     side: Side,
     moment: u64,
     verdict: Verdict,
     frames: u32,
-) -> Result<Value, AllocError>
-    ensures { IfOk result (λ value. view value ≡ event_value number side moment verdict frames) }
+) -> Result<(), S::Error>
+    ensures { OnOk result (SendsValue (event_value number side moment verdict frames) (S.written out.old) (S.written out.new)) }
 {
-    json!(in alloc; {
-        "event": number,
-        "frames": frames,
-        "moment": moment,
-        "side": side.name(),
-        "verdict": verdict.name()
-    })
+    out.begin_map(Some(5))?;
+    out.key("event")?;
+    out.u64(number)?;
+    out.key("frames")?;
+    out.u64(u64::from(frames))?;
+    out.key("moment")?;
+    out.u64(moment)?;
+    out.key("side")?;
+    out.str(side.name())?;
+    out.key("verdict")?;
+    out.str(verdict.name())?;
+    out.end_map()
 }
 
-#[tactic(auto, unfolding(crate::specs::Values::done_value))]
-fn done_value(
-    alloc: Global,
+// The last line, key by key.
+fn send_done<S: Serializer>(
+    out: &mut S,
     events: u64,
     passed: u64,
     refused: u64,
     to_left: u64,
     to_right: u64,
     pending: u64,
-) -> Result<Value, AllocError>
-    ensures { IfOk result (λ value. view value ≡ done_value events passed refused to_left to_right pending) }
+) -> Result<(), S::Error>
+    ensures { OnOk result (SendsValue (done_value events passed refused to_left to_right pending) (S.written out.old) (S.written out.new)) }
 {
-    json!(in alloc; {
-        "done": true,
-        "events": events,
-        "passed": passed,
-        "pending": pending,
-        "refused": refused,
-        "to_left": to_left,
-        "to_right": to_right
-    })
+    out.begin_map(Some(7))?;
+    out.key("done")?;
+    out.bool(true)?;
+    out.key("events")?;
+    out.u64(events)?;
+    out.key("passed")?;
+    out.u64(passed)?;
+    out.key("pending")?;
+    out.u64(pending)?;
+    out.key("refused")?;
+    out.u64(refused)?;
+    out.key("to_left")?;
+    out.u64(to_left)?;
+    out.key("to_right")?;
+    out.u64(to_right)?;
+    out.end_map()
 }
