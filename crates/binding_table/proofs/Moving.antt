@@ -7,9 +7,10 @@ use Rattle.gate_base.specs.declared.address.Addr.{Addr}
 use Rattle.gate_base.specs.declared.side.Side.{Side}
 use Rattle.expiring_table.specs.declared.row.Row.{Row}
 use Rattle.binding_table.specs.declared.binding.Binding.{Binding}
+use Rattle.binding_table.specs.declared.binding.Crossing.TheVariants.{Known}
 use Rattle.binding_table.specs.Bindings.{Bindings, cross, extended, extend_through, in_pool, is_of_host, is_same}
 use Rattle.binding_table.specs.Lawful.{IsInPlace, IsLawful}
-use Rattle.binding_table.specs.Plan.{Use, used}
+use Rattle.binding_table.specs.Plan.{Use, used, used_by}
 use Rattle.binding_table.specs.Steps.{extended_by, filed, moving_row, number_of, unless_fixed}
 use Rattle.binding_table.proofs.Filed.{found_moving}
 use Rattle.binding_table.proofs.Once.{address_is, finds, through_moving}
@@ -25,12 +26,16 @@ bound_place table side host binding lawful known =
     let of_host = address_is binding.host host parts.1 in
     (ap (is_same table) (sym of_host) ∙ place.host, ap (λ (s : Side). in_pool table s host) (sym of_side) ∙ ap (in_pool table binding.side) (sym of_host) ∙ place.outside)
 
+-- so it crosses to its alias
+crosses : (table : Bindings) (side : Side) (host : Addr) (binding : Binding) → IsLawful table → find (is_of_host side host.0) table.entries ≡ Some binding → cross table side host ≡ Known binding.alias
+unfolding cross
+crosses table side host binding lawful known =
+    let place = bound_place table side host binding lawful known in
+    rw (place.0, place.1, known) refl
+
 -- its use lets that last
 used_bound : (table : Bindings) (one : Use) (binding : Binding) → IsLawful table → find (is_of_host one.side one.address.0) table.entries ≡ Some binding → used table one ≡ extended table one.side one.address one.until
-unfolding cross
-used_bound table one binding lawful known =
-    let place = bound_place table one.side one.address binding lawful known in
-    rw (place.0, place.1, known) refl
+used_bound table one binding lawful known = ap (used_by table one.side one.address one.until) (crosses table one.side one.address binding lawful known)
 
 -- to extend by the row of a host is to use it
 pub moving_used : (table : Bindings) (one : Use) (row : Row Binding) → IsLawful table → moving_row (number_of one.side one.address.0) table.entries ≡ Some row → record table { entries = extended_by (Some row) one.until table.entries } ≡ used table one

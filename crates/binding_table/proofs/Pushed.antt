@@ -1,10 +1,9 @@
 -- A binding that is put behind the others.
-use Rattle.std.proofs.Common.{◌≡◌, ◌∙◌, ◌++◌, ◌∷◌, [], true, false, Bool, max, if◌then◌else◌, List, map, Some, None, IsSome, IsTrue, All, ap, sym, subst, refl, arith}
+use Rattle.std.proofs.Common.{◌≡◌, ◌∙◌, ◌++◌, ◌∷◌, [], true, false, if◌then◌else◌, List, map, Some, None, IsSome, IsTrue, All, ap, sym, subst, refl, arith}
 use Rattle.std.proofs.lemmas.List.{map-append}
 use Rattle.std.proofs.lemmas.List.Elements.{All-map, All-weaker}
 use Rattle.gate_base.specs.Rules.{AreRules}
 use Rattle.gate_base.specs.Side.{same_side}
-use Rattle.gate_base.specs.declared.event.Moment.{Moment}
 use Rattle.gate_base.specs.declared.side.Side.{Side}
 use Rattle.gate_base.specs.declared.side.Side.TheVariants.{Left, Right}
 use Rattle.realm_pools.specs.Addresses.{is_free}
@@ -12,7 +11,7 @@ use Rattle.expiring_table.specs.declared.row.Row.{Row}
 use Rattle.expiring_table.specs.Rows.{Table, row_of}
 use Rattle.binding_table.specs.declared.binding.Binding.{Binding}
 use Rattle.binding_table.specs.declared.table.Table.TheInside.{Inside}
-use Rattle.binding_table.specs.Bindings.{lasting, with_binding}
+use Rattle.binding_table.specs.Bindings.{with_binding}
 use Rattle.binding_table.specs.Inside.{bindings_of, IsWhole}
 use Rattle.binding_table.specs.Steps.{Aliases, CanHold, changed, filed}
 use Rattle.binding_table.proofs.Kept.{free_for, aliases_push, lawful_push, unfiled}
@@ -45,11 +44,3 @@ fixed_ends rows entries is fixed =
 
 pub moving_end : (binding : Binding) → binding.fixed ≡ false → IsSome (filed binding).end
 moving_end binding h = rw h refl
-
-pub lasting_end : (until : Moment) (binding : Binding) → binding.fixed ≡ false → IsSome (filed (lasting until binding)).end
-lasting_end until binding h =
-    moving_end (lasting until binding) (chosen binding.fixed (record { 0 = max binding.until.0 until.0 }))
-  where
-    chosen : (test : Bool) (end : Moment) → (if test then binding else record binding { until = end }).fixed ≡ false
-    chosen true end = h
-    chosen false end = h

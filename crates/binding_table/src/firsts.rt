@@ -13,8 +13,8 @@ use std::marker::Model;
 /// How many distinct addresses are noted: more than a datagram names.
 const MOST: usize = 8_192;
 
-/// Room in which `Table::plan` notes where the addresses of a list stand first, so that each costs the same
-/// however many come before it, as long as no more than 8,192 distinct ones need a binding. They leave it empty.
+/// Room in which `Table::plan` notes where the addresses of a list stand first. So each costs the same however many come before
+/// it, as long as no more than 8,192 distinct ones need a binding. Each plan leaves the room empty.
 #[derive(Drop)]
 pub struct Firsts {
     pub(crate) rows: Rows<usize>,

@@ -28,8 +28,8 @@ pub fn crosses_back(table: &Table, side: Side, address: Addr, image: Addr)
     keeps_apart(table);
 }
 
-/// Once addresses of a realm are used in their order, each is called something in the other realm, as long as none of them was one of
-/// the realm's pool that stands for no host, and the other realm's pool had enough free addresses for those that needed a binding.
+/// Once addresses of a realm are used in their order, each is called something in the other realm. None of them may be one of the
+/// realm's pool that stands for no host. The other realm's pool must have enough free addresses for those that need a binding.
 pub fn sees_used(table: &Table, side: Side, addresses: &[Addr])
     requires bound { All (λ address. cross table.now side address ≢ Crossing.Unbound) addresses.now }
     requires room { needed table.now side addresses.now ≤ free table.now (other side) }

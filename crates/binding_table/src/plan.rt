@@ -24,9 +24,9 @@ struct Planned {
 }
 
 impl Table {
-    /// Writes at each place what the address will be called once all of them are used in their order, a known binding being
-    /// extended and a new host bound, and None where the address crosses unchanged; and says whether the other realm's pool has an
-    /// address for each distinct one that needs a binding. Where it hasn't, the images mean nothing.
+    /// Writes at each place what the address will be called once all of them are used in their order, and None where it crosses
+    /// unchanged. A use extends a known binding, and binds a new host. Answers whether the other realm's pool has an address for
+    /// each distinct one that needs a binding. Where it hasn't, the images mean nothing.
     pub fn plan(
         &self,
         side: Side,

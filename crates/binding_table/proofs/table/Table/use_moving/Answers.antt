@@ -6,7 +6,7 @@ use Rattle.binding_table.specs.declared.table.Table.TheInside.{Inside}
 use Rattle.binding_table.specs.Bindings.{Bindings}
 use Rattle.binding_table.specs.Inside.{bindings_of, IsWhole}
 use Rattle.binding_table.specs.Lawful.{IsLawful}
-use Rattle.binding_table.specs.Steps.{ending, filed, moving_row}
+use Rattle.binding_table.specs.Steps.{ending, filed, moving_row, number_of}
 use Rattle.binding_table.proofs.Filed.{moving_is}
 use Rattle.binding_table.proofs.Moving.{moving_used}
 use Rattle.binding_table.proofs.table.Table.use_moving.Goals as goal
@@ -23,16 +23,16 @@ pub extend_row-requires-clause-lawful : goal.extend_row-requires-clause-lawful
 extend_row-requires-clause-lawful c = lawful_as c.self.inside c.args.self.now c.self.invariant c.self.view_is
 
 pub extend_row-requires-clause-there : goal.extend_row-requires-clause-there
-extend_row-requires-clause-there c = (moving_is _ _ _ (kept _ _ c.self.inside c.args.self.now c.in-Some.row c.self.invariant c.self.view_is c.number_of-number.ensures c.in-Some.ensures)).there
+extend_row-requires-clause-there c = (moving_is (number_of c.args.side c.args.host.0) c.args.self.now.entries c.in-Some.row (kept c.number_of-number.result (number_of c.args.side c.args.host.0) c.self.inside c.args.self.now c.in-Some.row c.self.invariant c.self.view_is c.number_of-number.ensures c.in-Some.ensures)).there
 
 pub extend_row-requires-clause-filed : goal.extend_row-requires-clause-filed
-extend_row-requires-clause-filed c = (moving_is _ _ _ (kept _ _ c.self.inside c.args.self.now c.in-Some.row c.self.invariant c.self.view_is c.number_of-number.ensures c.in-Some.ensures)).filed_is
+extend_row-requires-clause-filed c = (moving_is (number_of c.args.side c.args.host.0) c.args.self.now.entries c.in-Some.row (kept c.number_of-number.result (number_of c.args.side c.args.host.0) c.self.inside c.args.self.now c.in-Some.row c.self.invariant c.self.view_is c.number_of-number.ensures c.in-Some.ensures)).filed_is
 
 pub extend_row-requires-clause-moving : goal.extend_row-requires-clause-moving
-extend_row-requires-clause-moving c = (moving_is _ _ _ (kept _ _ c.self.inside c.args.self.now c.in-Some.row c.self.invariant c.self.view_is c.number_of-number.ensures c.in-Some.ensures)).moving
+extend_row-requires-clause-moving c = (moving_is (number_of c.args.side c.args.host.0) c.args.self.now.entries c.in-Some.row (kept c.number_of-number.result (number_of c.args.side c.args.host.0) c.self.inside c.args.self.now c.in-Some.row c.self.invariant c.self.view_is c.number_of-number.ensures c.in-Some.ensures)).moving
 
 pub returns-in-Some-clause-used : goal.returns-in-Some-clause-used
 returns-in-Some-clause-used c =
     c.extend_row.ensures
     ∙ moving_used c.args.self.now (record { side = c.args.side; address = c.args.host; until = c.args.until }) c.in-Some.row (lawful_as c.self.inside c.args.self.now c.self.invariant c.self.view_is)
-    (kept _ _ c.self.inside c.args.self.now c.in-Some.row c.self.invariant c.self.view_is c.number_of-number.ensures c.in-Some.ensures)
+    (kept c.number_of-number.result (number_of c.args.side c.args.host.0) c.self.inside c.args.self.now c.in-Some.row c.self.invariant c.self.view_is c.number_of-number.ensures c.in-Some.ensures)
