@@ -21,11 +21,12 @@ use Rattle.gate_world.specs.World.{Tracked, at_moment, is_client, opening_world}
 use Rattle.gate_world.specs.Remembered.{RememberedSession, remembering_rules, stream_of, UnitsAreRenamed, EachTracked}
 use Rattle.gate_world.specs.Frame.{datagram_in}
 use Rattle.gate_world.specs.Stream.{segment_of}
-use Rattle.gate_world.specs.Taken.{TakesSegment}
+use Rattle.gate_world.specs.Taken.{TakesSegment, taken_by}
 use Rattle.gate_world.specs.Verdict.{image_in}
 use Rattle.gate_world.specs.Step.{next as world_next}
-use Rattle.gate_world.specs.GoingOn.{GoesOn}
-use Rattle.gate_world.proofs.Tracking.{taken_before}
+use Rattle.gate_world.specs.GoingOn.{streams_of, OnlyRestsWait, HasDataSegment, GoesOn, GoesOnBy}
+use Rattle.gate_world.specs.Promise.{remembered_after}
+use Rattle.gate_world.proofs.Tracking.{taken_before, taken_keeps}
 use Rattle.gate_world.proofs.RememberedSessions.{with_meaning, Holds, own_same, own_alike, learned, IsLonger, longer, holds_learned, verdict_learned, TrackedHolds, remembered_keeps, run_holds, each}
 
 -- the same of a sender whose octets are read by another meaning, in the same way
@@ -51,14 +52,15 @@ brings_learned (Some l) pair true s g es new outs more units is b = brings_alike
 brings_learned (Some l) pair false s g es new outs more units is b = brings_alike s.server (dns_units es) new g outs (own_alike l.server es s.server is more units) b
 
 -- a segment that a session doesn't refuse
-goes_by : (image : Addr → Option Addr) (f : Bool) (t : Tracked RememberedSession) (g : Segment) → TrackedHolds t → session_verdict f t.session.session.session g ≡ None → is_data (arrival g) ≡ true
-    → GoesOn f t.session.session.session (remembering_rules.next image f t.session g).session.session g (remembering_rules.out image f t.session g)
-goes_by image f t g h v d =
+goes_by : (image : Addr → Option Addr) (f : Bool) (t : Tracked RememberedSession) (g : Segment) → TrackedHolds t → session_verdict f (streams_of t) g ≡ None → is_data (arrival g) ≡ true → OnlyRestsWait (remembering_rules.next image f t.session g).session.session
+    → GoesOn f (streams_of t) (remembering_rules.next image f t.session g).session.session g (remembering_rules.out image f t.session g)
+goes_by image f t g h v d waits =
     record {
       brings = brings_learned t.session.session.lists t.pair f t.session.session.session g (entered image (entries_by t.session.session.lists f) (addresses_in (whole_units f t.session.session g))) _ _
           (longer t.session.session.lists f image (addresses_in (whole_units f t.session.session g))) (h.streams.units f) (h.streams.holds f).meaning
           (session_brings f (whole_learned image f t.session.session g).session g holds.acked.lawful (facts_of (own f (whole_learned image f t.session.session g).session) (stream_of f t.session).places (stream_of f t.session).numbers holds.acked holds.short holds.few) passes d);
       carries = session_carries f (whole_learned image f t.session.session g).session g d;
+      waits = waits;
     }
   where
     holds : Holds (meaning_by (whole_learned image f t.session.session g).lists t.pair f) (own f (whole_learned image f t.session.session g).session) (stream_of f t.session)
@@ -67,12 +69,17 @@ goes_by image f t g h v d =
     passes : session_verdict f (whole_learned image f t.session.session g).session g ≡ None
     passes = verdict_learned t.session.session.lists t.pair f t.session.session.session g (entered image (entries_by t.session.session.lists f) (addresses_in (whole_units f t.session.session g))) (longer t.session.session.lists f image (addresses_in (whole_units f t.session.session g))) (h.streams.units f) (h.streams.holds f).meaning ∙ v
 
-pub waits_are : (events : List Event) (settings : Settings) (client : Bool) → EachTracked (λ t. OnlyHeldWaits (own client t.session.session.session)) (fold (world_next remembering_rules) (opening_world settings) events).connections
-waits_are events settings client = each (λ t. OnlyHeldWaits (own client t.session.session.session)) (λ t h. only_held (own client t.session.session.session) (h.streams.holds client).acked.lawful) events settings
+-- nothing but held rests waits in what holds
+rests_wait : (t : Tracked RememberedSession) → TrackedHolds t → OnlyRestsWait (streams_of t)
+rests_wait t h client = only_held (own client (streams_of t)) (h.streams.holds client).acked.lawful
 
-pub goes_on : (events : List Event) (settings : Settings) (e : Event) (t : Tracked RememberedSession) → let w = fold (world_next remembering_rules) (opening_world settings) events in TakesSegment remembering_rules w e t → is_data (arrival (segment_of (datagram_in e))) ≡ true
-    → let image = image_in remembering_rules (at_moment w e.moment) e.side e.moment (datagram_in e) in GoesOn (is_client e.side t) t.session.session.session (remembering_rules.next image (is_client e.side t) t.session (segment_of (datagram_in e))).session.session (segment_of (datagram_in e)) (remembering_rules.out image (is_client e.side t) t.session (segment_of (datagram_in e)))
+pub waits_are : (events : List Event) (settings : Settings) → EachTracked (λ t. OnlyRestsWait (streams_of t)) (remembered_after settings events).connections
+waits_are events settings = each (λ t. OnlyRestsWait (streams_of t)) rests_wait events settings
+
+pub goes_on : (events : List Event) (settings : Settings) (e : Event) (t : Tracked RememberedSession) → TakesSegment remembering_rules (remembered_after settings events) e t → HasDataSegment e → GoesOnBy (remembered_after settings events) e t
 goes_on events settings e t takes d =
-    let w = fold (world_next remembering_rules) (opening_world settings) events in
+    let w = remembered_after settings events in
+    let image = image_in remembering_rules (at_moment w e.moment) e.side e.moment (datagram_in e) in
     let before = taken_before remembering_rules TrackedHolds remembered_keeps w e t takes (run_holds events settings) in
-    goes_by (image_in remembering_rules (at_moment w e.moment) e.side e.moment (datagram_in e)) (is_client e.side t) t (segment_of (datagram_in e)) before.0 before.1 d
+    let behind = taken_keeps remembering_rules TrackedHolds remembered_keeps w e t takes (run_holds events settings) in
+    goes_by image (is_client e.side t) t (segment_of (datagram_in e)) before.0 before.1 d (rests_wait (taken_by remembering_rules w e t) behind)

@@ -89,30 +89,30 @@ raised_by f a b g h c knows had has s p d lacks hears q e all =
     one_le true = omega arith
     one_le false = omega arith
 
--- over a session
-raised_in : (f : Bool) (a b : Sender) (g h : Segment) (knows had has : ℕ) → Stands a knows had → Passes f a b g → is_data (arrival g) ≡ true → (LacksOctets a (own_after a g) g knows ⊎ LacksEnd a (own_after a g) g knows) → Hears (known a.initial) (due_in (own_after a g)) had (data_out a b g) has
-    → Passes (not f) (other_after b g) (own_after a g) h → is_data (arrival h) ≡ true → place_acknowledged (extent (own_after a g)) (arrival h) ≡ has → Raised a (other_after (own_after a g) h) knows has
-raised_in f a b g h knows had has s p d lacks hears q e all =
+-- over a session, whose other host may have learned in between
+pub raised_in : (f : Bool) (a b c : Sender) (g h : Segment) (knows had has : ℕ) → Stands a knows had → Passes f a b g → is_data (arrival g) ≡ true → (LacksOctets a (own_after a g) g knows ⊎ LacksEnd a (own_after a g) g knows) → Hears (known a.initial) (due_in (own_after a g)) had (data_out a b g) has
+    → Passes (not f) c (own_after a g) h → is_data (arrival h) ≡ true → place_acknowledged (extent (own_after a g)) (arrival h) ≡ has → Raised a (other_after (own_after a g) h) knows has
+raised_in f a b c g h knows had has s p d lacks hears q e all =
     subst (λ (z : Sender). Raised a z knows has) (sym (other_is (own_after a g) h (data_of h e)))
     (with_taken (own_after a g) (own_is a g (data_of g d)) lacks hears q all)
   where
-    with_taken : (z : Sender) → z ≡ taken a g → (LacksOctets a z g knows ⊎ LacksEnd a z g knows) → Hears (known a.initial) (due_in z) had (data_out a b g) has → Passes (not f) (other_after b g) z h → place_acknowledged (extent z) (arrival h) ≡ has → Raised a (acknowledged z h) knows has
+    with_taken : (z : Sender) → z ≡ taken a g → (LacksOctets a z g knows ⊎ LacksEnd a z g knows) → Hears (known a.initial) (due_in z) had (data_out a b g) has → Passes (not f) c z h → place_acknowledged (extent z) (arrival h) ≡ has → Raised a (acknowledged z h) knows has
     with_taken z is lacks hears q all =
         subst (λ (y : Sender). Raised a (acknowledged y h) knows has) (sym is)
-        (raised_by f a b g h (other_after b g) knows had has s p (data_of g d)
+        (raised_by f a b g h c knows had has s p (data_of g d)
         (subst (λ (y : Sender). LacksOctets a y g knows ⊎ LacksEnd a y g knows) is lacks)
         (subst (λ (y : Sender). Hears (known a.initial) (due_in y) had (data_out a b g) has) is hears)
-        (subst (λ (y : Sender). Passes (not f) (other_after b g) y h) is q)
+        (subst (λ (y : Sender). Passes (not f) c y h) is q)
         (data_of h e)
         (subst (λ (y : Sender). place_acknowledged (extent y) (arrival h) ≡ has) is all))
 
 pub raised : (client : Bool) (s : Session) (knows had : ℕ) (x : Round) → Stands (own client s) knows had → IsRound client s knows had x → Raised (own client s) (own client (after_round client s x)) knows x.has
 raised true s knows had x st r =
-    raised_in true s.client s.server x.repeat x.answer knows had x.has st (passes true s.client s.server x.repeat r.passes) r.kind r.lacks
+    raised_in true s.client s.server (other_after s.server x.repeat) x.repeat x.answer knows had x.has st (passes true s.client s.server x.repeat r.passes) r.kind r.lacks
     (subst (λ (os : List Outgoing). Hears (known s.client.initial) (due_in (own_after s.client x.repeat)) had os x.has) (out_is s.client s.server x.repeat (data_of x.repeat r.kind)) r.hears)
     (passes false (other_after s.server x.repeat) (own_after s.client x.repeat) x.answer r.answered) r.answers r.all
 raised false s knows had x st r =
-    raised_in false s.server s.client x.repeat x.answer knows had x.has st (passes false s.server s.client x.repeat r.passes) r.kind r.lacks
+    raised_in false s.server s.client (other_after s.client x.repeat) x.repeat x.answer knows had x.has st (passes false s.server s.client x.repeat r.passes) r.kind r.lacks
     (subst (λ (os : List Outgoing). Hears (known s.server.initial) (due_in (own_after s.server x.repeat)) had os x.has) (out_is s.server s.client x.repeat (data_of x.repeat r.kind)) r.hears)
     (passes true (other_after s.client x.repeat) (own_after s.server x.repeat) x.answer r.answered) r.answers r.all
 

@@ -434,3 +434,16 @@ after_end = (client 1008 5001 [], goes 1008 5001 []) ∷ []
 after_end_holds : found (run shaken ended_rest) after_end ≡ wanted after_end
 unfolding number four six port eprt delimited passive client_text server_text spelled digits
 after_end_holds = refl
+
+-- an end that is lost once all octets are acknowledged goes out again
+abbrev lost_end : List Row
+lost_end =
+    (client 1001 5001 (line (codes "QUIT")), goes 1001 5001 (line (codes "QUIT")))
+    ∷ (client_with ack_fin 1007 5001 [], Goes (goes_with ack_fin 1007 5001 [] ∷ []))
+    ∷ (server 5001 1007 [], goes 5001 1007 [])
+    ∷ (client_with ack_fin 1007 5001 [], Goes (goes_with ack_fin 1007 5001 [] ∷ []))
+    ∷ []
+
+lost_end_holds : found shaken lost_end ≡ wanted lost_end
+unfolding number four six port eprt delimited passive client_text server_text spelled digits
+lost_end_holds = refl
