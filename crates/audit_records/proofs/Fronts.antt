@@ -5,7 +5,7 @@ use Rattle.std.specs.Str.{bytes_eq}
 use Rattle.std.proofs.lemmas.Bool.Decides.{nat_tests}
 use Rattle.std.proofs.Math.Seq.{take-append_seam, drop-append_seam}
 use Rattle.std.proofs.lemmas.Bool.{and_parts}
-use Rattle.std.proofs.lemmas.List.{take-append-drop, length-append}
+use Rattle.std.proofs.lemmas.List.{take-append-drop}
 use Rattle.std.proofs.lemmas.Slice.Eq.{bytes_eq-Decides}
 
 iff : (a b : Bool) → (a ≡ true → b ≡ true) → (b ≡ true → a ≡ true) → a ≡ b
@@ -29,12 +29,6 @@ front_is o h d =
     both (bytes_eq (take (length h) o) h) (bytes_eq (drop (length h) o) d)
     ((bytes_eq-Decides (take (length h) o) h).1 (ap (take (length h)) q ∙ take-append_seam h d))
     ((bytes_eq-Decides (drop (length h) o) d).1 (ap (drop (length h)) q ∙ drop-append_seam h d)))
-
-pub short_front : (o h d : List ℕ) → length o < length h → false ≡ bytes_eq o (h ++ d)
-short_front o h d less =
-    iff false (bytes_eq o (h ++ d)) (λ e. absurd (cc)) (λ e.
-    let l : length o ≡ length h + length d = ap length ((bytes_eq-Decides o (h ++ d)).0 e) ∙ length-append h d in
-    absurd (omega (arith, l, less)))
 
 -- by the parts
 pub front_by : (o h d f r : List ℕ) (a b res : Bool) → f ≡ take (length h) o → r ≡ drop (length h) o → a ≡ bytes_eq f h → b ≡ bytes_eq r d → res ≡ (a && b) → res ≡ bytes_eq o (h ++ d)

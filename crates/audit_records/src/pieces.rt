@@ -12,8 +12,8 @@ use std::alloc::Global;
 use std::marker::Model;
 use tcp_segments::{Flags, TcpView, flags_octet, flags_of, put_segment};
 
-/// What a session sends for a segment, whose octets may be cut into pieces (RFC 9293, 3.7.1): with the segment's datagram, by which
-/// theirs are made, and its addresses in the other realm.
+/// What a session sends for a segment, whose octets may be cut into pieces (RFC 9293, 3.7.1). With it are the segment's datagram,
+/// by which theirs are made, and its addresses in the other realm.
 #[derive(Drop)]
 pub struct Pieces {
     header: Vec<u8>,

@@ -53,8 +53,8 @@ fn add_resources(addresses: &mut Vec<Addr>, resources: &[Resource]) -> Result<()
     Ok(())
 }
 
-/// The addresses in a message that are renamed, in its order, as often as they stand there: those whose full reverse name is
-/// the question's or the owner's of a record, and the data of records of type 1 in class 1, behind their owner's.
+/// The addresses in a message that are renamed, in its order, as often as they stand there. They are those whose full reverse
+/// name is the question's or the owner's of a record, and the data of records of type 1 in class 1. The data follow the owner's.
 #[inline(always)]
 pub fn addresses_of(alloc: Global, message: &Message) -> Result<Vec<Addr>, OutOfMemory>
     ensures { IfOk result (λ addresses. map (λ a. a.0) addresses.items ≡ message_addresses message.now) }

@@ -49,9 +49,9 @@ fn put_cut(alloc: Global, message: &Message) -> Result<Vec<u8>, OutOfMemory>
     }
 }
 
-/// The octets that are sent for a message, where one of so many octets came in: its spelling, or the header with the flag TC
-/// set and the question alone, where the spelling is longer than what came in and than 512 octets, or too long for a message.
-/// The data of each record must be what its type and class hold.
+/// The octets that are sent for a message, where one of so many octets came in: its spelling. The header with the flag TC set and
+/// the question alone are sent instead where the spelling is longer than what came in and than 512 octets, or too long for a
+/// message. The data of each record must be what its type and class hold.
 pub fn reply(alloc: Global, message: &Message, incoming: usize) -> Result<Vec<u8>, OutOfMemory>
     requires { MessageSuits message.now }
     ensures is { IfOk result (λ octets. octets.items ≡ reply_of message.now incoming) }

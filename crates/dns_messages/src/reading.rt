@@ -300,8 +300,8 @@ fn message_of(alloc: Global, reader: &NameReader<'_>) -> Result<Message, NameSto
     })
 }
 
-/// The message that the octets are. `BadDns` exactly where they are none: where they end too early, hold a second question,
-/// octets behind the last record, a place with no name, or data that doesn't end where its length says.
+/// The message that the octets are. `BadDns` exactly where they are none. There they end too early, or hold a second question,
+/// octets behind the last record, or a place with no name. Or data don't end where their length says.
 pub fn read_message(alloc: Global, octets: &[u8]) -> Result<Message, NameStop>
     ensures found { IfOk result (λ m. IsMessage octets.now m) }
     ensures none { result ≡ Err NameStop.BadDns → (m : Message) → IsMessage octets.now m → ⊥ }

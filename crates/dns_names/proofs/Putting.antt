@@ -8,7 +8,7 @@ use Rattle.std.specs.Str.{bytes_eq}
 use Rattle.std.proofs.lemmas.Slice.Eq.{bytes_eq-Decides}
 use Rattle.dns_names.proofs.Kept.{found-with_start}
 use Rattle.dns_names.specs.Names.{spelled, IsLabel}
-use Rattle.dns_names.specs.Spelling.{Start, found, pointer, Added, with_start, spell, put_name, BeginsWith}
+use Rattle.dns_names.specs.Spelling.{Start, found, pointer, Added, with_start, spell, put_name}
 use Rattle.dns_names.specs.Writers.{GrewBy}
 
 -- Part of a name was written; its other labels are left.
@@ -154,6 +154,3 @@ grew_more known old starts out later new more grew octets_are starts_are =
 pub grew_octets : (known : List Start) (old : List ℕ) (starts : List Start) (out : List ℕ) (later : List Start) (new more : List ℕ) → GrewBy known old starts out → new ≡ out ++ more → later ≡ starts → GrewBy known old later new
 grew_octets known old starts out later new more grew octets_are same =
     grew_more known old starts out later new (record { octets = more; starts = [] }) grew octets_are (same ∙ sym (append-nil starts))
-
-pub BeginsWith-is : (o0 o1 : List ℕ) (s0 s1 : List Start) → GrewBy s0 o0 s1 o1 → BeginsWith (record { octets = o0; starts = s0 }) (record { octets = o1; starts = s1 })
-BeginsWith-is o0 o1 s0 s1 grew = (grew.0, rw (grew.1, grew.2) refl)

@@ -100,9 +100,9 @@ pub(crate) fn walk(
     }
 }
 
-/// The name that stands at a place, and the place after it. `BadDns` exactly where none stands there: where a label passes
-/// the end, an octet from 64 to 191 stands for a length, a pointer leads to no place below the start of its name, or the
-/// name has more than 255 octets when written out.
+/// The name that stands at a place, and the place after it. `BadDns` exactly where none stands there. There a label passes the
+/// end, an octet from 64 to 191 stands for a length, or a pointer leads to no place below the start of its name. Or the name has
+/// more than 255 octets when written out.
 pub fn read_name(alloc: Global, message: &[u8], place: usize) -> Result<(Name, usize), NameStop>
     ensures found { IfOk result (λ x. NameAt message.now place x.0 x.1) }
     ensures none { result ≡ Err NameStop.BadDns → (labels : List (List ℕ)) (after : ℕ) → NameAt message.now place labels after → ⊥ }

@@ -60,8 +60,8 @@ fn address_in(octets: &[u8]) -> Option<Addr>
     }
 }
 
-/// The address of a full reverse name, as 5.0.0.10.in-addr.arpa is 10.0.0.5's: four decimal numbers from 0 to 255 without
-/// leading zeros, the low octet first, and then in-addr and arpa in any case. None for any other name.
+/// The address of a full reverse name, as 5.0.0.10.in-addr.arpa is 10.0.0.5's. Such a name has four decimal numbers from 0 to 255
+/// without leading zeros, the low octet first, and then in-addr and arpa in any case. None for any other name.
 pub fn address_of(name: &Name) -> Option<Addr>
     ensures { option_map (λ address. address.0) result ≡ full_reverse name.now }
 {

@@ -125,31 +125,6 @@ there_in buckets place width other within there is =
 
 -- ### It was the last of its bucket
 
-pub heads_last : (heads : List (Option ℕ)) (buckets : List ℕ) (before : Option ℕ) (place : ℕ) → place < length buckets → slice_index buckets place < length heads → IsNext (slice_index buckets place) buckets place None → IsLast (slice_index buckets place) buckets place before → ((bucket : ℕ) → bucket < length heads → IsLast bucket buckets (length buckets) (slice_index_or heads bucket None)) → (bucket : ℕ) → bucket < length heads → IsLast bucket (set buckets place (length heads)) (length buckets) (slice_index_or (set heads (slice_index buckets place) before) bucket None)
-heads_last heads buckets before place within there next earlier lasts bucket in' =
-    let Q : Option ℕ → Type 0 = λ at. IsLast bucket (set buckets place (length heads)) (length buckets) at in
-    elim (eqb_tells bucket (slice_index buckets place)) [
-      | inl h ↦
-          let R : ℕ → Type 0 = λ one. IsLast one (set buckets place (length heads)) (length buckets) (slice_index_or (set heads (slice_index buckets place) before) one None) in
-          let S : Option ℕ → Type 0 = λ at. IsLast (slice_index buckets place) (set buckets place (length heads)) (length buckets) at in
-          subst R (sym (h.1)) (subst S (sym (get_or-set_same heads (slice_index buckets place) before None there)) (last_skip (slice_index buckets place) buckets (length buckets) before place (length heads) within there (within, refl, next) earlier))
-      | inr h ↦
-          let last = lasts bucket in' in
-          subst Q (sym (get_or-set_other heads (slice_index buckets place) bucket before None (h.1))) (last_without bucket buckets (length buckets) (slice_index_or heads bucket None) place (length heads) within in' (λ is. h.1 (sym ((last_in bucket buckets (length buckets) (slice_index_or heads bucket None) place last is).1))) last)
-    ]
-
-pub befores_last : (width : ℕ) (previous : List (Option ℕ)) (buckets : List ℕ) (place : ℕ) → place < length buckets → slice_index buckets place < width → IsNext (slice_index buckets place) buckets place None → ((one : ℕ) → one < length buckets → slice_index buckets one < width → IsLast (slice_index buckets one) buckets one (slice_index_or previous one None)) → (one : ℕ) → one < length buckets → slice_index (set buckets place width) one < width → IsLast (slice_index (set buckets place width) one) (set buckets place width) one (slice_index_or previous one None)
-befores_last width previous buckets place within there next lasts one in' one_there =
-    let not_it = there_in buckets place width one within one_there in
-    let same = stays buckets place width one not_it in
-    let V : ℕ → Type 0 = λ bucket. bucket < width in
-    let small : slice_index buckets one < width = subst V same one_there in
-    let last = lasts one in' small in
-    let P : ℕ → Type 0 = λ bucket. IsLast bucket (set buckets place width) one (slice_index_or previous one None) in
-    subst P (sym same) (last_without (slice_index buckets one) buckets one (slice_index_or previous one None) place width within small (λ is.
-    let met = last_in (slice_index buckets one) buckets one (slice_index_or previous one None) place last is in
-    next one (met.0) in' (sym (met.1))) last)
-
 -- ### Another is behind it
 
 pub heads_inner : (heads : List (Option ℕ)) (buckets : List ℕ) (place next : ℕ) → place < length buckets → IsNext (slice_index buckets place) buckets place (Some next) → ((bucket : ℕ) → bucket < length heads → IsLast bucket buckets (length buckets) (slice_index_or heads bucket None)) → (bucket : ℕ) → bucket < length heads → IsLast bucket (set buckets place (length heads)) (length buckets) (slice_index_or heads bucket None)

@@ -9,3 +9,4 @@ mod FoundLast
 mod BegunCaptures
 pub mod LeftCounts
 pub mod IncomingEnds
+pub mod Wanting

@@ -5,7 +5,7 @@ use Rattle.gate_base.specs.declared.side.Side.TheVariants.{Left, Right}
 use Rattle.gate_desk.specs.declared.desk.Failed.{Failed}
 use Rattle.gate_desk.specs.declared.slot.Slot.TheVariants.{LeftGiven, RightGiven, ReportGiven}
 use Rattle.gate_desk.specs.Outside.{Outside, Told, Takes, told_at, took}
-use Rattle.gate_desk.proofs.Laws.{grows_takes, grows_on, grows_not, took-none}
+use Rattle.gate_desk.proofs.Laws.{grows_takes, grows_on, took-none}
 use Rattle.pcap_files.specs.Capture.{Packet, records_from}
 use Rattle.pcap_files.specs.Reader.{Reading}
 use Rattle.pcap_merge.specs.Given.{with_records}
@@ -14,26 +14,13 @@ use Rattle.file_audit.specs.declared.given.GivenFiles.{GivenFiles}
 use Rattle.file_audit.specs.declared.line.LineHead.{LineHead}
 use Rattle.file_audit.specs.declared.stop.AuditStop.{AuditStop}
 use Rattle.file_audit.specs.declared.stop.AuditStop.TheVariants.{Unlawful, Capture, Desk, OutOfMemory}
-use Rattle.gate_report.specs.declared.line.Line.{Line}
 use Rattle.file_audit.specs.Frames.{TookNext, TakesNext}
 use Rattle.file_audit.specs.Given.{Alike, IsRunning, ReadsGiven, given_told}
-use Rattle.file_audit.specs.Lines.{TakesLast, TakesLine, TakesReport}
+use Rattle.file_audit.specs.Lines.{TakesLine, TakesReport}
 use Rattle.file_audit.specs.Records.{FindsEnd, TakesSome, TakesRecords}
 use Rattle.gate_audit.specs.Auditing.{Auditing}
 
 -- ## Reads
-
-pub reads_none : (a : Outside) → ReadsGiven a a
-reads_none a = record {
-  left_count = 0;
-  right_count = 0;
-  report_count = 0;
-  left = sym (took-none ReportGiven (took RightGiven 0 (took LeftGiven 0 a.left)) ∙ took-none RightGiven (took LeftGiven 0 a.left) ∙ took-none LeftGiven a.left);
-  written = refl;
-  starts = refl;
-  start_faults = refl;
-  grows = grows_not a;
-}
 
 pub reads_left : (n : ℕ) (a b : Outside) → Takes LeftGiven n a b → ReadsGiven a b
 reads_left n a b h = record {
@@ -181,16 +168,9 @@ pub line_some : (result : Result (Option ℕ) AuditStop) (json : Bool) (h : Line
 line_some (Ok (Some frames)) json h ahead ahead' old new k = reads_report old new (k.count, k.takes)
 line_some (Ok None) json h ahead ahead' old new k = reads_report old new k.0
 line_some (Err (Desk slot)) json h ahead ahead' old new k = reads_report old new k.0
-line_some (Err OutOfMemory) json h ahead ahead' old new k = reads_report old new k
+line_some (Err OutOfMemory) json h ahead ahead' old new k = reads_report old new k.0
 line_some (Err (Unlawful number reason)) json h ahead ahead' old new k = absurd k
 line_some (Err (Capture side fault place)) json h ahead ahead' old new k = absurd k
-
-pub last_some : (result : Result Bool AuditStop) (json : Bool) (line : Line) (ahead ahead' : List ℕ) (old new : Outside) → TakesLast result json line ahead ahead' old new → ReadsGiven old new
-last_some (Ok answer) json line ahead ahead' old new k = reads_report old new k.0
-last_some (Err (Desk slot)) json line ahead ahead' old new k = reads_report old new k.0
-last_some (Err OutOfMemory) json line ahead ahead' old new k = reads_report old new k
-last_some (Err (Unlawful number reason)) json line ahead ahead' old new k = absurd k
-last_some (Err (Capture side fault place)) json line ahead ahead' old new k = absurd k
 
 pub end_some : (result : Result Bool Failed) (r : Reading) (old new : Outside) → FindsEnd result r old new → TakesSome r old new
 end_some (Ok true) r old new k = k.0

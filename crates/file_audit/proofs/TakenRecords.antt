@@ -8,7 +8,7 @@ use Rattle.gate_desk.specs.declared.slot.Slot.{Slot}
 use Rattle.gate_desk.specs.declared.desk.Failed.{Failed}
 use Rattle.gate_desk.specs.Outside.{Outside, Takes, HasFailed, told_at}
 use Rattle.gate_desk.proofs.Laws.{takes_none, takes_on, told_at-took, grows_takes, failed_since}
-use Rattle.pcap_files.specs.Capture.{Packet, Records, size, Next, Ended, Broken, Came, Whole, next_at, records_from}
+use Rattle.pcap_files.specs.Capture.{Packet, Records, size, Ended, Broken, Came, Whole, next_at, records_from}
 use Rattle.pcap_files.specs.Capture as faults
 use Rattle.pcap_files.specs.Reader.{Reading, Advances}
 use Rattle.pcap_files.proofs.Records.{records-came, records-ended, records-broken}
@@ -16,7 +16,7 @@ use Rattle.pcap_merge.specs.Given.{with_records}
 use Rattle.gate_base.specs.declared.side.Side.{Side}
 use Rattle.gate_settings.specs.declared.settings.Settings.{Settings}
 use Rattle.pcap_files.specs.declared.fault.CaptureFault.{CaptureFault}
-use Rattle.pcap_files.specs.declared.fault.ReadStop.TheVariants.{Fault, Desk}
+use Rattle.pcap_files.specs.declared.fault.ReadStop.TheVariants.{Fault}
 use Rattle.lawful_files.specs.Wanted.{Wanted, Exactly, Cut}
 use Rattle.lawful_files.specs.Progress.{Progress, behind, carries}
 use Rattle.gate_audit.specs.Auditing.{Auditing}
@@ -139,20 +139,11 @@ take_one r r' q a a' old new running h held audited =
     let same : h.0 ≡ q = cc in
     (h.0, h.1.octets, took_one r r' h.0 a a' old new running h.3 h.2 h.4 h.5 (subst (λ (x : Packet). a' ≡ record a { expecting = record a.expecting { so_far = behind a.settings (other a.expecting.side) a.expecting.moment a.expecting.wanted a.expecting.so_far x } }) (sym same) audited))
 
-pub small_one : (r r' : Reading) (q : Packet) (old new : Outside) → Advances (Ok true) r r' old new → r'.packet ≡ Some q → length q.octets ≤ 262144
-small_one r r' q old new h held =
-    let found : Some h.0 ≡ Some q = sym (ap (λ (x : Reading). x.packet) h.3) ∙ held in
-    let same : h.0 ≡ q = cc in
-    subst (λ (x : Packet). length x.octets ≤ 262144) same h.1.octets
-
 pub take_end : (r r' : Reading) (a a' : Auditing) (old new : Outside) → Advances (Ok false) r r' old new → TakesRecord (Ok false) r r' a a' old new
 take_end r r' a a' old new h = ((0, h.1), ended-of r (told_at old.left r.slot) h.2)
 
 pub take_fault : (f : CaptureFault) (place : ℕ) (r r' : Reading) (a a' : Auditing) (old new : Outside) → Advances (Err (Fault f place)) r r' old new → TakesRecord (Ok false) r r' a a' old new
 take_fault f place r r' a a' old new h = ((h.2.count, h.2.takes), broken-of f r (told_at old.left r.slot) h.3)
-
-pub take_fails : (slot : Slot) (e : Failed) (r r' : Reading) (a a' : Auditing) (old new : Outside) → Advances (Err (Desk slot)) r r' old new → TakesRecord (Err e) r r' a a' old new
-take_fails slot e r r' a a' old new h = ((h.3.count, h.3.takes), subst (λ s. HasFailed s old new) h.0 h.2)
 
 -- what is kept behind one record
 pub counted_one : (p : Packet) (a a' : Auditing) (n : ℕ) → length p.octets ≤ 262144 → a' ≡ judged a (p ∷ []) → a.lost ≡ false → a.expecting.so_far.count ≡ n → a.expecting.so_far.carried ≤ 262144 * n → (a'.lost ≡ false) × (a'.expecting.so_far.count ≡ n + 1) × (a'.expecting.so_far.carried ≤ 262144 * (n + 1))

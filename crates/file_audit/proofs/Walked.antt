@@ -1,5 +1,5 @@
 -- How far an audit has come: the steps of its loop.
-use Rattle.std.proofs.Common.{◌≡◌, ℕ, ◌+◌, List, [], ◌∷◌, ◌++◌, Bool, true, Ok, Err, Option, Some, None, IfSome, length, refl, sym, ap, subst, ◌∙◌, arith, append_assoc, append-nil, length-append}
+use Rattle.std.proofs.Common.{◌≡◌, ℕ, ◌+◌, List, [], ◌∷◌, ◌++◌, Bool, true, Ok, Err, Option, Some, None, IfSome, inl, inr, length, refl, sym, ap, subst, ◌∙◌, arith, append_assoc, append-nil, length-append}
 use Rattle.std.specs.Prelude.{option_map}
 use Rattle.frag_join.specs.Arrivals.{Arrival, arrival, arrival_by, arrivals_of, arrivals_from, joined_in, joiner_after, joiner_of, known_joiner, opened, taken_by}
 use Rattle.frag_join.specs.declared.taken.Taken.{Taken}
@@ -21,7 +21,8 @@ use Rattle.pcap_merge.specs.Events.{Merged, Ending, Done, Fault, with_event}
 use Rattle.pcap_merge.specs.declared.stop.MergeStop.{MergeStop}
 use Rattle.pcap_merge.specs.declared.stop.MergeStop.TheVariants as merges
 use Rattle.pcap_merge.specs.Stops.{slot_of}
-use Rattle.pcap_merge.specs.Merge.{Merging, Reads, StopsBy, Advances, ComesTo, Finishes, ahead}
+use Rattle.pcap_merge.specs.Given.{TakenFor}
+use Rattle.pcap_merge.specs.Merge.{Merging, HasGiven, Reads, StopsBy, Advances, ComesTo, Finishes, ahead}
 use Rattle.lawful_files.specs.declared.reason.AuditReason.{AuditReason}
 use Rattle.lawful_files.specs.Files.{Given, State, opening, after, LawfulFrom, IsAtLast}
 use Rattle.lawful_files.specs.Reasons.{IsFirst}
@@ -33,9 +34,10 @@ use Rattle.file_audit.specs.declared.line.LineHead.{LineHead}
 use Rattle.file_audit.specs.declared.stop.AuditStop.{AuditStop}
 use Rattle.file_audit.specs.declared.stop.AuditStop.TheVariants as stops
 use Rattle.file_audit.specs.Given.{ReadsGiven, given_told, Alike, IfBoth}
-use Rattle.file_audit.specs.Events.{Expected, IsExpecting, state_of, IsLawfulWith, IsReasonAt, IsReadInAudit, Finds, FindsAt, FindsLast, FoundLawful, stop_of}
+use Rattle.file_audit.specs.Events.{Expected, IsExpecting, state_of, IsLawfulWith, IsReasonAt, IsReadInAudit, MayWantFor, WantsAt, TookFew, Finds, FindsAt, FindsLast, FoundLawful, stop_of}
 use Rattle.gate_audit.specs.Auditing.{Auditing}
 use Rattle.file_audit.proofs.Alikes.{alike_same, alike_join}
+use Rattle.file_audit.proofs.Wanting.{given_still}
 
 -- what is read of the incoming captures changes nothing of the given files, and the other way round
 pub given_kept : (r : GivenFiles) (m n : ℕ) (t : Told) → given_told r (took RightIn n (took LeftIn m t)) ≡ given_told r t
@@ -64,6 +66,7 @@ pub record Walked (settings : Settings) (m0 m : Merging) (r0 r : GivenFiles) (ol
   pub others : ahead m0 old.left ≡ option_map (front_of done) (ahead m now.left)
   pub held : joiner ≡ known_joiner (joiner_of settings.join done)
   pub came : Alike (λ g left. CameTo settings (opening settings) g (arrivals_of settings.join done) s left) (given_told r0 old.left) (given_told r now.left)
+  pub given : (start : Outside) → HasGiven start m0 old [] → HasGiven start m now done
 
 nothing_done : (o : Option Merged) → o ≡ option_map (front_of []) o
 nothing_done None = refl
@@ -77,6 +80,7 @@ walked_none settings m r old joiner s e is = record {
   held = is ∙ opened-known settings.join;
   came = alike_same (λ g left. CameTo settings (opening settings) g (arrivals_of settings.join []) s left) (given_told r old.left)
       (λ g. subst (λ (xs : List Arrival). CameTo settings (opening settings) g xs s g) (sym (arrivals-none settings.join)) (e, refl));
+  given = λ start h. h;
 }
 
 front_more : (done : List Event) (e : Event) (o : Option Merged) → option_map (front_of done) (option_map (with_event e) o) ≡ option_map (front_of (done ++ e ∷ [])) o
@@ -88,18 +92,18 @@ came_is : (settings : Settings) (done : List Event) (joiner : Joined) (e : Event
 came_is settings done joiner e held = ap (λ (j : Joined). arrival by_known j e) held ∙ arrival-known (joiner_of settings.join done) e
 
 -- one event more that was lawful
-pub walked_on : (settings : Settings) (m0 m m' : Merging) (r0 r r' : GivenFiles) (old now new : Outside) (joiner joiner' : Joined) (s s' : State) (e : Event) (frames : ℕ) → Walked settings m0 m r0 r old now joiner s
+pub walked_on : (settings : Settings) (m0 m m' : Merging) (r0 r r' : GivenFiles) (old now new : Outside) (joiner joiner' : Joined) (s s' : State) (e : Event) (frames : ℕ) → (h : Walked settings m0 m r0 r old now joiner s) → ((start : Outside) → HasGiven start m now h.done → HasGiven start m' new (h.done ++ e ∷ []))
     → ahead m now.left ≡ option_map (with_event e) (ahead m' new.left) → joiner' ≡ joiner_after by_known joiner e → s' ≡ after s (arrival by_known joiner e) frames
     → Alike (IsLawfulWith settings s (arrival by_known joiner e) frames) (given_told r now.left) (given_told r' new.left) → Walked settings m0 m' r0 r' old new joiner' s'
-walked_on settings m0 m m' r0 r r' old now new joiner joiner' s s' e frames h one steps is lawful =
+walked_on settings m0 m m' r0 r r' old now new joiner joiner' s s' e frames h more one steps is lawful =
     let x = arrival by_known joiner e in
     let all : arrivals_of settings.join (h.done ++ e ∷ []) ≡ arrivals_of settings.join h.done ++ x ∷ [] =
     arrivals-one settings.join h.done e ∙ ap (λ (a : Arrival). arrivals_of settings.join h.done ++ a ∷ []) (sym (came_is settings h.done joiner e h.held)) in
     record {
       done = h.done ++ e ∷ [];
       count =
-          let more : s'.totals.events ≡ s.totals.events + 1 = ap (λ (y : State). y.totals.events) is in
-          omega (arith, more, h.count, length-append h.done (e ∷ []));
+          let one_more : s'.totals.events ≡ s.totals.events + 1 = ap (λ (y : State). y.totals.events) is in
+          omega (arith, one_more, h.count, length-append h.done (e ∷ []));
       others = h.others ∙ ap (option_map (front_of h.done)) one ∙ front_more h.done e (ahead m' new.left);
       held = steps ∙ ap (λ (j : Joined). joiner_after by_known j e) h.held ∙ joiner-known (joiner_of settings.join h.done) e ∙ ap known_joiner (sym (joiner-one settings.join h.done e));
       came = alike_join (λ g left. CameTo settings (opening settings) g (arrivals_of settings.join h.done) s left) (IsLawfulWith settings s x frames) (λ g next. CameTo settings (opening settings) g (arrivals_of settings.join (h.done ++ e ∷ [])) s' next)
@@ -109,6 +113,7 @@ walked_on settings m0 m m' r0 r r' old now new joiner joiner' s s' e frames h on
           (subst (λ (y : State). CameTo settings (opening settings) g (arrivals_of settings.join h.done ++ x ∷ []) y next) (sym is)
           (subst (λ (n : ℕ). CameTo settings (opening settings) g (arrivals_of settings.join h.done ++ x ∷ []) (after s x n) next) at.1
           (came_more settings (arrivals_of settings.join h.done) x (opening settings) s g left next c at.0))));
+      given = λ start g. more start (h.given start g);
     }
 
 -- ## Ends
@@ -195,7 +200,7 @@ finds_left (stops.Unlawful number reason) settings m0 m m' r0 r old now mid new 
     (λ g left c first. first_at_end settings (arrivals_of settings.join h.done) s g left number reason c first)
 finds_left (stops.Capture side fault place) settings m0 m m' r0 r old now mid new joiner s h grows finished f = absurd f
 finds_left (stops.Desk slot) settings m0 m m' r0 r old now mid new joiner s h grows finished f = (f.0, failed_since slot old mid new (grows_on old now mid grows finished.reads.grows) f.1)
-finds_left stops.OutOfMemory settings m0 m m' r0 r old now mid new joiner s h grows finished f = tt
+finds_left stops.OutOfMemory settings m0 m m' r0 r old now mid new joiner s h grows finished f = inl f
 
 pub finds_at : (stop : AuditStop) (settings : Settings) (m0 m m' : Merging) (r0 r r' : GivenFiles) (a a' : Auditing) (joiner : Joined) (s : State) (e : Event) (old now mid new : Outside) → Walked settings m0 m r0 r old now joiner s → Grows old now → ComesTo e m m' now mid → a.settings ≡ settings
     → FindsAt (Err stop) s (arrival by_known joiner e) r r' a a' mid new → Finds (Err stop) settings m0 r0 old new
@@ -205,13 +210,39 @@ finds_at (stops.Unlawful number reason) settings m0 m m' r0 r r' a a' joiner s e
     (subst (λ o. IfSome o (λ g. IsReasonAt a.settings s (arrival by_known joiner e) g number reason)) (same_given r now mid came.reads) f))
 finds_at (stops.Capture side fault place) settings m0 m m' r0 r r' a a' joiner s e old now mid new h grows came is f = absurd f
 finds_at (stops.Desk slot) settings m0 m m' r0 r r' a a' joiner s e old now mid new h grows came is f = (f.0, failed_since slot old mid new (grows_on old now mid grows came.reads.grows) f.1)
-finds_at stops.OutOfMemory settings m0 m m' r0 r r' a a' joiner s e old now mid new h grows came is f = tt
+finds_at stops.OutOfMemory settings m0 m m' r0 r r' a a' joiner s e old now mid new h grows came is f = inl (sym (ap (λ (x : Settings). x.json) is) ∙ f)
+
+wants-of : (settings : Settings) (s : State) (done : List Event) (joiner : Joined) (e : Event) (o : Option Merged) (p q : Option Given) → joiner ≡ known_joiner (joiner_of settings.join done)
+    → Alike (λ g left. CameTo settings (opening settings) g (arrivals_of settings.join done) s left) p q → MayWantFor s.world (arrival by_known joiner e) → IfBoth (option_map (front_of done) (option_map (with_event e) o)) p (WantsAt settings)
+wants-of settings s done joiner e None p q held h w = tt
+wants-of settings s done joiner e (Some x) None q held h w = tt
+wants-of settings s done joiner e (Some x) (Some g) None held h w = absurd h
+wants-of settings s done joiner e (Some x) (Some g) (Some left) held h w =
+    record { handled = done; next = e; others = x.events; split = refl; state = s; left = left; came = h; wants = subst (λ (a : Arrival). MayWantFor s.world a) (came_is settings done joiner e held) w }
+
+-- the auditor wanted memory for the next event
+pub finds_expect : (settings : Settings) (m0 m m' : Merging) (r0 r : GivenFiles) (joiner : Joined) (s : State) (e : Event) (old now mid : Outside) → Walked settings m0 m r0 r old now joiner s → ComesTo e m m' now mid → MayWantFor s.world (arrival by_known joiner e) → Finds (Err stops.OutOfMemory) settings m0 r0 old mid
+finds_expect settings m0 m m' r0 r joiner s e old now mid h came w =
+    inr (subst (λ o. IfBoth o (given_told r0 old.left) (WantsAt settings)) (sym (h.others ∙ ap (option_map (front_of h.done)) came.events))
+    (wants-of settings s h.done joiner e (ahead m' mid.left) (given_told r0 old.left) (given_told r now.left) h.held h.came w))
+
+front_is : (done : List Event) (o : Option Merged) → IfSome (option_map (front_of done) o) (λ all. (others : List Event) × (all.events ≡ done ++ others))
+front_is done None = tt
+front_is done (Some x) = (x.events, refl)
+
+-- so much was taken of the incoming captures
+pub took_few : (settings : Settings) (m0 m : Merging) (r0 r : GivenFiles) (old now new : Outside) (joiner : Joined) (s : State) → (h : Walked settings m0 m r0 r old now joiner s) → ((start : Outside) → HasGiven start m now h.done → TakenFor h.done start new) → TookFew m0 old new
+took_few settings m0 m r0 r old now new joiner s h few = record {
+  handled = h.done;
+  few = λ start g. few start (h.given start g);
+  front = subst (λ o. IfSome o (λ all. (others : List Event) × (all.events ≡ h.done ++ others))) (sym h.others) (front_is h.done (ahead m now.left));
+}
 
 -- an event that was lawful, and what it read
 pub walked_event : (settings : Settings) (m0 m m' : Merging) (r0 r r' : GivenFiles) (a a' : Auditing) (totals : Totals) (joiner joiner' : Joined) (s s' : State) (e : Event) (frames : ℕ) (old now mid new : Outside) → Walked settings m0 m r0 r old now joiner s → ComesTo e m m' now mid → ReadsGiven mid new
     → joiner' ≡ joiner_after by_known joiner e → a.settings ≡ settings → s' ≡ after s (arrival by_known joiner e) frames → FoundLawful frames totals s (arrival by_known joiner e) r r' a a' mid new → Walked settings m0 m' r0 r' old new joiner' s'
 walked_event settings m0 m m' r0 r r' a a' totals joiner joiner' s s' e frames old now mid new h came given steps is state f =
-    walked_on settings m0 m m' r0 r r' old now new joiner joiner' s s' e frames h
+    walked_on settings m0 m m' r0 r r' old now new joiner joiner' s s' e frames h (λ start g. given_still start m' mid new (h.done ++ e ∷ []) given (came.given start h.done g))
     (came.events ∙ ap (option_map (with_event e)) (sym (ap (ahead m') given.left ∙ ahead_kept m' given.left_count given.right_count given.report_count mid.left)))
     steps state
     (subst (λ (x : Settings). Alike (IsLawfulWith x s (arrival by_known joiner e) frames) (given_told r now.left) (given_told r' new.left)) is

@@ -1,6 +1,8 @@
 -- What is found at an event, and over all of them.
-use Rattle.std.specs.Prelude.{◌≡◌, false, ◌+◌, ℕ, List, [], ◌∷◌, length, Result, Ok, Err, IfSome, option_map}
-use Rattle.frag_join.specs.Arrivals.{Arrival, arrivals_of}
+use Rattle.std.specs.Prelude.{◌≡◌, ◌⊎◌, true, false, ◌+◌, ℕ, List, [], ◌∷◌, ◌++◌, length, Result, Ok, Err, IfSome, option_map}
+use Rattle.frag_join.specs.Arrivals.{Arrival, Comes, Stays, arrival, arrivals_of, joiner_of}
+use Rattle.frag_join.specs.Joining.{by_list}
+use Rattle.gate_base.specs.Events.{Event}
 use Rattle.gate_base.specs.declared.event.OutOfMemory.{OutOfMemory}
 use Rattle.gate_base.specs.declared.side.Side.{Side}
 use Rattle.gate_desk.specs.declared.slot.Slot.{Slot}
@@ -11,16 +13,18 @@ use Rattle.gate_report.specs.declared.totals.Totals.{Totals}
 use Rattle.gate_report.specs.Counts.{nothing_counted}
 use Rattle.gate_settings.specs.declared.settings.Settings.{Settings}
 use Rattle.gate_world.specs.Sessions.{WholeSession}
-use Rattle.gate_world.specs.World.{World}
-use Rattle.pcap_merge.specs.Events.{Ending, Done, Fault}
+use Rattle.gate_world.specs.World.{World, at_moment}
+use Rattle.pcap_merge.specs.Events.{Merged, Ending, Done, Fault}
 use Rattle.pcap_merge.specs.declared.stop.MergeStop.{MergeStop}
 use Rattle.pcap_merge.specs.declared.stop.MergeStop.TheVariants as merges
-use Rattle.pcap_merge.specs.Merge.{Merging, ahead}
+use Rattle.pcap_merge.specs.Given.{TakenFor}
+use Rattle.pcap_merge.specs.Merge.{Merging, HasGiven, ahead}
 use Rattle.lawful_files.specs.declared.reason.AuditReason.{AuditReason}
 use Rattle.lawful_files.specs.declared.reason.AuditReason.TheVariants.{Capture}
 use Rattle.lawful_files.specs.Files.{Given, State, opening, after, given_of, HasLink, IsLawfulAt, LawfulFrom, IsAtLast}
 use Rattle.lawful_files.specs.Progress.{begun, IsSound}
 use Rattle.lawful_files.specs.Reasons.{IsFirst}
+use Rattle.lawful_files.specs.Walks.{CameTo}
 use Rattle.lawful_files.specs.Wanted.{event_in, verdict_of, wanted_of, world_after}
 use Rattle.file_audit.specs.declared.line.LineHead.{LineHead}
 use Rattle.file_audit.specs.declared.given.GivenFiles.{GivenFiles}
@@ -28,6 +32,7 @@ use Rattle.file_audit.specs.declared.stop.AuditStop.{AuditStop}
 use Rattle.file_audit.specs.declared.stop.AuditStop.TheVariants as stops
 use Rattle.file_audit.specs.Given.{Fits, IsRunning, given_slot, given_told, Alike, IfBoth}
 use Rattle.gate_audit.specs.Auditing.{Auditing, whole_world}
+use Rattle.gate_audit.specs.Memory.{MayWant}
 
 -- ## A frame is expected
 
@@ -50,9 +55,14 @@ pub record ExpectsFrame (old new : Auditing) (x : Arrival) : Type 0 where
   pub sound : IsSound (wanted_of (whole_world old) x)
   pub kept : new.lost ≡ false
 
+-- the auditor may want memory for a frame: it may where an event comes to it
+abbrev pub MayWantFor : World WholeSession → Arrival → Type 0
+MayWantFor w (Comes e) = MayWant (at_moment w e.moment) e
+MayWantFor w (Stays e verdict) = ⊥
+
 abbrev pub Expected : Result LineHead OutOfMemory → ℕ → Auditing → Auditing → Arrival → Type 0
 Expected (Ok h) number old new x = IsHead h number (whole_world old) x × ExpectsFrame old new x
-Expected (Err error) number old new x = Unit {0}
+Expected (Err error) number old new x = MayWantFor (whole_world old) x
 
 -- ## What is found at a frame
 
@@ -87,7 +97,7 @@ abbrev pub FindsAt : Result Totals AuditStop → State → Arrival → GivenFile
 FindsAt (Ok totals) s x r r' a a' old new = (frames : ℕ) × FoundLawful frames totals s x r r' a a' old new
 FindsAt (Err (stops.Unlawful number reason)) s x r r' a a' old new = IfSome (given_told r old.left) (λ g. IsReasonAt a.settings s x g number reason)
 FindsAt (Err (stops.Desk slot)) s x r r' a a' old new = IsReadInAudit slot × HasFailed slot old new
-FindsAt (Err stops.OutOfMemory) s x r r' a a' old new = Unit {0}
+FindsAt (Err stops.OutOfMemory) s x r r' a a' old new = a.settings.json ≡ true
 FindsAt (Err (stops.Capture side fault place)) s x r r' a a' old new = ⊥
 
 -- this frame is expected, and this was known and counted before it
@@ -104,12 +114,23 @@ abbrev pub FindsLast : Result (Unit {0}) AuditStop → Settings → State → Gi
 FindsLast (Ok u) settings s r old new = IfSome (given_told r old.left) (IsAtLast settings s)
 FindsLast (Err (stops.Unlawful number reason)) settings s r old new = IfSome (given_told r old.left) (λ g. IsFirst settings s [] Done g number reason)
 FindsLast (Err (stops.Desk slot)) settings s r old new = IsReadInAudit slot × HasFailed slot old new
-FindsLast (Err stops.OutOfMemory) settings s r old new = Unit {0}
+FindsLast (Err stops.OutOfMemory) settings s r old new = settings.json ≡ true
 FindsLast (Err (stops.Capture side fault place)) settings s r old new = ⊥
 
 -- ## What is found over all
 
--- they are lawful and the captures end; or this is the first reason; or a capture is faulty behind frames that are lawful; or a read failed; or memory was wanting
+-- the auditor wanted memory for the next of these events, behind others at which the given files are lawful
+pub record WantsAt (settings : Settings) (all : Merged) (g : Given) : Type 0 where
+  pub handled : List Event
+  pub next : Event
+  pub others : List Event
+  pub split : all.events ≡ handled ++ next ∷ others
+  pub state : State
+  pub left : Given
+  pub came : CameTo settings (opening settings) g (arrivals_of settings.join handled) state left
+  pub wants : MayWantFor state.world (arrival by_list (joiner_of settings.join handled) next)
+
+-- they are lawful and the captures end; or this is the first reason; or a capture is faulty behind frames that are lawful; or a read failed; or memory was wanting, for a line in JSON or for an event
 abbrev pub Finds : Result ℕ AuditStop → Settings → Merging → GivenFiles → Outside → Outside → Type 0
 Finds (Ok events) settings m r old new =
     IfBoth (ahead m old.left) (given_told r old.left) (λ all g. (all.ending ≡ Done) × (events ≡ length all.events) × LawfulFrom settings (opening settings) (arrivals_of settings.join all.events) all.ending g)
@@ -118,7 +139,13 @@ Finds (Err (stops.Unlawful number reason)) settings m r old new =
 Finds (Err (stops.Capture side fault place)) settings m r old new =
     IfBoth (ahead m old.left) (given_told r old.left) (λ all g. (all.ending ≡ Fault side fault place) × LawfulFrom settings (opening settings) (arrivals_of settings.join all.events) all.ending g)
 Finds (Err (stops.Desk slot)) settings m r old new = IsReadInAudit slot × HasFailed slot old new
-Finds (Err stops.OutOfMemory) settings m r old new = Unit {0}
+Finds (Err stops.OutOfMemory) settings m r old new = (settings.json ≡ true) ⊎ IfBoth (ahead m old.left) (given_told r old.left) (WantsAt settings)
+
+-- of each incoming capture no more whole records were taken than those of the first events, and one more, and it was read no further than a capture may be and the head of a record
+pub record TookFew (m : Merging) (old new : Outside) : Type 0 where
+  pub handled : List Event
+  pub few : (start : Outside) → HasGiven start m old [] → TakenFor handled start new
+  pub front : IfSome (ahead m old.left) (λ all. (others : List Event) × (all.events ≡ handled ++ others))
 
 -- why an audit stops where its merge does
 abbrev pub stop_of : MergeStop → AuditStop

@@ -61,12 +61,12 @@ pub record TakesFrames (frames : ℕ) (json : Bool) (h : LineHead) (ahead ahead'
   pub takes : Takes ReportGiven count old new
   pub goes : IfSome (told_at old.left ReportGiven) (λ all. ahead ++ all ≡ octets_of json (line_with h frames) ++ (ahead' ++ drop count all))
 
--- or it goes on with that line for no number; or a read failed; or memory was wanting
+-- or it goes on with that line for no number; or a read failed; or memory was wanting for a line in JSON
 abbrev pub TakesLine : Result (Option ℕ) AuditStop → Bool → LineHead → List ℕ → List ℕ → Outside → Outside → Type 0
 TakesLine (Ok (Some frames)) json h ahead ahead' old new = TakesFrames frames json h ahead ahead' old new
 TakesLine (Ok None) json h ahead ahead' old new = TakesReport old new × IfSome (told_at old.left ReportGiven) (λ all. HasNoLine json h (ahead ++ all))
 TakesLine (Err (Desk slot)) json h ahead ahead' old new = TakesReport old new × (slot ≡ ReportGiven) × HasFailed ReportGiven old new
-TakesLine (Err OutOfMemory) json h ahead ahead' old new = TakesReport old new
+TakesLine (Err OutOfMemory) json h ahead ahead' old new = TakesReport old new × (json ≡ true)
 TakesLine (Err (Unlawful number reason)) json h ahead ahead' old new = ⊥
 TakesLine (Err (Capture side fault place)) json h ahead ahead' old new = ⊥
 
@@ -79,6 +79,6 @@ IsLast false json line octets = octets ≡ octets_of json line → ⊥
 abbrev pub TakesLast : Result Bool AuditStop → Bool → Line → List ℕ → List ℕ → Outside → Outside → Type 0
 TakesLast (Ok answer) json line ahead ahead' old new = TakesReport old new × IfSome (told_at old.left ReportGiven) (λ all. IsLast answer json line (ahead ++ all))
 TakesLast (Err (Desk slot)) json line ahead ahead' old new = TakesReport old new × (slot ≡ ReportGiven) × HasFailed ReportGiven old new
-TakesLast (Err OutOfMemory) json line ahead ahead' old new = TakesReport old new
+TakesLast (Err OutOfMemory) json line ahead ahead' old new = TakesReport old new × (json ≡ true)
 TakesLast (Err (Unlawful number reason)) json line ahead ahead' old new = ⊥
 TakesLast (Err (Capture side fault place)) json line ahead ahead' old new = ⊥

@@ -1,5 +1,5 @@
 -- What an audit leaves of the counts.
-use Rattle.std.specs.Prelude.{◌≡◌, Result, Ok, Err}
+use Rattle.std.specs.Prelude.{◌≡◌, Result, Err}
 use Rattle.gate_desk.specs.Outside.{Outside, NoneFailed}
 use Rattle.file_audit.specs.declared.stop.AuditStop.{AuditStop}
 use Rattle.file_audit.specs.declared.stop.AuditStop.TheVariants.{Desk}

@@ -6,7 +6,7 @@ ghost use Rattle.gate_desk.specs.declared.slot.Slot.TheVariants.{LeftIn, RightIn
 ghost use Rattle.gate_audit.specs.Auditing.{IsOpening};
 ghost use Rattle.gate_report.specs.Counts.{nothing_counted};
 ghost use Rattle.pcap_merge.specs.Merge.{work, AtEnds};
-ghost use Rattle.file_audit.specs.Events.{Finds};
+ghost use Rattle.file_audit.specs.Events.{Finds, TookFew};
 ghost use Rattle.file_audit.specs.Given.{Fits, IsRunning};
 ghost use Rattle.file_audit.specs.Stops.{LeavesCounts};
 
@@ -46,6 +46,7 @@ pub fn audit_events<D: Desk>(
     requires running { IsRunning given.old }
     requires fits { Fits nothing_counted given.old }
     ensures answer { Finds result auditor.old.settings merge.old given.old (D.outside desk.old) (D.outside desk.new) }
+    ensures taken { TookFew merge.old (D.outside desk.old) (D.outside desk.new) }
     ensures left_end { OnOk result (IsAtEnd (D.outside desk.new) LeftIn) }
     ensures right_end { OnOk result (IsAtEnd (D.outside desk.new) RightIn) }
     ensures starts { (D.outside desk.new).starts ≡ (D.outside desk.old).starts }

@@ -1,5 +1,5 @@
 // The lines of the given report.
-ghost use Rattle.std.specs.Prelude.{◌≡◌, ◌<◌, ◌≤◌, ◌*◌, ◌^◌, IfOk, length};
+ghost use Rattle.std.specs.Prelude.{OnErr, true, ◌≡◌, ◌<◌, ◌≤◌, ◌*◌, ◌^◌, IfOk, length};
 ghost use Rattle.gate_desk.specs.declared.slot.Slot.TheVariants.{ReportGiven};
 ghost use Rattle.gate_desk.specs.Outside.{CanRead};
 ghost use Rattle.file_audit.specs.Lines.{agreed, agreement, number_after, with_digit, octets_of, line_with, FindsLine, IsLast, TakesLine, TakesLast};
@@ -82,6 +82,7 @@ fn agreement(line: &[u8], octets: &[u8]) -> Extent
 fn compare(alloc: Global, json: bool, line: &Line, octets: &[u8]) -> Result<Extent, OutOfMemory>
     ensures is { IfOk result (λ found. found ≡ agreement (octets_of json line.now) octets.now) }
     ensures bound { IfOk result (λ found. found.count ≤ length octets.now) }
+    ensures memory { OnErr result (json ≡ true) }
 {
     if json {
         let made = json_line(alloc, line)?;
@@ -95,7 +96,8 @@ fn compare(alloc: Global, json: bool, line: &Line, octets: &[u8]) -> Result<Exte
 
 /// Whether octets are a line and nothing more.
 fn is_line(alloc: Global, json: bool, line: &Line, octets: &[u8]) -> Result<bool, OutOfMemory>
-    ensures { IfOk result (λ answer. IsLast answer json line.now octets.now) }
+    ensures is { IfOk result (λ answer. IsLast answer json line.now octets.now) }
+    ensures memory { OnErr result (json ≡ true) }
 {
     let found = compare(alloc, json, line, octets)?;
     Ok(found.whole && found.count == octets.len())
@@ -133,7 +135,8 @@ fn find_line(
     head: LineHead,
     octets: &[u8],
 ) -> Result<Option<Found>, OutOfMemory>
-    ensures { IfOk result (λ found. FindsLine found json head octets.now) }
+    ensures is { IfOk result (λ found. FindsLine found json head octets.now) }
+    ensures memory { OnErr result (json ≡ true) }
 {
     let none = compare(alloc, json, &head.with(0), octets)?;
     if none.whole {

@@ -30,11 +30,6 @@ pub or_parts : (x y : Bool) → (x || y) ≡ false → (x ≡ false) × (y ≡ f
 or_parts true y none = absurd cc
 or_parts false y none = (refl, none)
 
-pub same-any : (test other : ℕ → Bool) (bound : ℕ) → ((place : ℕ) → place < bound → test place ≡ other place) → any_below test bound ≡ any_below other bound
-same-any test other zero same = refl
-same-any test other (suc n) same =
-    ap (λ b. b || test n) (same-any test other n (λ place below. same place (omega arith))) ∙ ap (λ b. any_below other n || b) (same n (omega arith))
-
 pub same-all : (test other : ℕ → Bool) (bound : ℕ) → ((place : ℕ) → place < bound → test place ≡ other place) → all_below test bound ≡ all_below other bound
 same-all test other zero same = refl
 same-all test other (suc n) same =

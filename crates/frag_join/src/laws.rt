@@ -7,8 +7,8 @@ ghost use Rattle.frag_join.specs.Arrivals.{ArrivalsAre, arrivals_of, coming};
 ghost use Rattle.frag_join.specs.Cuts.{Original, Arrives, Completes};
 ghost use Rattle.frag_join.specs.Joining.{State, empty, by_list, by_known, step, after, state_known};
 
-/// What is known by the fragments of each datagram is enough: with it in place of the lists of fragments each frame is
-/// answered in the same way, and what is known afterwards is that of the lists afterwards.
+/// What is known by the fragments of each datagram is enough. With it in place of the lists of fragments each frame is answered
+/// in the same way. What is known afterwards is that of the lists afterwards.
 pub fn known_state_suffices()
     ensures begins { state_known empty ≡ empty }
     ensures answers { (state : State (List Fragment)) (e : Event) → (step by_known (state_known state) e).answer ≡ (step by_list state e).answer }
@@ -16,9 +16,9 @@ pub fn known_state_suffices()
     ensures after_all { (state : State (List Fragment)) (events : List Event) → after by_known (state_known state) events ≡ state_known (after by_list state events) }
 {}
 
-/// A datagram without options that was cut into fragments is joined, in whatever order they come, with repeats, and with
-/// any frames between them that carry no other fragment of its name: the frame with which all of its payload is covered
-/// completes it. So it is over the lists of fragments, and where only what they tell is kept.
+/// A datagram without options that was cut into fragments is joined. They may come in any order and with repeats, and with any
+/// frames between them that carry no other fragment of its name. The frame with which all of its payload is covered completes it.
+/// So it is over the lists of fragments, and where only what they tell is kept.
 pub fn cuts_are_joined()
     ensures over_lists { (d : Original) (state : State (List Fragment)) (first last : Event) (more : List Event) → Arrives d state first more last → Completes d last (step by_list (after by_list state (first ∷ more)) last) }
     ensures by_what_is_known { (d : Original) (state : State (List Fragment)) (first last : Event) (more : List Event) → Arrives d state first more last → Completes d last (step by_known (after by_known (state_known state) (first ∷ more)) last) }

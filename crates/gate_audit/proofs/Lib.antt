@@ -1,3 +1,4 @@
 mod ExpectedEvents
 mod Laws
 mod WholeGiven
+mod LostEvents

@@ -1,2 +1,3 @@
 pub mod Auditing
 pub mod Given
+pub mod Memory

@@ -1,5 +1,5 @@
 // One event of the auditor, and the records that are given for it.
-ghost use Rattle.std.specs.Prelude.{◌≡◌, ◌*◌, ◌^◌, ◌<◌, [], true, false, All, IfOk, OnOk};
+ghost use Rattle.std.specs.Prelude.{◌≡◌, ◌*◌, ◌^◌, ◌<◌, [], true, false, All, IfOk, OnOk, OnErr};
 ghost use Rattle.gate_base.specs.Events.{event_of};
 ghost use Rattle.gate_base.specs.Side.{other};
 ghost use Rattle.gate_settings.specs.Sound.{IsSound};
@@ -10,6 +10,8 @@ ghost use Rattle.lawful_files.specs.Progress.{begun, behind, is_closed};
 ghost use Rattle.lawful_files.specs.Wanted.{Exactly};
 ghost use Rattle.gate_audit.specs.Auditing.{IsOpening, Expects, whole_world};
 ghost use Rattle.gate_audit.specs.Given.{IsWhole};
+ghost use Rattle.gate_audit.specs.Memory.{MayWant};
+ghost use Rattle.gate_world.specs.World.{at_moment};
 ghost use Rattle.gate_known.specs.Given.{given_by, refusal_of};
 ghost use Rattle.heard_sessions.specs.Gives.{heard_gives};
 
@@ -23,9 +25,6 @@ use heard_sessions::AuditedSession;
 use pcap_files::Packet;
 use std::alloc::Global;
 use std::marker::Model;
-
-/// By what number the tables spread their keys: what they answer doesn't depend on it.
-const SPREAD: u64 = 0;
 
 /// The settings, what is known, and what is wanted of the last frame.
 pub struct Auditor {
@@ -65,14 +64,15 @@ impl Model for Auditor {
 }
 
 impl Auditor {
-    /// An auditor to which nothing has come. The error is that there is too little memory.
-    pub fn make(alloc: Global, settings: Settings) -> Result<Auditor, OutOfMemory>
+    /// An auditor to which nothing has come. The seed spreads the keys of the tables, and changes no answer. The error is that there
+    /// is too little memory.
+    pub fn make(alloc: Global, settings: Settings, seed: u64) -> Result<Auditor, OutOfMemory>
         requires sound { IsSound settings }
         requires forms { HasForms settings }
         ensures { IfOk result (IsOpening settings) }
     {
         Ok(Auditor {
-            known: Known::make(alloc, &settings, Seed::from_number(SPREAD))?,
+            known: Known::make(alloc, &settings, Seed::from_number(seed))?,
             outbox: Outbox::make(alloc)?,
             expected: Expected::make(alloc)?,
             lost: false,
@@ -94,6 +94,7 @@ impl Auditor {
         requires kept { self.old.lost ≡ false }
         ensures verdict { IfOk result (λ v. v ≡ verdict whole_rules (whole_world self.old) (event_of event.now)) }
         ensures next { OnOk result (Expects self.old self.new (event_of event.now)) }
+        ensures wants { OnErr result (MayWant (at_moment (whole_world self.old) event.now.moment.0) (event_of event.now)) }
     {
         are_octets(event.octets);
         self.lost = true;

@@ -1,5 +1,5 @@
 -- A run, and the line of its status.
-use Rattle.std.proofs.Common.{Ok, Err, inl, inr, sym, subst}
+use Rattle.std.proofs.Common.{Ok, Err, sym, subst}
 use Rattle.gate_desk.specs.Outside.{Outside}
 use Rattle.gate_report.specs.declared.line.Line.{Line}
 use Rattle.gate_phases.specs.declared.status.Status.{Status}
@@ -9,7 +9,7 @@ use Rattle.gateway.specs.Answers.{IsRun, Runs, TookForWritten}
 use Rattle.gate_command.specs.Answers.{IsDoneRun, IsToldRun, AnswersRun}
 use Rattle.gate_phases.specs.Telling.{Tells}
 use Rattle.gateway.proofs.Promises.{promise_kept}
-use Rattle.gateway.proofs.Runs.{run_of, untold}
+use Rattle.gateway.proofs.Runs.{run_of}
 
 -- a run that is done keeps the promise
 pub done_run : (line : Line) (names : Names) (a b : Outside) → Runs (Ok line) names a b → TookForWritten a b → IsDoneRun names a b
@@ -17,15 +17,11 @@ done_run line names a b h took = record { run = h.0; promise = promise_kept Done
 
 told_run : (e answer : Status) (names : Names) (a b c : Outside) → Runs (Err e) names a b → TookForWritten a b → Tells e answer b c → IsToldRun answer names a c
 told_run e answer names a b c h took t =
-    let run : IsRun answer names a b =
-    elim t.answer_is [
-      | inl same ↦ subst (λ s. IsRun s names a b) (sym same) (run_of e names a b h)
-      | inr memory ↦ subst (λ s. IsRun s names a b) (sym memory.0) (untold e names a b memory.1 h)
-    ] in
+    let run = subst (λ s. IsRun s names a b) (sym t.answer_is) (run_of e names a b h) in
     record { ended = b; run = run; promise = promise_kept answer names a b run; taken = took; line = t.line }
 
 not_done : (e : Status) (names : Names) (a b c : Outside) → Runs (Err e) names a b → Tells e Done b c → ⊥
-not_done e names a b c h t = elim t.answer_is [ inl same ↦ subst (λ s. Runs (Err s) names a b) (sym same) h | inr memory ↦ cc ]
+not_done e names a b c h t = subst (λ s. Runs (Err s) names a b) (sym t.answer_is) h
 
 -- what the call answers to the words of a run
 pub answers_run : (e answer : Status) (names : Names) (a b c : Outside) → Runs (Err e) names a b → TookForWritten a b → Tells e answer b c → AnswersRun answer names a c

@@ -8,7 +8,7 @@ use Rattle.gate_phases.specs.RunNames.{Names}
 use Rattle.gateway.specs.Answers.{IsRun, IsPromised, TookForWritten}
 use Rattle.gateway.specs.Making.{IsMake}
 use Rattle.gate_phases.specs.AuditNames.{Names as AuditNames}
-use Rattle.gateway_audit.specs.Audits.{IsAudit}
+use Rattle.gateway_audit.specs.Audits.{IsAudit, TookForEvents}
 use Rattle.gate_phases.specs.Command.{Command, Run, Make, Audit}
 use Rattle.gate_phases.specs.Command as commands
 
@@ -40,15 +40,21 @@ abbrev pub AnswersMake : Status → ℕ → ℕ → List ℕ → Outside → Out
 AnswersMake Done number count report old new = IsMake Done number count report old new
 AnswersMake status number count report old new = IsToldMake status number count report old new
 
+-- an audit that gives a verdict
+pub record IsDoneAudit (status : Status) (names : AuditNames) (old new : Outside) : Type 0 where
+  pub audit : IsAudit status names old new
+  pub taken : TookForEvents old new
+
 -- an audit that gives no verdict, and then the line of its status
 pub record IsToldAudit (status : Status) (names : AuditNames) (old new : Outside) : Type 0 where
   pub ended : Outside
   pub audit : IsAudit status names old ended
+  pub taken : TookForEvents old ended
   pub line : TellsLine status ended new
 
 abbrev pub AnswersAudit : Status → AuditNames → Outside → Outside → Type 0
-AnswersAudit Done names old new = IsAudit Done names old new
-AnswersAudit (Unlawful number reason) names old new = IsAudit (Unlawful number reason) names old new
+AnswersAudit Done names old new = IsDoneAudit Done names old new
+AnswersAudit (Unlawful number reason) names old new = IsDoneAudit (Unlawful number reason) names old new
 AnswersAudit status names old new = IsToldAudit status names old new
 
 -- what the call answers to the words of a run, to those of a make, to those of an audit, and to other words

@@ -18,7 +18,7 @@ fn told_run<D: Desk>(alloc: Global, desk: &mut D, names: FileNames<'_>) -> Statu
 {
     match run(alloc, desk, names) {
         Ok(_) => Status::Done,
-        Err(status) => tell(alloc, desk, status),
+        Err(status) => tell(desk, status),
     }
 }
 
@@ -29,7 +29,7 @@ fn told_make<D: Desk>(alloc: Global, desk: &mut D, number: u32, count: u32, repo
 {
     match make(alloc, desk, number, count, report) {
         Status::Done => Status::Done,
-        status => tell(alloc, desk, status),
+        status => tell(desk, status),
     }
 }
 
@@ -40,20 +40,24 @@ fn told_audit<D: Desk>(alloc: Global, desk: &mut D, names: AuditNames<'_>) -> St
     match audit(alloc, desk, names) {
         Status::Done => Status::Done,
         Status::Unlawful(number, reason) => Status::Unlawful(number, reason),
-        status => tell(alloc, desk, status),
+        status => tell(desk, status),
     }
 }
 
-/// Carries out the command of these words, which stand behind the program's name: `run SETTINGS LEFT_IN RIGHT_IN LEFT_OUT
-/// RIGHT_OUT REPORT`; `make NUMBER COUNT REPORT`, a run over the workload of two numbers of which the last line of the report
-/// is written alone; or `audit SETTINGS LEFT_IN RIGHT_IN LEFT_GIVEN RIGHT_GIVEN REPORT_GIVEN REPORT`, which writes one line:
-/// for how many events the given captures and report are lawful, or the first event for which they aren't, and why. Where the
-/// answer is neither `Done` nor `Unlawful`, one line on the slot of errors says why.
+/// Carries out the command of these words, which stand behind the program's name:
 ///
-/// Of the events of both captures, whose frames and lines a run writes: each frame is forwarded at its own event unless
-/// exactly its named refusal holds; in each FTP session the octets sent to a host are a prefix of the peer's stream with its
-/// address lines renamed by the session's one pair of bindings; acknowledgements cover only octets whose images were
-/// acknowledged; every other forwarded frame is its renaming.
+/// - `run SETTINGS LEFT_IN RIGHT_IN LEFT_OUT RIGHT_OUT REPORT`
+/// - `make NUMBER COUNT REPORT`, a run over the workload of two numbers of which the last line of the report is written alone
+/// - `audit SETTINGS LEFT_IN RIGHT_IN LEFT_GIVEN RIGHT_GIVEN REPORT_GIVEN REPORT`, which writes one line: for how many events the
+///   given captures and report are lawful, or the first event for which they aren't, and why
+///
+/// Where the answer is neither `Done` nor `Unlawful`, one line on the slot of errors says why.
+///
+/// This is promised of the events of both captures whose frames and lines a run writes. Each frame is forwarded at its own event
+/// unless exactly its named refusal holds. In each FTP session the octets sent to a host are a prefix of the peer's stream with
+/// its address lines renamed by the session's one pair of bindings. In each session of DNS over TCP they are a prefix with each
+/// whole message renamed by the session's lists. Acknowledgements cover only octets whose images were acknowledged. Every other
+/// forwarded frame is its renaming.
 pub fn realm_gate<D: Desk>(alloc: Global, words: &[String], desk: &mut D) -> Status
     ensures { Answers result (command_of (map string_bytes words.now)) (D.outside desk.old) (D.outside desk.new) }
 {

@@ -13,6 +13,7 @@ use gate_phases::Status;
 use std::alloc::{AllocError, Global};
 use std::env;
 use std::io::ErrorKind;
+use std::random::RandomSource;
 use std::rt::Runtime;
 
 // The words behind the program's name. Where one of them isn't text there are none, which is no command.
@@ -85,6 +86,15 @@ pub fn carry_out<R: Runtime>(alloc: Global, words: &[String], desk: &mut FileDes
     finish(desk, code)
 }
 
+// A number that nobody else knows, or 0 where the system gives none.
+fn drawn_seed(rt: &HostRuntime) -> u64 {
+    let mut octets = [0; 8];
+    match rt.fill_bytes(&mut octets) {
+        Ok(()) => u64::from_le_bytes(octets),
+        Err(_) => 0,
+    }
+}
+
 /// Carries out the command of the program's words over real files, and answers the exit status.
 pub fn run(rt: HostRuntime) -> u8
     ensures { IsCode result }
@@ -93,6 +103,7 @@ pub fn run(rt: HostRuntime) -> u8
         return Status::OutOfMemory.code();
     };
     let alloc = rt.alloc();
-    let mut desk = FileDesk::make(rt);
+    let seed = drawn_seed(&rt);
+    let mut desk = FileDesk::make(rt, seed);
     carry_out(alloc, &words, &mut desk)
 }

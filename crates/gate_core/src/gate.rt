@@ -53,13 +53,13 @@ impl Model for Gate {
 }
 
 impl Gate {
-    /// A gate to which nothing has come.
-    pub fn make(alloc: Global, settings: Settings) -> Result<Gate, OutOfMemory>
+    /// A gate to which nothing has come. The seed spreads the keys of the tables, and changes no answer.
+    pub fn make(alloc: Global, settings: Settings, seed: u64) -> Result<Gate, OutOfMemory>
         requires sound { IsSound settings }
         requires forms { HasForms settings }
         ensures { IfOk result (λ gate. gate ≡ record { settings = settings; world = opening_world settings }) }
     {
-        let salt = salt_of(&settings);
+        let salt = salt_of(&settings) ^ seed;
         Ok(Gate {
             known: Known::make(alloc, &settings, Seed::from_number(salt))?,
             salt: Some(salt),
@@ -81,11 +81,13 @@ impl Gate {
         self.known.pending
     }
 
-    /// Takes an event, whose moment isn't before that of an earlier one: its frame passes, or is refused for the first reason
+    /// Takes an event, whose moment isn't before that of an earlier one. Its frame passes, or is refused for the first reason
     /// that holds, and its datagrams are put into the outbox. A refused one moves the clock, by which bindings and connections
-    /// may end, and changes nothing else; nor does one for which memory runs out. That happens only at a datagram of DNS that is
-    /// refused neither by itself nor for its addresses, at a segment that isn't refused, the first of a session or one that
-    /// completes a line that bears an address, and at one that completes a unit of a session of DNS, which doesn't refuse it.
+    /// may end, and changes nothing else. One for which memory runs out changes nothing else either.
+    ///
+    /// Memory may run out only at these frames, if neither the frame by itself nor its addresses are refused. The first is a
+    /// datagram of DNS. The second is a segment that isn't refused, and that is the first of a session or completes a line that
+    /// bears an address. The third is one that completes a unit of a session of DNS, which doesn't refuse it.
     pub fn step(&mut self, event: &Event<'_>, outbox: &mut Outbox) -> Result<Verdict, OutOfMemory>
         requires moment { event.now.moment.0 < 2 ^ 32 * 1000000000 }
         ensures verdict { IfOk result (λ v. v ≡ verdict kept_rules self.old.world (event_of event.now)) }

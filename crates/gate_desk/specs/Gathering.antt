@@ -1,6 +1,6 @@
 -- What is gathered for the slots of a desk over files, before it is written out.
 use Rattle.std.specs.Io.KnownBytes.{Appends, append_known}
-use Rattle.std.specs.Io.Buffered.{reader_buffer}
+use Rattle.std.specs.Io.Buffered.{reader_buffer, reader_remaining}
 use Rattle.std.specs.Prelude.{◌≡◌, ◌<◌, ◌⊎◌, ℕ, List, [], ◌++◌, Option, Some, None, IfSome, Result, Ok, Err, false, if◌then◌else◌, min, take, drop, length}
 use Rattle.gate_desk.specs.declared.gathered.Gathering.{Gathering}
 use Rattle.gate_desk.specs.declared.gathered.Gathering.TheVariants.{Gathered, NoRoom, Refused}
@@ -50,6 +50,20 @@ ahead _ = []
 -- the same of each slot
 abbrev pub ahead_in : {F A : Type 0} → PerSlot (Place F A) → PerSlot (List ℕ)
 ahead_in p = mapped ahead p
+
+-- what is still to be read of a place, where its file tells that: what was read ahead, and then the file's rest
+abbrev pub unread : {F A : Type 0} → (F → Option (List ℕ)) → Place F A → Option (List ℕ)
+unread remaining (Input reader) = reader_remaining remaining reader
+unread remaining _ = None
+
+-- the same of each slot
+abbrev pub unread_in : {F A : Type 0} → (F → Option (List ℕ)) → PerSlot (Place F A) → PerSlot (Option (List ℕ))
+unread_in remaining p = mapped (unread remaining) p
+
+-- a slot that was started has what its file has, and all else stays
+abbrev pub unread_after : {T E X : Type 0} → Result T E → Slot → PerSlot X → PerSlot X → PerSlot X
+unread_after (Ok x) slot old new = put old slot (at new slot)
+unread_after (Err e) slot old new = old
 
 -- so many of the octets that were read ahead stand in the buffer, and are gone: as many as there is room for, or all
 abbrev pub TakesAhead : ℕ → List ℕ → List ℕ → List ℕ → Type 0

@@ -58,6 +58,12 @@ pub trait Desk {
         ensures takes { Takes slot count (outside self.old) (outside self.new) }
         ensures leaves { (outside self.new).faults ≡ (outside self.old).faults };
 
+    /// A number that spreads the keys of tables. No answer depends on it. A desk over real files has one that nobody else knows, so
+    /// that nobody can choose keys which lie close together.
+    fn seed(&self) -> u64 {
+        0
+    }
+
     /// Appends two pieces whole, the one behind the other. It fails only where the slot's count of faults rose; a prefix of
     /// both was written then.
     fn write_both(&mut self, slot: Slot, first: &[u8], second: &[u8]) -> Result<(), Failed>

@@ -1,7 +1,8 @@
 // A desk over real files: the trusted edge of the program.
 ghost use Rattle.std.specs.Prelude.{◌≡◌, ◌<◌, ◌≤◌, ◌++◌, ℕ, List, Option, [], None, length, take, drop, IfOk, IfErr, IfSome, IsSome, IsErr, IsErrOf, OnOk, OnErr};
+ghost use Rattle.std.specs.Io.KnownBytes.{ReadConsumes};
 ghost use Rattle.gate_desk.specs.Counts.{counts_after, raised};
-ghost use Rattle.gate_desk.specs.Gathering.{waiting_in, got_in, way_of, ways_in, ahead_in, ahead_after, ways_after, gathered_after, HandsOut, RefusedWaits, StaysWaiting, TakesAhead, TakesNothing, TakesNothingElse, TakesPiece, Waits};
+ghost use Rattle.gate_desk.specs.Gathering.{waiting_in, got_in, way_of, ways_in, ahead_in, ahead_after, unread_in, unread_after, ways_after, gathered_after, HandsOut, RefusedWaits, StaysWaiting, TakesAhead, TakesNothing, TakesNothingElse, TakesPiece, Waits};
 ghost use Rattle.gate_desk.specs.Slots.{at, put, each};
 
 use crate::gathered::Gathering;
@@ -13,13 +14,15 @@ use std::marker::Model;
 use std::rt::Runtime;
 
 /// A desk over files, which tells no contents and no starts. A start for reading opens a file, and one for writing creates or
-/// empties it; the name `-` on the report is standard output. What is written on the slot of errors goes to standard error.
+/// empties it. The name `-` on the report is standard output. What is written on the slot of errors goes to standard error.
 ///
-/// A write that is answered was taken, which doesn't say that the system got it: octets are gathered for each slot. All that
-/// is gathered is written out, first of the captures and then of the report, before the system is asked for more octets of
-/// an input, before a start, before a line of errors, where there is no room for a piece, and by `finish`, which alone says
-/// that the system got all. Once the system refuses a gathered octet each start, read and write fails, that of a line of
-/// errors too, until `finish` names the slot, drops what is gathered and closes all slots.
+/// A write that is answered was taken, which doesn't say that the system got it: octets are gathered for each slot. All that is
+/// gathered is written out, first of the captures and then of the report. That is done before the system is asked for more octets
+/// of an input, before a start, and before a line of errors. It is done where there is no room for a piece, and by `finish`,
+/// which alone says that the system got all.
+///
+/// Once the system refuses a gathered octet, each start, read and write fails, that of a line of errors too. Then `finish` names
+/// the slot, drops what is gathered and closes all slots.
 #[derive(Drop)]
 pub struct FileDesk<R: Runtime> {
     rt: R,
@@ -28,15 +31,16 @@ pub struct FileDesk<R: Runtime> {
     refused: Option<Slot>,
     faults: PerSlot<u64>,
     start_faults: PerSlot<u64>,
+    seed: u64,
 }
 
 impl<R: Runtime> Model for FileDesk<R> {
     ghost use Rattle.gate_desk.specs.Untold.{Files};
-    ghost use Rattle.gate_desk.specs.Gathering.{got_in, waiting_in, ways_in, ahead_in, RefusedWaits};
+    ghost use Rattle.gate_desk.specs.Gathering.{got_in, waiting_in, ways_in, ahead_in, unread_in, RefusedWaits};
 
     ghost Value = { Files };
 
-    ghost view = { λ d. record { ways = ways_in d.places; ahead = ahead_in d.places; got = got_in R.File.contents d.places; waiting = waiting_in d.places; refused = d.refused; faults = d.faults; start_faults = d.start_faults } };
+    ghost view = { λ d. record { ways = ways_in d.places; ahead = ahead_in d.places; unread = unread_in R.File.remaining d.places; got = got_in R.File.contents d.places; waiting = waiting_in d.places; refused = d.refused; faults = d.faults; start_faults = d.start_faults } };
 
     // Where the system refused octets of a slot, some wait there.
     ghost invariant = { λ d. RefusedWaits d.refused (waiting_in d.places) };
@@ -47,6 +51,7 @@ fn nowhere<F: Read + Drop, A: Allocator>() -> PerSlot<Place<F, A>>
     ensures got { (contents : F → Option (List ℕ)) → got_in contents result ≡ each None }
     ensures ways { ways_in result ≡ each None }
     ensures ahead { ahead_in result ≡ each [] }
+    ensures unread { unread_in F.remaining result ≡ each None }
 {
     PerSlot {
         settings: Place::Nowhere,
@@ -66,6 +71,7 @@ fn nowhere<F: Read + Drop, A: Allocator>() -> PerSlot<Place<F, A>>
 fn write_out_all<R: Runtime>(rt: &R, places: &mut PerSlot<Place<R::File, R::A>>) -> Result<(), Slot>
     ensures ways { ways_in places.new ≡ ways_in places.old }
     ensures ahead { ahead_in places.new ≡ ahead_in places.old }
+    ensures unread { unread_in R.File.remaining places.new ≡ unread_in R.File.remaining places.old }
     ensures none { OnOk result (waiting_in places.new ≡ each []) }
     ensures files { OnOk result (HandsOut (got_in R.File.contents places.old) (waiting_in places.old) (got_in R.File.contents places.new)) }
     ensures stays { IfErr result (λ slot. StaysWaiting slot (waiting_in places.old) (waiting_in places.new)) }
@@ -91,6 +97,7 @@ fn hand_out<R: Runtime>(
 ) -> Result<(), Failed>
     ensures ways { ways_in places.new ≡ ways_in places.old }
     ensures ahead { ahead_in places.new ≡ ahead_in places.old }
+    ensures unread { unread_in R.File.remaining places.new ≡ unread_in R.File.remaining places.old }
     ensures all { OnOk result (waiting_in places.new ≡ each []) }
     ensures files { OnOk result (HandsOut (got_in R.File.contents places.old) (waiting_in places.old) (got_in R.File.contents places.new)) }
     ensures none { OnOk result (refused.new ≡ None) }
@@ -123,11 +130,13 @@ fn start_slot<R: Runtime>(
     ensures refused { IsSome refused.old → IsErr result }
     ensures ways { ways_in places.new ≡ ways_after result slot way (ways_in places.old) }
     ensures takes { OnOk result (TakesNothingElse slot (got_in R.File.contents places.old) (waiting_in places.old) (got_in R.File.contents places.new) (waiting_in places.new)) }
+    ensures none { OnOk result (at (waiting_in places.new) slot ≡ []) }
     ensures ahead { ahead_in places.new ≡ ahead_after result slot (ahead_in places.old) }
+    ensures unread { unread_in R.File.remaining places.new ≡ unread_after result slot (unread_in R.File.remaining places.old) (unread_in R.File.remaining places.new) }
     ensures still { RefusedWaits refused.old (waiting_in places.old) → RefusedWaits refused.new (waiting_in places.new) }
 {
     hand_out(rt, places, refused)?;
-    match open_place(rt, slot, name, way) {
+    match open_place(rt, places, slot, name, way) {
         Ok(place) => {
             *places.at_mut(slot) = place;
             Ok(())
@@ -149,6 +158,8 @@ fn read_slot<R: Runtime>(
     ensures ways { ways_in places.new ≡ ways_in places.old }
     ensures ahead { IfOk result (λ n. 0 < length (at (ahead_in places.old) slot) → TakesAhead n buffer.new (at (ahead_in places.old) slot) (at (ahead_in places.new) slot)) }
     ensures others { ahead_in places.new ≡ put (ahead_in places.old) slot (at (ahead_in places.new) slot) }
+    ensures unread { ReadConsumes (at (unread_in R.File.remaining places.old) slot) (at (unread_in R.File.remaining places.new) slot) result buffer.new }
+    ensures unread_others { unread_in R.File.remaining places.new ≡ put (unread_in R.File.remaining places.old) slot (at (unread_in R.File.remaining places.new) slot) }
     ensures takes { OnOk result (TakesNothing (got_in R.File.contents places.old) (waiting_in places.old) (got_in R.File.contents places.new) (waiting_in places.new)) }
     ensures still { RefusedWaits refused.old (waiting_in places.old) → RefusedWaits refused.new (waiting_in places.new) }
 {
@@ -176,6 +187,7 @@ fn write_slot<R: Runtime>(
 ) -> Result<(), Failed>
     ensures ways { ways_in places.new ≡ ways_in places.old }
     ensures ahead { ahead_in places.new ≡ ahead_in places.old }
+    ensures unread { unread_in R.File.remaining places.new ≡ unread_in R.File.remaining places.old }
     ensures waits { OnOk result (Waits slot (first.now ++ second.now) (waiting_in places.old) (waiting_in places.new)) }
     ensures takes { OnOk result (TakesPiece slot (first.now ++ second.now) (got_in R.File.contents places.old) (waiting_in places.old) (got_in R.File.contents places.new) (waiting_in places.new)) }
     ensures refused { IsSome refused.old → IsErr result }
@@ -206,6 +218,7 @@ fn gather_alone<R: Runtime>(
 ) -> Result<(), Failed>
     ensures ways { ways_in places.new ≡ ways_in places.old }
     ensures ahead { ahead_in places.new ≡ ahead_in places.old }
+    ensures unread { unread_in R.File.remaining places.new ≡ unread_in R.File.remaining places.old }
     ensures waits { OnOk result (Waits slot (first.now ++ second.now) (waiting_in places.old) (waiting_in places.new)) }
     ensures takes { OnOk result (TakesPiece slot (first.now ++ second.now) (got_in R.File.contents places.old) (waiting_in places.old) (got_in R.File.contents places.new) (waiting_in places.new)) }
     ensures still { RefusedWaits refused.old (waiting_in places.old) → RefusedWaits refused.new (waiting_in places.new) }
@@ -228,6 +241,7 @@ fn write_errors<R: Runtime>(
 ) -> Result<(), Failed>
     ensures ways { ways_in places.new ≡ ways_in places.old }
     ensures ahead { ahead_in places.new ≡ ahead_in places.old }
+    ensures unread { unread_in R.File.remaining places.new ≡ unread_in R.File.remaining places.old }
     ensures takes { OnOk result (TakesPiece Slot.Errors (first.now ++ second.now) (got_in R.File.contents places.old) (waiting_in places.old) (got_in R.File.contents places.new) (waiting_in places.new)) }
     ensures refused { IsSome refused.old → IsErr result }
     ensures still { RefusedWaits refused.old (waiting_in places.old) → RefusedWaits refused.new (waiting_in places.new) }
@@ -256,9 +270,10 @@ impl<R: Runtime> FileDesk<R> {
     ghost use Rattle.gate_desk.specs.Outside.{HasFailed};
     ghost use Rattle.gate_desk.specs.Untold.{told_by, HandsOutAll, all_dropped};
 
-    /// A desk none of whose slots is started. It keeps the runtime, through which it reaches files and the standard streams.
-    pub fn make(rt: R) -> FileDesk<R>
-        ensures { result ≡ record { ways = each None; ahead = each []; got = each None; waiting = each []; refused = None; faults = each 0; start_faults = each 0 } }
+    /// A desk none of whose slots is started. It keeps the runtime, through which it reaches files and the standard streams, and a
+    /// number by which tables may spread their keys.
+    pub fn make(rt: R, seed: u64) -> FileDesk<R>
+        ensures { result ≡ record { ways = each None; ahead = each []; unread = each None; got = each None; waiting = each []; refused = None; faults = each 0; start_faults = each 0 } }
     {
         FileDesk {
             rt,
@@ -266,11 +281,12 @@ impl<R: Runtime> FileDesk<R> {
             refused: None,
             faults: PerSlot::no_counts(),
             start_faults: PerSlot::no_counts(),
+            seed,
         }
     }
 
     /// Writes out all that is gathered. The error is the slot of which the system refused octets that had been taken, now or
-    /// before, and of which some still wait; that counts as a failed write of it, what is left of all slots is dropped, and
+    /// before, and of which some still wait. That counts as a failed write of the slot. What is left of all slots is dropped, and
     /// all are closed.
     pub fn finish(&mut self) -> Result<(), Slot>
         ensures ok { OnOk result (HandsOutAll self.old self.new) }
@@ -307,7 +323,9 @@ impl<R: Runtime> Desk for FileDesk<R> {
         ensures leaves { OnOk result ((told_by self.new).start_faults ≡ (told_by self.old).start_faults) }
         ensures counts { self.new.start_faults ≡ counts_after result slot self.old.start_faults }
         ensures ways { self.new.ways ≡ ways_after result slot way self.old.ways }
+        ensures none { OnOk result (at self.new.waiting slot ≡ []) }
         ensures ahead { self.new.ahead ≡ ahead_after result slot self.old.ahead }
+        ensures unread { self.new.unread ≡ unread_after result slot self.old.unread self.new.unread }
         ensures takes { OnOk result (TakesNothingElse slot self.old.got self.old.waiting self.new.got self.new.waiting) }
         ensures refused { IsSome self.old.refused → IsErr result }
     {
@@ -340,6 +358,8 @@ impl<R: Runtime> Desk for FileDesk<R> {
         ensures ways { self.new.ways ≡ self.old.ways }
         ensures ahead { IfOk result (λ n. 0 < length (at self.old.ahead slot) → TakesAhead n buffer.new (at self.old.ahead slot) (at self.new.ahead slot)) }
         ensures others { self.new.ahead ≡ put self.old.ahead slot (at self.new.ahead slot) }
+        ensures unread { ReadConsumes (at self.old.unread slot) (at self.new.unread slot) result buffer.new }
+        ensures unread_others { self.new.unread ≡ put self.old.unread slot (at self.new.unread slot) }
         ensures takes { OnOk result (TakesNothing self.old.got self.old.waiting self.new.got self.new.waiting) }
         ensures refused { IsSome self.old.refused → IsErr result }
     {
@@ -363,6 +383,7 @@ impl<R: Runtime> Desk for FileDesk<R> {
         ensures counts { self.new.faults ≡ counts_after result slot self.old.faults }
         ensures ways { self.new.ways ≡ self.old.ways }
         ensures ahead { self.new.ahead ≡ self.old.ahead }
+        ensures unread { self.new.unread ≡ self.old.unread }
         ensures whole { IfOk result (λ n. n ≡ length piece.now) }
         ensures waits { OnOk result (Waits slot piece.now self.old.waiting self.new.waiting) }
         ensures takes { OnOk result (TakesPiece slot piece.now self.old.got self.old.waiting self.new.got self.new.waiting) }
@@ -394,6 +415,10 @@ impl<R: Runtime> Desk for FileDesk<R> {
         self.places.at_mut(slot).skip(count);
     }
 
+    fn seed(&self) -> u64 {
+        self.seed
+    }
+
     #[inline(always)]
     fn write_both(&mut self, slot: Slot, first: &[u8], second: &[u8]) -> Result<(), Failed>
         ensures ok { OnOk result (Writes slot (first.now ++ second.now) (told_by self.old) (told_by self.new)) }
@@ -403,6 +428,7 @@ impl<R: Runtime> Desk for FileDesk<R> {
         ensures counts { self.new.faults ≡ counts_after result slot self.old.faults }
         ensures ways { self.new.ways ≡ self.old.ways }
         ensures ahead { self.new.ahead ≡ self.old.ahead }
+        ensures unread { self.new.unread ≡ self.old.unread }
         ensures waits { OnOk result (Waits slot (first.now ++ second.now) self.old.waiting self.new.waiting) }
         ensures takes { OnOk result (TakesPiece slot (first.now ++ second.now) self.old.got self.old.waiting self.new.got self.new.waiting) }
         ensures refused { IsSome self.old.refused → IsErr result }

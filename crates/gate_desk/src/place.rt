@@ -1,13 +1,14 @@
 // Where a slot of the desk over files leads.
-ghost use Rattle.std.specs.Prelude.{◌≡◌, ◌<◌, ◌≤◌, ◌++◌, ℕ, List, Option, Some, [], length, drop, IfOk, IfErr, IfSome, MatchOption, OnOk, OnErr};
-ghost use Rattle.std.specs.Io.KnownBytes.{Appends};
-ghost use Rattle.gate_desk.specs.Gathering.{waiting, got, way_of, ahead, gathered_after, TakesAhead};
+ghost use Rattle.std.specs.Prelude.{◌≡◌, ◌<◌, ◌≤◌, ◌++◌, ℕ, List, Option, Some, [], length, min, drop, option_map, unwrap_or, IfOk, IfErr, IfSome, MatchOption, OnOk, OnErr};
+ghost use Rattle.std.specs.Io.KnownBytes.{Appends, ReadConsumes};
+ghost use Rattle.gate_desk.specs.Gathering.{waiting, got, way_of, ahead, unread, gathered_after, TakesAhead};
 
 use crate::gathered::{Gathered, Gathering};
-use crate::{Failed, Slot, Way};
+use crate::{Failed, PerSlot, Slot, Way};
 use std::alloc::Allocator;
-use std::fs;
-use std::io::{self, BufRead, BufReader, Read, Write};
+use std::fs::{self, Metadata, OpenFile};
+use std::io::{self, BufRead, BufReader, ErrorKind, Read, Write};
+use std::os::unix::fs::MetadataExt;
 use std::rt::Runtime;
 
 /// How many octets of a file are read ahead.
@@ -22,10 +23,44 @@ pub enum Place<F: Read + Drop, A: Allocator> {
     StandardOutput(Gathered<A>),
 }
 
-/// The place of a file of this name. The name `-` of a report is standard output.
+// Whether this file stands at the place.
+fn is_at<F: Read + OpenFile + Drop, A: Allocator>(file: &Metadata, place: &Place<F, A>) -> bool {
+    let there = match place {
+        Place::Input(reader) => reader.get_ref().metadata(),
+        Place::Output(output, _) => output.metadata(),
+        _ => return false,
+    };
+    match there {
+        Ok(there) => there.dev() == file.dev() && there.ino() == file.ino(),
+        Err(_) => false,
+    }
+}
+
+// Whether a file of this name stands at some place, by whatever name it was opened.
+fn is_open<R: Runtime>(rt: &R, places: &PerSlot<Place<R::File, R::A>>, name: &str) -> bool {
+    let Ok(file) = fs::metadata(rt, name) else {
+        return false;
+    };
+    if !file.is_file() {
+        return false;
+    }
+    is_at(&file, &places.settings)
+        || is_at(&file, &places.left_in)
+        || is_at(&file, &places.right_in)
+        || is_at(&file, &places.left_given)
+        || is_at(&file, &places.right_given)
+        || is_at(&file, &places.report_given)
+        || is_at(&file, &places.left_out)
+        || is_at(&file, &places.right_out)
+        || is_at(&file, &places.report)
+}
+
+/// The place of a file of this name. The name `-` of a report is standard output. A file that is open already is not opened
+/// for writing, which would empty it.
 #[inline(never)]
 pub fn open_place<R: Runtime>(
     rt: &R,
+    places: &PerSlot<Place<R::File, R::A>>,
     slot: Slot,
     name: &str,
     way: Way,
@@ -44,6 +79,8 @@ pub fn open_place<R: Runtime>(
             let gathered = Gathered::make(rt.alloc())?;
             if slot == Slot::Report && name == "-" {
                 Ok(Place::StandardOutput(gathered))
+            } else if is_open(rt, places, name) {
+                Err(io::Error::from(ErrorKind::AlreadyExists))
             } else {
                 Ok(Place::Output(fs::create(rt, name)?, gathered))
             }
@@ -56,6 +93,8 @@ impl<F: Read + Drop, A: Allocator> Place<F, A> {
     pub fn take_ahead(&mut self, buffer: &mut [u8]) -> Option<usize>
         ensures fits { IfSome result (λ n. n ≤ length buffer.new) }
         ensures ahead { MatchOption result (ahead self.old ≡ []) (λ n. TakesAhead n buffer.new (ahead self.old) (ahead self.new)) }
+        ensures some { IfSome result (λ n. 0 < length (ahead self.old)) }
+        ensures unread { unread F.remaining self.new ≡ option_map (drop (unwrap_or result 0)) (unread F.remaining self.old) }
         ensures waiting { waiting self.new ≡ waiting self.old }
         ensures got { (contents : F → Option (List ℕ)) → got contents self.new ≡ got contents self.old }
         ensures way { way_of self.new ≡ way_of self.old }
@@ -90,6 +129,7 @@ impl<F: Read + Drop, A: Allocator> Place<F, A> {
     #[inline(always)]
     pub fn skip(&mut self, count: usize)
         ensures ahead { ahead self.new ≡ drop count (ahead self.old) }
+        ensures unread { unread F.remaining self.new ≡ option_map (drop (min count (length (ahead self.old)))) (unread F.remaining self.old) }
         ensures waiting { waiting self.new ≡ waiting self.old }
         ensures got { (contents : F → Option (List ℕ)) → got contents self.new ≡ got contents self.old }
         ensures way { way_of self.new ≡ way_of self.old }
@@ -104,6 +144,7 @@ impl<F: Read + Drop, A: Allocator> Place<F, A> {
     #[inline(never)]
     pub fn read(&mut self, buffer: &mut [u8]) -> Result<usize, Failed>
         ensures fits { IfOk result (λ n. n ≤ length buffer.new) }
+        ensures unread { ReadConsumes (unread F.remaining self.old) (unread F.remaining self.new) result buffer.new }
         ensures waiting { waiting self.new ≡ waiting self.old }
         ensures got { (contents : F → Option (List ℕ)) → got contents self.new ≡ got contents self.old }
         ensures way { way_of self.new ≡ way_of self.old }
@@ -121,6 +162,7 @@ impl<F: Read + Drop, A: Allocator> Place<F, A> {
         ensures got { (contents : F → Option (List ℕ)) → got contents self.new ≡ got contents self.old }
         ensures way { way_of self.new ≡ way_of self.old }
         ensures ahead { ahead self.new ≡ ahead self.old }
+        ensures unread { unread F.remaining self.new ≡ unread F.remaining self.old }
     {
         match self {
             Place::Output(_, gathered) => gathered.take(first, second),
@@ -156,6 +198,7 @@ pub fn write_out<R: Runtime>(
     ensures none { OnOk result (waiting place.new ≡ []) }
     ensures way { way_of place.new ≡ way_of place.old }
     ensures ahead { ahead place.new ≡ ahead place.old }
+    ensures unread { unread R.File.remaining place.new ≡ unread R.File.remaining place.old }
     ensures written { OnOk result (Appends (got R.File.contents place.old) (got R.File.contents place.new) (waiting place.old)) }
     ensures named { IfErr result (λ refused. refused ≡ slot) }
     ensures refuses { OnErr result ((0 < length (waiting place.old)) × (waiting place.new ≡ waiting place.old)) }

@@ -32,9 +32,9 @@ taken_done : {S P A : Type 0} (rules : SessionRules S) (gives : Gives S P A) (li
 taken_done {S = S} rules gives live after side d kind (Ok r) table sent leaves e h m n =
     subst (λ (w : World S). IsGiven rules gives (refusal_as rules kind live side d) kind live side d (taken_whole r) w sent) (sym e)
     (as_whole rules gives (refusal_as rules kind live side d) kind live side d r (record live { table = table }) sent (taken_as rules gives.tells live side d kind r table sent (gives.tells.whole sent) leaves h refl))
-taken_done {S = S} rules gives live after side d kind (Err x) table sent leaves e h m n = λ keeps. record {
-  same = e ∙ ap (λ (x : Bindings). let w : World S = record live { table = x } in w) m.0;
-  nothing = m.1;
+taken_done {S = S} rules gives live after side d kind (Err x) table sent leaves e h m n = record {
+  same = λ keeps. e ∙ ap (λ (x : Bindings). let w : World S = record live { table = x } in w) m.0;
+  nothing = λ keeps. m.1;
   allowed = refl;
   wants = inl n;
 }

@@ -17,7 +17,7 @@ use Rattle.gate_steps.specs.Passed.{Tells}
 use Rattle.gate_steps.specs.Segments.{waiting_after}
 use Rattle.gate_known.specs.declared.stepped.Stepped.{Stepped}
 
--- what is told of datagrams that pass; what is told of a segment by what its session handed out and the datagrams that it put; whether anything is said of a datagram for which memory runs out, and then the segments for which a session may want it
+-- what is told of datagrams that pass; what is told of a segment by what its session handed out and the datagrams that it put; whether all stays as it was where memory runs out for a datagram; and the segments for which a session may want it
 pub record Gives (S P A : Type 0) : Type 1 where
   pub tells : Tells S A
   pub cut : P → List (List ℕ) → A
@@ -29,10 +29,10 @@ pub record IsStepped {S P A : Type 0} (rules : SessionRules S) (gives : Gives S 
   pub gone : gives.cut stepped.sent sent ≡ gives.tells.segment image way.side d (image_by way.of_source way.source).0 (image_by way.of_destination way.destination).0 (Some t)
   pub waits : stepped.waiting ≡ waiting_after rules image way.side d t
 
--- memory runs out for it: nothing has changed
+-- memory runs out for it, where it may: nothing has changed, where the engine says that
 pub record IsUnstepped {S P A X : Type 0} (gives : Gives S P A) (side : Side) (d : Datagram) (t : Tracked S) (before after : X) (sent : List (List ℕ)) : Type 0 where
-  pub same : after ≡ before
-  pub nothing : sent ≡ []
+  pub same : gives.Keeps → after ≡ before
+  pub nothing : gives.Keeps → sent ≡ []
   pub wants : gives.MayWant (is_client side t) t.session (segment_of d)
 
 -- what holds of the rules of both engines: they have lists; what a session that begins refuses doesn't depend on its hosts, nor does it pass a SYN with an RST; and only an RST ends one

@@ -32,17 +32,17 @@ pub record MayWantInside {S P A : Type 0} (rules : SessionRules S) (gives : Give
 abbrev pub SegmentMayWant : {S P A : Type 0} (rules : SessionRules S) → Gives S P A → World S → Side → Datagram → Type 0
 SegmentMayWant rules gives live side d = ((refusal_as rules Stream live side d ≡ None) × ((begins (found_in live side d) d ≡ true) ⊎ MayWantInside rules gives live side d)) ⊎ CompletesUnit rules live side d
 
--- nothing changes, no early test refuses it, and it is a datagram of DNS or such a segment
+-- no early test refuses it, and it is a datagram of DNS or such a segment; nothing changes, where the engine says that
 pub record IsLost {S P A : Type 0} (rules : SessionRules S) (gives : Gives S P A) (early : Option Refusal) (kind : Kind) (live : World S) (side : Side) (d : Datagram) (after : World S) (sent : List (List ℕ)) : Type 0 where
-  pub same : after ≡ live
-  pub nothing : sent ≡ []
+  pub same : gives.Keeps → after ≡ live
+  pub nothing : gives.Keeps → sent ≡ []
   pub allowed : early ≡ None
   pub wants : (kind ≡ Dns) ⊎ ((kind ≡ Stream) × SegmentMayWant rules gives live side d)
 
 -- one of both
 abbrev pub IsDoneBy : {S P A : Type 0} (rules : SessionRules S) (gives : Gives S P A) → Option Refusal → Option Refusal → Kind → World S → Side → Datagram → Result (Taken P) OutOfMemory → World S → List (List ℕ) → Type 0
 IsDoneBy rules gives told early kind live side d (Ok taken) after sent = IsGiven rules gives told kind live side d taken after sent
-IsDoneBy rules gives told early kind live side d (Err error) after sent = gives.Keeps → IsLost rules gives early kind live side d after sent
+IsDoneBy rules gives told early kind live side d (Err error) after sent = IsLost rules gives early kind live side d after sent
 
 -- the same of a datagram by its own kind, and of one whose addresses are not refused
 abbrev pub IsDone : {S P A : Type 0} (rules : SessionRules S) (gives : Gives S P A) → Option Refusal → Option Refusal → World S → Side → Datagram → Result (Taken P) OutOfMemory → World S → List (List ℕ) → Type 0

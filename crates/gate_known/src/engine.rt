@@ -25,8 +25,8 @@ pub trait Engine: Session + Drop {
     /// What is told of datagrams that pass, and of those for which memory runs out.
     ghost gives: { Gives Self Self.Sent Told };
 
-    /// The session that a client's first SYN to a port of the server makes, by the SYN's number and maximum segment size: one of DNS on
-    /// the port of DNS, and else one of FTP.
+    /// The session that a client's first SYN to a port of the server makes, by the SYN's number and maximum segment size. On the
+    /// port of DNS it is one of DNS, and else one of FTP.
     fn make(
         alloc: Global,
         port: u16,
@@ -56,5 +56,5 @@ pub trait Engine: Session + Drop {
         requires whole { IsSegmentOf segment.now.octets.now segment.now.datagram.now segment.now.tcp.now }
         ensures next { (image : Addr → Option Addr) → AreCalled Self.rules image way.now.side segment.now.datagram.now tracked.old entries.now → OnOk result (tracked.new ≡ streams.stepped Self.rules image way.now.side segment.now.datagram.now tracked.old) }
         ensures stepped { (image : Addr → Option Addr) → AreCalled Self.rules image way.now.side segment.now.datagram.now tracked.old entries.now → IfOk result (λ s. IsStepped Self.rules gives image way.now segment.now.datagram.now tracked.old s outbox.new) }
-        ensures lost { OnErr result (gives.Keeps → IsUnstepped gives way.now.side segment.now.datagram.now tracked.old tracked.old tracked.new outbox.new) };
+        ensures lost { OnErr result (IsUnstepped gives way.now.side segment.now.datagram.now tracked.old tracked.old tracked.new outbox.new) };
 }

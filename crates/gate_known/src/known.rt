@@ -33,7 +33,7 @@ use udp_icmp::IcmpView;
 use unit_plans::Tracked;
 
 /// What is known: the clock, the bindings, the connections with their sessions, and the greatest number of changed lines or units
-/// that ever waited; and the rooms to work with.
+/// that ever waited. With it are the rooms to work with.
 pub struct Known<S> {
     pub clock: Moment,
     pub table: Table,

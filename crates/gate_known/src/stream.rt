@@ -244,7 +244,7 @@ fn step_session<S: Engine>(
     requires whole { IsSegmentOf segment.now.octets.now segment.now.datagram.now segment.now.tcp.now }
     ensures next { (image : Addr → Option Addr) (t : worlds.Tracked S) → streams.session_in (connection_of key.now connections.old) ≡ Some t → AreCalled S.rules image way.now.side segment.now.datagram.now t entries.now → OnOk result (connections.new ≡ replaced connections.old key.now (streams.stepped S.rules image way.now.side segment.now.datagram.now t)) }
     ensures stepped { (image : Addr → Option Addr) (t : worlds.Tracked S) → streams.session_in (connection_of key.now connections.old) ≡ Some t → AreCalled S.rules image way.now.side segment.now.datagram.now t entries.now → IfOk result (λ s. IsStepped S.rules S.gives image way.now segment.now.datagram.now t s outbox.new) }
-    ensures lost { (t : worlds.Tracked S) → streams.session_in (connection_of key.now connections.old) ≡ Some t → OnErr result (S.gives.Keeps → IsUnstepped S.gives way.now.side segment.now.datagram.now t connections.old connections.new outbox.new) }
+    ensures lost { (t : worlds.Tracked S) → streams.session_in (connection_of key.now connections.old) ≡ Some t → OnErr result (IsUnstepped S.gives way.now.side segment.now.datagram.now t connections.old connections.new outbox.new) }
 {
     match connections.session_mut(key) {
         Some(tracked) => S::take(tracked, alloc, scratch, way, segment, entries, outbox),

@@ -31,11 +31,11 @@ use Rattle.gate_base.specs.Events.{Event}
 use Rattle.gate_base.specs.declared.side.Side.{Side}
 use Rattle.gate_base.specs.declared.side.Side.TheVariants.{Left, Right}
 use Rattle.gate_phases.specs.declared.status.Status.{Status}
-use Rattle.gate_phases.specs.declared.status.Status.TheVariants.{Done, Usage, SettingsRefused, CaptureRefused, ReadFault, WriteFault, OpenFault, OutOfMemory}
+use Rattle.gate_phases.specs.declared.status.Status.TheVariants.{ReadFault, OpenFault, OutOfMemory}
 use Rattle.gate_phases.specs.Stops.{status_of_take, status_of_settings, status_of_merge}
 use Rattle.gate_phases.specs.Causes.{Causes, StartsAll, StartedBy, Stops, Opens, is_read}
 use Rattle.gate_phases.specs.Beginning.{IsAccepted, IsBeforeHead, events_in, Settled, Settles, EndsAtSettings, Begun, EndsAtHeads}
-use Rattle.gate_phases.proofs.Causes.{causes_since, starts_all, starts_more, stops_on}
+use Rattle.gate_phases.proofs.Causes.{causes_since, stops_on}
 
 pub if_some : {A : Type 0} (o : Option A) (P Q : A → Type 0) → IfSome o P → ((x : A) → P x → Q x) → IfSome o Q
 if_some None P Q h f = tt

@@ -1,7 +1,5 @@
 -- Causes and starts.
-use Rattle.std.proofs.Common.{◌≡◌, ℕ, ◌+◌, List, [], ◌∷◌, ◌++◌, IsTrue, Result, Ok, Err, IsErrAnd, Option, Some, None, IfSome, if◌then◌else◌, take, length, fold, refl, sym, ap, subst, ◌∙◌, append_assoc, append-nil, arith, length-append}
-use Rattle.std.proofs.Math.Seq.{take-append-add}
-use Rattle.std.proofs.lemmas.List.{take_all, take-append-le}
+use Rattle.std.proofs.Common.{◌≡◌, ℕ, List, [], ◌∷◌, ◌++◌, IsTrue, Result, Ok, Err, IsErrAnd, Option, Some, None, IfSome, if◌then◌else◌, fold, refl, sym, ap, subst, ◌∙◌, append_assoc, append-nil}
 use Rattle.std.proofs.lemmas.List.Sums.{fold-append}
 use Rattle.gate_desk.specs.declared.slot.Slot.{Slot}
 use Rattle.gate_desk.specs.declared.slot.Way.{Way}
@@ -9,8 +7,8 @@ use Rattle.gate_desk.specs.Slots.{same_slot}
 use Rattle.gate_desk.specs.Outside.{Outside, Start, Starts, FailsToStart, Grows, started, last_way}
 use Rattle.gate_desk.proofs.Laws.{grows_on, grows_starts, grows_fails_to_start, none_failed_on, failed_since, failed_to_start_since}
 use Rattle.gate_phases.specs.declared.status.Status.{Status}
-use Rattle.gate_phases.specs.declared.status.Status.TheVariants.{Done, Usage, SettingsRefused, CaptureRefused, ReadFault, WriteFault, OpenFault, OutOfMemory}
-use Rattle.gate_phases.specs.Causes.{Causes, started_all, StartsSome, StartsAll, StartsBefore, StartedBy, Stops, Opens, is_started}
+use Rattle.gate_phases.specs.declared.status.Status.TheVariants.{ReadFault, WriteFault, OpenFault, OutOfMemory}
+use Rattle.gate_phases.specs.Causes.{Causes, started_all, StartsAll, StartsBefore, StartedBy, Stops, Opens, is_started}
 
 -- what a `?` hands on
 pub handed_on : {T E : Type 0} (Goal : Result T E → Type 0) (r : Result T E) (e : E) → IsErrAnd r (λ y. y ≡ e) → Goal (Err e) → Goal r
@@ -37,20 +35,6 @@ pub more_starts : (xs ys : List Start) (o : Option (List Start)) → started_all
 unfolding started_all
 more_starts xs ys None = refl
 more_starts xs ys (Some zs) = ap Some (append_assoc zs xs ys)
-
-pub starts_none : (xs : List Start) (a b : Outside) → b.starts ≡ a.starts → StartsSome xs a b
-starts_none xs a b e = (0, omega arith, e ∙ sym (no_start a.starts))
-
-pub starts_all : (xs : List Start) (a b : Outside) → b.starts ≡ started_all xs a.starts → StartsSome xs a b
-starts_all xs a b e = (length xs, omega arith, e ∙ ap (λ (ys : List Start). started_all ys a.starts) (sym (take_all (length xs) xs (omega arith))))
-
-pub starts_more : (xs ys : List Start) (a b : Outside) → StartsSome xs a b → StartsSome (xs ++ ys) a b
-starts_more xs ys a b h = (h.0, omega (arith, h.1, length-append xs ys), h.2 ∙ ap (λ (zs : List Start). started_all zs a.starts) (sym (take-append-le h.0 xs ys h.1)))
-
-pub starts_on : (xs ys : List Start) (a b c : Outside) → b.starts ≡ started_all xs a.starts → StartsSome ys b c → StartsSome (xs ++ ys) a c
-starts_on xs ys a b c e h =
-    let cut : take (length xs + h.0) (xs ++ ys) ≡ xs ++ take h.0 ys = take-append-add xs ys h.0 in
-    (length xs + h.0, omega (arith, h.1, length-append xs ys), h.2 ∙ ap (started_all (take h.0 ys)) e ∙ more_starts xs (take h.0 ys) a.starts ∙ ap (λ (zs : List Start). started_all zs a.starts) (sym cut))
 
 pub opens_one : (s : Slot) (name : List ℕ) (way : Way) (a b : Outside) → Starts s name way a b → b.start_faults ≡ a.start_faults → StartsAll ((record { slot = s; name = name; way = way }) ∷ []) a b
 opens_one s name way a b h leaves = record {

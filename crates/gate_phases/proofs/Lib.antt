@@ -3,3 +3,4 @@ pub mod Causes
 pub mod Beginning
 pub mod Untaken
 pub mod Numbers
+pub mod Faults

@@ -9,7 +9,6 @@ use Rattle.pcap_merge.specs.Given.{TakenFor}
 use Rattle.pcap_merge.specs.Merge.{Begins}
 use Rattle.pcap_merge.specs.Stops.{slot_of}
 use Rattle.pcap_merge.proofs.Given.{taken_none, taken_since}
-use Rattle.gate_phases.specs.declared.status.Status.TheVariants.{OutOfMemory}
 use Rattle.gate_phases.specs.Beginning.{Settled}
 use Rattle.gate_phases.proofs.Beginning.{told_before}
 

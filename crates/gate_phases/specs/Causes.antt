@@ -1,5 +1,5 @@
 -- What starting answers, and the causes of a status that comes from the outside.
-use Rattle.std.specs.Prelude.{◌≡◌, ℕ, ◌≤◌, List, ◌∷◌, ◌++◌, Bool, true, false, IsTrue, Result, Ok, Err, Option, option_map, take, length}
+use Rattle.std.specs.Prelude.{◌≡◌, List, ◌∷◌, ◌++◌, Bool, true, false, IsTrue, Result, Ok, Err, Option, option_map}
 use Rattle.gate_desk.specs.declared.slot.Slot.{Slot}
 use Rattle.gate_desk.specs.declared.slot.Slot.TheVariants.{Settings, LeftIn, RightIn, LeftOut, RightOut, Report, Errors}
 use Rattle.gate_desk.specs.Outside.{Outside, Start, Grows, NoneFailed, HasFailed, HasFailedToStart}
@@ -36,10 +36,6 @@ Causes status old new = ⊥
 -- these starts are appended, where the starts are told
 unfoldable pub started_all : List Start → Option (List Start) → Option (List Start)
 started_all new starts = option_map (λ (old : List Start). old ++ new) starts
-
--- a number of the first of these starts is appended
-abbrev pub StartsSome : List Start → Outside → Outside → Type 0
-StartsSome starts old new = (n : ℕ) × (n ≤ length starts) × (new.starts ≡ started_all (take n starts) old.starts)
 
 -- of these starts exactly those in front of this slot's are appended
 pub record StartsBefore (slot : Slot) (planned : List Start) (old new : Outside) : Type 0 where

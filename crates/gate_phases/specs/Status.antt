@@ -1,5 +1,5 @@
 -- The exit status, and the line about what went wrong.
-use Rattle.std.specs.Prelude.{ℕ, Bool, true, false, List, [], ◌++◌, codes, decimal}
+use Rattle.std.specs.Prelude.{ℕ, List, [], ◌++◌, codes, decimal}
 use Rattle.gate_base.specs.Side.{name_of}
 use Rattle.gate_desk.specs.Slots.{name_of as slot_name}
 use Rattle.settings_file.specs.Faults.{text_of}
@@ -41,8 +41,3 @@ error_line (WriteFault slot) = codes "write failed: " ++ slot_name slot ++ codes
 error_line (OpenFault slot) = codes "open failed: " ++ slot_name slot ++ codes "\n"
 error_line OutOfMemory = codes "out of memory\n"
 error_line (Unlawful number reason) = []
-
--- the settings have a fault
-abbrev pub is_settings_fault : Status → Bool
-is_settings_fault (SettingsRefused fault) = true
-is_settings_fault _ = false

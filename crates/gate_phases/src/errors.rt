@@ -1,24 +1,25 @@
 // The line about what went wrong.
-ghost use Rattle.std.specs.Prelude.{◌≡◌, ◌+◌, ◌≤◌, ◌++◌, IsTrue, IfOk, OnOk, OnErr, codes, decimal, length};
+ghost use Rattle.std.specs.Prelude.{◌≡◌, ◌+◌, ◌≤◌, ◌++◌, codes, decimal, length};
 ghost use Rattle.gate_base.specs.Side.{name_of as side_name};
 ghost use Rattle.gate_desk.specs.Slots.{name_of};
-ghost use Rattle.gate_phases.specs.Status.{error_line, fault_name, is_settings_fault};
-ghost use Rattle.gate_phases.specs.declared.status.Status.TheVariants.{Usage, SettingsRefused, OutOfMemory as MemoryOut};
+ghost use Rattle.settings_file.specs.Faults.{text_of};
+ghost use Rattle.settings_file.specs.Keys.{key_text, name_of as key_name};
+ghost use Rattle.gate_phases.specs.Status.{error_line, fault_name};
+ghost use Rattle.gate_phases.specs.declared.status.Status.TheVariants.{Usage};
 ghost use Rattle.gate_phases.specs.Telling.{Tells, TellsLine, WritesLine};
 
 use crate::Status;
 use arrayvec::ArrayString;
-use gate_base::{OutOfMemory, Side};
+use gate_base::Side;
 use gate_desk::{Desk, Slot, write_whole};
 use itoa::Buffer;
 use pcap_files::CaptureFault;
-use settings_file::{SettingsFault, fault_text};
-use std::alloc::Global;
+use settings_file::{Key, SettingsFault};
 
 const USAGE: &str =
     "usage: run SETTINGS LEFT_IN RIGHT_IN LEFT_OUT RIGHT_OUT REPORT | make NUMBER COUNT REPORT | audit SETTINGS LEFT_IN RIGHT_IN LEFT_GIVEN RIGHT_GIVEN REPORT_GIVEN REPORT\n";
 
-/// The most octets of a line about what went wrong, but for one about a fault of the settings.
+/// The most octets of a line about what went wrong.
 const LINE: usize = 256;
 
 type Text = ArrayString<LINE>;
@@ -68,17 +69,111 @@ fn put_capture(text: &mut Text, side: Side, fault: CaptureFault, place: u64)
     text.push_str("\n");
 }
 
-/// The line of a fault of the settings. It may want memory.
-#[tactic(auto, unfolding(crate::specs::Status::error_line))]
-fn settings_line(alloc: Global, fault: SettingsFault) -> Result<Vec<u8>, OutOfMemory>
-    ensures { IfOk result (λ line. line.items ≡ error_line (SettingsRefused fault)) }
+/// Puts a label and a number behind what the text holds.
+fn put_number(text: &mut Text, label: &str, number: u32)
+    requires { length text.old.bytes + length label.now + 40 ≤ LINE }
+    ensures text { text.new.bytes ≡ text.old.bytes ++ (label.now ++ decimal number) }
+    ensures short { length text.new.bytes ≤ length text.old.bytes + length label.now + 40 }
 {
-    let fault = fault_text(alloc, &fault)?;
-    let mut line = Vec::new(alloc);
-    line.extend_from_slice(b"settings: ")?;
-    line.extend_from_slice(&fault)?;
-    line.extend_from_slice(b"\n")?;
-    Ok(line)
+    let mut digits = Buffer::new();
+    text.push_str(label);
+    text.push_str(digits.format(number));
+}
+
+/// Puts a dot and the key's own name behind what the text holds.
+#[tactic(auto, using(crate::proofs::Lines::name_short))]
+fn put_name(text: &mut Text, key: Key)
+    requires { length text.old.bytes + 12 ≤ LINE }
+    ensures text { text.new.bytes ≡ text.old.bytes ++ (codes "." ++ key_name key) }
+    ensures short { length text.new.bytes ≤ length text.old.bytes + 12 }
+{
+    text.push_str(".");
+    text.push_str(key.name());
+}
+
+/// Puts a key behind what the text holds, as it stands from the top of the document.
+#[tactic(auto, unfolding(settings_file::specs::Keys::key_text), using(crate::proofs::Lines::side_short, crate::proofs::Lines::name_short))]
+fn put_key(text: &mut Text, key: Key)
+    requires { length text.old.bytes + 60 ≤ LINE }
+    ensures text { text.new.bytes ≡ text.old.bytes ++ key_text key }
+    ensures short { length text.new.bytes ≤ length text.old.bytes + 60 }
+{
+    match key {
+        Key::Report | Key::Fragments | Key::Same | Key::Table(_) | Key::Statics | Key::Oids => {
+            text.push_str(key.name())
+        }
+        Key::PoolFirst(side)
+        | Key::PoolLast(side)
+        | Key::Link(side)
+        | Key::GatewayMac(side)
+        | Key::NextMac(side) => {
+            text.push_str(side.name());
+            put_name(text, key);
+        }
+        Key::StaticSide(number) | Key::StaticHost(number) | Key::StaticAlias(number) => {
+            put_number(text, "static.", number);
+            put_name(text, key);
+        }
+        Key::OidPrefix(number) | Key::OidSkip(number) => {
+            put_number(text, "oid.", number);
+            put_name(text, key);
+        }
+    }
+}
+
+/// Puts a label and a key behind what the text holds.
+fn put_key_of(text: &mut Text, label: &str, key: Key)
+    requires { length text.old.bytes + length label.now + 60 ≤ LINE }
+    ensures text { text.new.bytes ≡ text.old.bytes ++ (label.now ++ key_text key) }
+    ensures short { length text.new.bytes ≤ length text.old.bytes + length label.now + 60 }
+{
+    text.push_str(label);
+    put_key(text, key);
+}
+
+/// Puts a label and the name of a realm behind what the text holds.
+#[tactic(auto, using(crate::proofs::Lines::side_short))]
+fn put_side(text: &mut Text, label: &str, side: Side)
+    requires { length text.old.bytes + length label.now + 5 ≤ LINE }
+    ensures text { text.new.bytes ≡ text.old.bytes ++ (label.now ++ side_name side) }
+    ensures short { length text.new.bytes ≤ length text.old.bytes + length label.now + 5 }
+{
+    text.push_str(label);
+    text.push_str(side.name());
+}
+
+/// Puts the text of a fault of the settings behind what the text holds.
+#[tactic(auto, unfolding(settings_file::specs::Faults::text_of))]
+fn put_fault(text: &mut Text, fault: SettingsFault)
+    requires { length text.old.bytes + 75 ≤ LINE }
+    ensures text { text.new.bytes ≡ text.old.bytes ++ text_of fault }
+    ensures short { length text.new.bytes ≤ length text.old.bytes + 75 }
+{
+    match fault {
+        SettingsFault::TooLong => text.push_str("TooLong"),
+        SettingsFault::NotToml => text.push_str("NotToml"),
+        SettingsFault::Missing(key) => put_key_of(text, "Missing ", key),
+        SettingsFault::Kind(key) => put_key_of(text, "Kind ", key),
+        SettingsFault::BadAddress(key) => put_key_of(text, "BadAddress ", key),
+        SettingsFault::PoolSize(side) => put_side(text, "PoolSize ", side),
+        SettingsFault::SameInPool(side) => put_side(text, "SameInPool ", side),
+        SettingsFault::HostInPool(number) => put_number(text, "HostInPool static.", number),
+        SettingsFault::StaticOutsidePool(number) => {
+            put_number(text, "StaticOutsidePool static.", number)
+        }
+        SettingsFault::StaticRepeated(number) => put_number(text, "StaticRepeated static.", number),
+        SettingsFault::MacMissing(side) => put_side(text, "MacMissing ", side),
+    }
+}
+
+/// Puts the line of a fault of the settings behind what the text holds.
+fn put_settings(text: &mut Text, fault: SettingsFault)
+    requires { length text.old.bytes + 90 ≤ LINE }
+    ensures { text.new.bytes ≡ text.old.bytes ++ codes "settings: " ++ text_of fault ++ codes "\n" }
+{
+    text.push_str("settings: ");
+    put_fault(text, fault);
+    text.push_str("\n");
 }
 
 // Writes the line of a status on the slot of errors. Nothing is done about a failure there.
@@ -98,31 +193,16 @@ pub fn tell_usage<D: Desk>(desk: &mut D) -> Status
     Status::Usage
 }
 
-/// Tells that memory ran out.
+/// Writes the line of a status.
 #[tactic(auto, unfolding(crate::specs::Status::error_line))]
-fn tell_out_of_memory<D: Desk>(desk: &mut D) -> Status
-    ensures is { result ≡ MemoryOut }
-    ensures line { TellsLine MemoryOut (D.outside desk.old) (D.outside desk.new) }
-{
-    write_line(desk, OUT_OF_MEMORY.as_bytes());
-    Status::OutOfMemory
-}
-
-/// Writes the line of a status. That of a fault of the settings may want memory, and then nothing is written.
-#[tactic(auto, unfolding(crate::specs::Status::error_line))]
-fn write_error<D: Desk>(alloc: Global, desk: &mut D, status: Status) -> Result<(), OutOfMemory>
-    ensures line { OnOk result (TellsLine status (D.outside desk.old) (D.outside desk.new)) }
-    ensures wants { OnErr result (IsTrue (is_settings_fault status)) }
-    ensures same { OnErr result (D.outside desk.new ≡ D.outside desk.old) }
+fn write_error<D: Desk>(desk: &mut D, status: Status)
+    ensures { TellsLine status (D.outside desk.old) (D.outside desk.new) }
 {
     let mut text = Text::new();
     match status {
         Status::Done => {}
         Status::Usage => text.push_str(USAGE),
-        Status::SettingsRefused(fault) => {
-            write_line(desk, &settings_line(alloc, fault)?);
-            return Ok(());
-        }
+        Status::SettingsRefused(fault) => put_settings(&mut text, fault),
         Status::CaptureRefused(side, fault, place) => put_capture(&mut text, side, fault, place),
         Status::ReadFault(slot) => put_slot(&mut text, "read failed: ", slot),
         Status::WriteFault(slot) => put_slot(&mut text, "write failed: ", slot),
@@ -131,15 +211,12 @@ fn write_error<D: Desk>(alloc: Global, desk: &mut D, status: Status) -> Result<(
         Status::Unlawful(_, _) => {}
     }
     write_line(desk, text.as_str().as_bytes());
-    Ok(())
 }
 
-/// Tells why a command isn't done. Only the fault of settings may want memory to be told; where that runs out, that is told.
-pub fn tell<D: Desk>(alloc: Global, desk: &mut D, status: Status) -> Status
+/// Tells why a command isn't done. It takes no memory.
+pub fn tell<D: Desk>(desk: &mut D, status: Status) -> Status
     ensures { Tells status result (D.outside desk.old) (D.outside desk.new) }
 {
-    match write_error(alloc, desk, status) {
-        Ok(()) => status,
-        Err(OutOfMemory) => tell_out_of_memory(desk),
-    }
+    write_error(desk, status);
+    status
 }

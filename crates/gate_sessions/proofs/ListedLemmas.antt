@@ -19,7 +19,7 @@ use Rattle.unit_plans.specs.Steps.{entered_all}
 use Rattle.unit_plans.proofs.EnteredLemmas.{all_grown}
 use Rattle.gate_base.specs.declared.event.Pair.{Pair}
 use Rattle.stream_gate.specs.Listed.{entries_of}
-use Rattle.gate_sessions.specs.Directions.{DnsKept, listed_of, IsListedSide, with_entered, dns_session}
+use Rattle.gate_sessions.specs.Directions.{DnsKept, listed_of, IsListedSide, dns_session}
 use Rattle.gate_sessions.specs.Sessions.{IsSession}
 
 alike : (es more : List Entry) (h : SenderKept) → (i : IsListedStream es h) → ReadAlike (dns_units es) (dns_units (es ++ more)) i.octets
@@ -52,11 +52,6 @@ same_kept c d s t k l e f h =
     ap (λ (x : List Entry). let y : DnsKept = record { client_dialogue = x; server_dialogue = s; kept = k } in y) e
     ∙ ap (λ (x : List Entry). let y : DnsKept = record { client_dialogue = d; server_dialogue = x; kept = k } in y) f
     ∙ ap (λ (x : SessionKept). let y : DnsKept = record { client_dialogue = d; server_dialogue = t; kept = x } in y) h
-
--- what it is once it has learned
-pub learned_is : (b : Bool) (named : List Entry) (old new : DnsKept) → listed_of b new ≡ entered_all (listed_of b old) named → listed_of (not b) new ≡ listed_of (not b) old → new.kept ≡ old.kept → new ≡ with_entered b named old
-learned_is true named old new e f h = same_kept new.client_dialogue (entered_all old.client_dialogue named) new.server_dialogue old.server_dialogue new.kept old.kept e f h
-learned_is false named old new e f h = same_kept new.client_dialogue old.client_dialogue new.server_dialogue (entered_all old.server_dialogue named) new.kept old.kept f e h
 
 pub front_of : (es named : List Entry) (count : ℕ) → count ≡ length es → take count (entered_all es named) ≡ es
 front_of es named count is = let a = all_grown es named in ap (λ (n : ℕ). take n (entered_all es named)) is ∙ ap (take (length es)) a.1 ∙ take_at es a.0 (length es) refl

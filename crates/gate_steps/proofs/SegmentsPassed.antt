@@ -1,6 +1,6 @@
 -- Segments that pass, and those for which memory runs out.
 use Rattle.std.proofs.Common.{◌≡◌, ℕ, ◌+◌, max, Bool, true, false, ◌&&◌, List, [], ◌∷◌, Option, Some, None, option_map, is_some, refl, sym, ap, ◌∙◌, arith}
-use Rattle.std.specs.Prelude.{if◌then◌else◌, unwrap_or, IsSome}
+use Rattle.std.specs.Prelude.{if◌then◌else◌, unwrap_or}
 use Rattle.std.specs.Option.{option_or}
 use Rattle.gate_base.specs.declared.address.Addr.{Addr}
 use Rattle.gate_base.specs.declared.event.Moment.{Moment}
@@ -260,7 +260,3 @@ pub begun : {S : Type 0} (live : World S) (side : Side) (d : Datagram) → found
 begun {S = S} live side d none first = ap (λ (o : Option (Connection (Tracked S))). begins o d) none ∙ first
 
 -- ## The session of a connection
-
-pub some_of : {A : Type 0} (o : Option A) → IsSome o → (x : A) × (o ≡ Some x)
-some_of None h = absurd (cc)
-some_of (Some x) h = (x, refl)

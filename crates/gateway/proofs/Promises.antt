@@ -9,7 +9,7 @@ use Rattle.gate_base.specs.declared.side.Side.TheVariants.{Left, Right}
 use Rattle.frag_join.specs.Arrivals.{Arrival, Comes, Stays, coming}
 use Rattle.frag_join.proofs.ArrivalSteps.{arrivals_are}
 use Rattle.gate_desk.specs.declared.slot.PerSlot.{PerSlot}
-use Rattle.gate_desk.specs.declared.slot.Slot.TheVariants.{Settings, LeftIn, RightIn, LeftGiven, RightGiven, ReportGiven, LeftOut, RightOut, Report, Errors}
+use Rattle.gate_desk.specs.declared.slot.Slot.TheVariants.{LeftIn, RightIn}
 use Rattle.gate_desk.specs.Outside.{Outside, Told}
 use Rattle.settings_file.specs.Accepting.{settings_of}
 use Rattle.gate_settings.specs.declared.settings.Settings.{Settings as GateSettings}
@@ -23,7 +23,7 @@ use Rattle.gate_world.specs.Verdict.{verdict}
 use Rattle.gate_world.specs.World.{World}
 use Rattle.gate_world.proofs.Promises.{promised}
 use Rattle.gate_phases.specs.declared.status.Status.{Status}
-use Rattle.gate_phases.specs.declared.status.Status.TheVariants.{Done, Usage, SettingsRefused, CaptureRefused, ReadFault, WriteFault, OpenFault, OutOfMemory}
+use Rattle.gate_phases.specs.declared.status.Status.TheVariants.{Done, CaptureRefused, ReadFault, WriteFault, OutOfMemory}
 use Rattle.gate_phases.specs.RunNames.{Names}
 use Rattle.gateway.specs.Pieces.{Piece, IsFront, wrote_pieces}
 use Rattle.gateway.specs.Machine.{State, opening, after_one, after, arrivals_by, sent, event_piece, given_by, given_by_all, given_by_merged, ended_by, heads, files}
@@ -33,7 +33,7 @@ use Rattle.gateway.specs.Ends.{Wants, outputs_of}
 use Rattle.gateway.specs.Answers.{HasWritten, IsRun, IsPromised, StopsAtCapture, WantsMemory}
 use Rattle.gateway.proofs.Pieces.{is_front_none, is_front_all, is_front_more, is_front_on}
 use Rattle.gate_phases.proofs.Beginning.{if_some}
-use Rattle.gateway.proofs.Progress.{given_all-append, given_all-cons, front_of_first}
+use Rattle.gateway.proofs.Progress.{given_all-append, given_all-cons, front_of_first, front_of_line}
 use Rattle.gateway.proofs.Runs.{good_outputs, bad_outputs}
 
 -- ## Where each frame's pieces stand
@@ -125,7 +125,7 @@ behind_heads a b h =
 
 wanted_front : (s : GateSettings) (all : Merged) (a b : Told) → Wants s all a b → IsFront (given_by_merged s all) a b
 wanted_front s all a b (inl h) = front_of_first s h.handled all a b (record { others = h.next ∷ h.others; split = h.split; written = h.written })
-wanted_front s all a b (inr h) = h.1
+wanted_front s all a b (inr h) = front_of_line s all a b h.1
 
 stops_front : (side : Side) (names : Names) (a b : Outside) → StopsAtCapture side names a b → IfSome a.left (λ all. (s : GateSettings) → IsAccepted s all → WrotesFront a b s all)
 stops_front side names a b (inl h) = nothing_written a b h.0

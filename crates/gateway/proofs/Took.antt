@@ -12,7 +12,7 @@ use Rattle.pcap_merge.specs.Given.{TakenFor}
 use Rattle.pcap_merge.specs.Merge.{Merging, ComesTo, Finishes as FinishesMerge, StopsBy, TakesFew, ahead}
 use Rattle.pcap_merge.specs.Stops.{slot_of}
 use Rattle.pcap_merge.proofs.Given.{given_few, taken_later}
-use Rattle.kept_world.specs.Kept.{KeptSession}
+use Rattle.kept_world.specs.Kept.{KeptSession, kept_rules}
 use Rattle.gate_core.specs.Gates.{Gateway}
 use Rattle.gate_report.specs.declared.totals.Totals.{Totals}
 use Rattle.gate_phases.specs.declared.status.Status.{Status}
@@ -20,12 +20,12 @@ use Rattle.gate_phases.specs.declared.status.Status.TheVariants.{Done, Usage, Se
 use Rattle.gateway.specs.Answers.{TookForWritten}
 use Rattle.gateway.specs.Causes.{WritesPieces}
 use Rattle.gate_phases.specs.RunNames.{Names, first_starts, output_starts}
-use Rattle.gateway.specs.Machine.{State, heads, line_piece}
+use Rattle.gateway.specs.Machine.{State, frames_of, heads, line_piece}
 use Rattle.gateway.specs.Ends.{StandWritten}
-use Rattle.gateway.specs.Phases.{Prepared, Readied, TookFew, WritesLastLine, Handles, OfEvents}
+use Rattle.gateway.specs.Phases.{Prepared, Readied, TookFew, WritesLastLine, Handles, OfEvents, state_of}
 use Rattle.gateway.specs.Pieces.{Piece, IsFront, wrote_pieces}
 use Rattle.gate_phases.proofs.Beginning.{if_some}
-use Rattle.gateway.proofs.Pieces.{is_front_all, wrote_pieces-nil}
+use Rattle.gateway.proofs.Pieces.{is_front_all, is_front_none, wrote_pieces-nil}
 use Rattle.gateway.proofs.Progress.{Progress, Joiner, with_front, given_first, given_kept, failed_only}
 use Rattle.gateway.proofs.Runs.{of_events, heads_written}
 
@@ -64,7 +64,7 @@ took_stop stop settings m0 m old now new s joiner h k =
 -- of the last line a front was written, or all of it
 line_front : (r : Result Line Status) (json : Bool) (line : Line) (mid new : Outside) → WritesLastLine r json line mid new → (new.left ≡ mid.left) × IsFront (line_piece json line ∷ []) mid.written new.written
 line_front (Ok done) json line mid new f = (f.1.only.left, is_front_all (line_piece json line ∷ []) mid.written new.written f.1.written)
-line_front (Err OutOfMemory) json line mid new f = (f.1.only.left, f.1.front)
+line_front (Err OutOfMemory) json line mid new f = (ap (λ (o : Outside). o.left) f.1, subst (λ (o : Outside). IsFront (line_piece json line ∷ []) mid.written o.written) (sym f.1) (is_front_none (line_piece json line ∷ []) mid.written))
 line_front (Err Done) json line mid new f = (f.1.only.left, f.1.front)
 line_front (Err Usage) json line mid new f = (f.1.only.left, f.1.front)
 line_front (Err (SettingsRefused x)) json line mid new f = (f.1.only.left, f.1.front)
@@ -87,7 +87,7 @@ took_end r settings m0 m m' old now mid new s joiner line h k f =
 event_front : (e : Status) (gate gate' : Gateway) (totals : Totals) (event : Arrival) (mid new : Outside) → Handles (Err e) gate gate' totals event mid new → (behind : List Piece) × IsFront behind mid.written new.written
 event_front OutOfMemory gate gate' totals event mid new k = elim k as (λ x. (behind : List Piece) × IsFront behind mid.written new.written) [
   | inl wants ↦ ([], is_front_all [] mid.written new.written (ap (λ (o : Outside). o.written) wants.1 ∙ sym (wrote_pieces-nil mid.written)))
-  | inr json ↦ (_, json.1.front)
+  | inr json ↦ (frames_of kept_rules gate.settings (state_of gate totals) event, is_front_all (frames_of kept_rules gate.settings (state_of gate totals) event) mid.written new.written json.1.written)
 ]
 event_front e gate gate' totals event mid new k = (_, k.1.front)
 

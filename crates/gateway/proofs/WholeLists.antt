@@ -18,7 +18,7 @@ use Rattle.gate_report.specs.declared.line.Line.{Line}
 use Rattle.gate_report.specs.declared.totals.Totals.{Totals}
 use Rattle.gateway.specs.Pieces.{Piece}
 use Rattle.gate_report.specs.Counts.{counted, done_line}
-use Rattle.gateway.specs.Machine.{State, opening, after_one, after, sent, event_piece, given_by, ended_by, line_piece, line_after}
+use Rattle.gateway.specs.Machine.{State, opening, after_one, after, sent, event_piece, frames_of, given_by, ended_by, line_piece, line_after}
 
 -- the world of what is kept stands for the other, and both are counted alike
 pub record AreAlike (v : State KeptSession) (w : State WholeSession) : Type 0 where
@@ -56,6 +56,10 @@ same_given settings v w (Comes e) h =
     ∙ ap (λ (x : Verdict). gives w.totals x (out kept_rules v.world e)) (same_verdict v w e h)
     ∙ ap (gives w.totals (verdict whole_rules w.world e)) (same_out v w e h)
 same_given settings v w (Stays e verdict) h = ap (λ (t : Totals). event_piece settings.json (t.events + 1) e.side e.moment verdict 0 ∷ []) h.totals
+
+pub same_frames : (settings : GateSettings) (v : State KeptSession) (w : State WholeSession) (a : Arrival) → AreAlike v w → frames_of kept_rules settings v a ≡ frames_of whole_rules settings w a
+same_frames settings v w (Comes e) h = ap (sent settings (other e.side) e.moment) (same_out v w e h)
+same_frames settings v w (Stays e verdict) h = refl
 
 pub same_line : (v : State KeptSession) (w : State WholeSession) → AreAlike v w → done_line v.totals v.world.pending ≡ line_after w
 same_line v w h = ap (λ (t : Totals). done_line t v.world.pending) h.totals ∙ ap (done_line w.totals) (pending_related w.world v.world h.related)

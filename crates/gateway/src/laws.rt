@@ -3,8 +3,8 @@ ghost use Rattle.std.specs.Prelude.{◌≡◌, ℕ, List, Err};
 ghost use Rattle.gate_base.specs.declared.side.Side.{Side};
 ghost use Rattle.gate_desk.specs.Outside.{Outside};
 ghost use Rattle.gate_desk.specs.declared.slot.PerSlot.{PerSlot};
-ghost use Rattle.gate_settings.specs.Cross.{settings_of};
-ghost use Rattle.gate_settings.specs.declared.fault.SettingsFault.{SettingsFault};
+ghost use Rattle.settings_file.specs.Accepting.{settings_of};
+ghost use Rattle.settings_file.specs.declared.fault.SettingsFault.{SettingsFault};
 ghost use Rattle.gate_settings.specs.declared.settings.Settings.{Settings as GateSettings};
 ghost use Rattle.pcap_files.specs.declared.fault.CaptureFault.{CaptureFault};
 ghost use Rattle.pcap_merge.specs.Events.{Done as BothEnded, Fault as EndsFaulty};
@@ -16,9 +16,9 @@ ghost use Rattle.gate_phases.specs.RunNames.{Names};
 ghost use Rattle.gateway.specs.Decided.{IsRunOf};
 ghost use Rattle.gateway.specs.Making.{IsMake};
 
-/// Where no count rose, the settings and the captures decide the status of a run, but for want of memory: it refuses exactly the
-/// first fault of the settings, and of accepted settings the fault that the merge of both captures meets, and it is done where
-/// both captures end. A make is done.
+/// Where no count rose, the settings and the captures decide the status of a run, but for want of memory. It refuses exactly the
+/// first fault of the settings, and of accepted settings the fault that the merge of both captures meets. It is done where both
+/// captures end. A make is done.
 pub fn captures_decide()
     ensures settings { (all : PerSlot (List ℕ)) (status : Status) (names : Names) (old new : Outside) (fault : SettingsFault) → IsRunOf all status names old new → settings_of all.settings ≡ Err fault → IsUnlessMemory (SettingsRefused fault) status }
     ensures ended { (all : PerSlot (List ℕ)) (status : Status) (names : Names) (old new : Outside) (settings : GateSettings) → IsRunOf all status names old new → IsAccepted settings all → (events_in all).ending ≡ BothEnded → IsUnlessMemory Done status }

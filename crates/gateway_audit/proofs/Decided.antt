@@ -4,8 +4,8 @@ use Rattle.frag_join.specs.Arrivals.{arrivals_of}
 use Rattle.gate_base.specs.declared.side.Side.{Side}
 use Rattle.gate_desk.specs.declared.slot.PerSlot.{PerSlot}
 use Rattle.gate_desk.specs.Outside.{Outside}
-use Rattle.gate_settings.specs.Cross.{settings_of}
-use Rattle.gate_settings.specs.declared.fault.SettingsFault.{SettingsFault}
+use Rattle.settings_file.specs.Accepting.{settings_of}
+use Rattle.settings_file.specs.declared.fault.SettingsFault.{SettingsFault}
 use Rattle.gate_settings.specs.declared.settings.Settings.{Settings as GateSettings}
 use Rattle.pcap_files.specs.declared.fault.CaptureFault.{CaptureFault}
 use Rattle.pcap_merge.specs.Events.{Ending, Done as BothEnded, Fault as EndsFaulty, have_good_heads}

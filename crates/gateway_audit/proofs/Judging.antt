@@ -1,5 +1,7 @@
 -- A whole audit, by its parts.
-use Rattle.std.proofs.Common.{◌≡◌, ℕ, List, true, Option, Some, None, Result, Ok, Err, IfSome, OnOk, option_map, take, length, inl, inr, refl, sym, ap, subst, ◌∙◌}
+use Rattle.std.proofs.Common.{◌≡◌, ◌++◌, ℕ, List, [], true, Option, Some, None, Result, Ok, Err, IfSome, OnOk, option_map, take, length, inl, inr, refl, sym, ap, subst, ◌∙◌}
+use Rattle.std.specs.Prelude.{◌⊎◌}
+use Rattle.gate_base.specs.Events.{Event}
 use Rattle.gate_base.specs.declared.side.Side.{Side}
 use Rattle.gate_base.specs.declared.side.Side.TheVariants.{Left, Right}
 use Rattle.gate_desk.specs.declared.slot.Slot.{Slot}
@@ -11,31 +13,35 @@ use Rattle.gate_desk.proofs.Laws.{grows_on, none_failed_on, grows_writes, failed
 use Rattle.gate_settings.specs.declared.settings.Settings.{Settings as GateSettings}
 use Rattle.frag_join.specs.Arrivals.{arrivals_of}
 use Rattle.pcap_merge.specs.Events.{Merged, Done as BothEnded, Fault as EndsFaulty, have_good_heads}
+use Rattle.pcap_merge.specs.Given.{TakenFor}
 use Rattle.pcap_merge.specs.Merge.{Merging, all_events, ahead}
+use Rattle.pcap_merge.specs.Stops.{slot_of}
+use Rattle.pcap_merge.proofs.Given.{given_few, taken_later}
 use Rattle.lawful_files.specs.declared.reason.AuditReason.TheVariants.{Capture}
 use Rattle.lawful_files.specs.Files.{Given, HasLink, LawfulFrom, opening}
 use Rattle.lawful_files.specs.Reasons.{IsFirst}
 use Rattle.file_audit.specs.declared.given.GivenFiles.{GivenFiles}
 use Rattle.file_audit.specs.declared.stop.AuditStop.{AuditStop}
 use Rattle.file_audit.specs.declared.stop.AuditStop.TheVariants as stops
-use Rattle.file_audit.specs.Events.{Finds, IsReadInAudit}
+use Rattle.file_audit.specs.Events.{Finds, IsReadInAudit, TookFew, WantsAt}
 use Rattle.file_audit.specs.Stops.{LeavesCounts}
-use Rattle.file_audit.specs.Given.{IfBoth, given_slot, given_told}
-use Rattle.file_audit.proofs.IncomingEnds.{ends_kept}
+use Rattle.file_audit.specs.Given.{IfBoth, ReadsGiven, given_slot, given_told}
+use Rattle.file_audit.proofs.IncomingEnds.{ends_kept, left_kept, right_kept}
+use Rattle.file_audit.proofs.Wanting.{given_later, incoming_kept}
 use Rattle.gate_phases.specs.declared.status.Status.{Status}
 use Rattle.gate_phases.specs.declared.status.Status.TheVariants.{CaptureRefused, ReadFault, WriteFault, OpenFault, OutOfMemory}
 use Rattle.gate_phases.specs.Beginning.{IsAccepted, events_in}
 use Rattle.gate_phases.specs.Causes.{started_all}
-use Rattle.gate_phases.proofs.Causes.{all_on, before_on, starts_all, starts_on, way_of}
+use Rattle.gate_phases.proofs.Causes.{all_on, before_on, way_of}
 use Rattle.gate_phases.proofs.Beginning.{if_some}
 use Rattle.gateway_audit.specs.declared.verdict.Verdict.{Verdict}
 use Rattle.gateway_audit.specs.declared.verdict.Verdict.TheVariants.{Lawful, Unlawful}
 use Rattle.gateway_audit.specs.Stops.{verdict_of}
 use Rattle.gate_phases.specs.AuditNames.{Names, first_starts, given_starts, plan}
 use Rattle.gateway_audit.specs.Lines.{answer_line}
-use Rattle.gateway_audit.specs.Causes.{AreLawful, IsRead, IsVerdict}
-use Rattle.gateway_audit.specs.Audits.{IsAudit, HasStartedToRead, HasAnswered}
-use Rattle.gateway_audit.specs.Phases.{Prepared, HaveLinks, Readied, StopsAtGiven, AreToWalk, Walks, WasRead, Judged, Judges, Says, status_of, given_in}
+use Rattle.gateway_audit.specs.Causes.{AreLawful, IsRead, IsVerdict, MayHaveWanted}
+use Rattle.gateway_audit.specs.Audits.{IsAudit, HasStartedToRead, HasAnswered, TookForEvents}
+use Rattle.gateway_audit.specs.Phases.{Prepared, HaveLinks, LeavesIncoming, Readied, StopsAtGiven, AreToWalk, Walks, WasRead, Judged, Judges, Says, status_of, given_in}
 use Rattle.gateway_audit.proofs.Phases.{behind_inputs, refused}
 
 -- ## What is told
@@ -64,6 +70,11 @@ both_told (Some all) o p R e f h = subst (λ q. IfSome q (R (events_in all))) f 
 with_some : {A : Type 0} (t : Option A) (P Q S : A → Type 0) → IfSome t P → IfSome t Q → ((x : A) → P x → Q x → S x) → IfSome t S
 with_some None P Q S h k f = tt
 with_some (Some x) P Q S h k f = f x h k
+
+-- what was read of the given files left the incoming captures as they were
+incoming_left : (m n k : ℕ) (b c : Outside) → c.left ≡ took ReportGiven k (took RightGiven n (took LeftGiven m b.left)) → (side : Side) → told_at c.left (slot_of side) ≡ told_at b.left (slot_of side)
+incoming_left m n k b c e Left = ap (λ (t : Told). told_at t LeftIn) e ∙ left_kept m n k b.left
+incoming_left m n k b c e Right = ap (λ (t : Told). told_at t RightIn) e ∙ right_kept m n k b.left
 
 -- ## The parts before the events, joined
 
@@ -97,8 +108,8 @@ not_ready (OpenFault s) settings m names a b c h k = record {
   grows = grows_on a b c h.grows k.grows;
 }
 not_ready OutOfMemory settings m names a b c h k = record {
-  cause = tt;
-  starts = starts_on (first_starts names) (behind_inputs names) a b c h.starts k.started;
+  cause = inl (taken_later a b c [] k.cause (given_few a m b [] h.given));
+  starts = inr (inr (inl (all_on (first_starts names) (given_starts names) a b c h.starts k.started)));
   written = k.written ∙ h.written;
   grows = grows_on a b c h.grows k.grows;
 }
@@ -189,7 +200,15 @@ walks_of (Ok events) settings m r old new finds leaves left right = (finds, leav
 walks_of (Err (stops.Unlawful number reason)) settings m r old new finds leaves left right = (finds, leaves)
 walks_of (Err (stops.Capture side fault place)) settings m r old new finds leaves left right = (finds, leaves)
 walks_of (Err (stops.Desk slot)) settings m r old new finds leaves left right = finds
-walks_of (Err stops.OutOfMemory) settings m r old new finds leaves left right = tt
+walks_of (Err stops.OutOfMemory) settings m r old new finds leaves left right = inr finds
+
+-- memory was wanting before any event, or for one
+wanted : (settings : GateSettings) (m : Merging) (r : GivenFiles) (names : Names) (a b c d : Outside) → Prepared settings m names a b → Readied (Some r) settings names b c → Walks (Err OutOfMemory) settings m r c d
+    → TakenFor [] a d ⊎ IfSome a.left (λ all. (s : GateSettings) × IsAccepted s all × MayHaveWanted s all)
+wanted settings m r names a b c d h k (inl same) = inl (taken_later a b d [] (λ side. ap (λ (t : Told). told_at t (slot_of side)) same ∙ incoming_left k.left_count k.right_count k.report_count b c k.left side) (given_few a m b [] h.given))
+wanted settings m r names a b c d h k (inr (inl json)) = inr (if_some a.left _ _ h.accepted (λ all is. (settings, is, inl json)))
+wanted settings m r names a b c d h k (inr (inr both)) =
+    inr (of_files settings m r names a b c (WantsAt settings) (λ all. (s : GateSettings) × IsAccepted s all × MayHaveWanted s all) h k both (λ all is links q. (settings, is.0, inr q)))
 
 pub walked : (found : Result Verdict Status) (settings : GateSettings) (m : Merging) (r : GivenFiles) (names : Names) (a b c d : Outside) → Prepared settings m names a b → Readied (Some r) settings names b c → Walks found settings m r c d
     → d.starts ≡ c.starts → d.written ≡ c.written → Grows c d → Judges found names a d
@@ -219,8 +238,8 @@ walked (Err (ReadFault s)) settings m r names a b c d h k f starts written grows
   grows = grows_on a b d h.grows (grows_on b c d k.grows grows);
 }
 walked (Err OutOfMemory) settings m r names a b c d h k f starts written grows = record {
-  cause = tt;
-  starts = starts_all (plan names) a d (starts ∙ started (Some r) settings m names a b c h k);
+  cause = wanted settings m r names a b c d h k f;
+  starts = inr (inr (inr (starts ∙ started (Some r) settings m names a b c h k)));
   written = written ∙ k.written ∙ h.written;
   grows = grows_on a b d h.grows (grows_on b c d k.grows grows);
 }
@@ -261,3 +280,42 @@ said status verdict names a b c h k =
       | inl all ↦ subst (λ s. IsAudit s names a c) (sym all.0) (answered verdict names a b c h all.1 all.2)
       | inr part ↦ subst (λ s. IsAudit s names a c) (sym part.0) (unanswered verdict names a b c h part.1 part.2)
     ]
+
+-- ## What was taken of the incoming captures
+
+pub took_none : (a b : Outside) → TakenFor [] a b → TookForEvents a b
+took_none a b few = record { handled = []; few = few; front = inl refl }
+
+-- nothing but both heads
+pub took_prepared : (settings : GateSettings) (m : Merging) (names : Names) (a b c : Outside) → Prepared settings m names a b → LeavesIncoming b c → TookForEvents a c
+took_prepared settings m names a b c h same = took_none a c (taken_later a b c [] same (given_few a m b [] h.given))
+
+front_none : (o : Option Merged) → IfSome o (λ all. (others : List Event) × (all.events ≡ [] ++ others))
+front_none None = tt
+front_none (Some all) = (all.events, refl)
+
+-- the merge had not been asked for an event
+pub took_not : (m : Merging) (a b : Outside) → b ≡ a → TookFew m a b
+took_not m a b e = record { handled = []; few = λ start g. subst (λ (o : Outside). TakenFor [] start o) (sym e) (given_few start m a [] g); front = front_none (ahead m a.left) }
+
+all_told : (o : Told) (P : Merged → Type 0) → IfSome (all_events o) P → IfSome o (λ all. P (events_in all))
+unfolding all_events
+all_told None P k = tt
+all_told (Some all) P k = k
+
+pub took_walked : (settings : GateSettings) (m : Merging) (r : GivenFiles) (names : Names) (a b c d : Outside) → Prepared settings m names a b → Readied (Some r) settings names b c → TookFew m c d → TookForEvents a d
+took_walked settings m r names a b c d h k t = record {
+  handled = t.handled;
+  few = t.few a (given_later a m b c [] (incoming_left k.left_count k.right_count k.report_count b c k.left) h.given);
+  front = inr (all_told a.left (λ x. (others : List Event) × (x.events ≡ t.handled ++ others)) (subst (λ o. IfSome o (λ all. (others : List Event) × (all.events ≡ t.handled ++ others))) (ap (ahead m) k.left ∙ ahead_kept m k.left_count k.right_count k.report_count b.left ∙ sym h.events) t.front));
+}
+
+pub incoming_on : (a b c d : Outside) → b.left ≡ a.left → ReadsGiven b c → d.left ≡ c.left → LeavesIncoming a d
+incoming_on a b c d e reads f side = ap (λ (t : Told). told_at t (slot_of side)) f ∙ incoming_kept b c reads side ∙ ap (λ (t : Told). told_at t (slot_of side)) e
+
+-- the answer reads nothing
+says_left : (status : Status) (verdict : Verdict) (b c : Outside) → Says status verdict b c → c.left ≡ b.left
+says_left status verdict b c k = elim k [ inl all ↦ all.1.left | inr part ↦ part.1.2.left ]
+
+pub took_said : (status : Status) (verdict : Verdict) (a b c : Outside) → Says status verdict b c → TookForEvents a b → TookForEvents a c
+took_said status verdict a b c k h = record { handled = h.handled; few = taken_later a b c h.handled (λ side. ap (λ (t : Told). told_at t (slot_of side)) (says_left status verdict b c k)) h.few; front = h.front }

@@ -1,23 +1,25 @@
 -- The parts of an audit before its events.
-use Rattle.std.proofs.Common.{◌≡◌, List, ◌++◌, Bool, true, false, Option, Some, None, Ok, Err, IfSome, option_map, inl, sym, ap, subst, ◌∙◌}
+use Rattle.std.proofs.Common.{◌≡◌, List, ◌++◌, Bool, true, false, Option, Some, None, Ok, Err, IfSome, option_map, inl, inr, [], sym, ap, subst, ◌∙◌}
 use Rattle.std.proofs.lemmas.Bool.{false≢true}
 use Rattle.gate_base.specs.declared.side.Side.{Side}
 use Rattle.gate_base.specs.declared.side.Side.TheVariants.{Left, Right}
 use Rattle.gate_desk.specs.declared.slot.Slot.TheVariants.{LeftIn, RightIn, LeftGiven, RightGiven, ReportGiven}
-use Rattle.gate_desk.specs.Outside.{Outside, Told, Start, took}
+use Rattle.gate_desk.specs.Outside.{Outside, Told, Start, took, told_at}
 use Rattle.gate_desk.proofs.Laws.{grows_on, none_failed_on, failed_since, failed_to_start_since}
 use Rattle.gate_settings.specs.declared.settings.Settings.{Settings as GateSettings}
 use Rattle.pcap_merge.specs.Events.{Merged, Fault as EndsFaulty, have_good_heads}
 use Rattle.pcap_merge.specs.Merge.{Merging, HeadsAre, all_events}
+use Rattle.pcap_merge.specs.Given.{TakenFor}
 use Rattle.pcap_merge.specs.Stops.{slot_of}
 use Rattle.file_audit.specs.declared.given.GivenFiles.{GivenFiles}
 use Rattle.file_audit.specs.Given.{ReadsGiven, given_told}
+use Rattle.file_audit.proofs.Wanting.{incoming_kept}
 use Rattle.gate_phases.specs.declared.status.Status.{Status}
 use Rattle.gate_phases.specs.declared.status.Status.TheVariants.{SettingsRefused, CaptureRefused, ReadFault, OpenFault, OutOfMemory}
 use Rattle.gate_phases.specs.Beginning.{IsAccepted, events_in, settings_start, inputs_start, Settled, EndsAtSettings, Begun, EndsAtHeads}
 use Rattle.gate_phases.specs.Causes.{started_all, StartsAll, Stops, Opens}
-use Rattle.gate_phases.proofs.Causes.{all_on, before_more, before_on, starts_all, starts_more}
-use Rattle.gate_phases.proofs.Beginning.{all_events-took_settings, heads_before, accepted_and, settled_stops}
+use Rattle.gate_phases.proofs.Causes.{all_on, before_more, before_on}
+use Rattle.gate_phases.proofs.Beginning.{all_events-took_settings, heads_before, accepted_and, given_since, settled_stops, told_before}
 use Rattle.gate_phases.specs.AuditNames.{Names, first_starts, given_starts, answer_start}
 use Rattle.gateway_audit.specs.Causes.{AreLawful}
 use Rattle.gateway_audit.specs.Audits.{IsAudit, refused_starts}
@@ -33,19 +35,19 @@ behind_settings names = inputs_start names.left_in names.right_in ++ behind_inpu
 -- ## The settings and the incoming heads
 
 -- the settings ended the audit
-pub settings_end : (e : Status) (names : Names) (a b : Outside) → EndsAtSettings e (settings_start names.settings) a b → IsAudit e names a b
-settings_end (SettingsRefused f) names a b h = record { cause = (h.0, h.4); starts = h.1; written = h.2; grows = h.3 }
-settings_end (ReadFault s) names a b h =
+pub settings_end : (e : Status) (names : Names) (a b : Outside) → TakenFor [] a b → EndsAtSettings e (settings_start names.settings) a b → IsAudit e names a b
+settings_end (SettingsRefused f) names a b few h = record { cause = (h.0, h.4); starts = h.1; written = h.2; grows = h.3 }
+settings_end (ReadFault s) names a b few h =
     let stops = subst (λ u. Stops (ReadFault u) (settings_start names.settings) a b) h.0 h.1 in
     subst (λ u. IsAudit (ReadFault u) names a b) (sym h.0) (record { cause = (tt, stops.cause.1); starts = stops.started; written = stops.written; grows = stops.grows })
-settings_end (OpenFault s) names a b h = record { cause = h.cause; starts = before_more s (settings_start names.settings) (behind_settings names) a b h.started; written = h.written; grows = h.grows }
-settings_end OutOfMemory names a b h = record {
-  cause = tt;
-  starts = starts_more (settings_start names.settings) (behind_settings names) a b (starts_all (settings_start names.settings) a b h.started);
+settings_end (OpenFault s) names a b few h = record { cause = h.cause; starts = before_more s (settings_start names.settings) (behind_settings names) a b h.started; written = h.written; grows = h.grows }
+settings_end OutOfMemory names a b few h = record {
+  cause = inl few;
+  starts = inl h.started;
   written = h.written;
   grows = h.grows;
 }
-settings_end e names a b h = absurd h
+settings_end e names a b few h = absurd h
 
 -- nothing is asked of the given files where a head isn't good
 bad_head : (t : Told) (P : Merged → Type 0) → HeadsAre false t → IfSome t (λ all. (s : GateSettings) × IsAccepted s all × P (events_in all))
@@ -64,8 +66,8 @@ head_unread Left names a b h = record { cause = (tt, h.cause.1); starts = inl h.
 head_unread Right names a b h = record { cause = (tt, h.cause.1); starts = inl h.started; written = h.written; grows = h.grows }
 
 -- the incoming heads ended the audit
-pub heads_end : (e : Status) (settings : GateSettings) (names : Names) (a b c : Outside) → Settled settings (settings_start names.settings) a b → EndsAtHeads e (inputs_start names.left_in names.right_in) b c → IsAudit e names a c
-heads_end (CaptureRefused side f place) settings names a b c h k =
+pub heads_end : (e : Status) (settings : GateSettings) (names : Names) (a b c : Outside) → TakenFor [] a c → Settled settings (settings_start names.settings) a b → EndsAtHeads e (inputs_start names.left_in names.right_in) b c → IsAudit e names a c
+heads_end (CaptureRefused side f place) settings names a b c few h k =
     let bad = heads_before false settings (settings_start names.settings) a b h k.4 in
     record {
       cause = (bad_head a.left (λ x. x.ending ≡ EndsFaulty side f place) bad (accepted_and settings (settings_start names.settings) a b (λ x. x.ending ≡ EndsFaulty side f place) h k.0), none_failed_on a b c h.counts k.5);
@@ -73,16 +75,16 @@ heads_end (CaptureRefused side f place) settings names a b c h k =
       written = k.2 ∙ h.written;
       grows = grows_on a b c h.grows k.3;
     }
-heads_end (ReadFault s) settings names a b c h k =
+heads_end (ReadFault s) settings names a b c few h k =
     let stops = subst (λ u. Stops (ReadFault u) (inputs_start names.left_in names.right_in) b c) k.1 k.2 in
     subst (λ u. IsAudit (ReadFault u) names a c) (sym k.1) (head_unread k.0 names a c (settled_stops (ReadFault (slot_of k.0)) settings (settings_start names.settings) (inputs_start names.left_in names.right_in) a b c h stops))
-heads_end (OpenFault s) settings names a b c h k =
+heads_end (OpenFault s) settings names a b c few h k =
     let stops = settled_stops (OpenFault s) settings (settings_start names.settings) (inputs_start names.left_in names.right_in) a b c h k in
     record { cause = stops.cause; starts = before_more s (first_starts names) (behind_inputs names) a c stops.started; written = stops.written; grows = stops.grows }
-heads_end OutOfMemory settings names a b c h k =
+heads_end OutOfMemory settings names a b c few h k =
     let stops = settled_stops OutOfMemory settings (settings_start names.settings) (inputs_start names.left_in names.right_in) a b c h k in
-    record { cause = tt; starts = starts_more (first_starts names) (behind_inputs names) a c (starts_all (first_starts names) a c stops.started); written = stops.written; grows = stops.grows }
-heads_end e settings names a b c h k = absurd k
+    record { cause = inl few; starts = inr (inl stops.started); written = stops.written; grows = stops.grows }
+heads_end e settings names a b c few h k = absurd k
 
 -- both heads were read
 pub prepared : (settings : GateSettings) (m : Merging) (names : Names) (a b c : Outside) → Settled settings (settings_start names.settings) a b → Begun m (inputs_start names.left_in names.right_in) b c → Prepared settings m names a c
@@ -93,6 +95,7 @@ prepared settings m names a b c h k = record {
   stop = k.stop;
   work = k.work;
   ends = k.ends;
+  given = given_since b a m c [] (λ side. ap (λ (t : Told). told_at t (slot_of side)) h.left ∙ told_before side h.count a.left) k.given;
   heads = heads_before true settings (settings_start names.settings) a b h k.heads;
   events = sym (ap all_events h.left ∙ all_events-took_settings h.count a.left) ∙ k.events;
   settings_count = h.count;
@@ -121,8 +124,8 @@ not_begun (ReadFault s) settings names a b c h reads k = record {
   grows = grows_on a b c h.grows reads.grows;
 }
 not_begun OutOfMemory settings names a b c h reads k = record {
-  cause = tt;
-  started = starts_more (given_starts names) (answer_start names) a c (starts_all (given_starts names) a c (reads.starts ∙ h.starts));
+  cause = λ side. incoming_kept b c reads side ∙ ap (λ (t : Told). told_at t (slot_of side)) h.left;
+  started = reads.starts ∙ h.starts;
   written = reads.written ∙ h.written;
   grows = grows_on a b c h.grows reads.grows;
 }

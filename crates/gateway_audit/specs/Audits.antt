@@ -1,13 +1,15 @@
 -- What an audit answers, starts and writes.
-use Rattle.std.specs.Prelude.{◌≡◌, ◌⊎◌, ℕ, ◌≤◌, List, Bool, IfSome, if◌then◌else◌, length, take}
+use Rattle.std.specs.Prelude.{◌≡◌, ◌⊎◌, ℕ, ◌≤◌, List, [], ◌++◌, Bool, IfSome, if◌then◌else◌, length, take}
 use Rattle.gate_desk.specs.declared.slot.Slot.{Slot}
 use Rattle.gate_desk.specs.declared.slot.Slot.TheVariants.{Settings, LeftIn, RightIn, LeftGiven, RightGiven, Report}
 use Rattle.gate_desk.specs.Outside.{Outside, Start, Grows, wrote}
+use Rattle.gate_base.specs.Events.{Event}
 use Rattle.pcap_merge.specs.Events.{have_good_heads}
+use Rattle.pcap_merge.specs.Given.{TakenFor}
 use Rattle.gate_phases.specs.declared.status.Status.{Status}
 use Rattle.gate_phases.specs.declared.status.Status.TheVariants.{Done, SettingsRefused, CaptureRefused, ReadFault, WriteFault, OpenFault, OutOfMemory, Unlawful}
 use Rattle.gate_phases.specs.Beginning.{events_in, settings_start}
-use Rattle.gate_phases.specs.Causes.{started_all, StartsSome, StartsBefore}
+use Rattle.gate_phases.specs.Causes.{started_all, StartsBefore}
 use Rattle.gateway_audit.specs.declared.verdict.Verdict.{Verdict}
 use Rattle.gateway_audit.specs.declared.verdict.Verdict.TheVariants as verdicts
 use Rattle.gate_phases.specs.AuditNames.{Names, first_starts, read_starts, plan}
@@ -31,13 +33,18 @@ HasStartedToRead LeftGiven names old new = HasStartedOrAll (read_starts names) n
 HasStartedToRead RightGiven names old new = HasStartedOrAll (read_starts names) names old new
 HasStartedToRead slot names old new = new.starts ≡ started_all (plan names) old.starts
 
+-- what is started where memory was wanting: the settings alone, no more than both incoming captures, all that is read, or all
+abbrev pub HasStartedToWant : Names → Outside → Outside → Type 0
+HasStartedToWant names old new =
+    (new.starts ≡ started_all (settings_start names.settings) old.starts) ⊎ ((new.starts ≡ started_all (first_starts names) old.starts) ⊎ HasStartedOrAll (read_starts names) names old new)
+
 -- what an audit has started, by its status
 abbrev pub HasStarted : Status → Names → Outside → Outside → Type 0
 HasStarted (SettingsRefused fault) names old new = new.starts ≡ started_all (settings_start names.settings) old.starts
 HasStarted (CaptureRefused side fault place) names old new = IfSome old.left (λ all. new.starts ≡ started_all (refused_starts (have_good_heads all.left_in all.right_in) names) old.starts)
 HasStarted (ReadFault slot) names old new = HasStartedToRead slot names old new
 HasStarted (OpenFault slot) names old new = StartsBefore slot (plan names) old new
-HasStarted OutOfMemory names old new = StartsSome (plan names) old new
+HasStarted OutOfMemory names old new = HasStartedToWant names old new
 HasStarted status names old new = new.starts ≡ started_all (plan names) old.starts
 
 -- this line stands written on the report
@@ -54,6 +61,12 @@ HasWritten Done old new = IfSome old.left (λ all. HasAnswered (verdicts.Lawful 
 HasWritten (Unlawful number reason) old new = HasAnswered (verdicts.Unlawful number reason) old new
 HasWritten (WriteFault slot) old new = (verdict : Verdict) × IfSome old.left (IsVerdict verdict) × HasAnsweredPartly verdict old new
 HasWritten status old new = new.written ≡ old.written
+
+-- what an audit took of the incoming captures: of each no more whole records than those of the first events, and one more; and it read neither further than a capture may be and the head of a record
+pub record TookForEvents (old new : Outside) : Type 0 where
+  pub handled : List Event
+  pub few : TakenFor handled old new
+  pub front : (handled ≡ []) ⊎ IfSome old.left (λ all. (others : List Event) × ((events_in all).events ≡ handled ++ others))
 
 -- what an audit answers: its cause, what it started, and what it wrote
 pub record IsAudit (status : Status) (names : Names) (old new : Outside) : Type 0 where

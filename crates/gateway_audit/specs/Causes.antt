@@ -1,5 +1,5 @@
 -- The cause of each status of an audit, by what the desk tells of its files as it begins.
-use Rattle.std.specs.Prelude.{◌≡◌, ℕ, List, true, IfSome, IsTrue, Err, length}
+use Rattle.std.specs.Prelude.{◌≡◌, ◌⊎◌, ℕ, List, [], true, IfSome, IsTrue, Err, length}
 use Rattle.frag_join.specs.Arrivals.{arrivals_of}
 use Rattle.gate_desk.specs.declared.slot.Slot.{Slot}
 use Rattle.gate_desk.specs.declared.slot.Slot.TheVariants.{Settings, LeftIn, RightIn, LeftGiven, RightGiven, ReportGiven, Report}
@@ -8,8 +8,10 @@ use Rattle.gate_desk.specs.Outside.{Outside, NoneFailed, IsAtEnd, HasFailed, Has
 use Rattle.gate_settings.specs.declared.settings.Settings.{Settings as GateSettings}
 use Rattle.settings_file.specs.Accepting.{settings_of}
 use Rattle.pcap_merge.specs.Events.{Done as BothEnded, Fault as EndsFaulty, have_good_heads}
+use Rattle.pcap_merge.specs.Given.{TakenFor}
 use Rattle.lawful_files.specs.declared.reason.AuditReason.{AuditReason}
-use Rattle.lawful_files.specs.Files.{LawfulFor}
+use Rattle.lawful_files.specs.Files.{LawfulFor, given_of}
+use Rattle.file_audit.specs.Events.{WantsAt}
 use Rattle.lawful_files.specs.Reasons.{FirstReason}
 use Rattle.gate_phases.specs.declared.status.Status.{Status}
 use Rattle.gate_phases.specs.declared.status.Status.TheVariants.{Done, Usage, SettingsRefused, CaptureRefused, ReadFault, WriteFault, OpenFault, OutOfMemory, Unlawful}
@@ -31,6 +33,10 @@ abbrev pub IsVerdict : Verdict → PerSlot (List ℕ) → Type 0
 IsVerdict (verdicts.Lawful events) all = (settings : GateSettings) × IsAccepted settings all × ((events_in all).ending ≡ BothEnded) × AreLawful settings all × (events ≡ length (events_in all).events)
 IsVerdict (verdicts.Unlawful number reason) all = (settings : GateSettings) × IsAccepted settings all × (have_good_heads all.left_in all.right_in ≡ true) × IsFirstReason settings all number reason
 
+-- memory may have been wanting for a line in JSON; or it was for an event, behind others at which the given files are lawful
+abbrev pub MayHaveWanted : GateSettings → PerSlot (List ℕ) → Type 0
+MayHaveWanted settings all = (settings.json ≡ true) ⊎ WantsAt settings (events_in all) (given_of all.left_given all.right_given all.report_given)
+
 -- the slots that an audit reads
 abbrev pub IsRead : Slot → Type 0
 IsRead Settings = Unit {0}
@@ -41,7 +47,7 @@ IsRead RightGiven = Unit {0}
 IsRead ReportGiven = Unit {0}
 IsRead slot = ⊥
 
--- the cause of a status, and of the counts, none of which rose where the files decide it: where a capture is refused, the given files are lawful as far as the events go, if both heads are good
+-- the cause of a status, and of the counts, none of which rose where the files decide it: where a capture is refused, the given files are lawful as far as the events go, if both heads are good; where memory was wanting, none of the events was taken, or it was for one of them
 abbrev pub HasCause : Status → Outside → Outside → Type 0
 HasCause Done old new = IfSome old.left (λ all. IsVerdict (verdicts.Lawful (length (events_in all).events)) all) × IsAtEnd new LeftIn × IsAtEnd new RightIn × NoneFailed old new
 HasCause (Unlawful number reason) old new = IfSome old.left (IsVerdict (verdicts.Unlawful number reason)) × NoneFailed old new
@@ -51,5 +57,5 @@ HasCause (CaptureRefused side fault place) old new =
 HasCause (ReadFault slot) old new = IsRead slot × HasFailed slot old new
 HasCause (WriteFault slot) old new = (slot ≡ Report) × HasFailed slot old new
 HasCause (OpenFault slot) old new = IsTrue (is_started slot) × HasFailedToStart slot old new
-HasCause OutOfMemory old new = Unit {0}
+HasCause OutOfMemory old new = TakenFor [] old new ⊎ IfSome old.left (λ all. (settings : GateSettings) × IsAccepted settings all × MayHaveWanted settings all)
 HasCause Usage old new = ⊥

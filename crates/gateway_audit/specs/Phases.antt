@@ -1,14 +1,15 @@
 -- The parts of an audit, and how each answers.
-use Rattle.std.specs.Prelude.{◌≡◌, ◌⊎◌, ◌^◌, ◌≤◌, ℕ, true, List, ◌++◌, Option, Some, None, Result, Ok, Err, IfSome, IsTrue, option_map}
+use Rattle.std.specs.Prelude.{◌≡◌, ◌⊎◌, ◌^◌, ◌≤◌, ℕ, true, List, [], ◌++◌, Option, Some, None, Result, Ok, Err, IfSome, IsTrue, option_map}
 use Rattle.gate_base.specs.declared.side.Side.{Side}
 use Rattle.gate_desk.specs.declared.slot.Slot.TheVariants.{Settings, LeftIn, RightIn, LeftGiven, RightGiven, ReportGiven, Report}
 use Rattle.gate_desk.specs.declared.slot.PerSlot.{PerSlot}
-use Rattle.gate_desk.specs.Outside.{Outside, Grows, NoneFailed, IsAtEnd, CanRead, HasFailed, HasFailedToStart, Writes, WritesPart, took}
+use Rattle.gate_desk.specs.Outside.{Outside, Grows, NoneFailed, IsAtEnd, CanRead, HasFailed, HasFailedToStart, Writes, WritesPart, took, told_at}
 use Rattle.gate_report.specs.Counts.{nothing_counted}
 use Rattle.gate_settings.specs.declared.settings.Settings.{Settings as GateSettings}
 use Rattle.gate_settings.specs.Sound.{IsSound}
 use Rattle.gate_settings.specs.Forms.{HasForms}
-use Rattle.pcap_merge.specs.Merge.{Merging, HeadsAre, all_events, ahead, work, AtEnds}
+use Rattle.pcap_merge.specs.Merge.{Merging, HasGiven, HeadsAre, all_events, ahead, work, AtEnds}
+use Rattle.pcap_merge.specs.Stops.{slot_of}
 use Rattle.lawful_files.specs.Files.{Given, HasLink, given_of}
 use Rattle.file_audit.specs.declared.given.GivenFiles.{GivenFiles}
 use Rattle.file_audit.specs.declared.stop.AuditStop.TheVariants as stops
@@ -17,7 +18,7 @@ use Rattle.file_audit.specs.Given.{Fits, IsRunning, given_slot, given_told}
 use Rattle.gate_phases.specs.declared.status.Status.{Status}
 use Rattle.gate_phases.specs.declared.status.Status.TheVariants.{Done, CaptureRefused, ReadFault, WriteFault, OpenFault, OutOfMemory, Unlawful}
 use Rattle.gate_phases.specs.Beginning.{IsAccepted}
-use Rattle.gate_phases.specs.Causes.{started_all, StartsSome, StartsBefore, is_started}
+use Rattle.gate_phases.specs.Causes.{started_all, StartsBefore, is_started}
 use Rattle.gateway_audit.specs.declared.verdict.Verdict.{Verdict}
 use Rattle.gateway_audit.specs.declared.verdict.Verdict.TheVariants as verdicts
 use Rattle.gate_phases.specs.AuditNames.{Names, first_starts, given_starts, answer_start, plan}
@@ -35,6 +36,7 @@ pub record Prepared (settings : GateSettings) (m : Merging) (names : Names) (old
   pub stop : m.stop ≡ None
   pub work : work m ≤ 2 ^ 41
   pub ends : AtEnds m new
+  pub given : HasGiven old m new []
   pub heads : HeadsAre true old.left
   pub events : all_events old.left ≡ ahead m new.left
   pub settings_count : ℕ
@@ -80,18 +82,23 @@ pub record Readied (found : Option GivenFiles) (settings : GateSettings) (names 
   pub grows : Grows old new
   pub counts : NoneFailed old new
 
+-- nothing was taken of the incoming captures
+abbrev pub LeavesIncoming : Outside → Outside → Type 0
+LeavesIncoming old new = (side : Side) → told_at new.left (slot_of side) ≡ told_at old.left (slot_of side)
+
 -- why it could not be so
 abbrev pub CausesAtGiven : Status → Outside → Outside → Type 0
 CausesAtGiven (ReadFault slot) old new = ((side : Side) × (slot ≡ given_slot side)) × HasFailed slot old new
 CausesAtGiven (OpenFault slot) old new = IsTrue (is_started slot) × HasFailedToStart slot old new
-CausesAtGiven OutOfMemory old new = Unit {0}
+CausesAtGiven OutOfMemory old new = LeavesIncoming old new
 CausesAtGiven status old new = ⊥
 
 -- what was started then
 abbrev pub StartedAtGiven : Status → Names → Outside → Outside → Type 0
 StartedAtGiven (ReadFault slot) names old new = new.starts ≡ started_all (given_starts names) old.starts
 StartedAtGiven (OpenFault slot) names old new = StartsBefore slot (given_starts names ++ answer_start names) old new
-StartedAtGiven status names old new = StartsSome (given_starts names ++ answer_start names) old new
+StartedAtGiven OutOfMemory names old new = new.starts ≡ started_all (given_starts names) old.starts
+StartedAtGiven status names old new = ⊥
 
 pub record StopsAtGiven (status : Status) (names : Names) (old new : Outside) : Type 0 where
   pub cause : CausesAtGiven status old new
@@ -127,7 +134,7 @@ Walks (Ok (verdicts.Lawful events)) settings m r old new = Finds (Ok events) set
 Walks (Ok (verdicts.Unlawful number reason)) settings m r old new = Finds (Err (stops.Unlawful number reason)) settings m r old new × NoneFailed old new
 Walks (Err (CaptureRefused side fault place)) settings m r old new = Finds (Err (stops.Capture side fault place)) settings m r old new × NoneFailed old new
 Walks (Err (ReadFault slot)) settings m r old new = Finds (Err (stops.Desk slot)) settings m r old new
-Walks (Err OutOfMemory) settings m r old new = Unit {0}
+Walks (Err OutOfMemory) settings m r old new = (new.left ≡ old.left) ⊎ Finds (Err stops.OutOfMemory) settings m r old new
 Walks (Err status) settings m r old new = ⊥
 
 -- ## The verdict

@@ -3,8 +3,8 @@ ghost use Rattle.std.specs.Prelude.{◌≡◌, ℕ, List, true, Err};
 ghost use Rattle.gate_base.specs.declared.side.Side.{Side};
 ghost use Rattle.gate_desk.specs.Outside.{Outside};
 ghost use Rattle.gate_desk.specs.declared.slot.PerSlot.{PerSlot};
-ghost use Rattle.gate_settings.specs.Cross.{settings_of};
-ghost use Rattle.gate_settings.specs.declared.fault.SettingsFault.{SettingsFault};
+ghost use Rattle.settings_file.specs.Accepting.{settings_of};
+ghost use Rattle.settings_file.specs.declared.fault.SettingsFault.{SettingsFault};
 ghost use Rattle.gate_settings.specs.declared.settings.Settings.{Settings};
 ghost use Rattle.pcap_files.specs.declared.fault.CaptureFault.{CaptureFault};
 ghost use Rattle.pcap_merge.specs.Events.{Done as BothEnded, Fault as EndsFaulty, have_good_heads};
@@ -17,9 +17,9 @@ ghost use Rattle.gateway_audit.specs.Causes.{AreLawful, IsFirstReason};
 ghost use Rattle.gate_phases.specs.Decided.{IsUnlessMemory};
 ghost use Rattle.gateway_audit.specs.Decided.{IsAuditOf};
 
-/// Where no count rose, the files decide the status of an audit, but for want of memory: it is done exactly where both incoming
-/// captures end and the given files are lawful, unlawful exactly with the first reason, and it refuses exactly the first fault of the
-/// settings, and that of a capture behind lawful events.
+/// Where no count rose, the files decide the status of an audit, but for want of memory. It is done exactly where both incoming
+/// captures end and the given files are lawful, and unlawful exactly with the first reason. It refuses exactly the first fault of
+/// the settings, and that of a capture behind lawful events.
 pub fn files_decide()
     ensures settings { (all : PerSlot (List ℕ)) (status : Status) (names : Names) (old new : Outside) (fault : SettingsFault) → IsAuditOf all status names old new → settings_of all.settings ≡ Err fault → IsUnlessMemory (SettingsRefused fault) status }
     ensures lawful { (all : PerSlot (List ℕ)) (status : Status) (names : Names) (old new : Outside) (settings : Settings) → IsAuditOf all status names old new → IsAccepted settings all → (events_in all).ending ≡ BothEnded → AreLawful settings all → IsUnlessMemory Done status }

@@ -3,7 +3,7 @@ ghost use Rattle.gate_desk.specs.Outside.{CanRead};
 ghost use Rattle.gate_desk.specs.declared.slot.Slot.TheVariants.{LeftGiven, RightGiven};
 ghost use Rattle.file_audit.specs.Given.{ReadsGiven};
 ghost use Rattle.gate_phases.specs.AuditNames.{names_of};
-ghost use Rattle.gateway_audit.specs.Phases.{Begins, Readies};
+ghost use Rattle.gateway_audit.specs.Phases.{Begins, LeavesIncoming, Readies};
 
 use crate::open::open_given;
 use crate::stops::status_of;
@@ -38,7 +38,8 @@ pub fn ready<D: Desk>(
     names: AuditNames<'_>,
     settings: &Settings,
 ) -> Result<Option<GivenFiles>, Status>
-    ensures { Readies result settings.now (names_of names.entry) (D.outside desk.old) (D.outside desk.new) }
+    ensures answer { Readies result settings.now (names_of names.entry) (D.outside desk.old) (D.outside desk.new) }
+    ensures incoming { LeavesIncoming (D.outside desk.old) (D.outside desk.new) }
 {
     open_given(desk, names)?;
     let given = begin_given(alloc, desk, settings)?;

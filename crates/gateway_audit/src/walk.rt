@@ -1,6 +1,7 @@
 // The events, beside the given files.
 ghost use Rattle.std.specs.Prelude.{◌≡◌};
 ghost use Rattle.gate_desk.specs.Outside.{Grows};
+ghost use Rattle.file_audit.specs.Events.{TookFew};
 ghost use Rattle.gateway_audit.specs.Phases.{AreToWalk, Walks};
 
 use crate::stops::verdict_of;
@@ -24,12 +25,13 @@ pub fn walk<D: Desk>(
 ) -> Result<Verdict, Status>
     requires { AreToWalk settings merge.old given.old (D.outside desk.old) }
     ensures answer { Walks result settings merge.old given.old (D.outside desk.old) (D.outside desk.new) }
+    ensures taken { TookFew merge.old (D.outside desk.old) (D.outside desk.new) }
     ensures starts { (D.outside desk.new).starts ≡ (D.outside desk.old).starts }
     ensures written { (D.outside desk.new).written ≡ (D.outside desk.old).written }
     ensures counts { Grows (D.outside desk.old) (D.outside desk.new) }
 {
     let mut joiner = open_joiner(alloc, settings.join)?;
-    let mut auditor = Auditor::make(alloc, settings)?;
+    let mut auditor = Auditor::make(alloc, settings, desk.seed())?;
     let found = audit_events(alloc, desk, merge, &mut joiner, &mut auditor, given);
     verdict_of(found)
 }

@@ -17,7 +17,7 @@ use Rattle.stream_model.proofs.PassLemmas.{Passes, IsData, nothing_past, passes}
 use Rattle.audit_streams.specs.Hosts.{Heard, sender_by, held_in}
 use Rattle.gate_world.specs.Sessions.{completed}
 use Rattle.unit_plans.specs.Plans.{whole_units}
-use Rattle.unit_plans.proofs.FirstUnit.{cut-on, cut-rest}
+use Rattle.dialogue.proofs.FirstUnit.{cut-on, cut-rest}
 use Rattle.heard_sessions.specs.Sessions.{DnsHeard, streams_of}
 
 -- a SYN or RST brings no octets

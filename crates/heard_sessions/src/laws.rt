@@ -10,7 +10,7 @@ ghost use Rattle.gate_world.specs.Rules.{whole_rules};
 ghost use Rattle.lawful_files.specs.Wanted.{SendAlike};
 ghost use Rattle.heard_sessions.specs.Heard.{HeardSession, session_in, heard_rules, heard_sent, IsSession};
 
-/// What was heard of both hosts answers, sends and goes on as the session over whole lists does; and all addresses that were heard of
+/// What was heard of both hosts answers, sends and goes on as the session over whole lists does. All addresses that were heard of
 /// are listed in each session that is made, and stay so while segments pass.
 pub fn heard_sessions_are_whole()
     ensures reads { Reads session_in heard_rules whole_rules }

@@ -115,8 +115,8 @@ impl Session for AuditedSession {
 }
 
 impl AuditedSession {
-    /// The session that a client's first SYN to a port of the server makes, by the SYN's number and maximum segment size: one of DNS on
-    /// the port of DNS, and else one of FTP.
+    /// The session that a client's first SYN to a port of the server makes, by the SYN's number and maximum segment size. On the
+    /// port of DNS it is one of DNS, and else one of FTP.
     pub fn opened(
         alloc: Global,
         port: u16,

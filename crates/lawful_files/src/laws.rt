@@ -20,8 +20,8 @@ ghost use Rattle.lawful_files.specs.Progress.{IsSound, AreFront, AreLawful, behi
 ghost use Rattle.lawful_files.specs.Reasons.{IsFirst, FirstReason};
 ghost use Rattle.lawful_files.specs.Walks.{CameTo};
 
-/// Records that are taken one by one are right exactly as long as they are the front of a lawful list's, and all that is wanted
-/// came exactly where they are a whole one.
+/// Records that are taken one by one are right exactly as long as they are the front of a lawful list's. All that is wanted came
+/// exactly where they are a whole one.
 pub fn records_are_judged()
     ensures front { (settings : Settings) (side : Side) (moment : ℕ) (wanted : Wanted) (packets : List Packet) → HasMacAddresses (side_settings settings side) → IsSound wanted → (behind_all settings side moment wanted packets).right ≡ true → AreFront settings side moment wanted packets }
     ensures right { (settings : Settings) (side : Side) (moment : ℕ) (wanted : Wanted) (packets : List Packet) → HasMacAddresses (side_settings settings side) → IsSound wanted → AreFront settings side moment wanted packets → (behind_all settings side moment wanted packets).right ≡ true }

@@ -1,5 +1,5 @@
 -- What reading leaves of the counts.
-use Rattle.std.proofs.Common.{◌≡◌, Result, Ok, Err, ap, ◌∙◌}
+use Rattle.std.proofs.Common.{◌≡◌, Result, Ok, Err, ◌∙◌}
 use Rattle.gate_base.specs.declared.side.Side.{Side}
 use Rattle.gate_desk.specs.Outside.{Outside}
 use Rattle.pcap_files.specs.declared.fault.ReadStop.{ReadStop}
@@ -20,12 +20,6 @@ pub stop_leaves_on : (stop : MergeStop) (a b c : Outside) → b.faults ≡ a.fau
 stop_leaves_on (Fault side f place) a b c h k = k ∙ h
 stop_leaves_on (Desk slot) a b c h k = tt
 stop_leaves_on OutOfMemory a b c h k = k ∙ h
-
--- nothing was read
-pub leaves_same : (stop : MergeStop) (a b : Outside) → b ≡ a → StopLeavesCounts stop a b
-leaves_same (Fault side f place) a b e = ap (λ (o : Outside). o.faults) e
-leaves_same (Desk slot) a b e = tt
-leaves_same OutOfMemory a b e = ap (λ (o : Outside). o.faults) e
 
 -- a call behind one that succeeded
 pub leaves_on : {A : Type 0} (r : Result A MergeStop) (a b c : Outside) → b.faults ≡ a.faults → LeavesCounts r b c → LeavesCounts r a c

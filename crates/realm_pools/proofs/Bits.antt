@@ -69,9 +69,6 @@ none_behind words from place own after none = elim (cases_lt place (64 * (from /
   | inr h ↦ bit_of_none words place (zero_any (slice_index words (place / 64)) (none (omega arith)))
 ]
 
-pub no_word : (words : List ℕ) (from : ℕ) → IsFirstBefore (bit_of words) from (64 * (from / 64 + 1)) None → IsFirst (any_in words) (from / 64 + 1) None → IsFirst (bit_of words) from None
-no_word words from own none = λ place after. none_behind words from place own after (λ behind. none (place / 64) behind)
-
 -- the word that isn't 0 stands among the words
 pub word_within : (words : List ℕ) (word : ℕ) → any_in words word ≡ 1 → word < length words
 word_within words word some = elim (cases_lt word (length words)) [

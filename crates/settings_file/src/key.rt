@@ -42,28 +42,30 @@ pub enum Key {
     OidSkip(u32),
 }
 
-/// The key as it stands in its own table.
-#[tactic(auto, unfolding(crate::specs::Keys::name_of))]
-pub fn name(key: Key) -> &'static str
-    ensures { result.now ≡ name_of key }
-{
-    match key {
-        Key::Report => "report",
-        Key::Fragments => "fragments",
-        Key::Same => "same",
-        Key::Table(side) => side.name(),
-        Key::PoolFirst(_) => "pool_first",
-        Key::PoolLast(_) => "pool_last",
-        Key::Link(_) => "link",
-        Key::GatewayMac(_) => "gateway_mac",
-        Key::NextMac(_) => "next_mac",
-        Key::Statics => "static",
-        Key::StaticSide(_) => "side",
-        Key::StaticHost(_) => "host",
-        Key::StaticAlias(_) => "alias",
-        Key::Oids => "oid",
-        Key::OidPrefix(_) => "prefix",
-        Key::OidSkip(_) => "skip",
+impl Key {
+    /// The key as it stands in its own table.
+    #[tactic(auto, unfolding(crate::specs::Keys::name_of))]
+    pub fn name(self) -> &'static str
+        ensures { result.now ≡ name_of self }
+    {
+        match self {
+            Key::Report => "report",
+            Key::Fragments => "fragments",
+            Key::Same => "same",
+            Key::Table(side) => side.name(),
+            Key::PoolFirst(_) => "pool_first",
+            Key::PoolLast(_) => "pool_last",
+            Key::Link(_) => "link",
+            Key::GatewayMac(_) => "gateway_mac",
+            Key::NextMac(_) => "next_mac",
+            Key::Statics => "static",
+            Key::StaticSide(_) => "side",
+            Key::StaticHost(_) => "host",
+            Key::StaticAlias(_) => "alias",
+            Key::Oids => "oid",
+            Key::OidPrefix(_) => "prefix",
+            Key::OidSkip(_) => "skip",
+        }
     }
 }
 
@@ -75,7 +77,7 @@ impl fmt::Display for Key {
 
     #[tactic(auto, unfolding(crate::specs::Keys::key_text, crate::specs::Keys::name_of))]
     fn fmt<W: fmt::Write>(&self, f: &mut fmt::Formatter<W>) -> fmt::Result {
-        let name = name(*self);
+        let name = self.name();
         match self {
             Key::Report | Key::Fragments | Key::Same | Key::Table(_) | Key::Statics | Key::Oids => {
                 write!(f, "{name}")

@@ -8,7 +8,7 @@ ghost use Rattle.settings_file.specs.Document as document;
 ghost use Rattle.settings_file.specs.declared.fault.SettingsFault.TheVariants.{Missing};
 
 use crate::fault::{ReadSettings, SettingsFault};
-use crate::key::{Key, name};
+use crate::key::Key;
 use crate::prefixes::read_prefix;
 use crate::texts;
 use gate_base::{Addr, Arcs, Link, Side};
@@ -27,7 +27,7 @@ fn at<'a>(table: &'a Table, name: &str) -> Option<&'a Value>
 pub fn find(table: &Table, key: Key) -> Option<&Value>
     ensures { option_map (λ v. view v.now) result ≡ get_member (name_of key) (table_view table.now) }
 {
-    at(table, name(key))
+    at(table, key.name())
 }
 
 /// The value at a key that has to be there.

@@ -142,8 +142,8 @@ impl Ledger {
         }
     }
 
-    /// One more than the greatest image place of the octet before `e`: 0 for `e` 0, and the image's end past the last octet;
-    /// from the first octet on of which not the whole image is acknowledged.
+    /// One more than the greatest image place of the octet before `e`. It is 0 for `e` 0, and the image's end past the last
+    /// octet. `e` is at or behind the first octet of which not the whole image is acknowledged.
     pub fn rear(&self, e: u64) -> u64
         ensures exact { result ≡ rear_by self.now e }
         ensures stands { (pushes : List Push) (acknowledged : ℕ) → StandsFor self.now pushes acknowledged → back_of pushes acknowledged ≤ e → result ≡ rear_of pushes e }

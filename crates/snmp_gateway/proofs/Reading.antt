@@ -114,12 +114,6 @@ pub skip_ends : (octets tags : List ℕ) (part : Part) (i : ℕ) → length tags
 unfolding skip
 skip_ends octets tags part i past = rw drop_all
 
-pub only_cut : (octets : List ℕ) (part : Part) (piece : Piece) → only octets part ≡ Some piece → IsCut octets part piece
-only_cut octets part piece e =
-    let first = bound (first_of octets part) _ piece e in
-    let alone = tested _ _ _ first.then_is in
-    first_cut octets part piece (first.is ∙ ap Some alone.same)
-
 pub field_cut : (octets : List ℕ) (tag : ℕ) (part : Part) (piece : Piece) → field octets tag part ≡ Some piece → IsCut octets part piece
 field_cut octets tag part piece e =
     let first = bound (first_of octets part) _ piece e in

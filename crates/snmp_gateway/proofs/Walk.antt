@@ -1,5 +1,5 @@
 -- The walk over the addresses of a message.
-use Rattle.std.proofs.Common.{◌≡◌, ℕ, ◌-◌, ◌≤◌, Bool, true, false, List, [], ◌∷◌, ◌++◌, length, Option, Some, None, option_map, option_to_list, unwrap_or, is_some, IsSome, inr, refl, ap, subst, ◌∙◌, sym, arith, append_assoc, append-nil, if◌then◌else◌}
+use Rattle.std.proofs.Common.{◌≡◌, ℕ, ◌-◌, ◌≤◌, Bool, true, false, List, [], ◌∷◌, ◌++◌, length, Option, Some, None, option_map, option_to_list, unwrap_or, is_some, IsSome, inr, refl, ap, subst, ◌∙◌, sym, arith, append-nil, if◌then◌else◌}
 use Rattle.gate_base.specs.Address.{◌>>=◌}
 use Rattle.snmp_ber.proofs.Elements.{some_same}
 use Rattle.snmp_gateway.specs.declared.message.SnmpKind.{SnmpKind}
@@ -21,23 +21,9 @@ pub record Walks (octets : List ℕ) (old now : Outline) : Type 0 where
   pub end : now.bindings.end ≡ old.bindings.end
   pub ordered : now.bindings.start ≤ now.bindings.end
 
--- what is ahead, by its parts
-abbrev ahead_by : List ℕ → SnmpKind → Option ℕ → Part → Option (List ℕ)
-ahead_by octets kind agent part = bindings octets kind part >>= λ places. Some (option_to_list agent ++ places)
-
 -- the walk with no address before the bindings
 abbrev pub in_bindings : SnmpKind → Part → Outline
 in_bindings kind part = record { kind = kind; agent = None; bindings = part }
-
-pub walks_first : (octets : List ℕ) (old : Outline) → StandsIn (length octets) old → old.agent ≡ None → Walks octets old (in_bindings old.kind old.bindings)
-walks_first octets old stands none = record {
-  agent = refl;
-  same = ap (λ a. ahead_by octets old.kind a old.bindings) none;
-  kind = refl;
-  start = omega arith;
-  end = refl;
-  ordered = stands.ordered;
-}
 
 none_first : (first : Option ℕ) (o : Option (List ℕ)) → first ≡ None → (o >>= λ places. Some (option_to_list first ++ places)) ≡ o
 none_first None None e = refl
@@ -81,13 +67,6 @@ walks_passes octets old now found place walks e is =
       less = omega (arith, leaves.some, leaves.end, leaves.ordered, walks.start, walks.end, none);
     }
 
-pub walks_stands : (octets : List ℕ) (old now : Outline) → Walks octets old now → StandsIn (length octets) old → StandsIn (length octets) now
-walks_stands octets old now walks stands = record {
-  agent = λ place is. (let wrong = sym walks.agent ∙ is in absurd cc);
-  ordered = walks.ordered;
-  end = omega (arith, walks.end, stands.end);
-}
-
 pub stands_next : (octets : List ℕ) (old now : Outline) (found : Option ℕ × Part) → Walks octets old now → StandsIn (length octets) old → binding octets now.kind now.bindings ≡ Some found → StandsIn (length octets) (record { kind = now.kind; agent = now.agent; bindings = found.1 })
 stands_next octets old now found walks stands e =
     let leaves = binding_leaves octets now.kind now.bindings found e in
@@ -101,28 +80,9 @@ none_mapped : (o : Option (List ℕ)) → o ≡ option_map (λ more. [] ++ more)
 none_mapped None = refl
 none_mapped (Some places) = refl
 
-pub walks_none : (octets : List ℕ) (old now : Outline) → Walks octets old now → places_ahead octets old ≡ option_map (λ more. [] ++ more) (places_ahead octets now)
-walks_none octets old now walks = walks.same ∙ none_mapped (places_ahead octets now)
-
 pub walks_stop : (octets : List ℕ) (old now : Outline) → Walks octets old now → binding octets now.kind now.bindings ≡ None → places_ahead octets now ≡ (if is_at_end now then Some [] else None)
 walks_stop octets old now walks e =
     none_first now.agent (bindings octets now.kind now.bindings) walks.agent ∙ bindings_stop octets now.kind now.bindings e
-
--- an agent address is the first
-pub agent_ahead : (octets : List ℕ) (old : Outline) (place : ℕ) → old.agent ≡ Some place → places_ahead octets old ≡ option_map (λ more. option_to_list (Some place) ++ more) (places_ahead octets (in_bindings old.kind old.bindings))
-agent_ahead octets old place is = ap (λ a. ahead_by octets old.kind a old.bindings) is ∙ by_places (bindings octets old.kind old.bindings)
-  where
-    by_places : (o : Option (List ℕ)) → (o >>= λ places. Some (option_to_list (Some place) ++ places)) ≡ option_map (λ more. option_to_list (Some place) ++ more) (o >>= λ places. Some (option_to_list None ++ places))
-    by_places None = refl
-    by_places (Some places) = refl
-
-pub agent_passes : (octets : List ℕ) (old : Outline) (place : ℕ) → StandsIn (length octets) old → old.agent ≡ Some place → Passes old place (in_bindings old.kind old.bindings)
-agent_passes octets old place stands is =
-    let one : length (option_to_list old.agent) ≡ 1 = ap (λ (a : Option ℕ). length (option_to_list a)) is in
-    record { agent = refl; before = stands.agent place is; less = omega (arith, one) }
-
-pub stands_on : (size : ℕ) (old : Outline) → StandsIn size old → StandsIn size (in_bindings old.kind old.bindings)
-stands_on size old stands = record { agent = λ place is. absurd cc; ordered = stands.ordered; end = stands.end }
 
 -- at the start the outline of a message is ahead
 pub outline_ahead : (octets : List ℕ) (outline : Outline) → outline_of octets ≡ Some outline → StandsIn (length octets) outline
@@ -145,23 +105,6 @@ checks_first octets outline e = record {
     by_places None = refl
     by_places (Some places) = refl
 
-kind_mapped : (first : List ℕ) (kind : SnmpKind) (o : Option (List ℕ)) → option_map (λ places. kind) (option_map (λ more. first ++ more) o) ≡ option_map (λ places. kind) o
-kind_mapped first kind None = refl
-kind_mapped first kind (Some places) = refl
-
-pub checks_next : (octets : List ℕ) (old new : Outline) (first : List ℕ) → Checks octets old → places_ahead octets old ≡ option_map (λ more. first ++ more) (places_ahead octets new) → new.kind ≡ old.kind → StandsIn (length octets) new → Checks octets new
-checks_next octets old new first checks ahead kind stands = record {
-  stands = stands;
-  kind = checks.kind ∙ ap (option_map (λ places. old.kind)) ahead ∙ kind_mapped first old.kind (places_ahead octets new) ∙ ap (λ k. option_map (λ places. k) (places_ahead octets new)) (sym kind);
-}
-
-pub checks_last : (octets : List ℕ) (ahead : Outline) (test : Bool) → Checks octets ahead → places_ahead octets ahead ≡ (if test then Some [] else None) → kind_of octets ≡ (if test then Some ahead.kind else None)
-checks_last octets ahead test checks stops = checks.kind ∙ ap (option_map (λ places. ahead.kind)) stops ∙ by_test test
-  where
-    by_test : (test : Bool) → option_map (λ (places : List ℕ). ahead.kind) (if test then Some [] else None) ≡ (if test then Some ahead.kind else None)
-    by_test true = refl
-    by_test false = refl
-
 -- the places of a message, of which its outline is ahead
 places_first : (octets : List ℕ) (outline : Outline) → outline_of octets ≡ Some outline → IsSome (message octets) → places_ahead octets outline ≡ Some (places_of octets)
 places_first octets outline e some = by_places (places_ahead octets outline) refl
@@ -177,24 +120,12 @@ pub record Lists (octets before items : List ℕ) (ahead : Outline) : Type 0 whe
   pub items_are : items ≡ before ++ more
   pub all : option_map (λ places. more ++ places) (places_ahead octets ahead) ≡ Some (places_of octets)
 
-mapped_twice : (more first : List ℕ) (o : Option (List ℕ)) → option_map (λ places. more ++ places) (option_map (λ places. first ++ places) o) ≡ option_map (λ places. (more ++ first) ++ places) o
-mapped_twice more first None = refl
-mapped_twice more first (Some places) = ap Some (sym (append_assoc more first places))
-
 pub lists_first : (octets before : List ℕ) (outline : Outline) → outline_of octets ≡ Some outline → IsSome (message octets) → Lists octets before before outline
 lists_first octets before outline e some = record {
   stands = outline_ahead octets outline e;
   more = [];
   items_are = sym (append-nil before);
   all = sym (none_mapped (places_ahead octets outline)) ∙ places_first octets outline e some;
-}
-
-pub lists_next : (octets before items : List ℕ) (old new : Outline) (place : ℕ) → Lists octets before items old → places_ahead octets old ≡ option_map (λ more. (place ∷ []) ++ more) (places_ahead octets new) → StandsIn (length octets) new → Lists octets before (items ++ place ∷ []) new
-lists_next octets before items old new place lists ahead stands = record {
-  stands = stands;
-  more = lists.more ++ place ∷ [];
-  items_are = ap (λ xs. xs ++ place ∷ []) lists.items_are ∙ append_assoc before lists.more (place ∷ []);
-  all = sym (mapped_twice lists.more (place ∷ []) (places_ahead octets new)) ∙ ap (option_map (λ places. lists.more ++ places)) (sym ahead) ∙ lists.all;
 }
 
 -- what is ahead where all is read: nothing

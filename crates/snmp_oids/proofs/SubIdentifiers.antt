@@ -1,8 +1,7 @@
 -- Sub-identifiers one after another.
-use Rattle.std.proofs.Common.{◌≡◌, ℕ, ◌+◌, ◌-◌, ◌*◌, ◌%◌, ◌<◌, ◌≤◌, ◌==◌, nat_eq, Bool, true, false, nat_lt, if◌then◌else◌, List, [], ◌∷◌, get_or, take, drop, length, ◌&&◌, ◌||◌, Option, Some, None, option_map, unwrap_or, is_some, IsSome, IfNone, refl, ap, sym, ◌∙◌, arith, length-drop, drop-cons, add-one}
+use Rattle.std.proofs.Common.{◌≡◌, ℕ, ◌+◌, ◌-◌, ◌*◌, ◌%◌, ◌<◌, ◌≤◌, ◌==◌, Bool, true, false, nat_lt, if◌then◌else◌, List, [], ◌∷◌, get_or, take, drop, length, ◌&&◌, ◌||◌, Option, Some, None, option_map, unwrap_or, is_some, IsSome, IfNone, refl, ap, sym, ◌∙◌, arith, length-drop, drop-cons, add-one}
 use Rattle.std.proofs.lemmas.Bool.Decides.{nat_tests}
 use Rattle.std.proofs.lemmas.List.{drop_all, take_all}
-use Rattle.std.specs.List.{starts_with}
 use Rattle.gate_base.specs.Address.{◌>>=◌}
 use Rattle.gate_base.specs.Rules.{greatest}
 use Rattle.snmp_oids.specs.Arcs.{joined, numbers_from, numbers_of}
@@ -65,10 +64,6 @@ pub some_test : {A : Type 0} (b : Bool) (x : A) → is_some (if b then Some x el
 some_test true x = refl
 some_test false x = refl
 
-pub test_some : {A : Type 0} (b : Bool) (x : A) → IsSome (if b then Some x else None) → (if b then Some x else None) ≡ Some x
-test_some true x some = refl
-test_some false x some = cc
-
 -- what `&xs[i..]` is
 pub tail_is : (i : ℕ) (xs : List ℕ) → take (length xs - i) (drop i xs) ≡ drop i xs
 tail_is i xs = take_all (length xs - i) (drop i xs) (omega (arith, length-drop i xs))
@@ -105,22 +100,3 @@ none_left o e = ap (λ o. unwrap_or o []) e
 pub all_of : {A : Type 0} (o : Option (List A)) → IsSome o → o ≡ Some (unwrap_or o [])
 all_of None some = cc
 all_of (Some x) some = refl
-
--- prefixes
-pub begins_more : (ns : List ℕ) (n : ℕ) (numbers : List ℕ) (i : ℕ) → i < length numbers → starts_with nat_eq (n ∷ ns) (drop i numbers) ≡ (nat_eq (get_or numbers i 0) n && starts_with nat_eq ns (drop (i + 1) numbers))
-begins_more ns n numbers i below = rw (add-one, drop-cons numbers i 0)
-
-pub begins_none : (numbers : List ℕ) (i : ℕ) → i < length numbers → starts_with nat_eq [] (drop i numbers) ≡ false
-begins_none numbers i below = rw (drop-cons numbers i 0)
-
-pub begins_all : (ns numbers : List ℕ) (i : ℕ) → length numbers ≤ i → starts_with nat_eq ns (drop i numbers) ≡ true
-begins_all ns numbers i past = rw drop_all
-
-pub begins_two : (a b : ℕ) (ns prefix : List ℕ) → 2 ≤ length prefix → starts_with nat_eq (a ∷ b ∷ ns) prefix ≡ (nat_eq (get_or prefix 0 0) a && (nat_eq (get_or prefix 1 0) b && starts_with nat_eq ns (drop 2 prefix)))
-begins_two a b ns [] two = absurd (omega arith)
-begins_two a b ns (x ∷ []) two = absurd (omega arith)
-begins_two a b ns (x ∷ y ∷ more) two = refl
-
-pub begins_no : (prefix : List ℕ) → 2 ≤ length prefix → starts_with nat_eq [] prefix ≡ false
-begins_no [] two = absurd (omega arith)
-begins_no (x ∷ more) two = refl

@@ -79,10 +79,6 @@ swaps_address image start content four = record {
       ∙ by_image (image (u32_at 0 content)) start before content after at four;
 }
 
--- what an element is made of
-suffix : (n : ℕ) (xs : List ℕ) → n ≤ length xs → drop (length xs - length (drop n xs)) xs ≡ drop n xs
-suffix n xs within = ap (λ m. drop m xs) (omega (arith, length-drop n xs))
-
 record Ends (xs ys : List ℕ) : Type 0 where
   past : ℕ
   within : past ≤ length xs

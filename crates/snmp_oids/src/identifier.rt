@@ -20,11 +20,12 @@ pub(crate) struct Change {
 
 /// The address in the content of an OBJECT IDENTIFIER (X.690, 8.19), by rules.
 ///
-/// Each rule has 2 to 64 arcs, the first at most 2, the second at most 39 after 0 or 1 and at most 4,294,967,215 after 2, and
-/// skips at most 127. The first rule in order whose arcs begin those of the content, and behind whose arcs and as many as it
-/// skips at least four follow, the first four of them at most 255, names the address of these four. None exactly where no
-/// rule does, as where the content has no arcs: its last octet has the high bit, a sub-identifier begins with 0x80, or one is
-/// above 4,294,967,295.
+/// Each rule has 2 to 64 arcs, the first at most 2, the second at most 39 after 0 or 1 and at most 4,294,967,215 after 2. It
+/// skips at most 127. A rule fits if its arcs begin those of the content, and at least four follow behind them and as many as it
+/// skips, the first four of these at most 255. The first rule in order that fits names the address of these four.
+///
+/// None exactly where no rule fits. So it is where the content has no arcs: its last octet has the high bit, a sub-identifier
+/// begins with 0x80, or one is above 4,294,967,295.
 pub fn address_in(content: &[u8], rules: &[OidRule]) -> Option<Addr>
     requires { AreRules rules.now }
     ensures { option_map (λ a. a.0) result ≡ option_map (λ found. found.1) (named_in rules.now content.now) }

@@ -13,10 +13,10 @@ use snmp_gateway::{Lookup, SnmpKind, check};
 /// target stays as it was, and no memory is taken.
 ///
 /// `check` accepts the octets, and the target has at least four times as many. Each rule is as `address_in` wants it. The
-/// addresses are the values of IpAddress, the agent address of a trap, and what the rules name in an OBJECT IDENTIFIER: the
-/// enterprise field, a binding's name or its value (RFC 2962, 4.2). The four arcs of such an address become those of its
-/// image, in the fewest octets. An element whose content changes its length has the shortest form of it, and so on outward;
-/// each other keeps its octets of length. A message of version 3 is kept.
+/// addresses are the values of IpAddress, the agent address of a trap, and what the rules name in an OBJECT IDENTIFIER. That is
+/// the enterprise field, a binding's name or its value (RFC 2962, 4.2). The four arcs of such an address become those of its
+/// image, in the fewest octets. An element whose content changes its length has the shortest form of it, and so on outward. Each
+/// other keeps its octets of length. A message of version 3 is kept.
 pub fn rename_into<L: Lookup>(
     octets: &[u8],
     rules: &[OidRule],

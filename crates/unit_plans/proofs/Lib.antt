@@ -1,4 +1,3 @@
-pub mod FirstUnit
 pub mod NamedLemmas
 pub mod EnteredLemmas
 pub mod PlannedLemmas

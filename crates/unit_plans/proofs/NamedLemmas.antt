@@ -8,7 +8,7 @@ use Rattle.dialogue.specs.Stream.{Cut}
 use Rattle.dns_stream.specs.Images.{dns_units}
 use Rattle.dns_stream.specs.Lawful.{dns_units-lawful}
 use Rattle.dns_stream.specs.Units.{unit_end, unit_addresses}
-use Rattle.unit_plans.proofs.FirstUnit.{cut-first, cut-rest}
+use Rattle.dialogue.proofs.FirstUnit.{cut-first, cut-rest}
 use Rattle.dialogue.specs.Learning.{Entry}
 use Rattle.gate_world.specs.Lists.{addresses_in, is_bad, grows_too_much}
 use Rattle.unit_plans.specs.Plans.{whole_units}
@@ -98,9 +98,6 @@ grows_on entries octets at n grows more g e within is =
     or_or : (a b c : Bool) → (a || (b || c)) ≡ ((a || b) || c)
     or_or true b c = refl
     or_or false b c = refl
-
-pub grows_begins : (entries : List Entry) (octets : List ℕ) → Grows entries octets 0 false
-grows_begins entries octets = record { within = omega arith; so_far = refl }
 
 pub grows_all : (entries : List Entry) (octets : List ℕ) (at : ℕ) (grows : Bool) → Grows entries octets at grows → unit_end (drop at octets) ≡ None → grows ≡ list_any (grows_too_much entries) (whole_units octets)
 grows_all entries octets at grows g e = sym (g.so_far ∙ ap (λ us. grows || list_any (grows_too_much entries) us) (units-none (drop at octets) e) ∙ or_false grows)

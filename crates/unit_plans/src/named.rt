@@ -27,8 +27,8 @@ fn add_unit(alloc: Global, named: &mut Vec<Addr>, unit: &[u8]) -> Result<(), Uni
     Ok(())
 }
 
-/// The addresses to rename in the whole units of octets, in their order and as often as they stand there; `BadUnit` exactly where one
-/// of the units names too much or holds no message.
+/// The addresses to rename in the whole units of octets, in their order and as often as they stand there. `BadUnit` exactly where
+/// one of the units names too much or holds no message.
 pub fn named_in_units(alloc: Global, octets: &[u8]) -> Result<Vec<Addr>, UnitStop>
     ensures named { IfOk result (λ named. named.items ≡ names_in octets.now) }
     ensures good { IfOk result (λ _. list_any is_bad (whole_units octets.now) ≡ false) }

@@ -26,8 +26,8 @@ pub struct Endpoints {
     pub destination: Addr,
 }
 
-/// What units do: the addresses to rename in them, in their order and as often as they stand there, and each beside what it is called once
-/// all of them are used, None where it is kept.
+/// What units do: the addresses to rename in them, in their order and as often as they stand there. Beside each is what it is
+/// called once all of them are used, and None where it is kept.
 #[derive(Drop)]
 pub struct UnitPlan {
     pub named: Vec<Addr>,

@@ -6,6 +6,7 @@ use Rattle.file_audit.specs.Frames.{TakesNext}
 use Rattle.file_audit.specs.Lines.{TakesLine}
 use Rattle.file_audit.proofs.FoundEvents.{found_line, found_missing, found_frame, found_lawful}
 use Rattle.file_audit.proofs.TakenFiles.{line_some, reads_on}
+use Rattle.file_audit.proofs.Wanting.{line_stops}
 use Rattle.file_audit.proofs.event.take_event.Goals as goal
 
 pub returns-in-Ok-None-clause-answer : goal.returns-in-Ok-None-clause-answer
@@ -81,3 +82,7 @@ returns-clause-answer g c = λ s x e.
     let took = subst (λ (b : Bool). TakesNext (Ok b) frames c.args.head.side middle c.take_next.new.given c.args.auditor.now c.take_next.new.auditor mid new) c.if-not-there.false c.in-Ok.ensures.answer in
     let addresses = subst HaveMacAddresses c.settings.ensures c.have_addresses.ensures in
     (frames, found_lawful frames json c.args.head c.args.totals c.count.result c.args.auditor.now c.take_next.new.auditor s x c.args.given.now c.take_next.new.given c.take_line.new.report old mid new addresses is e c.requires.kept c.requires.fits line took (sym c.closed.ensures ∙ c.if-not-closed.false) c.count.ensures)
+
+pub returns-in-Err-clause-answer : goal.returns-in-Err-clause-answer
+returns-in-Err-clause-answer g c = λ s x e.
+    line_stops c.in-Err.stop c.settings-2.result.now.json c.args.head c.args.given.now.report c.take_line.new.report s x _ _ _ _ (g.D.Desk.outside c.args.desk.now) (g.D.Desk.outside c.take_line.new.desk) (ap (λ (t : Settings). t.json) c.settings-2.ensures) c.in-Err.ensures.takes

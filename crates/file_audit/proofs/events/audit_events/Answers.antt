@@ -1,4 +1,4 @@
-use Rattle.std.proofs.Common.{◌≡◌, ℕ, List, Option, length, IfSome, Ok, Err, Bool, refl, sym, ap, subst, ◌∙◌, arith}
+use Rattle.std.proofs.Common.{◌≡◌, ◌+◌, ℕ, List, Option, length, IfSome, Ok, Err, Bool, refl, sym, ap, subst, ◌∙◌, arith}
 use Rattle.frag_join.specs.Arrivals.{arrival}
 use Rattle.frag_join.specs.Joining.{by_known}
 use Rattle.gate_base.specs.Events.{event_of}
@@ -12,11 +12,12 @@ use Rattle.gate_world.specs.Sessions.{WholeSession}
 use Rattle.gate_world.specs.World.{World}
 use Rattle.pcap_merge.specs.Merge.{Advances}
 use Rattle.lawful_files.specs.Files.{State}
-use Rattle.file_audit.specs.Events.{Finds, FindsLast, state_of, stop_of}
+use Rattle.file_audit.specs.Events.{Expected, Finds, FindsLast, state_of, stop_of}
 use Rattle.file_audit.specs.Stops.{LeavesCounts}
 use Rattle.file_audit.proofs.IncomingEnds.{ends_kept, left_kept, right_kept}
 use Rattle.file_audit.proofs.LeftCounts.{leaves_on, leaves_all, leaves_as, stop_leaves, stops_at}
-use Rattle.file_audit.proofs.Walked.{arrived_at, expecting, walked_none, finds_stop, finds_done, finds_left, finds_at, walked_event, gives}
+use Rattle.file_audit.proofs.Walked.{arrived_at, expecting, walked_none, finds_stop, finds_done, finds_left, finds_at, finds_expect, took_few, walked_event, gives}
+use Rattle.file_audit.proofs.Wanting.{few_still, few_stop}
 use Rattle.file_audit.proofs.events.audit_events.Goals as goal
 
 pub returns-in-Err-clause-answer : goal.returns-in-Err-clause-answer
@@ -196,3 +197,67 @@ returns-in-Ok-take_rest-clause-right_end g c =
     let reads = c.take_rest.ensures.reads in
     let same = ap (λ (t : Told). told_at t RightIn) reads.left ∙ right_kept reads.left_count reads.right_count reads.report_count mid.left in
     subst (λ (o : Option (List ℕ)). IfSome o (λ all. length all ≡ 0)) (sym same) (finished.right i.ends)
+
+pub returns-in-Err-clause-taken : goal.returns-in-Err-clause-taken
+returns-in-Err-clause-taken g c =
+    let old = g.D.Desk.outside c.args.desk.now in
+    let now = g.D.Desk.outside c.events.desk in
+    let new = g.D.Desk.outside c.advance.new.desk in
+    let i = c.events.invariant in
+    took_few c.args.auditor.now.settings c.args.merge.now c.events.merge c.args.given.now c.events.given old now new c.events.joiner (state_of c.events.auditor c.events.totals) i.walked
+    (λ start given. few_stop c.in-Err.stop c.events.merge now new (c.in-Err.ensures.first i.stop).1 start i.walked.done given)
+
+pub returns-in-Ok-take_rest-clause-taken : goal.returns-in-Ok-take_rest-clause-taken
+returns-in-Ok-take_rest-clause-taken g c =
+    let old = g.D.Desk.outside c.args.desk.now in
+    let now = g.D.Desk.outside c.events.desk in
+    let new = g.D.Desk.outside c.take_rest.new.desk in
+    let i = c.events.invariant in
+    let mid = g.D.Desk.outside c.advance.new.desk in
+    let finished = subst (λ (b : Bool). Advances (Ok b) c.events.merge c.advance.new.self now mid) c.if-not-more.true (c.in-Ok.ensures.first i.stop) in
+    took_few c.args.auditor.now.settings c.args.merge.now c.events.merge c.args.given.now c.events.given old now new c.events.joiner (state_of c.events.auditor c.events.totals) i.walked
+    (λ start given. few_still start mid new i.walked.done c.take_rest.ensures.reads (finished.few start i.walked.done given))
+
+pub returns-in-Err-take_rest-clause-taken : goal.returns-in-Err-take_rest-clause-taken
+returns-in-Err-take_rest-clause-taken g c =
+    let old = g.D.Desk.outside c.args.desk.now in
+    let now = g.D.Desk.outside c.events.desk in
+    let new = g.D.Desk.outside c.take_rest.new.desk in
+    let i = c.events.invariant in
+    let mid = g.D.Desk.outside c.advance.new.desk in
+    let finished = subst (λ (b : Bool). Advances (Ok b) c.events.merge c.advance.new.self now mid) c.if-not-more.true (c.in-Ok.ensures.first i.stop) in
+    took_few c.args.auditor.now.settings c.args.merge.now c.events.merge c.args.given.now c.events.given old now new c.events.joiner (state_of c.events.auditor c.events.totals) i.walked
+    (λ start given. few_still start mid new i.walked.done c.take_rest.ensures.reads (finished.few start i.walked.done given))
+
+pub returns-in-Err-expect-clause-taken : goal.returns-in-Err-expect-clause-taken
+returns-in-Err-expect-clause-taken g c =
+    let old = g.D.Desk.outside c.args.desk.now in
+    let now = g.D.Desk.outside c.events.desk in
+    let new = g.D.Desk.outside c.advance.new.desk in
+    let i = c.events.invariant in
+    let mid = g.D.Desk.outside c.advance.new.desk in
+    let came = gives c.in-Ok.more (event_of c.event.result) c.events.merge c.advance.new.self now mid c.if-not-more.false (c.in-Ok.ensures.first i.stop) c.event.ensures in
+    took_few c.args.auditor.now.settings c.args.merge.now c.events.merge c.args.given.now c.events.given old now new c.events.joiner (state_of c.events.auditor c.events.totals) i.walked
+    (λ start given. came.few start i.walked.done given)
+
+pub returns-in-Err-take_event-clause-taken : goal.returns-in-Err-take_event-clause-taken
+returns-in-Err-take_event-clause-taken g c =
+    let old = g.D.Desk.outside c.args.desk.now in
+    let now = g.D.Desk.outside c.events.desk in
+    let new = g.D.Desk.outside c.take_event.new.desk in
+    let i = c.events.invariant in
+    let mid = g.D.Desk.outside c.advance.new.desk in
+    let came = gives c.in-Ok.more (event_of c.event.result) c.events.merge c.advance.new.self now mid c.if-not-more.false (c.in-Ok.ensures.first i.stop) c.event.ensures in
+    took_few c.args.auditor.now.settings c.args.merge.now c.events.merge c.args.given.now c.events.given old now new c.events.joiner (state_of c.events.auditor c.events.totals) i.walked
+    (λ start given. few_still start mid new i.walked.done c.take_event.ensures.reads (came.few start i.walked.done given))
+
+pub returns-in-Err-expect-clause-answer : goal.returns-in-Err-expect-clause-answer
+returns-in-Err-expect-clause-answer g c =
+    let old = g.D.Desk.outside c.args.desk.now in
+    let now = g.D.Desk.outside c.events.desk in
+    let mid = g.D.Desk.outside c.advance.new.desk in
+    let i = c.events.invariant in
+    let e = event_of c.event.result in
+    let came = gives c.in-Ok.more e c.events.merge c.advance.new.self now mid c.if-not-more.false (c.in-Ok.ensures.first i.stop) c.event.ensures in
+    finds_expect c.args.auditor.now.settings c.args.merge.now c.events.merge c.advance.new.self c.args.given.now c.events.given c.events.joiner (state_of c.events.auditor c.events.totals) e old now mid i.walked came
+    (subst (λ r. Expected r (c.events.totals.events + 1) c.events.auditor c.expect.new.auditor (arrival by_known c.events.joiner e)) c.in-Err-expect.is c.expect.ensures.answer)

@@ -4,4 +4,10 @@ use Rattle.gate_command.proofs.call.told_audit.Goals as goal
 
 pub returns-in_default : goal.returns-in_default
 returns-in_default g c =
-    answers_audit c.audit.result c.tell.result (audit_names_of c.args.names) (g.D.Desk.outside c.args.desk.now) (g.D.Desk.outside c.audit.new.desk) (g.D.Desk.outside c.tell.new.desk) c.in_default.not-Done c.in_default.not-Unlawful c.audit.ensures c.tell.ensures
+    answers_audit c.audit.result c.tell.result (audit_names_of c.args.names) (g.D.Desk.outside c.args.desk.now) (g.D.Desk.outside c.audit.new.desk) (g.D.Desk.outside c.tell.new.desk) c.in_default.not-Done c.in_default.not-Unlawful c.audit.ensures.answer c.audit.ensures.taken c.tell.ensures
+
+pub returns-in-Done : goal.returns-in-Done
+returns-in-Done g c = record { audit = c.in-Done.ensures.answer; taken = c.in-Done.ensures.taken }
+
+pub returns-in-Unlawful : goal.returns-in-Unlawful
+returns-in-Unlawful g c = record { audit = c.in-Unlawful.ensures.answer; taken = c.in-Unlawful.ensures.taken }

@@ -2,7 +2,7 @@ use Rattle.std.proofs.Common.{◌++◌, ap, ◌∙◌}
 use Rattle.gate_desk.proofs.Gathering.{gathered_at, waits_alone}
 use Rattle.gate_desk.proofs.Laws.{mapped-same}
 use Rattle.gate_desk.proofs.Taken.{gathered_behind}
-use Rattle.gate_desk.specs.Gathering.{ahead, got, got_in, waiting_in, way_of}
+use Rattle.gate_desk.specs.Gathering.{ahead, got, got_in, unread, waiting_in, way_of}
 use Rattle.gate_desk.specs.Slots.{put}
 use Rattle.gate_desk.proofs.file_desk.gather_alone.Goals as goal
 
@@ -13,7 +13,7 @@ pub returns-in-Gathered-clause-ahead : goal.returns-in-Gathered-clause-ahead
 returns-in-Gathered-clause-ahead g c = mapped-same ahead c.hand_out.new.places c.args.slot c.gather.new.self (c.gather.ensures.ahead ∙ ap ahead c.at_mut.ensures.value) ∙ c.hand_out.ensures.ahead
 
 pub returns-in_default : goal.returns-in_default
-returns-in_default g c = record { ways = mapped-same way_of c.hand_out.new.places c.args.slot c.gather.new.self (c.gather.ensures.way ∙ ap way_of c.at_mut.ensures.value) ∙ c.hand_out.ensures.ways; ahead = mapped-same ahead c.hand_out.new.places c.args.slot c.gather.new.self (c.gather.ensures.ahead ∙ ap ahead c.at_mut.ensures.value) ∙ c.hand_out.ensures.ahead; waits = tt; takes = tt; still = λ waits. rw c.in_ok-hand_out.ensures.none tt }
+returns-in_default g c = record { ways = mapped-same way_of c.hand_out.new.places c.args.slot c.gather.new.self (c.gather.ensures.way ∙ ap way_of c.at_mut.ensures.value) ∙ c.hand_out.ensures.ways; ahead = mapped-same ahead c.hand_out.new.places c.args.slot c.gather.new.self (c.gather.ensures.ahead ∙ ap ahead c.at_mut.ensures.value) ∙ c.hand_out.ensures.ahead; unread = mapped-same (unread g.R.File.Read.remaining) c.hand_out.new.places c.args.slot c.gather.new.self (c.gather.ensures.unread ∙ ap (unread g.R.File.Read.remaining) c.at_mut.ensures.value) ∙ c.hand_out.ensures.unread; waits = tt; takes = tt; still = λ waits. rw c.in_ok-hand_out.ensures.none tt }
 
 pub returns-in-Gathered-clause-waits : goal.returns-in-Gathered-clause-waits
 returns-in-Gathered-clause-waits g c =
@@ -29,3 +29,6 @@ returns-in-Gathered-clause-takes g c =
     let got' = mapped-same (got contents) c.hand_out.new.places c.args.slot c.gather.new.self (c.gather.ensures.got contents ∙ ap (got contents) c.at_mut.ensures.value) in
     gathered_behind c.args.slot (c.args.first.now ++ c.args.second.now) (got_in contents c.args.places.now) (got_in contents c.hand_out.new.places) (got_in contents new) (waiting_in c.args.places.now) (waiting_in c.hand_out.new.places) (waiting_in new) c.gather.result
     c.in_ok-hand_out.ensures.files c.in_ok-hand_out.ensures.all got' waits c.in-Gathered.is
+
+pub returns-in-Gathered-clause-unread : goal.returns-in-Gathered-clause-unread
+returns-in-Gathered-clause-unread g c = mapped-same (unread g.R.File.Read.remaining) c.hand_out.new.places c.args.slot c.gather.new.self (c.gather.ensures.unread ∙ ap (unread g.R.File.Read.remaining) c.at_mut.ensures.value) ∙ c.hand_out.ensures.unread

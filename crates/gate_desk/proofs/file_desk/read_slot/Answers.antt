@@ -1,9 +1,11 @@
-use Rattle.std.proofs.Common.{◌≡◌, ℕ, ◌≤◌, List, [], Result, Ok, Err, OnOk, length, ap, sym, subst, ◌∙◌, arith}
-use Rattle.std.proofs.lemmas.Result.{IfOk-weaker}
+use Rattle.std.proofs.Common.{◌≡◌, ℕ, ◌≤◌, List, [], Option, Result, Ok, Err, OnOk, length, ap, sym, subst, ◌∙◌, arith}
+use Rattle.std.proofs.lemmas.Result.{IfOk-weaker, err_from_is_err_and}
 use Rattle.gate_desk.specs.declared.slot.PerSlot.{PerSlot}
-use Rattle.gate_desk.specs.Gathering.{ahead, ahead_in, got, got_in, waiting, waiting_in, way_of, TakesAhead, TakesNothing}
+use Rattle.gate_desk.specs.Gathering.{ahead, ahead_in, got, got_in, unread, unread_in, waiting, waiting_in, way_of, TakesAhead, TakesNothing}
 use Rattle.gate_desk.specs.Slots.{at, put}
 use Rattle.gate_desk.proofs.Laws.{at-mapped, mapped-put, mapped-put_only, mapped-same, put-put}
+use Rattle.std.specs.Io.KnownBytes.{ReadConsumes}
+use Rattle.gate_desk.proofs.Unread.{keeps, none_dropped, put_behind, put_kept, read_ahead_at, read_at}
 use Rattle.gate_desk.proofs.Taken.{nothing_taken, nothing_behind}
 use Rattle.gate_desk.proofs.file_desk.read_slot.Goals as goal
 
@@ -53,3 +55,32 @@ returns-in_ok-hand_out-in-None-clause-takes g c =
     (mapped-same (got contents) c.hand_out.new.places c.args.slot c.read.new.self (c.read.ensures.got contents ∙ ap (got contents) c.at_mut-in-None.ensures.value))
     (mapped-same waiting c.hand_out.new.places c.args.slot c.read.new.self (c.read.ensures.waiting ∙ ap waiting c.at_mut-in-None.ensures.value)) in
     always (subst (λ g. TakesNothing g (waiting_in c.args.places.now) (got_in contents new) (waiting_in new)) got' (subst (λ w. TakesNothing (got_in contents first) w (got_in contents new) (waiting_in new)) waiting' all)) c.read.result
+
+pub returns-in-Some-clause-unread : goal.returns-in-Some-clause-unread
+returns-in-Some-clause-unread g c = read_ahead_at g.R.File.Read.remaining c.args.places.now c.args.slot c.at_mut.result.now c.take_ahead.new.self c.in-Some.n c.take_ahead.new.buffer c.at_mut.ensures.value c.in-Some.ensures.ahead c.in-Some.ensures.some c.in-Some.ensures.unread
+
+pub returns-in_err-hand_out-in-None-clause-unread : goal.returns-in_err-hand_out-in-None-clause-unread
+returns-in_err-hand_out-in-None-clause-unread g c =
+    let remaining = g.R.File.Read.remaining in
+    let same = c.hand_out.ensures.unread ∙ mapped-same (unread g.R.File.Read.remaining) c.args.places.now c.args.slot c.take_ahead.new.self (c.in-None.ensures.unread ∙ none_dropped (unread g.R.File.Read.remaining c.at_mut.result.now) ∙ ap (unread g.R.File.Read.remaining) c.at_mut.ensures.value) in
+    let p = err_from_is_err_and c.from_residual.result c.from_residual.ensures.1 in
+    rw p.1 (keeps (at (unread_in remaining c.args.places.now) c.args.slot) (at (unread_in remaining c.hand_out.new.places) c.args.slot) (ap (λ (u : PerSlot (Option (List ℕ))). at u c.args.slot) same))
+
+pub returns-in_err-hand_out-in-None-clause-unread_others : goal.returns-in_err-hand_out-in-None-clause-unread_others
+returns-in_err-hand_out-in-None-clause-unread_others g c =
+    let remaining = g.R.File.Read.remaining in
+    put_kept (unread_in remaining c.args.places.now) (unread_in remaining c.hand_out.new.places) c.args.slot (c.hand_out.ensures.unread ∙ mapped-same (unread g.R.File.Read.remaining) c.args.places.now c.args.slot c.take_ahead.new.self (c.in-None.ensures.unread ∙ none_dropped (unread g.R.File.Read.remaining c.at_mut.result.now) ∙ ap (unread g.R.File.Read.remaining) c.at_mut.ensures.value))
+
+pub returns-in_ok-hand_out-in-None-clause-unread : goal.returns-in_ok-hand_out-in-None-clause-unread
+returns-in_ok-hand_out-in-None-clause-unread g c =
+    let remaining = g.R.File.Read.remaining in
+    let same = c.hand_out.ensures.unread ∙ mapped-same (unread g.R.File.Read.remaining) c.args.places.now c.args.slot c.take_ahead.new.self (c.in-None.ensures.unread ∙ none_dropped (unread g.R.File.Read.remaining c.at_mut.result.now) ∙ ap (unread g.R.File.Read.remaining) c.at_mut.ensures.value) in
+    let new = at (unread_in remaining (put c.hand_out.new.places c.args.slot c.read.new.self)) c.args.slot in
+    subst (λ (u : PerSlot (Option (List ℕ))). ReadConsumes (at u c.args.slot) new c.read.result c.read.new.buffer) same
+    (read_at remaining c.hand_out.new.places c.args.slot c.at_mut-in-None.result.now c.read.new.self c.read.result c.read.new.buffer c.at_mut-in-None.ensures.value c.read.ensures.unread)
+
+pub returns-in_ok-hand_out-in-None-clause-unread_others : goal.returns-in_ok-hand_out-in-None-clause-unread_others
+returns-in_ok-hand_out-in-None-clause-unread_others g c =
+    let remaining = g.R.File.Read.remaining in
+    put_behind (unread_in remaining c.args.places.now) (unread_in remaining c.hand_out.new.places) (unread_in remaining (put c.hand_out.new.places c.args.slot c.read.new.self)) c.args.slot
+    (c.hand_out.ensures.unread ∙ mapped-same (unread g.R.File.Read.remaining) c.args.places.now c.args.slot c.take_ahead.new.self (c.in-None.ensures.unread ∙ none_dropped (unread g.R.File.Read.remaining c.at_mut.result.now) ∙ ap (unread g.R.File.Read.remaining) c.at_mut.ensures.value)) (mapped-put_only (unread remaining) c.hand_out.new.places c.args.slot c.read.new.self)

@@ -1,9 +1,10 @@
 use Rattle.std.proofs.Common.{ℕ, List, [], Option, Some, ap, ◌∙◌}
 use Rattle.gate_desk.specs.declared.slot.PerSlot.{PerSlot}
 use Rattle.gate_desk.specs.declared.slot.Way.{Way}
-use Rattle.gate_desk.specs.Gathering.{ahead, ahead_in, way_of, ways_in}
+use Rattle.gate_desk.specs.Gathering.{ahead, ahead_in, unread, unread_in, waiting, way_of, ways_in}
 use Rattle.gate_desk.specs.Slots.{put}
-use Rattle.gate_desk.proofs.Laws.{mapped-put}
+use Rattle.gate_desk.proofs.Laws.{at-mapped, at-put, mapped-put, mapped-put_only}
+use Rattle.gate_desk.proofs.Unread.{put_behind}
 use Rattle.gate_desk.proofs.Taken.{nothing_else}
 use Rattle.gate_desk.proofs.file_desk.start_slot.Goals as goal
 
@@ -21,3 +22,12 @@ returns-in-Ok-clause-ahead g c =
 
 pub returns-in-Ok-clause-takes : goal.returns-in-Ok-clause-takes
 returns-in-Ok-clause-takes g c = nothing_else g.R.File.Write.contents c.args.slot c.args.places.now c.hand_out.new.places c.in-Ok.place c.in_ok-hand_out.ensures.files c.in_ok-hand_out.ensures.all
+
+pub returns-in-Ok-clause-none : goal.returns-in-Ok-clause-none
+returns-in-Ok-clause-none g c = at-mapped waiting (put c.hand_out.new.places c.args.slot c.in-Ok.place) c.args.slot ∙ ap waiting (at-put c.hand_out.new.places c.args.slot c.in-Ok.place) ∙ c.in-Ok.ensures.none
+
+pub returns-in-Ok-clause-unread : goal.returns-in-Ok-clause-unread
+returns-in-Ok-clause-unread g c =
+    let remaining = g.R.File.Read.remaining in
+    put_behind (unread_in remaining c.args.places.now) (unread_in remaining c.hand_out.new.places) (unread_in remaining (put c.hand_out.new.places c.args.slot c.in-Ok.place)) c.args.slot
+    c.hand_out.ensures.unread (mapped-put_only (unread remaining) c.hand_out.new.places c.args.slot c.in-Ok.place)

@@ -2,7 +2,7 @@ use Rattle.std.proofs.Common.{◌++◌, ap, ◌∙◌}
 use Rattle.gate_desk.proofs.Gathering.{gathered_at, waits_later}
 use Rattle.gate_desk.proofs.Laws.{mapped-same}
 use Rattle.gate_desk.proofs.Taken.{gathered_one, taken_later}
-use Rattle.gate_desk.specs.Gathering.{ahead, got, got_in, waiting_in, way_of}
+use Rattle.gate_desk.specs.Gathering.{ahead, got, got_in, unread, waiting_in, way_of}
 use Rattle.gate_desk.specs.Slots.{put}
 use Rattle.gate_desk.proofs.file_desk.write_slot.Goals as goal
 
@@ -34,3 +34,6 @@ returns-in-Gathered-clause-takes g c =
     let waits = gathered_at c.args.places.now c.args.slot (c.args.first.now ++ c.args.second.now) c.gather.result c.at_mut.result.now c.gather.new.self c.at_mut.ensures.value c.gather.ensures.waits in
     let got' = mapped-same (got contents) c.args.places.now c.args.slot c.gather.new.self (c.gather.ensures.got contents ∙ ap (got contents) c.at_mut.ensures.value) in
     λ s file. gathered_one c.args.slot s (c.args.first.now ++ c.args.second.now) (got_in contents c.args.places.now) (got_in contents new) (waiting_in c.args.places.now) (waiting_in new) c.gather.result got' waits c.in-Gathered.is
+
+pub returns-in-NoRoom-clause-unread : goal.returns-in-NoRoom-clause-unread
+returns-in-NoRoom-clause-unread g c = c.gather_alone.ensures.unread ∙ mapped-same (unread g.R.File.Read.remaining) c.args.places.now c.args.slot c.gather.new.self (c.gather.ensures.unread ∙ ap (unread g.R.File.Read.remaining) c.at_mut.ensures.value)

@@ -32,8 +32,8 @@ pub returns-in-Some-clause-lost : goal.returns-in-Some-clause-lost
 returns-in-Some-clause-lost g c = λ t e.
     let is : Some c.in-Some.tracked.now ≡ Some t = c.in-Some.ensures.value ∙ e in
     let same : c.in-Some.tracked.now ≡ t = cc in
-    on_err_by c.take.result (λ f keeps. let lost = f keeps in record {
-      same = ap (replaced c.args.connections.now c.args.key.now) lost.same ∙ replaced_same c.args.key.now c.args.connections.now c.in-Some.tracked.now (sym c.in-Some.ensures.value);
+    on_err_by c.take.result (λ lost. record {
+      same = λ keeps. ap (replaced c.args.connections.now c.args.key.now) (lost.same keeps) ∙ replaced_same c.args.key.now c.args.connections.now c.in-Some.tracked.now (sym c.in-Some.ensures.value);
       nothing = lost.nothing;
       wants = subst (λ (x : Tracked g.row.S.Denot). g.S.Engine.gives.MayWant (is_client c.args.way.now.side x) x.session (segment_of c.args.segment.now.datagram.now)) same lost.wants;
     }) c.take.ensures.lost

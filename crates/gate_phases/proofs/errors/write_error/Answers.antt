@@ -2,15 +2,16 @@ use Rattle.std.proofs.Common.{rules, ◌≡◌, ◌∙◌, subst}
 use Rattle.gate_phases.specs.Status.{error_line}
 use Rattle.gate_phases.specs.Telling.{WritesLine}
 use Rattle.gate_phases.proofs.errors.write_error.Goals as goal
-use Rattle.gate_phases.proofs.errors.write_error.Goals.{in-Done, in-Usage, in-CaptureRefused, in-ReadFault, in-WriteFault, in-OpenFault, in-OutOfMemory, in-Unlawful}
+use Rattle.gate_phases.proofs.errors.write_error.Goals.{in-Done, in-Usage, in-SettingsRefused, in-CaptureRefused, in-ReadFault, in-WriteFault, in-OpenFault, in-OutOfMemory, in-Unlawful}
 
-pub returns-clause-line : goal.returns-clause-line
+pub returns : goal.returns
 unfolding error_line
-returns-clause-line g c =
+returns g c =
     let line : c.match-status.text.bytes ≡ error_line c.args.status =
     elim c.match-status.branch [
       | in-Done w ↦ search rules
       | in-Usage w ↦ search rules
+      | in-SettingsRefused w ↦ search rules
       | in-CaptureRefused w ↦ search rules
       | in-ReadFault w ↦ search rules
       | in-WriteFault w ↦ search rules
@@ -18,4 +19,4 @@ returns-clause-line g c =
       | in-OutOfMemory w ↦ search rules
       | in-Unlawful w ↦ search rules
     ] in
-    subst (λ xs. WritesLine xs (g.D.Desk.outside c.args.desk.now) (g.D.Desk.outside c.write_line-2.new.desk)) (c.as_bytes.ensures.value ∙ c.as_str.ensures.value ∙ line) c.write_line-2.ensures
+    subst (λ xs. WritesLine xs (g.D.Desk.outside c.args.desk.now) (g.D.Desk.outside c.write_line.new.desk)) (c.as_bytes.ensures.value ∙ c.as_str.ensures.value ∙ line) c.write_line.ensures

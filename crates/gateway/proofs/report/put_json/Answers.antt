@@ -2,11 +2,10 @@ use Rattle.std.proofs.Common.{◌∙◌, refl, subst}
 use Rattle.gate_desk.specs.declared.slot.Slot.TheVariants.{Report}
 use Rattle.gate_desk.specs.Outside.{Writes, WritesPart}
 use Rattle.gateway.proofs.Causes.{gives_one, give_fails}
-use Rattle.gateway.proofs.Pieces.{front_none}
 use Rattle.gateway.proofs.report.put_json.Goals as goal
 
 pub returns-in-Err : goal.returns-in-Err
-returns-in-Err g c = (refl, front_none _ (g.D.Desk.outside c.args.desk.now))
+returns-in-Err g c = (refl, refl)
 
 pub returns-in-Ok-write_whole : goal.returns-in-Ok-write_whole
 returns-in-Ok-write_whole g c =

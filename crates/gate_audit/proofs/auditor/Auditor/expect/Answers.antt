@@ -17,6 +17,9 @@ use Rattle.gate_audit.specs.Auditing.{Auditing}
 use Rattle.heard_sessions.specs.Gives.{heard_gives}
 use Rattle.gate_known.specs.Given.{IsGiven}
 use Rattle.gate_known.specs.Knowing.{world_in}
+use Rattle.gate_known.specs.Lost.{IsLost, early_tests}
+use Rattle.gate_steps.proofs.Results.{on_err}
+use Rattle.gate_audit.proofs.LostEvents.{wanted}
 use Rattle.gate_audit.proofs.ExpectedEvents.{expected}
 use Rattle.gate_audit.proofs.Laws.{heard_laws}
 use Rattle.gate_audit.proofs.WholeGiven.{is_whole}
@@ -70,3 +73,11 @@ returns-clause-next c =
       sound = subst IsSound (sym (ap (λ (y : Expecting). y.wanted) expecting)) (wanted_sound (world_as session_in w) e c.are_octets.ensures);
       kept = refl;
     }
+
+pub returns-in_err-taken-clause-wants : goal.returns-in_err-taken-clause-wants
+returns-in_err-taken-clause-wants c =
+    let e = event_of c.args.event.now in
+    let w = c.args.self.now.world in
+    let known : world_in c.self.inside.known ≡ w = ap (λ (a : Auditing). a.world) c.self.view_is in
+    let live : world_in c.expire.new.self ≡ at_moment w e.moment = c.expire.ensures.live ∙ ap (λ (x : World HeardSession). at_moment x e.moment) known in
+    on_err c.from_residual.result (wanted w e _ _ (subst (λ (x : World HeardSession). IsLost heard_rules heard_gives (first_that_holds (early_tests x e)) (kind_of (datagram_in e)) x e.side (datagram_in e) (world_in c.take_frame.new.self) c.take_frame.new.outbox) live c.in_err-taken.ensures))

@@ -27,7 +27,7 @@ pub take_frame-requires-clause-laws : goal.take_frame-requires-clause-laws
 take_frame-requires-clause-laws c = kept_laws
 
 pub invariant_of-self : goal.invariant_of-self
-invariant_of-self c = subst (λ (x : World KeptSession). KeepsListed kept_rules x) (sym ((c.in_err-taken.ensures tt).same ∙ c.expire.ensures.live)) (moment_lists kept_rules (world_in c.self.inside.known) (event_of c.args.event.now).moment c.self.invariant)
+invariant_of-self c = subst (λ (x : World KeptSession). KeepsListed kept_rules x) (sym (c.in_err-taken.ensures.same tt ∙ c.expire.ensures.live)) (moment_lists kept_rules (world_in c.self.inside.known) (event_of c.args.event.now).moment c.self.invariant)
 
 pub invariant_of-self-2 : goal.invariant_of-self-2
 invariant_of-self-2 c =
@@ -73,7 +73,7 @@ returns-in_err-taken-clause-wants c =
     let w = c.args.self.now.world in
     let known : world_in c.self.inside.known ≡ w = ap (λ g. g.world) (c.self.view_is ∙ c.spread_keys.ensures) in
     let live : world_in c.expire.new.self ≡ at_moment w e.moment = c.expire.ensures.live ∙ ap (λ x. at_moment x e.moment) known in
-    on_err c.from_residual.result (subst (λ (x : World KeptSession). MayWant x e) live (wanted _ e _ _ (c.in_err-taken.ensures tt)))
+    on_err c.from_residual.result (subst (λ (x : World KeptSession). MayWant x e) live (wanted _ e _ _ c.in_err-taken.ensures))
 
 pub returns-in_err-taken-clause-memory : goal.returns-in_err-taken-clause-memory
 returns-in_err-taken-clause-memory c =
@@ -82,9 +82,9 @@ returns-in_err-taken-clause-memory c =
     let known : world_in c.self.inside.known ≡ w = ap (λ g. g.world) (c.self.view_is ∙ c.spread_keys.ensures) in
     let live : world_in c.expire.new.self ≡ at_moment w e.moment = c.expire.ensures.live ∙ ap (λ x. at_moment x e.moment) known in
     let settings : c.self.inside.settings ≡ c.args.self.now.settings = ap (λ g. g.settings) (c.self.view_is ∙ c.spread_keys.ensures) in
-    let lost = c.in_err-taken.ensures tt in
+    let lost = c.in_err-taken.ensures in
     on_err c.from_residual.result (
-      ap (λ (x : World KeptSession). let g : Gateway = record { settings = c.self.inside.settings; world = x } in g) (lost.same ∙ live)
+      ap (λ (x : World KeptSession). let g : Gateway = record { settings = c.self.inside.settings; world = x } in g) (lost.same tt ∙ live)
           ∙ ap (λ (x : Settings). let g : Gateway = record { settings = x; world = at_moment w e.moment } in g) settings,
-      lost.nothing,
+      lost.nothing tt,
     )

@@ -16,3 +16,6 @@ returns-in-Err-clause-err g c = rw (← c.self.view_is) (untold_read_fails c.arg
 
 pub returns-in-Ok-clause-takes : goal.returns-in-Ok-clause-takes
 returns-in-Ok-clause-takes g c = rw (← c.self.view_is) c.in-Ok.ensures.takes
+
+pub returns-in-Ok-clause-ahead : goal.returns-in-Ok-clause-ahead
+returns-in-Ok-clause-ahead g c = rw (← c.self.view_is) c.in-Ok.ensures.ahead

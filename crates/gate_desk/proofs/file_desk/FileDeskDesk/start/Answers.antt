@@ -12,3 +12,6 @@ returns-in-Ok-clause-ahead g c = rw (← c.self.view_is) c.in-Ok.ensures.ahead
 
 pub returns-in-Ok-clause-takes : goal.returns-in-Ok-clause-takes
 returns-in-Ok-clause-takes g c = rw (← c.self.view_is) c.in-Ok.ensures.takes
+
+pub returns-in-Ok-clause-unread : goal.returns-in-Ok-clause-unread
+returns-in-Ok-clause-unread g c = rw (← c.self.view_is) c.in-Ok.ensures.unread

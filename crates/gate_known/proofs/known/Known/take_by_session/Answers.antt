@@ -37,10 +37,10 @@ returns-in_err-stepped g c =
     let d = c.args.segment.now.datagram.now in
     let live = world_in c.args.self.now in
     let found = ap (λ (k : ConnKey). session_in (connection_of k c.args.self.now.connections)) c.requires.key ∙ p.found in
-    lost_done g.S.Session.rules g.S.Engine.gives live side d c.from_residual.result _ c.step_session.new.outbox c.from_residual.ensures.0 (λ keeps.
-    let lost = c.in_err-stepped.ensures.lost t found keeps in
+    lost_done g.S.Session.rules g.S.Engine.gives live side d c.from_residual.result _ c.step_session.new.outbox c.from_residual.ensures.0 (
+    let lost = c.in_err-stepped.ensures.lost t found in
     lost_in_session g.S.Session.rules g.S.Engine.gives live side d t _ c.step_session.new.outbox p.found p.verdict lost.wants (sym p.units.passes)
-    (ap (λ (x : List (Connection (Tracked g.row.S.Denot))). world_of c.args.self.now.clock.0 c.args.self.now.table x c.args.self.now.pending) lost.same) lost.nothing)
+    (λ keeps. ap (λ (x : List (Connection (Tracked g.row.S.Denot))). world_of c.args.self.now.clock.0 c.args.self.now.table x c.args.self.now.pending) (lost.same keeps)) lost.nothing)
 
 pub use_segment-requires-clause-client : goal.use_segment-requires-clause-client
 use_segment-requires-clause-client g c = λ x e.

@@ -97,10 +97,10 @@ returns-in_err-tracked g c =
     let d = c.args.segment.now.datagram.now in
     let live = world_in c.args.self.now in
     let first = first_begins g.S.Session.rules c.requires.laws live way d c.args.key.now c.args.segment.now.tcp.now c.pair_on-pair.result c.first_verdict.result c.requires.key c.requires.absent c.requires.whole.tcp_is c.requires.first c.pair_on-pair.ensures c.first_verdict.ensures in
-    lost_done g.S.Session.rules g.S.Engine.gives live way.side d c.from_residual.result live c.args.outbox.now c.from_residual.ensures.0 (λ keeps.
+    lost_done g.S.Session.rules g.S.Engine.gives live way.side d c.from_residual.result live c.args.outbox.now c.from_residual.ensures.0 (
     lost_at_first g.S.Session.rules g.S.Engine.gives live way.side d live c.args.outbox.now (begun live way.side d first.none (ap (λ (t : Tcp). is_opening t.flags && is_tracked_port t.destination_port) (sym c.requires.whole.tcp_is) ∙ c.requires.first))
     (passes g.S.Session.rules live way.side d way _ _ c.requires.way first.joined (first.told ∙ c.in_default.is) (first.full c.in_default.is ∙ sym c.is_full.ensures ∙ c.if-is_full.false) (sym c.lacks_alias.ensures ∙ c.if-lacks_alias.false))
-    (refl {a = live}) c.requires.empty)
+    (λ keeps. refl {a = live}) (λ keeps. c.requires.empty))
 
 pub returns-in_err-stepped : goal.returns-in_err-stepped
 returns-in_err-stepped g c =
@@ -108,7 +108,7 @@ returns-in_err-stepped g c =
     let d = c.args.segment.now.datagram.now in
     let live = world_in c.args.self.now in
     let first = first_begins g.S.Session.rules c.requires.laws live way d c.args.key.now c.args.segment.now.tcp.now c.pair_on-pair.result c.first_verdict.result c.requires.key c.requires.absent c.requires.whole.tcp_is c.requires.first c.pair_on-pair.ensures c.first_verdict.ensures in
-    lost_done g.S.Session.rules g.S.Engine.gives live way.side d c.from_residual-in_err-stepped.result live c.take.new.outbox c.from_residual-in_err-stepped.ensures.0 (λ keeps.
+    lost_done g.S.Session.rules g.S.Engine.gives live way.side d c.from_residual-in_err-stepped.result live c.take.new.outbox c.from_residual-in_err-stepped.ensures.0 (
     lost_at_first g.S.Session.rules g.S.Engine.gives live way.side d live c.take.new.outbox (begun live way.side d first.none (ap (λ (t : Tcp). is_opening t.flags && is_tracked_port t.destination_port) (sym c.requires.whole.tcp_is) ∙ c.requires.first))
     (passes g.S.Session.rules live way.side d way _ _ c.requires.way first.joined (first.told ∙ c.in_default.is) (first.full c.in_default.is ∙ sym c.is_full.ensures ∙ c.if-is_full.false) (sym c.lacks_alias.ensures ∙ c.if-lacks_alias.false))
-    (refl {a = live}) (c.in_err-stepped.ensures.lost keeps).nothing)
+    (λ keeps. refl {a = live}) c.in_err-stepped.ensures.lost.nothing)

@@ -49,9 +49,9 @@ returns-in-Refused g c =
     record { answer = sym (c.in-Refused.ensures live refl refl c.requires.listed.lawful c.requires.key c.requires.way); left = refl {a = live}; gone = ap g.S.Engine.gives.tells.whole c.requires.empty }
 
 pub returns-in-Lost : goal.returns-in-Lost
-returns-in-Lost g c = λ keeps.
+returns-in-Lost g c =
     let live = world_in c.args.self.now in
-    lost_at_units g.S.Session.rules g.S.Engine.gives live c.args.way.now.side c.args.segment.now.datagram.now live c.args.outbox.now (c.in-Lost.ensures live refl refl c.requires.listed.lawful c.requires.key c.requires.way) (refl {a = live}) c.requires.empty
+    lost_at_units g.S.Session.rules g.S.Engine.gives live c.args.way.now.side c.args.segment.now.datagram.now live c.args.outbox.now (c.in-Lost.ensures live refl refl c.requires.listed.lawful c.requires.key c.requires.way) (λ keeps. refl {a = live}) (λ keeps. c.requires.empty)
 
 pub take_by_session-requires-clause-plan : goal.take_by_session-requires-clause-plan
 take_by_session-requires-clause-plan g c = c.in-Tracked.ensures (world_in c.args.self.now) refl refl c.requires.listed.lawful c.requires.key c.requires.way

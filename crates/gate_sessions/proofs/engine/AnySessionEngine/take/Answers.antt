@@ -41,8 +41,8 @@ pub returns-in_err-over-clause-lost : goal.returns-in_err-over-clause-lost
 returns-in_err-over-clause-lost c =
     let d = c.args.segment.now.datagram.now in
     let t = c.args.tracked.now in
-    on_err c.from_residual.result (λ keeps. record {
-      same = ap (seen_as c.tracked.inside.client c.tracked.inside.pair) c.in_err-over.ensures.same ∙ c.tracked.view_is;
-      nothing = c.in_err-over.ensures.nothing;
+    on_err c.from_residual.result (record {
+      same = λ keeps. ap (seen_as c.tracked.inside.client c.tracked.inside.pair) c.in_err-over.ensures.same ∙ c.tracked.view_is;
+      nothing = λ keeps. c.in_err-over.ensures.nothing;
       wants = subst (λ (b : Bool). MayWantIn b t.session (segment_of d)) c.is_client.ensures (subst (λ (x : Tracked KeptSession). MayWantIn c.is_client.result x.session (segment_of d)) c.tracked.view_is c.in_err-over.ensures.memory);
     })

@@ -67,7 +67,7 @@ returns-clause-stepped c = λ image called.
     }
 
 pub returns-in_err-sent-clause-lost : goal.returns-in_err-sent-clause-lost
-returns-in_err-sent-clause-lost c = on_err c.from_residual.result (λ keeps. absurd keeps)
+returns-in_err-sent-clause-lost c = on_err c.from_residual.result (record { same = λ keeps. absurd keeps; nothing = λ keeps. absurd keeps; wants = tt })
 
 pub returns-in_err-pieces-clause-lost : goal.returns-in_err-pieces-clause-lost
-returns-in_err-pieces-clause-lost c = on_err c.from_residual-in_err-pieces.result (λ keeps. absurd keeps)
+returns-in_err-pieces-clause-lost c = on_err c.from_residual-in_err-pieces.result (record { same = λ keeps. absurd keeps; nothing = λ keeps. absurd keeps; wants = tt })

@@ -1,0 +1,66 @@
+-- Where memory is wanting.
+use Rattle.std.proofs.Common.{◌≡◌, ℕ, List, Bool, Result, Ok, Err, OnErr, sym, ap, subst, ◌∙◌}
+use Rattle.frag_join.specs.Arrivals.{Arrival}
+use Rattle.gate_base.specs.Events.{Event}
+use Rattle.gate_base.specs.declared.side.Side.{Side}
+use Rattle.gate_base.specs.declared.side.Side.TheVariants.{Left, Right}
+use Rattle.gate_desk.specs.declared.slot.Slot.TheVariants.{LeftIn, RightIn, ReportGiven}
+use Rattle.gate_desk.specs.Outside.{Outside, Told, Grows, HasFailed, told_at}
+use Rattle.gate_desk.proofs.Laws.{failed_since}
+use Rattle.gate_settings.specs.declared.settings.Settings.{Settings}
+use Rattle.gate_report.specs.declared.line.Line.{Line}
+use Rattle.pcap_merge.specs.declared.stop.MergeStop.{MergeStop}
+use Rattle.pcap_merge.specs.declared.stop.MergeStop.TheVariants as merges
+use Rattle.pcap_merge.specs.Given.{TakenFor}
+use Rattle.pcap_merge.specs.Merge.{Merging, HasGiven, StopsBy, TakesFew}
+use Rattle.pcap_merge.specs.Stops.{slot_of}
+use Rattle.pcap_merge.proofs.Given.{taken_later}
+use Rattle.lawful_files.specs.Files.{State}
+use Rattle.file_audit.specs.declared.given.GivenFiles.{GivenFiles}
+use Rattle.file_audit.specs.declared.line.LineHead.{LineHead}
+use Rattle.file_audit.specs.declared.stop.AuditStop.{AuditStop}
+use Rattle.file_audit.specs.declared.stop.AuditStop.TheVariants.{Unlawful, Capture, Desk, OutOfMemory}
+use Rattle.file_audit.specs.Events.{FindsAt, FindsLast, IsReadInAudit}
+use Rattle.file_audit.specs.Given.{ReadsGiven}
+use Rattle.file_audit.proofs.IncomingEnds.{left_kept, right_kept}
+use Rattle.file_audit.specs.Lines.{TakesLast, TakesLine}
+use Rattle.gate_audit.specs.Auditing.{Auditing}
+
+pub always_err : {A E P : Type 0} (r : Result A E) → P → OnErr r P
+always_err (Ok x) p = tt
+always_err (Err e) p = p
+
+-- a line could not be taken
+pub line_stops : (stop : AuditStop) (json : Bool) (h : LineHead) (ahead ahead' : List ℕ) (s : State) (x : Arrival) (r r' : GivenFiles) (a a' : Auditing) (old new : Outside) → json ≡ a.settings.json → TakesLine (Err stop) json h ahead ahead' old new → FindsAt (Err stop) s x r r' a a' old new
+line_stops (Unlawful number reason) json h ahead ahead' s x r r' a a' old new is k = absurd k
+line_stops (Capture side fault place) json h ahead ahead' s x r r' a a' old new is k = absurd k
+line_stops (Desk slot) json h ahead ahead' s x r r' a a' old new is k = (subst IsReadInAudit (sym k.1) tt, subst (λ u. HasFailed u old new) (sym k.1) k.2)
+line_stops OutOfMemory json h ahead ahead' s x r r' a a' old new is k = sym is ∙ k.1
+
+-- nor the last one
+pub last_stops : (stop : AuditStop) (json : Bool) (line : Line) (ahead ahead' : List ℕ) (settings : Settings) (s : State) (r : GivenFiles) (old mid new : Outside) → json ≡ settings.json → Grows old mid → TakesLast (Err stop) json line ahead ahead' mid new → FindsLast (Err stop) settings s r old new
+last_stops (Unlawful number reason) json line ahead ahead' settings s r old mid new is grows k = absurd k
+last_stops (Capture side fault place) json line ahead ahead' settings s r old mid new is grows k = absurd k
+last_stops (Desk slot) json line ahead ahead' settings s r old mid new is grows k = (subst IsReadInAudit (sym k.1) tt, subst (λ u. HasFailed u old new) (sym k.1) (failed_since ReportGiven old mid new grows k.2))
+last_stops OutOfMemory json line ahead ahead' settings s r old mid new is grows k = sym is ∙ k.1
+
+-- ## What was taken of the incoming captures
+
+-- what is read of the given files leaves them as they are
+pub incoming_kept : (a b : Outside) → ReadsGiven a b → (side : Side) → told_at b.left (slot_of side) ≡ told_at a.left (slot_of side)
+incoming_kept a b reads Left = ap (λ (t : Told). told_at t LeftIn) reads.left ∙ left_kept reads.left_count reads.right_count reads.report_count a.left
+incoming_kept a b reads Right = ap (λ (t : Told). told_at t RightIn) reads.left ∙ right_kept reads.left_count reads.right_count reads.report_count a.left
+
+pub given_later : (start : Outside) (m : Merging) (a b : Outside) (events : List Event) → ((side : Side) → told_at b.left (slot_of side) ≡ told_at a.left (slot_of side)) → HasGiven start m a events → HasGiven start m b events
+given_later start m a b events same h = record { stands = λ side. same side ∙ h.stands side; near = h.near; before = h.before; last = h.last }
+
+pub given_still : (start : Outside) (m : Merging) (a b : Outside) (events : List Event) → ReadsGiven a b → HasGiven start m a events → HasGiven start m b events
+given_still start m a b events reads h = given_later start m a b events (incoming_kept a b reads) h
+
+pub few_still : (start a b : Outside) (events : List Event) → ReadsGiven a b → TakenFor events start a → TakenFor events start b
+few_still start a b events reads h = taken_later start a b events (incoming_kept a b reads) h
+
+pub few_stop : (stop : MergeStop) (m : Merging) (now new : Outside) → StopsBy stop m now new → TakesFew m now new
+few_stop (merges.Fault side f place) m now new k = k.2
+few_stop (merges.Desk slot) m now new k = k.2.few
+few_stop merges.OutOfMemory m now new k = absurd k
