@@ -41,9 +41,9 @@ def icmp(source, destination, kind, code, rest):
     return datagram(1, source, destination, struct.pack(">BBH", kind, code, 0) + rest, 2)
 
 
-def tcp(source, port, destination, far_port, flags, sequence, acknowledgement, payload=b""):
-    header = struct.pack(">HHIIBBHHH", port, far_port, sequence, acknowledgement, 0x50, flags, 8192, 0, 0)
-    return datagram(6, source, destination, header + payload, 16)
+def tcp(source, port, destination, far_port, flags, sequence, acknowledgement, payload=b"", options=b""):
+    header = struct.pack(">HHIIBBHHH", port, far_port, sequence, acknowledgement, 5 + len(options) // 4 << 4, flags, 8192, 0, 0)
+    return datagram(6, source, destination, header + options + payload, 16)
 
 
 def fragments(whole, size):
@@ -87,11 +87,11 @@ class Session:
         self.ends = {"left": (host[0], port, other[0], far_port), "right": (other[1], far_port, host[1], port)}
         self.next = {"left": 1000, "right": 5000}
 
-    def frame(self, side, flags, octets=b""):
+    def frame(self, side, flags, octets=b"", options=b""):
         far = "right" if side == "left" else "left"
         sequence, acknowledgement = self.next[side], self.next[far] if flags & 16 else 0
         self.next[side] += len(octets) + (1 if flags & 2 else 0)
-        return side, tcp(*self.ends[side], flags, sequence, acknowledgement, octets)
+        return side, tcp(*self.ends[side], flags, sequence, acknowledgement, octets, options)
 
     def opens(self):
         yield self.frame("left", 2)

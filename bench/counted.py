@@ -1,0 +1,29 @@
+"""What valgrind counts of a run, for the scripts that measure."""
+import os
+import re
+import subprocess
+
+from datagrams import record, write_run
+
+GATEWAY = f"{os.path.dirname(os.path.abspath(__file__))}/../crates/gateway_program/out/gateway_program"
+
+
+def counted(words, *patterns):
+    said = subprocess.run(["valgrind", *words], capture_output=True, text=True, check=True).stderr
+    return [int(re.search(pattern, said).group(1).replace(",", "")) for pattern in patterns]
+
+
+def instructions(words):
+    return counted(["--tool=callgrind", "--callgrind-out-file=/dev/null", *words], r"Collected : (\d+)")[0]
+
+
+def run_over(program, folder, settings, events, late=0):
+    """The words of a run over events, each a side and a frame, one a microsecond, the last one so many seconds late. The folder takes all its files."""
+    sides = {"left": [], "right": []}
+    for number, (side, frame) in enumerate(events):
+        sides[side].append((1 + number // 1000000, number % 1000000, frame))
+    if late:
+        seconds, fraction, frame = sides[side][-1]
+        sides[side][-1] = (seconds + late, fraction, frame)
+    write_run(folder, settings, *([record(*event) for event in sides[side]] for side in ("left", "right")))
+    return [program, "run", *(f"{folder}/{name}" for name in ("settings.toml", "left.pcap", "right.pcap", "left_out", "right_out", "report"))]
