@@ -23,6 +23,7 @@ _SOL_PACKET, _PACKET_STATISTICS, _PACKET_IGNORE_OUTGOING = 263, 6, 23
 _SO_RCVBUFFORCE, _RECEIVED = 33, 4 << 20
 _ETHERTYPE_IPV4 = 0x0800
 _CLONE_NEWNET = 0x40000000
+_PR_CAP_AMBIENT, _CLEAR_ALL = 47, 4
 
 
 class Gone(Exception):
@@ -90,12 +91,13 @@ class Tun(Device):
             fd = os.open("/dev/net/tun", os.O_RDWR | os.O_NONBLOCK)
             fcntl.ioctl(fd, _TUNSETIFF, struct.pack("16sH22x", name.encode(), _TUN_WITHOUT_HEADER | _TUN_NAPI))
             set_up(name, mtu, queue)
+            self._lost_before = dropped_on_the_way_out(name)
         receive_in_thread(name, namespace)
         super().__init__(fd, RAW_IP, name, namespace)
 
     def lost_in_queue(self) -> int:
         with inside(self.namespace):
-            return dropped_on_the_way_out(self.name)
+            return dropped_on_the_way_out(self.name) - self._lost_before
 
 
 class Interface(Device):
@@ -156,6 +158,11 @@ def _enter(namespace: int) -> None:
     if library.setns(namespace, _CLONE_NEWNET) != 0:
         error = ctypes.get_errno()
         raise OSError(error, os.strerror(error))
+
+
+def leave_capabilities() -> None:
+    """What is started from now on has none of the capabilities by which a pump that isn't root opens devices."""
+    ctypes.CDLL(None).prctl(_PR_CAP_AMBIENT, _CLEAR_ALL, 0, 0, 0)
 
 
 def set_up(name: str, mtu: int | None, queue: int | None) -> None:

@@ -5,6 +5,7 @@ from collections.abc import Callable
 from dataclasses import dataclass
 from typing import BinaryIO
 
+from aliases import say
 from devices import Device
 from records import HEAD_OCTETS, frames_in, link_of
 
@@ -33,10 +34,35 @@ class Loop:
                 call()
 
 
+class Copy:
+    """A file that keeps octets as long as it has room."""
+
+    def __init__(self, name: str) -> None:
+        self._name = name
+        self._file: BinaryIO | None = open(name, "wb")
+
+    def write(self, octets: bytes) -> None:
+        """Keeps octets."""
+        self._try(lambda file: file.write(octets))
+
+    def close(self) -> None:
+        """Closes the file."""
+        self._try(lambda file: file.close())
+
+    def _try(self, act: Callable[[BinaryIO], object]) -> None:
+        """Where the file has no room any more the gateway goes on without it."""
+        try:
+            if self._file:
+                act(self._file)
+        except OSError as error:
+            say(f"{self._name} is cut: {error.strerror}")
+            self._file = None
+
+
 class Feed:
     """A pipe into the program, and what it has no room for yet. `changed` is called when octets begin or cease to wait."""
 
-    def __init__(self, fd: int, loop: Loop, changed: Callable[[], None], copy: BinaryIO | None) -> None:
+    def __init__(self, fd: int, loop: Loop, changed: Callable[[], None], copy: Copy | None) -> None:
         self._fd, self._loop, self._changed, self._copy = fd, loop, changed, copy
         self._waiting = b""
 
@@ -79,10 +105,10 @@ class Feed:
 
 
 class Outlet:
-    """A capture that comes out of the program: a device is given its frames."""
+    """A capture that comes out of the program: a device is given its frames, and `sent` is called with them behind that."""
 
-    def __init__(self, device: Device, began: Callable[[int], None]) -> None:
-        self._device, self._began = device, began
+    def __init__(self, device: Device, began: Callable[[int], None], sent: Callable[[list[memoryview]], None] | None) -> None:
+        self._device, self._began, self._sent = device, began, sent
         self._rest = b""
         self._has_begun = False
 
@@ -97,6 +123,8 @@ class Outlet:
         frames, used = frames_in(octets)
         self._rest = octets[used:]
         self._device.write_all(frames)
+        if self._sent:
+            self._sent(frames)
 
     def _begin(self, octets: bytes) -> bytes:
         self._has_begun = True
@@ -108,7 +136,7 @@ class Outlet:
 class Copies:
     """Files that keep what the program read and wrote, in the order of its words, or none."""
 
-    files: dict[str, BinaryIO]
+    files: dict[str, Copy]
 
     NAMES = ("left.pcap", "right.pcap", "left-out.pcap", "right-out.pcap", "report.txt")
 
@@ -118,9 +146,9 @@ class Copies:
         if folder is None:
             return cls({})
         os.makedirs(folder, exist_ok=True)
-        return cls({name: open(os.path.join(folder, name), "wb") for name in cls.NAMES})
+        return cls({name: Copy(os.path.join(folder, name)) for name in cls.NAMES})
 
-    def of(self, name: str) -> BinaryIO | None:
+    def of(self, name: str) -> Copy | None:
         """The file of this name, if there are any."""
         return self.files.get(name)
 

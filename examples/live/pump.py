@@ -9,11 +9,12 @@ import signal
 import subprocess
 import sys
 from collections.abc import Callable, Iterator
+from functools import partial
 from random import Random
-from typing import BinaryIO
 
-from devices import Device, Gone, open_device
-from feeds import Copies, Feed, Loop, Outlet
+from aliases import Kept, Watch, say
+from devices import Device, Gone, leave_capabilities, open_device
+from feeds import Copies, Copy, Feed, Loop, Outlet
 from records import LEFT, RIGHT, SIDES, Stamps, capture_head, heartbeat, records
 from trouble import Trouble
 from words import Journal
@@ -37,9 +38,11 @@ class Pump:
         journal: Journal | None,
         copies: Copies,
         seconds_to_skip: float,
+        watch: Watch | None = None,
     ) -> None:
         self._devices = devices
         self._journal = journal
+        self._watch = watch
         self._copies = copies
         self._seconds_to_skip = seconds_to_skip
         self._loop = Loop()
@@ -56,6 +59,7 @@ class Pump:
         report = os.pipe() if self._journal else None
         given = [into[LEFT][0], into[RIGHT][0], out[LEFT][1], out[RIGHT][1], *([report[1]] if report else [])]
         names = [f"/dev/fd/{fd}" for fd in given] + ([] if report else ["/dev/null"])
+        leave_capabilities()
         self._program = subprocess.Popen(words + names, pass_fds=given, start_new_session=True)
         for fd in given:
             os.close(fd)
@@ -66,7 +70,8 @@ class Pump:
         copy = self._copies.of
         self._feeds = [Feed(into[side][1], self._loop, self._changed, copy(f"{SIDES[side]}.pcap")) for side in (LEFT, RIGHT)]
         for side in (LEFT, RIGHT):
-            outlet = Outlet(self._devices[side], lambda link, side=side: self._began(side, link))
+            sent = partial(self._watch.sent, side) if self._watch else None
+            outlet = Outlet(self._devices[side], partial(self._began, side), sent)
             self._draw(out[side][0], outlet.take, copy(f"{SIDES[side]}-out.pcap"))
         if report and self._journal:
             self._draw(report[0], self._journal.take, copy("report.txt"))
@@ -77,8 +82,11 @@ class Pump:
             self._feeds[side].put(capture_head(self._devices[side].link))
         self._watch_signals()
         self._changed()
-        while self._sources:
-            self._loop.turn()
+        try:
+            while self._sources:
+                self._loop.turn()
+        finally:
+            self._write_aliases()
         status = self._program.wait()
         self._copies.close()
         self._tell(status)
@@ -86,7 +94,12 @@ class Pump:
             return BY_SIGNAL - status
         return status or (1 if self._failure else 0)
 
-    def _draw(self, fd: int, take: Callable[[bytes], None], copy: BinaryIO | None) -> None:
+    def _write_aliases(self) -> None:
+        """Keeps the aliases, where that is wanted."""
+        if self._watch:
+            self._watch.write()
+
+    def _draw(self, fd: int, take: Callable[[bytes], None], copy: Copy | None) -> None:
         """Hands what comes out of a pipe to `take`, up to its end."""
 
         def ready() -> None:
@@ -157,12 +170,14 @@ class Pump:
                     self._skip()
                 elif number == signal.SIGUSR2:
                     self._tell_counts()
+                    self._write_aliases()
                 else:
                     self._end(None)
 
         self._loop.watch(reader, came)
 
     def _skip(self) -> None:
+        """Moves the stamps ahead, where that is wanted."""
         if not self._seconds_to_skip:
             return
         self._stamps.skip(self._seconds_to_skip)
@@ -180,31 +195,29 @@ class Pump:
         self._changed()
 
     def _close_feeds(self) -> None:
+        """Both captures end."""
         while self._feeds:
             self._feeds.pop().close()
 
     def _tell(self, status: int) -> None:
-        """Says on standard error how it ended, and what each device counted."""
+        """Says on standard error how it ended, and what was counted."""
         if self._failure:
-            print(f"pump: {self._failure}", file=sys.stderr)
-        how = f"with status {status}" if status >= 0 else f"by signal {-status}"
-        print(f"pump: the program ended {how}", file=sys.stderr)
+            say(self._failure)
+        say("the program ended " + (f"with status {status}" if status >= 0 else f"by signal {-status}"))
         self._tell_counts()
 
     def _tell_counts(self) -> None:
         """Says on standard error what each device counted, and the verdicts where there is a report."""
         if self._journal:
-            print(f"pump: verdicts: {self._journal.counts() or 'none'}", file=sys.stderr)
+            say(f"verdicts: {self._journal.counts()}")
         for side, device in enumerate(self._devices):
             try:
                 lost = str(device.lost_in_queue())
             except (Gone, OSError):
                 lost = "unknown"
-            print(
-                f"pump: {SIDES[side]}, {device}: {device.read} frames read, {device.given} given,"
-                f" {device.refused} not taken by the device, {lost} lost in its queue",
-                file=sys.stderr,
-                flush=True,
+            say(
+                f"{SIDES[side]}, {device}: {device.read} frames read, {device.given} given,"
+                f" {device.refused} not taken by the device, {lost} lost in its queue"
             )
 
 
@@ -221,6 +234,8 @@ def words_of_command() -> argparse.Namespace:
     add("--report", metavar="FILE", help="append the report there, each line with its frame in words (- is standard output)")
     add("--refused", action="store_true", help="only lines of frames that don't pass")
     add("--save", metavar="FOLDER", help="keep what the program reads and writes")
+    add("--pools", action="store_true", help="tell on standard error when a pool is 80 %% full, and PoolEmpty")
+    add("--statics", metavar="FILE", help="the same, and keep there the aliases that hosts got by use, for the next start")
     trial = parser.add_argument_group("for trials")
     add = trial.add_argument
     add("--lose", type=float, default=0.0, metavar="P", help="lose a frame with this probability before the gateway, and behind it")
@@ -231,13 +246,23 @@ def words_of_command() -> argparse.Namespace:
     return parser.parse_args()
 
 
-def open_journal(words: argparse.Namespace, devices: tuple[Device, Device]) -> Journal | None:
-    """The report in words, where it or a copy of the report is wanted."""
-    if not words.report and not words.save:
+def open_watch(words: argparse.Namespace, links: tuple[int, int]) -> tuple[str, Watch | None]:
+    """The settings for the program, and what follows its events, where that is wanted. What is wrong with settings the program says itself."""
+    kept = Kept(words.statics, words.settings) if words.statics else None
+    settings = kept.settings if kept else words.settings
+    with contextlib.suppress(ValueError, LookupError, TypeError):
+        return settings, Watch(settings, links, kept) if words.pools or kept else None
+    return settings, None
+
+
+def open_journal(words: argparse.Namespace, links: tuple[int, int], watch: Watch | None) -> Journal | None:
+    """What takes the report, where it, a copy of it or what follows from it is wanted."""
+    if not words.report and not words.save and not watch:
         return None
-    name = words.report or os.devnull
-    file = sys.stdout if name == "-" else open(name, "a", encoding="ascii")
-    return Journal(file, (devices[LEFT].link, devices[RIGHT].link), words.refused)
+    file = None
+    if words.report:
+        file = sys.stdout if words.report == "-" else open(words.report, "a", encoding="ascii")
+    return Journal(file, links, words.refused, watch)
 
 
 def open_devices(words: argparse.Namespace) -> Iterator[Device]:
@@ -254,10 +279,12 @@ def main() -> int:
     words = words_of_command()
     try:
         left, right = open_devices(words)
-        journal, copies = open_journal(words, (left, right)), Copies.into(words.save)
-        pump = Pump((left, right), [words.program, "run", words.settings], journal, copies, words.skip)
-    except (OSError, ValueError, subprocess.CalledProcessError) as error:
-        print(f"pump: {error}", file=sys.stderr)
+        links = left.link, right.link
+        settings, watch = open_watch(words, links)
+        journal, copies = open_journal(words, links, watch), Copies.into(words.save)
+        pump = Pump((left, right), [words.program, "run", settings], journal, copies, words.skip, watch)
+    except (OSError, ValueError, LookupError, subprocess.CalledProcessError) as error:
+        say(str(error))
         return 1
     return pump.run()
 

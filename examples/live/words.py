@@ -2,10 +2,10 @@
 import contextlib
 import json
 import struct
-import sys
 from collections import Counter, deque
 from typing import TextIO
 
+from aliases import Watch, say
 from records import ETHERNET
 
 _ETHERNET_HEAD = 14
@@ -52,13 +52,15 @@ def segment_in_words(segment: bytes) -> str:
 
 
 class Journal:
-    """The report as it comes from the program, each line with its frame in words. Lines of heartbeats are left out."""
+    """The report as it comes from the program: its verdicts are counted, and each event is told to the watch and written with its frame in words,
+    where these are wanted. Heartbeats are left out."""
 
-    def __init__(self, file: TextIO, links: tuple[int, int], only_refused: bool) -> None:
+    def __init__(self, file: TextIO | None, links: tuple[int, int], only_refused: bool, watch: Watch | None = None) -> None:
         self.verdicts: Counter[bytes] = Counter()
-        self._file: TextIO | None = file
+        self._file = file
         self._links = links
         self._only_refused = only_refused
+        self._watch = watch
         self._frames: tuple[deque[bytes | None], deque[bytes | None]] = (deque(), deque())
         self._rest = b""
 
@@ -77,8 +79,8 @@ class Journal:
         self._write(list(filter(None, map(self._line, lines))))
 
     def counts(self) -> str:
-        """How many frames had each verdict, heartbeats left out."""
-        return ", ".join(f"{count} {verdict.decode('ascii')}" for verdict, count in self.verdicts.most_common())
+        """How many frames had each verdict."""
+        return ", ".join(f"{count} {verdict.decode('ascii')}" for verdict, count in self.verdicts.most_common()) or "none"
 
     def _write(self, lines: list[str]) -> None:
         """Where the report has no room any more the gateway goes on without it."""
@@ -88,12 +90,13 @@ class Journal:
             self._file.writelines(lines)
             self._file.flush()
         except OSError as error:
-            print(f"pump: the report ends here: {error.strerror}", file=sys.stderr, flush=True)
+            say(f"the report ends here: {error.strerror}")
             with contextlib.suppress(OSError):
                 self._file.close()
             self._file = None
 
     def _line(self, line: bytes) -> str:
+        """What is written for a line of the report, if anything."""
         words = split(line)
         if words[0] == b"done":
             return line.decode("ascii") + "\n"
@@ -102,7 +105,9 @@ class Journal:
         if frame is None:
             return ""
         self.verdicts[words[3]] += 1
-        if self._only_refused and words[3] == b"pass":
+        if self._watch:
+            self._watch.line(side, int(words[2]), words[3].decode("ascii"), frame, int(words[4]))
+        if not self._file or self._only_refused and words[3] == b"pass":
             return ""
         number, name, moment, verdict, count = (word.decode("ascii") for word in words)
         return f"{number} {name} {int(moment) / 1e9:.6f} {verdict} {count}  {frame_in_words(frame, self._links[side])}\n"
