@@ -54,11 +54,12 @@ fn octets_of(
 #[tactic(auto, unfolding(crate::specs::Reading::content_by))]
 fn one_of(
     alloc: Global,
-    reader: &NameReader<'_>,
+    reader: &mut NameReader<'_>,
     place: usize,
     end: usize,
 ) -> Result<Content, NameStop>
-    ensures { ReturnsRead (λ x. x) result (content_by Form.One reader.now place end) }
+    ensures reads { ReturnsRead (λ x. x) result (content_by Form.One reader.old place end) }
+    ensures stays { reader.new ≡ reader.old }
 {
     let (name, after) = reader.read(alloc, place)?;
     if after != end {
@@ -81,11 +82,12 @@ fn one_address(reader: &NameReader<'_>, place: usize, end: usize) -> Result<Cont
 #[tactic(auto, unfolding(crate::specs::Reading::content_by))]
 fn soa_of(
     alloc: Global,
-    reader: &NameReader<'_>,
+    reader: &mut NameReader<'_>,
     place: usize,
     end: usize,
 ) -> Result<Content, NameStop>
-    ensures { ReturnsRead (λ x. x) result (content_by Form.Soa reader.now place end) }
+    ensures reads { ReturnsRead (λ x. x) result (content_by Form.Soa reader.old place end) }
+    ensures stays { reader.new ≡ reader.old }
 {
     let (first, place) = reader.read(alloc, place)?;
     let (second, place) = reader.read(alloc, place)?;
@@ -99,11 +101,12 @@ fn soa_of(
 #[tactic(auto, unfolding(crate::specs::Reading::content_by))]
 fn two_of(
     alloc: Global,
-    reader: &NameReader<'_>,
+    reader: &mut NameReader<'_>,
     place: usize,
     end: usize,
 ) -> Result<Content, NameStop>
-    ensures { ReturnsRead (λ x. x) result (content_by Form.Two reader.now place end) }
+    ensures reads { ReturnsRead (λ x. x) result (content_by Form.Two reader.old place end) }
+    ensures stays { reader.new ≡ reader.old }
 {
     let (first, place) = reader.read(alloc, place)?;
     let (second, after) = reader.read(alloc, place)?;
@@ -116,11 +119,12 @@ fn two_of(
 #[tactic(auto, unfolding(crate::specs::Reading::content_by))]
 fn mx_of(
     alloc: Global,
-    reader: &NameReader<'_>,
+    reader: &mut NameReader<'_>,
     place: usize,
     end: usize,
 ) -> Result<Content, NameStop>
-    ensures { ReturnsRead (λ x. x) result (content_by Form.Mx reader.now place end) }
+    ensures reads { ReturnsRead (λ x. x) result (content_by Form.Mx reader.old place end) }
+    ensures stays { reader.new ≡ reader.old }
 {
     let (preference, place) = u16_at(reader, place)?;
     let (name, after) = reader.read(alloc, place)?;
@@ -150,12 +154,13 @@ fn rest_of(
 fn content_of(
     alloc: Global,
     form: Form,
-    reader: &NameReader<'_>,
+    reader: &mut NameReader<'_>,
     place: usize,
     end: usize,
 ) -> Result<Content, NameStop>
     requires { place ≤ end }
-    ensures { ReturnsRead (λ x. x) result (content_by form reader.now place end) }
+    ensures reads { ReturnsRead (λ x. x) result (content_by form reader.old place end) }
+    ensures stays { reader.new ≡ reader.old }
 {
     match form {
         Form::Address => one_address(reader, place, end),
@@ -181,10 +186,11 @@ fn skip(reader: &NameReader<'_>, place: usize, count: usize) -> Result<usize, Na
 #[tactic(auto, unfolding(crate::specs::Reading::resource_at))]
 fn resource_of(
     alloc: Global,
-    reader: &NameReader<'_>,
+    reader: &mut NameReader<'_>,
     place: usize,
 ) -> Result<(Resource, usize), NameStop>
-    ensures { ReturnsRead (λ x. (x.0, x.1)) result (resource_at reader.now place) }
+    ensures reads { ReturnsRead (λ x. (x.0, x.1)) result (resource_at reader.old place) }
+    ensures stays { reader.new ≡ reader.old }
 {
     let (name, place) = reader.read(alloc, place)?;
     let (kind, place) = u16_at(reader, place)?;
@@ -209,10 +215,11 @@ fn resource_of(
 fn resources_of(
     alloc: Global,
     count: u16,
-    reader: &NameReader<'_>,
+    reader: &mut NameReader<'_>,
     place: usize,
 ) -> Result<(Vec<Resource>, usize), NameStop>
-    ensures { ReturnsRead (λ x. (x.0.items, x.1)) result (resources_at count reader.now place) }
+    ensures reads { ReturnsRead (λ x. (x.0.items, x.1)) result (resources_at count reader.old place) }
+    ensures stays { reader.new ≡ reader.old }
 {
     let mut resources = Vec::new(alloc);
     let mut at = place;
@@ -228,10 +235,11 @@ fn resources_of(
 fn list_of(
     alloc: Global,
     count: u16,
-    reader: &NameReader<'_>,
+    reader: &mut NameReader<'_>,
     place: usize,
 ) -> Result<(Resources, usize), NameStop>
-    ensures { ReturnsRead (λ x. (x.0, x.1)) result (resources_at count reader.now place) }
+    ensures reads { ReturnsRead (λ x. (x.0, x.1)) result (resources_at count reader.old place) }
+    ensures stays { reader.new ≡ reader.old }
 {
     if count == 0 {
         return Ok((Resources::none(), place));
@@ -243,10 +251,11 @@ fn list_of(
 #[tactic(auto, unfolding(crate::specs::Reading::question_at))]
 fn question_of(
     alloc: Global,
-    reader: &NameReader<'_>,
+    reader: &mut NameReader<'_>,
     place: usize,
 ) -> Result<(Question, usize), NameStop>
-    ensures { ReturnsRead (λ x. (x.0, x.1)) result (question_at reader.now place) }
+    ensures reads { ReturnsRead (λ x. (x.0, x.1)) result (question_at reader.old place) }
+    ensures stays { reader.new ≡ reader.old }
 {
     let (name, place) = reader.read(alloc, place)?;
     let (kind, place) = u16_at(reader, place)?;
@@ -258,10 +267,11 @@ fn question_of(
 fn questions_of(
     alloc: Global,
     count: u16,
-    reader: &NameReader<'_>,
+    reader: &mut NameReader<'_>,
     place: usize,
 ) -> Result<(Option<Question>, usize), NameStop>
-    ensures { ReturnsRead (λ x. (x.0, x.1)) result (questions_at count reader.now place) }
+    ensures reads { ReturnsRead (λ x. (x.0, x.1)) result (questions_at count reader.old place) }
+    ensures stays { reader.new ≡ reader.old }
 {
     if count == 0 {
         return Ok((None, place));
@@ -274,8 +284,9 @@ fn questions_of(
 }
 
 #[tactic(auto, unfolding(crate::specs::Reading::message_at))]
-fn message_of(alloc: Global, reader: &NameReader<'_>) -> Result<Message, NameStop>
-    ensures { ReturnsRead (λ m. m) result (message_at reader.now) }
+fn message_of(alloc: Global, reader: &mut NameReader<'_>) -> Result<Message, NameStop>
+    ensures reads { ReturnsRead (λ m. m) result (message_at reader.old) }
+    ensures stays { reader.new ≡ reader.old }
 {
     let (id, place) = u16_at(reader, 0)?;
     let (flags, place) = u16_at(reader, place)?;
@@ -309,6 +320,6 @@ pub fn read_message(alloc: Global, octets: &[u8]) -> Result<Message, NameStop>
     // It has the form that a message needs to be written.
     ensures suits { IfOk result MessageSuits }
 {
-    let reader = NameReader::of(alloc, octets)?;
-    message_of(alloc, &reader)
+    let mut reader = NameReader::of(alloc, octets)?;
+    message_of(alloc, &mut reader)
 }

@@ -1,21 +1,22 @@
 -- The label starts that a writer's map holds.
 use Rattle.std.proofs.Common.{◌≡◌, ℕ, ◌+◌, ◌<◌, ◌≤◌, Bool, true, false, cond, List, [], ◌∷◌, ◌++◌, Option, Some, None, refl, sym, ap, subst, ◌∙◌, arith, inl, inr}
 use Rattle.std.specs.Prelude.{nat_lt}
-use Rattle.std.specs.Borrow.{Bor}
 use Rattle.std.specs.Str.{bytes_eq}
-use Rattle.std.specs.Ordering.{nat_cmp, is_eq, match_ordering}
+use Rattle.std.specs.Ordering.{is_eq, match_ordering}
 use Rattle.std.specs.declared.cmp.Ordering.{Ordering}
 use Rattle.std.specs.declared.cmp.Ordering.TheVariants.{Less, Equal, Greater}
-use Rattle.std.specs.Cmp.Lexicographic.{slice_cmp}
+use Rattle.std.specs.Cmp.Lexicographic.{on_texts}
 use Rattle.std.specs.BTreeMap.{BTreeMap, UpdatesBy, insert_entry}
 use Rattle.std.specs.Map.{lookup, IsKeyTest, AreApart, KeepsOthers}
 use Rattle.std.specs.List.{AllByRecursion}
 use Rattle.std.proofs.lemmas.Bool.{cases_Bool, lt-ltb, le-ltb}
-use Rattle.std.proofs.lemmas.Cmp.{nat_list_cmp_total, eq_by_cmp_equiv}
+use Rattle.std.specs.Cmp.{eq_by_cmp_equiv}
 use Rattle.std.proofs.lemmas.Slice.Eq.{bytes_eq-Decides}
-use Rattle.std.proofs.lemmas.Map.Text.{is_eq-slice_cmp}
 use Rattle.std.proofs.lemmas.List.{append-nil}
+use Rattle.dns_names.specs.declared.suffix.Suffix.{Suffix}
+use Rattle.dns_names.specs.Ends.{key_of, end_cmp}
 use Rattle.dns_names.proofs.Walking.{chosen}
+use Rattle.dns_names.proofs.Endings.{is_eq-end_cmp}
 use Rattle.dns_names.specs.Spelling.{Start, found, with_start}
 use Rattle.dns_names.specs.Writers.{put_start, starts_in, place_in, IsNear, IsIndex}
 
@@ -31,19 +32,19 @@ apart bs cs ks n y =
       | inr f ↦ f
     ]
 
-apart_in_order : (bs cs ks : List ℕ) → bytes_eq bs cs ≡ false → is_eq (slice_cmp nat_cmp bs ks) ≡ true → is_eq (slice_cmp nat_cmp cs ks) ≡ false
-apart_in_order bs cs ks n y = is_eq-slice_cmp cs ks ∙ apart bs cs ks n (sym (is_eq-slice_cmp bs ks) ∙ y)
+apart_in_order : (bs cs ks : List ℕ) → bytes_eq bs cs ≡ false → is_eq (end_cmp bs ks) ≡ true → is_eq (end_cmp cs ks) ≡ false
+apart_in_order bs cs ks n y = is_eq-end_cmp cs ks ∙ apart bs cs ks n (sym (is_eq-end_cmp bs ks) ∙ y)
 
 others : {K X : Type 0} (eq : K → K → Bool) (test : K → Bool) (old new : List (K × X)) → KeepsOthers eq test old new → (other : K → Bool) → IsKeyTest eq other → AreApart test other → lookup other new ≡ lookup other old
 unfolding KeepsOthers
 others eq test old new h = h
 
-insert-place : (key : Bor (List ℕ)) (m n : BTreeMap (Bor (List ℕ)) ℕ) (w : Option ℕ) → UpdatesBy (λ x y. slice_cmp nat_cmp x.now y.now) (λ k. slice_cmp nat_cmp key.now k.now) m n w
-    → (cs : List ℕ) → place_in n.entries cs ≡ cond (bytes_eq key.now cs) w (place_in m.entries cs)
+insert-place : (key : Suffix) (m n : BTreeMap Suffix ℕ) (w : Option ℕ) → UpdatesBy (λ x y. end_cmp x.octets.now y.octets.now) (λ k. end_cmp key.octets.now k.octets.now) m n w
+    → (cs : List ℕ) → place_in n.entries cs ≡ cond (bytes_eq key.octets.now cs) w (place_in m.entries cs)
 insert-place key m n w h cs =
-    elim (cases_Bool (bytes_eq key.now cs)) [
-      | inl t ↦ rw t (subst (λ (o : List ℕ). place_in n.entries o ≡ w) ((bytes_eq-Decides key.now cs).0 t) h.1)
-      | inr f ↦ rw f (others _ _ m.entries n.entries h.3 (λ k. is_eq (slice_cmp nat_cmp cs k.now)) (λ x y. (eq_by_cmp_equiv nat_list_cmp_total).congr cs x.now y.now) (λ k. apart_in_order key.now cs k.now f))
+    elim (cases_Bool (bytes_eq key.octets.now cs)) [
+      | inl t ↦ rw t (subst (λ (o : List ℕ). place_in n.entries o ≡ w) ((bytes_eq-Decides key.octets.now cs).0 t) h.1)
+      | inr f ↦ rw f (others _ _ m.entries n.entries h.3 (λ k. is_eq (end_cmp cs k.octets.now)) (λ x y. (eq_by_cmp_equiv (on_texts key_of)).congr cs x.octets.now y.octets.now) (λ k. apart_in_order key.octets.now cs k.octets.now f))
     ]
 
 -- ---- starts in the order of their places
@@ -75,20 +76,20 @@ put_start-all P s (t ∷ ts) all =
     ]
 
 -- a new key with the greatest place comes last
-starts_in-insert : (es : List (Bor (List ℕ) × ℕ)) (key : Bor (List ℕ)) (place : ℕ) → place_in es key.now ≡ None → AllByRecursion (IsBelow place) (starts_in es)
-    → starts_in (insert_entry (λ x y. slice_cmp nat_cmp x.now y.now) es key place) ≡ starts_in es ++ record { place = place; octets = key.now } ∷ []
+starts_in-insert : (es : List (Suffix × ℕ)) (key : Suffix) (place : ℕ) → place_in es key.octets.now ≡ None → AllByRecursion (IsBelow place) (starts_in es)
+    → starts_in (insert_entry (λ x y. end_cmp x.octets.now y.octets.now) es key place) ≡ starts_in es ++ record { place = place; octets = key.octets.now } ∷ []
 starts_in-insert [] key place absent all = refl
 starts_in-insert (e ∷ es) key place absent all =
-    by_order (slice_cmp nat_cmp key.now e.0.now) refl (λ a b. starts_in-insert es key place a b)
+    by_order (end_cmp key.octets.now e.0.octets.now) refl (λ a b. starts_in-insert es key place a b)
   where
-    by_order : (o : Ordering) → slice_cmp nat_cmp key.now e.0.now ≡ o
-        → (place_in es key.now ≡ None → AllByRecursion (IsBelow place) (starts_in es) → starts_in (insert_entry (λ x y. slice_cmp nat_cmp x.now y.now) es key place) ≡ starts_in es ++ record { place = place; octets = key.now } ∷ [])
-        → starts_in (match_ordering o ((key, place) ∷ e ∷ es) ((e.0, place) ∷ es) (e ∷ insert_entry (λ x y. slice_cmp nat_cmp x.now y.now) es key place)) ≡ starts_in (e ∷ es) ++ record { place = place; octets = key.now } ∷ []
-    by_order Less is next = put_start-last (record { place = place; octets = key.now }) (starts_in (e ∷ es)) all
+    by_order : (o : Ordering) → end_cmp key.octets.now e.0.octets.now ≡ o
+        → (place_in es key.octets.now ≡ None → AllByRecursion (IsBelow place) (starts_in es) → starts_in (insert_entry (λ x y. end_cmp x.octets.now y.octets.now) es key place) ≡ starts_in es ++ record { place = place; octets = key.octets.now } ∷ [])
+        → starts_in (match_ordering o ((key, place) ∷ e ∷ es) ((e.0, place) ∷ es) (e ∷ insert_entry (λ x y. end_cmp x.octets.now y.octets.now) es key place)) ≡ starts_in (e ∷ es) ++ record { place = place; octets = key.octets.now } ∷ []
+    by_order Less is next = put_start-last (record { place = place; octets = key.octets.now }) (starts_in (e ∷ es)) all
     by_order Equal is next = absurd (let q : Some e.1 ≡ None = rw is at absent in cc)
     by_order Greater is next =
-        let parts = put_start-all (IsBelow place) (record { place = e.1; octets = e.0.now }) (starts_in es) all in
-        rw (next (rw is at absent) parts.1) (put_start-before (record { place = e.1; octets = e.0.now }) (record { place = place; octets = key.now }) (starts_in es) parts.0)
+        let parts = put_start-all (IsBelow place) (record { place = e.1; octets = e.0.octets.now }) (starts_in es) all in
+        rw (next (rw is at absent) parts.1) (put_start-before (record { place = e.1; octets = e.0.octets.now }) (record { place = place; octets = key.octets.now }) (starts_in es) parts.0)
 
 -- ---- one start more
 
@@ -130,20 +131,20 @@ near_below : (limit : ℕ) (starts : List Start) → AllByRecursion (IsNear limi
 near_below limit [] all = tt
 near_below limit (s ∷ starts) all = (all.0.0, near_below limit starts all.1)
 
-pub IsIndex-later : (entries : List (Bor (List ℕ) × ℕ)) (limit more : ℕ) → IsIndex entries limit → limit ≤ more → IsIndex entries more
+pub IsIndex-later : (entries : List (Suffix × ℕ)) (limit more : ℕ) → IsIndex entries limit → limit ≤ more → IsIndex entries more
 IsIndex-later entries limit more index le = record { finds = index.finds; near = near_later limit more (starts_in entries) le index.near }
 
-pub record Remembers (old new : List (Bor (List ℕ) × ℕ)) (place : ℕ) (octets : List ℕ) : Type 0 where
+pub record Remembers (old new : List (Suffix × ℕ)) (place : ℕ) (octets : List ℕ) : Type 0 where
   pub starts : starts_in new ≡ starts_in old ++ with_start place octets []
   pub index : IsIndex new (place + 1)
 
 -- a start that can be pointed to was put in
-pub remembers-near : (m n : BTreeMap (Bor (List ℕ)) ℕ) (key : Bor (List ℕ)) (place : ℕ) (octets : List ℕ) → key.now ≡ octets → IsIndex m.entries place → place_in m.entries octets ≡ None → place < 16384
-    → n.entries ≡ insert_entry (λ x y. slice_cmp nat_cmp x.now y.now) m.entries key place → UpdatesBy (λ x y. slice_cmp nat_cmp x.now y.now) (λ k. slice_cmp nat_cmp key.now k.now) m n (Some place)
+pub remembers-near : (m n : BTreeMap Suffix ℕ) (key : Suffix) (place : ℕ) (octets : List ℕ) → key.octets.now ≡ octets → IsIndex m.entries place → place_in m.entries octets ≡ None → place < 16384
+    → n.entries ≡ insert_entry (λ x y. end_cmp x.octets.now y.octets.now) m.entries key place → UpdatesBy (λ x y. end_cmp x.octets.now y.octets.now) (λ k. end_cmp key.octets.now k.octets.now) m n (Some place)
     → Remembers m.entries n.entries place octets
 remembers-near m n key place octets is index absent near entries updates =
     let s : Start = record { place = place; octets = octets } in
-    let gone : place_in m.entries key.now ≡ None = ap (place_in m.entries) is ∙ absent in
+    let gone : place_in m.entries key.octets.now ≡ None = ap (place_in m.entries) is ∙ absent in
     let push : starts_in n.entries ≡ starts_in m.entries ++ s ∷ [] =
     ap starts_in entries ∙ starts_in-insert m.entries key place gone (near_below place (starts_in m.entries) index.near) ∙ ap (λ (o : List ℕ). starts_in m.entries ++ record { place = place; octets = o } ∷ []) is in
     let none : found (starts_in m.entries) octets ≡ None = sym (index.finds octets) ∙ absent in
@@ -161,7 +162,7 @@ remembers-near m n key place octets is index absent near entries updates =
     }
 
 -- one that can't be was left out
-pub remembers-far : (entries : List (Bor (List ℕ) × ℕ)) (place : ℕ) (octets : List ℕ) → IsIndex entries place → 16384 ≤ place → Remembers entries entries place octets
+pub remembers-far : (entries : List (Suffix × ℕ)) (place : ℕ) (octets : List ℕ) → IsIndex entries place → 16384 ≤ place → Remembers entries entries place octets
 remembers-far entries place octets index far = record {
   starts = rw (le-ltb _ _ far) (sym (append-nil (starts_in entries)));
   index = IsIndex-later entries place (place + 1) index (omega arith);

@@ -1,10 +1,11 @@
-pub mod Chaining
 pub mod Rows
 pub mod Reading
 pub mod Walking
 pub mod Writing
+pub mod Endings
 pub mod Kept
 pub mod Putting
 pub mod Reversing
 pub mod Items
 pub mod Walks
+pub mod Trails

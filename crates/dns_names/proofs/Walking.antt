@@ -1,13 +1,13 @@
 -- Reading a name piece by piece.
-use Rattle.std.proofs.Common.{◌≡◌, ℕ, zero, suc, ◌+◌, ◌≤◌, ◌<◌, Bool, true, false, cond, eqb, List, [], ◌∷◌, ◌++◌, length, take, drop, Option, Some, None, refl, sym, ap, subst, ◌∙◌, append_assoc, arith, inl, inr, ◌⊎◌}
+use Rattle.std.proofs.Common.{◌≡◌, ℕ, zero, suc, ◌+◌, ◌-◌, ◌≤◌, ◌<◌, Bool, true, false, cond, eqb, List, [], ◌∷◌, ◌++◌, length, take, drop, Option, Some, None, refl, sym, ap, subst, ◌∙◌, append_assoc, arith, inl, inr, ◌⊎◌}
 use Rattle.std.specs.Prelude.{nat_lt, ◌==◌}
 use Rattle.std.specs.List.{AllByRecursion}
 use Rattle.std.proofs.lemmas.Bool.{ltb-false, ltb-true, cases_Bool}
-use Rattle.std.proofs.lemmas.List.{take_at, drop_at, append-nil, length-append, length-take}
+use Rattle.std.proofs.Math.Seq.{take-add}
+use Rattle.std.proofs.lemmas.List.{take_at, drop_at, append-nil, drop-drop, length-append, length-take, length-drop, length-take-le}
 use Rattle.std.proofs.lemmas.Grind.{flat_map-append}
 use Rattle.dns_names.specs.Names.{Root, Label, Pointer, Nothing, piece_at, piece_of, piece_by, label_of, pointer_of, Stands, AtRoot, AtLabel, AtPointer, NameAt, spelled, spelled_label, IsLabel, IsName, split, labels_in, IsSpelled}
 use Rattle.std.specs.Option.{option_or, unwrap_or}
-use Rattle.dns_names.specs.Chains.{Leads}
 use Rattle.dns_names.proofs.Reading.{at_label, at_pointer, at_nothing}
 
 -- ---- labels and their octets
@@ -107,6 +107,28 @@ pub piece_at-label : (m : List ℕ) (place : ℕ) (l : List ℕ) → piece_at m 
 unfolding piece_at
 piece_at-label m place l e = piece_of-label (drop place m) l e
 
+-- ---- octets of a message
+
+-- the octets from one place to another
+abbrev pub run : List ℕ → ℕ → ℕ → List ℕ
+run m from at = take (at - from) (drop from m)
+
+pub run-length : (m : List ℕ) (from at : ℕ) → from ≤ at → at ≤ length m → length (run m from at) ≡ at - from
+run-length m from at order within = length-take-le (at - from) (drop from m) (omega (arith, length-drop from m))
+
+-- with the label behind them
+pub run-label : (m : List ℕ) (from at : ℕ) (l : List ℕ) → from ≤ at → piece_at m at ≡ Label l → run m from (at + 1 + length l) ≡ run m from at ++ length l ∷ l
+run-label m from at l order e =
+    let more : at + 1 + length l - from ≡ (at - from) + suc (length l) = omega arith in
+    let back : from + (at - from) ≡ at = omega arith in
+    ap (λ (n : ℕ). take n (drop from m)) more ∙ take-add (at - from) (suc (length l)) (drop from m)
+    ∙ ap (λ (x : List ℕ). run m from at ++ take (suc (length l)) x) (drop-drop (at - from) from m ∙ ap (λ (n : ℕ). drop n m) back)
+    ∙ ap (λ (x : List ℕ). run m from at ++ x) (piece_at-counted m at l e)
+
+-- none
+pub run-none : (m : List ℕ) (at : ℕ) → run m at at ≡ []
+run-none m at = ap (λ (n : ℕ). take n (drop at m)) (let none : at - at ≡ 0 = omega arith in none)
+
 -- ---- a walk
 
 -- how a whole name goes on behind the labels that were read
@@ -143,19 +165,17 @@ unwrap_or-or : (after : Option ℕ) (here a : ℕ) → unwrap_or (option_or afte
 unwrap_or-or None here a = refl
 unwrap_or-or (Some place) here a = refl
 
-pub Reads-pointer : (m : List ℕ) (place start at : ℕ) (octets : List ℕ) (after : Option ℕ) (to end : ℕ) → Reads m place start at octets after → piece_at m at ≡ Pointer to → to < start → Leads m to end
-    → Reads m place end end octets (option_or after (Some (at + 2)))
-Reads-pointer m place start at octets after to end r e lt leads = record {
+pub Reads-pointer : (m : List ℕ) (place start at : ℕ) (octets : List ℕ) (after : Option ℕ) (to : ℕ) → Reads m place start at octets after → piece_at m at ≡ Pointer to → to < start → Reads m place to to octets (option_or after (Some (at + 2)))
+Reads-pointer m place start at octets after to r e lt = record {
   labels = r.labels;
   octets_are = r.octets_are;
   short = r.short;
   all_labels = r.all_labels;
-  keeps = λ ls a s. let q = leads.back ls a s in rw (unwrap_or-or after (at + 2) a) (r.keeps ls (at + 2) (AtPointer start at to ls q.0 e lt q.1));
+  keeps = λ ls a s. rw (unwrap_or-or after (at + 2) a) (r.keeps ls (at + 2) (AtPointer start at to ls a e lt s));
   only = λ ls a s.
       let q = r.only ls a s in
       let g = at_pointer m start at q.rest q.end to q.stands e in
-      let n = leads.on q.rest g.2.0 g.2.1 in
-      record { rest = q.rest; is = q.is; end = n.0; stands = n.1 };
+      record { rest = q.rest; is = q.is; end = g.2.0; stands = g.2.1 };
 }
 
 -- the labels of the octets that were read

@@ -1,8 +1,9 @@
 pub mod Names
 pub mod Walk
 pub mod Pieces
-pub mod Chains
+pub mod Memo
 pub mod Stops
+pub mod Ends
 pub mod Spelling
 pub mod Writers
 pub mod Texts

@@ -1,12 +1,11 @@
 -- What a writer keeps: a map from octets to the places at which they stand.
 use Rattle.std.specs.Prelude.{◌≡◌, ℕ, ◌<◌, nat_lt, if◌then◌else◌, List, [], ◌∷◌, ◌++◌, Option}
-use Rattle.std.specs.Borrow.{Bor}
-use Rattle.std.specs.Ordering.{nat_cmp}
-use Rattle.std.specs.Cmp.Lexicographic.{slice_cmp}
 use Rattle.std.specs.BTreeMap.{is_at}
 use Rattle.std.specs.Map.{lookup}
 use Rattle.std.specs.List.{AllByRecursion}
 use Rattle.dns_names.specs.Spelling.{Start, Added, found}
+use Rattle.dns_names.specs.Ends.{end_cmp}
+use Rattle.dns_names.specs.declared.suffix.Suffix.{Suffix}
 
 -- a start among others that stand in the order of their places
 abbrev pub put_start : Start → List Start → List Start
@@ -14,13 +13,13 @@ put_start s [] = s ∷ []
 put_start s (t ∷ ts) = if nat_lt s.place t.place then s ∷ t ∷ ts else t ∷ put_start s ts
 
 -- the label starts that a map holds, in the order of their places
-abbrev pub starts_in : List (Bor (List ℕ) × ℕ) → List Start
+abbrev pub starts_in : List (Suffix × ℕ) → List Start
 starts_in [] = []
-starts_in (e ∷ es) = put_start (record { place = e.1; octets = e.0.now }) (starts_in es)
+starts_in (e ∷ es) = put_start (record { place = e.1; octets = e.0.octets.now }) (starts_in es)
 
 -- the place that a map holds for octets
-abbrev pub place_in : List (Bor (List ℕ) × ℕ) → List ℕ → Option ℕ
-place_in entries octets = lookup (is_at (λ k. slice_cmp nat_cmp octets k.now)) entries
+abbrev pub place_in : List (Suffix × ℕ) → List ℕ → Option ℕ
+place_in entries octets = lookup (is_at (λ k. end_cmp octets k.octets.now)) entries
 
 -- octets and label starts stand behind those that stood
 abbrev pub GrewBy : List Start → List ℕ → List Start → List ℕ → Type 0
@@ -31,6 +30,6 @@ abbrev pub IsNear : ℕ → Start → Type 0
 IsNear limit s = (s.place < limit) × (s.place < 16384)
 
 -- the map finds what its starts find, and they lie below an end
-pub record IsIndex (entries : List (Bor (List ℕ) × ℕ)) (limit : ℕ) : Type 0 where
+pub record IsIndex (entries : List (Suffix × ℕ)) (limit : ℕ) : Type 0 where
   pub finds : (octets : List ℕ) → place_in entries octets ≡ found (starts_in entries) octets
   pub near : AllByRecursion (IsNear limit) (starts_in entries)

@@ -2,13 +2,16 @@
 //! the reverse names of addresses.
 #![tactic(auto)]
 
-mod chains;
+mod known;
 mod laws;
+mod memo;
 mod name;
 mod piece;
 mod reader;
 mod reverse;
 mod stop;
+mod suffix;
+mod walk;
 mod writer;
 
 pub use laws::{found_is_lowest, names_read_back, one_name};

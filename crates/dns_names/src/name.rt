@@ -2,10 +2,8 @@
 ghost use Rattle.std.specs.Prelude.{◌≡◌, ℕ, List, IfOk, Err};
 ghost use Rattle.dns_names.specs.Names.{NameAt};
 ghost use Rattle.dns_names.specs.Walk.{name_at};
-ghost use Rattle.dns_names.specs.Chains.{AreEnds};
 ghost use Rattle.dns_names.specs.Stops.{ReturnsRead};
 
-use crate::chains::end_at;
 use crate::piece::{Found, piece_at};
 use crate::stop::NameStop;
 use gate_base::OutOfMemory;
@@ -54,14 +52,12 @@ impl Name {
 /// The room that a name is begun with, in octets: most names have fewer.
 const ROOM: usize = 32;
 
-/// The name at a place of a message, some chains of pointers of which are taken in one step.
-pub(crate) fn walk(
+/// The name at a place of a message.
+pub(crate) fn name_of(
     alloc: Global,
     message: &[u8],
-    ends: &[u16],
     place: usize,
 ) -> Result<(Name, usize), NameStop>
-    requires { AreEnds message.now ends.now }
     ensures found { IfOk result (λ x. NameAt message.now place x.0 x.1) }
     ensures none { result ≡ Err NameStop.BadDns → (labels : List (List ℕ)) (after : ℕ) → NameAt message.now place labels after → ⊥ }
 {
@@ -91,9 +87,9 @@ pub(crate) fn walk(
                 }
                 octets.extend_from_slice(&message[from..at])?;
                 after = after.or(Some(at + 2));
-                start = end_at(ends, to);
-                at = start;
-                from = start;
+                start = to;
+                at = to;
+                from = to;
             }
             Found::Nothing => return Err(NameStop::BadDns),
         }
@@ -108,5 +104,5 @@ pub fn read_name(alloc: Global, message: &[u8], place: usize) -> Result<(Name, u
     ensures none { result ≡ Err NameStop.BadDns → (labels : List (List ℕ)) (after : ℕ) → NameAt message.now place labels after → ⊥ }
     ensures exact { ReturnsRead (λ x. (x.0, x.1)) result (name_at message.now place) }
 {
-    walk(alloc, message, &[], place)
+    name_of(alloc, message, place)
 }

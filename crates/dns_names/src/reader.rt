@@ -4,30 +4,30 @@ ghost use Rattle.dns_names.specs.Names.{NameAt};
 ghost use Rattle.dns_names.specs.Walk.{name_at};
 ghost use Rattle.dns_names.specs.Stops.{ReturnsRead};
 
-use crate::chains::ends_of;
-use crate::name::{Name, walk};
+use crate::memo::{Memo, memo_of, read_on};
+use crate::name::{Name, name_of};
 use crate::stop::NameStop;
 use gate_base::OutOfMemory;
 use std::alloc::Global;
 use std::marker::Model;
 
-/// A message of which many names are read: each in as many steps as it has labels, however long the chains of pointers are
-/// that lead to it. Contracts see the message's octets.
+/// A message of which many names are read. What was read from a place on is kept, so that the labels and pointers there aren't
+/// walked again for each name that leads there. Contracts see the message's octets.
 #[derive(Drop)]
 pub struct NameReader<'a> {
     message: &'a [u8],
-    ends: Vec<u16>,
+    memo: Option<Memo>,
 }
 
 impl<'a> Model for NameReader<'a> {
-    ghost use Rattle.std.specs.Prelude.{ℕ, List};
-    ghost use Rattle.dns_names.specs.Chains.{AreEnds};
+    ghost use Rattle.std.specs.Prelude.{ℕ, List, IfSome};
+    ghost use Rattle.dns_names.specs.Memo.{IsMemo};
 
     ghost Value = { List ℕ };
 
     ghost view = { λ r. r.message.now };
 
-    ghost invariant = { λ r. AreEnds r.message.now r.ends.items };
+    ghost invariant = { λ r. IfSome r.memo (IsMemo r.message.now) };
 }
 
 impl<'a> NameReader<'a> {
@@ -35,8 +35,8 @@ impl<'a> NameReader<'a> {
     pub fn of(alloc: Global, message: &'a [u8]) -> Result<NameReader<'a>, OutOfMemory>
         ensures { IfOk result (λ reader. reader ≡ message.now) }
     {
-        let ends = ends_of(alloc, message)?;
-        Ok(NameReader { message, ends })
+        let memo = memo_of(alloc, message)?;
+        Ok(NameReader { message, memo })
     }
 
     /// The octets of the message.
@@ -48,11 +48,15 @@ impl<'a> NameReader<'a> {
 
     /// The name that stands at a place, and the place after it. `BadDns` exactly where none stands there, as for `read_name`.
     #[inline(always)]
-    pub fn read(&self, alloc: Global, place: usize) -> Result<(Name, usize), NameStop>
-        ensures found { IfOk result (λ x. NameAt self.now place x.0 x.1) }
-        ensures none { result ≡ Err NameStop.BadDns → (labels : List (List ℕ)) (after : ℕ) → NameAt self.now place labels after → ⊥ }
-        ensures exact { ReturnsRead (λ x. (x.0, x.1)) result (name_at self.now place) }
+    pub fn read(&mut self, alloc: Global, place: usize) -> Result<(Name, usize), NameStop>
+        ensures stays { self.new ≡ self.old }
+        ensures found { IfOk result (λ x. NameAt self.old place x.0 x.1) }
+        ensures none { result ≡ Err NameStop.BadDns → (labels : List (List ℕ)) (after : ℕ) → NameAt self.old place labels after → ⊥ }
+        ensures exact { ReturnsRead (λ x. (x.0, x.1)) result (name_at self.old place) }
     {
-        walk(alloc, self.message, &self.ends, place)
+        match &mut self.memo {
+            Some(memo) => read_on(alloc, self.message, memo, place),
+            None => name_of(alloc, self.message, place),
+        }
     }
 }

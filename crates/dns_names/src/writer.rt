@@ -5,20 +5,21 @@ ghost use Rattle.dns_names.specs.Spelling.{pointer, with_start, spell};
 ghost use Rattle.dns_names.specs.Writers.{starts_in, place_in, GrewBy, IsIndex};
 
 use crate::name::Name;
+use crate::suffix::Suffix;
 use gate_base::{OutOfMemory, put_u16};
 use std::alloc::AllocError;
 use std::collections::BTreeMap;
 use std::marker::Model;
 
-fn place_of(places: &BTreeMap<&[u8], u16>, octets: &[u8]) -> Option<u16>
+fn place_of<'a>(places: &BTreeMap<Suffix<'a>, u16>, octets: &'a [u8]) -> Option<u16>
     ensures { result ≡ place_in places.now.entries octets.now }
 {
-    places.get(octets).copied()
+    places.get(&Suffix { octets }).copied()
 }
 
 /// Keeps the place of a label start, if a pointer can lead there.
 fn remember<'a>(
-    places: &mut BTreeMap<&'a [u8], u16>,
+    places: &mut BTreeMap<Suffix<'a>, u16>,
     octets: &'a [u8],
     place: usize,
 ) -> Result<(), AllocError>
@@ -29,7 +30,7 @@ fn remember<'a>(
     ensures index { IsIndex places.new.entries (place + 1) }
 {
     if place < 16_384 {
-        places.insert(octets, place as u16)?;
+        places.insert(Suffix { octets }, place as u16)?;
     }
     Ok(())
 }
@@ -48,7 +49,7 @@ fn put_pointer(out: &mut Vec<u8>, place: u16) -> Result<(), AllocError>
 /// Writes a name, and keeps its label starts.
 #[tactic(auto, using(crate::proofs::Putting::grew_none, crate::proofs::Putting::grew_octets))]
 fn put_labels<'a>(
-    places: &mut BTreeMap<&'a [u8], u16>,
+    places: &mut BTreeMap<Suffix<'a>, u16>,
     name: &'a [u8],
     out: &mut Vec<u8>,
 ) -> Result<(), AllocError>
@@ -81,7 +82,7 @@ fn put_labels<'a>(
 #[derive(Drop)]
 pub struct NameWriter<'a> {
     octets: Vec<u8>,
-    places: BTreeMap<&'a [u8], u16>,
+    places: BTreeMap<Suffix<'a>, u16>,
 }
 
 impl<'a> Model for NameWriter<'a> {

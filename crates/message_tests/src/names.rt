@@ -37,7 +37,7 @@ const REVERSES: [(&[u8], u32, &[u8]); 4] = [
 
 /// The octets of the name at a place, and the place after it.
 fn name_at(alloc: Global, message: &[u8], place: usize) -> Result<(Vec<u8>, usize), NameStop> {
-    let reader = NameReader::of(alloc, message)?;
+    let mut reader = NameReader::of(alloc, message)?;
     let (name, after) = reader.read(alloc, place)?;
     Ok((Vec::from_slice(alloc, name.octets())?, after))
 }

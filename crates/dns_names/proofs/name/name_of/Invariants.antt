@@ -1,6 +1,6 @@
 use Rattle.std.proofs.Common.{◌+◌, ◌-◌, ◌≤◌, ◌++◌, vec_len, take, drop}
 use Rattle.dns_names.proofs.Walking.{Reads}
-use Rattle.dns_names.proofs.name.walk.Given as goal
+use Rattle.dns_names.proofs.name.name_of.Given as goal
 
 -- what was copied, and the labels that aren't copied yet
 abbrev pub invariant-pieces : goal.invariant-pieces

@@ -1,0 +1,53 @@
+use Rattle.std.proofs.Common.{◌≡◌, ◌<◌, ℕ, slice_index_or, List, length, reverse, take, drop, ◌++◌, sym, ap, ◌∙◌, arith}
+use Rattle.std.specs.Ordering.{nat_cmp}
+use Rattle.std.specs.Cmp.Lexicographic.{slice_cmp}
+use Rattle.std.proofs.lemmas.List.{take-append-drop, length-append}
+use Rattle.dns_names.specs.Ends.{worth}
+use Rattle.dns_names.proofs.Endings.{same-last, other-last, cmp-worth, worth-one}
+use Rattle.dns_names.proofs.suffix.compare_back.Goals as goal
+
+-- octets as the first ones and the last ones
+parts : (s r x : List ℕ) (n : ℕ) → r ≡ take n s → x ≡ drop n s → s ≡ r ++ x
+parts s r x n e f = sym (take-append-drop n s) ∙ ap (λ (z : List ℕ). z ++ drop n s) (sym e) ∙ ap (λ (z : List ℕ). r ++ z) (sym f)
+
+both : (s t r q x y : List ℕ) → s ≡ r ++ x → t ≡ q ++ y → slice_cmp nat_cmp (reverse s) (reverse t) ≡ slice_cmp nat_cmp (reverse (r ++ x)) (reverse (q ++ y))
+both s t r q x y e f = ap (λ (z : List ℕ). slice_cmp nat_cmp (reverse z) (reverse t)) e ∙ ap (λ (z : List ℕ). slice_cmp nat_cmp (reverse (r ++ x)) (reverse z)) f
+
+goes-on : (s t r q x y : List ℕ) → s ≡ r ++ x → t ≡ q ++ y → length x ≡ length y → ((i : ℕ) → slice_index_or x i 0 < 256) → ((i : ℕ) → slice_index_or y i 0 < 256) → worth x ≡ worth y
+    → slice_cmp nat_cmp (reverse s) (reverse t) ≡ slice_cmp nat_cmp (reverse r) (reverse q)
+goes-on s t r q x y e f size p g same =
+    let is : y ≡ x = sym (worth-one x y size p g same) in
+    both s t r q x x e (f ∙ ap (λ (z : List ℕ). q ++ z) is) ∙ same-last r q x
+
+ends : (s t r q x y : List ℕ) → s ≡ r ++ x → t ≡ q ++ y → length x ≡ length y → ((i : ℕ) → slice_index_or x i 0 < 256) → ((i : ℕ) → slice_index_or y i 0 < 256) → (worth x ≡ worth y → ⊥)
+    → nat_cmp (worth x) (worth y) ≡ slice_cmp nat_cmp (reverse s) (reverse t)
+ends s t r q x y e f size p g off =
+    cmp-worth x y size p g ∙ sym (both s t r q x y e f ∙ other-last r q x y size (λ is. off (ap (λ (z : List ℕ). worth z) is)))
+
+pub returns-then-x-y : goal.returns-then-x-y
+returns-then-x-y c =
+    let a = c.in-Some-Some.ensures.cases in
+    let b = c.in-Some-Some.ensures'.cases in
+    let front = parts c.words.front.now c.in-Some-Some.front_rest.now c.in-Some-Some.x.now _ a.0 a.1 in
+    let other = parts c.words.other.now c.in-Some-Some.other_rest.now c.in-Some-Some.y.now _ b.0 b.1 in
+    let size : length c.in-Some-Some.x.now ≡ length c.in-Some-Some.y.now =
+    omega (arith, ap length front, ap length other, length-append c.in-Some-Some.front_rest.now c.in-Some-Some.x.now, length-append c.in-Some-Some.other_rest.now c.in-Some-Some.y.now, a.2, b.2, c.words.invariant.0) in
+    let x = c.number_of-x.ensures in
+    let y = c.number_of-y.ensures in
+    let off : worth c.in-Some-Some.x.now ≡ worth c.in-Some-Some.y.now → ⊥ = λ e. (let same : c.number_of-x.result ≡ c.number_of-y.result = x.number ∙ e ∙ sym y.number in omega (arith, c.if-x-y.true, same)) in
+    c.cmp.ensures ∙ ap (λ (n : ℕ). nat_cmp n c.number_of-y.result) x.number ∙ ap (λ (n : ℕ). nat_cmp (worth c.in-Some-Some.x.now) n) y.number ∙ ends _ _ _ _ c.in-Some-Some.x.now c.in-Some-Some.y.now front other size x.fits y.fits off ∙ sym c.words.invariant.1
+
+pub words-preserved : goal.words-preserved
+words-preserved c =
+    let a = c.in-Some-Some.ensures.cases in
+    let b = c.in-Some-Some.ensures'.cases in
+    let front = parts c.words.front.now c.in-Some-Some.front_rest.now c.in-Some-Some.x.now _ a.0 a.1 in
+    let other = parts c.words.other.now c.in-Some-Some.other_rest.now c.in-Some-Some.y.now _ b.0 b.1 in
+    let size : length c.in-Some-Some.x.now ≡ length c.in-Some-Some.y.now =
+    omega (arith, ap length front, ap length other, length-append c.in-Some-Some.front_rest.now c.in-Some-Some.x.now, length-append c.in-Some-Some.other_rest.now c.in-Some-Some.y.now, a.2, b.2, c.words.invariant.0) in
+    let x = c.number_of-x.ensures in
+    let y = c.number_of-y.ensures in
+    let same : worth c.in-Some-Some.x.now ≡ worth c.in-Some-Some.y.now = omega (arith, x.number, y.number, c.if-x-y.false) in (
+      omega (arith, a.2, b.2, c.words.invariant.0),
+      c.words.invariant.1 ∙ goes-on _ _ _ _ c.in-Some-Some.x.now c.in-Some-Some.y.now front other size x.fits y.fits same,
+    )
