@@ -17,7 +17,7 @@ use crate::binding::{Binding, Crossing, number_of};
 use crate::entries::Entries;
 use expiring_table::{Row, Seed};
 use gate_base::{Addr, Moment, OidRule, OutOfMemory, Side, is_unicast};
-use gate_settings::{Block, Blocks, OidRules, Settings};
+use gate_settings::{OidRules, SameRanges, Settings};
 use realm_pools::Pool;
 use std::alloc::Global;
 use std::marker::Model;
@@ -25,7 +25,7 @@ use std::marker::Model;
 /// The bindings between the hosts of two realms. A call after `make` takes no memory. But for `reseed`, and for a tidying of the rows
 /// once in very many changes, none looks at all bindings.
 pub struct Table {
-    same: Blocks,
+    same: SameRanges,
     left: Aliases,
     right: Aliases,
     bindings: Entries,
@@ -83,7 +83,7 @@ impl Table {
     {
         let left = Aliases::make(alloc, &settings.left)?;
         let right = Aliases::make(alloc, &settings.right)?;
-        let same = Blocks::of(Vec::from_slice(alloc, settings.same.items())?);
+        let same = SameRanges::of(alloc, settings.same.items())?;
         let room = left.len() + right.len();
         Ok(Table {
             same,
@@ -211,7 +211,7 @@ impl Table {
     pub fn in_same(&self, address: Addr) -> bool
         ensures { result ≡ is_in_same address self.now.same }
     {
-        is_in_one(self.same.items(), address)
+        self.same.contains(address)
     }
 
     /// The number of free addresses of the realm's pool.
@@ -391,10 +391,4 @@ fn drop_ended(bindings: &mut Entries, left: &mut Aliases, right: &mut Aliases, n
     while let Some(row) = bindings.next_ended(now.0) {
         give_back_alias(left, right, &row.value);
     }
-}
-
-fn is_in_one(blocks: &[Block], address: Addr) -> bool
-    ensures { result ≡ is_in_same address blocks.now }
-{
-    blocks.iter().any(|block| block.contains(address))
 }

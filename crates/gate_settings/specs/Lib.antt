@@ -1,3 +1,4 @@
 pub mod Cross
 pub mod Forms
+pub mod Ranges
 pub mod Sound
