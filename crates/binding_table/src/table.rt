@@ -16,8 +16,9 @@ use crate::aliases::Aliases;
 use crate::binding::{Binding, Crossing, number_of};
 use crate::entries::Entries;
 use expiring_table::{Row, Seed};
-use gate_base::{Addr, Moment, OidRule, OutOfMemory, Side, is_unicast};
-use gate_settings::{OidRules, SameRanges, Settings};
+use gate_base::{Addr, Moment, OutOfMemory, Side, is_unicast};
+use oid_rules::SortedRules;
+use gate_settings::{SameRanges, Settings};
 use realm_pools::Pool;
 use std::alloc::Global;
 use std::marker::Model;
@@ -29,7 +30,7 @@ pub struct Table {
     left: Aliases,
     right: Aliases,
     bindings: Entries,
-    oids: OidRules,
+    oids: SortedRules,
 }
 
 // By a call of its own, since a drop that is written out wherever it happens is slow to prove.
@@ -90,16 +91,16 @@ impl Table {
             left,
             right,
             bindings: Entries::make(alloc, settings.statics.items().len(), room, seed)?,
-            oids: settings.oids.copy(alloc)?,
+            oids: SortedRules::of(alloc, settings.oids.items())?,
         })
     }
 
     /// Where object identifiers hold addresses.
-    pub fn oids(&self) -> &[OidRule]
+    pub fn oids(&self) -> &SortedRules
         ensures value { result.now ≡ self.now.oids }
         ensures rules { AreRules result.now }
     {
-        self.oids.items()
+        &self.oids
     }
 
     /// Spreads the hosts by another seed.

@@ -246,8 +246,7 @@ fn reads_rules(alloc: Global) -> Result<bool, Fail> {
         alloc,
         "fragments = \"join\" ; oid = [{ prefix = \"1.3.4294967295\", skip = 1 }]",
     )?;
-    let copy = settings.oids.copy(alloc)?;
-    let rules = copy.items();
+    let rules = settings.oids.items();
     Ok(
         settings.join
             && rules.len() == 1

@@ -1,9 +1,8 @@
 // The settings of a gateway.
-ghost use Rattle.std.specs.Prelude.{◌≡◌, IfOk};
+ghost use Rattle.std.specs.Prelude.{◌≡◌};
 ghost use Rattle.gate_settings.specs.Cross as cross;
 
-use gate_base::{Addr, Link, OidRule, OutOfMemory, Side};
-use std::alloc::Global;
+use gate_base::{Addr, Link, OidRule, Side};
 use std::marker::Model;
 
 /// A block of addresses that cross unchanged: those whose first `bits` bits are those of `base` (RFC 4632, 3.1).
@@ -157,17 +156,6 @@ impl OidRules {
         ensures { result.now ≡ self.now }
     {
         &self.items
-    }
-
-    /// The same rules once more.
-    pub fn copy(&self, alloc: Global) -> Result<OidRules, OutOfMemory>
-        ensures { IfOk result (λ copy. copy ≡ self.now) }
-    {
-        let mut items = Vec::new(alloc);
-        for rule in self.items() {
-            items.push(rule.copy(alloc)?)?;
-        }
-        Ok(OidRules { items })
     }
 }
 

@@ -1,6 +1,8 @@
 ghost use Rattle.std.specs.Prelude.{◌≡◌, IfOk};
+ghost use Rattle.gate_base.specs.Rules.{AreRules};
 
-use gate_base::{Addr, Arcs, OidRule};
+use gate_base::{Addr, Arcs, OidRule, OutOfMemory};
+use oid_rules::SortedRules;
 use snmp_gateway::{Lookup, check};
 use snmp_oids::{address_in, rename_into};
 use std::alloc::{AllocError, Global};
@@ -130,7 +132,8 @@ const NAME: &[u8] = b"+\x06\x01\x02\x01\x04\x14\x01\x01\x0a\0\0\x05";
 
 #[test]
 fn renames_messages(rt: HostRuntime) -> Result<(), Fail> {
-    let rules = [rule(rt.alloc(), &[1, 3, 6, 1, 2, 1, 4, 20, 1], 1)?];
+    let one = [rule(rt.alloc(), &[1, 3, 6, 1, 2, 1, 4, 20, 1], 1)?];
+    let rules = SortedRules::of(rt.alloc(), &one)?;
     for (octets, expected) in ROWS {
         let mut target = [0xee; 1100];
         assert!(rt; check(octets).is_some(), "{octets:?}");
@@ -146,18 +149,26 @@ fn renames_messages(rt: HostRuntime) -> Result<(), Fail> {
     Ok(())
 }
 
+/// What rules name in the content above.
+fn named(alloc: Global, rules: &[OidRule]) -> Result<Option<Addr>, OutOfMemory>
+    requires { AreRules rules.now }
+{
+    let sorted = SortedRules::of(alloc, rules)?;
+    Ok(address_in(NAME, &sorted))
+}
+
 #[test]
 fn takes_the_first_rule(rt: HostRuntime) -> Result<(), Fail> {
     let rules = [
         rule(rt.alloc(), &[1, 3, 6, 1, 2, 1, 4, 20, 1], 1)?,
         rule(rt.alloc(), &[1, 3, 6, 1, 2, 1, 4], 0)?,
     ];
-    assert!(rt; address_in(NAME, &rules) == Some(Addr(0x0a00_0005)));
+    assert!(rt; named(rt.alloc(), &rules)? == Some(Addr(0x0a00_0005)));
     let rules = [
         rule(rt.alloc(), &[1, 3, 6, 1, 2, 1, 4], 0)?,
         rule(rt.alloc(), &[1, 3, 6, 1, 2, 1, 4, 20, 1], 1)?,
     ];
-    assert!(rt; address_in(NAME, &rules) == Some(Addr(0x1401_010a)));
-    assert!(rt; address_in(NAME, &[]).is_none());
+    assert!(rt; named(rt.alloc(), &rules)? == Some(Addr(0x1401_010a)));
+    assert!(rt; named(rt.alloc(), &[])?.is_none());
     Ok(())
 }

@@ -7,3 +7,4 @@ pub mod Swaps
 pub mod Tree
 pub mod Writing
 pub mod Lengths
+mod Named

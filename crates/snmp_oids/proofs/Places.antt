@@ -140,14 +140,10 @@ both_second : (a b : Bool) → (a && b) ≡ true → b ≡ true
 both_second true b e = e
 both_second false b e = cc
 
-pub rule_two : (rule : OidRule) → IsTrue (is_rule rule) → 2 ≤ length rule.prefix
+rule_two : (rule : OidRule) → IsTrue (is_rule rule) → 2 ≤ length rule.prefix
 rule_two rule fits =
     let two : nat_le 2 (length rule.prefix) ≡ true = both_first _ _ (both_first _ _ (both_first _ _ (both_first _ _ fits))) in
     grind (arith, nat_tests)
-
-pub named_is : (rule : OidRule) (arcs prefix numbers : List ℕ) (r : Option ℕ) → prefix ≡ rule.prefix → starts_with nat_eq arcs prefix ≡ true → r ≡ address_of numbers → numbers ≡ drop (before rule) arcs → r ≡ named_by rule arcs
-named_is rule arcs prefix numbers r same begins is are =
-    is ∙ ap address_of are ∙ sym (ap (λ b. if b then address_of (drop (before rule) arcs) else None) (ap (starts_with nat_eq arcs) (sym same) ∙ begins))
 
 -- what the rules find stands behind at least two arcs
 pub record Stands (arcs : List ℕ) (before address : ℕ) : Type 0 where

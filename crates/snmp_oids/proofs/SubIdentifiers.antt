@@ -1,5 +1,5 @@
 -- Sub-identifiers one after another.
-use Rattle.std.proofs.Common.{◌≡◌, ℕ, ◌+◌, ◌-◌, ◌*◌, ◌%◌, ◌<◌, ◌≤◌, ◌==◌, Bool, true, false, nat_lt, if◌then◌else◌, List, [], ◌∷◌, get_or, take, drop, length, ◌&&◌, ◌||◌, Option, Some, None, option_map, unwrap_or, is_some, IsSome, IfNone, refl, ap, sym, ◌∙◌, arith, length-drop, drop-cons, add-one}
+use Rattle.std.proofs.Common.{◌≡◌, ℕ, ◌+◌, ◌-◌, ◌*◌, ◌%◌, ◌<◌, ◌≤◌, ◌==◌, Bool, true, false, nat_lt, if◌then◌else◌, List, [], ◌∷◌, get_or, take, drop, length, ◌||◌, Option, Some, None, option_map, unwrap_or, is_some, IsSome, IfNone, refl, ap, sym, ◌∙◌, arith, length-drop, drop-cons, add-one}
 use Rattle.std.proofs.lemmas.Bool.Decides.{nat_tests}
 use Rattle.std.proofs.lemmas.List.{drop_all, take_all}
 use Rattle.gate_base.specs.Address.{◌>>=◌}

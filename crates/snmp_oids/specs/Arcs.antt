@@ -1,6 +1,6 @@
 -- The arcs of an object identifier (X.690, 8.19), and the address that a rule finds among them (RFC 2962, 4.2).
-use Rattle.std.specs.Prelude.{ℕ, ◌+◌, ◌-◌, ◌*◌, ◌%◌, ◌==◌, nat_eq, Bool, ◌&&◌, ◌||◌, nat_lt, nat_le, if◌then◌else◌, List, [], ◌∷◌, drop, length, slice_index, IsTrue, Option, Some, None, option_map, option_and_then, unwrap_or}
-use Rattle.std.specs.List.{list_all, starts_with}
+use Rattle.std.specs.Prelude.{ℕ, ◌+◌, ◌-◌, ◌*◌, ◌%◌, ◌==◌, nat_eq, ◌&&◌, ◌||◌, nat_lt, nat_le, if◌then◌else◌, List, [], ◌∷◌, drop, length, Option, Some, None, option_map, option_and_then, unwrap_or}
+use Rattle.std.specs.List.{starts_with}
 use Rattle.std.specs.Option.{option_or}
 use Rattle.gate_base.specs.Address.{◌>>=◌}
 use Rattle.gate_base.specs.Rules.{greatest}

@@ -1,9 +1,10 @@
 // The arcs of an object identifier, read from its content without memory (X.690, 8.19).
-ghost use Rattle.std.specs.Prelude.{◌≡◌, ◌≤◌, nat_eq, [], ◌∷◌, length, is_some, option_map, IsSome, IfSome, IfNone};
-ghost use Rattle.std.specs.List.{starts_with};
+ghost use Rattle.std.specs.Prelude.{◌≡◌, ◌≤◌, [], ◌∷◌, length, is_some, option_map, IsSome, IfSome, IfNone};
+ghost use Rattle.oid_rules.specs.Sorted.{compared};
 ghost use Rattle.snmp_oids.specs.Arcs.{joined, numbers_of, numbers_in, first_two, arcs_of, arcs_in, small_first, address_of};
 
 use gate_base::Addr;
+use oid_rules::{Compared, order_of};
 
 // A sub-identifier's number with the seven bits of one more octet behind it, where it is 0 before the first. None where it
 // begins with 128, or is above 4,294,967,295.
@@ -65,29 +66,39 @@ fn first_two(number: u32) -> (u32, u32)
     }
 }
 
-/// Whether the arcs of content, if it has any, begin with a prefix of at least two arcs.
-pub(crate) fn arcs_begin(content: &[u8], prefix: &[u32]) -> bool
+/// Where the arcs of content, if it has any, stand to a prefix of at least two arcs.
+pub(crate) fn compare_content(content: &[u8], prefix: &[u32]) -> Compared
     requires { 2 ≤ length prefix.now }
-    ensures { IsSome (arcs_of content.now) → result ≡ starts_with nat_eq (arcs_in content.now) prefix.now }
+    ensures { IsSome (arcs_of content.now) → result ≡ compared (arcs_in content.now) prefix.now }
 {
     let Some((number, rest)) = next_number(content) else {
-        return false;
+        return Compared::Before;
     };
-    first_two(number) == (prefix[0], prefix[1]) && numbers_begin(rest, &prefix[2..])
+    let (first, second) = first_two(number);
+    if first != prefix[0] {
+        order_of(first, prefix[0])
+    } else if second != prefix[1] {
+        order_of(second, prefix[1])
+    } else {
+        compare_numbers(rest, &prefix[2..])
+    }
 }
 
-// Whether the numbers of the sub-identifiers that fill octets, if any do, begin with these.
-fn numbers_begin(octets: &[u8], numbers: &[u32]) -> bool
-    ensures { IsSome (numbers_of octets.now) → result ≡ starts_with nat_eq (numbers_in octets.now) numbers.now }
+// Where the numbers of the sub-identifiers that fill octets, if any do, stand to these.
+fn compare_numbers(octets: &[u8], numbers: &[u32]) -> Compared
+    ensures { IsSome (numbers_of octets.now) → result ≡ compared (numbers_in octets.now) numbers.now }
 {
     let mut rest = octets;
     for number in numbers {
-        match next_number(rest) {
-            Some((other, more)) if other == *number => rest = more,
-            _ => return false,
+        let Some((other, more)) = next_number(rest) else {
+            return Compared::Before;
+        };
+        if other != *number {
+            return order_of(other, *number);
         }
+        rest = more;
     }
-    true
+    Compared::Begins
 }
 
 // The number of the sub-identifier that octets begin with, if it is at most 255, and the octets behind it.

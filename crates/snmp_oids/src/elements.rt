@@ -8,7 +8,8 @@ ghost use Rattle.snmp_oids.specs.Written.{with_octets};
 use crate::head::{LEAST_HEAD, put_before};
 use crate::identifier::put_identifier;
 use crate::put::put;
-use gate_base::{Addr, OidRule, get_u32, put_u32};
+use gate_base::{Addr, get_u32, put_u32};
+use oid_rules::SortedRules;
 use snmp_ber::Tlv;
 use snmp_gateway::Lookup;
 
@@ -53,7 +54,7 @@ fn put_ip_address<L: Lookup>(content: &[u8], lookup: &L, target: &mut [u8], plac
 fn put_primitive<L: Lookup>(
     tag: u8,
     content: &[u8],
-    rules: &[OidRule],
+    rules: &SortedRules,
     lookup: &L,
     target: &mut [u8],
     place: usize,
@@ -75,7 +76,7 @@ fn put_primitive<L: Lookup>(
 #[cycle(writing)]
 fn put_content<L: Lookup>(
     element: &Tlv<'_>,
-    rules: &[OidRule],
+    rules: &SortedRules,
     lookup: &L,
     target: &mut [u8],
     place: usize,
@@ -104,7 +105,7 @@ fn put_content<L: Lookup>(
 #[cycle(writing)]
 pub(crate) fn put_elements<L: Lookup>(
     octets: &[u8],
-    rules: &[OidRule],
+    rules: &SortedRules,
     lookup: &L,
     target: &mut [u8],
     place: usize,

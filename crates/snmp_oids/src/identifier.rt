@@ -1,13 +1,14 @@
 // Object identifiers, the addresses in them, and other addresses in their place (RFC 2962, 4.2).
-ghost use Rattle.std.specs.Prelude.{◌≡◌, ◌+◌, ◌*◌, ◌^◌, ◌<◌, ◌≤◌, length, option_map, option_and_then, IfSome, IsSome, IsTrue};
-ghost use Rattle.snmp_oids.specs.Arcs.{named_by, named_in, arcs_of};
-ghost use Rattle.gate_base.specs.Rules.{AreRules, is_rule};
+ghost use Rattle.std.specs.Prelude.{◌≡◌, ◌+◌, ◌*◌, ◌^◌, ◌<◌, ◌≤◌, length, drop, option_map, option_and_then, IfSome};
+ghost use Rattle.snmp_oids.specs.Arcs.{address_of, arcs_of, named_in};
+ghost use Rattle.gate_base.specs.Rules.{AreRules};
 ghost use Rattle.snmp_oids.specs.Identifier.{place_behind, arc_octets, address_octets, change_at, change_of, changed, identifier_renamed};
 ghost use Rattle.snmp_oids.specs.Written.{with_octets};
 
-use crate::arcs::{address_of, arcs_begin, has_arcs};
+use crate::arcs::{address_of, compare_content, has_arcs};
 use crate::put::put;
 use gate_base::{Addr, OidRule};
+use oid_rules::{Compared, Identifier, SortedRules};
 use snmp_gateway::Lookup;
 
 /// The address that is to stand in place of the octets from a start to an end.
@@ -26,7 +27,7 @@ pub(crate) struct Change {
 ///
 /// None exactly where no rule fits. So it is where the content has no arcs: its last octet has the high bit, a sub-identifier
 /// begins with 0x80, or one is above 4,294,967,295.
-pub fn address_in(content: &[u8], rules: &[OidRule]) -> Option<Addr>
+pub fn address_in(content: &[u8], rules: &SortedRules) -> Option<Addr>
     requires { AreRules rules.now }
     ensures { option_map (λ a. a.0) result ≡ option_map (λ found. found.1) (named_in rules.now content.now) }
 {
@@ -35,28 +36,46 @@ pub fn address_in(content: &[u8], rules: &[OidRule]) -> Option<Addr>
 }
 
 // How many arcs stand before the address that the rules name, and that address.
-fn named_in(content: &[u8], rules: &[OidRule]) -> Option<(usize, Addr)>
+fn named_in(content: &[u8], rules: &SortedRules) -> Option<(usize, Addr)>
     requires { AreRules rules.now }
     ensures value { option_map (λ p. (p.0, p.1.0)) result ≡ named_in rules.now content.now }
 {
-    for rule in rules {
-        if let Some(address) = named_by(content, rule) {
-            return Some((rule.prefix.items().len() + rule.skip as usize, address));
-        }
-    }
-    None
+    let (rule, address) = rules.first(&Content { octets: content })?;
+    Some((rule.prefix.items().len() + rule.skip as usize, address))
 }
 
-// The address that a rule names.
-fn named_by(content: &[u8], rule: &OidRule) -> Option<Addr>
-    requires { IsTrue (is_rule rule.now) }
-    ensures { option_map (λ a. a.0) result ≡ option_and_then (named_by rule.now) (arcs_of content.now) }
+// The content of an OBJECT IDENTIFIER.
+#[derive(Drop)]
+struct Content<'a> {
+    octets: &'a [u8],
+}
+
+impl<'a> Identifier for Content<'a> {
+    ghost use Rattle.std.specs.Prelude.{drop, option_and_then};
+    ghost use Rattle.snmp_oids.specs.Arcs.{arcs_of, address_of, before};
+
+    ghost arcs_of = { λ content. arcs_of content.octets.now };
+
+    ghost address_by = { λ content rule. option_and_then (λ arcs. address_of (drop (before rule) arcs)) (arcs_of content.octets.now) };
+
+    fn compare(&self, rule: &OidRule) -> Compared {
+        compare_content(self.octets, rule.prefix.items())
+    }
+
+    fn address(&self, rule: &OidRule) -> Option<Addr> {
+        address_behind(self.octets, rule.prefix.items().len() + rule.skip as usize)
+    }
+}
+
+// The address that four arcs make behind so many arcs of content, if it has any.
+fn address_behind(content: &[u8], before: usize) -> Option<Addr>
+    requires { 2 ≤ before }
+    ensures { option_map (λ a. a.0) result ≡ option_and_then (λ arcs. address_of (drop before arcs)) (arcs_of content.now) }
 {
-    let prefix = rule.prefix.items();
-    if !arcs_begin(content, prefix) || !has_arcs(content) {
+    if !has_arcs(content) {
         return None;
     }
-    let start = place_behind(prefix.len() + rule.skip as usize - 1, content);
+    let start = place_behind(before - 1, content);
     address_of(&content[start..])
 }
 
@@ -78,7 +97,7 @@ fn place_behind(count: usize, octets: &[u8]) -> usize
 }
 
 // What is to change in content: the address that the rules name, if it has an image.
-fn change_of<L: Lookup>(content: &[u8], rules: &[OidRule], lookup: &L) -> Option<Change>
+fn change_of<L: Lookup>(content: &[u8], rules: &SortedRules, lookup: &L) -> Option<Change>
     requires { AreRules rules.now }
     ensures value { result ≡ change_of (L.image_of lookup.now) rules.now content.now }
     ensures within { IfSome result (λ change. change.start + 4 ≤ change.end × change.end ≤ length content.now) }
@@ -125,7 +144,7 @@ fn put_address(address: Addr, target: &mut [u8], place: usize) -> usize
 /// Writes content at a place, with the image of the address in its place. The result is the place behind it.
 pub(crate) fn put_identifier<L: Lookup>(
     content: &[u8],
-    rules: &[OidRule],
+    rules: &SortedRules,
     lookup: &L,
     target: &mut [u8],
     place: usize,

@@ -6,7 +6,7 @@ ghost use Rattle.snmp_oids.specs.Elements.{oid_renamed};
 
 use crate::elements::put_elements;
 use crate::put::put;
-use gate_base::OidRule;
+use oid_rules::SortedRules;
 use snmp_gateway::{Lookup, SnmpKind, check};
 
 /// Writes a message with the images of the addresses in it at the front of a target, and answers its length. The rest of the
@@ -19,7 +19,7 @@ use snmp_gateway::{Lookup, SnmpKind, check};
 /// other keeps its octets of length. A message of version 3 is kept.
 pub fn rename_into<L: Lookup>(
     octets: &[u8],
-    rules: &[OidRule],
+    rules: &SortedRules,
     lookup: &L,
     target: &mut [u8],
 ) -> usize

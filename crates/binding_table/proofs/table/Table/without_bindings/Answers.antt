@@ -25,4 +25,5 @@ invariant_of-result c =
     let most = ap (λ (t : Table Binding). t.most) c.in_ok-make.ensures in
     let long = c.len.ensures ∙ ap (λ (aliases : Aliases). length aliases.hosts) left ∙ length_hosts (range_of_settings settings.left) Left [] in
     let wide = c.len-2.ensures ∙ ap (λ (aliases : Aliases). length aliases.hosts) right ∙ length_hosts (range_of_settings settings.right) Right [] in
-    whole_by _ (without_bindings settings) same left right c.in_ok-copy.ensures (ap (λ (t : Table Binding). t.rows) c.in_ok-make.ensures) (opening_lawful settings c.requires.sound c.requires.forms) (subst AreRules (sym c.in_ok-copy.ensures) c.requires.forms.oids) (omega (arith, most, long, wide))
+    let oids = c.in_ok-of.ensures ∙ c.items-3.ensures in
+    whole_by _ (without_bindings settings) same left right oids (ap (λ (t : Table Binding). t.rows) c.in_ok-make.ensures) (opening_lawful settings c.requires.sound c.requires.forms) (subst AreRules (sym oids) c.requires.forms.oids) (omega (arith, most, long, wide))

@@ -1,0 +1,95 @@
+-- Rules sorted by their arcs, and what is found among them.
+use Rattle.std.specs.Prelude.{◌≡◌, ℕ, ◌+◌, ◌<◌, ◌≤◌, ◌==◌, nat_eq, Bool, true, false, nat_lt, if◌then◌else◌, List, [], ◌∷◌, length, slice_index_or, Option, Some, None, option_map, IfSome, IsSome, IsTrue, All}
+use Rattle.std.specs.List.{starts_with}
+use Rattle.std.specs.List.Sorted.{IsPermutation}
+use Rattle.std.specs.Option.{option_or}
+use Rattle.gate_base.specs.declared.address.Addr.{Addr}
+use Rattle.gate_base.specs.declared.rule.OidRule.{OidRule}
+use Rattle.oid_rules.specs.declared.sorted.Compared.{Compared}
+use Rattle.oid_rules.specs.declared.sorted.Compared.TheVariants.{Before, Begins, Behind}
+use Rattle.oid_rules.specs.declared.sorted.Numbered.{Numbered}
+use Rattle.gate_base.specs.Rules.{is_rule}
+
+-- how an arc stands to another one that differs
+abbrev pub order_of : ℕ → ℕ → Compared
+order_of x y = if nat_lt x y then Before else Behind
+
+-- where arcs stand to a prefix
+abbrev pub compared : List ℕ → List ℕ → Compared
+compared arcs [] = Begins
+compared [] (y ∷ ys) = Before
+compared (x ∷ xs) (y ∷ ys) = if x == y then compared xs ys else order_of x y
+
+-- the first rule whose arcs begin these and which names an address, and that address
+abbrev pub first_begun : (OidRule → Option ℕ) → List ℕ → List OidRule → Option (OidRule × ℕ)
+first_begun address arcs [] = None
+first_begun address arcs (rule ∷ rules) = option_or (if starts_with nat_eq arcs rule.prefix then option_map (λ a. (rule, a)) (address rule) else None) (first_begun address arcs rules)
+
+-- ## Rules with their places in the list
+
+-- the rules of a list from a place on
+abbrev pub numbered : ℕ → List OidRule → List Numbered
+numbered place [] = []
+numbered place (rule ∷ rules) = record { number = place; rule = rule } ∷ numbered (place + 1) rules
+
+-- the rule at a place
+abbrev pub rule_at : List Numbered → ℕ → Numbered
+rule_at sorted place = slice_index_or sorted place (record { number = 0; rule = record { prefix = []; skip = 0 } })
+
+-- arcs begin with those of the rule at a place
+abbrev pub BeginsAt : List Numbered → List ℕ → ℕ → Type 0
+BeginsAt sorted arcs place = compared arcs (rule_at sorted place).rule.prefix ≡ Begins
+
+-- the last of so many rules that arcs begin with
+abbrev pub IsLast : ℕ → List Numbered → List ℕ → Option ℕ → Type 0
+IsLast count sorted arcs None = (k : ℕ) → k < count → BeginsAt sorted arcs k → ⊥
+IsLast count sorted arcs (Some place) = (place < count) × BeginsAt sorted arcs place × ((k : ℕ) → place < k → k < count → BeginsAt sorted arcs k → ⊥)
+
+-- no rule comes before an earlier one
+abbrev pub InOrder : List Numbered → Type 0
+InOrder sorted = (i j : ℕ) → i ≤ j → j < length sorted → compared (rule_at sorted j).rule.prefix (rule_at sorted i).rule.prefix ≡ Before → ⊥
+
+abbrev pub AllRules : List Numbered → Type 0
+AllRules sorted = All (λ one. IsTrue (is_rule one.rule)) sorted
+
+-- for each rule the last one before it that its arcs begin with
+abbrev pub AreOuter : List Numbered → List (Option ℕ) → Type 0
+AreOuter sorted outer = (k : ℕ) → k < length outer → IsLast k sorted (rule_at sorted k).rule.prefix (slice_index_or outer k None)
+
+-- the rules of a list in order
+pub record AreSorted (rules : List OidRule) (sorted : List Numbered) : Type 0 where
+  pub moved : IsPermutation (numbered 0 rules) sorted
+  pub order : InOrder sorted
+  pub all : AllRules sorted
+
+-- ## Halving
+
+-- arcs don't come before the rules below one place and come before those from another one on, and whether they begin with the last one below
+pub record Halves (count low high : ℕ) (sorted : List Numbered) (arcs : List ℕ) (begins : Bool) : Type 0 where
+  pub below : (k : ℕ) → k < low → compared arcs (rule_at sorted k).rule.prefix ≡ Before → ⊥
+  pub above : (k : ℕ) → high ≤ k → k < count → compared arcs (rule_at sorted k).rule.prefix ≡ Before
+  pub last : (k : ℕ) → k + 1 ≡ low → begins ≡ true → BeginsAt sorted arcs k
+  pub other : (k : ℕ) → k + 1 ≡ low → begins ≡ false → BeginsAt sorted arcs k → ⊥
+
+-- ## The first one that names an address
+
+-- what a rule names in an identifier that begins with its arcs
+abbrev pub IsFound : (OidRule → Option ℕ) → List Numbered → Option (ℕ × Addr) → Type 0
+IsFound address sorted None = Unit {0}
+IsFound address sorted (Some found) = (found.0 < length sorted) × (address (rule_at sorted found.0).rule ≡ Some found.1.0)
+
+-- what is found stands no later in the list than a place
+abbrev pub IsEarly : List Numbered → Option (ℕ × Addr) → ℕ → Type 0
+IsEarly sorted None number = ⊥
+IsEarly sorted (Some found) number = (rule_at sorted found.0).number ≤ number
+
+-- a place behind those that are still to be looked at
+abbrev pub IsDone : Option ℕ → ℕ → Type 0
+IsDone None place = Unit {0}
+IsDone (Some last) place = last < place
+
+-- arcs begin with the rule that is to be looked at and with the one that was found, which is the first of those that were looked at
+pub record IsFirst (address : OidRule → Option ℕ) (sorted : List Numbered) (arcs : List ℕ) (place : Option ℕ) (best : Option (ℕ × Addr)) : Type 0 where
+  pub ahead : IfSome place (BeginsAt sorted arcs)
+  pub found : IfSome best (λ p. BeginsAt sorted arcs p.0)
+  pub first : (k : ℕ) → k < length sorted → IsDone place k → BeginsAt sorted arcs k → IsSome (address (rule_at sorted k).rule) → IsEarly sorted best (rule_at sorted k).number

@@ -1,0 +1,6 @@
+//! The rules that say where object identifiers hold addresses, sorted, so that the first of many is found in few steps.
+#![tactic(auto)]
+
+mod sorted;
+
+pub use sorted::{Compared, Identifier, SortedRules, order_of};
