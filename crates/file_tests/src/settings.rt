@@ -1,6 +1,6 @@
 // Documents, and the settings or the first fault that they give.
 use gate_base::{Addr, Link, OidRule, Side};
-use gate_settings::{Block, Blocks, Fixed, OidRules, Settings, SideSettings, Statics};
+use gate_settings::{Block, Blocks, Fixed, OidRules, SameRanges, Settings, SideSettings, Statics};
 use settings_file::{ReadSettings, fault_text, read_settings};
 use std::alloc::Global;
 use std::test::Fail;
@@ -210,10 +210,11 @@ fn reads_blocks(alloc: Global) -> Result<bool, Fail> {
     let settings = read(alloc, "same = [\"11.0.0.0/8\"]")?;
     let (base, bits) = (Addr(0x0b00_0000), 8);
     let first = settings.same.items().first();
+    let same = SameRanges::of(alloc, settings.same.items())?;
     Ok(
         first == Some(&Block { base, bits })
-            && settings.in_same(Addr(0x0bff_ffff))
-            && !settings.in_same(Addr(0x0c00_0000))
+            && same.contains(Addr(0x0bff_ffff))
+            && !same.contains(Addr(0x0c00_0000))
             && Blocks::of(Vec::new(alloc)).items().is_empty(),
     )
 }

@@ -22,13 +22,6 @@ impl Block {
         let rest = 32u32.saturating_sub(u32::from(self.bits));
         u64::from(self.base.0) + ((1u64 << rest) - 1)
     }
-
-    /// Whether the address lies in the block.
-    pub fn contains(&self, address: Addr) -> bool
-        ensures { result ≡ cross.is_in_block address self.now }
-    {
-        self.base.0 <= address.0 && u64::from(address.0) <= self.end()
-    }
 }
 
 /// One realm's pool and link.
@@ -201,15 +194,5 @@ impl Settings {
             Side::Left => &self.left,
             Side::Right => &self.right,
         }
-    }
-
-    /// Whether the address lies in a block of `same`.
-    pub fn in_same(&self, address: Addr) -> bool
-        ensures { result ≡ cross.is_in_same address self.now.same }
-    {
-        self.same
-            .items()
-            .iter()
-            .any(|block| block.contains(address))
     }
 }

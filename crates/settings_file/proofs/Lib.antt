@@ -4,3 +4,4 @@ pub mod ArcTexts
 pub mod Sound
 pub mod Forms
 pub mod Accepted
+mod Repeated

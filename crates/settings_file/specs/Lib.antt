@@ -5,3 +5,4 @@ pub mod Texts
 pub mod Prefixes
 pub mod Document
 pub mod Accepting
+pub mod Numbers

@@ -1,13 +1,15 @@
 // What the settings must be to one another.
-ghost use Rattle.std.specs.Prelude.{◌≡◌, ◌<◌, ◌^◌, [], length, position, IfSome};
-ghost use Rattle.std.specs.List.{list_any};
+ghost use Rattle.std.specs.Prelude.{◌≡◌, ◌<◌, ◌^◌, [], length, position, IfOk, IfSome};
 ghost use Rattle.gate_settings.specs.Cross as cross;
 ghost use Rattle.settings_file.specs.Accepting as accepting;
+ghost use Rattle.settings_file.specs.Numbers as keys;
 
 use crate::fault::SettingsFault;
 use crate::given::Given;
-use gate_base::Side;
-use gate_settings::{Block, Fixed, Settings, SideSettings};
+use gate_base::{Addr, OutOfMemory, Side};
+use gate_settings::{Block, Fixed, SameRanges, Settings, SideSettings};
+use std::alloc::Global;
+use std::collections::BTreeSet;
 
 fn is_bad_pool(pool: &SideSettings) -> bool
     ensures { result ≡ cross.is_bad_pool pool.now }
@@ -27,11 +29,10 @@ fn same_meets_pool(pool: &SideSettings, same: &[Block]) -> bool
     same.iter().any(|block| meets_pool(pool, block))
 }
 
-#[tactic(auto, unfolding(gate_settings::specs::Cross::host_is_taken))]
-fn host_is_taken(settings: &Settings, fixed: &Fixed) -> bool
-    ensures { result ≡ cross.host_is_taken settings.now fixed.now }
+fn host_is_taken(settings: &Settings, same: &SameRanges, fixed: &Fixed) -> bool
+    ensures { result ≡ keys.host_is_taken settings.now same.now fixed.now }
 {
-    settings.side(fixed.side).contains(fixed.host) || settings.in_same(fixed.host)
+    settings.side(fixed.side).contains(fixed.host) || same.contains(fixed.host)
 }
 
 #[tactic(auto, unfolding(gate_settings::specs::Cross::alias_is_outside))]
@@ -41,17 +42,15 @@ fn alias_is_outside(settings: &Settings, fixed: &Fixed) -> bool
     !settings.side(fixed.side.other()).contains(fixed.alias)
 }
 
-fn collides(fixed: &Fixed, earlier: &Fixed) -> bool
-    ensures { result ≡ cross.collides fixed.now earlier.now }
+// The number of an address of a realm: no two have the same.
+fn number_of(side: Side, address: Addr) -> u64
+    ensures { result ≡ keys.number_of side address.0 }
 {
-    earlier.side == fixed.side
-        && (earlier.host.0 == fixed.host.0 || earlier.alias.0 == fixed.alias.0)
-}
-
-fn collides_with_any(fixed: &Fixed, earlier: &[Fixed]) -> bool
-    ensures { result ≡ list_any (cross.collides fixed.now) earlier.now }
-{
-    earlier.iter().any(|one| collides(fixed, one))
+    let even = 2 * u64::from(address.0);
+    match side {
+        Side::Left => even,
+        Side::Right => even + 1,
+    }
 }
 
 #[tactic(auto, unfolding(crate::specs::Accepting::pool_size))]
@@ -81,13 +80,13 @@ fn same_in_pool(settings: &Settings) -> Option<SettingsFault>
     }
 }
 
-fn first_taken(settings: &Settings, statics: &[Fixed]) -> Option<usize>
-    ensures value { result ≡ position (cross.host_is_taken settings.now) statics.now }
+fn first_taken(settings: &Settings, same: &SameRanges, statics: &[Fixed]) -> Option<usize>
+    ensures value { result ≡ position (keys.host_is_taken settings.now same.now) statics.now }
     ensures within { IfSome result (λ place. place < length statics.now) }
 {
     statics
         .iter()
-        .position(|fixed| host_is_taken(settings, fixed))
+        .position(|fixed| host_is_taken(settings, same, fixed))
 }
 
 fn first_outside(settings: &Settings, statics: &[Fixed]) -> Option<usize>
@@ -100,13 +99,14 @@ fn first_outside(settings: &Settings, statics: &[Fixed]) -> Option<usize>
 }
 
 #[tactic(auto, unfolding(crate::specs::Accepting::host_in_pool))]
-fn host_in_pool(settings: &Settings) -> Option<SettingsFault>
+fn host_in_pool(alloc: Global, settings: &Settings) -> Result<Option<SettingsFault>, OutOfMemory>
     requires { length settings.now.statics < 2 ^ 32 }
-    ensures { result ≡ accepting.host_in_pool settings.now }
+    ensures { IfOk result (λ found. found ≡ accepting.host_in_pool settings.now) }
 {
-    match first_taken(settings, settings.statics.items()) {
-        Some(place) => Some(SettingsFault::HostInPool(place as u32 + 1)),
-        None => None,
+    let same = SameRanges::of(alloc, settings.same.items())?;
+    match first_taken(settings, &same, settings.statics.items()) {
+        Some(place) => Ok(Some(SettingsFault::HostInPool(place as u32 + 1))),
+        None => Ok(None),
     }
 }
 
@@ -121,24 +121,28 @@ fn static_outside_pool(settings: &Settings) -> Option<SettingsFault>
     }
 }
 
-fn repeated(statics: &[Fixed]) -> Option<SettingsFault>
+fn repeated(alloc: Global, statics: &[Fixed]) -> Result<Option<SettingsFault>, OutOfMemory>
     requires { length statics.now < 2 ^ 32 }
-    ensures { result ≡ accepting.first_repeated [] statics.now }
+    ensures { IfOk result (λ found. found ≡ accepting.first_repeated [] statics.now) }
 {
+    let mut hosts = BTreeSet::new(alloc);
+    let mut aliases = BTreeSet::new(alloc);
     for (index, fixed) in statics.iter().enumerate() {
-        if collides_with_any(fixed, &statics[..index]) {
-            return Some(SettingsFault::StaticRepeated(index as u32 + 1));
+        let new_host = hosts.insert(number_of(fixed.side, fixed.host))?;
+        let new_alias = aliases.insert(number_of(fixed.side, fixed.alias))?;
+        if !new_host || !new_alias {
+            return Ok(Some(SettingsFault::StaticRepeated(index as u32 + 1)));
         }
     }
-    None
+    Ok(None)
 }
 
 #[tactic(auto, unfolding(crate::specs::Accepting::static_repeated))]
-fn static_repeated(settings: &Settings) -> Option<SettingsFault>
+fn static_repeated(alloc: Global, settings: &Settings) -> Result<Option<SettingsFault>, OutOfMemory>
     requires { length settings.now.statics < 2 ^ 32 }
-    ensures { result ≡ accepting.static_repeated settings.now }
+    ensures { IfOk result (λ found. found ≡ accepting.static_repeated settings.now) }
 {
-    repeated(settings.statics.items())
+    repeated(alloc, settings.statics.items())
 }
 
 #[tactic(auto, unfolding(crate::specs::Accepting::mac_missing))]
@@ -154,17 +158,21 @@ fn mac_missing(given: &Given) -> Option<SettingsFault>
     }
 }
 
-/// The first fault of settings that were given.
+/// The first fault of settings that were given. The error is that there is too little memory.
 #[tactic(auto, unfolding(crate::specs::Accepting::first_fault))]
-pub fn first_fault(given: &Given) -> Option<SettingsFault>
+pub fn first_fault(alloc: Global, given: &Given) -> Result<Option<SettingsFault>, OutOfMemory>
     requires { length given.now.settings.statics < 2 ^ 32 }
-    ensures { result ≡ accepting.first_fault given.now }
+    ensures { IfOk result (λ found. found ≡ accepting.first_fault given.now) }
 {
     let settings = &given.settings;
-    pool_size(settings)
-        .or(same_in_pool(settings))
-        .or(host_in_pool(settings))
-        .or(static_outside_pool(settings))
-        .or(static_repeated(settings))
-        .or(mac_missing(given))
+    let taken = host_in_pool(alloc, settings)?;
+    let repeated = static_repeated(alloc, settings)?;
+    Ok(
+        pool_size(settings)
+            .or(same_in_pool(settings))
+            .or(taken)
+            .or(static_outside_pool(settings))
+            .or(repeated)
+            .or(mac_missing(given)),
+    )
 }

@@ -56,7 +56,8 @@ pub fn read_settings(alloc: Global, octets: &[u8]) -> Result<Settings, ReadSetti
     ensures forms { IfOk result HasForms }
 {
     let given = read_keys(alloc, octets)?;
-    match first_fault(&given) {
+    let fault = first_fault(alloc, &given)?;
+    match fault {
         Some(fault) => Err(ReadSettings::Fault(fault)),
         None => Ok(given.settings),
     }
