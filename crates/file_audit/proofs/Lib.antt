@@ -10,3 +10,4 @@ mod BegunCaptures
 pub mod LeftCounts
 pub mod IncomingEnds
 pub mod Wanting
+pub mod Files

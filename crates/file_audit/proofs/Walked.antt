@@ -33,7 +33,7 @@ use Rattle.file_audit.specs.declared.given.GivenFiles.{GivenFiles}
 use Rattle.file_audit.specs.declared.line.LineHead.{LineHead}
 use Rattle.file_audit.specs.declared.stop.AuditStop.{AuditStop}
 use Rattle.file_audit.specs.declared.stop.AuditStop.TheVariants as stops
-use Rattle.file_audit.specs.Given.{ReadsGiven, given_told, Alike, IfBoth}
+use Rattle.file_audit.specs.Given.{ReadsGiven, TookFiles, given_told, Alike, IfBoth}
 use Rattle.file_audit.specs.Events.{Expected, IsExpecting, state_of, IsLawfulWith, IsReasonAt, IsReadInAudit, MayWantFor, WantsAt, TookFew, Finds, FindsAt, FindsLast, FoundLawful, stop_of}
 use Rattle.gate_audit.specs.Auditing.{Auditing}
 use Rattle.file_audit.proofs.Alikes.{alike_same, alike_join}
@@ -231,11 +231,12 @@ front_is done None = tt
 front_is done (Some x) = (x.events, refl)
 
 -- so much was taken of the incoming captures
-pub took_few : (settings : Settings) (m0 m : Merging) (r0 r : GivenFiles) (old now new : Outside) (joiner : Joined) (s : State) → (h : Walked settings m0 m r0 r old now joiner s) → ((start : Outside) → HasGiven start m now h.done → TakenFor h.done start new) → TookFew m0 old new
-took_few settings m0 m r0 r old now new joiner s h few = record {
+pub took_few : (settings : Settings) (m0 m : Merging) (r0 r : GivenFiles) (old now new : Outside) (joiner : Joined) (s : State) → (h : Walked settings m0 m r0 r old now joiner s) → ((start : Outside) → HasGiven start m now h.done → TakenFor h.done start new) → TookFiles old new → TookFew m0 old new
+took_few settings m0 m r0 r old now new joiner s h few files = record {
   handled = h.done;
   few = λ start g. few start (h.given start g);
   front = subst (λ o. IfSome o (λ all. (others : List Event) × (all.events ≡ h.done ++ others))) (sym h.others) (front_is h.done (ahead m now.left));
+  files = files;
 }
 
 -- an event that was lawful, and what it read

@@ -30,7 +30,7 @@ use Rattle.file_audit.specs.declared.line.LineHead.{LineHead}
 use Rattle.file_audit.specs.declared.given.GivenFiles.{GivenFiles}
 use Rattle.file_audit.specs.declared.stop.AuditStop.{AuditStop}
 use Rattle.file_audit.specs.declared.stop.AuditStop.TheVariants as stops
-use Rattle.file_audit.specs.Given.{Fits, IsRunning, given_slot, given_told, Alike, IfBoth}
+use Rattle.file_audit.specs.Given.{Fits, IsRunning, TookFiles, given_slot, given_told, Alike, IfBoth}
 use Rattle.gate_audit.specs.Auditing.{Auditing, whole_world}
 use Rattle.gate_audit.specs.Memory.{MayWant}
 
@@ -141,11 +141,12 @@ Finds (Err (stops.Capture side fault place)) settings m r old new =
 Finds (Err (stops.Desk slot)) settings m r old new = IsReadInAudit slot × HasFailed slot old new
 Finds (Err stops.OutOfMemory) settings m r old new = (settings.json ≡ true) ⊎ IfBoth (ahead m old.left) (given_told r old.left) (WantsAt settings)
 
--- of each incoming capture no more whole records were taken than those of the first events, and one more, and it was read no further than a capture may be and the head of a record
+-- of each incoming capture no more whole records were taken than those of the first events, and one more, and it was read no further than a capture may be and the head of a record; and of slots but these and those of the given files nothing was taken
 pub record TookFew (m : Merging) (old new : Outside) : Type 0 where
   pub handled : List Event
   pub few : (start : Outside) → HasGiven start m old [] → TakenFor handled start new
   pub front : IfSome (ahead m old.left) (λ all. (others : List Event) × (all.events ≡ handled ++ others))
+  pub files : TookFiles old new
 
 -- why an audit stops where its merge does
 abbrev pub stop_of : MergeStop → AuditStop

@@ -3,7 +3,7 @@ use Rattle.std.specs.Prelude.{◌≡◌, ◌≤◌, ◌^◌, ℕ, List, ◌++◌
 use Rattle.gate_base.specs.declared.side.Side.{Side}
 use Rattle.gate_base.specs.declared.side.Side.TheVariants.{Left, Right}
 use Rattle.gate_desk.specs.declared.slot.Slot.{Slot}
-use Rattle.gate_desk.specs.declared.slot.Slot.TheVariants.{LeftGiven, RightGiven, ReportGiven}
+use Rattle.gate_desk.specs.declared.slot.Slot.TheVariants.{LeftIn, RightIn, LeftGiven, RightGiven, ReportGiven}
 use Rattle.gate_desk.specs.declared.slot.PerSlot.{PerSlot}
 use Rattle.gate_desk.specs.Outside.{Outside, Told, Grows, Takes, told_at, took}
 use Rattle.gate_report.specs.declared.totals.Totals.{Totals}
@@ -75,3 +75,12 @@ pub record ReadsGiven (old new : Outside) : Type 0 where
   pub starts : new.starts ≡ old.starts
   pub start_faults : new.start_faults ≡ old.start_faults
   pub grows : Grows old new
+
+-- of both incoming captures and of the given files so many octets were taken, and of no other slot any
+pub record TookFiles (old new : Outside) : Type 0 where
+  pub left_in_count : ℕ
+  pub right_in_count : ℕ
+  pub left_given_count : ℕ
+  pub right_given_count : ℕ
+  pub report_given_count : ℕ
+  pub left : new.left ≡ took ReportGiven report_given_count (took RightGiven right_given_count (took LeftGiven left_given_count (took RightIn right_in_count (took LeftIn left_in_count old.left))))

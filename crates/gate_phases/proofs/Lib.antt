@@ -2,5 +2,6 @@ pub mod Lines
 pub mod Causes
 pub mod Beginning
 pub mod Untaken
+pub mod Inputs
 pub mod Numbers
 pub mod Faults

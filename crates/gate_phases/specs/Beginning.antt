@@ -1,5 +1,5 @@
 -- How a run or an audit begins: the settings, and the heads of both captures.
-use Rattle.std.specs.Prelude.{◌≡◌, ℕ, ◌<◌, List, [], ◌∷◌, true, Ok, Err, IfSome, option_map, drop, ◌^◌, ◌≤◌, false, Result, None}
+use Rattle.std.specs.Prelude.{◌≡◌, ℕ, ◌+◌, ◌<◌, List, [], ◌∷◌, true, Ok, Err, IfSome, option_map, drop, ◌^◌, ◌≤◌, false, Result, None}
 use Rattle.gate_desk.specs.declared.slot.Slot.{Slot}
 use Rattle.gate_desk.specs.declared.slot.Slot.TheVariants.{Settings, LeftIn, RightIn}
 use Rattle.gate_desk.specs.declared.slot.PerSlot.{PerSlot}
@@ -36,6 +36,24 @@ events_in all = events_of all.left_in all.right_in
 abbrev pub IsBeforeHead : Slot → Outside → Outside → Type 0
 IsBeforeHead Settings old new = Unit {0}
 IsBeforeHead slot old new = (count : ℕ) × (count < 24) × (told_at new.left slot ≡ option_map (drop count) (told_at old.left slot))
+
+-- of the settings no more octets were taken than they may have and one, and of no other slot any
+abbrev pub TookSettings : Outside → Outside → Type 0
+TookSettings old new = (count : ℕ) × (count ≤ 2 ^ 20 + 1) × (new.left ≡ took Settings count old.left)
+
+-- of both captures so many octets were taken, and of no other slot any
+pub record TookCaptures (old new : Outside) : Type 0 where
+  pub left_count : ℕ
+  pub right_count : ℕ
+  pub left : new.left ≡ took RightIn right_count (took LeftIn left_count old.left)
+
+-- of the settings and of both captures, and of no other slot
+pub record TookInputs (old new : Outside) : Type 0 where
+  pub settings_count : ℕ
+  pub few : settings_count ≤ 2 ^ 20 + 1
+  pub left_count : ℕ
+  pub right_count : ℕ
+  pub left : new.left ≡ took RightIn right_count (took LeftIn left_count (took Settings settings_count old.left))
 
 -- the settings were read and accepted
 pub record Settled (settings : GateSettings) (appended : List Start) (old new : Outside) : Type 0 where

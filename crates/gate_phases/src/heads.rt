@@ -2,7 +2,7 @@
 ghost use Rattle.std.specs.Prelude.{◌≡◌, [], OnErr};
 ghost use Rattle.pcap_merge.specs.Given.{TakenFor};
 ghost use Rattle.gate_phases.specs.Causes.{Opens};
-ghost use Rattle.gate_phases.specs.Beginning.{Settles, Merges, settings_start, inputs_start};
+ghost use Rattle.gate_phases.specs.Beginning.{Settles, Merges, TookCaptures, TookSettings, settings_start, inputs_start};
 
 use crate::Status;
 use crate::open::start_slot;
@@ -19,6 +19,7 @@ const SETTINGS_LIMIT: usize = 1_048_576;
 pub fn settle<D: Desk>(alloc: Global, desk: &mut D, name: &str) -> Result<Settings, Status>
     ensures answer { Settles result (settings_start name.now) (D.outside desk.old) (D.outside desk.new) }
     ensures taken { OnErr result (TakenFor [] (D.outside desk.old) (D.outside desk.new)) }
+    ensures settings { TookSettings (D.outside desk.old) (D.outside desk.new) }
 {
     start_slot(desk, Slot::Settings, name, Way::Read)?;
     let text = read_up_to(alloc, desk, Slot::Settings, SETTINGS_LIMIT)?;
@@ -39,6 +40,7 @@ fn open_inputs<D: Desk>(desk: &mut D, left: &str, right: &str) -> Result<(), Sta
 pub fn begin<D: Desk>(alloc: Global, desk: &mut D, left: &str, right: &str) -> Result<Merge, Status>
     ensures answer { Merges result (inputs_start left.now right.now) (D.outside desk.old) (D.outside desk.new) }
     ensures taken { OnErr result (TakenFor [] (D.outside desk.old) (D.outside desk.new)) }
+    ensures captures { TookCaptures (D.outside desk.old) (D.outside desk.new) }
 {
     open_inputs(desk, left, right)?;
     let merge = Merge::begin(alloc, desk)?;

@@ -9,7 +9,7 @@ use Rattle.pcap_merge.specs.declared.stop.MergeStop.{MergeStop}
 use Rattle.pcap_merge.specs.declared.stop.MergeStop.TheVariants as merges
 use Rattle.pcap_merge.specs.Events.{Merged}
 use Rattle.pcap_merge.specs.Given.{TakenFor}
-use Rattle.pcap_merge.specs.Merge.{Merging, ComesTo, Finishes as FinishesMerge, StopsBy, TakesFew, ahead}
+use Rattle.pcap_merge.specs.Merge.{Merging, ComesTo, Finishes as FinishesMerge, Reads, StopsBy, TakesFew, ahead}
 use Rattle.pcap_merge.specs.Stops.{slot_of}
 use Rattle.pcap_merge.proofs.Given.{given_few, taken_later}
 use Rattle.kept_world.specs.Kept.{KeptSession, kept_rules}
@@ -24,7 +24,9 @@ use Rattle.gateway.specs.Machine.{State, frames_of, heads, line_piece}
 use Rattle.gateway.specs.Ends.{StandWritten}
 use Rattle.gateway.specs.Phases.{Prepared, Readied, TookFew, WritesLastLine, Handles, OfEvents, state_of}
 use Rattle.gateway.specs.Pieces.{Piece, IsFront, wrote_pieces}
+use Rattle.gate_phases.specs.Beginning.{TookInputs}
 use Rattle.gate_phases.proofs.Beginning.{if_some}
+use Rattle.gate_phases.proofs.Inputs.{captures_later, captures_read, inputs_later, inputs_on}
 use Rattle.gateway.proofs.Pieces.{is_front_all, is_front_none, wrote_pieces-nil}
 use Rattle.gateway.proofs.Progress.{Progress, Joiner, with_front, given_first, given_kept, failed_only}
 use Rattle.gateway.proofs.Runs.{of_events, heads_written}
@@ -46,9 +48,9 @@ stands : (settings : GateSettings) (m0 m : Merging) (old now : Outside) (s : Sta
 stands settings m0 m old now s joiner behind new h front =
     subst (λ o. IfSome o (λ all. StandWritten settings h.done all.events old.written new.written)) (sym h.others) (stand_of settings h.done behind (ahead m now.left) old.written now.written new.written h.written front)
 
-few_stop : (stop : MergeStop) (m : Merging) (now new : Outside) → StopsBy stop m now new → TakesFew m now new × (new.written ≡ now.written)
-few_stop (merges.Fault side f place) m now new k = (k.2, k.0.written)
-few_stop (merges.Desk slot) m now new k = (k.2.few, k.2.reads.written)
+few_stop : (stop : MergeStop) (m : Merging) (now new : Outside) → StopsBy stop m now new → TakesFew m now new × Reads now new
+few_stop (merges.Fault side f place) m now new k = (k.2, k.0)
+few_stop (merges.Desk slot) m now new k = (k.2.few, k.2.reads)
 few_stop merges.OutOfMemory m now new k = absurd k
 
 -- the merge stopped
@@ -58,7 +60,8 @@ took_stop stop settings m0 m old now new s joiner h k =
     record {
       handled = h.done;
       few = λ start given. stopped.0 start h.done (h.given start given);
-      stand = stands settings m0 m old now s joiner [] new h (is_front_all [] now.written new.written (stopped.1 ∙ sym (wrote_pieces-nil now.written)));
+      stand = stands settings m0 m old now s joiner [] new h (is_front_all [] now.written new.written (stopped.1.written ∙ sym (wrote_pieces-nil now.written)));
+      captures = captures_read old now new h.captures stopped.1;
     }
 
 -- of the last line a front was written, or all of it
@@ -82,6 +85,7 @@ took_end r settings m0 m m' old now mid new s joiner line h k f =
       handled = h.done;
       few = λ start given. taken_later start mid new h.done (λ side. ap (λ (t : Told). told_at t (slot_of side)) front.0) (k.few start h.done (h.given start given));
       stand = stands settings m0 m old now s joiner (line_piece settings.json line ∷ []) new h (subst (λ (t : Told). IsFront (line_piece settings.json line ∷ []) t new.written) k.reads.written front.1);
+      captures = captures_later old mid new front.0 (captures_read old now mid h.captures k.reads);
     }
 
 event_front : (e : Status) (gate gate' : Gateway) (totals : Totals) (event : Arrival) (mid new : Outside) → Handles (Err e) gate gate' totals event mid new → (behind : List Piece) × IsFront behind mid.written new.written
@@ -95,20 +99,22 @@ event_front e gate gate' totals event mid new k = (_, k.1.front)
 pub took_fail : (x : Status) (settings : GateSettings) (gate gate' : Gateway) (totals : Totals) (m0 m m' : Merging) (old now mid new : Outside) (s : State KeptSession) (joiner : Joiner) (e : Event) (a : Arrival) → Progress settings m0 old now m s joiner → ComesTo e m m' now mid → Handles (Err x) gate gate' totals a mid new → TookFew settings m0 old new
 took_fail x settings gate gate' totals m0 m m' old now mid new s joiner e a h gives k =
     let front = event_front x gate gate' totals a mid new k in
+    let same = (failed_only x gate gate' totals a mid new k).left in
     record {
       handled = h.done;
-      few = λ start given. taken_later start mid new h.done (λ side. ap (λ (t : Told). told_at t (slot_of side)) (failed_only x gate gate' totals a mid new k).left) (gives.few start h.done (h.given start given));
+      few = λ start given. taken_later start mid new h.done (λ side. ap (λ (t : Told). told_at t (slot_of side)) same) (gives.few start h.done (h.given start given));
       stand = stands settings m0 m old now s joiner front.0 new h (subst (λ (t : Told). IsFront front.0 t new.written) gives.reads.written front.1);
+      captures = captures_later old mid new same (captures_read old now mid h.captures gives.reads);
     }
 
 -- ## The whole run
 
-pub took_unwritten : (a b : Outside) → TakenFor [] a b → TookForWritten a b
-took_unwritten a b few = record { handled = []; few = few; stand = inl refl }
+pub took_unwritten : (a b : Outside) → TakenFor [] a b → TookInputs a b → TookForWritten a b
+took_unwritten a b few inputs = record { handled = []; few = few; stand = inl refl; inputs = inputs }
 
 -- nothing was read behind both heads
 pub took_prepared : (gate : Gateway) (m : Merging) (xs : List Start) (a b c : Outside) → Prepared gate m xs a b → c.left ≡ b.left → TookForWritten a c
-took_prepared gate m xs a b c h e = took_unwritten a c (taken_later a b c [] (λ side. ap (λ (t : Told). told_at t (slot_of side)) e) (given_few a m b [] h.given))
+took_prepared gate m xs a b c h e = took_unwritten a c (taken_later a b c [] (λ side. ap (λ (t : Told). told_at t (slot_of side)) e) (given_few a m b [] h.given)) (inputs_later a b c e h.inputs)
 
 pub took_events : (gate : Gateway) (m : Merging) (names : Names) (a b c d : Outside) → Prepared gate m (first_starts names) a b → Readied gate.settings (output_starts names) b c → TookFew gate.settings m c d → TookForWritten a d
 took_events gate m names a b c d h k f = record {
@@ -116,4 +122,5 @@ took_events gate m names a b c d h k f = record {
   few = f.few a (given_kept a m b c [] k.left h.given);
   stand = inr (of_events gate m names a b c (λ s all. StandWritten s f.handled all.events (wrote_pieces (heads s) a.written) d.written) h k.left
       (if_some (ahead m c.left) _ _ f.stand (λ all p. subst (λ (t : Told). StandWritten gate.settings f.handled all.events t d.written) (heads_written gate m names a b c h k) p)));
+  inputs = inputs_on a c d (inputs_later a b c k.left h.inputs) f.captures;
 }

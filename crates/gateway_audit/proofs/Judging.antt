@@ -1,5 +1,5 @@
 -- A whole audit, by its parts.
-use Rattle.std.proofs.Common.{◌≡◌, ◌++◌, ℕ, List, [], true, Option, Some, None, Result, Ok, Err, IfSome, OnOk, option_map, take, length, inl, inr, refl, sym, ap, subst, ◌∙◌}
+use Rattle.std.proofs.Common.{◌≡◌, ◌+◌, ◌++◌, ℕ, List, [], true, Option, Some, None, Result, Ok, Err, IfSome, OnOk, option_map, take, length, inl, inr, refl, sym, ap, subst, ◌∙◌}
 use Rattle.std.specs.Prelude.{◌⊎◌}
 use Rattle.gate_base.specs.Events.{Event}
 use Rattle.gate_base.specs.declared.side.Side.{Side}
@@ -9,7 +9,7 @@ use Rattle.gate_desk.specs.declared.slot.Slot.TheVariants.{Settings, LeftIn, Rig
 use Rattle.gate_desk.specs.declared.slot.PerSlot.{PerSlot}
 use Rattle.gate_desk.specs.declared.slot.Way.TheVariants.{Read}
 use Rattle.gate_desk.specs.Outside.{Outside, Told, Grows, NoneFailed, IsAtEnd, HasFailed, Writes, WritesPart, took, told_at, wrote}
-use Rattle.gate_desk.proofs.Laws.{grows_on, none_failed_on, grows_writes, failed_since, failed_to_start_since}
+use Rattle.gate_desk.proofs.Laws.{grows_on, none_failed_on, grows_writes, failed_since, failed_to_start_since, took-none}
 use Rattle.gate_settings.specs.declared.settings.Settings.{Settings as GateSettings}
 use Rattle.frag_join.specs.Arrivals.{arrivals_of}
 use Rattle.pcap_merge.specs.Events.{Merged, Done as BothEnded, Fault as EndsFaulty, have_good_heads}
@@ -25,12 +25,13 @@ use Rattle.file_audit.specs.declared.stop.AuditStop.{AuditStop}
 use Rattle.file_audit.specs.declared.stop.AuditStop.TheVariants as stops
 use Rattle.file_audit.specs.Events.{Finds, IsReadInAudit, TookFew, WantsAt}
 use Rattle.file_audit.specs.Stops.{LeavesCounts}
-use Rattle.file_audit.specs.Given.{IfBoth, ReadsGiven, given_slot, given_told}
+use Rattle.file_audit.specs.Given.{IfBoth, ReadsGiven, TookFiles, given_slot, given_told}
 use Rattle.file_audit.proofs.IncomingEnds.{ends_kept, left_kept, right_kept}
 use Rattle.file_audit.proofs.Wanting.{given_later, incoming_kept}
+use Rattle.file_audit.proofs.Files.{files_given, files_later, files_more, files_none, files_on}
 use Rattle.gate_phases.specs.declared.status.Status.{Status}
 use Rattle.gate_phases.specs.declared.status.Status.TheVariants.{CaptureRefused, ReadFault, WriteFault, OpenFault, OutOfMemory}
-use Rattle.gate_phases.specs.Beginning.{IsAccepted, events_in}
+use Rattle.gate_phases.specs.Beginning.{IsAccepted, TookInputs, events_in}
 use Rattle.gate_phases.specs.Causes.{started_all}
 use Rattle.gate_phases.proofs.Causes.{all_on, before_on, way_of}
 use Rattle.gate_phases.proofs.Beginning.{if_some}
@@ -40,7 +41,7 @@ use Rattle.gateway_audit.specs.Stops.{verdict_of}
 use Rattle.gate_phases.specs.AuditNames.{Names, first_starts, given_starts, plan}
 use Rattle.gateway_audit.specs.Lines.{answer_line}
 use Rattle.gateway_audit.specs.Causes.{AreLawful, IsRead, IsVerdict, MayHaveWanted}
-use Rattle.gateway_audit.specs.Audits.{IsAudit, HasStartedToRead, HasAnswered, TookForEvents}
+use Rattle.gateway_audit.specs.Audits.{IsAudit, HasStartedToRead, HasAnswered, TookForEvents, TookRead}
 use Rattle.gateway_audit.specs.Phases.{Prepared, HaveLinks, LeavesIncoming, Readied, StopsAtGiven, AreToWalk, Walks, WasRead, Judged, Judges, Says, status_of, given_in}
 use Rattle.gateway_audit.proofs.Phases.{behind_inputs, refused}
 
@@ -281,14 +282,48 @@ said status verdict names a b c h k =
       | inr part ↦ subst (λ s. IsAudit s names a c) (sym part.0) (unanswered verdict names a b c h part.1 part.2)
     ]
 
--- ## What was taken of the incoming captures
+-- ## What was taken
 
-pub took_none : (a b : Outside) → TakenFor [] a b → TookForEvents a b
-took_none a b few = record { handled = []; few = few; front = inl refl }
+-- of the settings and the incoming captures alone
+pub read_inputs : (a b : Outside) → TookInputs a b → TookRead a b
+read_inputs a b h =
+    let inputs : Told = took RightIn h.right_count (took LeftIn h.left_count (took Settings h.settings_count a.left)) in
+    record {
+      settings_count = h.settings_count;
+      few = h.few;
+      left_in_count = h.left_count;
+      right_in_count = h.right_count;
+      left_given_count = 0;
+      right_given_count = 0;
+      report_given_count = 0;
+      left = h.left ∙ sym (took-none ReportGiven (took RightGiven 0 (took LeftGiven 0 inputs)) ∙ took-none RightGiven (took LeftGiven 0 inputs) ∙ took-none LeftGiven inputs);
+    }
+
+-- and then of the incoming captures and the given files
+read_on : (a b c : Outside) → TookRead a b → TookFiles b c → TookRead a c
+read_on a b c h k = record {
+  settings_count = h.settings_count;
+  few = h.few;
+  left_in_count = h.left_in_count + k.left_in_count;
+  right_in_count = h.right_in_count + k.right_in_count;
+  left_given_count = h.left_given_count + k.left_given_count;
+  right_given_count = h.right_given_count + k.right_given_count;
+  report_given_count = h.report_given_count + k.report_given_count;
+  left = k.left
+      ∙ ap (λ (t : Told). took ReportGiven k.report_given_count (took RightGiven k.right_given_count (took LeftGiven k.left_given_count (took RightIn k.right_in_count (took LeftIn k.left_in_count t))))) h.left
+      ∙ files_more h.left_in_count h.right_in_count h.left_given_count h.right_given_count h.report_given_count k.left_in_count k.right_in_count k.left_given_count k.right_given_count k.report_given_count (took Settings h.settings_count a.left);
+}
+
+-- of the given files alone, between starts
+pub files_ready : (a b c d : Outside) → b.left ≡ a.left → ReadsGiven b c → d.left ≡ c.left → TookFiles a d
+files_ready a b c d e reads f = files_later a c d f (files_on a b c (files_none a b e) (files_given b c reads))
+
+pub took_none : (a b : Outside) → TakenFor [] a b → TookRead a b → TookForEvents a b
+took_none a b few read = record { handled = []; few = few; front = inl refl; read = read }
 
 -- nothing but both heads
-pub took_prepared : (settings : GateSettings) (m : Merging) (names : Names) (a b c : Outside) → Prepared settings m names a b → LeavesIncoming b c → TookForEvents a c
-took_prepared settings m names a b c h same = took_none a c (taken_later a b c [] same (given_few a m b [] h.given))
+pub took_prepared : (settings : GateSettings) (m : Merging) (names : Names) (a b c : Outside) → Prepared settings m names a b → LeavesIncoming b c → TookInputs a b → TookFiles b c → TookForEvents a c
+took_prepared settings m names a b c h same inputs files = took_none a c (taken_later a b c [] same (given_few a m b [] h.given)) (read_on a b c (read_inputs a b inputs) files)
 
 front_none : (o : Option Merged) → IfSome o (λ all. (others : List Event) × (all.events ≡ [] ++ others))
 front_none None = tt
@@ -296,18 +331,19 @@ front_none (Some all) = (all.events, refl)
 
 -- the merge had not been asked for an event
 pub took_not : (m : Merging) (a b : Outside) → b ≡ a → TookFew m a b
-took_not m a b e = record { handled = []; few = λ start g. subst (λ (o : Outside). TakenFor [] start o) (sym e) (given_few start m a [] g); front = front_none (ahead m a.left) }
+took_not m a b e = record { handled = []; few = λ start g. subst (λ (o : Outside). TakenFor [] start o) (sym e) (given_few start m a [] g); front = front_none (ahead m a.left); files = files_none a b (ap (λ (o : Outside). o.left) e) }
 
 all_told : (o : Told) (P : Merged → Type 0) → IfSome (all_events o) P → IfSome o (λ all. P (events_in all))
 unfolding all_events
 all_told None P k = tt
 all_told (Some all) P k = k
 
-pub took_walked : (settings : GateSettings) (m : Merging) (r : GivenFiles) (names : Names) (a b c d : Outside) → Prepared settings m names a b → Readied (Some r) settings names b c → TookFew m c d → TookForEvents a d
-took_walked settings m r names a b c d h k t = record {
+pub took_walked : (settings : GateSettings) (m : Merging) (r : GivenFiles) (names : Names) (a b c d : Outside) → Prepared settings m names a b → Readied (Some r) settings names b c → TookFew m c d → TookInputs a b → TookFiles b c → TookForEvents a d
+took_walked settings m r names a b c d h k t inputs files = record {
   handled = t.handled;
   few = t.few a (given_later a m b c [] (incoming_left k.left_count k.right_count k.report_count b c k.left) h.given);
   front = inr (all_told a.left (λ x. (others : List Event) × (x.events ≡ t.handled ++ others)) (subst (λ o. IfSome o (λ all. (others : List Event) × (all.events ≡ t.handled ++ others))) (ap (ahead m) k.left ∙ ahead_kept m k.left_count k.right_count k.report_count b.left ∙ sym h.events) t.front));
+  read = read_on a c d (read_on a b c (read_inputs a b inputs) files) t.files;
 }
 
 pub incoming_on : (a b c d : Outside) → b.left ≡ a.left → ReadsGiven b c → d.left ≡ c.left → LeavesIncoming a d
@@ -318,4 +354,6 @@ says_left : (status : Status) (verdict : Verdict) (b c : Outside) → Says statu
 says_left status verdict b c k = elim k [ inl all ↦ all.1.left | inr part ↦ part.1.2.left ]
 
 pub took_said : (status : Status) (verdict : Verdict) (a b c : Outside) → Says status verdict b c → TookForEvents a b → TookForEvents a c
-took_said status verdict a b c k h = record { handled = h.handled; few = taken_later a b c h.handled (λ side. ap (λ (t : Told). told_at t (slot_of side)) (says_left status verdict b c k)) h.few; front = h.front }
+took_said status verdict a b c k h =
+    let same = says_left status verdict b c k in
+    record { handled = h.handled; few = taken_later a b c h.handled (λ side. ap (λ (t : Told). told_at t (slot_of side)) same) h.few; front = h.front; read = read_on a b c h.read (files_none b c same) }

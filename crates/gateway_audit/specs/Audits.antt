@@ -1,8 +1,8 @@
 -- What an audit answers, starts and writes.
-use Rattle.std.specs.Prelude.{◌≡◌, ◌⊎◌, ℕ, ◌≤◌, List, [], ◌++◌, Bool, IfSome, if◌then◌else◌, length, take}
+use Rattle.std.specs.Prelude.{◌≡◌, ◌⊎◌, ℕ, ◌≤◌, ◌+◌, ◌^◌, List, [], ◌++◌, Bool, IfSome, if◌then◌else◌, length, take}
 use Rattle.gate_desk.specs.declared.slot.Slot.{Slot}
-use Rattle.gate_desk.specs.declared.slot.Slot.TheVariants.{Settings, LeftIn, RightIn, LeftGiven, RightGiven, Report}
-use Rattle.gate_desk.specs.Outside.{Outside, Start, Grows, wrote}
+use Rattle.gate_desk.specs.declared.slot.Slot.TheVariants.{Settings, LeftIn, RightIn, LeftGiven, RightGiven, ReportGiven, Report}
+use Rattle.gate_desk.specs.Outside.{Outside, Start, Grows, took, wrote}
 use Rattle.gate_base.specs.Events.{Event}
 use Rattle.pcap_merge.specs.Events.{have_good_heads}
 use Rattle.pcap_merge.specs.Given.{TakenFor}
@@ -62,11 +62,23 @@ HasWritten (Unlawful number reason) old new = HasAnswered (verdicts.Unlawful num
 HasWritten (WriteFault slot) old new = (verdict : Verdict) × IfSome old.left (IsVerdict verdict) × HasAnsweredPartly verdict old new
 HasWritten status old new = new.written ≡ old.written
 
--- what an audit took of the incoming captures: of each no more whole records than those of the first events, and one more; and it read neither further than a capture may be and the head of a record
+-- of the settings no more octets were taken than they may have and one, of the incoming captures and of the given files so many, and of no other slot any
+pub record TookRead (old new : Outside) : Type 0 where
+  pub settings_count : ℕ
+  pub few : settings_count ≤ 2 ^ 20 + 1
+  pub left_in_count : ℕ
+  pub right_in_count : ℕ
+  pub left_given_count : ℕ
+  pub right_given_count : ℕ
+  pub report_given_count : ℕ
+  pub left : new.left ≡ took ReportGiven report_given_count (took RightGiven right_given_count (took LeftGiven left_given_count (took RightIn right_in_count (took LeftIn left_in_count (took Settings settings_count old.left)))))
+
+-- what an audit took: of each incoming capture no more whole records than those of the first events, and one more, and it read neither further than a capture may be and the head of a record; and of slots that it doesn't read nothing
 pub record TookForEvents (old new : Outside) : Type 0 where
   pub handled : List Event
   pub few : TakenFor handled old new
   pub front : (handled ≡ []) ⊎ IfSome old.left (λ all. (others : List Event) × ((events_in all).events ≡ handled ++ others))
+  pub read : TookRead old new
 
 -- what an audit answers: its cause, what it started, and what it wrote
 pub record IsAudit (status : Status) (names : Names) (old new : Outside) : Type 0 where

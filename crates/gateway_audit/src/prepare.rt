@@ -1,6 +1,7 @@
 // What an audit does before it opens the given files: the settings, and the heads of both incoming captures.
 ghost use Rattle.std.specs.Prelude.{MatchResult, OnErr, []};
 ghost use Rattle.pcap_merge.specs.Given.{TakenFor};
+ghost use Rattle.gate_phases.specs.Beginning.{TookInputs};
 ghost use Rattle.gateway_audit.specs.Audits.{IsAudit};
 ghost use Rattle.gate_phases.specs.AuditNames.{names_of};
 ghost use Rattle.gateway_audit.specs.Phases.{Prepared};
@@ -21,6 +22,7 @@ pub fn prepare<D: Desk>(
         (λ p. Prepared p.0 p.1 (names_of names.entry) (D.outside desk.old) (D.outside desk.new))
         (λ status. IsAudit status (names_of names.entry) (D.outside desk.old) (D.outside desk.new)) }
     ensures taken { OnErr result (TakenFor [] (D.outside desk.old) (D.outside desk.new)) }
+    ensures inputs { TookInputs (D.outside desk.old) (D.outside desk.new) }
 {
     let settings = settle(alloc, desk, names.settings)?;
     let merge = begin(alloc, desk, names.left_in, names.right_in)?;

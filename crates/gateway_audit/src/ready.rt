@@ -1,7 +1,7 @@
 // The heads of both given captures, and the report.
 ghost use Rattle.gate_desk.specs.Outside.{CanRead};
 ghost use Rattle.gate_desk.specs.declared.slot.Slot.TheVariants.{LeftGiven, RightGiven};
-ghost use Rattle.file_audit.specs.Given.{ReadsGiven};
+ghost use Rattle.file_audit.specs.Given.{ReadsGiven, TookFiles};
 ghost use Rattle.gate_phases.specs.AuditNames.{names_of};
 ghost use Rattle.gateway_audit.specs.Phases.{Begins, LeavesIncoming, Readies};
 
@@ -40,6 +40,7 @@ pub fn ready<D: Desk>(
 ) -> Result<Option<GivenFiles>, Status>
     ensures answer { Readies result settings.now (names_of names.entry) (D.outside desk.old) (D.outside desk.new) }
     ensures incoming { LeavesIncoming (D.outside desk.old) (D.outside desk.new) }
+    ensures files { TookFiles (D.outside desk.old) (D.outside desk.new) }
 {
     open_given(desk, names)?;
     let given = begin_given(alloc, desk, settings)?;

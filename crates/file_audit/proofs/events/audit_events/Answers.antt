@@ -18,6 +18,7 @@ use Rattle.file_audit.proofs.IncomingEnds.{ends_kept, left_kept, right_kept}
 use Rattle.file_audit.proofs.LeftCounts.{leaves_on, leaves_all, leaves_as, stop_leaves, stops_at}
 use Rattle.file_audit.proofs.Walked.{arrived_at, expecting, walked_none, finds_stop, finds_done, finds_left, finds_at, finds_expect, took_few, walked_event, gives}
 use Rattle.file_audit.proofs.Wanting.{few_still, few_stop}
+use Rattle.file_audit.proofs.Files.{files_none, files_captures, files_on, files_stop, files_both}
 use Rattle.file_audit.proofs.events.audit_events.Goals as goal
 
 pub returns-in-Err-clause-answer : goal.returns-in-Err-clause-answer
@@ -104,6 +105,7 @@ events-preserved g c =
       faults = c.in-Ok-take_event.ensures.leaves ∙ c.in-Ok.ensures.leaves ∙ i.faults;
       start_faults = reads.start_faults ∙ came.reads.start_faults ∙ i.start_faults;
       grows = grows_on old now new i.grows (grows_on now mid new came.reads.grows reads.grows);
+      files = files_both old now mid new i.files came.reads reads;
       ends = ends_kept c.advance.new.self reads.left_count reads.right_count reads.report_count mid new reads.left (came.ends i.ends);
       walked = walked_event c.args.auditor.now.settings c.args.merge.now c.events.merge c.advance.new.self c.args.given.now c.events.given c.take_event.new.given c.expect.new.auditor c.take_event.new.auditor c.in-Ok-take_event.now c.events.joiner c.expect.new.joiner s (state_of c.take_event.new.auditor c.in-Ok-take_event.now) e found.0 old now mid new
           i.walked came reads c.expect.ensures.joiner settings found.1.state_is found.1;
@@ -124,6 +126,7 @@ events-init g c =
       faults = refl;
       start_faults = refl;
       grows = grows_not old;
+      files = files_none old old refl;
       ends = c.requires.ends;
       walked = walked_none c.args.auditor.now.settings c.args.merge.now c.args.given.now old c.args.joiner.now (state_of c.args.auditor.now nothing_counted)
           (ap (λ (w : World WholeSession). let k : State = record { world = w; totals = nothing_counted } in k) c.requires.opening.world_is) c.requires.joiner;
@@ -206,6 +209,7 @@ returns-in-Err-clause-taken g c =
     let i = c.events.invariant in
     took_few c.args.auditor.now.settings c.args.merge.now c.events.merge c.args.given.now c.events.given old now new c.events.joiner (state_of c.events.auditor c.events.totals) i.walked
     (λ start given. few_stop c.in-Err.stop c.events.merge now new (c.in-Err.ensures.first i.stop).1 start i.walked.done given)
+    (files_stop c.in-Err.stop c.events.merge old now new i.files (c.in-Err.ensures.first i.stop).1)
 
 pub returns-in-Ok-take_rest-clause-taken : goal.returns-in-Ok-take_rest-clause-taken
 returns-in-Ok-take_rest-clause-taken g c =
@@ -217,6 +221,7 @@ returns-in-Ok-take_rest-clause-taken g c =
     let finished = subst (λ (b : Bool). Advances (Ok b) c.events.merge c.advance.new.self now mid) c.if-not-more.true (c.in-Ok.ensures.first i.stop) in
     took_few c.args.auditor.now.settings c.args.merge.now c.events.merge c.args.given.now c.events.given old now new c.events.joiner (state_of c.events.auditor c.events.totals) i.walked
     (λ start given. few_still start mid new i.walked.done c.take_rest.ensures.reads (finished.few start i.walked.done given))
+    (files_both old now mid new i.files finished.reads c.take_rest.ensures.reads)
 
 pub returns-in-Err-take_rest-clause-taken : goal.returns-in-Err-take_rest-clause-taken
 returns-in-Err-take_rest-clause-taken g c =
@@ -228,6 +233,7 @@ returns-in-Err-take_rest-clause-taken g c =
     let finished = subst (λ (b : Bool). Advances (Ok b) c.events.merge c.advance.new.self now mid) c.if-not-more.true (c.in-Ok.ensures.first i.stop) in
     took_few c.args.auditor.now.settings c.args.merge.now c.events.merge c.args.given.now c.events.given old now new c.events.joiner (state_of c.events.auditor c.events.totals) i.walked
     (λ start given. few_still start mid new i.walked.done c.take_rest.ensures.reads (finished.few start i.walked.done given))
+    (files_both old now mid new i.files finished.reads c.take_rest.ensures.reads)
 
 pub returns-in-Err-expect-clause-taken : goal.returns-in-Err-expect-clause-taken
 returns-in-Err-expect-clause-taken g c =
@@ -239,6 +245,7 @@ returns-in-Err-expect-clause-taken g c =
     let came = gives c.in-Ok.more (event_of c.event.result) c.events.merge c.advance.new.self now mid c.if-not-more.false (c.in-Ok.ensures.first i.stop) c.event.ensures in
     took_few c.args.auditor.now.settings c.args.merge.now c.events.merge c.args.given.now c.events.given old now new c.events.joiner (state_of c.events.auditor c.events.totals) i.walked
     (λ start given. came.few start i.walked.done given)
+    (files_on old now mid i.files (files_captures now mid came.reads))
 
 pub returns-in-Err-take_event-clause-taken : goal.returns-in-Err-take_event-clause-taken
 returns-in-Err-take_event-clause-taken g c =
@@ -250,6 +257,7 @@ returns-in-Err-take_event-clause-taken g c =
     let came = gives c.in-Ok.more (event_of c.event.result) c.events.merge c.advance.new.self now mid c.if-not-more.false (c.in-Ok.ensures.first i.stop) c.event.ensures in
     took_few c.args.auditor.now.settings c.args.merge.now c.events.merge c.args.given.now c.events.given old now new c.events.joiner (state_of c.events.auditor c.events.totals) i.walked
     (λ start given. few_still start mid new i.walked.done c.take_event.ensures.reads (came.few start i.walked.done given))
+    (files_both old now mid new i.files came.reads c.take_event.ensures.reads)
 
 pub returns-in-Err-expect-clause-answer : goal.returns-in-Err-expect-clause-answer
 returns-in-Err-expect-clause-answer g c =

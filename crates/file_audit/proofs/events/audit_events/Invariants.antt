@@ -1,7 +1,7 @@
 use Rattle.std.proofs.Common.{◌≡◌, None, ◌+◌, ◌^◌, ◌≤◌, false}
 use Rattle.gate_desk.specs.Outside.{Grows}
 use Rattle.pcap_merge.specs.Merge.{work, AtEnds}
-use Rattle.file_audit.specs.Given.{Fits, IsRunning}
+use Rattle.file_audit.specs.Given.{Fits, IsRunning, TookFiles}
 use Rattle.file_audit.specs.Events.{state_of}
 use Rattle.file_audit.proofs.Walked.{Walked}
 use Rattle.file_audit.proofs.events.audit_events.Given as goal
@@ -19,6 +19,7 @@ invariant-events g l = record {
   faults : (g.D.Desk.outside l.desk).faults ≡ (g.D.Desk.outside l.initial.desk).faults;
   start_faults : (g.D.Desk.outside l.desk).start_faults ≡ (g.D.Desk.outside l.initial.desk).start_faults;
   grows : Grows (g.D.Desk.outside l.initial.desk) (g.D.Desk.outside l.desk);
+  files : TookFiles (g.D.Desk.outside l.initial.desk) (g.D.Desk.outside l.desk);
   ends : AtEnds l.merge (g.D.Desk.outside l.desk);
   walked : Walked l.initial.auditor.settings l.initial.merge l.merge l.initial.given l.given (g.D.Desk.outside l.initial.desk) (g.D.Desk.outside l.desk) l.joiner (state_of l.auditor l.totals);
 }

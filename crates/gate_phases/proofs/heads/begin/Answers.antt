@@ -1,4 +1,4 @@
-use Rattle.std.proofs.Common.{OnErr, [], refl}
+use Rattle.std.proofs.Common.{Ok, Err, OnErr, [], refl}
 use Rattle.pcap_merge.specs.Given.{TakenFor}
 use Rattle.gate_desk.specs.declared.slot.Slot.TheVariants.{LeftIn, RightIn}
 use Rattle.gate_desk.specs.declared.slot.Way.TheVariants.{Read}
@@ -7,6 +7,7 @@ use Rattle.gate_phases.specs.Stops.{status_of_merge}
 use Rattle.gate_phases.proofs.Causes.{handed_on, way_of}
 use Rattle.gate_phases.proofs.Beginning.{begins, begin_stops, at_heads}
 use Rattle.gate_phases.proofs.Untaken.{kept_left, not_begun_few}
+use Rattle.gate_phases.proofs.Inputs.{captures_none, captures_heads}
 use Rattle.gate_phases.proofs.heads.begin.Goals as goal
 
 pub returns-in_err-open_inputs-clause-answer : goal.returns-in_err-open_inputs-clause-answer
@@ -46,3 +47,12 @@ returns-in_err-merge-clause-taken g c =
     let new = g.D.Desk.outside c.begin.new.desk in
     handed_on (λ r. OnErr r (TakenFor [] old new)) c.from_residual-in_err-merge.result (status_of_merge c.in_err-merge.field-0.0) c.from_residual-in_err-merge.ensures.1
     (not_begun_few c.in_err-merge.field-0.0 old (g.D.Desk.outside c.open_inputs.new.desk) new c.open_inputs.ensures.left c.in_err-merge.ensures.begins)
+
+pub returns-in_err-open_inputs-clause-captures : goal.returns-in_err-open_inputs-clause-captures
+returns-in_err-open_inputs-clause-captures g c = captures_none (g.D.Desk.outside c.args.desk.now) (g.D.Desk.outside c.open_inputs.new.desk) c.open_inputs.ensures.left
+
+pub returns-in_err-merge-clause-captures : goal.returns-in_err-merge-clause-captures
+returns-in_err-merge-clause-captures g c = captures_heads (Err c.in_err-merge.field-0.0) (g.D.Desk.outside c.args.desk.now) (g.D.Desk.outside c.open_inputs.new.desk) (g.D.Desk.outside c.begin.new.desk) c.open_inputs.ensures.left c.in_err-merge.ensures.begins
+
+pub returns-clause-captures : goal.returns-clause-captures
+returns-clause-captures g c = captures_heads (Ok c.in_ok-merge.merge) (g.D.Desk.outside c.args.desk.now) (g.D.Desk.outside c.open_inputs.new.desk) (g.D.Desk.outside c.begin.new.desk) c.open_inputs.ensures.left c.in_ok-merge.ensures.begins

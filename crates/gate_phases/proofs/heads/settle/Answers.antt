@@ -1,4 +1,4 @@
-use Rattle.std.proofs.Common.{Ok, Err, OnErr, [], length, subst, refl}
+use Rattle.std.proofs.Common.{Ok, Err, OnErr, [], length, subst, refl, arith}
 use Rattle.pcap_merge.specs.Given.{TakenFor}
 use Rattle.gate_desk.specs.declared.slot.Slot.TheVariants.{Settings}
 use Rattle.gate_desk.specs.declared.slot.Way.TheVariants.{Read}
@@ -9,6 +9,7 @@ use Rattle.gate_phases.specs.Stops.{status_of_settings, status_of_take}
 use Rattle.gate_phases.proofs.Causes.{handed_on, way_of}
 use Rattle.gate_phases.proofs.Beginning.{at_settings, settle_stops, settles}
 use Rattle.gate_phases.proofs.Untaken.{kept_left, settings_only}
+use Rattle.gate_phases.proofs.Inputs.{settings_none, settings_taken, settings_text}
 use Rattle.gate_phases.proofs.heads.settle.Goals as goal
 
 pub returns-in_err-start_slot-clause-answer : goal.returns-in_err-start_slot-clause-answer
@@ -65,3 +66,19 @@ returns-in_err-settings-clause-taken g c =
     let new = g.D.Desk.outside c.read_up_to.new.desk in
     handed_on (λ r. OnErr r (TakenFor [] old new)) c.from_residual-in_err-settings.result (status_of_settings c.in_err-settings.field-0.0) c.from_residual-in_err-settings.ensures.1
     (settings_only (length c.in_ok-text.text.items) old (g.D.Desk.outside c.start_slot.new.desk) new c.start_slot.ensures.left c.in_ok-text.ensures.ok)
+
+pub returns-in_err-start_slot-clause-settings : goal.returns-in_err-start_slot-clause-settings
+returns-in_err-start_slot-clause-settings g c = settings_none (g.D.Desk.outside c.args.desk.now) (g.D.Desk.outside c.start_slot.new.desk) c.start_slot.ensures.left
+
+pub returns-in_err-text-clause-settings : goal.returns-in_err-text-clause-settings
+returns-in_err-text-clause-settings g c =
+    let err = c.in_err-text.ensures.err in
+    settings_taken err.0 (g.D.Desk.outside c.args.desk.now) (g.D.Desk.outside c.start_slot.new.desk) (g.D.Desk.outside c.read_up_to.new.desk) c.start_slot.ensures.left err.2 (omega (arith, err.1))
+
+pub returns-in_err-settings-clause-settings : goal.returns-in_err-settings-clause-settings
+returns-in_err-settings-clause-settings g c =
+    settings_text c.in_ok-text.text.items (g.D.Desk.outside c.args.desk.now) (g.D.Desk.outside c.start_slot.new.desk) (g.D.Desk.outside c.read_up_to.new.desk) c.start_slot.ensures.left c.in_ok-text.ensures.ok c.in_ok-text.ensures.octets
+
+pub returns-clause-settings : goal.returns-clause-settings
+returns-clause-settings g c =
+    settings_text c.in_ok-text.text.items (g.D.Desk.outside c.args.desk.now) (g.D.Desk.outside c.start_slot.new.desk) (g.D.Desk.outside c.read_up_to.new.desk) c.start_slot.ensures.left c.in_ok-text.ensures.ok c.in_ok-text.ensures.octets

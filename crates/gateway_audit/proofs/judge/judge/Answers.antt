@@ -2,7 +2,7 @@ use Rattle.std.proofs.Common.{subst}
 use Rattle.gate_phases.proofs.Causes.{handed_on}
 use Rattle.gate_phases.specs.AuditNames.{names_of}
 use Rattle.gateway_audit.specs.Phases.{Readied, Judges}
-use Rattle.gateway_audit.proofs.Judging.{not_ready, no_head, to_walk, took_none, took_prepared, took_walked, walked}
+use Rattle.gateway_audit.proofs.Judging.{not_ready, no_head, read_inputs, to_walk, took_none, took_prepared, took_walked, walked}
 use Rattle.gateway_audit.proofs.judge.judge.Goals as goal
 
 pub returns-in_err-given-clause-answer : goal.returns-in_err-given-clause-answer
@@ -39,13 +39,13 @@ returns-in-None-clause-answer g c =
     no_head c.in_ok-settings.settings c.in_ok-settings.merge names (g.D.Desk.outside c.args.desk.now) mid new c.in_ok-settings.ensures.answer readied
 
 pub returns-in_err-settings-clause-taken : goal.returns-in_err-settings-clause-taken
-returns-in_err-settings-clause-taken g c = took_none (g.D.Desk.outside c.args.desk.now) (g.D.Desk.outside c.prepare.new.desk) c.in_err-settings.ensures.taken
+returns-in_err-settings-clause-taken g c = took_none (g.D.Desk.outside c.args.desk.now) (g.D.Desk.outside c.prepare.new.desk) c.in_err-settings.ensures.taken (read_inputs (g.D.Desk.outside c.args.desk.now) (g.D.Desk.outside c.prepare.new.desk) c.prepare.ensures.inputs)
 
 pub returns-in_err-given-clause-taken : goal.returns-in_err-given-clause-taken
-returns-in_err-given-clause-taken g c = took_prepared c.in_ok-settings.settings c.in_ok-settings.merge (names_of c.args.names) (g.D.Desk.outside c.args.desk.now) (g.D.Desk.outside c.prepare.new.desk) (g.D.Desk.outside c.ready.new.desk) c.in_ok-settings.ensures.answer c.ready.ensures.incoming
+returns-in_err-given-clause-taken g c = took_prepared c.in_ok-settings.settings c.in_ok-settings.merge (names_of c.args.names) (g.D.Desk.outside c.args.desk.now) (g.D.Desk.outside c.prepare.new.desk) (g.D.Desk.outside c.ready.new.desk) c.in_ok-settings.ensures.answer c.ready.ensures.incoming c.prepare.ensures.inputs c.ready.ensures.files
 
 pub returns-in-None-clause-taken : goal.returns-in-None-clause-taken
-returns-in-None-clause-taken g c = took_prepared c.in_ok-settings.settings c.in_ok-settings.merge (names_of c.args.names) (g.D.Desk.outside c.args.desk.now) (g.D.Desk.outside c.prepare.new.desk) (g.D.Desk.outside c.ready.new.desk) c.in_ok-settings.ensures.answer c.ready.ensures.incoming
+returns-in-None-clause-taken g c = took_prepared c.in_ok-settings.settings c.in_ok-settings.merge (names_of c.args.names) (g.D.Desk.outside c.args.desk.now) (g.D.Desk.outside c.prepare.new.desk) (g.D.Desk.outside c.ready.new.desk) c.in_ok-settings.ensures.answer c.ready.ensures.incoming c.prepare.ensures.inputs c.ready.ensures.files
 
 pub returns-in-Some-clause-taken : goal.returns-in-Some-clause-taken
 returns-in-Some-clause-taken g c =
@@ -53,4 +53,4 @@ returns-in-Some-clause-taken g c =
     let mid = g.D.Desk.outside c.prepare.new.desk in
     let new = g.D.Desk.outside c.ready.new.desk in
     let readied = subst (λ found. Readied found c.in_ok-settings.settings names mid new) c.in-Some.is c.in_ok-given.ensures.answer in
-    took_walked c.in_ok-settings.settings c.in_ok-settings.merge c.in-Some.given names (g.D.Desk.outside c.args.desk.now) mid new (g.D.Desk.outside c.walk.new.desk) c.in_ok-settings.ensures.answer readied c.walk.ensures.taken
+    took_walked c.in_ok-settings.settings c.in_ok-settings.merge c.in-Some.given names (g.D.Desk.outside c.args.desk.now) mid new (g.D.Desk.outside c.walk.new.desk) c.in_ok-settings.ensures.answer readied c.walk.ensures.taken c.prepare.ensures.inputs c.ready.ensures.files

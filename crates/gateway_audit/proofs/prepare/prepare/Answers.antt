@@ -4,6 +4,7 @@ use Rattle.gateway_audit.specs.Audits.{IsAudit}
 use Rattle.gate_phases.specs.AuditNames.{names_of}
 use Rattle.gateway_audit.specs.Phases.{Prepared}
 use Rattle.gateway_audit.proofs.Phases.{settings_end, heads_end, prepared}
+use Rattle.gate_phases.proofs.Inputs.{inputs_settings, inputs_both}
 use Rattle.pcap_merge.specs.Given.{TakenFor}
 use Rattle.gate_phases.specs.Beginning.{settings_start}
 use Rattle.gate_phases.proofs.Untaken.{settled_few}
@@ -36,3 +37,12 @@ returns-in_err-merge-clause-taken g c =
     let new = g.D.Desk.outside c.begin.new.desk in
     handed_on (λ r. OnErr r (TakenFor [] old new)) c.from_residual-in_err-merge.result c.in_err-merge.field-0.0 c.from_residual-in_err-merge.ensures.1
     (settled_few c.in_ok-settings.settings (settings_start (names_of c.args.names).settings) old (g.D.Desk.outside c.settle.new.desk) new c.in_ok-settings.ensures.answer c.in_err-merge.ensures.taken)
+
+pub returns-in_err-settings-clause-inputs : goal.returns-in_err-settings-clause-inputs
+returns-in_err-settings-clause-inputs g c = inputs_settings (g.D.Desk.outside c.args.desk.now) (g.D.Desk.outside c.settle.new.desk) c.settle.ensures.settings
+
+pub returns-in_err-merge-clause-inputs : goal.returns-in_err-merge-clause-inputs
+returns-in_err-merge-clause-inputs g c = inputs_both (g.D.Desk.outside c.args.desk.now) (g.D.Desk.outside c.settle.new.desk) (g.D.Desk.outside c.begin.new.desk) c.settle.ensures.settings c.begin.ensures.captures
+
+pub returns-clause-inputs : goal.returns-clause-inputs
+returns-clause-inputs g c = inputs_both (g.D.Desk.outside c.args.desk.now) (g.D.Desk.outside c.settle.new.desk) (g.D.Desk.outside c.begin.new.desk) c.settle.ensures.settings c.begin.ensures.captures

@@ -7,7 +7,8 @@ use Rattle.gateway_audit.specs.Phases.{Readies}
 use Rattle.gateway_audit.proofs.Phases.{not_opened, not_begun, no_report, readied}
 use Rattle.gate_desk.specs.Outside.{Told, told_at}
 use Rattle.pcap_merge.specs.Stops.{slot_of}
-use Rattle.gateway_audit.proofs.Judging.{incoming_on}
+use Rattle.gateway_audit.proofs.Judging.{incoming_on, files_ready}
+use Rattle.file_audit.proofs.Files.{files_none}
 use Rattle.gateway_audit.proofs.ready.ready.Goals as goal
 
 pub returns-in_err-open_given-clause-answer : goal.returns-in_err-open_given-clause-answer
@@ -61,3 +62,15 @@ returns-in_err-start_slot-clause-incoming g c = incoming_on (g.D.Desk.outside c.
 
 pub returns-clause-incoming : goal.returns-clause-incoming
 returns-clause-incoming g c = incoming_on (g.D.Desk.outside c.args.desk.now) (g.D.Desk.outside c.open_given.new.desk) (g.D.Desk.outside c.begin_given.new.desk) (g.D.Desk.outside c.start_slot.new.desk) c.open_given.ensures.left c.begin_given.ensures.reads c.start_slot.ensures.left
+
+pub returns-in_err-open_given-clause-files : goal.returns-in_err-open_given-clause-files
+returns-in_err-open_given-clause-files g c = files_none (g.D.Desk.outside c.args.desk.now) (g.D.Desk.outside c.open_given.new.desk) c.open_given.ensures.left
+
+pub returns-in_err-given-clause-files : goal.returns-in_err-given-clause-files
+returns-in_err-given-clause-files g c = files_ready (g.D.Desk.outside c.args.desk.now) (g.D.Desk.outside c.open_given.new.desk) (g.D.Desk.outside c.begin_given.new.desk) (g.D.Desk.outside c.begin_given.new.desk) c.open_given.ensures.left c.begin_given.ensures.reads refl
+
+pub returns-in_err-start_slot-clause-files : goal.returns-in_err-start_slot-clause-files
+returns-in_err-start_slot-clause-files g c = files_ready (g.D.Desk.outside c.args.desk.now) (g.D.Desk.outside c.open_given.new.desk) (g.D.Desk.outside c.begin_given.new.desk) (g.D.Desk.outside c.start_slot.new.desk) c.open_given.ensures.left c.begin_given.ensures.reads c.start_slot.ensures.left
+
+pub returns-clause-files : goal.returns-clause-files
+returns-clause-files g c = files_ready (g.D.Desk.outside c.args.desk.now) (g.D.Desk.outside c.open_given.new.desk) (g.D.Desk.outside c.begin_given.new.desk) (g.D.Desk.outside c.start_slot.new.desk) c.open_given.ensures.left c.begin_given.ensures.reads c.start_slot.ensures.left
