@@ -12,7 +12,7 @@ from itertools import zip_longest
 SIDES = ("left", "right")
 ETHERNET = 1
 SECOND = 10**9
-UDP_HOLD, PING_HOLD, NAME_HOLD, TCP_HOLD, LONG_HOLD, JOIN_HOLD = (n * SECOND for n in (300, 60, 60, 240, 7440, 30))
+UDP_TIMEOUT, PING_HOLD, NAME_HOLD, TCP_HOLD, LONG_TIMEOUT, JOIN_HOLD = (n * SECOND for n in (300, 60, 60, 240, 7440, 30))
 TCP, UDP = 6, 17
 FTP_PORT, DNS_PORT = 21, 53
 FIN, SYN, RST, ACK = 1, 2, 4, 16
@@ -126,7 +126,7 @@ class Connection:
         if flags & ACK:
             self.acknowledged.add(side)
         self.is_closing |= bool(flags & FIN)
-        return LONG_HOLD if len(self.acknowledged) == 2 and not self.is_closing else TCP_HOLD
+        return LONG_TIMEOUT if len(self.acknowledged) == 2 and not self.is_closing else TCP_HOLD
 
 
 def connection_begun(known: Connection | None, side: int, segment: bytes) -> Connection:
@@ -274,7 +274,7 @@ class Bindings:
 
     def _message(self, side: int, moment: int, came: bytes, sent: list[bytes]) -> None:
         """A datagram of UDP or ICMP: its addresses, and those that a DNS message names."""
-        self._header(side, moment, came, sent, UDP_HOLD if came[9] == UDP else PING_HOLD)
+        self._header(side, moment, came, sent, UDP_TIMEOUT if came[9] == UDP else PING_HOLD)
         if came[9] == UDP and DNS_PORT in struct.unpack_from(">HH", came, 20):
             for name, shown in zip_longest(named_in(came[28:]), named_in(sent[0][28:])):
                 self._use(side, moment, name, shown, NAME_HOLD)

@@ -10,7 +10,7 @@ from ipaddress import IPv4Address
 
 TOOLS = os.path.join(os.path.dirname(os.path.realpath(__file__)), "../../tools")
 sys.path.insert(0, TOOLS)
-from bindings import LONG_HOLD, SECOND, SIDES, Binding, Bindings, datagram_of, statics  # noqa: E402
+from bindings import LONG_TIMEOUT, SECOND, SIDES, Binding, Bindings, datagram_of, statics  # noqa: E402
 
 FULL, AGAIN = 80, 70
 """How full a pool is when it is told, in percent, and below which level it is told anew."""
@@ -108,7 +108,7 @@ class Watch:
         """Hosts that were kept have time to come again."""
         for pool in self._table.pools:
             for one in pool.holders.values():
-                one.end = moment + LONG_HOLD
+                one.end = moment + LONG_TIMEOUT
 
     def _is_kept(self, one: Binding) -> bool:
         """Whether a binding lives, and isn't one of the settings' own."""

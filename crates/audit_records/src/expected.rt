@@ -57,13 +57,13 @@ impl Model for Expected {
 impl Expected {
     /// Nothing, of a moment 0 on the left, with all the memory that it ever needs but for what sessions send. The error is that there is
     /// too little.
-    pub fn make(alloc: Global) -> Result<Expected, OutOfMemory>
+    pub fn new(alloc: Global) -> Result<Expected, OutOfMemory>
         ensures { IfOk result (λ e. e ≡ record { side = Left; moment = 0; wanted = Exactly []; so_far = begun }) }
     {
         Ok(Expected {
             side: Side::Left,
             moment: Moment(0),
-            single: Single::make(alloc)?,
+            single: Single::new(alloc)?,
             pieces: None,
             so_far: BEGUN,
             room: vec![in alloc; 0; LONGEST]?,

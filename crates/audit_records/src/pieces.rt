@@ -2,7 +2,7 @@
 ghost use Rattle.std.specs.Prelude.{◌≡◌, ◌≤◌, ◌+◌, ◌-◌, length, IfOk};
 ghost use Rattle.ipv4_frames.specs.Ipv4.{fields_of};
 ghost use Rattle.tcp_segments.specs.Tcp.{IsTcpHeader};
-ghost use Rattle.gate_world.specs.Stream.{tcp_of, sent_as};
+ghost use Rattle.gate_model.specs.Stream.{tcp_of, sent_as};
 ghost use Rattle.audit_records.specs.Cutting.{told};
 
 use audit_streams::Sent;

@@ -31,7 +31,7 @@ impl Model for Single {
 
 impl Single {
     /// No datagram, with the room for any.
-    pub fn make(alloc: Global) -> Result<Single, OutOfMemory>
+    pub fn new(alloc: Global) -> Result<Single, OutOfMemory>
         ensures { IfOk result (λ s. s ≡ []) }
     {
         Ok(Single {

@@ -10,7 +10,7 @@ use Rattle.dialogue.specs.Stream.{cut, image, due, due_rest, spans, pushes_of}
 use Rattle.stream_model.proofs.FactLemmas.{image_small}
 use Rattle.stream_model.specs.Numbers.{number_at, place_near, near_by}
 use Rattle.stream_model.specs.Session.{Sender, Segment, extent, arrival, repeats_unlike}
-use Rattle.stream_model.specs.Verdict.{is_data, refusal_of, session_verdict}
+use Rattle.stream_model.specs.Refusals.{is_data, refusal_of, segment_refusal}
 use Rattle.stream_model.proofs.PassLemmas.{Passes, passes, second_false, data_is}
 use Rattle.audit_streams.specs.declared.transcript.Place.{Place}
 use Rattle.audit_streams.specs.Transcripts.{Transcribed, rest_of, span_of, IsOf, PlacesRise, EndsRise}
@@ -86,6 +86,6 @@ opens_alone f a b g e syn =
     (or_parts _ _ (second_false g.flags.syn _ p.syn_data syn)).1
 
 -- a verdict, by what the fields hold and by which host sends
-pub verdict_here : {C S : Type 0} (of_client : C → Meaning) (of_server : S → Meaning) (f sends : Bool) (inside w : HeardStreams C S) (g : Segment) → f ≡ sends → inside ≡ w → session_verdict f (session_of of_client of_server w) g ≡ None → session_verdict sends (session_of of_client of_server inside) g ≡ None
+pub verdict_here : {C S : Type 0} (of_client : C → Meaning) (of_server : S → Meaning) (f sends : Bool) (inside w : HeardStreams C S) (g : Segment) → f ≡ sends → inside ≡ w → segment_refusal f (session_of of_client of_server w) g ≡ None → segment_refusal sends (session_of of_client of_server inside) g ≡ None
 verdict_here of_client of_server f sends inside w g e same v =
-    ap (λ b. session_verdict b (session_of of_client of_server inside) g) (sym e) ∙ ap (λ (x : HeardStreams _ _). session_verdict f (session_of of_client of_server x) g) same ∙ v
+    ap (λ b. segment_refusal b (session_of of_client of_server inside) g) (sym e) ∙ ap (λ (x : HeardStreams _ _). segment_refusal f (session_of of_client of_server x) g) same ∙ v

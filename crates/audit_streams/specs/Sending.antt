@@ -5,8 +5,8 @@ use Rattle.tcp_segments.specs.Tcp.{Tcp}
 use Rattle.stream_model.specs.Session.{Sender, Segment, due_in, start_of}
 use Rattle.stream_model.specs.Steps.{sends_end, bare_offset}
 use Rattle.dialogue.specs.Stream.{image, fore, rear, back}
-use Rattle.stream_model.specs.declared.numbers.Near.{Near}
-use Rattle.stream_model.specs.declared.verdict.Extent.{Extent}
+use Rattle.stream_model.specs.declared.numbers.Offset.{Offset}
+use Rattle.stream_model.specs.declared.refusals.Extent.{Extent}
 use Rattle.stream_cuts.specs.Cuts.{Sent, data_sent}
 
 -- a segment with neither SYN nor RST that passes keeps the numbers in their ranges
@@ -26,7 +26,7 @@ abbrev pub handed : Sent → Bool → Handed
 handed s ends = record { sequence = s.sequence; acknowledgement = s.acknowledgement; flags = flags_octet s.flags; limit = s.limit; octets = s.octets; ends = ends }
 
 -- what goes out for a segment with neither SYN nor RST, by what was known of the sender before it, where it starts, and the sender after it
-abbrev pub sent_by : Extent → Near → Sender → Segment → ℕ → ℕ → Sent
+abbrev pub sent_by : Extent → Offset → Sender → Segment → ℕ → ℕ → Sent
 sent_by old start new segment acknowledgement limit =
     let first = min old.due (fore new.meaning new.ended new.octets (max (old.octets + start.after - start.before) (back new.meaning new.ended new.octets new.acked))) in
     let past =

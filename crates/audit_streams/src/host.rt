@@ -16,7 +16,7 @@ use dialogue::{Dialogue, Learns};
 use gate_base::{Addr, OutOfMemory};
 use std::alloc::Global;
 use std::marker::Model;
-use stream_model::{Extent, Near, number_after, number_at, place_near};
+use stream_model::{Extent, Offset, number_after, number_at, place_near};
 
 /// A host: what its octets become on the way, and all of them.
 #[derive(Drop)]
@@ -43,21 +43,21 @@ impl<D: Dialogue> Model for WholeStream<D> {
 }
 
 impl<D: Dialogue> WholeStream<D> {
-    pub(crate) fn make(alloc: Global, dialogue: D, initial: Option<u32>, mss: u16) -> WholeStream<D>
+    pub(crate) fn new(alloc: Global, dialogue: D, initial: Option<u32>, mss: u16) -> WholeStream<D>
         ensures { result ≡ record { dialogue = dialogue; heard = unheard initial mss } }
     {
         WholeStream {
             dialogue,
             mss,
             initial,
-            transcript: Transcript::make(alloc),
+            transcript: Transcript::new(alloc),
             released: false,
             ended: false,
             acked: 0,
         }
     }
 
-    /// What a verdict needs to know of it.
+    /// What a refusal needs to know of it.
     pub(crate) fn extent(&self) -> Extent
         ensures { result ≡ extent (sender_of D.meaning self.now) }
     {
@@ -216,7 +216,7 @@ impl<D: Dialogue> WholeStream<D> {
     }
 
     /// Where a segment without octets stands, by where the segment starts for which it goes out.
-    pub(crate) fn bare_offset(&self, start: Near) -> u64
+    pub(crate) fn bare_offset(&self, start: Offset) -> u64
         requires { start.after < 2 ^ 31 }
         ensures { result ≡ bare_offset (sender_of D.meaning self.now) start }
     {
@@ -297,7 +297,7 @@ impl<D: Dialogue> WholeStream<D> {
     }
 
     // Its own number of a place of its image that was sent.
-    fn number_before(&self, initial: u32, due: u64, place: Near) -> u32
+    fn number_before(&self, initial: u32, due: u64, place: Offset) -> u32
         requires due { due ≡ length (due_in (sender_of D.meaning self.now)) }
         requires small { due < 2 ^ 31 }
         requires after { place.after < 2 ^ 31 }

@@ -5,7 +5,7 @@ ghost use Rattle.dialogue.specs.Learning.{is_listed, ReadAlike, AllUnitsListed};
 ghost use Rattle.tcp_segments.specs.Flags.{flags_of, flags_octet};
 ghost use Rattle.stream_model.specs.Numbers.{number_after, known};
 ghost use Rattle.stream_model.specs.Session.{own, due_in, arrival, extent, start_of, repeats_unlike, segment_in};
-ghost use Rattle.stream_model.specs.Verdict.{refusal_of, session_verdict};
+ghost use Rattle.stream_model.specs.Refusals.{refusal_of, segment_refusal};
 ghost use Rattle.stream_model.specs.Steps.{session_next, session_inner, session_open, session_ends, ends_session, taken, acknowledged, own_after, other_after, limit_of, bare_offset, acknowledgement_to};
 ghost use Rattle.audit_streams.specs.Hosts.{sender_of, session_of, unheard, held_in};
 ghost use Rattle.audit_streams.specs.Known.{entries_of};
@@ -18,7 +18,7 @@ use dialogue::{Dialogue, Learns};
 use gate_base::{Addr, OutOfMemory, Refusal};
 use std::alloc::Global;
 use std::marker::Model;
-use stream_model::{Arrival, Extent, Near, place_acknowledged, refusal, start_at};
+use stream_model::{Arrival, Extent, Offset, place_acknowledged, refusal, start_at};
 use tcp_segments::{Flags, TcpView, flags_octet, flags_of};
 
 /// The largest payload that fits a datagram.
@@ -28,7 +28,7 @@ const PAYLOAD: usize = 65_495;
 #[derive(Clone, Copy)]
 struct Before {
     extent: Extent,
-    start: Near,
+    start: Offset,
 }
 
 /// A session that keeps all octets of both hosts, what their octets become on the way, and the places of each octet. It takes some ten
@@ -50,19 +50,19 @@ impl<C: Dialogue, S: Dialogue> Model for WholeStreams<C, S> {
 
 impl<C: Dialogue, S: Dialogue> WholeStreams<C, S> {
     /// The session that a client's first SYN makes, by its initial number and maximum segment size. It takes no memory.
-    pub fn make(alloc: Global, client: C, server: S, initial: u32, mss: u16) -> WholeStreams<C, S>
+    pub fn new(alloc: Global, client: C, server: S, initial: u32, mss: u16) -> WholeStreams<C, S>
         ensures { result ≡ record { client_dialogue = client; server_dialogue = server; client = unheard (Some initial) mss; server = unheard None 536 } }
     {
         WholeStreams {
             alloc,
-            client: WholeStream::make(alloc, client, Some(initial), mss),
-            server: WholeStream::make(alloc, server, None, 536),
+            client: WholeStream::new(alloc, client, Some(initial), mss),
+            server: WholeStream::new(alloc, server, None, 536),
         }
     }
 
     /// Why a segment of the client, or else of the server, is refused; None where it passes.
-    pub fn verdict(&self, from_client: bool, segment: &TcpView) -> Option<Refusal>
-        ensures { result ≡ session_verdict from_client (session_of C.meaning S.meaning self.now) (segment_in segment.now) }
+    pub fn refusal(&self, from_client: bool, segment: &TcpView) -> Option<Refusal>
+        ensures { result ≡ segment_refusal from_client (session_of C.meaning S.meaning self.now) (segment_in segment.now) }
     {
         if from_client {
             return judge(true, &self.client, &self.server, segment);
@@ -73,7 +73,7 @@ impl<C: Dialogue, S: Dialogue> WholeStreams<C, S> {
     /// Passes a segment of the client, or else of the server: what is sent for it, or OutOfMemory. The verdict must be None. After
     /// OutOfMemory the session must not be used again.
     pub fn step(&mut self, from_client: bool, segment: &TcpView) -> Result<Sent, OutOfMemory>
-        requires passes { session_verdict from_client (session_of C.meaning S.meaning self.old) (segment_in segment.now) ≡ None }
+        requires passes { segment_refusal from_client (session_of C.meaning S.meaning self.old) (segment_in segment.now) ≡ None }
         ensures next { OnOk result (session_of C.meaning S.meaning self.new ≡ session_next from_client (session_of C.meaning S.meaning self.old) (segment_in segment.now)) }
         ensures client { self.new.client_dialogue ≡ self.old.client_dialogue }
         ensures server { self.new.server_dialogue ≡ self.old.server_dialogue }
@@ -285,13 +285,13 @@ fn sent_reset<A: Dialogue, B: Dialogue>(
 }
 
 // An RST with this start ends the session.
-fn ends_at<A: Dialogue>(own: &WholeStream<A>, start: Near) -> bool
+fn ends_at<A: Dialogue>(own: &WholeStream<A>, start: Offset) -> bool
     ensures { result ≡ (is_none own.now.heard.initial || (start.before == 0)) }
 {
     own.initial().is_none() || start.before == 0
 }
 
-fn reset_number<A: Dialogue>(own: &WholeStream<A>, sequence: u32, start: Near) -> u32
+fn reset_number<A: Dialogue>(own: &WholeStream<A>, sequence: u32, start: Offset) -> u32
     requires { start.after < 2 ^ 31 }
     ensures { result ≡ cond (is_some own.now.heard.initial) (number_after (known own.now.heard.initial) (bare_offset (sender_of A.meaning own.now) start)) sequence }
 {
@@ -432,7 +432,7 @@ fn limit_of(mss: u16, options: &[u8]) -> usize
         .saturating_sub(options.len())
 }
 
-/// What a verdict needs to know of a segment.
+/// What a refusal needs to know of a segment.
 fn arrival_of(segment: &TcpView) -> Arrival
     ensures { result ≡ arrival (segment_in segment.now) }
 {

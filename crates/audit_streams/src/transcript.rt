@@ -38,7 +38,7 @@ impl Model for Transcript {
 
 impl Transcript {
     /// No octets.
-    pub(crate) fn make(alloc: Global) -> Transcript
+    pub(crate) fn new(alloc: Global) -> Transcript
         ensures { result ≡ record { octets = []; image = []; places = []; ends = []; rest = 0 } }
     {
         Transcript {

@@ -6,7 +6,7 @@ use Rattle.gate_base.specs.declared.address.Addr.{Addr}
 use Rattle.gate_base.specs.declared.side.Side.{Side}
 use Rattle.realm_pools.specs.Addresses.{Addresses, least_free}
 use Rattle.binding_table.specs.declared.binding.Binding.{Binding}
-use Rattle.binding_table.specs.declared.binding.Crossing.TheVariants.{Known}
+use Rattle.binding_table.specs.declared.binding.Crossing.TheVariants.{Bound}
 use Rattle.binding_table.specs.Bindings.{Bindings, is_same, is_of_host, is_of_alias, in_pool, pool_of, alias_of, host_of, new_or_empty, cross}
 use Rattle.binding_table.specs.Lawful.{IsLawful}
 use Rattle.binding_table.proofs.Pools.{other_other, same_side-true}
@@ -15,12 +15,12 @@ use Rattle.binding_table.proofs.Once.{address_is, alias_alone, find_only, finds,
 
 -- ## Crossing back
 
-not_known : (free : Option Addr) (image : Addr) → new_or_empty free ≡ Known image → ⊥
+not_known : (free : Option Addr) (image : Addr) → new_or_empty free ≡ Bound image → ⊥
 not_known None image h = cc
 not_known (Some alias) image h = cc
 
 -- an address crosses to a known one as one of the pool, or as a host
-known_by : (same pool : Bool) (host alias : Option Addr) (free : Addresses) (image : Addr) → crossed same pool host free alias ≡ Known image → ((same ≡ false) × (pool ≡ true) × (host ≡ Some image)) ⊎ ((same ≡ false) × (pool ≡ false) × (alias ≡ Some image))
+known_by : (same pool : Bool) (host alias : Option Addr) (free : Addresses) (image : Addr) → crossed same pool host free alias ≡ Bound image → ((same ≡ false) × (pool ≡ true) × (host ≡ Some image)) ⊎ ((same ≡ false) × (pool ≡ false) × (alias ≡ Some image))
 known_by true pool host alias free image h = cc
 known_by false true None alias free image h = cc
 known_by false true (Some one) alias free image h = inl (refl, refl, cc)
@@ -30,7 +30,7 @@ known_by false false host None free image h = absurd (not_known (least_free free
 abbrev nobody : Side → Addr → Binding
 nobody side address = record { side = side; host = address; alias = address; until = record { 0 = 0 }; fixed = false }
 
-pub crosses_back : (table : Bindings) (side : Side) (address image : Addr) → IsLawful table → cross table side address ≡ Known image → cross table (other side) image ≡ Known address
+pub crosses_back : (table : Bindings) (side : Side) (address image : Addr) → IsLawful table → cross table side address ≡ Bound image → cross table (other side) image ≡ Bound address
 crosses_back table side address image lawful known =
     let d = nobody side address in
     elim (known_by (is_same table address) (in_pool table side address) (host_of side address table.entries) (alias_of side address table.entries) (pool_of table (other side)) image (sym (cross_is table side address) ∙ known)) [
@@ -46,7 +46,7 @@ crosses_back table side address image lawful known =
           let outside = subst O found.gives (subst S sides place.outside) in
           let H : Addr → Type 0 = λ a. is_same table a ≡ false in
           let host = subst H found.gives place.host in
-          cross_is table (other side) image ∙ rw (host, outside, only) (ap (λ (a : Addr). Known a) (address_is binding.alias address parts.1))
+          cross_is table (other side) image ∙ rw (host, outside, only) (ap (λ (a : Addr). Bound a) (address_is binding.alias address parts.1))
       | inr by_host ↦
           let found = finds (λ binding. binding.alias) (is_of_host side address.0) table.entries d image by_host.2 in
           let binding = get_or table.entries found.place d in
@@ -59,5 +59,5 @@ crosses_back table side address image lawful known =
           let S : Side → Type 0 = λ s. in_pool table (other s) binding.alias ≡ true in
           let I : Addr → Type 0 = λ a. in_pool table (other side) a ≡ true in
           let inside = subst I found.gives (subst S sides place.alias) in
-          cross_is table (other side) image ∙ rw (lawful.pools (other side) image inside, inside, only) (ap (λ (a : Addr). Known a) (address_is binding.host address parts.1))
+          cross_is table (other side) image ∙ rw (lawful.pools (other side) image inside, inside, only) (ap (λ (a : Addr). Bound a) (address_is binding.host address parts.1))
     ]

@@ -12,7 +12,7 @@ use Rattle.realm_pools.proofs.Free.{HasFlags, least_from}
 use Rattle.binding_table.specs.Steps.{CanHold}
 use Rattle.binding_table.specs.declared.binding.Binding.{Binding}
 use Rattle.binding_table.specs.declared.binding.Crossing.{Crossing}
-use Rattle.binding_table.specs.declared.binding.Crossing.TheVariants.{Same, Known, New, Unbound, Empty}
+use Rattle.binding_table.specs.declared.binding.Crossing.TheVariants.{Same, Bound, New, Unbound, Empty}
 use Rattle.binding_table.specs.Bindings.{pool_with, Bindings, is_same, is_of_host, is_of_alias, in_pool, range_of, pool_of, alias_of, host_of, new_or_empty, cross, IsNew, bound, bound_by, with_binding}
 use Rattle.binding_table.specs.Plan.{needs_binding}
 use Rattle.binding_table.specs.Lawful.{IsLawful}
@@ -43,7 +43,7 @@ fresh_is table side host = fresh_from table side host _ _ _ _ refl refl refl ref
 
 new_needs : (crossing : Crossing) → IsNew crossing → needs_binding crossing ≡ true
 new_needs Same new = absurd new
-new_needs (Known image) new = absurd new
+new_needs (Bound image) new = absurd new
 new_needs (New alias) new = refl
 new_needs Unbound new = absurd new
 new_needs Empty new = absurd new

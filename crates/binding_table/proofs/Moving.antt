@@ -7,7 +7,7 @@ use Rattle.gate_base.specs.declared.address.Addr.{Addr}
 use Rattle.gate_base.specs.declared.side.Side.{Side}
 use Rattle.expiring_table.specs.declared.row.Row.{Row}
 use Rattle.binding_table.specs.declared.binding.Binding.{Binding}
-use Rattle.binding_table.specs.declared.binding.Crossing.TheVariants.{Known}
+use Rattle.binding_table.specs.declared.binding.Crossing.TheVariants.{Bound}
 use Rattle.binding_table.specs.Bindings.{Bindings, cross, extended, extend_through, in_pool, is_of_host, is_same}
 use Rattle.binding_table.specs.Lawful.{IsInPlace, IsLawful}
 use Rattle.binding_table.specs.Plan.{Use, used, used_by}
@@ -27,7 +27,7 @@ bound_place table side host binding lawful known =
     (ap (is_same table) (sym of_host) ∙ place.host, ap (λ (s : Side). in_pool table s host) (sym of_side) ∙ ap (in_pool table binding.side) (sym of_host) ∙ place.outside)
 
 -- so it crosses to its alias
-crosses : (table : Bindings) (side : Side) (host : Addr) (binding : Binding) → IsLawful table → find (is_of_host side host.0) table.entries ≡ Some binding → cross table side host ≡ Known binding.alias
+crosses : (table : Bindings) (side : Side) (host : Addr) (binding : Binding) → IsLawful table → find (is_of_host side host.0) table.entries ≡ Some binding → cross table side host ≡ Bound binding.alias
 unfolding cross
 crosses table side host binding lawful known =
     let place = bound_place table side host binding lawful known in

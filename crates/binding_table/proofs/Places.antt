@@ -13,7 +13,7 @@ use Rattle.expiring_table.specs.declared.row.Row.{Row}
 use Rattle.expiring_table.specs.Rows.{Table, living, no_rows, row_of}
 use Rattle.realm_pools.specs.Addresses.{Addresses}
 use Rattle.binding_table.specs.declared.binding.Crossing.{Crossing}
-use Rattle.binding_table.specs.declared.binding.Crossing.TheVariants.{Same, Known, New, Unbound, Empty}
+use Rattle.binding_table.specs.declared.binding.Crossing.TheVariants.{Same, Bound, New, Unbound, Empty}
 use Rattle.binding_table.specs.Plan.{is_address, is_among, needs_binding}
 use Rattle.binding_table.specs.Steps.{AreFirsts, EndsAtOnce, given_image, planned_by}
 use Rattle.binding_table.proofs.Once.{address_is}
@@ -64,61 +64,61 @@ among_is earlier address (Some place) e = let at = position-Some (is_address add
 
 -- ## An address more
 
-module _ (needs : Addr → Bool) (earlier : List Addr) (address : Addr) (firsts : Table ℕ) (are : AreFirsts needs earlier firsts) where
+module _ (needs : Addr → Bool) (earlier : List Addr) (address : Addr) (seen_addresses : Table ℕ) (are : AreFirsts needs earlier seen_addresses) where
   -- where no other address is the new one, nothing is noted
-  same_firsts : ((one : Addr) → needs one ≡ true → row_of one.0 firsts.rows ≡ None → length firsts.rows < firsts.most → is_address one address ≡ false) → AreFirsts needs (earlier ++ address ∷ []) firsts
+  same_firsts : ((one : Addr) → needs one ≡ true → row_of one.0 seen_addresses.rows ≡ None → length seen_addresses.rows < seen_addresses.most → is_address one address ≡ false) → AreFirsts needs (earlier ++ address ∷ []) seen_addresses
   same_firsts other = record {
     most = are.most;
     ends = are.ends;
-    found = λ one h. IfSome_then (row_of one.0 firsts.rows) (are.found one h) (λ row found. stays_found earlier one address row.value found);
+    found = λ one h. IfSome_then (row_of one.0 seen_addresses.rows) (are.found one h) (λ row found. stays_found earlier one address row.value found);
     lacks = λ one h none room. stays_absent earlier one address (are.lacks one h none room) (other one h none room);
   }
 
   -- an address that needs no binding
-  pub firsts_passed : needs address ≡ false → AreFirsts needs (earlier ++ address ∷ []) firsts
+  pub firsts_passed : needs address ≡ false → AreFirsts needs (earlier ++ address ∷ []) seen_addresses
   firsts_passed settled = same_firsts (λ one h none room. elim (cases_Bool (is_address one address)) [
     | inl same ↦ let e = address_is address one same in cc
     | inr differs ↦ differs
   ])
 
   -- one that was noted
-  pub firsts_found : (row : Row ℕ) → row_of address.0 firsts.rows ≡ Some row → AreFirsts needs (earlier ++ address ∷ []) firsts
+  pub firsts_found : (row : Row ℕ) → row_of address.0 seen_addresses.rows ≡ Some row → AreFirsts needs (earlier ++ address ∷ []) seen_addresses
   firsts_found row there = same_firsts (λ one h none room. elim (cases_Bool (is_address one address)) [
-    | inl same ↦ let e = address_is address one same in absurd (none-some row (sym none ∙ ap (λ (a : Addr). row_of a.0 firsts.rows) (sym e) ∙ there))
+    | inl same ↦ let e = address_is address one same in absurd (none-some row (sym none ∙ ap (λ (a : Addr). row_of a.0 seen_addresses.rows) (sym e) ∙ there))
     | inr differs ↦ differs
   ])
 
   -- one for which there is no room
-  pub firsts_full : firsts.most ≤ length firsts.rows → AreFirsts needs (earlier ++ address ∷ []) firsts
+  pub firsts_full : seen_addresses.most ≤ length seen_addresses.rows → AreFirsts needs (earlier ++ address ∷ []) seen_addresses
   firsts_full full = same_firsts (λ one h none room. absurd (omega arith))
 
   abbrev noted : Row ℕ
   noted = record { key = address.0; end = Some 0; value = length earlier }
 
-  found_noted : (one : Addr) (found : Option (Row ℕ)) (here : Bool) → row_of one.0 firsts.rows ≡ found → is_address one address ≡ here → row_of one.0 (firsts.rows ++ noted ∷ []) ≡ option_or found (cond here (Some noted) None)
-  found_noted one found true e h = find-append (λ row. row.key == one.0) firsts.rows (noted ∷ []) ∙ rw (e, h) refl
-  found_noted one found false e h = find-append (λ row. row.key == one.0) firsts.rows (noted ∷ []) ∙ rw (e, h) refl
+  found_noted : (one : Addr) (found : Option (Row ℕ)) (here : Bool) → row_of one.0 seen_addresses.rows ≡ found → is_address one address ≡ here → row_of one.0 (seen_addresses.rows ++ noted ∷ []) ≡ option_or found (cond here (Some noted) None)
+  found_noted one found true e h = find-append (λ row. row.key == one.0) seen_addresses.rows (noted ∷ []) ∙ rw (e, h) refl
+  found_noted one found false e h = find-append (λ row. row.key == one.0) seen_addresses.rows (noted ∷ []) ∙ rw (e, h) refl
 
   -- a new one
-  pub firsts_noted : row_of address.0 firsts.rows ≡ None → length firsts.rows < firsts.most → AreFirsts needs (earlier ++ address ∷ []) (record firsts { rows = firsts.rows ++ noted ∷ [] })
+  pub firsts_noted : row_of address.0 seen_addresses.rows ≡ None → length seen_addresses.rows < seen_addresses.most → AreFirsts needs (earlier ++ address ∷ []) (record seen_addresses { rows = seen_addresses.rows ++ noted ∷ [] })
   firsts_noted absent room = record {
     most = are.most;
-    ends = All-push EndsAtOnce firsts.rows noted are.ends refl;
+    ends = All-push EndsAtOnce seen_addresses.rows noted are.ends refl;
     found = λ one h. found one h _ _ refl refl;
-    lacks = λ one h none more. lacks one h _ _ refl refl none (omega (arith, length-append firsts.rows (noted ∷ [])));
+    lacks = λ one h none more. lacks one h _ _ refl refl none (omega (arith, length-append seen_addresses.rows (noted ∷ [])));
   }
     where
       P : Addr → Row ℕ → Type 0
       P one row = position (is_address one) (earlier ++ address ∷ []) ≡ Some row.value
 
-      found : (one : Addr) → needs one ≡ true → (before : Option (Row ℕ)) (here : Bool) → row_of one.0 firsts.rows ≡ before → is_address one address ≡ here → IfSome (row_of one.0 (firsts.rows ++ noted ∷ [])) (P one)
+      found : (one : Addr) → needs one ≡ true → (before : Option (Row ℕ)) (here : Bool) → row_of one.0 seen_addresses.rows ≡ before → is_address one address ≡ here → IfSome (row_of one.0 (seen_addresses.rows ++ noted ∷ [])) (P one)
       found one h (Some row) here e is =
           let was = subst (λ (o : Option (Row ℕ)). IfSome o (λ r. position (is_address one) earlier ≡ Some r.value)) e (are.found one h) in
           subst (λ (o : Option (Row ℕ)). IfSome o (P one)) (sym (found_noted one (Some row) here e is)) (stays_found earlier one address row.value was)
       found one h None true e is = subst (λ (o : Option (Row ℕ)). IfSome o (P one)) (sym (found_noted one None true e is)) (found_last earlier one address (are.lacks one h e room) is)
       found one h None false e is = subst (λ (o : Option (Row ℕ)). IfSome o (P one)) (sym (found_noted one None false e is)) tt
 
-      lacks : (one : Addr) → needs one ≡ true → (before : Option (Row ℕ)) (here : Bool) → row_of one.0 firsts.rows ≡ before → is_address one address ≡ here → row_of one.0 (firsts.rows ++ noted ∷ []) ≡ None → length firsts.rows < firsts.most → position (is_address one) (earlier ++ address ∷ []) ≡ None
+      lacks : (one : Addr) → needs one ≡ true → (before : Option (Row ℕ)) (here : Bool) → row_of one.0 seen_addresses.rows ≡ before → is_address one address ≡ here → row_of one.0 (seen_addresses.rows ++ noted ∷ []) ≡ None → length seen_addresses.rows < seen_addresses.most → position (is_address one) (earlier ++ address ∷ []) ≡ None
       lacks one h (Some row) here e is none less = absurd (none-some row (sym none ∙ found_noted one (Some row) here e is))
       lacks one h None true e is none less = absurd (none-some noted (sym none ∙ found_noted one None true e is))
       lacks one h None false e is none less = stays_absent earlier one address (are.lacks one h e less) is
@@ -143,16 +143,16 @@ none_left rows ends live = sym live ∙ none_live rows ends
 -- ## Images
 
 -- an address that crosses neither unchanged nor as known, nor as one that stands for no host, needs a binding
-pub needs_of : (crossing : Crossing) → (crossing ≡ Same → ⊥) → ((image : Addr) → crossing ≡ Known image → ⊥) → crossing ≢ Unbound → needs_binding crossing ≡ true
+pub needs_of : (crossing : Crossing) → (crossing ≡ Same → ⊥) → ((image : Addr) → crossing ≡ Bound image → ⊥) → crossing ≢ Unbound → needs_binding crossing ≡ true
 needs_of Same same known bound = absurd (same refl)
-needs_of (Known image) same known bound = absurd (known image refl)
+needs_of (Bound image) same known bound = absurd (known image refl)
 needs_of (New alias) same known bound = refl
 needs_of Unbound same known bound = absurd (bound refl)
 needs_of Empty same known bound = refl
 
 pub planned_fresh : (pool : Addresses) (earlier : List Addr) (images : List (Option Addr)) (given : Option Addr) (address : Addr) (crossing : Crossing) → needs_binding crossing ≡ true → planned_by pool earlier images given address crossing ≡ given_image pool images given (position (is_address address) earlier)
 planned_fresh pool earlier images given address Same needs = cc
-planned_fresh pool earlier images given address (Known image) needs = cc
+planned_fresh pool earlier images given address (Bound image) needs = cc
 planned_fresh pool earlier images given address (New alias) needs = refl
 planned_fresh pool earlier images given address Unbound needs = cc
 planned_fresh pool earlier images given address Empty needs = refl

@@ -21,7 +21,7 @@ use Rattle.realm_pools.proofs.Free.{from_low}
 use Rattle.binding_table.specs.Steps.{Aliases, given_image, next_alias, planned_by}
 use Rattle.binding_table.specs.declared.binding.Binding.{Binding}
 use Rattle.binding_table.specs.declared.binding.Crossing.{Crossing}
-use Rattle.binding_table.specs.declared.binding.Crossing.TheVariants.{Same, Known, New, Unbound, Empty}
+use Rattle.binding_table.specs.declared.binding.Crossing.TheVariants.{Same, Bound, New, Unbound, Empty}
 use Rattle.binding_table.specs.Bindings.{is_settled, Bindings, is_same, is_of_host, is_of_alias, is_used, in_pool, range_of, pool_with, pool_of, alias_of, host_of, known_or, new_or_empty, cross, seen_by, with_binding, extended, extend_through}
 use Rattle.binding_table.specs.Plan.{images_after, Use, AreUsesOf, used, used_by, after_uses, unless_same, image_after, needs_binding, is_address, is_among, is_fresh, fresh_after}
 use Rattle.binding_table.proofs.Pools.{IsLone, numbers, other_other, same_side-itself, used_elsewhere, used_alias, free_parts, free_alias}
@@ -44,7 +44,7 @@ same_crossed s s' p p' h h' f f' a a' q r t u v = cc
 
 -- the image that a crossing gives
 abbrev pub image_of : Crossing → Option Addr
-image_of (Known image) = Some image
+image_of (Bound image) = Some image
 image_of _ = None
 
 not_settled : (found : Option Addr) → is_settled (new_or_empty found) ≡ false
@@ -302,7 +302,7 @@ push_follows table binding = record {
 }
 
 pub used_by_follows : (table : Bindings) (side : Side) (address : Addr) (until : Moment) (crossing : Crossing) → Follows table side (used_by table side address until crossing)
-used_by_follows table side address until (Known image) = extended_follows table side address until
+used_by_follows table side address until (Bound image) = extended_follows table side address until
 used_by_follows table side address until (New alias) = push_follows table (record { side = side; host = address; alias = alias; until = until; fixed = false })
 used_by_follows table side address until Same = record { same = refl; left = refl; right = refl; hosts = λ one. refl; kept = λ one alias h. h }
 used_by_follows table side address until Unbound = record { same = refl; left = refl; right = refl; hosts = λ one. refl; kept = λ one alias h. h }
@@ -313,7 +313,7 @@ used_follows table one = used_by_follows table one.side one.address one.until (c
 
 settle_by : (table later : Bindings) (side : Side) (earlier rest : List Addr) (given : Option Addr) (address : Addr) (until : Moment) (crossing : Crossing) → cross later side address ≡ crossing → is_settled crossing ≡ true → IsPlanned table later side earlier (address ∷ rest) given → IsPlanned table (used_by later side address until crossing) side (earlier ++ address ∷ []) rest given
 settle_by table later side earlier rest given address until Same e h p = planned_settled table later side earlier rest given address p (ap is_settled e)
-settle_by table later side earlier rest given address until (Known image) e h p =
+settle_by table later side earlier rest given address until (Bound image) e h p =
     let last = extended later side address until in
     let stays = settled_stays later last side address (extended_follows later side address until) (ap is_settled e) in
     planned_settled table last side earlier rest given address (planned_extended table later side earlier (address ∷ rest) given address until p) (ap is_settled (stays ∙ e))
@@ -323,7 +323,7 @@ settle_by table later side earlier rest given address until Empty e h p = cc
 
 -- a new host is bound to the least free address
 planned_new : (table later : Bindings) (side : Side) (earlier rest : List Addr) (given : Option Addr) (address alias : Addr) (until : Moment) → (range_of table (other side)).first ≤ (range_of table (other side)).last → IsPlanned table later side earlier (address ∷ rest) given → is_fresh table side earlier address ≡ true → HasNoBinding later side address → least_free (pool_with (range_of table (other side)) (other side) later.entries) ≡ Some alias
-    → (IsPlanned table (used_by later side address until (New alias)) side (earlier ++ address ∷ []) rest (Some alias)) × (cross (used_by later side address until (New alias)) side address ≡ Known alias)
+    → (IsPlanned table (used_by later side address until (New alias)) side (earlier ++ address ∷ []) rest (Some alias)) × (cross (used_by later side address until (New alias)) side address ≡ Bound alias)
 planned_new table later side earlier rest given address alias until ordered p fresh lacks least =
     let binding : Binding = record { side = side; host = address; alias = alias; until = until; fixed = false } in
     let last = with_binding later binding in
@@ -332,7 +332,7 @@ planned_new table later side earlier rest given address alias until ordered p fr
     let h : same_side side (other (other side)) ≡ true = rw (other_other side) (same_side-itself side) in
     let free = free_parts range (other side) later.entries alias (least_parts range (other side) later.entries alias ordered least).free in
     let here : alias_of side address last.entries ≡ Some alias = alias_push side address later.entries binding ∙ rw (lacks.alias, and_from _ _ (same_side-itself side) (eq-eqb address.0 address.0 refl)) refl in
-    let known : cross last side address ≡ Known alias = cross_follows later last side address after ∙ rw (lacks.differs, lacks.outside, here) refl in
+    let known : cross last side address ≡ Bound alias = cross_follows later last side address after ∙ rw (lacks.differs, lacks.outside, here) refl in
     let lone : IsLone range (other side) (later.entries ++ []) binding = rw append-nil (record { within = free.0; unused = free.1 }) in
     let less = free_less range (other side) later.entries [] binding h lone in
     let whole = ap (λ entries. free_in range (other side) entries) (append-nil later.entries) in
@@ -406,7 +406,7 @@ step_by : (table later : Bindings) (side : Side) (earlier rest : List Addr) (ima
 step_by table later side earlier rest images given address until Same e ordered p are bound =
     let stays = settled_stays table later side address p.follows (ap is_settled e) ∙ e in
     step_settled table later side earlier rest given None address until p (ap is_settled stays) (sym (ap image_of stays))
-step_by table later side earlier rest images given address until (Known image) e ordered p are bound =
+step_by table later side earlier rest images given address until (Bound image) e ordered p are bound =
     let stays = settled_stays table later side address p.follows (ap is_settled e) ∙ e in
     step_settled table later side earlier rest given (Some image) address until p (ap is_settled stays) (sym (ap image_of stays))
 step_by table later side earlier rest images given address until (New alias) e ordered p are bound = step_fresh table later side earlier rest images given address until _ ordered p are (ap needs_binding e) refl

@@ -5,7 +5,7 @@ use Rattle.gate_base.specs.declared.event.Moment.{Moment}
 use Rattle.gate_base.specs.declared.side.Side.TheVariants.{Left, Right}
 use Rattle.gate_settings.specs.Cross.{block_end}
 use Rattle.binding_table.specs.declared.binding.Binding.{Binding}
-use Rattle.binding_table.specs.declared.binding.Crossing.TheVariants.{Same, Known, New, Unbound, Empty}
+use Rattle.binding_table.specs.declared.binding.Crossing.TheVariants.{Same, Bound, New, Unbound, Empty}
 use Rattle.binding_table.specs.Bindings.{Bindings, cross, seen, bound, extended, expired}
 use Rattle.binding_table.specs.Plan.{Use, needed, images_after}
 
@@ -40,7 +40,7 @@ known_host : seen later Left (address 10 0 0 5) ≡ Some (address 172 16 9 1)
 unfolding cross block_end
 known_host = refl
 
-known_alias : cross opening Left (address 192 168 200 1) ≡ Known (address 10 0 0 5)
+known_alias : cross opening Left (address 192 168 200 1) ≡ Bound (address 10 0 0 5)
 unfolding cross block_end
 known_alias = refl
 

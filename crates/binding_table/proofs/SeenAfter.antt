@@ -7,7 +7,7 @@ use Rattle.gate_base.specs.declared.event.Moment.{Moment}
 use Rattle.gate_base.specs.declared.side.Side.{Side}
 use Rattle.realm_pools.specs.Addresses.{Addresses, least_free}
 use Rattle.binding_table.specs.declared.binding.Crossing.{Crossing}
-use Rattle.binding_table.specs.declared.binding.Crossing.TheVariants.{Same, Known, New, Unbound, Empty}
+use Rattle.binding_table.specs.declared.binding.Crossing.TheVariants.{Same, Bound, New, Unbound, Empty}
 use Rattle.binding_table.specs.Bindings.{Bindings, is_same, in_pool, alias_of, host_of, pool_of, seen, seen_by, new_or_empty, extend_through, is_settled}
 use Rattle.binding_table.specs.Plan.{used_by}
 use Rattle.binding_table.proofs.Kept.{same_pair}
@@ -33,7 +33,7 @@ alias_kept : (t : Bindings) (side : Side) (address one : Addr) (until : Moment) 
 alias_kept t side address one until Same h = refl
 alias_kept t side address one until Unbound h = refl
 alias_kept t side address one until Empty h = refl
-alias_kept t side address one until (Known image) h = alias_map (extend_through (in_pool t side address) side address until) (same_pair (in_pool t side address) side address until) side one t.entries
+alias_kept t side address one until (Bound image) h = alias_map (extend_through (in_pool t side address) side address until) (same_pair (in_pool t side address) side address until) side one t.entries
 alias_kept t side address one until (New alias) (inl settled) = absurd (false≢true settled)
 alias_kept t side address one until (New alias) (inr differs) =
     alias_push side one t.entries (record { side = side; host = address; alias = alias; until = until; fixed = false })

@@ -14,7 +14,7 @@ use Rattle.gate_settings.specs.Cross.{is_in_same}
 use Rattle.gate_settings.specs.declared.settings.Block.{Block}
 use Rattle.binding_table.specs.declared.binding.Binding.{Binding}
 use Rattle.binding_table.specs.declared.binding.Crossing.{Crossing}
-use Rattle.binding_table.specs.declared.binding.Crossing.TheVariants.{Same, Known, New, Unbound, Empty}
+use Rattle.binding_table.specs.declared.binding.Crossing.TheVariants.{Same, Bound, New, Unbound, Empty}
 use Rattle.binding_table.specs.Bindings.{Bindings, is_same, is_settled, is_of_host, in_pool, cross, seen, seen_by, with_binding, extend_through, extended, free}
 use Rattle.binding_table.specs.Lasting.{IsBoundTo, IsKnownAs}
 use Rattle.binding_table.specs.Lawful.{IsLawful}
@@ -57,7 +57,7 @@ bound_pushed table side host alias until one h = record {
 
 bound_used_by : (table : Bindings) (side : Side) (host alias until : ℕ) (from : Side) (address : Addr) (later : Moment) (c : Crossing) → IsBoundTo table side host alias until → IsBoundTo (used_by table from address later c) side host alias until
 bound_used_by table side host alias until from address later Same h = h
-bound_used_by table side host alias until from address later (Known image) h = bound_extended table side host alias until from address later h
+bound_used_by table side host alias until from address later (Bound image) h = bound_extended table side host alias until from address later h
 bound_used_by table side host alias until from address later (New image) h = bound_pushed table side host alias until (record { side = from; host = address; alias = image; until = later; fixed = false }) h
 bound_used_by table side host alias until from address later Unbound h = h
 bound_used_by table side host alias until from address later Empty h = h
@@ -89,7 +89,7 @@ reach (suc n) table side addresses uses place images given lawful e bound left l
 
 settled_seen : (address : Addr) (crossing : Crossing) → is_settled crossing ≡ true → IsSome (seen_by address crossing)
 settled_seen address Same h = refl
-settled_seen address (Known image) h = refl
+settled_seen address (Bound image) h = refl
 settled_seen address (New alias) h = cc
 settled_seen address Unbound h = cc
 settled_seen address Empty h = cc

@@ -16,7 +16,7 @@ use Rattle.gate_settings.specs.declared.settings.SideSettings.{SideSettings}
 use Rattle.realm_pools.specs.Addresses.{Range, Addresses, is_in, least_free}
 use Rattle.binding_table.specs.declared.binding.Binding.{Binding}
 use Rattle.binding_table.specs.declared.binding.Crossing.{Crossing}
-use Rattle.binding_table.specs.declared.binding.Crossing.TheVariants.{Same, Known, New, Unbound, Empty}
+use Rattle.binding_table.specs.declared.binding.Crossing.TheVariants.{Same, Bound, New, Unbound, Empty}
 
 -- the blocks whose addresses mean the same host in both realms, both pools, where object identifiers hold addresses, and the bindings in their order
 pub record Bindings : Type 0 where
@@ -104,7 +104,7 @@ in_pool table side address = is_in address (range_of table side)
 -- a known address, or else another crossing
 abbrev pub known_or : Crossing → Option Addr → Crossing
 known_or other None = other
-known_or other (Some address) = Known address
+known_or other (Some address) = Bound address
 
 -- a new host is bound to this address, if there is one
 abbrev pub new_or_empty : Option Addr → Crossing
@@ -129,13 +129,13 @@ cross table side address =
 -- the address by which an address goes on, if it has one already
 abbrev pub seen_by : Addr → Crossing → Option Addr
 seen_by address Same = Some address
-seen_by address (Known image) = Some image
+seen_by address (Bound image) = Some image
 seen_by address _ = None
 
 -- whether an address goes on by one that it has already
 abbrev pub is_settled : Crossing → Bool
 is_settled Same = true
-is_settled (Known image) = true
+is_settled (Bound image) = true
 is_settled _ = false
 
 -- what an address of the realm is called in the other realm by the bindings of the table alone
@@ -151,7 +151,7 @@ IsNew _ = ⊥
 
 -- an address that crosses through a binding
 abbrev pub IsKnown : Crossing → Type 0
-IsKnown (Known image) = Unit {0}
+IsKnown (Bound image) = Unit {0}
 IsKnown _ = ⊥
 
 -- the table with a binding behind the others

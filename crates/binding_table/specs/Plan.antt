@@ -5,7 +5,7 @@ use Rattle.gate_base.specs.declared.address.Addr.{Addr}
 use Rattle.gate_base.specs.declared.event.Moment.{Moment}
 use Rattle.gate_base.specs.declared.side.Side.{Side}
 use Rattle.binding_table.specs.declared.binding.Crossing.{Crossing}
-use Rattle.binding_table.specs.declared.binding.Crossing.TheVariants.{Same, Known, New, Empty}
+use Rattle.binding_table.specs.declared.binding.Crossing.TheVariants.{Same, Bound, New, Empty}
 use Rattle.binding_table.specs.Bindings.{Bindings, cross, seen, extended, bound_by}
 
 -- ## Uses
@@ -18,7 +18,7 @@ pub record Use : Type 0 where
 
 -- the table after an address was used that crosses so
 abbrev pub used_by : Bindings → Side → Addr → Moment → Crossing → Bindings
-used_by table side address until (Known image) = extended table side address until
+used_by table side address until (Bound image) = extended table side address until
 used_by table side address until crossing = bound_by table side address until crossing
 
 -- the table after an address was used: its binding lasts longer, or a new host is bound

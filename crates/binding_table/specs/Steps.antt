@@ -11,7 +11,7 @@ use Rattle.gate_base.specs.declared.side.Side.TheVariants.{Left, Right}
 use Rattle.realm_pools.specs.Addresses.{Range, Addresses, unused, place_of, with_address, least_free, next_free}
 use Rattle.binding_table.specs.declared.binding.Binding.{Binding}
 use Rattle.binding_table.specs.declared.binding.Crossing.{Crossing}
-use Rattle.binding_table.specs.declared.binding.Crossing.TheVariants.{Same, Known}
+use Rattle.binding_table.specs.declared.binding.Crossing.TheVariants.{Same, Bound}
 use Rattle.binding_table.specs.Bindings.{Bindings, cross, extend_through, in_pool, range_of, host_of, pool_with}
 use Rattle.binding_table.specs.Lawful.{IsInPlace, collides}
 use Rattle.binding_table.specs.Plan.{is_address, needs_binding}
@@ -119,7 +119,7 @@ given_image pool images given None = (next_alias pool given, next_alias pool giv
 -- the image of an address behind earlier ones and their images, and the alias that was given last
 abbrev pub planned_by : Addresses → List Addr → List (Option Addr) → Option Addr → Addr → Crossing → Option Addr × Option Addr
 planned_by pool earlier images given address Same = (None, given)
-planned_by pool earlier images given address (Known image) = (Some image, given)
+planned_by pool earlier images given address (Bound image) = (Some image, given)
 planned_by pool earlier images given address _ = given_image pool images given (position (is_address address) earlier)
 
 -- whether an address of the realm needs a binding
@@ -131,8 +131,8 @@ abbrev pub EndsAtOnce : Row ℕ → Type 0
 EndsAtOnce row = row.end ≡ Some 0
 
 -- the rows have the places at which earlier addresses stand first: all of those that need a binding, as long as there is room for a row more
-pub record AreFirsts (needs : Addr → Bool) (earlier : List Addr) (firsts : Table ℕ) : Type 0 where
-  pub most : firsts.most ≡ 8192
-  pub ends : All EndsAtOnce firsts.rows
-  pub found : (address : Addr) → needs address ≡ true → IfSome (row_of address.0 firsts.rows) (λ row. position (is_address address) earlier ≡ Some row.value)
-  pub lacks : (address : Addr) → needs address ≡ true → row_of address.0 firsts.rows ≡ None → length firsts.rows < firsts.most → position (is_address address) earlier ≡ None
+pub record AreFirsts (needs : Addr → Bool) (earlier : List Addr) (seen_addresses : Table ℕ) : Type 0 where
+  pub most : seen_addresses.most ≡ 8192
+  pub ends : All EndsAtOnce seen_addresses.rows
+  pub found : (address : Addr) → needs address ≡ true → IfSome (row_of address.0 seen_addresses.rows) (λ row. position (is_address address) earlier ≡ Some row.value)
+  pub lacks : (address : Addr) → needs address ≡ true → row_of address.0 seen_addresses.rows ≡ None → length seen_addresses.rows < seen_addresses.most → position (is_address address) earlier ≡ None

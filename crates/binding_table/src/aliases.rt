@@ -40,13 +40,13 @@ impl Model for Aliases {
 
 impl Aliases {
     /// The pool of a realm, none of whose addresses stands for a host. The error is that there is too little memory.
-    pub fn make(alloc: Global, side: &SideSettings) -> Result<Aliases, OutOfMemory>
+    pub fn new(alloc: Global, side: &SideSettings) -> Result<Aliases, OutOfMemory>
         requires { is_bad_pool side.now ≡ false }
         ensures { IfOk result (λ aliases. aliases ≡ steps.no_hosts side.now.first side.now.last) }
     {
         let size = (side.last.0 - side.first.0) as usize + 1;
         Ok(Aliases {
-            pool: Pool::make(alloc, side.first, side.last)?,
+            pool: Pool::new(alloc, side.first, side.last)?,
             first: side.first.0,
             hosts: vec![in alloc; None; size]?,
         })

@@ -82,7 +82,7 @@ pub enum Crossing {
     /// The address itself: it is no host's, or it means the same host in both realms.
     Same,
     /// This address, by a binding of the table.
-    Known(Addr),
+    Bound(Addr),
     /// This address, once the host is bound.
     New(Addr),
     /// Nothing: the address is one of the realm's pool, and stands for no host.

@@ -33,7 +33,7 @@ impl Model for Entries {
 
 impl Entries {
     /// No bindings, and room for so many fixed ones and so many others; the error is that there is too little memory.
-    pub fn make(
+    pub fn new(
         alloc: Global,
         fixed: usize,
         most: usize,
@@ -45,7 +45,7 @@ impl Entries {
     {
         Ok(Entries {
             fixed: IndexMap::with_capacity(alloc, fixed)?,
-            moving: Rows::make(alloc, most, seed)?,
+            moving: Rows::new(alloc, most, seed)?,
         })
     }
 

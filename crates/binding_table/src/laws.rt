@@ -22,8 +22,8 @@ pub fn keeps_apart(table: &Table)
 /// Where an address is called another one in the other realm, that one is called the first one in this realm. So no address
 /// of a pool stands for two hosts.
 pub fn crosses_back(table: &Table, side: Side, address: Addr, image: Addr)
-    requires { cross table.now side address ≡ Crossing.Known image }
-    ensures { cross table.now (other side) image ≡ Crossing.Known address }
+    requires { cross table.now side address ≡ Crossing.Bound image }
+    ensures { cross table.now (other side) image ≡ Crossing.Bound address }
 {
     keeps_apart(table);
 }

@@ -4,12 +4,12 @@
 mod aliases;
 mod binding;
 mod entries;
-mod firsts;
+mod seen_addresses;
 mod laws;
 mod plan;
 mod table;
 
 pub use binding::Crossing;
-pub use firsts::Firsts;
+pub use seen_addresses::SeenAddresses;
 pub use laws::{crosses_back, keeps_apart, keeps_known, keeps_others, sees_used};
 pub use table::Table;

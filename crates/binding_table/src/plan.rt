@@ -8,7 +8,7 @@ ghost use Rattle.binding_table.specs.Steps.{AreFirsts, EndsAtOnce, needing, next
 
 use crate::aliases::address_at;
 use crate::binding::Crossing;
-use crate::firsts::{Firsts, first_place, forget};
+use crate::seen_addresses::{SeenAddresses, first_place, forget};
 use crate::laws::keeps_apart;
 use crate::table::Table;
 use expiring_table::Rows;
@@ -32,15 +32,15 @@ impl Table {
         side: Side,
         addresses: &[Addr],
         images: &mut [Option<Addr>],
-        firsts: &mut Firsts,
+        seen_addresses: &mut SeenAddresses,
     ) -> bool
         requires lengths { length images.old ≡ length addresses.now }
         requires bound { All (λ address. tables.cross self.now side address ≢ Crossing.Unbound) addresses.now }
         ensures room { result ≡ not (nat_lt (tables.free self.now (other side)) (plans.needed self.now side addresses.now)) }
         ensures images { result ≡ true → (uses : List plans.Use) → plans.AreUsesOf side addresses.now uses → images.new ≡ plans.images_after self.now uses }
     {
-        let needed = self.write_images(side, addresses, images, &mut firsts.rows);
-        forget(&mut firsts.rows);
+        let needed = self.write_images(side, addresses, images, &mut seen_addresses.rows);
+        forget(&mut seen_addresses.rows);
         needed <= self.free(side.other())
     }
 
@@ -50,21 +50,21 @@ impl Table {
         side: Side,
         addresses: &[Addr],
         images: &mut [Option<Addr>],
-        firsts: &mut Rows<usize>,
+        seen_addresses: &mut Rows<usize>,
     ) -> u32
-        requires empty { firsts.old ≡ no_rows 8192 }
+        requires empty { seen_addresses.old ≡ no_rows 8192 }
         requires lengths { length images.old ≡ length addresses.now }
         requires bound { All (λ address. tables.cross self.now side address ≢ Crossing.Unbound) addresses.now }
         ensures count { result ≡ plans.needed self.now side addresses.now }
         ensures images { plans.needed self.now side addresses.now ≤ tables.free self.now (other side) → (uses : List plans.Use) → plans.AreUsesOf side addresses.now uses → images.new ≡ plans.images_after self.now uses }
-        ensures most { firsts.new.most ≡ 8192 }
-        ensures ends { All EndsAtOnce firsts.new.rows }
+        ensures most { seen_addresses.new.most ≡ 8192 }
+        ensures ends { All EndsAtOnce seen_addresses.new.rows }
     {
         keeps_apart(self);
         let mut given = None;
         let mut count = 0;
         for (place, address) in addresses.iter().enumerate() {
-            let planned = self.image(side, &addresses[..place], images, given, *address, firsts);
+            let planned = self.image(side, &addresses[..place], images, given, *address, seen_addresses);
             images[place] = planned.image;
             given = planned.given;
             count += u32::from(planned.fresh);
@@ -80,14 +80,14 @@ impl Table {
         images: &[Option<Addr>],
         given: Option<Addr>,
         address: Addr,
-        firsts: &mut Rows<usize>,
+        seen_addresses: &mut Rows<usize>,
     ) -> Planned
         requires lengths { length earlier.now ≤ length images.now }
         requires bound { tables.cross self.now side address ≢ Crossing.Unbound }
-        requires firsts { AreFirsts (needing self.now side) earlier.now firsts.old }
+        requires seen_addresses { AreFirsts (needing self.now side) earlier.now seen_addresses.old }
         ensures value { (result.image, result.given) ≡ planned_by (tables.pool_of self.now (other side)) earlier.now images.now given address (tables.cross self.now side address) }
         ensures fresh { result.fresh ≡ plans.is_fresh self.now side earlier.now address }
-        ensures firsts { AreFirsts (needing self.now side) (earlier.now ++ address ∷ []) firsts.new }
+        ensures seen_addresses { AreFirsts (needing self.now side) (earlier.now ++ address ∷ []) seen_addresses.new }
     {
         match self.cross(side, address) {
             Crossing::Same => Planned {
@@ -95,12 +95,12 @@ impl Table {
                 given,
                 fresh: false,
             },
-            Crossing::Known(image) => Planned {
+            Crossing::Bound(image) => Planned {
                 image: Some(image),
                 given,
                 fresh: false,
             },
-            _ => match first_place(firsts, earlier, address) {
+            _ => match first_place(seen_addresses, earlier, address) {
                 Some(place) => Planned {
                     image: address_at(images, place),
                     given,

@@ -23,7 +23,7 @@ use realm_pools::Pool;
 use std::alloc::Global;
 use std::marker::Model;
 
-/// The bindings between the hosts of two realms. A call after `make` takes no memory. But for `reseed`, and for a tidying of the rows
+/// The bindings between the hosts of two realms. A call after `new` takes no memory. But for `reseed`, and for a tidying of the rows
 /// once in very many changes, none looks at all bindings.
 pub struct Table {
     same: SameRanges,
@@ -61,7 +61,7 @@ impl Model for Table {
 impl Table {
     /// The table of the static bindings in their order, for settings as `read_settings` gives them. It takes all the memory that the
     /// table ever needs; the error is that there is too little. The seed spreads the hosts, and changes no answer.
-    pub fn make(alloc: Global, settings: &Settings, seed: Seed) -> Result<Table, OutOfMemory>
+    pub fn new(alloc: Global, settings: &Settings, seed: Seed) -> Result<Table, OutOfMemory>
         requires sound { IsSound settings.now }
         requires forms { HasForms settings.now }
         ensures { IfOk result (λ table. table ≡ tables.opening settings.now) }
@@ -82,15 +82,15 @@ impl Table {
         requires forms { HasForms settings.now }
         ensures { IfOk result (λ table. table ≡ tables.without_bindings settings.now) }
     {
-        let left = Aliases::make(alloc, &settings.left)?;
-        let right = Aliases::make(alloc, &settings.right)?;
+        let left = Aliases::new(alloc, &settings.left)?;
+        let right = Aliases::new(alloc, &settings.right)?;
         let same = SameRanges::of(alloc, settings.same.items())?;
         let room = left.len() + right.len();
         Ok(Table {
             same,
             left,
             right,
-            bindings: Entries::make(alloc, settings.statics.items().len(), room, seed)?,
+            bindings: Entries::new(alloc, settings.statics.items().len(), room, seed)?,
             oids: SortedRules::of(alloc, settings.oids.items())?,
         })
     }
@@ -130,7 +130,7 @@ impl Table {
         ensures { result ≡ tables.pool_crossing self.now side address }
     {
         match self.host_of(side, address) {
-            Some(host) => Crossing::Known(host),
+            Some(host) => Crossing::Bound(host),
             None => Crossing::Unbound,
         }
     }
@@ -140,7 +140,7 @@ impl Table {
         ensures { result ≡ tables.host_crossing self.now side address }
     {
         match self.binding_of(side, address) {
-            Some(binding) => Crossing::Known(binding.alias),
+            Some(binding) => Crossing::Bound(binding.alias),
             None => match self.pool(side.other()).least_free() {
                 Some(alias) => Crossing::New(alias),
                 None => Crossing::Empty,
@@ -196,7 +196,7 @@ impl Table {
     {
         match self.cross(side, address) {
             Crossing::Same => Some(address),
-            Crossing::Known(image) => Some(image),
+            Crossing::Bound(image) => Some(image),
             _ => None,
         }
     }

@@ -229,7 +229,7 @@ const ROOM: usize = 512;
 fn writer_in<'a>(alloc: Global) -> Result<NameWriter<'a>, OutOfMemory>
     ensures { IfOk result (λ writer. writer ≡ nothing) }
 {
-    NameWriter::make(Vec::with_capacity(alloc, ROOM)?)
+    NameWriter::new(Vec::with_capacity(alloc, ROOM)?)
 }
 
 /// Whether a message has no records.

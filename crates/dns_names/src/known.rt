@@ -3,7 +3,7 @@ ghost use Rattle.std.specs.Prelude.{◌≡◌, ◌+◌, ◌≤◌, ◌<◌, ℕ,
 ghost use Rattle.dns_names.specs.Names.{piece_at, Label, Pointer};
 ghost use Rattle.dns_names.specs.Memo.{known_by, Knows, AreKnown};
 
-use crate::piece::{Found, piece_at};
+use crate::piece::{PieceAt, piece_at};
 
 /// What was read from a place on: where the octets of the labels there begin among those that were kept, how many they are,
 /// the least start of a name that may end with them, and the place after them, which is 0 where nothing was read yet.
@@ -54,7 +54,7 @@ pub(crate) fn before(message: &[u8], place: usize, behind: Known, end: usize) ->
     ensures { result ≡ known_by (piece_at message.now place) place end behind }
 {
     match piece_at(message, place) {
-        Found::Label(label) => {
+        PieceAt::Label(label) => {
             let count = behind.count as usize + 1 + label.len();
             Known {
                 from: end - count,
@@ -63,7 +63,7 @@ pub(crate) fn before(message: &[u8], place: usize, behind: Known, end: usize) ->
                 count: count as u8,
             }
         }
-        Found::Pointer(to) => Known {
+        PieceAt::Pointer(to) => Known {
             from: behind.from,
             start: (to + 1) as u16,
             after: (place + 2) as u16,

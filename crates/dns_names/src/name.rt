@@ -4,7 +4,7 @@ ghost use Rattle.dns_names.specs.Names.{NameAt};
 ghost use Rattle.dns_names.specs.Walk.{name_at};
 ghost use Rattle.dns_names.specs.Stops.{ReturnsRead};
 
-use crate::piece::{Found, piece_at};
+use crate::piece::{PieceAt, piece_at};
 use crate::stop::NameStop;
 use gate_base::OutOfMemory;
 use std::alloc::Global;
@@ -69,19 +69,19 @@ pub(crate) fn name_of(
     let mut after: Option<usize> = None;
     'pieces: loop {
         match piece_at(message, at) {
-            Found::Root => {
+            PieceAt::Root => {
                 octets.extend_from_slice(&message[from..at])?;
                 let end = after.unwrap_or(at + 1);
                 return Ok((Name { octets }, end));
             }
-            Found::Label(label) => {
+            PieceAt::Label(label) => {
                 let next = at + 1 + label.len();
                 if octets.len() + (next - from) > 254 {
                     return Err(NameStop::BadDns);
                 }
                 at = next;
             }
-            Found::Pointer(to) => {
+            PieceAt::Pointer(to) => {
                 if to >= start {
                     return Err(NameStop::BadDns);
                 }
@@ -91,7 +91,7 @@ pub(crate) fn name_of(
                 at = to;
                 from = to;
             }
-            Found::Nothing => return Err(NameStop::BadDns),
+            PieceAt::Nothing => return Err(NameStop::BadDns),
         }
     }
 }

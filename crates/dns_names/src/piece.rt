@@ -6,7 +6,7 @@ ghost use Rattle.dns_names.specs.Pieces.{piece, IsWithin};
 
 /// What begins at a place.
 #[derive(Clone, Copy)]
-pub enum Found<'a> {
+pub enum PieceAt<'a> {
     /// The root octet, which ends a name.
     Root,
     /// A label of 1 to 63 octets.
@@ -17,30 +17,30 @@ pub enum Found<'a> {
     Nothing,
 }
 
-fn piece_of(octets: &[u8]) -> Found<'_>
+fn piece_of(octets: &[u8]) -> PieceAt<'_>
     ensures is { piece_of octets.now ≡ piece result }
     ensures within { IsWithin result 0 (length octets.now) }
 {
     match octets {
-        [] => Found::Nothing,
+        [] => PieceAt::Nothing,
         [first, rest @ ..] => {
             let first = *first;
             if first == 0 {
-                return Found::Root;
+                return PieceAt::Root;
             }
             if first < 64 {
                 let count = first as usize;
                 if rest.len() < count {
-                    return Found::Nothing;
+                    return PieceAt::Nothing;
                 }
-                return Found::Label(&rest[..count]);
+                return PieceAt::Label(&rest[..count]);
             }
             if first < 192 {
-                return Found::Nothing;
+                return PieceAt::Nothing;
             }
             match rest {
-                [] => Found::Nothing,
-                [low, ..] => Found::Pointer((first - 192) as usize * 256 + *low as usize),
+                [] => PieceAt::Nothing,
+                [low, ..] => PieceAt::Pointer((first - 192) as usize * 256 + *low as usize),
             }
         }
     }
@@ -48,12 +48,12 @@ fn piece_of(octets: &[u8]) -> Found<'_>
 
 /// What begins at a place: nothing where that is the end or behind it.
 #[tactic(auto, unfolding(crate::specs::Names::piece_at))]
-pub fn piece_at(message: &[u8], place: usize) -> Found<'_>
+pub fn piece_at(message: &[u8], place: usize) -> PieceAt<'_>
     ensures is { piece_at message.now place ≡ piece result }
     ensures within { IsWithin result place (length message.now) }
 {
     if place >= message.len() {
-        return Found::Nothing;
+        return PieceAt::Nothing;
     }
     piece_of(&message[place..])
 }

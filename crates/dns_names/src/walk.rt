@@ -4,7 +4,7 @@ ghost use Rattle.dns_names.specs.Names.{NameAt};
 ghost use Rattle.dns_names.specs.Memo.{AreKnown, Joins};
 
 use crate::known::{Known, known_at};
-use crate::piece::{Found, piece_at};
+use crate::piece::{PieceAt, piece_at};
 use crate::stop::NameStop;
 use std::alloc::AllocError;
 
@@ -63,7 +63,7 @@ pub(crate) fn walk(
             return Ok(found);
         }
         match piece_at(message, at) {
-            Found::Root => {
+            PieceAt::Root => {
                 keep(kept, message, from, at)?;
                 return Ok(Known {
                     from: 0,
@@ -72,7 +72,7 @@ pub(crate) fn walk(
                     count: 0,
                 });
             }
-            Found::Label(label) => {
+            PieceAt::Label(label) => {
                 if count + 1 + label.len() > 254 {
                     return Err(NameStop::BadDns);
                 }
@@ -80,7 +80,7 @@ pub(crate) fn walk(
                 count += 1 + label.len();
                 at += 1 + label.len();
             }
-            Found::Pointer(to) => {
+            PieceAt::Pointer(to) => {
                 if to >= start {
                     return Err(NameStop::BadDns);
                 }
@@ -90,7 +90,7 @@ pub(crate) fn walk(
                 at = to;
                 from = to;
             }
-            Found::Nothing => return Err(NameStop::BadDns),
+            PieceAt::Nothing => return Err(NameStop::BadDns),
         }
     }
 }

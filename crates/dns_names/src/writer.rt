@@ -105,7 +105,7 @@ impl<'a> NameWriter<'a> {
     ghost use Rattle.dns_names.specs.Texts.{nothing};
 
     /// A writer behind a target that is empty, whose allocator it goes on with. Nothing is written yet.
-    pub fn make(target: Vec<u8>) -> Result<NameWriter<'a>, OutOfMemory>
+    pub fn new(target: Vec<u8>) -> Result<NameWriter<'a>, OutOfMemory>
         requires { target.items ≡ [] }
         ensures { IfOk result (λ writer. writer ≡ nothing) }
     {

@@ -9,7 +9,7 @@ use crate::seed::Seed;
 use std::alloc::{AllocError, Global};
 use std::marker::Model;
 
-/// The bucket of each place of a list; and of each bucket its places, from the last to the first. No call after `make` takes
+/// The bucket of each place of a list; and of each bucket its places, from the last to the first. No call after `new` takes
 /// memory.
 #[derive(Drop)]
 pub struct Chains {
@@ -36,7 +36,7 @@ impl Model for Chains {
 
 impl Chains {
     /// No places, and room for so many in so many buckets; the error is that there is too little memory.
-    pub fn make(alloc: Global, seed: Seed, width: usize, room: usize) -> Result<Chains, AllocError>
+    pub fn new(alloc: Global, seed: Seed, width: usize, room: usize) -> Result<Chains, AllocError>
         requires { room < 2 ^ 32 }
         ensures { IfOk result (λ chains. chains ≡ no_places seed width room) }
     {

@@ -9,7 +9,7 @@ use std::alloc::{AllocError, Global};
 use std::marker::Model;
 
 /// Rows with distinct keys, in the order in which they were put in. A look-up costs a constant on the mean, and what ended is
-/// found without a look at the rest. No call after `make` takes memory.
+/// found without a look at the rest. No call after `new` takes memory.
 #[derive(Drop)]
 pub struct Rows<T> {
     store: Store<T>,
@@ -29,13 +29,13 @@ impl<T> Model for Rows<T> {
 
 impl<T: Copy> Rows<T> {
     /// No rows, and room for so many, from 1 to 2^31 - 1; the error is that there is too little memory.
-    pub fn make(alloc: Global, most: usize, seed: Seed) -> Result<Rows<T>, AllocError>
+    pub fn new(alloc: Global, most: usize, seed: Seed) -> Result<Rows<T>, AllocError>
         requires some { 0 < most }
         requires few { 2 * most < 2 ^ 32 }
         ensures { IfOk result (λ table. table ≡ no_rows most) }
     {
         Ok(Rows {
-            store: Store::make(alloc, most, seed)?,
+            store: Store::new(alloc, most, seed)?,
         })
     }
 

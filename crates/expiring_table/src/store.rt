@@ -25,7 +25,7 @@ pub(crate) struct Store<T> {
 }
 
 impl<T: Copy> Store<T> {
-    pub(crate) fn make(alloc: Global, most: usize, seed: Seed) -> Result<Store<T>, AllocError>
+    pub(crate) fn new(alloc: Global, most: usize, seed: Seed) -> Result<Store<T>, AllocError>
         requires some { 0 < most }
         requires few { 2 * most < 2 ^ 32 }
         ensures whole { IfOk result IsWhole }
@@ -35,8 +35,8 @@ impl<T: Copy> Store<T> {
             most,
             cells: Vec::with_capacity(alloc, 2 * most)?,
             moments: Vec::with_capacity(alloc, 2 * most)?,
-            chains: Chains::make(alloc, seed, 2 * most, 2 * most)?,
-            alarms: Alarms::make(alloc, 2 * most)?,
+            chains: Chains::new(alloc, seed, 2 * most, 2 * most)?,
+            alarms: Alarms::new(alloc, 2 * most)?,
             count: 0,
         })
     }

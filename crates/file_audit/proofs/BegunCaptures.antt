@@ -5,7 +5,7 @@ use Rattle.gate_base.specs.declared.side.Link.{Link}
 use Rattle.gate_desk.specs.declared.slot.Slot.{Slot}
 use Rattle.gate_desk.specs.declared.slot.Slot.TheVariants.{LeftGiven, RightGiven}
 use Rattle.gate_desk.specs.declared.slot.PerSlot.{PerSlot}
-use Rattle.gate_desk.specs.Outside.{Outside, Told, Takes, told_at, took}
+use Rattle.gate_desk.specs.Outside.{Outside, Trace, Takes, told_at, took}
 use Rattle.gate_desk.proofs.Laws.{failed_since, grows_takes, told_at-took_other}
 use Rattle.gate_settings.specs.declared.settings.Settings.{Settings}
 use Rattle.pcap_files.specs.Capture.{Good, Records, capture_of, head_of, records_from}
@@ -39,12 +39,12 @@ head_right result link old new h = let some = head_some result RightGiven link o
 
 -- ## A head that isn't so
 
-left_bad-of : (settings : Settings) (t : Told) → IfSome (told_at t LeftGiven) (λ octets. HasLink settings.left.link octets → ⊥) → IfSome t (λ all. HasLink settings.left.link all.left_given × HasLink settings.right.link all.right_given → ⊥)
+left_bad-of : (settings : Settings) (t : Trace) → IfSome (told_at t LeftGiven) (λ octets. HasLink settings.left.link octets → ⊥) → IfSome t (λ all. HasLink settings.left.link all.left_given × HasLink settings.right.link all.right_given → ⊥)
 unfolding told_at
 left_bad-of settings None h = tt
 left_bad-of settings (Some p) h = λ both. h both.0
 
-right_bad-of : (settings : Settings) (t : Told) → IfSome (told_at t RightGiven) (λ octets. HasLink settings.right.link octets → ⊥) → IfSome t (λ all. HasLink settings.left.link all.left_given × HasLink settings.right.link all.right_given → ⊥)
+right_bad-of : (settings : Settings) (t : Trace) → IfSome (told_at t RightGiven) (λ octets. HasLink settings.right.link octets → ⊥) → IfSome t (λ all. HasLink settings.left.link all.left_given × HasLink settings.right.link all.right_given → ⊥)
 unfolding told_at
 right_bad-of settings None h = tt
 right_bad-of settings (Some p) h = λ both. h both.1
@@ -57,7 +57,7 @@ left_fails (Capture side fault place) settings old new h = absurd h
 
 -- what is taken of the left capture leaves the right one
 beside_left : (old mid : Outside) → Takes LeftGiven 24 old mid → told_at mid.left RightGiven ≡ told_at old.left RightGiven
-beside_left old mid takes = ap (λ (t : Told). told_at t RightGiven) takes.left ∙ told_at-took_other LeftGiven RightGiven 24 old.left refl
+beside_left old mid takes = ap (λ (t : Trace). told_at t RightGiven) takes.left ∙ told_at-took_other LeftGiven RightGiven 24 old.left refl
 
 pub right_fails : (stop : AuditStop) (l : Reading) (settings : Settings) (old mid new : Outside) → BeginsWith l LeftGiven settings.left.link old mid → BeginsCapture (Err stop) RightGiven settings.right.link mid new → BeginsGiven (Err stop) settings old new
 right_fails (Unlawful number reason) l settings old mid new left h =
@@ -69,13 +69,13 @@ right_fails (Capture side fault place) l settings old mid new left h = absurd h
 
 -- ## Both heads
 
-links-of : (settings : Settings) (f g : Form) (t : Told) → f.link ≡ settings.left.link → g.link ≡ settings.right.link → IfSome (told_at t LeftGiven) (λ octets. head_of octets ≡ Good f) → IfSome (told_at t RightGiven) (λ octets. head_of octets ≡ Good g)
+links-of : (settings : Settings) (f g : Form) (t : Trace) → f.link ≡ settings.left.link → g.link ≡ settings.right.link → IfSome (told_at t LeftGiven) (λ octets. head_of octets ≡ Good f) → IfSome (told_at t RightGiven) (λ octets. head_of octets ≡ Good g)
     → IfSome t (λ all. HasLink settings.left.link all.left_given × HasLink settings.right.link all.right_given)
 unfolding told_at
 links-of settings f g None l r h k = tt
 links-of settings f g (Some p) l r h k = ((f, h, l), (g, k, r))
 
-files-of : (r : GivenFiles) (f g : Form) (t : Told) → r.left.form ≡ f → r.left.place ≡ 24 → r.right.form ≡ g → r.right.place ≡ 24 → r.report ≡ [] → IfSome (told_at t LeftGiven) (λ octets. head_of octets ≡ Good f) → IfSome (told_at t RightGiven) (λ octets. head_of octets ≡ Good g)
+files-of : (r : GivenFiles) (f g : Form) (t : Trace) → r.left.form ≡ f → r.left.place ≡ 24 → r.right.form ≡ g → r.right.place ≡ 24 → r.report ≡ [] → IfSome (told_at t LeftGiven) (λ octets. head_of octets ≡ Good f) → IfSome (told_at t RightGiven) (λ octets. head_of octets ≡ Good g)
     → given_told r (took RightGiven 24 (took LeftGiven 24 t)) ≡ option_map (λ (all : PerSlot (List ℕ)). given_of all.left_given all.right_given all.report_given) t
 unfolding told_at given_told took
 files-of r f g None a b c d e h k = refl

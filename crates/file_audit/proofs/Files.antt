@@ -2,7 +2,7 @@
 use Rattle.std.proofs.Common.{◌≡◌, ℕ, ◌+◌, Some, None, refl, sym, ap, ◌∙◌}
 use Rattle.std.proofs.lemmas.List.{drop-drop}
 use Rattle.gate_desk.specs.declared.slot.Slot.TheVariants.{LeftIn, RightIn, LeftGiven, RightGiven, ReportGiven}
-use Rattle.gate_desk.specs.Outside.{Outside, Told, took}
+use Rattle.gate_desk.specs.Outside.{Outside, Trace, took}
 use Rattle.gate_desk.proofs.Laws.{took-none}
 use Rattle.pcap_merge.specs.declared.stop.MergeStop.{MergeStop}
 use Rattle.pcap_merge.specs.declared.stop.MergeStop.TheVariants as merges
@@ -12,7 +12,7 @@ use Rattle.file_audit.specs.Given.{ReadsGiven, TookFiles}
 -- of the incoming captures alone
 files_incoming : (l r : ℕ) (a b : Outside) → b.left ≡ took RightIn r (took LeftIn l a.left) → TookFiles a b
 files_incoming l r a b e =
-    let incoming : Told = took RightIn r (took LeftIn l a.left) in
+    let incoming : Trace = took RightIn r (took LeftIn l a.left) in
     record {
       left_in_count = l;
       right_in_count = r;
@@ -22,7 +22,7 @@ files_incoming l r a b e =
       left = e ∙ sym (took-none ReportGiven (took RightGiven 0 (took LeftGiven 0 incoming)) ∙ took-none RightGiven (took LeftGiven 0 incoming) ∙ took-none LeftGiven incoming);
     }
 
-no_incoming : (t : Told) → took RightIn 0 (took LeftIn 0 t) ≡ t
+no_incoming : (t : Trace) → took RightIn 0 (took LeftIn 0 t) ≡ t
 no_incoming t = took-none RightIn (took LeftIn 0 t) ∙ took-none LeftIn t
 
 -- nothing was read
@@ -41,10 +41,10 @@ files_given a b h = record {
   left_given_count = h.left_count;
   right_given_count = h.right_count;
   report_given_count = h.report_count;
-  left = h.left ∙ sym (ap (λ (t : Told). took ReportGiven h.report_count (took RightGiven h.right_count (took LeftGiven h.left_count t))) (no_incoming a.left));
+  left = h.left ∙ sym (ap (λ (t : Trace). took ReportGiven h.report_count (took RightGiven h.right_count (took LeftGiven h.left_count t))) (no_incoming a.left));
 }
 
-pub files_more : (i j l r k i' j' l' r' k' : ℕ) (t : Told)
+pub files_more : (i j l r k i' j' l' r' k' : ℕ) (t : Trace)
     → took ReportGiven k' (took RightGiven r' (took LeftGiven l' (took RightIn j' (took LeftIn i' (took ReportGiven k (took RightGiven r (took LeftGiven l (took RightIn j (took LeftIn i t)))))))))
     ≡ took ReportGiven (k + k') (took RightGiven (r + r') (took LeftGiven (l + l') (took RightIn (j + j') (took LeftIn (i + i') t))))
 unfolding took
@@ -60,7 +60,7 @@ files_on a b c h k = record {
   right_given_count = h.right_given_count + k.right_given_count;
   report_given_count = h.report_given_count + k.report_given_count;
   left = k.left
-      ∙ ap (λ (t : Told). took ReportGiven k.report_given_count (took RightGiven k.right_given_count (took LeftGiven k.left_given_count (took RightIn k.right_in_count (took LeftIn k.left_in_count t))))) h.left
+      ∙ ap (λ (t : Trace). took ReportGiven k.report_given_count (took RightGiven k.right_given_count (took LeftGiven k.left_given_count (took RightIn k.right_in_count (took LeftIn k.left_in_count t))))) h.left
       ∙ files_more h.left_in_count h.right_in_count h.left_given_count h.right_given_count h.report_given_count k.left_in_count k.right_in_count k.left_given_count k.right_given_count k.report_given_count a.left;
 }
 

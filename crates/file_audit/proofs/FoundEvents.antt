@@ -8,7 +8,7 @@ use Rattle.gate_base.specs.declared.event.Verdict.{Verdict}
 use Rattle.gate_base.specs.declared.event.Verdict.TheVariants.{Pass, Refused, Held}
 use Rattle.gate_base.specs.declared.side.Side.{Side}
 use Rattle.gate_base.specs.declared.side.Side.TheVariants.{Left, Right}
-use Rattle.gate_desk.specs.Outside.{Outside, Told, told_at, took}
+use Rattle.gate_desk.specs.Outside.{Outside, Trace, told_at, took}
 use Rattle.gate_desk.specs.declared.slot.Slot.TheVariants.{ReportGiven}
 use Rattle.gate_report.specs.Counts.{counted, one_if_passed, one_if_refused}
 use Rattle.gate_report.specs.declared.totals.Totals.{Totals}
@@ -45,7 +45,7 @@ line_is settings json h s x n is head =
     by_form json a b c d e f v w p q r t =
         ap (λ (k : ℕ). spelled json n k c e v) p ∙ ap (λ (k : Side). spelled json n b k e v) q ∙ ap (λ (k : ℕ). spelled json n b d k v) r ∙ ap (λ (k : Verdict). spelled json n b d f k) t
 
-none_told : (json : Bool) (h : LineHead) (r : GivenFiles) (t : Told) → IfSome (told_at t ReportGiven) (λ all. HasNoLine json h (r.report ++ all)) → IfSome (given_told r t) (λ g. HasNoLine json h g.report)
+none_told : (json : Bool) (h : LineHead) (r : GivenFiles) (t : Trace) → IfSome (told_at t ReportGiven) (λ all. HasNoLine json h (r.report ++ all)) → IfSome (given_told r t) (λ g. HasNoLine json h g.report)
 unfolding given_told told_at
 none_told json h r None k = tt
 none_told json h r (Some p) k = k
@@ -64,14 +64,14 @@ found_line json h totals a s x r old is e none = reason_line a.settings json h s
 abbrev Behind : List ℕ → Given → Given → Type 0
 Behind line g next = (g.report ≡ line ++ next.report) × (next ≡ record g { report = next.report })
 
-behind_line-of : (line ahead' : List ℕ) (count : ℕ) (r : GivenFiles) (t : Told) → IfSome (told_at t ReportGiven) (λ all. r.report ++ all ≡ line ++ (ahead' ++ drop count all)) → Alike (Behind line) (given_told r t) (given_told (record r { report = ahead' }) (took ReportGiven count t))
+behind_line-of : (line ahead' : List ℕ) (count : ℕ) (r : GivenFiles) (t : Trace) → IfSome (told_at t ReportGiven) (λ all. r.report ++ all ≡ line ++ (ahead' ++ drop count all)) → Alike (Behind line) (given_told r t) (given_told (record r { report = ahead' }) (took ReportGiven count t))
 unfolding given_told told_at took
 behind_line-of line ahead' count r None h = tt
 behind_line-of line ahead' count r (Some p) h = (h, refl)
 
 behind_line : (frames : ℕ) (json : Bool) (h : LineHead) (r : GivenFiles) (ahead' : List ℕ) (old mid : Outside) → TakesFrames frames json h r.report ahead' old mid → Alike (Behind (octets_of json (line_with h frames))) (given_told r old.left) (given_told (record r { report = ahead' }) mid.left)
 behind_line frames json h r ahead' old mid took =
-    subst (λ (t : Told). Alike (Behind (octets_of json (line_with h frames))) (given_told r old.left) (given_told (record r { report = ahead' }) t)) (sym took.takes.left)
+    subst (λ (t : Trace). Alike (Behind (octets_of json (line_with h frames))) (given_told r old.left) (given_told (record r { report = ahead' }) t)) (sym took.takes.left)
     (behind_line-of (octets_of json (line_with h frames)) ahead' took.count r old.left took.goes)
 
 same_capture : (side : Side) (g next : Given) → next ≡ record g { report = next.report } → given_at side next ≡ given_at side g

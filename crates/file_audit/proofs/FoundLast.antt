@@ -2,7 +2,7 @@
 use Rattle.std.proofs.Common.{◌≡◌, ◌<◌, ◌+◌, ◌^◌, ℕ, List, [], ◌++◌, Bool, true, false, Some, None, Ok, IfSome, length, refl, sym, ap, subst, ◌∙◌, arith}
 use Rattle.gate_desk.specs.declared.slot.Slot.{Slot}
 use Rattle.gate_desk.specs.declared.slot.Slot.TheVariants.{LeftGiven, RightGiven, ReportGiven}
-use Rattle.gate_desk.specs.Outside.{Outside, Told, Takes, told_at}
+use Rattle.gate_desk.specs.Outside.{Outside, Trace, Takes, told_at}
 use Rattle.gate_desk.specs.Slots.{same_slot}
 use Rattle.gate_desk.proofs.Laws.{told_at-took_other}
 use Rattle.gate_report.specs.Counts.{done_line}
@@ -32,22 +32,22 @@ last_is settings json s line is e = ap (λ (j : Bool). octets_of j line) is ∙ 
 abbrev Left : Settings → State → ℕ → Given → Type 0
 Left settings s number g = IsFirst settings s [] Done g number reasons.Left
 
-pub left_over : (settings : Settings) (s : State) (r : GivenFiles) (number : ℕ) (t : Told) → number ≡ s.totals.events + 1 → IfSome (told_at t LeftGiven) (λ octets. IsUsedUp r.left octets → ⊥) → IfSome (given_told r t) (Left settings s number)
+pub left_over : (settings : Settings) (s : State) (r : GivenFiles) (number : ℕ) (t : Trace) → number ≡ s.totals.events + 1 → IfSome (told_at t LeftGiven) (λ octets. IsUsedUp r.left octets → ⊥) → IfSome (given_told r t) (Left settings s number)
 unfolding given_told told_at
 left_over settings s r number None is h = tt
 left_over settings s r number (Some p) is h = (is, refl, λ at. h at.left)
 
-pub right_over : (settings : Settings) (s : State) (r : GivenFiles) (number : ℕ) (t : Told) → number ≡ s.totals.events + 1 → IfSome (told_at t RightGiven) (λ octets. IsUsedUp r.right octets → ⊥) → IfSome (given_told r t) (Left settings s number)
+pub right_over : (settings : Settings) (s : State) (r : GivenFiles) (number : ℕ) (t : Trace) → number ≡ s.totals.events + 1 → IfSome (told_at t RightGiven) (λ octets. IsUsedUp r.right octets → ⊥) → IfSome (given_told r t) (Left settings s number)
 unfolding given_told told_at
 right_over settings s r number None is h = tt
 right_over settings s r number (Some p) is h = (is, refl, λ at. h at.right)
 
-pub report_over : (settings : Settings) (json : Bool) (line : Line) (s : State) (r : GivenFiles) (number : ℕ) (t : Told) → number ≡ s.totals.events + 1 → octets_of json line ≡ last_line settings s → IfSome (told_at t ReportGiven) (λ all. IsLast false json line (r.report ++ all)) → IfSome (given_told r t) (Left settings s number)
+pub report_over : (settings : Settings) (json : Bool) (line : Line) (s : State) (r : GivenFiles) (number : ℕ) (t : Trace) → number ≡ s.totals.events + 1 → octets_of json line ≡ last_line settings s → IfSome (told_at t ReportGiven) (λ all. IsLast false json line (r.report ++ all)) → IfSome (given_told r t) (Left settings s number)
 unfolding given_told told_at
 report_over settings json line s r number None is e h = tt
 report_over settings json line s r number (Some p) is e h = (is, refl, λ at. h (at.report ∙ sym e))
 
-pub nothing_left : (settings : Settings) (json : Bool) (line : Line) (s : State) (r : GivenFiles) (t : Told) → octets_of json line ≡ last_line settings s → IfSome (told_at t LeftGiven) (IsUsedUp r.left) → IfSome (told_at t RightGiven) (IsUsedUp r.right)
+pub nothing_left : (settings : Settings) (json : Bool) (line : Line) (s : State) (r : GivenFiles) (t : Trace) → octets_of json line ≡ last_line settings s → IfSome (told_at t LeftGiven) (IsUsedUp r.left) → IfSome (told_at t RightGiven) (IsUsedUp r.right)
     → IfSome (told_at t ReportGiven) (λ all. IsLast true json line (r.report ++ all)) → IfSome (given_told r t) (IsAtLast settings s)
 unfolding given_told told_at
 nothing_left settings json line s r None e left right report = tt
@@ -59,7 +59,7 @@ done_short json line totals pending r e few fits small = subst (λ (l : Line). l
 
 -- what is read of one slot leaves the others
 pub beside : (s t : Slot) (r : Reading) (old new : Outside) → r.slot ≡ s → same_slot s t ≡ false → TakesSome r old new → told_at new.left t ≡ told_at old.left t
-beside s t r old new is apart h = ap (λ (o : Told). told_at o t) (subst (λ (u : Slot). Takes u h.0 old new) is h.1).left ∙ told_at-took_other s t h.0 old.left apart
+beside s t r old new is apart h = ap (λ (o : Trace). told_at o t) (subst (λ (u : Slot). Takes u h.0 old new) is h.1).left ∙ told_at-took_other s t h.0 old.left apart
 
 pub used_up : (s : Slot) (r : Reading) (old new : Outside) → r.slot ≡ s → FindsEnd (Ok true) r old new → IfSome (told_at old.left s) (IsUsedUp r)
 used_up s r old new is h = subst (λ (u : Slot). IfSome (told_at old.left u) (IsUsedUp r)) is h.1

@@ -16,7 +16,7 @@ use Rattle.gate_report.specs.declared.line.Line.{Line}
 use Rattle.gate_report.specs.declared.line.Line.TheVariants.{Done}
 use Rattle.gate_report.proofs.Lines.{side_short, verdict_short}
 use Rattle.file_audit.specs.declared.line.Extent.{Extent}
-use Rattle.file_audit.specs.declared.line.Found.{Found}
+use Rattle.file_audit.specs.declared.line.LineFound.{LineFound}
 use Rattle.file_audit.specs.declared.line.LineHead.{LineHead}
 use Rattle.file_audit.specs.Given.{Fills}
 use Rattle.file_audit.specs.Lines.{agreement, octets_of, line_with, FindsLine, HasNoLine, IsLast, TakesFrames}
@@ -55,7 +55,7 @@ frames-of ahead ahead' line count n None e h = tt
 frames-of ahead ahead' line count n (Some all) e h =
     sym h ∙ ap (λ (xs : List ℕ). xs ++ drop count all) (sym (take-append-drop n ahead') ∙ ap (λ (xs : List ℕ). xs ++ drop n ahead') e) ∙ append_assoc line (drop n ahead') (drop count all)
 
-pub takes_frames : (found : Found) (json : Bool) (h : LineHead) (ahead mid ahead' : List ℕ) (old new : Outside) → Fills ahead mid old new → FindsLine (Some found) json h mid → ahead' ≡ drop found.length mid → TakesFrames found.frames json h ahead ahead' old new
+pub takes_frames : (found : LineFound) (json : Bool) (h : LineHead) (ahead mid ahead' : List ℕ) (old new : Outside) → Fills ahead mid old new → FindsLine (Some found) json h mid → ahead' ≡ drop found.length mid → TakesFrames found.frames json h ahead ahead' old new
 takes_frames found json h ahead mid ahead' old new filled line is = subst (λ (xs : List ℕ). TakesFrames found.frames json h ahead xs old new) (sym is) (record {
   few = line.0;
   count = filled.count;

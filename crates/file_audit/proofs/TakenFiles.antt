@@ -4,7 +4,7 @@ use Rattle.std.proofs.lemmas.List.{drop-drop}
 use Rattle.gate_base.specs.declared.side.Side.TheVariants.{Left, Right}
 use Rattle.gate_desk.specs.declared.desk.Failed.{Failed}
 use Rattle.gate_desk.specs.declared.slot.Slot.TheVariants.{LeftGiven, RightGiven, ReportGiven}
-use Rattle.gate_desk.specs.Outside.{Outside, Told, Takes, told_at, took}
+use Rattle.gate_desk.specs.Outside.{Outside, Trace, Takes, told_at, took}
 use Rattle.gate_desk.proofs.Laws.{grows_takes, grows_on, took-none}
 use Rattle.pcap_files.specs.Capture.{Packet, records_from}
 use Rattle.pcap_files.specs.Reader.{Reading}
@@ -58,20 +58,20 @@ reads_report a b h = record {
   grows = grows_takes ReportGiven h.0 a b h.1;
 }
 
-took_more : (m n k m' n' k' : ℕ) (t : Told) → took ReportGiven k' (took RightGiven n' (took LeftGiven m' (took ReportGiven k (took RightGiven n (took LeftGiven m t))))) ≡ took ReportGiven (k + k') (took RightGiven (n + n') (took LeftGiven (m + m') t))
+took_more : (m n k m' n' k' : ℕ) (t : Trace) → took ReportGiven k' (took RightGiven n' (took LeftGiven m' (took ReportGiven k (took RightGiven n (took LeftGiven m t))))) ≡ took ReportGiven (k + k') (took RightGiven (n + n') (took LeftGiven (m + m') t))
 unfolding took
 took_more m n k m' n' k' None = refl
 took_more m n k m' n' k' (Some p) =
-    ap (λ (xs : List ℕ). let x : Told = Some (record p { left_given = xs; right_given = drop n' (drop n p.right_given); report_given = drop k' (drop k p.report_given) }) in x) (drop-drop m' m p.left_given)
-    ∙ ap (λ (xs : List ℕ). let x : Told = Some (record p { left_given = drop (m + m') p.left_given; right_given = xs; report_given = drop k' (drop k p.report_given) }) in x) (drop-drop n' n p.right_given)
-    ∙ ap (λ (xs : List ℕ). let x : Told = Some (record p { left_given = drop (m + m') p.left_given; right_given = drop (n + n') p.right_given; report_given = xs }) in x) (drop-drop k' k p.report_given)
+    ap (λ (xs : List ℕ). let x : Trace = Some (record p { left_given = xs; right_given = drop n' (drop n p.right_given); report_given = drop k' (drop k p.report_given) }) in x) (drop-drop m' m p.left_given)
+    ∙ ap (λ (xs : List ℕ). let x : Trace = Some (record p { left_given = drop (m + m') p.left_given; right_given = xs; report_given = drop k' (drop k p.report_given) }) in x) (drop-drop n' n p.right_given)
+    ∙ ap (λ (xs : List ℕ). let x : Trace = Some (record p { left_given = drop (m + m') p.left_given; right_given = drop (n + n') p.right_given; report_given = xs }) in x) (drop-drop k' k p.report_given)
 
 pub reads_on : (a b c : Outside) → ReadsGiven a b → ReadsGiven b c → ReadsGiven a c
 reads_on a b c h k = record {
   left_count = h.left_count + k.left_count;
   right_count = h.right_count + k.right_count;
   report_count = h.report_count + k.report_count;
-  left = k.left ∙ ap (λ (t : Told). took ReportGiven k.report_count (took RightGiven k.right_count (took LeftGiven k.left_count t))) h.left
+  left = k.left ∙ ap (λ (t : Trace). took ReportGiven k.report_count (took RightGiven k.right_count (took LeftGiven k.left_count t))) h.left
       ∙ took_more h.left_count h.right_count h.report_count k.left_count k.right_count k.report_count a.left;
   written = k.written ∙ h.written;
   starts = k.starts ∙ h.starts;
@@ -95,14 +95,14 @@ records_some (Err error) frames r r' a a' old new h = h.0
 -- ## Records of a capture
 
 -- what is read of one file leaves what is told of the others
-left_files : (r : GivenFiles) (r' : Reading) (packets : List Packet) (n : ℕ) (t : Told) → r'.form ≡ r.left.form
+left_files : (r : GivenFiles) (r' : Reading) (packets : List Packet) (n : ℕ) (t : Trace) → r'.form ≡ r.left.form
     → IfSome (told_at t LeftGiven) (λ octets. records_from r.left.form r.left.place octets ≡ with_records packets (records_from r.left.form r'.place (drop n octets)))
     → Alike (λ (g next : Given). (g.left ≡ with_records packets next.left) × (next.right ≡ g.right) × (next.report ≡ g.report)) (given_told r t) (given_told (record r { left = r' }) (took LeftGiven n t))
 unfolding given_told told_at took
 left_files r r' packets n None form h = tt
 left_files r r' packets n (Some p) form h = (h ∙ ap (λ f. with_records packets (records_from f r'.place (drop n p.left_given))) (sym form), refl, refl)
 
-right_files : (r : GivenFiles) (r' : Reading) (packets : List Packet) (n : ℕ) (t : Told) → r'.form ≡ r.right.form
+right_files : (r : GivenFiles) (r' : Reading) (packets : List Packet) (n : ℕ) (t : Trace) → r'.form ≡ r.right.form
     → IfSome (told_at t RightGiven) (λ octets. records_from r.right.form r.right.place octets ≡ with_records packets (records_from r.right.form r'.place (drop n octets)))
     → Alike (λ (g next : Given). (g.right ≡ with_records packets next.right) × (next.left ≡ g.left) × (next.report ≡ g.report)) (given_told r t) (given_told (record r { right = r' }) (took RightGiven n t))
 unfolding given_told told_at took
@@ -119,7 +119,7 @@ took_left frames r r' a a' old new running h =
       packets = h.0;
       count = h.1;
       audited = t.audited;
-      files = subst (λ (x : Told). Alike (λ (g next : Given). (g.left ≡ with_records h.0 next.left) × (next.right ≡ g.right) × (next.report ≡ g.report)) (given_told r old.left) (given_told (record r { left = r' }) x)) (sym takes.left) (left_files r r' h.0 count old.left t.form ahead);
+      files = subst (λ (x : Trace). Alike (λ (g next : Given). (g.left ≡ with_records h.0 next.left) × (next.right ≡ g.right) × (next.report ≡ g.report)) (given_told r old.left) (given_told (record r { left = r' }) x)) (sym takes.left) (left_files r r' h.0 count old.left t.form ahead);
       running = record { left_slot = t.slot ∙ running.left_slot; right_slot = running.right_slot; left = t.running; right = running.right };
       left = omega (arith, t.further, h.1);
       right = omega arith;
@@ -137,7 +137,7 @@ took_right frames r r' a a' old new running h =
       packets = h.0;
       count = h.1;
       audited = t.audited;
-      files = subst (λ (x : Told). Alike (λ (g next : Given). (g.right ≡ with_records h.0 next.right) × (next.left ≡ g.left) × (next.report ≡ g.report)) (given_told r old.left) (given_told (record r { right = r' }) x)) (sym takes.left) (right_files r r' h.0 count old.left t.form ahead);
+      files = subst (λ (x : Trace). Alike (λ (g next : Given). (g.right ≡ with_records h.0 next.right) × (next.left ≡ g.left) × (next.report ≡ g.report)) (given_told r old.left) (given_told (record r { right = r' }) x)) (sym takes.left) (right_files r r' h.0 count old.left t.form ahead);
       running = record { left_slot = running.left_slot; right_slot = t.slot ∙ running.right_slot; left = running.left; right = t.running };
       left = omega arith;
       right = omega (arith, t.further, h.1);
@@ -145,12 +145,12 @@ took_right frames r r' a a' old new running h =
       right_small = t.small;
     }
 
-few_left : (frames : ℕ) (r : GivenFiles) (t : Told) → IfSome (told_at t LeftGiven) (λ octets. length (records_from r.left.form r.left.place octets).packets < frames) → IfSome (given_told r t) (λ g. length g.left.packets < frames)
+few_left : (frames : ℕ) (r : GivenFiles) (t : Trace) → IfSome (told_at t LeftGiven) (λ octets. length (records_from r.left.form r.left.place octets).packets < frames) → IfSome (given_told r t) (λ g. length g.left.packets < frames)
 unfolding given_told told_at
 few_left frames r None h = tt
 few_left frames r (Some p) h = h
 
-few_right : (frames : ℕ) (r : GivenFiles) (t : Told) → IfSome (told_at t RightGiven) (λ octets. length (records_from r.right.form r.right.place octets).packets < frames) → IfSome (given_told r t) (λ g. length g.right.packets < frames)
+few_right : (frames : ℕ) (r : GivenFiles) (t : Trace) → IfSome (told_at t RightGiven) (λ octets. length (records_from r.right.form r.right.place octets).packets < frames) → IfSome (given_told r t) (λ g. length g.right.packets < frames)
 unfolding given_told told_at
 few_right frames r None h = tt
 few_right frames r (Some p) h = h

@@ -7,13 +7,13 @@ use Rattle.frag_join.specs.declared.taken.Taken.TheVariants.{Plain, Held, Refuse
 use Rattle.frag_join.specs.declared.taken.Taken.TheVariants as takens
 use Rattle.frag_join.specs.Joining.{by_list, by_known}
 use Rattle.frag_join.specs.Joining as joining
-use Rattle.frag_join.specs.Known.{Known}
+use Rattle.frag_join.specs.Coverage.{Coverage}
 use Rattle.frag_join.proofs.ArrivalSteps.{arrivals-none, arrivals-next, arrivals-one, joiner-one, arrival-known, joiner-known, joined-at, opened-known}
 use Rattle.gate_base.specs.Events.{Event}
 use Rattle.gate_base.specs.declared.side.Side.{Side}
 use Rattle.gate_base.specs.declared.side.Side.TheVariants.{Left, Right}
 use Rattle.gate_desk.specs.declared.slot.Slot.TheVariants.{LeftIn, RightIn, LeftGiven, RightGiven, ReportGiven}
-use Rattle.gate_desk.specs.Outside.{Outside, Told, Grows, HasFailed, took}
+use Rattle.gate_desk.specs.Outside.{Outside, Trace, Grows, HasFailed, took}
 use Rattle.gate_desk.proofs.Laws.{grows_on, failed_since}
 use Rattle.gate_report.specs.declared.totals.Totals.{Totals}
 use Rattle.gate_settings.specs.declared.settings.Settings.{Settings}
@@ -40,12 +40,12 @@ use Rattle.file_audit.proofs.Alikes.{alike_same, alike_join}
 use Rattle.file_audit.proofs.Wanting.{given_still}
 
 -- what is read of the incoming captures changes nothing of the given files, and the other way round
-pub given_kept : (r : GivenFiles) (m n : ℕ) (t : Told) → given_told r (took RightIn n (took LeftIn m t)) ≡ given_told r t
+pub given_kept : (r : GivenFiles) (m n : ℕ) (t : Trace) → given_told r (took RightIn n (took LeftIn m t)) ≡ given_told r t
 unfolding given_told took
 given_kept r m n None = refl
 given_kept r m n (Some p) = refl
 
-pub ahead_kept : (merge : Merging) (m n k : ℕ) (t : Told) → ahead merge (took ReportGiven k (took RightGiven n (took LeftGiven m t))) ≡ ahead merge t
+pub ahead_kept : (merge : Merging) (m n k : ℕ) (t : Trace) → ahead merge (took ReportGiven k (took RightGiven n (took LeftGiven m t))) ≡ ahead merge t
 unfolding ahead took
 ahead_kept merge m n k None = refl
 ahead_kept merge m n k (Some p) = refl
@@ -54,7 +54,7 @@ ahead_kept merge m n k (Some p) = refl
 
 -- what is known of fragments
 abbrev pub Joined : Type 0
-Joined = Option (joining.State Known)
+Joined = Option (joining.State Coverage)
 
 abbrev front_of : List Event → Merged → Merged
 front_of done x = record { events = done ++ x.events; ending = x.ending }

@@ -5,7 +5,7 @@ use Rattle.gate_base.specs.Events.{Event}
 use Rattle.gate_base.specs.declared.side.Side.{Side}
 use Rattle.gate_base.specs.declared.side.Side.TheVariants.{Left, Right}
 use Rattle.gate_desk.specs.declared.slot.Slot.TheVariants.{LeftIn, RightIn, ReportGiven}
-use Rattle.gate_desk.specs.Outside.{Outside, Told, Grows, HasFailed, told_at}
+use Rattle.gate_desk.specs.Outside.{Outside, Trace, Grows, HasFailed, told_at}
 use Rattle.gate_desk.proofs.Laws.{failed_since}
 use Rattle.gate_settings.specs.declared.settings.Settings.{Settings}
 use Rattle.gate_report.specs.declared.line.Line.{Line}
@@ -48,8 +48,8 @@ last_stops OutOfMemory json line ahead ahead' settings s r old mid new is grows 
 
 -- what is read of the given files leaves them as they are
 pub incoming_kept : (a b : Outside) → ReadsGiven a b → (side : Side) → told_at b.left (slot_of side) ≡ told_at a.left (slot_of side)
-incoming_kept a b reads Left = ap (λ (t : Told). told_at t LeftIn) reads.left ∙ left_kept reads.left_count reads.right_count reads.report_count a.left
-incoming_kept a b reads Right = ap (λ (t : Told). told_at t RightIn) reads.left ∙ right_kept reads.left_count reads.right_count reads.report_count a.left
+incoming_kept a b reads Left = ap (λ (t : Trace). told_at t LeftIn) reads.left ∙ left_kept reads.left_count reads.right_count reads.report_count a.left
+incoming_kept a b reads Right = ap (λ (t : Trace). told_at t RightIn) reads.left ∙ right_kept reads.left_count reads.right_count reads.report_count a.left
 
 pub given_later : (start : Outside) (m : Merging) (a b : Outside) (events : List Event) → ((side : Side) → told_at b.left (slot_of side) ≡ told_at a.left (slot_of side)) → HasGiven start m a events → HasGiven start m b events
 given_later start m a b events same h = record { stands = λ side. same side ∙ h.stands side; near = h.near; before = h.before; last = h.last }

@@ -1,6 +1,6 @@
 -- What is found at an event, and over all of them.
 use Rattle.std.specs.Prelude.{◌≡◌, ◌⊎◌, true, false, ◌+◌, ℕ, List, [], ◌∷◌, ◌++◌, length, Result, Ok, Err, IfSome, option_map}
-use Rattle.frag_join.specs.Arrivals.{Arrival, Comes, Stays, arrival, arrivals_of, joiner_of}
+use Rattle.frag_join.specs.Arrivals.{Arrival, Reaches, Stopped, arrival, arrivals_of, joiner_of}
 use Rattle.frag_join.specs.Joining.{by_list}
 use Rattle.gate_base.specs.Events.{Event}
 use Rattle.gate_base.specs.declared.event.OutOfMemory.{OutOfMemory}
@@ -12,8 +12,8 @@ use Rattle.gate_desk.specs.Outside.{Outside, HasFailed}
 use Rattle.gate_report.specs.declared.totals.Totals.{Totals}
 use Rattle.gate_report.specs.Counts.{nothing_counted}
 use Rattle.gate_settings.specs.declared.settings.Settings.{Settings}
-use Rattle.gate_world.specs.Sessions.{WholeSession}
-use Rattle.gate_world.specs.World.{World, at_moment}
+use Rattle.gate_model.specs.Sessions.{WholeSession}
+use Rattle.gate_model.specs.World.{World, at_moment}
 use Rattle.pcap_merge.specs.Events.{Merged, Ending, Done, Fault}
 use Rattle.pcap_merge.specs.declared.stop.MergeStop.{MergeStop}
 use Rattle.pcap_merge.specs.declared.stop.MergeStop.TheVariants as merges
@@ -57,8 +57,8 @@ pub record ExpectsFrame (old new : Auditing) (x : Arrival) : Type 0 where
 
 -- the auditor may want memory for a frame: it may where an event comes to it
 abbrev pub MayWantFor : World WholeSession → Arrival → Type 0
-MayWantFor w (Comes e) = MayWant (at_moment w e.moment) e
-MayWantFor w (Stays e verdict) = ⊥
+MayWantFor w (Reaches e) = MayWant (at_moment w e.moment) e
+MayWantFor w (Stopped e verdict) = ⊥
 
 abbrev pub Expected : Result LineHead OutOfMemory → ℕ → Auditing → Auditing → Arrival → Type 0
 Expected (Ok h) number old new x = IsHead h number (whole_world old) x × ExpectsFrame old new x

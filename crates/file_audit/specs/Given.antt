@@ -5,7 +5,7 @@ use Rattle.gate_base.specs.declared.side.Side.TheVariants.{Left, Right}
 use Rattle.gate_desk.specs.declared.slot.Slot.{Slot}
 use Rattle.gate_desk.specs.declared.slot.Slot.TheVariants.{LeftIn, RightIn, LeftGiven, RightGiven, ReportGiven}
 use Rattle.gate_desk.specs.declared.slot.PerSlot.{PerSlot}
-use Rattle.gate_desk.specs.Outside.{Outside, Told, Grows, Takes, told_at, took}
+use Rattle.gate_desk.specs.Outside.{Outside, Trace, Grows, Takes, told_at, took}
 use Rattle.gate_report.specs.declared.totals.Totals.{Totals}
 use Rattle.pcap_files.specs.Capture.{records_from}
 use Rattle.pcap_files.specs.Reader.{Reading}
@@ -36,7 +36,7 @@ given_in g all = record {
   report = g.report ++ all.report_given;
 }
 
-unfoldable pub given_told : GivenFiles → Told → Option Given
+unfoldable pub given_told : GivenFiles → Trace → Option Given
 given_told g told = option_map (given_in g) told
 
 -- each reader reads its slot, and neither has stopped

@@ -8,7 +8,7 @@ use Rattle.gate_report.specs.Lines.{text_of, json_of}
 use Rattle.gate_report.specs.declared.line.Line.{Line}
 use Rattle.gate_report.specs.declared.line.Line.TheVariants.{Event}
 use Rattle.file_audit.specs.declared.line.Extent.{Extent}
-use Rattle.file_audit.specs.declared.line.Found.{Found}
+use Rattle.file_audit.specs.declared.line.LineFound.{LineFound}
 use Rattle.file_audit.specs.declared.line.LineHead.{LineHead}
 use Rattle.file_audit.specs.declared.stop.AuditStop.{AuditStop}
 use Rattle.file_audit.specs.declared.stop.AuditStop.TheVariants.{Unlawful, Capture, Desk, OutOfMemory}
@@ -44,7 +44,7 @@ abbrev pub HasNoLine : Bool → LineHead → List ℕ → Type 0
 HasNoLine json h octets = (frames : ℕ) (rest : List ℕ) → frames < 2 ^ 32 → octets ≡ octets_of json (line_with h frames) ++ rest → ⊥
 
 -- octets go on with the line for this number of frames, or for none
-abbrev pub FindsLine : Option Found → Bool → LineHead → List ℕ → Type 0
+abbrev pub FindsLine : Option LineFound → Bool → LineHead → List ℕ → Type 0
 FindsLine (Some found) json h octets = (found.frames < 2 ^ 32) × (found.length ≡ length (octets_of json (line_with h found.frames))) × (take found.length octets ≡ octets_of json (line_with h found.frames))
 FindsLine None json h octets = HasNoLine json h octets
 

@@ -1,6 +1,6 @@
 // A frame is expected: as the event that comes to the gate, or as one that stays before it.
 ghost use Rattle.std.specs.Prelude.{◌≡◌, ◌<◌, ◌*◌, ◌^◌, false, OnOk};
-ghost use Rattle.frag_join.specs.Arrivals.{Comes, Stays, arrival, joiner_after};
+ghost use Rattle.frag_join.specs.Arrivals.{Reaches, Stopped, arrival, joiner_after};
 ghost use Rattle.frag_join.specs.Joining.{by_known};
 ghost use Rattle.gate_base.specs.Events.{event_of};
 ghost use Rattle.file_audit.specs.Events.{Expected};
@@ -18,7 +18,7 @@ fn expect_event(
 ) -> Result<LineHead, OutOfMemory>
     requires kept { auditor.old.lost ≡ false }
     requires early { event.moment.0 < 2 ^ 32 * 1000000000 }
-    ensures { Expected result number auditor.old auditor.new (Comes (event_of event.entry)) }
+    ensures { Expected result number auditor.old auditor.new (Reaches (event_of event.entry)) }
 {
     match auditor.expect(&event) {
         Ok(verdict) => Ok(LineHead {
@@ -39,7 +39,7 @@ fn expect_nothing(
     verdict: Verdict,
 ) -> Result<LineHead, OutOfMemory>
     requires kept { auditor.old.lost ≡ false }
-    ensures { Expected result number auditor.old auditor.new (Stays (event_of event.entry) verdict) }
+    ensures { Expected result number auditor.old auditor.new (Stopped (event_of event.entry) verdict) }
 {
     auditor.expect_nothing(event.side, event.moment);
     Ok(LineHead {

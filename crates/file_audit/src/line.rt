@@ -34,7 +34,7 @@ pub struct Extent {
 
 /// The line that a report goes on with: how many frames it tells, and how many octets it has.
 #[derive(Clone, Copy)]
-pub struct Found {
+pub struct LineFound {
     pub frames: u32,
     pub length: usize,
 }
@@ -134,13 +134,13 @@ fn find_line(
     json: bool,
     head: LineHead,
     octets: &[u8],
-) -> Result<Option<Found>, OutOfMemory>
+) -> Result<Option<LineFound>, OutOfMemory>
     ensures is { IfOk result (λ found. FindsLine found json head octets.now) }
     ensures memory { OnErr result (json ≡ true) }
 {
     let none = compare(alloc, json, &head.with(0), octets)?;
     if none.whole {
-        return Ok(Some(Found {
+        return Ok(Some(LineFound {
             frames: 0,
             length: none.count,
         }));
@@ -152,7 +152,7 @@ fn find_line(
     let frames = number as u32;
     let found = compare(alloc, json, &head.with(frames), octets)?;
     if found.whole {
-        Ok(Some(Found {
+        Ok(Some(LineFound {
             frames,
             length: found.count,
         }))

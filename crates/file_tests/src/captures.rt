@@ -3,7 +3,7 @@ ghost use Rattle.std.specs.Prelude.{◌≤◌, OnOk};
 ghost use Rattle.gate_desk.specs.Outside.{CanRead, CanWrite};
 
 use gate_base::{Link, Moment};
-use gate_desk::{Desk, Failed, Slot, Way};
+use gate_desk::{Desk, Failed, Slot, Access};
 use memory_desks::MemoryDesk;
 use pcap_files::{CaptureFault, CaptureReader, ReadStop, write_head, write_packet};
 use std::alloc::Global;
@@ -33,8 +33,8 @@ fn start<D: Desk>(desk: &mut D) -> Result<(), Failed>
     ensures read { OnOk result (CanRead (D.outside desk.new) Slot.LeftIn) }
     ensures write { OnOk result (CanWrite (D.outside desk.new) Slot.RightOut) }
 {
-    desk.start(Slot::RightOut, "right", Way::Write)?;
-    desk.start(Slot::LeftIn, "left", Way::Read)?;
+    desk.start(Slot::RightOut, "right", Access::Write)?;
+    desk.start(Slot::LeftIn, "left", Access::Read)?;
     Ok(())
 }
 
@@ -69,7 +69,7 @@ fn copied(alloc: Global, head: &[u8], kept: usize) -> Result<(Result<(), ReadSto
 {
     let mut left = head.to_vec(alloc)?;
     left.extend_from_slice(&FRAME[..kept])?;
-    let mut desk = MemoryDesk::make(alloc, Vec::new(alloc), left, Vec::new(alloc))?;
+    let mut desk = MemoryDesk::new(alloc, Vec::new(alloc), left, Vec::new(alloc))?;
     let answer = copy_first(alloc, &mut desk);
     Ok((answer, desk.output(Slot::RightOut).to_vec(alloc)?))
 }

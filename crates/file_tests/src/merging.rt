@@ -3,7 +3,7 @@ ghost use Rattle.std.specs.Prelude.{◌≡◌, OnOk};
 ghost use Rattle.gate_desk.specs.Outside.{CanRead};
 
 use gate_base::Side;
-use gate_desk::{Desk, Failed, Slot, Way};
+use gate_desk::{Desk, Failed, Slot, Access};
 use memory_desks::MemoryDesk;
 use pcap_merge::{Merge, MergeStop};
 use std::alloc::{AllocError, Global};
@@ -37,8 +37,8 @@ fn start<D: Desk>(desk: &mut D) -> Result<(), Failed>
     ensures left { OnOk result (CanRead (D.outside desk.new) Slot.LeftIn) }
     ensures right { OnOk result (CanRead (D.outside desk.new) Slot.RightIn) }
 {
-    desk.start(Slot::LeftIn, "left", Way::Read)?;
-    desk.start(Slot::RightIn, "right", Way::Read)?;
+    desk.start(Slot::LeftIn, "left", Access::Read)?;
+    desk.start(Slot::RightIn, "right", Access::Read)?;
     Ok(())
 }
 
@@ -90,7 +90,7 @@ fn merges<D: Desk>(
 fn merges_captures(alloc: Global) -> Result<bool, Fail> {
     let left = capture(alloc, &[5, 4, 7])?;
     let right = capture(alloc, &[5, 6])?;
-    let mut desk = MemoryDesk::make(alloc, Vec::new(alloc), left, right)?;
+    let mut desk = MemoryDesk::new(alloc, Vec::new(alloc), left, right)?;
     Ok(merges(alloc, &mut desk, &WANTED) == Ok(true))
 }
 

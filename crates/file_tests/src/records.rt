@@ -359,7 +359,7 @@ fn cases(rt: HostRuntime) -> Result<(), Fail> {
     let Ok(settings) = read_settings(rt.alloc(), SETTINGS) else {
         return Err(Fail::from("settings"));
     };
-    let Ok(mut expected) = Expected::make(rt.alloc()) else {
+    let Ok(mut expected) = Expected::new(rt.alloc()) else {
         return Err(Fail::from("memory"));
     };
     run_cases(rt.alloc(), &settings, &mut expected)

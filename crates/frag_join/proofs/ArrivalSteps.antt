@@ -10,9 +10,9 @@ use Rattle.gate_base.specs.declared.side.Side.{Side}
 use Rattle.frag_join.specs.declared.part.Part.{Part}
 use Rattle.frag_join.specs.declared.taken.Taken.TheVariants.{Plain, Held, Joined}
 use Rattle.frag_join.specs.Fragments.{Fragment, is_fragment, name_in}
-use Rattle.frag_join.specs.Known.{Known, is_complete, datagram_of}
+use Rattle.frag_join.specs.Coverage.{Coverage, is_complete, datagram_of}
 use Rattle.frag_join.specs.Joining.{Keeping, State, Step, by_list, by_known, live, part_of, part_or_new, changed, place_of, event_from, fragment_tests, with_fragment, taken_unless, fragment_step}
-use Rattle.frag_join.specs.Arrivals.{Arrival, Comes, Stays, ArrivalIs, ArrivalsAre, part_before, fragment_reason, known_with, opened, joiner_after, joined_in, arrival_by, arrival, arrivals_from, arrivals_of, joiner_of, known_joiner, coming}
+use Rattle.frag_join.specs.Arrivals.{Arrival, Reaches, Stopped, ArrivalIs, ArrivalsAre, part_before, fragment_reason, known_with, opened, joiner_after, joined_in, arrival_by, arrival, arrivals_from, arrivals_of, joiner_of, known_joiner, coming}
 use Rattle.frag_join.proofs.KeptSteps.{step-known}
 
 -- ## More frames
@@ -58,11 +58,11 @@ joiner-one join done e = fold-append (joiner_after by_list) (opened join) done (
 
 pub arrival-known : (joiner : Option (State (List Fragment))) (e : Event) → arrival by_known (known_joiner joiner) e ≡ arrival by_list joiner e
 arrival-known None e = refl
-arrival-known (Some state) e = ap (λ (one : Step Known). arrival_by e one.answer one.state.joined) (step-known state e)
+arrival-known (Some state) e = ap (λ (one : Step Coverage). arrival_by e one.answer one.state.joined) (step-known state e)
 
 pub joiner-known : (joiner : Option (State (List Fragment))) (e : Event) → joiner_after by_known (known_joiner joiner) e ≡ known_joiner (joiner_after by_list joiner e)
 joiner-known None e = refl
-joiner-known (Some state) e = ap (λ (one : Step Known). let held : Option (State Known) = Some one.state in held) (step-known state e)
+joiner-known (Some state) e = ap (λ (one : Step Coverage). let held : Option (State Coverage) = Some one.state in held) (step-known state e)
 
 pub opened-known : (join : Bool) → opened join ≡ known_joiner (opened join)
 opened-known true = refl
@@ -102,12 +102,12 @@ joined-at keeping (Some state) e x h = fragment-at (is_fragment e) keeping (live
 
 -- ## Where fragments are refused
 
-pub all_come : {K : Type 0} (keeping : Keeping K) (events : List Event) → arrivals_from keeping None events ≡ map Comes events
+pub all_come : {K : Type 0} (keeping : Keeping K) (events : List Event) → arrivals_from keeping None events ≡ map Reaches events
 unfolding arrivals_from
 all_come keeping [] = refl
-all_come keeping (e ∷ events) = ap (λ (others : List Arrival). Comes e ∷ others) (all_come keeping events)
+all_come keeping (e ∷ events) = ap (λ (others : List Arrival). Reaches e ∷ others) (all_come keeping events)
 
-coming-all : (events : List Event) → coming (map Comes events) ≡ events
+coming-all : (events : List Event) → coming (map Reaches events) ≡ events
 unfolding coming
 coming-all [] = refl
 coming-all (e ∷ events) = ap (λ (others : List Event). e ∷ others) (coming-all events)
@@ -119,7 +119,7 @@ come-as-they-are events = ap coming (all_come by_list events) ∙ coming-all eve
 
 settled_to : (b c : Bool) (parts others : List (Part (List Fragment))) (e : Event) (octets : List ℕ) → b ≡ c
     → let one : Step (List Fragment) = cond b (record { answer = Joined; state = record { parts = parts; joined = Some (event_from e.side e.moment octets) } }) (record { answer = Held; state = record { parts = others; joined = None } }) in
-    arrival_by e one.answer one.state.joined ≡ cond c (Comes (event_from e.side e.moment octets)) (Stays e verdicts.Held)
+    arrival_by e one.answer one.state.joined ≡ cond c (Reaches (event_from e.side e.moment octets)) (Stopped e verdicts.Held)
 settled_to true true parts others e octets h = refl
 settled_to false false parts others e octets h = refl
 settled_to true false parts others e octets h = absurd cc
@@ -127,7 +127,7 @@ settled_to false true parts others e octets h = absurd cc
 
 unless_to : (state : State (List Fragment)) (e : Event) (complete : Bool) (refusal : Option Refusal) → refusal ≡ None → is_complete (known_with state e) ≡ complete
     → let one = taken_unless by_list (live e.moment state.parts) e (part_before state e) refusal in
-    arrival_by e one.answer one.state.joined ≡ cond complete (Comes (event_from e.side e.moment (datagram_of (known_with state e)))) (Stays e verdicts.Held)
+    arrival_by e one.answer one.state.joined ≡ cond complete (Reaches (event_from e.side e.moment (datagram_of (known_with state e)))) (Stopped e verdicts.Held)
 unless_to state e complete None none is =
     let parts = live e.moment state.parts in
     let new = with_fragment by_list (part_before state e) e in
@@ -135,9 +135,9 @@ unless_to state e complete None none is =
 unless_to state e complete (Some refusal) none is = absurd cc
 
 refused_to : (state : State (List Fragment)) (e : Event) (r : Refusal) (refusal : Option Refusal) → refusal ≡ Some r
-    → let one = taken_unless by_list (live e.moment state.parts) e (part_before state e) refusal in arrival_by e one.answer one.state.joined ≡ Stays e (verdicts.Refused r)
+    → let one = taken_unless by_list (live e.moment state.parts) e (part_before state e) refusal in arrival_by e one.answer one.state.joined ≡ Stopped e (verdicts.Refused r)
 refused_to state e r None is = absurd cc
-refused_to state e r (Some refusal) is = ap (λ (x : Option Refusal). Stays e (verdicts.Refused (refusal_or x))) is
+refused_to state e r (Some refusal) is = ap (λ (x : Option Refusal). Stopped e (verdicts.Refused (refusal_or x))) is
   where
     refusal_or : Option Refusal → Refusal
     refusal_or None = r

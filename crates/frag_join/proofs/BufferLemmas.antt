@@ -4,7 +4,7 @@ use Rattle.std.proofs.lemmas.Bool.{and_parts, cases_lt}
 use Rattle.std.proofs.lemmas.List.{get_or_default, take-append-drop, take-take, drop-take, length-take-le, length-drop, get_or-take, get_or-drop, length-replicate, get_or-replicate}
 use Rattle.frag_join.specs.Places.{table, count_below}
 use Rattle.frag_join.specs.Fragments.{Fragment, end_of}
-use Rattle.frag_join.specs.Known.{octet_of, is_other, is_above, ends_otherwise, is_complete, is_covered, whole_head, sealed, spelled, payload_below}
+use Rattle.frag_join.specs.Coverage.{octet_of, is_other, is_above, ends_otherwise, is_complete, is_covered, whole_head, sealed, spelled, payload_below}
 use Rattle.frag_join.specs.Inside.{octet_inside, known_inside, IsWhole}
 use Rattle.frag_join.specs.declared.buffer.Buffer.TheInside.{Inside}
 use Rattle.frag_join.proofs.Splices.{splice, length-splice, splice-inside, splice-behind}

@@ -15,8 +15,8 @@ use Rattle.frag_join.specs.declared.part.Name.{Name}
 use Rattle.frag_join.specs.declared.part.Part.{Part}
 use Rattle.frag_join.specs.declared.taken.Taken.TheVariants.{Plain, Held, Refused}
 use Rattle.frag_join.specs.Fragments.{Fragment, is_fragment, name_in, same_name, fragment_in, octets_of}
-use Rattle.frag_join.specs.Known.{Known, known_by, is_bad, is_complete, datagram_of}
-use Rattle.frag_join.specs.Joining.{State, Step, by_list, by_known, state_known, step_known, limit, hold, is_live, live, is_of, place_of, part_of, part_or_new, event_from, fragment_tests, settled, with_fragment, taken_unless, fragment_taken, fragment_step, step_by, step, after}
+use Rattle.frag_join.specs.Coverage.{Coverage, known_by, is_bad, is_complete, datagram_of}
+use Rattle.frag_join.specs.Joining.{State, Step, by_list, by_known, state_known, step_known, limit, timeout, is_live, live, is_of, place_of, part_of, part_or_new, event_from, fragment_tests, settled, with_fragment, taken_unless, fragment_taken, fragment_step, step_by, step, after}
 use Rattle.frag_join.specs.Cuts.{Original, IsCut, is_part_of, Brings, Arrives, Completes, fragments_among, cover}
 use Rattle.frag_join.proofs.NameLemmas.{name-eq, name-same}
 use Rattle.frag_join.proofs.CutLemmas.{cut-good, cover-complete, cover-datagram, open-incomplete, open-less}
@@ -88,10 +88,10 @@ record HasPart (d : Original) (since : ℕ) (fragments : List Fragment) (parts :
   kept : part.kept ≡ fragments
   moment : part.since.0 ≡ since
 
-live_part : (d : Original) (since now : ℕ) (fragments : List Fragment) (parts : List Whole) → now < since + hold → HasPart d since fragments parts → HasPart d since fragments (live now parts)
+live_part : (d : Original) (since now : ℕ) (fragments : List Fragment) (parts : List Whole) → now < since + timeout → HasPart d since fragments parts → HasPart d since fragments (live now parts)
 live_part d since now fragments parts soon has = record {
   part = has.part;
-  found = find-filter (is_of d.name) (is_live now) parts has.part has.found (lt-ltb now (has.part.since.0 + hold) (omega (arith, has.moment)));
+  found = find-filter (is_of d.name) (is_live now) parts has.part has.found (lt-ltb now (has.part.since.0 + timeout) (omega (arith, has.moment)));
   kept = has.kept;
   moment = has.moment;
 }
@@ -267,6 +267,6 @@ cuts-join-known d state first last more arrives =
     let one : step by_known (after by_known (state_known state) (first ∷ more)) last ≡ step_known (step by_list (after by_list state (first ∷ more)) last) =
     ap (λ s. step by_known s last) (after-known state (first ∷ more)) ∙ step-known (after by_list state (first ∷ more)) last in
     record {
-      answer = ap (λ (s : Step Known). s.answer) one ∙ whole.answer;
-      joined = ap (λ (s : Step Known). s.state.joined) one ∙ whole.joined;
+      answer = ap (λ (s : Step Coverage). s.answer) one ∙ whole.answer;
+      joined = ap (λ (s : Step Coverage). s.state.joined) one ∙ whole.joined;
     }

@@ -5,7 +5,7 @@ use Rattle.std.proofs.lemmas.Bool.{lt-ltb, le-ltb, le-leb, lt-leb, eq-eqb}
 use Rattle.std.proofs.lemmas.List.{take_at, drop_at}
 use Rattle.frag_join.specs.Places.{any_below, count_below}
 use Rattle.frag_join.specs.Fragments.{Fragment, end_of, covers, octet_in}
-use Rattle.frag_join.specs.Known.{Known, octet_of, are_unlike, header_told}
+use Rattle.frag_join.specs.Coverage.{Coverage, octet_of, are_unlike, header_told}
 use Rattle.frag_join.specs.Held.{header_held}
 use Rattle.frag_join.proofs.PlaceLemmas.{none-any, none-count}
 
@@ -29,12 +29,12 @@ unlike-none None = refl
 unlike-none (Some x) = refl
 
 -- no place before the fragment is unlike, or new
-pub unlike-before : (known : Known) (f : Fragment) (start : ℕ) → start ≡ f.start → any_below (λ place. are_unlike (octet_of known place) (octet_in f place)) start ≡ false
+pub unlike-before : (known : Coverage) (f : Fragment) (start : ℕ) → start ≡ f.start → any_below (λ place. are_unlike (octet_of known place) (octet_in f place)) start ≡ false
 unlike-before known f start is =
     none-any (λ place. are_unlike (octet_of known place) (octet_in f place)) start
     (λ place below. ap (are_unlike (octet_of known place)) (octet-outside f place (covers-before f place (omega arith))) ∙ unlike-none (octet_of known place))
 
-pub fresh-before : (known : Known) (f : Fragment) (start : ℕ) → start ≡ f.start → count_below (λ place. covers f place && not (is_some (octet_of known place))) start ≡ 0
+pub fresh-before : (known : Coverage) (f : Fragment) (start : ℕ) → start ≡ f.start → count_below (λ place. covers f place && not (is_some (octet_of known place))) start ≡ 0
 fresh-before known f start is =
     none-count (λ place. covers f place && not (is_some (octet_of known place))) start
     (λ place below. ap (λ c. c && not (is_some (octet_of known place))) (covers-before f place (omega arith)))

@@ -11,7 +11,7 @@ use Rattle.frag_join.specs.declared.part.Name.{Name}
 use Rattle.frag_join.specs.declared.part.Part.{Part}
 use Rattle.frag_join.specs.declared.taken.Taken.TheVariants.{Plain, Held, Joined}
 use Rattle.frag_join.specs.Fragments.{Fragment, is_fragment, name_in, fragment_in}
-use Rattle.frag_join.specs.Known.{Known, known_by, is_complete, datagram_of}
+use Rattle.frag_join.specs.Coverage.{Coverage, known_by, is_complete, datagram_of}
 use Rattle.frag_join.specs.Joining.{State, Step, by_list, by_known, is_live, live, is_of, place_of, part_of, part_or_new, changed, event_from, tests_by, fragment_tests, settled, with_fragment, taken_unless, fragment_taken, fragment_step, step_by, step, after, part_known, state_known, step_known}
 use Rattle.frag_join.proofs.KnownLemmas.{known-push}
 
@@ -75,7 +75,7 @@ new-known e (Some part) = refl
 with-known : (part : Whole) (e : Event) → with_fragment by_known (part_known part) e ≡ part_known (with_fragment by_list part e)
 with-known part e = λ i. record { name = part.name; since = part.since; kept = sym (known-push part.kept (fragment_in e)) i }
 
-tests-known : (parts : List Whole) (e : Event) (known : Known) → first_that_holds (fragment_tests (map part_known parts) e known) ≡ first_that_holds (fragment_tests parts e known)
+tests-known : (parts : List Whole) (e : Event) (known : Coverage) → first_that_holds (fragment_tests (map part_known parts) e known) ≡ first_that_holds (fragment_tests parts e known)
 tests-known parts e known =
     ap (λ place. first_that_holds (tests_by e known place (length (map part_known parts)))) (place-known (name_in e) parts)
     ∙ ap (λ n. first_that_holds (tests_by e known (place_of (name_in e) parts) n)) (length-map parts part_known)

@@ -4,7 +4,7 @@ use Rattle.std.specs.Option.{option_or}
 use Rattle.std.proofs.lemmas.Bool.{cases_lt}
 use Rattle.frag_join.specs.Places.{table}
 use Rattle.frag_join.specs.Fragments.{Fragment, end_of, octet_in}
-use Rattle.frag_join.specs.Known.{octet_at, reach_of, end_by, end_told, header_by, header_told, known_by, octet_of, added}
+use Rattle.frag_join.specs.Coverage.{octet_at, reach_of, end_by, end_told, header_by, header_told, known_by, octet_of, added}
 use Rattle.frag_join.proofs.PlaceLemmas.{length-table, at-table, past-table, same-tables}
 use Rattle.frag_join.proofs.FragmentLemmas.{covers-behind, octet-outside}
 

@@ -5,7 +5,7 @@ use Rattle.std.proofs.lemmas.Bool.{cases_lt, eqb-true, not-false, ltb-false}
 use Rattle.std.proofs.lemmas.List.{get_or-drop, get_or-replicate, length-replicate}
 use Rattle.frag_join.specs.Places.{table, count_below}
 use Rattle.frag_join.specs.Fragments.{Fragment, end_of, covers, octet_in}
-use Rattle.frag_join.specs.Known.{Known, octet_of, added, is_bad, is_torn, ends_otherwise, is_unlike, are_unlike, is_other, is_above, header_told}
+use Rattle.frag_join.specs.Coverage.{Coverage, octet_of, added, is_bad, is_torn, ends_otherwise, is_unlike, are_unlike, is_other, is_above, header_told}
 use Rattle.frag_join.specs.Held.{header_held}
 use Rattle.frag_join.specs.Inside.{octet_inside, known_inside, IsWhole}
 use Rattle.frag_join.specs.declared.buffer.Buffer.TheInside.{Inside}
@@ -194,7 +194,7 @@ places-new b f new whole good even put =
     same-tables (octet_inside new) (λ place. option_or (octet_of (known_inside b) place) (octet_in f place)) new.reach None (λ place inside. octet-new b f new place whole good even put inside)
     ∙ ap (table (λ place. option_or (octet_of (known_inside b) place) (octet_in f place))) size
 
-same_known : (one other : Known) → one.places ≡ other.places → one.known_end ≡ other.known_end → one.header ≡ other.header → one ≡ other
+same_known : (one other : Coverage) → one.places ≡ other.places → one.known_end ≡ other.known_end → one.header ≡ other.header → one ≡ other
 same_known one other places end header = λ i. record { places = places i; known_end = end i; header = header i }
 
 pub known-new : (b : Inside) (f : Fragment) (new : Inside) → IsWhole b → IsGood b f → f.start % 8 ≡ 0 → IsPut b f new → known_inside new ≡ added (known_inside b) f
@@ -221,7 +221,7 @@ count-old b reach whole more =
     ∙ sym whole.counted
 
 -- what is new lies before the fragment's end
-count-fresh : (known : Known) (f : Fragment) (reach : ℕ) → end_of f ≤ reach → count_below (λ place. covers f place && not (is_some (octet_of known place))) reach ≡ count_below (λ place. covers f place && not (is_some (octet_of known place))) (end_of f)
+count-fresh : (known : Coverage) (f : Fragment) (reach : ℕ) → end_of f ≤ reach → count_below (λ place. covers f place && not (is_some (octet_of known place))) reach ≡ count_below (λ place. covers f place && not (is_some (octet_of known place))) (end_of f)
 count-fresh known f reach more =
     count-from (λ place. covers f place && not (is_some (octet_of known place))) (end_of f) reach more
     (λ place past. ap (λ c. c && not (is_some (octet_of known place))) (covers-behind f place past))

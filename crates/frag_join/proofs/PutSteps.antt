@@ -6,17 +6,17 @@ use Rattle.std.proofs.lemmas.List.{get_or-set_same}
 use Rattle.gate_base.specs.Events.{Event}
 use Rattle.frag_join.specs.declared.part.Part.{Part}
 use Rattle.frag_join.specs.Fragments.{Fragment, fragment_in}
-use Rattle.frag_join.specs.Known.{Known, added, is_complete, datagram_of}
+use Rattle.frag_join.specs.Coverage.{Coverage, added, is_complete, datagram_of}
 use Rattle.frag_join.specs.Joining.{by_known, event_from, with_fragment}
 use Rattle.frag_join.specs.Kept.{put_at}
 use Rattle.frag_join.proofs.PartLemmas.{remove-set, get-or-get, some-within}
 use Rattle.frag_join.proofs.StepLemmas.{settled-joined}
 
-abbrev pub with_kept : Part Known → Known → Part Known
+abbrev pub with_kept : Part Coverage → Coverage → Part Coverage
 with_kept part kept = record { name = part.name; since = part.since; kept = kept }
 
 -- what completes its datagram leaves the list without it
-pub put-joined : (parts later : List (Part Known)) (place : ℕ) (e : Event) (part now removed : Part Known) (kept : Known) (f : Fragment) (event : Event) → slice_get parts place ≡ Some part → now ≡ get_or parts place now → kept ≡ added now.kept f → f ≡ fragment_in e → is_complete kept ≡ true
+pub put-joined : (parts later : List (Part Coverage)) (place : ℕ) (e : Event) (part now removed : Part Coverage) (kept : Coverage) (f : Fragment) (event : Event) → slice_get parts place ≡ Some part → now ≡ get_or parts place now → kept ≡ added now.kept f → f ≡ fragment_in e → is_complete kept ≡ true
     → later ≡ remove (set parts place (with_kept now kept)) place → removed ≡ get_or (set parts place (with_kept now kept)) place removed → event ≡ event_from e.side e.moment (datagram_of removed.kept)
     → record { parts = later; joined = Some event } ≡ (put_at parts place e part).state
 put-joined parts later place e part now removed kept f event there read put is complete later_is removed_is event_is =

@@ -10,7 +10,7 @@ use Rattle.ipv4_frames.specs.Ipv4.{has_options}
 use Rattle.frag_join.specs.declared.part.Part.{Part}
 use Rattle.frag_join.specs.declared.taken.Taken.TheVariants.{Held, Joined}
 use Rattle.frag_join.specs.Fragments.{name_in, fragment_in, octets_of}
-use Rattle.frag_join.specs.Known.{is_bad, is_complete, datagram_of}
+use Rattle.frag_join.specs.Coverage.{is_bad, is_complete, datagram_of}
 use Rattle.frag_join.specs.Joining.{Keeping, Step, limit, place_of, part_of, part_or_new, changed, event_from, fragment_tests, settled, with_fragment, taken_unless, fragment_taken, fragment_step}
 use Rattle.frag_join.proofs.PartLemmas.{remove-last, set-last}
 

@@ -9,15 +9,15 @@ use Rattle.frag_join.specs.declared.part.Part.{Part}
 use Rattle.frag_join.specs.declared.taken.Taken.{Taken}
 use Rattle.frag_join.specs.declared.taken.Taken.TheVariants.{Plain, Held, Joined, Refused}
 use Rattle.frag_join.specs.Fragments.{Fragment, is_fragment, name_in}
-use Rattle.frag_join.specs.Known.{Known, known_by, is_complete, datagram_of}
+use Rattle.frag_join.specs.Coverage.{Coverage, known_by, is_complete, datagram_of}
 use Rattle.frag_join.specs.Joining.{Keeping, State, empty, by_list, step, state_known, live, part_of, part_or_new, event_from, fragment_tests, with_fragment}
 
 -- what becomes of a frame before the gate
 pub data Arrival : Type 0 where
   -- this event comes to the gate
-  Comes : Event → Arrival
+  Reaches : Event → Arrival
   -- the frame doesn't, and this is its verdict
-  Stays : Event → Verdict → Arrival
+  Stopped : Event → Verdict → Arrival
 
 -- ## One frame
 
@@ -42,10 +42,10 @@ joined_in (Some state) = state.joined
 
 -- by the answer to a frame, and the datagram that it completed
 abbrev pub arrival_by : Event → Taken → Option Event → Arrival
-arrival_by e Plain joined = Comes e
-arrival_by e Held joined = Stays e verdicts.Held
-arrival_by e Joined joined = Comes (unwrap_or joined e)
-arrival_by e (Refused refusal) joined = Stays e (verdicts.Refused refusal)
+arrival_by e Plain joined = Reaches e
+arrival_by e Held joined = Stopped e verdicts.Held
+arrival_by e Joined joined = Reaches (unwrap_or joined e)
+arrival_by e (Refused refusal) joined = Stopped e (verdicts.Refused refusal)
 
 abbrev pub arrival : {K : Type 0} → Keeping K → Option (State K) → Event → Arrival
 arrival keeping joiner e = arrival_by e (taken_by keeping joiner e) (joined_in (joiner_after keeping joiner e))
@@ -65,14 +65,14 @@ abbrev pub joiner_of : Bool → List Event → Option (State (List Fragment))
 joiner_of join events = fold (joiner_after by_list) (opened join) events
 
 -- what is known by it
-abbrev pub known_joiner : Option (State (List Fragment)) → Option (State Known)
+abbrev pub known_joiner : Option (State (List Fragment)) → Option (State Coverage)
 known_joiner joiner = option_map state_known joiner
 
 -- the events that come to the gate, in their order
 unfoldable pub coming : List Arrival → List Event
 coming [] = []
-coming (Comes e ∷ others) = e ∷ coming others
-coming (Stays e verdict ∷ others) = coming others
+coming (Reaches e ∷ others) = e ∷ coming others
+coming (Stopped e verdict ∷ others) = coming others
 
 -- ## What that means for a frame
 
@@ -85,20 +85,20 @@ abbrev pub fragment_reason : State (List Fragment) → Event → Option Refusal
 fragment_reason state e = first_that_holds (fragment_tests (live e.moment state.parts) e (known_by (part_before state e).kept))
 
 -- what is known of its datagram once it is taken
-abbrev pub known_with : State (List Fragment) → Event → Known
+abbrev pub known_with : State (List Fragment) → Event → Coverage
 known_with state e = known_by (with_fragment by_list (part_before state e) e).kept
 
 -- what becomes of a frame, where this is held of datagrams:
 pub record ArrivalIs (joiner : Option (State (List Fragment))) (e : Event) : Type 0 where
   -- without a joiner it comes to the gate as it is, and so does a frame that carries no fragment;
-  pub alone : joiner ≡ None → arrival by_list joiner e ≡ Comes e
-  pub plain : (state : State (List Fragment)) → joiner ≡ Some state → is_fragment e ≡ false → arrival by_list joiner e ≡ Comes e
+  pub alone : joiner ≡ None → arrival by_list joiner e ≡ Reaches e
+  pub plain : (state : State (List Fragment)) → joiner ≡ Some state → is_fragment e ≡ false → arrival by_list joiner e ≡ Reaches e
   -- where there is a reason to refuse a fragment, it is refused by the name of the first one;
-  pub refused : (state : State (List Fragment)) (r : Refusal) → joiner ≡ Some state → is_fragment e ≡ true → fragment_reason state e ≡ Some r → arrival by_list joiner e ≡ Stays e (verdicts.Refused r)
+  pub refused : (state : State (List Fragment)) (r : Refusal) → joiner ≡ Some state → is_fragment e ≡ true → fragment_reason state e ≡ Some r → arrival by_list joiner e ≡ Stopped e (verdicts.Refused r)
   -- else it is taken: with the fragment that completes it a datagram comes to the gate, and any other is held
   pub joined : (state : State (List Fragment)) → joiner ≡ Some state → is_fragment e ≡ true → fragment_reason state e ≡ None → is_complete (known_with state e) ≡ true
-      → arrival by_list joiner e ≡ Comes (event_from e.side e.moment (datagram_of (known_with state e)))
-  pub held : (state : State (List Fragment)) → joiner ≡ Some state → is_fragment e ≡ true → fragment_reason state e ≡ None → is_complete (known_with state e) ≡ false → arrival by_list joiner e ≡ Stays e verdicts.Held
+      → arrival by_list joiner e ≡ Reaches (event_from e.side e.moment (datagram_of (known_with state e)))
+  pub held : (state : State (List Fragment)) → joiner ≡ Some state → is_fragment e ≡ true → fragment_reason state e ≡ None → is_complete (known_with state e) ≡ false → arrival by_list joiner e ≡ Stopped e verdicts.Held
 
 -- of each of these frames, one after another
 pub record ArrivalsAre (join : Bool) (events : List Event) : Type 0 where

@@ -1,7 +1,7 @@
 -- What a joiner keeps.
 use Rattle.std.specs.Prelude.{◌≡◌, ℕ, ◌*◌, ◌%◌, ◌<◌, ◌≤◌, true, false, if◌then◌else◌, length, slice_index_or, Option, Some, None, is_some}
 use Rattle.frag_join.specs.Places.{table, count_below}
-use Rattle.frag_join.specs.Known.{Known}
+use Rattle.frag_join.specs.Coverage.{Coverage}
 use Rattle.frag_join.specs.Held.{octet_held, header_held}
 use Rattle.frag_join.specs.declared.buffer.Buffer.TheInside.{Inside}
 
@@ -10,7 +10,7 @@ abbrev pub octet_inside : Inside → ℕ → Option ℕ
 octet_inside b = octet_held b.held.items b.octets.items
 
 -- what is known by a buffer
-abbrev pub known_inside : Inside → Known
+abbrev pub known_inside : Inside → Coverage
 known_inside b = record {
   places = table (octet_inside b) b.reach;
   known_end = if b.ended then Some b.reach else None;

@@ -13,7 +13,7 @@ use Rattle.frag_join.specs.declared.part.Part.{Part}
 use Rattle.frag_join.specs.declared.taken.Taken.{Taken}
 use Rattle.frag_join.specs.declared.taken.Taken.TheVariants.{Plain, Held, Joined, Refused}
 use Rattle.frag_join.specs.Fragments.{Fragment, is_fragment, name_in, same_name, fragment_in, octets_of}
-use Rattle.frag_join.specs.Known.{Known, known_by, nothing, added, is_bad, is_complete, datagram_of}
+use Rattle.frag_join.specs.Coverage.{Coverage, known_by, nothing, added, is_bad, is_complete, datagram_of}
 
 -- ## What is kept of the fragments of a datagram
 
@@ -21,14 +21,14 @@ use Rattle.frag_join.specs.Known.{Known, known_by, nothing, added, is_bad, is_co
 pub record Keeping (K : Type 0) : Type 0 where
   pub none : K
   pub with_one : K → Fragment → K
-  pub known : K → Known
+  pub known : K → Coverage
 
 -- the list of them, in the order in which they were taken
 abbrev pub by_list : Keeping (List Fragment)
 by_list = record { none = []; with_one = λ fragments f. fragments ++ f ∷ []; known = known_by }
 
 -- what they tell alone
-abbrev pub by_known : Keeping Known
+abbrev pub by_known : Keeping Coverage
 by_known = record { none = nothing; with_one = added; known = λ known. known }
 
 -- ## The state
@@ -46,11 +46,11 @@ abbrev pub limit : ℕ
 limit = 64
 
 -- parts are dropped 30 seconds after the first of them came
-abbrev pub hold : ℕ
-hold = 30 * 1000000000
+abbrev pub timeout : ℕ
+timeout = 30 * 1000000000
 
 abbrev pub is_live : {K : Type 0} → ℕ → Part K → Bool
-is_live now part = nat_lt now (part.since.0 + hold)
+is_live now part = nat_lt now (part.since.0 + timeout)
 
 abbrev pub live : {K : Type 0} → ℕ → List (Part K) → List (Part K)
 live now parts = filter (is_live now) parts
@@ -86,14 +86,14 @@ part_or_new keeping e None = record { name = name_in e; since = record { 0 = e.m
 part_or_new keeping e (Some part) = part
 
 -- why a fragment is refused: by its header, by what is known of its datagram, and by the room for one that begins
-abbrev pub tests_by : Event → Known → Option ℕ → ℕ → List (Bool × Refusal)
+abbrev pub tests_by : Event → Coverage → Option ℕ → ℕ → List (Bool × Refusal)
 tests_by e known place count =
     (has_options (octets_of e), IpOptions)
     ∷ (is_bad known (fragment_in e), BadFragment)
     ∷ (not (is_some place) && nat_le limit count, FragmentsFull)
     ∷ []
 
-abbrev pub fragment_tests : {K : Type 0} → List (Part K) → Event → Known → List (Bool × Refusal)
+abbrev pub fragment_tests : {K : Type 0} → List (Part K) → Event → Coverage → List (Bool × Refusal)
 fragment_tests parts e known = tests_by e known (place_of (name_in e) parts) (length parts)
 
 -- a datagram as an event of its own, on a side at a moment
@@ -136,11 +136,11 @@ after keeping state events = fold (λ now e. (step keeping now e).state) state e
 
 -- ## What is kept of a state over lists
 
-abbrev pub part_known : Part (List Fragment) → Part Known
+abbrev pub part_known : Part (List Fragment) → Part Coverage
 part_known part = record { name = part.name; since = part.since; kept = known_by part.kept }
 
-abbrev pub state_known : State (List Fragment) → State Known
+abbrev pub state_known : State (List Fragment) → State Coverage
 state_known state = record { parts = map part_known state.parts; joined = state.joined }
 
-abbrev pub step_known : Step (List Fragment) → Step Known
+abbrev pub step_known : Step (List Fragment) → Step Coverage
 step_known one = record { answer = one.answer; state = state_known one.state }

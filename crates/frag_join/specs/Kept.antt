@@ -4,28 +4,28 @@ use Rattle.gate_base.specs.Events.{Event}
 use Rattle.gate_base.specs.declared.event.Moment.{Moment}
 use Rattle.frag_join.specs.declared.part.Name.{Name}
 use Rattle.frag_join.specs.declared.part.Part.{Part}
-use Rattle.frag_join.specs.Known.{Known, nothing}
+use Rattle.frag_join.specs.Coverage.{Coverage, nothing}
 use Rattle.frag_join.specs.Joining.{State, Step, limit, by_known, with_fragment, settled}
 use Rattle.frag_join.specs.declared.joiner.Joiner.TheInside.{Inside}
 
 -- the state that it stands for
-abbrev pub state_of : Inside → State Known
+abbrev pub state_of : Inside → State Coverage
 state_of j = record { parts = j.parts.items; joined = j.joined }
 
 -- what is known of the datagram at a place, and nothing of a new one
-abbrev pub known_or_nothing : Option (Part Known) → Known
+abbrev pub known_or_nothing : Option (Part Coverage) → Coverage
 known_or_nothing None = nothing
 known_or_nothing (Some part) = part.kept
 
-abbrev pub known_at : List (Part Known) → Option ℕ → Known
+abbrev pub known_at : List (Part Coverage) → Option ℕ → Coverage
 known_at parts place = known_or_nothing (option_and_then (slice_get parts) place)
 
 -- a datagram of which nothing is held
-abbrev pub new_part : Name → Moment → Part Known
+abbrev pub new_part : Name → Moment → Part Coverage
 new_part name since = record { name = name; since = since; kept = nothing }
 
 -- the datagram at a place takes a fragment
-abbrev pub put_at : List (Part Known) → ℕ → Event → Part Known → Step Known
+abbrev pub put_at : List (Part Coverage) → ℕ → Event → Part Coverage → Step Coverage
 put_at parts place e part = settled by_known parts (Some place) e (with_fragment by_known part e)
 
 -- there are as many buffers as datagrams may be joined, for those of which parts are there, the one that is joined, and the others; and there is room for all

@@ -1,6 +1,6 @@
 pub mod Places
 pub mod Fragments
-pub mod Known
+pub mod Coverage
 pub mod Joining
 pub mod Cuts
 pub mod Held

@@ -3,7 +3,7 @@ ghost use Rattle.std.specs.Prelude.{◌≡◌, ◌≤◌, ◌<◌, ◌+◌, ◌+
 ghost use Rattle.std.specs.Option.{option_or};
 ghost use Rattle.frag_join.specs.Places.{count_below};
 ghost use Rattle.frag_join.specs.Fragments.{octet_in, end_of, covers};
-ghost use Rattle.frag_join.specs.Known as known;
+ghost use Rattle.frag_join.specs.Coverage as known;
 ghost use Rattle.frag_join.specs.Held.{header_held};
 
 use crate::fragment::FragmentView;
@@ -35,9 +35,9 @@ pub struct Buffer {
 }
 
 impl Model for Buffer {
-    ghost use Rattle.frag_join.specs.Known.{Known};
+    ghost use Rattle.frag_join.specs.Coverage.{Coverage};
 
-    ghost Value = { Known };
+    ghost Value = { Coverage };
 
     ghost use Rattle.frag_join.specs.Inside.{known_inside, IsWhole};
 
@@ -48,7 +48,7 @@ impl Model for Buffer {
 
 impl Buffer {
     /// A buffer that holds nothing, with room for the longest datagram. The error is that there is too little memory.
-    pub fn make(alloc: Global) -> Result<Buffer, OutOfMemory>
+    pub fn new(alloc: Global) -> Result<Buffer, OutOfMemory>
         ensures { IfOk result (λ buffer. buffer ≡ known.nothing) }
     {
         Buffer::with_room(alloc, LONGEST, UNITS)

@@ -3,7 +3,7 @@ ghost use Rattle.std.specs.Prelude.{◌≡◌, ◌≤◌, ◌+◌, ◌%◌, ◌<
 ghost use Rattle.gate_base.specs.Events.{event_of};
 ghost use Rattle.ipv4_frames.specs.Ipv4.{has_bad_header, has_options, is_fragment as is_part};
 ghost use Rattle.frag_join.specs.Fragments as fragments;
-ghost use Rattle.frag_join.specs.Known.{is_torn};
+ghost use Rattle.frag_join.specs.Coverage.{is_torn};
 
 use crate::part::Name;
 use ether_frames::octets_in;

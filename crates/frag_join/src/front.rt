@@ -14,7 +14,7 @@ pub fn open_joiner(alloc: Global, join: bool) -> Result<Option<Joiner>, OutOfMem
     ensures { IfOk result (λ joiner. joiner ≡ opened join) }
 {
     if join {
-        Ok(Some(Joiner::make(alloc)?))
+        Ok(Some(Joiner::new(alloc)?))
     } else {
         Ok(None)
     }

@@ -3,8 +3,8 @@ ghost use Rattle.std.specs.Prelude.{◌≡◌, ◌<◌, ◌≤◌, ◌+◌, ◌+
 ghost use Rattle.gate_base.specs.Events.{event_of};
 ghost use Rattle.ipv4_frames.specs.Ipv4.{has_bad_header};
 ghost use Rattle.frag_join.specs.Fragments as fragments;
-ghost use Rattle.frag_join.specs.Known as known;
-ghost use Rattle.frag_join.specs.Known.{Known};
+ghost use Rattle.frag_join.specs.Coverage as known;
+ghost use Rattle.frag_join.specs.Coverage.{Coverage};
 ghost use Rattle.frag_join.specs.Joining as joining;
 ghost use Rattle.frag_join.specs.Kept.{known_at, put_at, new_part};
 ghost use Rattle.frag_join.specs.declared.part.Part.{Part};
@@ -22,7 +22,7 @@ use std::marker::Model;
 const LIMIT: usize = 64;
 
 /// Joins the fragments of datagrams, in whatever order they come. It is seen as the datagrams of which fragments are held,
-/// with what is known of each, and the datagram that the last frame completed. No call after `make` takes memory.
+/// with what is known of each, and the datagram that the last frame completed. No call after `new` takes memory.
 pub struct Joiner {
     parts: Vec<Part<Buffer>>,
     joined: Option<Whole>,
@@ -42,10 +42,10 @@ impl Drop for Joiner {
 }
 
 impl Model for Joiner {
-    ghost use Rattle.frag_join.specs.Known.{Known};
+    ghost use Rattle.frag_join.specs.Coverage.{Coverage};
     ghost use Rattle.frag_join.specs.Joining.{State};
 
-    ghost Value = { State Known };
+    ghost Value = { State Coverage };
 
     ghost use Rattle.frag_join.specs.Kept.{state_of, IsFull};
 
@@ -57,12 +57,12 @@ impl Model for Joiner {
 impl Joiner {
     /// A joiner that holds nothing, with all the memory that it ever needs: for 64 datagrams of 65,535 octets. The error is
     /// that there is too little memory.
-    pub fn make(alloc: Global) -> Result<Joiner, OutOfMemory>
+    pub fn new(alloc: Global) -> Result<Joiner, OutOfMemory>
         ensures { IfOk result (λ joiner. joiner ≡ joining.empty) }
     {
         let mut spare = Vec::with_capacity(alloc, LIMIT)?;
         for _ in 0..LIMIT {
-            spare.push_reserved(Buffer::make(alloc)?);
+            spare.push_reserved(Buffer::new(alloc)?);
         }
         Ok(Joiner {
             parts: Vec::with_capacity(alloc, LIMIT)?,
@@ -161,8 +161,8 @@ impl Joiner {
         requires joined { self.old.joined ≡ None }
         requires fragment { fragment.now ≡ fragments.fragment_in (event_of event.now) }
         requires good { known.is_bad (known_at self.old.parts (Some place)) fragment.now ≡ false }
-        ensures answer { (part : Part Known) → slice_get self.old.parts place ≡ Some part → result ≡ (put_at self.old.parts place (event_of event.now) part).answer }
-        ensures state { (part : Part Known) → slice_get self.old.parts place ≡ Some part → self.new ≡ (put_at self.old.parts place (event_of event.now) part).state }
+        ensures answer { (part : Part Coverage) → slice_get self.old.parts place ≡ Some part → result ≡ (put_at self.old.parts place (event_of event.now) part).answer }
+        ensures state { (part : Part Coverage) → slice_get self.old.parts place ≡ Some part → self.new ≡ (put_at self.old.parts place (event_of event.now) part).state }
     {
         let part = &mut self.parts[place];
         part.kept.put(fragment);

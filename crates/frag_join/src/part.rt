@@ -6,7 +6,7 @@ ghost use Rattle.frag_join.specs.Joining as joining;
 use gate_base::{Addr, Moment, Side};
 
 /// Nanoseconds from a datagram's first fragment to the moment at which its parts are dropped.
-const HOLD: u64 = 30_000_000_000;
+const TIMEOUT: u64 = 30_000_000_000;
 
 /// What the fragments of one datagram have in common: the realm from which they come, and the fields of their headers
 /// by which they belong together (RFC 791, 3.2).
@@ -46,6 +46,6 @@ impl<K> Part<K> {
     pub fn is_live(&self, now: Moment) -> bool
         ensures { result ≡ joining.is_live now.0 self.now }
     {
-        now.0.saturating_sub(self.since.0) < HOLD
+        now.0.saturating_sub(self.since.0) < TIMEOUT
     }
 }

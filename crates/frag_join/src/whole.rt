@@ -1,7 +1,7 @@
 // Datagrams that are joined.
 ghost use Rattle.std.specs.Prelude.{◌≡◌, true};
 ghost use Rattle.gate_base.specs.Events.{event_of};
-ghost use Rattle.frag_join.specs.Known as known;
+ghost use Rattle.frag_join.specs.Coverage as known;
 ghost use Rattle.frag_join.specs.Joining.{event_from};
 
 use crate::buffer::Buffer;
@@ -23,7 +23,7 @@ impl Model for Whole {
     ghost Value = { Event };
 
     ghost use Rattle.frag_join.specs.Joining.{event_from};
-    ghost use Rattle.frag_join.specs.Known.{spelled, is_complete};
+    ghost use Rattle.frag_join.specs.Coverage.{spelled, is_complete};
 
     ghost view = { λ w. event_from w.side w.moment.0 (spelled w.buffer) };
 

@@ -5,24 +5,24 @@ use Rattle.gate_base.specs.declared.refusal.Refusal.{Refusal}
 use Rattle.gate_base.specs.declared.side.Side.{Side}
 use Rattle.gate_base.specs.Tests.{first_that_holds}
 use Rattle.ipv4_frames.specs.Ipv4.{Datagram}
-use Rattle.gate_world.specs.Frame.{Kind, Udp, Echo, Error, Dns, Snmp, Stream, datagram_in, kind_of}
-use Rattle.gate_world.specs.Reading.{world_as}
-use Rattle.gate_world.specs.Rules.{whole_rules}
-use Rattle.gate_world.specs.Step.{next, next_by}
-use Rattle.gate_world.specs.Verdict.{tests, verdict, verdict_of}
-use Rattle.gate_world.specs.World.{World, at_moment}
-use Rattle.gate_world.proofs.ReadWorlds.{verdict_as}
-use Rattle.gate_world.proofs.ReadSteps.{next_as}
+use Rattle.gate_model.specs.Frame.{Kind, Udp, Echo, Error, Dns, Snmp, Stream, datagram_in, kind_of}
+use Rattle.gate_model.specs.Reading.{world_as}
+use Rattle.gate_model.specs.Rules.{whole_rules}
+use Rattle.gate_model.specs.Step.{next, next_by}
+use Rattle.gate_model.specs.Verdict.{tests, verdict, verdict_of}
+use Rattle.gate_model.specs.World.{World, at_moment}
+use Rattle.gate_model.proofs.ReadWorlds.{verdict_as}
+use Rattle.gate_model.proofs.ReadSteps.{next_as}
 use Rattle.lawful_files.specs.Wanted.{wanted, wanted_kind, wanted_by, wanted_in}
 use Rattle.lawful_files.proofs.ReadWanted.{wanted_as}
-use Rattle.heard_sessions.specs.Heard.{HeardSession, heard_rules, heard_sent, session_in}
-use Rattle.heard_sessions.proofs.HeardLaws.{reads_whole}
-use Rattle.gate_steps.specs.Passed.{told_by, told_kind}
-use Rattle.gate_steps.proofs.Stepping.{left_next}
+use Rattle.audit_sessions.specs.Heard.{HeardSession, heard_rules, heard_sent, session_in}
+use Rattle.audit_sessions.proofs.HeardLaws.{reads_whole}
+use Rattle.event_steps.specs.Passed.{told_by, told_kind}
+use Rattle.event_steps.proofs.Stepping.{left_next}
 use Rattle.audit_records.specs.Cutting.{Cutting}
-use Rattle.heard_sessions.specs.Gives.{audit_tells, heard_gives}
-use Rattle.gate_known.specs.Given.{refusal_of, given_by, IsGiven}
-use Rattle.gate_known.specs.declared.taken.Taken.{Taken}
+use Rattle.audit_sessions.specs.Gives.{audit_tells, heard_gives}
+use Rattle.event_engine.specs.Given.{refusal_of, given_by, IsGiven}
+use Rattle.event_engine.specs.declared.taken.Taken.{Taken}
 
 kind_wanted : (live : World HeardSession) (side : Side) (d : Datagram) (kind : Kind) → told_kind heard_rules audit_tells live side d kind ≡ wanted_kind heard_rules heard_sent live side live.clock d kind
 kind_wanted live side d Udp = refl

@@ -5,15 +5,15 @@ use Rattle.tcp_segments.specs.Tcp.{Tcp}
 use Rattle.tcp_segments.specs.Flags.{flags_of}
 use Rattle.stream_model.specs.Session.{segment_in}
 use Rattle.audit_streams.proofs.HostLists.{opens_alone}
-use Rattle.gate_world.specs.Stream.{is_opening}
-use Rattle.heard_sessions.specs.Heard.{HeardSession, heard_rules, session_in}
-use Rattle.heard_sessions.proofs.FreshSessions.{fresh_verdict}
-use Rattle.heard_sessions.proofs.HeardLaws.{heard_lists}
-use Rattle.gate_steps.proofs.NoUnits.{syn_held}
-use Rattle.gate_known.specs.Engines.{HasLaws}
+use Rattle.gate_model.specs.Stream.{is_opening}
+use Rattle.audit_sessions.specs.Heard.{HeardSession, heard_rules, session_in}
+use Rattle.audit_sessions.proofs.FreshSessions.{fresh_verdict}
+use Rattle.audit_sessions.proofs.HeardLaws.{heard_lists}
+use Rattle.event_steps.proofs.NoUnits.{syn_held}
+use Rattle.event_engine.specs.Engines.{HasLaws}
 
 -- a SYN that passes has no RST
-opens_plain : (pair : Pair) (tcp : Tcp) → is_opening tcp.flags ≡ true → heard_rules.verdict true (heard_rules.made tcp.destination_port pair tcp.sequence tcp.mss) (segment_in tcp) ≡ None → (flags_of tcp.flags).reset ≡ false
+opens_plain : (pair : Pair) (tcp : Tcp) → is_opening tcp.flags ≡ true → heard_rules.refusal true (heard_rules.made tcp.destination_port pair tcp.sequence tcp.mss) (segment_in tcp) ≡ None → (flags_of tcp.flags).reset ≡ false
 opens_plain pair tcp opens none =
     let s = (session_in (heard_rules.made tcp.destination_port pair tcp.sequence tcp.mss)).session in
     opens_alone true s.client s.server (segment_in tcp) none (syn_held (flags_of tcp.flags).syn (flags_of tcp.flags).ack opens)

@@ -5,16 +5,16 @@ use Rattle.gate_base.specs.Events.{Event}
 use Rattle.gate_base.specs.Tests.{first_that_holds}
 use Rattle.gate_base.specs.declared.side.Side.{Side}
 use Rattle.ipv4_frames.specs.Ipv4.{Datagram}
-use Rattle.gate_world.specs.Frame.{Dns, Stream, datagram_in, is_tracked_port, kind_of}
-use Rattle.gate_world.specs.Reading.{connection_as, tracked_as, world_as}
-use Rattle.gate_world.specs.Sessions.{WholeSession}
-use Rattle.gate_world.specs.Stream.{begins, found_in, is_opening, session_in, tcp_of}
-use Rattle.gate_world.specs.World.{Tracked, World, at_moment}
-use Rattle.gate_world.proofs.ReadWorlds.{found_as, moment_as, session_as}
-use Rattle.heard_sessions.specs.Gives.{heard_gives}
-use Rattle.heard_sessions.specs.Heard.{HeardSession, heard_rules, session_in as whole_of}
-use Rattle.gate_known.specs.Lost as known
-use Rattle.gate_known.specs.Lost.{IsLost, early_tests}
+use Rattle.gate_model.specs.Frame.{Dns, Stream, datagram_in, is_tracked_port, kind_of}
+use Rattle.gate_model.specs.Reading.{connection_as, tracked_as, world_as}
+use Rattle.gate_model.specs.Sessions.{WholeSession}
+use Rattle.gate_model.specs.Stream.{begins, found_in, is_opening, session_in, tcp_of}
+use Rattle.gate_model.specs.World.{Tracked, World, at_moment}
+use Rattle.gate_model.proofs.ReadWorlds.{found_as, moment_as, session_as}
+use Rattle.audit_sessions.specs.Gives.{heard_gives}
+use Rattle.audit_sessions.specs.Heard.{HeardSession, heard_rules, session_in as whole_of}
+use Rattle.event_engine.specs.Lost as state
+use Rattle.event_engine.specs.Lost.{IsLost, early_tests}
 use Rattle.gate_audit.specs.Memory.{IsOfSession, MayWant}
 
 none_as : {A B : Type 0} (f : A → B) (o : Option A) → is_none (option_map f o) ≡ is_none o
@@ -33,12 +33,12 @@ has_session live side d t found =
     ap (λ f. session_in f) (found_as whole_of live side d) ∙ session_as whole_of (found_in live side d) ∙ ap (option_map (tracked_as whole_of)) found in
     ap (λ (o : Option (Tracked WholeSession)). is_some o) there
 
-of_session : (live : World HeardSession) (side : Side) (d : Datagram) → known.SegmentMayWant heard_rules heard_gives live side d → IsOfSession (world_as whole_of live) side d
+of_session : (live : World HeardSession) (side : Side) (d : Datagram) → state.SegmentMayWant heard_rules heard_gives live side d → IsOfSession (world_as whole_of live) side d
 of_session live side d (inl (none, inl begun)) = inl (begun_as live side d ∙ begun)
 of_session live side d (inl (none, inr m)) = inr (has_session live side d m.tracked m.found)
 of_session live side d (inr units) = inr (has_session live side d units.tracked units.found)
 
-needs_by : (live : World HeardSession) (side : Side) (d : Datagram) → (kind_of d ≡ Dns) ⊎ ((kind_of d ≡ Stream) × known.SegmentMayWant heard_rules heard_gives live side d) → (kind_of d ≡ Dns) ⊎ ((kind_of d ≡ Stream) × IsOfSession (world_as whole_of live) side d)
+needs_by : (live : World HeardSession) (side : Side) (d : Datagram) → (kind_of d ≡ Dns) ⊎ ((kind_of d ≡ Stream) × state.SegmentMayWant heard_rules heard_gives live side d) → (kind_of d ≡ Dns) ⊎ ((kind_of d ≡ Stream) × IsOfSession (world_as whole_of live) side d)
 needs_by live side d (inl dns) = inl dns
 needs_by live side d (inr (stream, wants)) = inr (stream, of_session live side d wants)
 

@@ -3,14 +3,14 @@ use Rattle.std.specs.Prelude.{◌≡◌, Bool, false, []}
 use Rattle.gate_base.specs.Events.{Event}
 use Rattle.gate_base.specs.declared.side.Side.TheVariants.{Left}
 use Rattle.gate_settings.specs.declared.settings.Settings.{Settings}
-use Rattle.gate_world.specs.Reading.{world_as}
-use Rattle.gate_world.specs.Rules.{whole_rules}
-use Rattle.gate_world.specs.Sessions.{WholeSession}
-use Rattle.gate_world.specs.Step.{next}
-use Rattle.gate_world.specs.World.{World, opening_world}
+use Rattle.gate_model.specs.Reading.{world_as}
+use Rattle.gate_model.specs.Rules.{whole_rules}
+use Rattle.gate_model.specs.Sessions.{WholeSession}
+use Rattle.gate_model.specs.Step.{next}
+use Rattle.gate_model.specs.World.{World, opening_world}
 use Rattle.lawful_files.specs.Progress.{IsSound, begun}
 use Rattle.lawful_files.specs.Wanted.{Exactly, wanted}
-use Rattle.heard_sessions.specs.Heard.{HeardSession, session_in}
+use Rattle.audit_sessions.specs.Heard.{HeardSession, session_in}
 use Rattle.audit_records.specs.Kept.{Expecting}
 
 -- the settings, what is known, what is wanted of the last frame and how far its records have come, and whether memory ran out

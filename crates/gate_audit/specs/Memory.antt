@@ -4,11 +4,11 @@ use Rattle.gate_base.specs.Events.{Event}
 use Rattle.gate_base.specs.Tests.{first_that_holds}
 use Rattle.gate_base.specs.declared.side.Side.{Side}
 use Rattle.ipv4_frames.specs.Ipv4.{Datagram}
-use Rattle.gate_world.specs.Frame.{Dns, Stream, datagram_in, kind_of}
-use Rattle.gate_world.specs.Sessions.{WholeSession}
-use Rattle.gate_world.specs.Stream.{begins, found_in, session_in}
-use Rattle.gate_world.specs.World.{World}
-use Rattle.gate_known.specs.Lost.{early_tests}
+use Rattle.gate_model.specs.Frame.{Dns, Stream, datagram_in, kind_of}
+use Rattle.gate_model.specs.Sessions.{WholeSession}
+use Rattle.gate_model.specs.Stream.{begins, found_in, session_in}
+use Rattle.gate_model.specs.World.{World}
+use Rattle.event_engine.specs.Lost.{early_tests}
 
 -- a segment begins a session, or is of a connection that has one
 abbrev pub IsOfSession : World WholeSession → Side → Datagram → Type 0

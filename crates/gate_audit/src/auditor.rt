@@ -4,24 +4,24 @@ ghost use Rattle.gate_base.specs.Events.{event_of};
 ghost use Rattle.gate_base.specs.Side.{other};
 ghost use Rattle.gate_settings.specs.Sound.{IsSound};
 ghost use Rattle.gate_settings.specs.Forms.{HasForms};
-ghost use Rattle.gate_world.specs.Rules.{whole_rules};
-ghost use Rattle.gate_world.specs.Verdict.{verdict, verdict_of};
+ghost use Rattle.gate_model.specs.Rules.{whole_rules};
+ghost use Rattle.gate_model.specs.Verdict.{verdict, verdict_of};
 ghost use Rattle.lawful_files.specs.Progress.{begun, behind, is_closed};
 ghost use Rattle.lawful_files.specs.Wanted.{Exactly};
 ghost use Rattle.gate_audit.specs.Auditing.{IsOpening, Expects, whole_world};
 ghost use Rattle.gate_audit.specs.Given.{IsWhole};
 ghost use Rattle.gate_audit.specs.Memory.{MayWant};
-ghost use Rattle.gate_world.specs.World.{at_moment};
-ghost use Rattle.gate_known.specs.Given.{given_by, refusal_of};
-ghost use Rattle.heard_sessions.specs.Gives.{heard_gives};
+ghost use Rattle.gate_model.specs.World.{at_moment};
+ghost use Rattle.event_engine.specs.Given.{given_by, refusal_of};
+ghost use Rattle.audit_sessions.specs.Gives.{heard_gives};
 
 use audit_records::{Expected, Pieces};
 use expiring_table::Seed;
 use gate_base::{Event, Moment, OutOfMemory, Side, Verdict};
-use gate_known::{Known, Taken};
+use event_engine::{State, Taken};
 use gate_outbox::Outbox;
 use gate_settings::Settings;
-use heard_sessions::AuditedSession;
+use audit_sessions::AuditedSession;
 use pcap_files::Packet;
 use std::alloc::Global;
 use std::marker::Model;
@@ -29,7 +29,7 @@ use std::marker::Model;
 /// The settings, what is known, and what is wanted of the last frame.
 pub struct Auditor {
     settings: Settings,
-    known: Known<AuditedSession>,
+    state: State<AuditedSession>,
     outbox: Outbox,
     expected: Expected,
     // memory ran out in the middle of an event: nothing is said of what is known any more
@@ -41,7 +41,7 @@ impl Drop for Auditor {
     fn drop(self) {
         let Self {
             settings,
-            known,
+            state,
             outbox,
             expected,
             lost,
@@ -51,30 +51,30 @@ impl Drop for Auditor {
 
 impl Model for Auditor {
     ghost use Rattle.std.specs.Prelude.{◌≡◌, false};
-    ghost use Rattle.gate_world.specs.Held.{KeepsListed};
-    ghost use Rattle.heard_sessions.specs.Heard.{heard_rules};
+    ghost use Rattle.gate_model.specs.Held.{KeepsListed};
+    ghost use Rattle.audit_sessions.specs.Heard.{heard_rules};
     ghost use Rattle.gate_audit.specs.Auditing.{Auditing};
-    ghost use Rattle.gate_known.specs.Knowing.{world_in};
+    ghost use Rattle.event_engine.specs.Knowing.{world_in};
 
     ghost Value = { Auditing };
 
-    ghost view = { λ a. record { settings = a.settings; world = world_in a.known; expecting = a.expected; lost = a.lost } };
+    ghost view = { λ a. record { settings = a.settings; world = world_in a.state; expecting = a.expected; lost = a.lost } };
 
-    ghost invariant = { λ a. a.lost ≡ false → KeepsListed heard_rules (world_in a.known) };
+    ghost invariant = { λ a. a.lost ≡ false → KeepsListed heard_rules (world_in a.state) };
 }
 
 impl Auditor {
     /// An auditor to which nothing has come. The seed spreads the keys of the tables, and changes no answer. The error is that there
     /// is too little memory.
-    pub fn make(alloc: Global, settings: Settings, seed: u64) -> Result<Auditor, OutOfMemory>
+    pub fn new(alloc: Global, settings: Settings, seed: u64) -> Result<Auditor, OutOfMemory>
         requires sound { IsSound settings }
         requires forms { HasForms settings }
         ensures { IfOk result (IsOpening settings) }
     {
         Ok(Auditor {
-            known: Known::make(alloc, &settings, Seed::from_number(seed))?,
-            outbox: Outbox::make(alloc)?,
-            expected: Expected::make(alloc)?,
+            state: State::new(alloc, &settings, Seed::from_number(seed))?,
+            outbox: Outbox::new(alloc)?,
+            expected: Expected::new(alloc)?,
             lost: false,
             settings,
         })
@@ -98,9 +98,9 @@ impl Auditor {
     {
         are_octets(event.octets);
         self.lost = true;
-        self.known.expire(event.moment);
+        self.state.expire(event.moment);
         self.outbox.clear();
-        let taken = self.known.take_frame(event, &mut self.outbox)?;
+        let taken = self.state.take_frame(event, &mut self.outbox)?;
         let verdict = want(
             &mut self.expected,
             event.side,
@@ -144,7 +144,7 @@ impl Auditor {
         requires kept { self.now.lost ≡ false }
         ensures { result ≡ (whole_world self.now).pending }
     {
-        self.known.pending
+        self.state.pending
     }
 }
 

@@ -2,12 +2,12 @@
 use Rattle.std.proofs.Common.{Ok, Err, sym, subst}
 use Rattle.gate_desk.specs.Outside.{Outside}
 use Rattle.gate_report.specs.declared.line.Line.{Line}
-use Rattle.gate_phases.specs.declared.status.Status.{Status}
-use Rattle.gate_phases.specs.declared.status.Status.TheVariants.{Done}
-use Rattle.gate_phases.specs.RunNames.{Names}
+use Rattle.run_setup.specs.declared.status.Status.{Status}
+use Rattle.run_setup.specs.declared.status.Status.TheVariants.{Done}
+use Rattle.run_setup.specs.RunNames.{Names}
 use Rattle.gateway.specs.Answers.{IsRun, Runs, TookForWritten}
 use Rattle.gate_command.specs.Answers.{IsDoneRun, IsToldRun, AnswersRun}
-use Rattle.gate_phases.specs.Telling.{Tells}
+use Rattle.run_setup.specs.Telling.{Tells}
 use Rattle.gateway.proofs.Promises.{promise_kept}
 use Rattle.gateway.proofs.Runs.{run_of}
 

@@ -2,10 +2,10 @@
 use Rattle.std.proofs.Common.{◌≡◌, ℕ, sym, subst}
 use Rattle.gate_desk.specs.Outside.{Outside}
 use Rattle.lawful_files.specs.declared.reason.AuditReason.{AuditReason}
-use Rattle.gate_phases.specs.declared.status.Status.{Status}
-use Rattle.gate_phases.specs.declared.status.Status.TheVariants.{Done, Unlawful}
-use Rattle.gate_phases.specs.Telling.{Tells}
-use Rattle.gate_phases.specs.AuditNames.{Names}
+use Rattle.run_setup.specs.declared.status.Status.{Status}
+use Rattle.run_setup.specs.declared.status.Status.TheVariants.{Done, Unlawful}
+use Rattle.run_setup.specs.Telling.{Tells}
+use Rattle.run_setup.specs.AuditNames.{Names}
 use Rattle.gateway_audit.specs.Audits.{IsAudit, TookForEvents}
 use Rattle.gate_command.specs.Answers.{IsToldAudit, AnswersAudit}
 

@@ -1,9 +1,9 @@
 -- A make, and the line of its status.
 use Rattle.std.proofs.Common.{◌≡◌, ℕ, List, sym, subst}
 use Rattle.gate_desk.specs.Outside.{Outside}
-use Rattle.gate_phases.specs.declared.status.Status.{Status}
-use Rattle.gate_phases.specs.declared.status.Status.TheVariants.{Done}
-use Rattle.gate_phases.specs.Telling.{Tells}
+use Rattle.run_setup.specs.declared.status.Status.{Status}
+use Rattle.run_setup.specs.declared.status.Status.TheVariants.{Done}
+use Rattle.run_setup.specs.Telling.{Tells}
 use Rattle.gateway.specs.Making.{IsMake}
 use Rattle.gate_command.specs.Answers.{IsToldMake, AnswersMake}
 

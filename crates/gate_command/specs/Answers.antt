@@ -1,16 +1,16 @@
 -- What the whole call answers.
 use Rattle.std.specs.Prelude.{◌≡◌, ℕ, List}
 use Rattle.gate_desk.specs.Outside.{Outside}
-use Rattle.gate_phases.specs.declared.status.Status.{Status}
-use Rattle.gate_phases.specs.declared.status.Status.TheVariants.{Done, Usage, Unlawful}
-use Rattle.gate_phases.specs.Telling.{TellsLine}
-use Rattle.gate_phases.specs.RunNames.{Names}
+use Rattle.run_setup.specs.declared.status.Status.{Status}
+use Rattle.run_setup.specs.declared.status.Status.TheVariants.{Done, Usage, Unlawful}
+use Rattle.run_setup.specs.Telling.{TellsLine}
+use Rattle.run_setup.specs.RunNames.{Names}
 use Rattle.gateway.specs.Answers.{IsRun, IsPromised, TookForWritten}
 use Rattle.gateway.specs.Making.{IsMake}
-use Rattle.gate_phases.specs.AuditNames.{Names as AuditNames}
+use Rattle.run_setup.specs.AuditNames.{Names as AuditNames}
 use Rattle.gateway_audit.specs.Audits.{IsAudit, TookForEvents}
-use Rattle.gate_phases.specs.Command.{Command, Run, Make, Audit}
-use Rattle.gate_phases.specs.Command as commands
+use Rattle.run_setup.specs.Command.{Command, Run, Make, Audit}
+use Rattle.run_setup.specs.Command as commands
 
 -- a run that is done
 pub record IsDoneRun (names : Names) (old new : Outside) : Type 0 where

@@ -4,12 +4,12 @@ use Rattle.gate_desk.specs.declared.slot.Slot.{Slot}
 use Rattle.gate_desk.specs.Slots.{at}
 use Rattle.gate_desk.specs.Outside.{Outside, HasFailed}
 use Rattle.gate_desk.specs.Untold.{Files, told_by, HandsOutAll, all_dropped}
-use Rattle.gate_phases.specs.declared.status.Status.{Status}
-use Rattle.gate_phases.specs.declared.status.Status.TheVariants.{WriteFault}
-use Rattle.gate_phases.specs.Command.{Command}
-use Rattle.gate_phases.specs.Status.{code_of}
+use Rattle.run_setup.specs.declared.status.Status.{Status}
+use Rattle.run_setup.specs.declared.status.Status.TheVariants.{WriteFault}
+use Rattle.run_setup.specs.Command.{Command}
+use Rattle.run_setup.specs.Status.{code_of}
 use Rattle.gate_command.specs.Answers.{Answers}
-use Rattle.gate_phases.specs.Telling.{TellsLine}
+use Rattle.run_setup.specs.Telling.{TellsLine}
 
 -- a command was carried out, and this is the code of its status
 pub record IsExit (code : ℕ) (command : Command) (old new : Outside) : Type 0 where

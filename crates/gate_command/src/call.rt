@@ -1,13 +1,13 @@
 // The whole call.
 ghost use Rattle.std.specs.Prelude.{◌≤◌, map};
 ghost use Rattle.std.specs.String.{string_bytes};
-ghost use Rattle.gate_phases.specs.RunNames.{names_of};
-ghost use Rattle.gate_phases.specs.Command.{command_of};
+ghost use Rattle.run_setup.specs.RunNames.{names_of};
+ghost use Rattle.run_setup.specs.Command.{command_of};
 ghost use Rattle.gate_command.specs.Answers.{Answers, AnswersRun, AnswersMake, AnswersAudit};
-ghost use Rattle.gate_phases.specs.AuditNames.{names_of as audit_names_of};
+ghost use Rattle.run_setup.specs.AuditNames.{names_of as audit_names_of};
 
 use gate_desk::Desk;
-use gate_phases::{AuditNames, Command, FileNames, Status, read_words, tell, tell_usage};
+use run_setup::{AuditNames, Command, FileNames, Status, read_words, write_error_line, tell_usage};
 use gateway::{make, run};
 use gateway_audit::audit;
 use std::alloc::Global;
@@ -18,7 +18,7 @@ fn told_run<D: Desk>(alloc: Global, desk: &mut D, names: FileNames<'_>) -> Statu
 {
     match run(alloc, desk, names) {
         Ok(_) => Status::Done,
-        Err(status) => tell(desk, status),
+        Err(status) => write_error_line(desk, status),
     }
 }
 
@@ -29,7 +29,7 @@ fn told_make<D: Desk>(alloc: Global, desk: &mut D, number: u32, count: u32, repo
 {
     match make(alloc, desk, number, count, report) {
         Status::Done => Status::Done,
-        status => tell(desk, status),
+        status => write_error_line(desk, status),
     }
 }
 
@@ -40,7 +40,7 @@ fn told_audit<D: Desk>(alloc: Global, desk: &mut D, names: AuditNames<'_>) -> St
     match audit(alloc, desk, names) {
         Status::Done => Status::Done,
         Status::Unlawful(number, reason) => Status::Unlawful(number, reason),
-        status => tell(desk, status),
+        status => write_error_line(desk, status),
     }
 }
 

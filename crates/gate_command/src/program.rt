@@ -1,15 +1,15 @@
 // The program over real files.
 ghost use Rattle.std.specs.String.{string_bytes};
-ghost use Rattle.gate_phases.specs.Command.{command_of};
-ghost use Rattle.gate_phases.specs.Telling.{TellsLine};
+ghost use Rattle.run_setup.specs.Command.{command_of};
+ghost use Rattle.run_setup.specs.Telling.{TellsLine};
 ghost use Rattle.std.specs.Prelude.{◌≡◌, map};
-ghost use Rattle.gate_phases.specs.Status.{error_line};
-ghost use Rattle.gate_phases.specs.declared.status.Status.TheVariants.{WriteFault};
+ghost use Rattle.run_setup.specs.Status.{error_line};
+ghost use Rattle.run_setup.specs.declared.status.Status.TheVariants.{WriteFault};
 ghost use Rattle.gate_command.specs.Exit.{IsExit, IsCode, Finishes, IsFinished};
 
 use crate::call::realm_gate;
 use gate_desk::{Desk, FileDesk, Slot, write_whole};
-use gate_phases::Status;
+use run_setup::Status;
 use std::alloc::{AllocError, Global};
 use std::env;
 use std::io::ErrorKind;
@@ -38,7 +38,7 @@ fn exit_status<D: Desk>(alloc: Global, words: &[String], desk: &mut D) -> u8
 }
 
 // The line of a failed write of a slot.
-#[tactic(auto, unfolding(gate_phases::specs::Status::error_line, gate_desk::specs::Slots::name_of))]
+#[tactic(auto, unfolding(run_setup::specs::Status::error_line, gate_desk::specs::Slots::name_of))]
 fn refused_line(slot: Slot) -> &'static str
     ensures { result.now ≡ error_line (WriteFault slot) }
 {
@@ -104,6 +104,6 @@ pub fn run(rt: HostRuntime) -> u8
     };
     let alloc = rt.alloc();
     let seed = drawn_seed(&rt);
-    let mut desk = FileDesk::make(rt, seed);
+    let mut desk = FileDesk::new(rt, seed);
     carry_out(alloc, &words, &mut desk)
 }

@@ -3,17 +3,17 @@ use Rattle.std.proofs.Common.{◌≡◌, ◌&&◌, ◌||◌, Bool, true, false, 
 use Rattle.std.specs.Prelude.{◌==◌, is_none}
 use Rattle.tcp_segments.specs.Tcp.{Tcp}
 use Rattle.tcp_segments.specs.Flags.{flags_of}
-use Rattle.stream_kept.specs.Kept.{unlike_kept}
-use Rattle.stream_kept.specs.Sessions.{kept_made, kept_verdict, sender_kept}
-use Rattle.stream_kept.specs.Outs.{start_kept}
+use Rattle.compact_stream.specs.Kept.{unlike_kept}
+use Rattle.compact_stream.specs.Sessions.{kept_made, kept_verdict, sender_kept}
+use Rattle.compact_stream.specs.Outs.{start_kept}
 use Rattle.stream_gate.specs.Directions.{nothing_pushed}
 use Rattle.stream_gate.proofs.GateLemmas.{syn_alone}
 use Rattle.stream_model.specs.Session.{segment_in}
-use Rattle.gate_world.specs.Stream.{is_opening}
-use Rattle.kept_world.specs.Kept.{KeptSession, kept_rules}
-use Rattle.kept_world.proofs.Listing.{kept_have_lists}
-use Rattle.gate_steps.proofs.NoUnits.{syn_held}
-use Rattle.gate_known.specs.Engines.{HasLaws}
+use Rattle.gate_model.specs.Stream.{is_opening}
+use Rattle.compact_worlds.specs.Kept.{CompactSession, compact_rules}
+use Rattle.compact_worlds.proofs.Listing.{kept_have_lists}
+use Rattle.event_steps.proofs.NoUnits.{syn_held}
+use Rattle.event_engine.specs.Engines.{HasLaws}
 
 -- a SYN that passes has no RST
 opens_plain : (tcp : Tcp) → is_opening tcp.flags ≡ true → kept_verdict true (kept_made tcp.sequence tcp.mss nothing_pushed nothing_pushed) (segment_in tcp) ≡ None → (flags_of tcp.flags).reset ≡ false
@@ -21,8 +21,8 @@ opens_plain tcp opens none =
     let h = kept_made tcp.sequence tcp.mss nothing_pushed nothing_pushed in
     syn_alone true h.client h.server (segment_in tcp) (unlike_kept h.client (segment_in tcp)) none (syn_held (flags_of tcp.flags).syn (flags_of tcp.flags).ack opens)
 
-goes_on : (f : Bool) (k : KeptSession) (tcp : Tcp) → (flags_of tcp.flags).reset ≡ false → kept_rules.ends f k (segment_in tcp) ≡ false
+goes_on : (f : Bool) (k : CompactSession) (tcp : Tcp) → (flags_of tcp.flags).reset ≡ false → compact_rules.ends f k (segment_in tcp) ≡ false
 goes_on f k tcp plain = ap (λ (x : Bool). x && (is_none (sender_kept f k.kept).initial || (start_kept (sender_kept f k.kept) (segment_in tcp)).before == 0)) plain
 
-pub kept_laws : HasLaws kept_rules
+pub kept_laws : HasLaws compact_rules
 kept_laws = record { lists = kept_have_lists; pairs = λ port p q initial mss g. refl; opens = λ pair tcp. opens_plain tcp; goes_on = goes_on }

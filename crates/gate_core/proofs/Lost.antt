@@ -4,27 +4,27 @@ use Rattle.gate_base.specs.Tests.{unless_refused}
 use Rattle.gate_base.specs.declared.refusal.Refusal.{Refusal}
 use Rattle.gate_base.specs.declared.side.Side.{Side}
 use Rattle.ipv4_frames.specs.Ipv4.{Datagram}
-use Rattle.gate_world.specs.Stream.{segment_of, found_in, session_in, session_refusal}
-use Rattle.gate_world.specs.Units.{units_in}
-use Rattle.gate_world.specs.World.{Tracked, World, is_client}
-use Rattle.kept_world.specs.Kept.{KeptSession, kept_rules}
-use Rattle.gate_steps.specs.Segments.{stream_refusal}
-use Rattle.gate_known.specs.Lost as known
+use Rattle.gate_model.specs.Stream.{segment_of, found_in, session_in, session_refusal}
+use Rattle.gate_model.specs.Units.{units_in}
+use Rattle.gate_model.specs.World.{Tracked, World, is_client}
+use Rattle.compact_worlds.specs.Kept.{CompactSession, compact_rules}
+use Rattle.event_steps.specs.Segments.{stream_refusal}
+use Rattle.event_engine.specs.Lost as state
 use Rattle.gate_core.specs.Memory.{SegmentMayWant}
 use Rattle.gate_sessions.specs.Gives.{kept_gives}
 use Rattle.gate_sessions.specs.Sessions.{MayWantBy}
-use Rattle.gate_world.specs.Lists.{Lists}
+use Rattle.gate_model.specs.Lists.{Lists}
 
 -- by its session
-lost_by : (live : World KeptSession) (side : Side) (d : Datagram) (t : Tracked KeptSession) → session_in (found_in live side d) ≡ Some t → session_refusal kept_rules side d (Some t) ≡ None → None ≡ stream_refusal kept_rules live side d → (lists : Option Lists) → t.session.lists ≡ lists → MayWantBy lists (is_client side t) t.session (segment_of d) → SegmentMayWant live side d
+lost_by : (live : World CompactSession) (side : Side) (d : Datagram) (t : Tracked CompactSession) → session_in (found_in live side d) ≡ Some t → session_refusal compact_rules side d (Some t) ≡ None → None ≡ stream_refusal compact_rules live side d → (lists : Option Lists) → t.session.lists ≡ lists → MayWantBy lists (is_client side t) t.session (segment_of d) → SegmentMayWant live side d
 lost_by live side d t e verdict p None l h = inl (sym p, inr (record { tracked = t; found = e; completes = h }))
 lost_by live side d t e verdict p (Some lists) l h =
-    let units = kept_rules.units (is_client side t) t.session (segment_of d) in
-    let same : units_in kept_rules side d (Some t) ≡ units = ap (λ (v : Option Refusal). unless_refused v units []) verdict in
+    let units = compact_rules.units (is_client side t) t.session (segment_of d) in
+    let same : units_in compact_rules side d (Some t) ≡ units = ap (λ (v : Option Refusal). unless_refused v units []) verdict in
     inr (record { tracked = t; found = e; completes = subst (λ (us : List (List ℕ)). 1 ≤ length us) (sym same) h })
 
 -- a segment of which the engine says so
-pub segment_wants : (live : World KeptSession) (side : Side) (d : Datagram) → known.SegmentMayWant kept_rules (kept_gives {P = Unit {0}}) live side d → SegmentMayWant live side d
+pub segment_wants : (live : World CompactSession) (side : Side) (d : Datagram) → state.SegmentMayWant compact_rules (kept_gives {P = Unit {0}}) live side d → SegmentMayWant live side d
 segment_wants live side d (inl (none, inl begins)) = inl (none, inl begins)
-segment_wants live side d (inl (none, inr m)) = lost_by live side d m.tracked m.found m.verdict (sym none) m.tracked.session.lists refl m.wants
+segment_wants live side d (inl (none, inr m)) = lost_by live side d m.tracked m.found m.refusal (sym none) m.tracked.session.lists refl m.wants
 segment_wants live side d (inr units) = inr units

@@ -5,25 +5,25 @@ use Rattle.gate_base.specs.declared.refusal.Refusal.{Refusal}
 use Rattle.gate_base.specs.declared.side.Side.{Side}
 use Rattle.ipv4_frames.specs.Ipv4.{Datagram}
 use Rattle.gate_base.specs.Tests.{first_that_holds}
-use Rattle.gate_world.specs.Frame.{datagram_in, kind_of}
-use Rattle.gate_world.specs.Step.{out_kind, next, next_by, out, out_by}
-use Rattle.gate_world.specs.Verdict.{tests, verdict, verdict_of}
-use Rattle.gate_world.specs.World.{World, at_moment}
-use Rattle.kept_world.specs.Kept.{KeptSession, kept_rules}
+use Rattle.gate_model.specs.Frame.{datagram_in, kind_of}
+use Rattle.gate_model.specs.Step.{out_kind, next, next_by, out, out_by}
+use Rattle.gate_model.specs.Verdict.{tests, verdict, verdict_of}
+use Rattle.gate_model.specs.World.{World, at_moment}
+use Rattle.compact_worlds.specs.Kept.{CompactSession, compact_rules}
 use Rattle.gate_core.specs.Memory.{MayWant, MayWantAs}
 use Rattle.gate_core.proofs.Lost.{segment_wants}
-use Rattle.gate_known.specs.Given.{given_by}
-use Rattle.gate_known.specs.Lost as known
-use Rattle.gate_known.specs.Lost.{early_tests, IsLost}
-use Rattle.gate_known.specs.declared.taken.Taken.{Taken}
-use Rattle.gate_known.specs.declared.taken.Taken.TheVariants as takes
+use Rattle.event_engine.specs.Given.{given_by}
+use Rattle.event_engine.specs.Lost as state
+use Rattle.event_engine.specs.Lost.{early_tests, IsLost}
+use Rattle.event_engine.specs.declared.taken.Taken.{Taken}
+use Rattle.event_engine.specs.declared.taken.Taken.TheVariants as takes
 use Rattle.gate_sessions.specs.Gives.{gate_tells, kept_gives}
-use Rattle.gate_steps.specs.Passed.{IsPassed}
-use Rattle.gate_steps.proofs.Stepping.{left_next}
-use Rattle.gate_world.specs.Frame.{Kind, Udp, Echo, Error, Dns, Snmp, Stream}
-use Rattle.gate_steps.specs.Passed.{told_by, told_kind}
+use Rattle.event_steps.specs.Passed.{IsPassed}
+use Rattle.event_steps.proofs.Stepping.{left_next}
+use Rattle.gate_model.specs.Frame.{Kind, Udp, Echo, Error, Dns, Snmp, Stream}
+use Rattle.event_steps.specs.Passed.{told_by, told_kind}
 
-kind_out : (live : World KeptSession) (side : Side) (d : Datagram) (kind : Kind) → told_kind kept_rules gate_tells live side d kind ≡ out_kind kept_rules live side live.clock d kind
+kind_out : (live : World CompactSession) (side : Side) (d : Datagram) (kind : Kind) → told_kind compact_rules gate_tells live side d kind ≡ out_kind compact_rules live side live.clock d kind
 kind_out live side d Udp = refl
 kind_out live side d Echo = refl
 kind_out live side d Error = refl
@@ -31,22 +31,22 @@ kind_out live side d Dns = refl
 kind_out live side d Snmp = refl
 kind_out live side d Stream = refl
 
-sent_out : (live : World KeptSession) (e : Event) (r : Option Refusal) → live.clock ≡ e.moment → told_by gate_tells r (told_kind kept_rules gate_tells live e.side (datagram_in e) (kind_of (datagram_in e))) ≡ out_by kept_rules live e (verdict_of r)
-sent_out live e None m = kind_out live e.side (datagram_in e) (kind_of (datagram_in e)) ∙ ap (λ moment. out_kind kept_rules live e.side moment (datagram_in e) (kind_of (datagram_in e))) m
+sent_out : (live : World CompactSession) (e : Event) (r : Option Refusal) → live.clock ≡ e.moment → told_by gate_tells r (told_kind compact_rules gate_tells live e.side (datagram_in e) (kind_of (datagram_in e))) ≡ out_by compact_rules live e (verdict_of r)
+sent_out live e None m = kind_out live e.side (datagram_in e) (kind_of (datagram_in e)) ∙ ap (λ moment. out_kind compact_rules live e.side moment (datagram_in e) (kind_of (datagram_in e))) m
 sent_out live e (Some r) m = refl
 
 -- what is asked of an event
-pub record IsStepped (w : World KeptSession) (e : Event) (r : Option Refusal) (after : World KeptSession) (sent : List (List ℕ)) : Type 0 where
-  pub verdict_is : verdict_of r ≡ verdict kept_rules w e
-  pub next_is : after ≡ next kept_rules w e
-  pub out_is : sent ≡ out kept_rules w e
+pub record IsStepped (w : World CompactSession) (e : Event) (r : Option Refusal) (after : World CompactSession) (sent : List (List ℕ)) : Type 0 where
+  pub verdict_is : verdict_of r ≡ verdict compact_rules w e
+  pub next_is : after ≡ next compact_rules w e
+  pub out_is : sent ≡ out compact_rules w e
 
-pub stepped : (w : World KeptSession) (e : Event) (r : Option Refusal) (after : World KeptSession) (sent : List (List ℕ)) → IsPassed kept_rules gate_tells (first_that_holds (tests kept_rules (at_moment w e.moment) e)) (kind_of (datagram_in e)) (at_moment w e.moment) e.side (datagram_in e) r after sent → IsStepped w e r after sent
+pub stepped : (w : World CompactSession) (e : Event) (r : Option Refusal) (after : World CompactSession) (sent : List (List ℕ)) → IsPassed compact_rules gate_tells (first_that_holds (tests compact_rules (at_moment w e.moment) e)) (kind_of (datagram_in e)) (at_moment w e.moment) e.side (datagram_in e) r after sent → IsStepped w e r after sent
 unfolding verdict
 stepped w e r after sent h = record {
   verdict_is = ap verdict_of h.answer;
-  next_is = h.left ∙ left_next kept_rules (at_moment w e.moment) e r refl ∙ ap (λ (o : Option Refusal). next_by kept_rules (at_moment w e.moment) e (verdict_of o)) h.answer;
-  out_is = h.gone ∙ sent_out (at_moment w e.moment) e r refl ∙ ap (λ (o : Option Refusal). out_by kept_rules (at_moment w e.moment) e (verdict_of o)) h.answer;
+  next_is = h.left ∙ left_next compact_rules (at_moment w e.moment) e r refl ∙ ap (λ (o : Option Refusal). next_by compact_rules (at_moment w e.moment) e (verdict_of o)) h.answer;
+  out_is = h.gone ∙ sent_out (at_moment w e.moment) e r refl ∙ ap (λ (o : Option Refusal). out_by compact_rules (at_moment w e.moment) e (verdict_of o)) h.answer;
 }
 
 -- what is given of it is what was put
@@ -56,9 +56,9 @@ put_is takes.Whole sent = refl
 put_is (takes.Cut x) sent = refl
 
 -- where memory runs out
-pub wanted : (live : World KeptSession) (e : Event) (after : World KeptSession) (sent : List (List ℕ)) → IsLost kept_rules (kept_gives {P = Unit {0}}) (first_that_holds (early_tests live e)) (kind_of (datagram_in e)) live e.side (datagram_in e) after sent → MayWant live e
+pub wanted : (live : World CompactSession) (e : Event) (after : World CompactSession) (sent : List (List ℕ)) → IsLost compact_rules (kept_gives {P = Unit {0}}) (first_that_holds (early_tests live e)) (kind_of (datagram_in e)) live e.side (datagram_in e) after sent → MayWant live e
 wanted live e after sent h = record { early = h.allowed; needs = needs_by h.wants }
   where
-    needs_by : (kind_of (datagram_in e) ≡ Dns) ⊎ ((kind_of (datagram_in e) ≡ Stream) × known.SegmentMayWant kept_rules (kept_gives {P = Unit {0}}) live e.side (datagram_in e)) → MayWantAs (kind_of (datagram_in e)) live e.side (datagram_in e)
+    needs_by : (kind_of (datagram_in e) ≡ Dns) ⊎ ((kind_of (datagram_in e) ≡ Stream) × state.SegmentMayWant compact_rules (kept_gives {P = Unit {0}}) live e.side (datagram_in e)) → MayWantAs (kind_of (datagram_in e)) live e.side (datagram_in e)
     needs_by (inl dns) = inl dns
     needs_by (inr (stream, wants)) = inr (stream, segment_wants live e.side (datagram_in e) wants)

@@ -6,29 +6,29 @@ use Rattle.gate_base.specs.declared.side.Side.{Side}
 use Rattle.ftp_lines.specs.Renaming.{client_lines, server_lines}
 use Rattle.ipv4_frames.specs.Ipv4.{Datagram}
 use Rattle.stream_gate.specs.Memory.{KeptCompletes}
-use Rattle.gate_world.specs.Frame.{Kind, Dns, Stream, datagram_in, kind_of}
-use Rattle.gate_world.specs.Stream.{begins, found_in, segment_of, session_in}
-use Rattle.gate_world.specs.World.{Tracked, World, is_client}
-use Rattle.kept_world.specs.Kept.{KeptSession, kept_rules}
-use Rattle.gate_steps.specs.Segments.{refusal_as}
-use Rattle.gate_steps.specs.Found.{CompletesUnit}
-use Rattle.gate_known.specs.Lost.{early_tests}
+use Rattle.gate_model.specs.Frame.{Kind, Dns, Stream, datagram_in, kind_of}
+use Rattle.gate_model.specs.Stream.{begins, found_in, segment_of, session_in}
+use Rattle.gate_model.specs.World.{Tracked, World, is_client}
+use Rattle.compact_worlds.specs.Kept.{CompactSession, compact_rules}
+use Rattle.event_steps.specs.Segments.{refusal_as}
+use Rattle.event_steps.specs.SegmentFate.{CompletesUnit}
+use Rattle.event_engine.specs.Lost.{early_tests}
 
 -- the segment is of a session of FTP, and completes a line that bears an address
-pub record CompletesLine (live : World KeptSession) (side : Side) (d : Datagram) : Type 0 where
-  pub tracked : Tracked KeptSession
+pub record CompletesLine (live : World CompactSession) (side : Side) (d : Datagram) : Type 0 where
+  pub tracked : Tracked CompactSession
   pub found : session_in (found_in live side d) ≡ Some tracked
   pub completes : KeptCompletes (client_lines tracked.session.pair) (server_lines tracked.session.pair) (is_client side tracked) tracked.session.kept (segment_of d)
 
 -- no test behind those of its addresses refuses it, and it begins a session or completes such a line; or it completes such a unit
-abbrev pub SegmentMayWant : World KeptSession → Side → Datagram → Type 0
-SegmentMayWant live side d = ((refusal_as kept_rules Stream live side d ≡ None) × ((begins (found_in live side d) d ≡ true) ⊎ CompletesLine live side d)) ⊎ CompletesUnit kept_rules live side d
+abbrev pub SegmentMayWant : World CompactSession → Side → Datagram → Type 0
+SegmentMayWant live side d = ((refusal_as compact_rules Stream live side d ≡ None) × ((begins (found_in live side d) d ≡ true) ⊎ CompletesLine live side d)) ⊎ CompletesUnit compact_rules live side d
 
 -- a datagram of DNS, or such a segment
-abbrev pub MayWantAs : Kind → World KeptSession → Side → Datagram → Type 0
+abbrev pub MayWantAs : Kind → World CompactSession → Side → Datagram → Type 0
 MayWantAs kind live side d = (kind ≡ Dns) ⊎ ((kind ≡ Stream) × SegmentMayWant live side d)
 
 -- a frame that is refused neither by itself nor for its addresses carries one of these
-pub record MayWant (live : World KeptSession) (e : Event) : Type 0 where
+pub record MayWant (live : World CompactSession) (e : Event) : Type 0 where
   pub early : first_that_holds (early_tests live e) ≡ None
   pub needs : MayWantAs (kind_of (datagram_in e)) live e.side (datagram_in e)

@@ -1,19 +1,19 @@
 // One event of the gate.
 ghost use Rattle.std.specs.Prelude.{◌≡◌, ◌*◌, ◌^◌, ◌<◌, [], Ok, Err, IfOk, OnErr, OnOk};
-ghost use Rattle.gate_world.specs.World.{opening_world, at_moment};
-ghost use Rattle.kept_world.specs.Kept.{kept_rules};
+ghost use Rattle.gate_model.specs.World.{opening_world, at_moment};
+ghost use Rattle.compact_worlds.specs.Kept.{compact_rules};
 ghost use Rattle.gate_core.specs.Memory.{MayWant};
 ghost use Rattle.gate_base.specs.Events.{event_of};
 ghost use Rattle.gate_settings.specs.Sound.{IsSound};
 ghost use Rattle.gate_settings.specs.Forms.{HasForms};
-ghost use Rattle.gate_world.specs.Step.{next, out};
-ghost use Rattle.gate_world.specs.Verdict.{verdict, verdict_of};
-ghost use Rattle.gate_known.specs.Given.{refusal_of};
+ghost use Rattle.gate_model.specs.Step.{next, out};
+ghost use Rattle.gate_model.specs.Verdict.{verdict, verdict_of};
+ghost use Rattle.event_engine.specs.Given.{refusal_of};
 
 use crate::salt::salt_of;
 use expiring_table::Seed;
 use gate_base::{Event, Moment, OutOfMemory, Verdict};
-use gate_known::{Known, Taken};
+use event_engine::{State, Taken};
 use gate_outbox::Outbox;
 use gate_sessions::AnySession;
 use gate_settings::Settings;
@@ -23,7 +23,7 @@ use std::marker::Model;
 /// The settings, and what is known.
 pub struct Gate {
     settings: Settings,
-    known: Known<AnySession>,
+    state: State<AnySession>,
     // what the tables spread their keys by besides, until the first event
     salt: Option<u64>,
 }
@@ -33,35 +33,35 @@ impl Drop for Gate {
     fn drop(self) {
         let Self {
             settings,
-            known,
+            state,
             salt,
         } = self;
     }
 }
 
 impl Model for Gate {
-    ghost use Rattle.gate_world.specs.Held.{KeepsListed};
-    ghost use Rattle.kept_world.specs.Kept.{kept_rules};
+    ghost use Rattle.gate_model.specs.Held.{KeepsListed};
+    ghost use Rattle.compact_worlds.specs.Kept.{compact_rules};
     ghost use Rattle.gate_core.specs.Gates.{Gateway};
-    ghost use Rattle.gate_known.specs.Knowing.{world_in};
+    ghost use Rattle.event_engine.specs.Knowing.{world_in};
 
     ghost Value = { Gateway };
 
-    ghost view = { λ g. record { settings = g.settings; world = world_in g.known } };
+    ghost view = { λ g. record { settings = g.settings; world = world_in g.state } };
 
-    ghost invariant = { λ g. KeepsListed kept_rules (world_in g.known) };
+    ghost invariant = { λ g. KeepsListed compact_rules (world_in g.state) };
 }
 
 impl Gate {
     /// A gate to which nothing has come. The seed spreads the keys of the tables, and changes no answer.
-    pub fn make(alloc: Global, settings: Settings, seed: u64) -> Result<Gate, OutOfMemory>
+    pub fn new(alloc: Global, settings: Settings, seed: u64) -> Result<Gate, OutOfMemory>
         requires sound { IsSound settings }
         requires forms { HasForms settings }
         ensures { IfOk result (λ gate. gate ≡ record { settings = settings; world = opening_world settings }) }
     {
         let salt = salt_of(&settings) ^ seed;
         Ok(Gate {
-            known: Known::make(alloc, &settings, Seed::from_number(salt))?,
+            state: State::new(alloc, &settings, Seed::from_number(salt))?,
             salt: Some(salt),
             settings,
         })
@@ -78,7 +78,7 @@ impl Gate {
     pub fn pending(&self) -> u64
         ensures { result ≡ self.now.world.pending }
     {
-        self.known.pending
+        self.state.pending
     }
 
     /// Takes an event, whose moment isn't before that of an earlier one. Its frame passes, or is refused for the first reason
@@ -90,16 +90,16 @@ impl Gate {
     /// bears an address. The third is one that completes a unit of a session of DNS, which doesn't refuse it.
     pub fn step(&mut self, event: &Event<'_>, outbox: &mut Outbox) -> Result<Verdict, OutOfMemory>
         requires moment { event.now.moment.0 < 2 ^ 32 * 1000000000 }
-        ensures verdict { IfOk result (λ v. v ≡ verdict kept_rules self.old.world (event_of event.now)) }
-        ensures next { OnOk result (self.new ≡ record self.old { world = next kept_rules self.old.world (event_of event.now) }) }
-        ensures out { OnOk result (outbox.new ≡ out kept_rules self.old.world (event_of event.now)) }
+        ensures verdict { IfOk result (λ v. v ≡ verdict compact_rules self.old.world (event_of event.now)) }
+        ensures next { OnOk result (self.new ≡ record self.old { world = next compact_rules self.old.world (event_of event.now) }) }
+        ensures out { OnOk result (outbox.new ≡ out compact_rules self.old.world (event_of event.now)) }
         ensures memory { OnErr result ((self.new ≡ record self.old { world = at_moment self.old.world event.now.moment.0 }) × (outbox.new ≡ [])) }
         ensures wants { OnErr result (MayWant (at_moment self.old.world event.now.moment.0) (event_of event.now)) }
     {
         self.spread_keys(event.moment);
-        self.known.expire(event.moment);
+        self.state.expire(event.moment);
         outbox.clear();
-        let taken = self.known.take_frame(event, outbox)?;
+        let taken = self.state.take_frame(event, outbox)?;
         Ok(verdict_of(&taken))
     }
 
@@ -110,7 +110,7 @@ impl Gate {
         let Some(salt) = self.salt else {
             return;
         };
-        self.known.reseed(Seed::from_number(salt ^ moment.0));
+        self.state.reseed(Seed::from_number(salt ^ moment.0));
         self.salt = None;
     }
 }

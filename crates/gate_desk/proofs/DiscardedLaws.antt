@@ -2,16 +2,16 @@
 use Rattle.std.proofs.Common.{◌≡◌, ℕ, ◌≤◌, List, Some, take, drop, length, refl, sym, ap, ◌∙◌}
 use Rattle.std.proofs.lemmas.List.{length-take-le}
 use Rattle.gate_desk.specs.declared.slot.Slot.{Slot}
-use Rattle.gate_desk.specs.declared.slot.Way.{Way}
+use Rattle.gate_desk.specs.declared.slot.Access.{Access}
 use Rattle.gate_desk.specs.declared.slot.PerSlot.{PerSlot}
 use Rattle.gate_desk.specs.Slots.{at, put, each}
 use Rattle.gate_desk.specs.Outside.{Starts, Takes, Writes, AreNext, IsAtEnd, wrote, took, told_at, started}
 use Rattle.gate_desk.specs.Discarded.{told_by}
 use Rattle.gate_desk.proofs.Laws.{rises_not}
 
-pub discarded_starts : (s : Slot) (name : List ℕ) (way : Way) (l : PerSlot (List ℕ)) → Starts s name way (told_by l) (told_by l)
+pub discarded_starts : (s : Slot) (name : List ℕ) (access : Access) (l : PerSlot (List ℕ)) → Starts s name access (told_by l) (told_by l)
 unfolding started
-discarded_starts s name way l = record { starts = refl; left = refl; written = refl; faults = refl; start_faults = rises_not s (each 0) }
+discarded_starts s name access l = record { starts = refl; left = refl; written = refl; faults = refl; start_faults = rises_not s (each 0) }
 
 pub discarded_takes : (s : Slot) (n : ℕ) (l k : PerSlot (List ℕ)) → k ≡ put l s (drop n (at l s)) → Takes s n (told_by l) (told_by k)
 unfolding took

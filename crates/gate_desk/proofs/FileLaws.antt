@@ -1,7 +1,7 @@
 -- What a desk tells that tells only its counts.
 use Rattle.std.proofs.Common.{◌≡◌, ℕ, List, [], refl}
 use Rattle.gate_desk.specs.declared.slot.Slot.{Slot}
-use Rattle.gate_desk.specs.declared.slot.Way.{Way}
+use Rattle.gate_desk.specs.declared.slot.Access.{Access}
 use Rattle.gate_desk.specs.declared.slot.PerSlot.{PerSlot}
 use Rattle.gate_desk.specs.Slots.{at, put}
 use Rattle.gate_desk.specs.Outside.{Starts, Takes, Writes, AreNext, IsAtEnd, wrote, took, told_at, started}
@@ -9,9 +9,9 @@ use Rattle.gate_desk.specs.Untold.{untold}
 use Rattle.gate_desk.specs.Counts.{raised}
 use Rattle.gate_desk.proofs.Laws.{rises_not, rises_one}
 
-pub untold_starts : (s : Slot) (name : List ℕ) (way : Way) (a b : PerSlot ℕ) → Starts s name way (untold a b) (untold a b)
+pub untold_starts : (s : Slot) (name : List ℕ) (access : Access) (a b : PerSlot ℕ) → Starts s name access (untold a b) (untold a b)
 unfolding started
-untold_starts s name way a b = record { starts = refl; left = refl; written = refl; faults = refl; start_faults = rises_not s b }
+untold_starts s name access a b = record { starts = refl; left = refl; written = refl; faults = refl; start_faults = rises_not s b }
 
 pub untold_takes : (s : Slot) (n : ℕ) (a b : PerSlot ℕ) → Takes s n (untold a b) (untold a b)
 unfolding took

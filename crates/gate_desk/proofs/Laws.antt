@@ -8,11 +8,11 @@ use borrow.Rule.Slice.PartMut.{put_mid, post_of}
 use Rattle.gate_desk.specs.declared.slot.Slot.{Slot}
 use Rattle.gate_desk.specs.declared.slot.Slot.TheVariants.{Settings, LeftIn, RightIn, LeftGiven, RightGiven, ReportGiven, LeftOut, RightOut, Report, Errors}
 use Rattle.gate_desk.specs.declared.slot.PerSlot.{PerSlot}
-use Rattle.gate_desk.specs.declared.slot.Way.{Way}
-use Rattle.gate_desk.specs.declared.slot.Way.TheVariants.{Read, Write}
+use Rattle.gate_desk.specs.declared.slot.Access.{Access}
+use Rattle.gate_desk.specs.declared.slot.Access.TheVariants.{Read, Write}
 use Rattle.gate_desk.specs.Slots.{at, put, mapped, number_of, same_slot, each}
 use Rattle.gate_desk.specs.Counts.{raised}
-use Rattle.gate_desk.specs.Outside.{Outside, wrote, took, told_at, Told, Rises, NoneFailed, Writes, Takes, AreNext, IsAtEnd, AreUpTo, HasFailed, HasFailedToStart, Grows, NoneFell, WritesPart, Starts, FailsToStart, Start, started, last_way, CanRead, CanWrite}
+use Rattle.gate_desk.specs.Outside.{Outside, wrote, took, told_at, Trace, Rises, NoneFailed, Writes, Takes, AreNext, IsAtEnd, AreUpTo, HasFailed, HasFailedToStart, Grows, NoneFell, WritesPart, Starts, FailsToStart, Start, started, last_access, CanRead, CanWrite}
 
 -- the ten slots, one by one
 pub every : (P : Slot → Type 0) → P Settings → P LeftIn → P RightIn → P LeftGiven → P RightGiven → P ReportGiven → P LeftOut → P RightOut → P Report → P Errors → (s : Slot) → P s
@@ -54,22 +54,22 @@ mapped-same f p s x e = mapped-put f p s x ∙ ap (put (mapped f p) s) (e ∙ sy
 pub mapped-put_only : {A B : Type 0} (f : A → B) (p : PerSlot A) (s : Slot) (x : A) → mapped f (put p s x) ≡ put (mapped f p) s (at (mapped f (put p s x)) s)
 mapped-put_only f p s x = mapped-put f p s x ∙ ap (put (mapped f p) s) (sym (at-mapped f (put p s x) s ∙ ap f (at-put p s x)))
 
-pub wrote-wrote : (s : Slot) (xs ys : List ℕ) (told : Told) → wrote s ys (wrote s xs told) ≡ wrote s (xs ++ ys) told
+pub wrote-wrote : (s : Slot) (xs ys : List ℕ) (told : Trace) → wrote s ys (wrote s xs told) ≡ wrote s (xs ++ ys) told
 unfolding wrote
 wrote-wrote s xs ys None = refl
 wrote-wrote s xs ys (Some p) = ap Some (rw (put-put, at-put, append_assoc) refl)
 
-pub wrote-nil : (s : Slot) (told : Told) → wrote s [] told ≡ told
+pub wrote-nil : (s : Slot) (told : Trace) → wrote s [] told ≡ told
 unfolding wrote
 wrote-nil s None = refl
 wrote-nil s (Some p) = ap Some (rw (append-nil, put-at) refl)
 
-pub took-took : (s : Slot) (m n : ℕ) (told : Told) → took s n (took s m told) ≡ took s (m + n) told
+pub took-took : (s : Slot) (m n : ℕ) (told : Trace) → took s n (took s m told) ≡ took s (m + n) told
 unfolding took
 took-took s m n None = refl
 took-took s m n (Some p) = ap Some (rw (put-put, at-put, drop-drop) refl)
 
-pub took-none : (s : Slot) (told : Told) → took s 0 told ≡ told
+pub took-none : (s : Slot) (told : Trace) → took s 0 told ≡ told
 unfolding took
 took-none s None = refl
 took-none s (Some p) = ap Some (rw put-at refl)
@@ -113,7 +113,7 @@ takes_on s m n a b c e f = record {
   faults = rises_on s a.faults b.faults c.faults e.faults f.faults;
 }
 
-pub told_at-took : (s : Slot) (m : ℕ) (t : Told) → told_at (took s m t) s ≡ option_map (drop m) (told_at t s)
+pub told_at-took : (s : Slot) (m : ℕ) (t : Trace) → told_at (took s m t) s ≡ option_map (drop m) (told_at t s)
 unfolding told_at took
 told_at-took s m None = refl
 told_at-took s m (Some p) = ap Some (at-put p s (drop m (at p s)))
@@ -128,7 +128,7 @@ next_none s a = next_none-of (told_at a.left s)
 -- all that is left, where it is told
 pub next_all : (s : Slot) (p : PerSlot (List ℕ)) (a : Outside) (xs : List ℕ) → a.left ≡ Some p → xs ≡ at p s → AreNext xs a s
 unfolding told_at
-next_all s p a xs e f = subst (λ (o : Told). IfSome (told_at o s) (λ all. take (length xs) all ≡ xs)) (sym e) (ap (take (length xs)) (sym f) ∙ take_all (length xs) xs (omega arith))
+next_all s p a xs e f = subst (λ (o : Trace). IfSome (told_at o s) (λ all. take (length xs) all ≡ xs)) (sym e) (ap (take (length xs)) (sym f) ∙ take_all (length xs) xs (omega arith))
 
 next_on-of : (xs ys : List ℕ) (o : Option (List ℕ)) → IfSome o (λ all. take (length xs) all ≡ xs) → IfSome (option_map (drop (length xs)) o) (λ all. take (length ys) all ≡ ys) → IfSome o (λ all. take (length (xs ++ ys)) all ≡ xs ++ ys)
 next_on-of xs ys None h k = tt
@@ -137,7 +137,7 @@ next_on-of xs ys (Some all) h k = rw (length-append, take-add, h, k) refl
 -- more of the slot's next octets
 pub next_on : (s : Slot) (xs ys : List ℕ) (m : ℕ) (a b : Outside) → length xs ≡ m → Takes s m a b → AreNext xs a s → AreNext ys b s → AreNext (xs ++ ys) a s
 next_on s xs ys m a b e t h k =
-    let there : told_at b.left s ≡ option_map (drop (length xs)) (told_at a.left s) = ap (λ (o : Told). told_at o s) t.left ∙ told_at-took s m a.left ∙ ap (λ (n : ℕ). option_map (drop n) (told_at a.left s)) (sym e) in
+    let there : told_at b.left s ≡ option_map (drop (length xs)) (told_at a.left s) = ap (λ (o : Trace). told_at o s) t.left ∙ told_at-took s m a.left ∙ ap (λ (n : ℕ). option_map (drop n) (told_at a.left s)) (sym e) in
     next_on-of xs ys (told_at a.left s) h (subst (λ o. IfSome o (λ all. take (length ys) all ≡ ys)) there k)
 
 up_to_end-of : (xs : List ℕ) (wanted : ℕ) (o : Option (List ℕ)) → length xs ≤ wanted → IfSome o (λ all. take (length xs) all ≡ xs) → IfSome (option_map (drop (length xs)) o) (λ all. length all ≡ 0) → IfSome o (λ all. xs ≡ take wanted all)
@@ -150,7 +150,7 @@ up_to_end-of xs wanted (Some all) le h k =
 -- all that was left
 pub up_to_end : (s : Slot) (xs : List ℕ) (m wanted : ℕ) (a b : Outside) → length xs ≡ m → m ≤ wanted → Takes s m a b → AreNext xs a s → IsAtEnd b s → AreUpTo wanted xs a s
 up_to_end s xs m wanted a b e le t h k =
-    let there : told_at b.left s ≡ option_map (drop (length xs)) (told_at a.left s) = ap (λ (o : Told). told_at o s) t.left ∙ told_at-took s m a.left ∙ ap (λ (n : ℕ). option_map (drop n) (told_at a.left s)) (sym e) in
+    let there : told_at b.left s ≡ option_map (drop (length xs)) (told_at a.left s) = ap (λ (o : Trace). told_at o s) t.left ∙ told_at-took s m a.left ∙ ap (λ (n : ℕ). option_map (drop n) (told_at a.left s)) (sym e) in
     up_to_end-of xs wanted (told_at a.left s) (omega arith) h (subst (λ o. IfSome o (λ all. length all ≡ 0)) there k)
 
 -- a buffer after more was read into it
@@ -167,7 +167,7 @@ moved-of n (Some all) P h = h
 
 -- a fact of all the octets, from one of what was left after some were taken
 pub moved : (s : Slot) (n : ℕ) (a b : Outside) (P : List ℕ → Type 0) → Takes s n a b → IfSome (told_at b.left s) P → IfSome (told_at a.left s) (λ all. P (drop n all))
-moved s n a b P t h = moved-of n (told_at a.left s) P (subst (λ o. IfSome o P) (ap (λ (o : Told). told_at o s) t.left ∙ told_at-took s n a.left) h)
+moved s n a b P t h = moved-of n (told_at a.left s) P (subst (λ o. IfSome o P) (ap (λ (o : Trace). told_at o s) t.left ∙ told_at-took s n a.left) h)
 
 -- a failure in a later call
 pub failed_later : (s : Slot) (a b c : Outside) → Rises s a.faults b.faults → HasFailed s b c → HasFailed s a c
@@ -236,8 +236,8 @@ grows_writes s xs a b h = record { faults = NoneFell-from_rises s a.faults b.fau
 pub grows_takes : (s : Slot) (n : ℕ) (a b : Outside) → Takes s n a b → Grows a b
 grows_takes s n a b h = record { faults = NoneFell-from_rises s a.faults b.faults h.faults; start_faults = keeps a.start_faults b.start_faults h.start_faults }
 
-pub grows_starts : (s : Slot) (name : List ℕ) (way : Way) (a b : Outside) → Starts s name way a b → Grows a b
-grows_starts s name way a b h = record { faults = keeps a.faults b.faults h.faults; start_faults = NoneFell-from_rises s a.start_faults b.start_faults h.start_faults }
+pub grows_starts : (s : Slot) (name : List ℕ) (access : Access) (a b : Outside) → Starts s name access a b → Grows a b
+grows_starts s name access a b h = record { faults = keeps a.faults b.faults h.faults; start_faults = NoneFell-from_rises s a.start_faults b.start_faults h.start_faults }
 
 pub failed_since : (s : Slot) (a b c : Outside) → Grows a b → HasFailed s b c → HasFailed s a c
 failed_since s a b c h k = omega (arith, h.faults s, k)
@@ -259,49 +259,49 @@ writes_part_first s xs ys a b h =
     (h.0, omega (arith, h.1, length-append xs ys), subst (λ zs. Writes s zs a b) (sym (take-append-le h.0 xs ys h.1)) h.2)
 
 -- what may be read and written
-last-started : (slot s : Slot) (name : List ℕ) (way : Way) (starts : List Start) → last_way slot (starts ++ (record { slot = s; name = name; way = way }) ∷ []) ≡ cond (same_slot s slot) (Some way) (last_way slot starts)
-last-started slot s name way starts = fold-append _ None starts _
+last-started : (slot s : Slot) (name : List ℕ) (access : Access) (starts : List Start) → last_access slot (starts ++ (record { slot = s; name = name; access = access }) ∷ []) ≡ cond (same_slot s slot) (Some access) (last_access slot starts)
+last-started slot s name access starts = fold-append _ None starts _
 
 same-self : (s : Slot) → same_slot s s ≡ true
 same-self s = every (λ s. same_slot s s ≡ true) refl refl refl refl refl refl refl refl refl refl s
 
-can_read_started-of : (s : Slot) (name : List ℕ) (o : Option (List Start)) → IfSome (started s name Read o) (λ starts. last_way s starts ≡ Some Read)
+can_read_started-of : (s : Slot) (name : List ℕ) (o : Option (List Start)) → IfSome (started s name Read o) (λ starts. last_access s starts ≡ Some Read)
 unfolding started
 can_read_started-of s name None = tt
-can_read_started-of s name (Some starts) = last-started s s name Read starts ∙ ap (λ (r : Bool). cond r (Some Read) (last_way s starts)) (same-self s)
+can_read_started-of s name (Some starts) = last-started s s name Read starts ∙ ap (λ (r : Bool). cond r (Some Read) (last_access s starts)) (same-self s)
 
 pub can_read_started : (s : Slot) (name : List ℕ) (a b : Outside) → Starts s name Read a b → CanRead b s
-can_read_started s name a b h = subst (λ o. IfSome o (λ starts. last_way s starts ≡ Some Read)) (sym h.starts) (can_read_started-of s name a.starts)
+can_read_started s name a b h = subst (λ o. IfSome o (λ starts. last_access s starts ≡ Some Read)) (sym h.starts) (can_read_started-of s name a.starts)
 
-kept-of : (s t : Slot) (name : List ℕ) (way way' : Way) (o : Option (List Start)) → same_slot s t ≡ false → IfSome o (λ starts. last_way t starts ≡ Some way') → IfSome (started s name way o) (λ starts. last_way t starts ≡ Some way')
+kept-of : (s t : Slot) (name : List ℕ) (access access' : Access) (o : Option (List Start)) → same_slot s t ≡ false → IfSome o (λ starts. last_access t starts ≡ Some access') → IfSome (started s name access o) (λ starts. last_access t starts ≡ Some access')
 unfolding started
-kept-of s t name way way' None e h = tt
-kept-of s t name way way' (Some starts) e h = last-started t s name way starts ∙ ap (λ (r : Bool). cond r (Some way) (last_way t starts)) e ∙ h
+kept-of s t name access access' None e h = tt
+kept-of s t name access access' (Some starts) e h = last-started t s name access starts ∙ ap (λ (r : Bool). cond r (Some access) (last_access t starts)) e ∙ h
 
-pub can_read_kept : (s t : Slot) (name : List ℕ) (way : Way) (a b : Outside) → Starts s name way a b → same_slot s t ≡ false → CanRead a t → CanRead b t
-can_read_kept s t name way a b h e k = subst (λ o. IfSome o (λ starts. last_way t starts ≡ Some Read)) (sym h.starts) (kept-of s t name way Read a.starts e k)
+pub can_read_kept : (s t : Slot) (name : List ℕ) (access : Access) (a b : Outside) → Starts s name access a b → same_slot s t ≡ false → CanRead a t → CanRead b t
+can_read_kept s t name access a b h e k = subst (λ o. IfSome o (λ starts. last_access t starts ≡ Some Read)) (sym h.starts) (kept-of s t name access Read a.starts e k)
 
-can_write_started-of : (s : Slot) (name : List ℕ) (o : Option (List Start)) → IfSome (started s name Write o) (λ starts. last_way s starts ≡ Some Write)
+can_write_started-of : (s : Slot) (name : List ℕ) (o : Option (List Start)) → IfSome (started s name Write o) (λ starts. last_access s starts ≡ Some Write)
 unfolding started
 can_write_started-of s name None = tt
-can_write_started-of s name (Some starts) = last-started s s name Write starts ∙ ap (λ (r : Bool). cond r (Some Write) (last_way s starts)) (same-self s)
+can_write_started-of s name (Some starts) = last-started s s name Write starts ∙ ap (λ (r : Bool). cond r (Some Write) (last_access s starts)) (same-self s)
 
-can_write-of : (s : Slot) (a : Outside) → IfSome a.starts (λ starts. last_way s starts ≡ Some Write) → CanWrite a s
+can_write-of : (s : Slot) (a : Outside) → IfSome a.starts (λ starts. last_access s starts ≡ Some Write) → CanWrite a s
 can_write-of Errors a h = tt
 can_write-of s a h = h
 
-of-can_write : (s : Slot) (a : Outside) → same_slot s Errors ≡ false → CanWrite a s → IfSome a.starts (λ starts. last_way s starts ≡ Some Write)
+of-can_write : (s : Slot) (a : Outside) → same_slot s Errors ≡ false → CanWrite a s → IfSome a.starts (λ starts. last_access s starts ≡ Some Write)
 of-can_write Errors a e h = absurd (false≢true (sym e))
 of-can_write s a e h = h
 
 pub can_write_started : (s : Slot) (name : List ℕ) (a b : Outside) → Starts s name Write a b → CanWrite b s
-can_write_started s name a b h = can_write-of s b (subst (λ o. IfSome o (λ starts. last_way s starts ≡ Some Write)) (sym h.starts) (can_write_started-of s name a.starts))
+can_write_started s name a b h = can_write-of s b (subst (λ o. IfSome o (λ starts. last_access s starts ≡ Some Write)) (sym h.starts) (can_write_started-of s name a.starts))
 
-pub can_write_kept : (s t : Slot) (name : List ℕ) (way : Way) (a b : Outside) → Starts s name way a b → same_slot s t ≡ false → same_slot t Errors ≡ false → CanWrite a t → CanWrite b t
-can_write_kept s t name way a b h e f k = can_write-of t b (subst (λ o. IfSome o (λ starts. last_way t starts ≡ Some Write)) (sym h.starts) (kept-of s t name way Write a.starts e (of-can_write t a f k)))
+pub can_write_kept : (s t : Slot) (name : List ℕ) (access : Access) (a b : Outside) → Starts s name access a b → same_slot s t ≡ false → same_slot t Errors ≡ false → CanWrite a t → CanWrite b t
+can_write_kept s t name access a b h e f k = can_write-of t b (subst (λ o. IfSome o (λ starts. last_access t starts ≡ Some Write)) (sym h.starts) (kept-of s t name access Write a.starts e (of-can_write t a f k)))
 
 -- what another slot holds
-pub told_at-took_other : (s t : Slot) (n : ℕ) (o : Told) → same_slot s t ≡ false → told_at (took s n o) t ≡ told_at o t
+pub told_at-took_other : (s t : Slot) (n : ℕ) (o : Trace) → same_slot s t ≡ false → told_at (took s n o) t ≡ told_at o t
 unfolding told_at took
 told_at-took_other s t n None e = refl
 told_at-took_other s t n (Some p) e = ap Some (at-put_any p s t (drop n (at p s)) ∙ ap (λ (r : Bool). cond r (drop n (at p s)) (at p t)) e)
@@ -310,7 +310,7 @@ pub grows_fails_to_start : (s : Slot) (a b : Outside) → FailsToStart s a b →
 grows_fails_to_start s a b h = record { faults = keeps a.faults b.faults h.faults; start_faults = NoneFell-from_rises s a.start_faults b.start_faults h.start_faults }
 
 pub can_read_same : (s : Slot) (a b : Outside) → b.starts ≡ a.starts → CanRead a s → CanRead b s
-can_read_same s a b e h = subst (λ o. IfSome o (λ starts. last_way s starts ≡ Some Read)) (sym e) h
+can_read_same s a b e h = subst (λ o. IfSome o (λ starts. last_access s starts ≡ Some Read)) (sym e) h
 
 -- ## No call failed
 

@@ -7,11 +7,11 @@ use Rattle.std.specs.Io.Buffered.{reader_buffer, reader_capacity, reader_inner, 
 use Rattle.std.specs.declared.io.buffered.BufReader.{BufReader}
 use Rattle.std.specs.Io.KnownBytes.{Consumes, Keeps, IsAtEnd, ReadConsumes, prepend_known}
 use Rattle.gate_desk.specs.declared.slot.Slot.{Slot}
-use Rattle.gate_desk.specs.declared.slot.Way.{Way}
+use Rattle.gate_desk.specs.declared.slot.Access.{Access}
 use Rattle.gate_desk.specs.declared.slot.PerSlot.{PerSlot}
 use Rattle.gate_desk.specs.declared.place.Place.{Place}
 use Rattle.gate_desk.specs.declared.place.Place.TheVariants.{Nowhere, Input, Output, StandardOutput}
-use Rattle.gate_desk.specs.Gathering.{TakesAhead, ahead, ahead_in, got, got_in, unread, unread_in, waiting, waiting_in, way_of, ways_in}
+use Rattle.gate_desk.specs.Gathering.{TakesAhead, ahead, ahead_in, got, got_in, unread, unread_in, waiting, waiting_in, access_of, accesses_in}
 use Rattle.gate_desk.specs.Slots.{at, put}
 use Rattle.gate_desk.specs.Untold.{Files, skipped}
 use Rattle.gate_desk.proofs.Laws.{at-mapped, at-put, mapped-put, mapped-same, put-at}
@@ -104,29 +104,29 @@ pub put_behind : {X : Type 0} (old mid new : PerSlot X) (slot : Slot) → mid �
 put_behind {X = X} old mid new slot e f = f ∙ ap (λ (p : PerSlot X). put p slot (at new slot)) e
 
 -- all that a desk tells of its places
-abbrev files : PerSlot (Option Way) → PerSlot (List ℕ) → PerSlot (Option (List ℕ)) → PerSlot (Option (List ℕ)) → PerSlot (List ℕ) → Option Slot → PerSlot ℕ → PerSlot ℕ → Files
-files ways ahead unread got waiting refused faults start_faults = record { ways = ways; ahead = ahead; unread = unread; got = got; waiting = waiting; refused = refused; faults = faults; start_faults = start_faults }
+abbrev files : PerSlot (Option Access) → PerSlot (List ℕ) → PerSlot (Option (List ℕ)) → PerSlot (Option (List ℕ)) → PerSlot (List ℕ) → Option Slot → PerSlot ℕ → PerSlot ℕ → Files
+files accesses ahead unread got waiting refused faults start_faults = record { accesses = accesses; ahead = ahead; unread = unread; got = got; waiting = waiting; refused = refused; faults = faults; start_faults = start_faults }
 
 abbrev pub seen : {F A : Type 0} → (F → Option (List ℕ)) → (F → Option (List ℕ)) → PerSlot (Place F A) → Option Slot → PerSlot ℕ → PerSlot ℕ → Files
-seen remaining contents places refused faults start_faults = files (ways_in places) (ahead_in places) (unread_in remaining places) (got_in contents places) (waiting_in places) refused faults start_faults
+seen remaining contents places refused faults start_faults = files (accesses_in places) (ahead_in places) (unread_in remaining places) (got_in contents places) (waiting_in places) refused faults start_faults
 
-files_of : (ways ways' : PerSlot (Option Way)) (ahead ahead' : PerSlot (List ℕ)) (unread unread' : PerSlot (Option (List ℕ))) (got got' : PerSlot (Option (List ℕ))) (waiting waiting' : PerSlot (List ℕ)) (refused : Option Slot) (faults start_faults : PerSlot ℕ)
-    → ways ≡ ways' → ahead ≡ ahead' → unread ≡ unread' → got ≡ got' → waiting ≡ waiting' → files ways ahead unread got waiting refused faults start_faults ≡ files ways' ahead' unread' got' waiting' refused faults start_faults
-files_of ways ways' ahead ahead' unread unread' got got' waiting waiting' refused faults start_faults a b c d e =
-    ap (λ (x : PerSlot (Option Way)). files x ahead unread got waiting refused faults start_faults) a
-    ∙ ap (λ (x : PerSlot (List ℕ)). files ways' x unread got waiting refused faults start_faults) b
-    ∙ ap (λ (x : PerSlot (Option (List ℕ))). files ways' ahead' x got waiting refused faults start_faults) c
-    ∙ ap (λ (x : PerSlot (Option (List ℕ))). files ways' ahead' unread' x waiting refused faults start_faults) d
-    ∙ ap (λ (x : PerSlot (List ℕ)). files ways' ahead' unread' got' x refused faults start_faults) e
+files_of : (accesses accesses' : PerSlot (Option Access)) (ahead ahead' : PerSlot (List ℕ)) (unread unread' : PerSlot (Option (List ℕ))) (got got' : PerSlot (Option (List ℕ))) (waiting waiting' : PerSlot (List ℕ)) (refused : Option Slot) (faults start_faults : PerSlot ℕ)
+    → accesses ≡ accesses' → ahead ≡ ahead' → unread ≡ unread' → got ≡ got' → waiting ≡ waiting' → files accesses ahead unread got waiting refused faults start_faults ≡ files accesses' ahead' unread' got' waiting' refused faults start_faults
+files_of accesses accesses' ahead ahead' unread unread' got got' waiting waiting' refused faults start_faults a b c d e =
+    ap (λ (x : PerSlot (Option Access)). files x ahead unread got waiting refused faults start_faults) a
+    ∙ ap (λ (x : PerSlot (List ℕ)). files accesses' x unread got waiting refused faults start_faults) b
+    ∙ ap (λ (x : PerSlot (Option (List ℕ))). files accesses' ahead' x got waiting refused faults start_faults) c
+    ∙ ap (λ (x : PerSlot (Option (List ℕ))). files accesses' ahead' unread' x waiting refused faults start_faults) d
+    ∙ ap (λ (x : PerSlot (List ℕ)). files accesses' ahead' unread' got' x refused faults start_faults) e
 
 -- so much of a slot was skipped
 pub skipped_is : {F A : Type 0} (remaining contents : F → Option (List ℕ)) (places : PerSlot (Place F A)) (slot : Slot) (count : ℕ) (before after : Place F A) (refused : Option Slot) (faults start_faults : PerSlot ℕ) → before ≡ at places slot
-    → way_of after ≡ way_of before → ahead after ≡ drop count (ahead before) → unread remaining after ≡ option_map (drop (min count (length (ahead before)))) (unread remaining before) → got contents after ≡ got contents before → waiting after ≡ waiting before
+    → access_of after ≡ access_of before → ahead after ≡ drop count (ahead before) → unread remaining after ≡ option_map (drop (min count (length (ahead before)))) (unread remaining before) → got contents after ≡ got contents before → waiting after ≡ waiting before
     → seen remaining contents (put places slot after) refused faults start_faults ≡ skipped slot count (seen remaining contents places refused faults start_faults)
 skipped_is remaining contents places slot count before after refused faults start_faults there w a u g t =
-    files_of (ways_in (put places slot after)) (ways_in places) (ahead_in (put places slot after)) (put (ahead_in places) slot (drop count (at (ahead_in places) slot))) (unread_in remaining (put places slot after)) (put (unread_in remaining places) slot (option_map (drop (min count (length (at (ahead_in places) slot)))) (at (unread_in remaining places) slot)))
+    files_of (accesses_in (put places slot after)) (accesses_in places) (ahead_in (put places slot after)) (put (ahead_in places) slot (drop count (at (ahead_in places) slot))) (unread_in remaining (put places slot after)) (put (unread_in remaining places) slot (option_map (drop (min count (length (at (ahead_in places) slot)))) (at (unread_in remaining places) slot)))
     (got_in contents (put places slot after)) (got_in contents places) (waiting_in (put places slot after)) (waiting_in places) refused faults start_faults
-    (mapped-same way_of places slot after (w ∙ ap way_of there))
+    (mapped-same access_of places slot after (w ∙ ap access_of there))
     (mapped-put ahead places slot after ∙ ap (put (ahead_in places) slot) (a ∙ ap (drop count) (ap ahead there ∙ sym (at-mapped ahead places slot))))
     (mapped-put (unread remaining) places slot after ∙ ap (put (unread_in remaining places) slot) (u ∙ ap (λ (k : ℕ). option_map (drop (min count k)) (unread remaining before)) (ap (λ (xs : List ℕ). length xs) (ap ahead there ∙ sym (at-mapped ahead places slot)))
     ∙ ap (option_map (drop (min count (length (at (ahead_in places) slot))))) (unread_before remaining places slot before there)))

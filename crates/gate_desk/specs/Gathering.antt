@@ -9,8 +9,8 @@ use Rattle.gate_desk.specs.declared.place.Place.TheVariants.{Nowhere, Input, Out
 use Rattle.gate_desk.specs.declared.slot.Slot.{Slot}
 use Rattle.gate_desk.specs.declared.slot.Slot.TheVariants.{Errors}
 use Rattle.gate_desk.specs.declared.slot.PerSlot.{PerSlot}
-use Rattle.gate_desk.specs.declared.slot.Way.{Way}
-use Rattle.gate_desk.specs.declared.slot.Way.TheVariants.{Read, Write}
+use Rattle.gate_desk.specs.declared.slot.Access.{Access}
+use Rattle.gate_desk.specs.declared.slot.Access.TheVariants.{Read, Write}
 use Rattle.gate_desk.specs.Slots.{at, put, mapped, same_slot}
 
 -- a piece is gathered whole, or nothing of it
@@ -75,20 +75,20 @@ ahead_after (Ok x) slot ahead = put ahead slot []
 ahead_after (Err e) slot ahead = ahead
 
 -- for what a place is open
-abbrev pub way_of : {F A : Type 0} → Place F A → Option Way
-way_of (Input reader) = Some Read
-way_of (Output file octets) = Some Write
-way_of (StandardOutput octets) = Some Write
-way_of Nowhere = None
+abbrev pub access_of : {F A : Type 0} → Place F A → Option Access
+access_of (Input reader) = Some Read
+access_of (Output file octets) = Some Write
+access_of (StandardOutput octets) = Some Write
+access_of Nowhere = None
 
 -- the same of each slot
-abbrev pub ways_in : {F A : Type 0} → PerSlot (Place F A) → PerSlot (Option Way)
-ways_in p = mapped way_of p
+abbrev pub accesses_in : {F A : Type 0} → PerSlot (Place F A) → PerSlot (Option Access)
+accesses_in p = mapped access_of p
 
 -- a slot that was started is open for this, and all others stay
-abbrev pub ways_after : {T E : Type 0} → Result T E → Slot → Way → PerSlot (Option Way) → PerSlot (Option Way)
-ways_after (Ok x) slot way ways = put ways slot (Some way)
-ways_after (Err e) slot way ways = ways
+abbrev pub accesses_after : {T E : Type 0} → Result T E → Slot → Access → PerSlot (Option Access) → PerSlot (Option Access)
+accesses_after (Ok x) slot access accesses = put accesses slot (Some access)
+accesses_after (Err e) slot access accesses = accesses
 
 -- what the file at a place holds, where it tells that
 abbrev pub got : {F A : Type 0} → (F → Option (List ℕ)) → Place F A → Option (List ℕ)

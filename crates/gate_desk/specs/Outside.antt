@@ -2,54 +2,54 @@
 use Rattle.std.specs.Prelude.{◌≡◌, ℕ, ◌+◌, ◌-◌, ◌^◌, ◌<◌, ◌≤◌, ◌++◌, List, [], ◌∷◌, Option, Some, None, if◌then◌else◌, min, drop, take, length, fold, IfSome, option_map}
 use Rattle.gate_desk.specs.declared.slot.Slot.{Slot}
 use Rattle.gate_desk.specs.declared.slot.Slot.TheVariants.{Errors}
-use Rattle.gate_desk.specs.declared.slot.Way.{Way}
-use Rattle.gate_desk.specs.declared.slot.Way.TheVariants.{Read, Write}
+use Rattle.gate_desk.specs.declared.slot.Access.{Access}
+use Rattle.gate_desk.specs.declared.slot.Access.TheVariants.{Read, Write}
 use Rattle.gate_desk.specs.declared.slot.PerSlot.{PerSlot}
 use Rattle.gate_desk.specs.Slots.{at, put, same_slot}
 
 -- the octets of each slot, where they are told
-abbrev pub Told : Type 0
-Told = Option (PerSlot (List ℕ))
+abbrev pub Trace : Type 0
+Trace = Option (PerSlot (List ℕ))
 
 pub record Start : Type 0 where
   pub slot : Slot
   pub name : List ℕ
-  pub way : Way
+  pub access : Access
 
 -- what is still to be read, what was written, the starts that succeeded, and how often a read or write, or a start, has failed
 pub record Outside : Type 0 where
-  pub left : Told
-  pub written : Told
+  pub left : Trace
+  pub written : Trace
   pub starts : Option (List Start)
   pub faults : PerSlot ℕ
   pub start_faults : PerSlot ℕ
 
 -- these octets are appended to a slot
-unfoldable pub wrote : Slot → List ℕ → Told → Told
+unfoldable pub wrote : Slot → List ℕ → Trace → Trace
 wrote slot octets told = option_map (λ (p : PerSlot (List ℕ)). put p slot (at p slot ++ octets)) told
 
 -- the first n octets of a slot are gone
-unfoldable pub took : Slot → ℕ → Told → Told
+unfoldable pub took : Slot → ℕ → Trace → Trace
 took slot n told = option_map (λ (p : PerSlot (List ℕ)). put p slot (drop n (at p slot))) told
 
 -- what a slot holds, where it is told
-unfoldable pub told_at : Told → Slot → Option (List ℕ)
+unfoldable pub told_at : Trace → Slot → Option (List ℕ)
 told_at told slot = option_map (λ (p : PerSlot (List ℕ)). at p slot) told
 
 -- the way of the slot's last start
-abbrev pub last_way : Slot → List Start → Option Way
-last_way slot starts = fold (λ (way : Option Way) (s : Start). if same_slot s.slot slot then Some s.way else way) None starts
+abbrev pub last_access : Slot → List Start → Option Access
+last_access slot starts = fold (λ (access : Option Access) (s : Start). if same_slot s.slot slot then Some s.access else access) None starts
 
 abbrev pub CanRead : Outside → Slot → Type 0
-CanRead o slot = IfSome o.starts (λ starts. last_way slot starts ≡ Some Read)
+CanRead o slot = IfSome o.starts (λ starts. last_access slot starts ≡ Some Read)
 
 abbrev pub CanWrite : Outside → Slot → Type 0
 CanWrite o Errors = Unit {0}
-CanWrite o slot = IfSome o.starts (λ starts. last_way slot starts ≡ Some Write)
+CanWrite o slot = IfSome o.starts (λ starts. last_access slot starts ≡ Some Write)
 
 -- one start more, where the starts are told
-unfoldable pub started : Slot → List ℕ → Way → Option (List Start) → Option (List Start)
-started slot name way starts = option_map (λ (starts : List Start). starts ++ (record { slot = slot; name = name; way = way }) ∷ []) starts
+unfoldable pub started : Slot → List ℕ → Access → Option (List Start) → Option (List Start)
+started slot name access starts = option_map (λ (starts : List Start). starts ++ (record { slot = slot; name = name; access = access }) ∷ []) starts
 
 -- a count rose, or can't
 abbrev pub Rose : ℕ → ℕ → Type 0
@@ -118,8 +118,8 @@ abbrev pub HasFailedToStart : Slot → Outside → Outside → Type 0
 HasFailedToStart slot old new = Rose (at old.start_faults slot) (at new.start_faults slot)
 
 -- a start succeeded, and nothing else happened
-pub record Starts (slot : Slot) (name : List ℕ) (way : Way) (old new : Outside) : Type 0 where
-  pub starts : new.starts ≡ started slot name way old.starts
+pub record Starts (slot : Slot) (name : List ℕ) (access : Access) (old new : Outside) : Type 0 where
+  pub starts : new.starts ≡ started slot name access old.starts
   pub left : new.left ≡ old.left
   pub written : new.written ≡ old.written
   pub faults : new.faults ≡ old.faults

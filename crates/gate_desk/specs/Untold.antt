@@ -2,7 +2,7 @@
 use Rattle.std.specs.Prelude.{◌≡◌, ℕ, List, [], drop, length, min, Option, Some, None, option_map}
 use Rattle.gate_desk.specs.declared.slot.Slot.{Slot}
 use Rattle.gate_desk.specs.declared.slot.PerSlot.{PerSlot}
-use Rattle.gate_desk.specs.declared.slot.Way.{Way}
+use Rattle.gate_desk.specs.declared.slot.Access.{Access}
 use Rattle.gate_desk.specs.Slots.{at, put, each}
 use Rattle.gate_desk.specs.Counts.{raised}
 use Rattle.gate_desk.specs.Gathering.{HandsOut}
@@ -10,7 +10,7 @@ use Rattle.gate_desk.specs.Outside.{Outside}
 
 -- for what each slot is open, what was read ahead of it, what is still to be read of it, where its file tells that, what its file got, where it tells that, what is taken for each slot and isn't handed to the system yet, the slot of which the system refused such octets, and how often a read or write, and how often a start of each slot failed
 pub record Files : Type 0 where
-  pub ways : PerSlot (Option Way)
+  pub accesses : PerSlot (Option Access)
   pub ahead : PerSlot (List ℕ)
   pub unread : PerSlot (Option (List ℕ))
   pub got : PerSlot (Option (List ℕ))
@@ -50,4 +50,4 @@ pub record HandsOutAll (old new : Files) : Type 0 where
 
 -- all files are closed, and nothing waits any more, since the system refused octets of this slot, which counts as a failed write
 abbrev pub all_dropped : Slot → Files → Files
-all_dropped slot d = record { ways = each None; ahead = each []; unread = each None; got = each None; waiting = each []; refused = None; faults = put d.faults slot (raised (at d.faults slot)); start_faults = d.start_faults }
+all_dropped slot d = record { accesses = each None; ahead = each []; unread = each None; got = each None; waiting = each []; refused = None; faults = put d.faults slot (raised (at d.faults slot)); start_faults = d.start_faults }

@@ -3,7 +3,7 @@ ghost use Rattle.std.specs.Prelude.{◌≡◌, ◌<◌, ◌≤◌, ◌++◌, ℕ
 ghost use Rattle.gate_desk.specs.declared.slot.Slot.{Slot};
 ghost use Rattle.gate_desk.specs.Outside.{Outside, Starts, FailsToStart, Takes, AreNext, IsAtEnd, Writes, WritesPart, HasFailed, CanRead, CanWrite};
 
-use crate::{Slot, Way};
+use crate::{Slot, Access};
 
 /// A start, a read or a write failed, and the desk counted it.
 #[derive(Clone, Copy, Debug, PartialEq, Eq)]
@@ -19,8 +19,8 @@ pub trait Desk {
     ghost ready: { Self → Slot → ℕ };
 
     /// Prepares a slot under a name. It fails only where the slot's count of failed starts rose, and changes no contents.
-    fn start(&mut self, slot: Slot, name: &str, way: Way) -> Result<(), Failed>
-        ensures ok { OnOk result (Starts slot name.now way (outside self.old) (outside self.new)) }
+    fn start(&mut self, slot: Slot, name: &str, access: Access) -> Result<(), Failed>
+        ensures ok { OnOk result (Starts slot name.now access (outside self.old) (outside self.new)) }
         ensures err { OnErr result (FailsToStart slot (outside self.old) (outside self.new)) }
         ensures leaves { OnOk result ((outside self.new).start_faults ≡ (outside self.old).start_faults) };
 

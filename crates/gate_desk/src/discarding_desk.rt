@@ -4,7 +4,7 @@ ghost use Rattle.gate_desk.specs.Discarded.{told_by};
 ghost use Rattle.gate_desk.specs.Outside.{Starts, FailsToStart, Takes, AreNext, IsAtEnd, Writes, WritesPart, HasFailed};
 ghost use Rattle.gate_desk.specs.Slots.{at, put, inputs};
 
-use crate::{Desk, Failed, PerSlot, Slot, Source, Way};
+use crate::{Desk, Failed, PerSlot, Slot, Source, Access};
 use std::alloc::Global;
 use std::marker::Model;
 
@@ -26,7 +26,7 @@ impl Model for DiscardingDesk {
 
 impl DiscardingDesk {
     /// A desk with these octets to be read.
-    pub fn make(alloc: Global, settings: Vec<u8>, left: Vec<u8>, right: Vec<u8>) -> DiscardingDesk
+    pub fn new(alloc: Global, settings: Vec<u8>, left: Vec<u8>, right: Vec<u8>) -> DiscardingDesk
         ensures { result ≡ inputs settings.items left.items right.items }
     {
         DiscardingDesk {
@@ -40,8 +40,8 @@ impl Desk for DiscardingDesk {
 
     ghost ready = { λ left slot. length (at left slot) };
 
-    fn start(&mut self, _slot: Slot, _name: &str, _way: Way) -> Result<(), Failed>
-        ensures ok { OnOk result (Starts _slot _name.now _way (told_by self.old) (told_by self.new)) }
+    fn start(&mut self, _slot: Slot, _name: &str, _access: Access) -> Result<(), Failed>
+        ensures ok { OnOk result (Starts _slot _name.now _access (told_by self.old) (told_by self.new)) }
         ensures err { OnErr result (FailsToStart _slot (told_by self.old) (told_by self.new)) }
         ensures leaves { OnOk result ((told_by self.new).start_faults ≡ (told_by self.old).start_faults) }
         ensures exact { IsOk result }

@@ -2,12 +2,12 @@
 ghost use Rattle.std.specs.Prelude.{◌≡◌, ◌<◌, ◌≤◌, ◌++◌, ℕ, List, Option, [], None, length, take, drop, IfOk, IfErr, IfSome, IsSome, IsErr, IsErrOf, OnOk, OnErr};
 ghost use Rattle.std.specs.Io.KnownBytes.{ReadConsumes};
 ghost use Rattle.gate_desk.specs.Counts.{counts_after, raised};
-ghost use Rattle.gate_desk.specs.Gathering.{waiting_in, got_in, way_of, ways_in, ahead_in, ahead_after, unread_in, unread_after, ways_after, gathered_after, HandsOut, RefusedWaits, StaysWaiting, TakesAhead, TakesNothing, TakesNothingElse, TakesPiece, Waits};
+ghost use Rattle.gate_desk.specs.Gathering.{waiting_in, got_in, access_of, accesses_in, ahead_in, ahead_after, unread_in, unread_after, accesses_after, gathered_after, HandsOut, RefusedWaits, StaysWaiting, TakesAhead, TakesNothing, TakesNothingElse, TakesPiece, Waits};
 ghost use Rattle.gate_desk.specs.Slots.{at, put, each};
 
 use crate::gathered::Gathering;
 use crate::place::{Place, open_place, write_out};
-use crate::{Desk, Failed, PerSlot, Slot, Way};
+use crate::{Desk, Failed, PerSlot, Slot, Access};
 use std::alloc::Allocator;
 use std::io::Read;
 use std::marker::Model;
@@ -36,11 +36,11 @@ pub struct FileDesk<R: Runtime> {
 
 impl<R: Runtime> Model for FileDesk<R> {
     ghost use Rattle.gate_desk.specs.Untold.{Files};
-    ghost use Rattle.gate_desk.specs.Gathering.{got_in, waiting_in, ways_in, ahead_in, unread_in, RefusedWaits};
+    ghost use Rattle.gate_desk.specs.Gathering.{got_in, waiting_in, accesses_in, ahead_in, unread_in, RefusedWaits};
 
     ghost Value = { Files };
 
-    ghost view = { λ d. record { ways = ways_in d.places; ahead = ahead_in d.places; unread = unread_in R.File.remaining d.places; got = got_in R.File.contents d.places; waiting = waiting_in d.places; refused = d.refused; faults = d.faults; start_faults = d.start_faults } };
+    ghost view = { λ d. record { accesses = accesses_in d.places; ahead = ahead_in d.places; unread = unread_in R.File.remaining d.places; got = got_in R.File.contents d.places; waiting = waiting_in d.places; refused = d.refused; faults = d.faults; start_faults = d.start_faults } };
 
     // Where the system refused octets of a slot, some wait there.
     ghost invariant = { λ d. RefusedWaits d.refused (waiting_in d.places) };
@@ -49,7 +49,7 @@ impl<R: Runtime> Model for FileDesk<R> {
 fn nowhere<F: Read + Drop, A: Allocator>() -> PerSlot<Place<F, A>>
     ensures waiting { waiting_in result ≡ each [] }
     ensures got { (contents : F → Option (List ℕ)) → got_in contents result ≡ each None }
-    ensures ways { ways_in result ≡ each None }
+    ensures accesses { accesses_in result ≡ each None }
     ensures ahead { ahead_in result ≡ each [] }
     ensures unread { unread_in F.remaining result ≡ each None }
 {
@@ -69,7 +69,7 @@ fn nowhere<F: Read + Drop, A: Allocator>() -> PerSlot<Place<F, A>>
 
 // Writes out all that is gathered, the report last, so that no line comes before its frame. The error is the slot that failed.
 fn write_out_all<R: Runtime>(rt: &R, places: &mut PerSlot<Place<R::File, R::A>>) -> Result<(), Slot>
-    ensures ways { ways_in places.new ≡ ways_in places.old }
+    ensures accesses { accesses_in places.new ≡ accesses_in places.old }
     ensures ahead { ahead_in places.new ≡ ahead_in places.old }
     ensures unread { unread_in R.File.remaining places.new ≡ unread_in R.File.remaining places.old }
     ensures none { OnOk result (waiting_in places.new ≡ each []) }
@@ -95,7 +95,7 @@ fn hand_out<R: Runtime>(
     places: &mut PerSlot<Place<R::File, R::A>>,
     refused: &mut Option<Slot>,
 ) -> Result<(), Failed>
-    ensures ways { ways_in places.new ≡ ways_in places.old }
+    ensures accesses { accesses_in places.new ≡ accesses_in places.old }
     ensures ahead { ahead_in places.new ≡ ahead_in places.old }
     ensures unread { unread_in R.File.remaining places.new ≡ unread_in R.File.remaining places.old }
     ensures all { OnOk result (waiting_in places.new ≡ each []) }
@@ -125,10 +125,10 @@ fn start_slot<R: Runtime>(
     refused: &mut Option<Slot>,
     slot: Slot,
     name: &str,
-    way: Way,
+    access: Access,
 ) -> Result<(), Failed>
     ensures refused { IsSome refused.old → IsErr result }
-    ensures ways { ways_in places.new ≡ ways_after result slot way (ways_in places.old) }
+    ensures accesses { accesses_in places.new ≡ accesses_after result slot access (accesses_in places.old) }
     ensures takes { OnOk result (TakesNothingElse slot (got_in R.File.contents places.old) (waiting_in places.old) (got_in R.File.contents places.new) (waiting_in places.new)) }
     ensures none { OnOk result (at (waiting_in places.new) slot ≡ []) }
     ensures ahead { ahead_in places.new ≡ ahead_after result slot (ahead_in places.old) }
@@ -136,7 +136,7 @@ fn start_slot<R: Runtime>(
     ensures still { RefusedWaits refused.old (waiting_in places.old) → RefusedWaits refused.new (waiting_in places.new) }
 {
     hand_out(rt, places, refused)?;
-    match open_place(rt, places, slot, name, way) {
+    match open_place(rt, places, slot, name, access) {
         Ok(place) => {
             *places.at_mut(slot) = place;
             Ok(())
@@ -155,7 +155,7 @@ fn read_slot<R: Runtime>(
 ) -> Result<usize, Failed>
     ensures fits { IfOk result (λ n. n ≤ length buffer.new) }
     ensures refused { IsSome refused.old → IsErr result }
-    ensures ways { ways_in places.new ≡ ways_in places.old }
+    ensures accesses { accesses_in places.new ≡ accesses_in places.old }
     ensures ahead { IfOk result (λ n. 0 < length (at (ahead_in places.old) slot) → TakesAhead n buffer.new (at (ahead_in places.old) slot) (at (ahead_in places.new) slot)) }
     ensures others { ahead_in places.new ≡ put (ahead_in places.old) slot (at (ahead_in places.new) slot) }
     ensures unread { ReadConsumes (at (unread_in R.File.remaining places.old) slot) (at (unread_in R.File.remaining places.new) slot) result buffer.new }
@@ -185,7 +185,7 @@ fn write_slot<R: Runtime>(
     first: &[u8],
     second: &[u8],
 ) -> Result<(), Failed>
-    ensures ways { ways_in places.new ≡ ways_in places.old }
+    ensures accesses { accesses_in places.new ≡ accesses_in places.old }
     ensures ahead { ahead_in places.new ≡ ahead_in places.old }
     ensures unread { unread_in R.File.remaining places.new ≡ unread_in R.File.remaining places.old }
     ensures waits { OnOk result (Waits slot (first.now ++ second.now) (waiting_in places.old) (waiting_in places.new)) }
@@ -216,7 +216,7 @@ fn gather_alone<R: Runtime>(
     first: &[u8],
     second: &[u8],
 ) -> Result<(), Failed>
-    ensures ways { ways_in places.new ≡ ways_in places.old }
+    ensures accesses { accesses_in places.new ≡ accesses_in places.old }
     ensures ahead { ahead_in places.new ≡ ahead_in places.old }
     ensures unread { unread_in R.File.remaining places.new ≡ unread_in R.File.remaining places.old }
     ensures waits { OnOk result (Waits slot (first.now ++ second.now) (waiting_in places.old) (waiting_in places.new)) }
@@ -239,7 +239,7 @@ fn write_errors<R: Runtime>(
     first: &[u8],
     second: &[u8],
 ) -> Result<(), Failed>
-    ensures ways { ways_in places.new ≡ ways_in places.old }
+    ensures accesses { accesses_in places.new ≡ accesses_in places.old }
     ensures ahead { ahead_in places.new ≡ ahead_in places.old }
     ensures unread { unread_in R.File.remaining places.new ≡ unread_in R.File.remaining places.old }
     ensures takes { OnOk result (TakesPiece Slot.Errors (first.now ++ second.now) (got_in R.File.contents places.old) (waiting_in places.old) (got_in R.File.contents places.new) (waiting_in places.new)) }
@@ -272,8 +272,8 @@ impl<R: Runtime> FileDesk<R> {
 
     /// A desk none of whose slots is started. It keeps the runtime, through which it reaches files and the standard streams, and a
     /// number by which tables may spread their keys.
-    pub fn make(rt: R, seed: u64) -> FileDesk<R>
-        ensures { result ≡ record { ways = each None; ahead = each []; unread = each None; got = each None; waiting = each []; refused = None; faults = each 0; start_faults = each 0 } }
+    pub fn new(rt: R, seed: u64) -> FileDesk<R>
+        ensures { result ≡ record { accesses = each None; ahead = each []; unread = each None; got = each None; waiting = each []; refused = None; faults = each 0; start_faults = each 0 } }
     {
         FileDesk {
             rt,
@@ -317,12 +317,12 @@ impl<R: Runtime> Desk for FileDesk<R> {
 
     ghost ready = { λ d slot. length (ready d slot) };
 
-    fn start(&mut self, slot: Slot, name: &str, way: Way) -> Result<(), Failed>
-        ensures ok { OnOk result (Starts slot name.now way (told_by self.old) (told_by self.new)) }
+    fn start(&mut self, slot: Slot, name: &str, access: Access) -> Result<(), Failed>
+        ensures ok { OnOk result (Starts slot name.now access (told_by self.old) (told_by self.new)) }
         ensures err { OnErr result (FailsToStart slot (told_by self.old) (told_by self.new)) }
         ensures leaves { OnOk result ((told_by self.new).start_faults ≡ (told_by self.old).start_faults) }
         ensures counts { self.new.start_faults ≡ counts_after result slot self.old.start_faults }
-        ensures ways { self.new.ways ≡ ways_after result slot way self.old.ways }
+        ensures accesses { self.new.accesses ≡ accesses_after result slot access self.old.accesses }
         ensures none { OnOk result (at self.new.waiting slot ≡ []) }
         ensures ahead { self.new.ahead ≡ ahead_after result slot self.old.ahead }
         ensures unread { self.new.unread ≡ unread_after result slot self.old.unread self.new.unread }
@@ -335,7 +335,7 @@ impl<R: Runtime> Desk for FileDesk<R> {
             &mut self.refused,
             slot,
             name,
-            way,
+            access,
         );
         match started {
             Ok(()) => Ok(()),
@@ -355,7 +355,7 @@ impl<R: Runtime> Desk for FileDesk<R> {
         ensures cause { OnErr result (HasFailed slot (told_by self.old) (told_by self.new)) }
         ensures leaves { OnOk result ((told_by self.new).faults ≡ (told_by self.old).faults) }
         ensures counts { self.new.faults ≡ counts_after result slot self.old.faults }
-        ensures ways { self.new.ways ≡ self.old.ways }
+        ensures accesses { self.new.accesses ≡ self.old.accesses }
         ensures ahead { IfOk result (λ n. 0 < length (at self.old.ahead slot) → TakesAhead n buffer.new (at self.old.ahead slot) (at self.new.ahead slot)) }
         ensures others { self.new.ahead ≡ put self.old.ahead slot (at self.new.ahead slot) }
         ensures unread { ReadConsumes (at self.old.unread slot) (at self.new.unread slot) result buffer.new }
@@ -381,7 +381,7 @@ impl<R: Runtime> Desk for FileDesk<R> {
         ensures cause { OnErr result (HasFailed slot (told_by self.old) (told_by self.new)) }
         ensures leaves { OnOk result ((told_by self.new).faults ≡ (told_by self.old).faults) }
         ensures counts { self.new.faults ≡ counts_after result slot self.old.faults }
-        ensures ways { self.new.ways ≡ self.old.ways }
+        ensures accesses { self.new.accesses ≡ self.old.accesses }
         ensures ahead { self.new.ahead ≡ self.old.ahead }
         ensures unread { self.new.unread ≡ self.old.unread }
         ensures whole { IfOk result (λ n. n ≡ length piece.now) }
@@ -426,7 +426,7 @@ impl<R: Runtime> Desk for FileDesk<R> {
         ensures cause { OnErr result (HasFailed slot (told_by self.old) (told_by self.new)) }
         ensures leaves { OnOk result ((told_by self.new).faults ≡ (told_by self.old).faults) }
         ensures counts { self.new.faults ≡ counts_after result slot self.old.faults }
-        ensures ways { self.new.ways ≡ self.old.ways }
+        ensures accesses { self.new.accesses ≡ self.old.accesses }
         ensures ahead { self.new.ahead ≡ self.old.ahead }
         ensures unread { self.new.unread ≡ self.old.unread }
         ensures waits { OnOk result (Waits slot (first.now ++ second.now) self.old.waiting self.new.waiting) }

@@ -54,7 +54,7 @@ fn put_behind(room: &mut [u8], count: usize, piece: &[u8]) -> usize
 
 impl<A: Allocator> Gathered<A> {
     /// None, with their room. The error is want of memory.
-    pub fn make(alloc: A) -> Result<Gathered<A>, AllocError>
+    pub fn new(alloc: A) -> Result<Gathered<A>, AllocError>
         ensures { IfOk result (λ none. none ≡ []) }
     {
         let octets = vec![in alloc; 0; GATHER]?;

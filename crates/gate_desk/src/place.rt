@@ -1,10 +1,10 @@
 // Where a slot of the desk over files leads.
 ghost use Rattle.std.specs.Prelude.{◌≡◌, ◌<◌, ◌≤◌, ◌++◌, ℕ, List, Option, Some, [], length, min, drop, option_map, unwrap_or, IfOk, IfErr, IfSome, MatchOption, OnOk, OnErr};
 ghost use Rattle.std.specs.Io.KnownBytes.{Appends, ReadConsumes};
-ghost use Rattle.gate_desk.specs.Gathering.{waiting, got, way_of, ahead, unread, gathered_after, TakesAhead};
+ghost use Rattle.gate_desk.specs.Gathering.{waiting, got, access_of, ahead, unread, gathered_after, TakesAhead};
 
 use crate::gathered::{Gathered, Gathering};
-use crate::{Failed, PerSlot, Slot, Way};
+use crate::{Failed, PerSlot, Slot, Access};
 use std::alloc::Allocator;
 use std::fs::{self, Metadata, OpenFile};
 use std::io::{self, BufRead, BufReader, ErrorKind, Read, Write};
@@ -63,20 +63,20 @@ pub fn open_place<R: Runtime>(
     places: &PerSlot<Place<R::File, R::A>>,
     slot: Slot,
     name: &str,
-    way: Way,
+    access: Access,
 ) -> io::Result<Place<R::File, R::A>>
     ensures none { IfOk result (λ place. waiting place ≡ []) }
-    ensures way { IfOk result (λ place. way_of place ≡ Some way) }
+    ensures access { IfOk result (λ place. access_of place ≡ Some access) }
     ensures ahead { IfOk result (λ place. ahead place ≡ []) }
 {
-    match way {
-        Way::Read => {
+    match access {
+        Access::Read => {
             let file = fs::open(rt, name)?;
             let reader = BufReader::with_capacity(rt.alloc(), READ_AHEAD, file)?;
             Ok(Place::Input(reader))
         }
-        Way::Write => {
-            let gathered = Gathered::make(rt.alloc())?;
+        Access::Write => {
+            let gathered = Gathered::new(rt.alloc())?;
             if slot == Slot::Report && name == "-" {
                 Ok(Place::StandardOutput(gathered))
             } else if is_open(rt, places, name) {
@@ -97,7 +97,7 @@ impl<F: Read + Drop, A: Allocator> Place<F, A> {
         ensures unread { unread F.remaining self.new ≡ option_map (drop (unwrap_or result 0)) (unread F.remaining self.old) }
         ensures waiting { waiting self.new ≡ waiting self.old }
         ensures got { (contents : F → Option (List ℕ)) → got contents self.new ≡ got contents self.old }
-        ensures way { way_of self.new ≡ way_of self.old }
+        ensures access { access_of self.new ≡ access_of self.old }
     {
         match self {
             Place::Input(reader) => {
@@ -132,7 +132,7 @@ impl<F: Read + Drop, A: Allocator> Place<F, A> {
         ensures unread { unread F.remaining self.new ≡ option_map (drop (min count (length (ahead self.old)))) (unread F.remaining self.old) }
         ensures waiting { waiting self.new ≡ waiting self.old }
         ensures got { (contents : F → Option (List ℕ)) → got contents self.new ≡ got contents self.old }
-        ensures way { way_of self.new ≡ way_of self.old }
+        ensures access { access_of self.new ≡ access_of self.old }
     {
         match self {
             Place::Input(reader) => reader.consume(count),
@@ -147,7 +147,7 @@ impl<F: Read + Drop, A: Allocator> Place<F, A> {
         ensures unread { ReadConsumes (unread F.remaining self.old) (unread F.remaining self.new) result buffer.new }
         ensures waiting { waiting self.new ≡ waiting self.old }
         ensures got { (contents : F → Option (List ℕ)) → got contents self.new ≡ got contents self.old }
-        ensures way { way_of self.new ≡ way_of self.old }
+        ensures access { access_of self.new ≡ access_of self.old }
     {
         match self {
             Place::Input(reader) => reader.read(buffer).map_err(|_: io::Error| Failed),
@@ -160,7 +160,7 @@ impl<F: Read + Drop, A: Allocator> Place<F, A> {
     pub fn gather(&mut self, first: &[u8], second: &[u8]) -> Gathering
         ensures waits { waiting self.new ≡ gathered_after result (first.now ++ second.now) (waiting self.old) }
         ensures got { (contents : F → Option (List ℕ)) → got contents self.new ≡ got contents self.old }
-        ensures way { way_of self.new ≡ way_of self.old }
+        ensures access { access_of self.new ≡ access_of self.old }
         ensures ahead { ahead self.new ≡ ahead self.old }
         ensures unread { unread F.remaining self.new ≡ unread F.remaining self.old }
     {
@@ -196,7 +196,7 @@ pub fn write_out<R: Runtime>(
     place: &mut Place<R::File, R::A>,
 ) -> Result<(), Slot>
     ensures none { OnOk result (waiting place.new ≡ []) }
-    ensures way { way_of place.new ≡ way_of place.old }
+    ensures access { access_of place.new ≡ access_of place.old }
     ensures ahead { ahead place.new ≡ ahead place.old }
     ensures unread { unread R.File.remaining place.new ≡ unread R.File.remaining place.old }
     ensures written { OnOk result (Appends (got R.File.contents place.old) (got R.File.contents place.new) (waiting place.old)) }

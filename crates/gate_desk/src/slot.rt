@@ -52,7 +52,7 @@ impl Slot {
 
 /// What a slot is started for.
 #[derive(Clone, Copy, Debug, PartialEq, Eq)]
-pub enum Way {
+pub enum Access {
     Read,
     Write,
 }

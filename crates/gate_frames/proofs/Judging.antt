@@ -8,7 +8,7 @@ use Rattle.twice_translate.specs.Content.{read_content}
 use Rattle.twice_translate.proofs.Accepted.{reads}
 use Rattle.twice_translate.proofs.Cut.{cut_goes_on, cut_same}
 use Rattle.gate_base.specs.Tests.{first_that_holds}
-use Rattle.gate_world.specs.Frame.{datagram_tests, transport_tests}
+use Rattle.gate_model.specs.Frame.{datagram_tests, transport_tests}
 use Rattle.gate_frames.specs.declared.content.Content.{Content}
 use Rattle.gate_frames.specs.Frames.{IsJudged}
 use Rattle.gate_frames.specs.Judged.{IsContentOf}

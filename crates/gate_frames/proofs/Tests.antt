@@ -20,8 +20,8 @@ use Rattle.inet_sum.specs.Sum.{is_right}
 use Rattle.tcp_segments.specs.Tcp.{Tcp, has_bad_offset, has_bad_options, tcp_covered, read_tcp}
 use Rattle.gate_base.specs.Tests.{first_that_holds}
 use Rattle.ether_frames.specs.Ether.{octets_in}
-use Rattle.gate_world.specs.Frame.{has_other_address, datagram_in, header_tests, datagram_tests, transport_tests}
-use Rattle.gate_world.specs.Stream.{tcp_of}
+use Rattle.gate_model.specs.Frame.{has_other_address, datagram_in, header_tests, datagram_tests, transport_tests}
+use Rattle.gate_model.specs.Stream.{tcp_of}
 use Rattle.gate_frames.specs.declared.content.Content.{Content as Carried}
 use Rattle.gate_frames.specs.Judged.{ip_refusal, transport_refusal, judged, front_tests, IsContentOf, Carries}
 

@@ -11,8 +11,8 @@ use Rattle.ipv4_frames.specs.declared.fault.TransportFault.TheVariants.{BadTrans
 use Rattle.udp_icmp.specs.Icmp.{icmp_fields_of}
 use Rattle.udp_icmp.specs.Udp.{udp_fields_of}
 use Rattle.gate_base.specs.Tests.{first_that_holds}
-use Rattle.gate_world.specs.Frame.{datagram_in, header_tests, datagram_tests, transport_tests}
-use Rattle.gate_world.specs.Stream.{tcp_of}
+use Rattle.gate_model.specs.Frame.{datagram_in, header_tests, datagram_tests, transport_tests}
+use Rattle.gate_model.specs.Stream.{tcp_of}
 use Rattle.gate_frames.specs.declared.content.Content.{Content}
 use Rattle.gate_frames.specs.declared.content.Content.TheVariants.{Udp, Icmp as OfIcmp, Tcp}
 

@@ -4,7 +4,7 @@ ghost use Rattle.gate_base.specs.Events.{event_of};
 ghost use Rattle.ether_frames.specs.Ether.{octets_in};
 ghost use Rattle.ipv4_frames.specs.Ipv4.{read_datagram};
 ghost use Rattle.gate_base.specs.Tests.{first_that_holds};
-ghost use Rattle.gate_world.specs.Frame as frame;
+ghost use Rattle.gate_model.specs.Frame as frame;
 ghost use Rattle.gate_frames.specs.Judged.{ip_refusal, transport_refusal, judged, Carries};
 
 use gate_base::{Event, ICMP, Refusal, TCP, UDP, is_unicast};

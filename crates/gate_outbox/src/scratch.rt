@@ -26,7 +26,7 @@ impl Model for Scratch {
 
 impl Scratch {
     /// The room. The error is that there is too little memory.
-    pub fn make(alloc: Global) -> Result<Scratch, OutOfMemory> {
+    pub fn new(alloc: Global) -> Result<Scratch, OutOfMemory> {
         Ok(Scratch {
             octets: Vec::with_capacity(alloc, OCTETS)?,
         })

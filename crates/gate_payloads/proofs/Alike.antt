@@ -4,9 +4,9 @@ use Rattle.gate_base.specs.declared.refusal.Refusal.{Refusal}
 use Rattle.gate_base.specs.declared.side.Side.{Side}
 use Rattle.binding_table.specs.Bindings.{Bindings}
 use Rattle.ipv4_frames.specs.Ipv4.{Datagram}
-use Rattle.gate_world.specs.Frame.{Kind, Udp, Echo, Error, Dns, Snmp, Stream}
-use Rattle.gate_world.specs.Rules.{SessionRules}
-use Rattle.gate_world.specs.World.{World}
+use Rattle.gate_model.specs.Frame.{Kind, Udp, Echo, Error, Dns, Snmp, Stream}
+use Rattle.gate_model.specs.Rules.{SessionRules}
+use Rattle.gate_model.specs.World.{World}
 use Rattle.gate_payloads.specs.Plain.{plain_rules, like, asks_none}
 use Rattle.gate_payloads.specs.Taken.{IsTaken, IsWayOf}
 use Rattle.gate_payloads.specs.declared.addresses.Way.{Way}

@@ -26,12 +26,12 @@ use Rattle.twice_translate.proofs.Accepted.{ok_as, reads_udp, udp_long}
 use Rattle.gate_base.specs.Tests.{first_that_holds, unless_refused}
 use Rattle.gate_base.specs.declared.refusal.Refusal.{Refusal}
 use Rattle.gate_base.specs.declared.refusal.Refusal.TheVariants.{BadDns, DnsUnbound, PoolEmpty}
-use Rattle.gate_world.specs.Frame.{Dns, Udp}
-use Rattle.gate_world.specs.Names.{carried, message_in, named_in, is_unbound, has_unbound, reply_by, names_after}
-use Rattle.gate_world.specs.Verdict.{udp_hold, named_hold}
-use Rattle.gate_world.specs.Units.{uses_until}
-use Rattle.gate_world.specs.World.{World, source_of, destination_of, called}
-use Rattle.gate_world.specs.Rules.{SessionRules}
+use Rattle.gate_model.specs.Frame.{Dns, Udp}
+use Rattle.gate_model.specs.Names.{carried, message_in, named_in, is_unbound, has_unbound, reply_by, names_after}
+use Rattle.gate_model.specs.Verdict.{udp_timeout, named_timeout}
+use Rattle.gate_model.specs.Units.{uses_until}
+use Rattle.gate_model.specs.World.{World, source_of, destination_of, called}
+use Rattle.gate_model.specs.Rules.{SessionRules}
 use Rattle.gate_payloads.specs.Named.{named_uses}
 use Rattle.gate_payloads.specs.Taken.{IsTaken, IsWayOf}
 use Rattle.gate_payloads.specs.Ways.{image_by, is_empty}
@@ -72,19 +72,19 @@ images_used f side until (address ∷ rest) = ap (λ more. f side address ∷ mo
 -- the uses are those of all addresses
 pub all_used : (side : Side) (moment : ℕ) (source destination : Addr) (named addresses : List Addr) → addresses ≡ source ∷ destination ∷ named → AreUsesOf side addresses (named_uses side moment source destination named)
 all_used side moment source destination named addresses e =
-    let until : Moment = record { 0 = moment + udp_hold } in
-    let rest = uses_until side (moment + named_hold) named in
+    let until : Moment = record { 0 = moment + udp_timeout } in
+    let rest = uses_until side (moment + named_timeout) named in
     let one : Use = record { side = side; address = source; until = until } in
     let two : Use = record { side = side; address = destination; until = until } in
     record {
-      sides = All-cons (IsOf side) one (two ∷ rest) refl (All-cons (IsOf side) two rest refl (used_sides side (moment + named_hold) named));
-      each = ap (λ more. source ∷ destination ∷ more) (used_addresses side (moment + named_hold) named) ∙ sym e;
+      sides = All-cons (IsOf side) one (two ∷ rest) refl (All-cons (IsOf side) two rest refl (used_sides side (moment + named_timeout) named));
+      each = ap (λ more. source ∷ destination ∷ more) (used_addresses side (moment + named_timeout) named) ∙ sym e;
     }
 
 -- the images of those in the message, once all are used
 images_named : (t : Bindings) (side : Side) (moment : ℕ) (source destination : Addr) (named : List Addr) → let uses = named_uses side moment source destination named in
     drop 2 (images_after t uses) ≡ map (image_after t (after_uses t uses) side) named
-images_named t side moment source destination named = images_used (image_after t (after_uses t (named_uses side moment source destination named))) side (moment + named_hold) named
+images_named t side moment source destination named = images_used (image_after t (after_uses t (named_uses side moment source destination named))) side (moment + named_timeout) named
 
 -- ## None of them is unbound
 
@@ -131,18 +131,18 @@ has_room t side address rest room =
 source_goes : (t : Bindings) (side : Side) (moment : ℕ) (source destination : Addr) (named : List Addr) → in_pool t side source ≡ false → nat_lt (free t (other side)) (needed t side (source ∷ destination ∷ named)) ≡ false →
     called (after_uses t (named_uses side moment source destination named)) side source ≡ image_by (cross t side source) source
 source_goes t side moment source destination named outside room =
-    let until : Moment = record { 0 = moment + udp_hold } in
+    let until : Moment = record { 0 = moment + udp_timeout } in
     let one : Use = record { side = side; address = source; until = until } in
     let first = used_called t side source until (cross t side source) refl (host_bound t side source outside) (has_room t side source (destination ∷ named) room) in
     let header = still_after (used t one) side source _ until.0 (destination ∷ []) first in
-    called_is (still_after (after_uses t (uses_until side until.0 (source ∷ destination ∷ []))) side source _ (moment + named_hold) named header)
+    called_is (still_after (after_uses t (uses_until side until.0 (source ∷ destination ∷ []))) side source _ (moment + named_timeout) named header)
 
 destination_goes : (t : Bindings) (side : Side) (moment : ℕ) (source destination : Addr) (named : List Addr) → is_settled (cross t side destination) ≡ true →
     called (after_uses t (named_uses side moment source destination named)) side destination ≡ image_by (cross t side destination) destination
 destination_goes t side moment source destination named settled =
-    let until : ℕ = moment + udp_hold in
+    let until : ℕ = moment + udp_timeout in
     let header = still_after t side destination _ until (source ∷ destination ∷ []) (of_crossing t side destination (cross t side destination) refl settled) in
-    called_is (still_after (after_uses t (uses_until side until (source ∷ destination ∷ []))) side destination _ (moment + named_hold) named header)
+    called_is (still_after (after_uses t (uses_until side until (source ∷ destination ∷ []))) side destination _ (moment + named_timeout) named header)
 
 -- ## A payload that stays
 

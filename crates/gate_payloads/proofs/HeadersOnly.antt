@@ -12,11 +12,11 @@ use Rattle.gate_base.specs.Tests.{first_that_holds, unless_refused}
 use Rattle.std.proofs.Common.{◌||◌, ◌==◌, slice_index}
 use Rattle.gate_base.specs.Fields.{u16_at}
 use Rattle.udp_icmp.specs.Icmp.{is_error_type}
-use Rattle.gate_world.specs.Frame.{Udp, Echo, udp_kind, icmp_kind}
-use Rattle.gate_world.specs.Verdict.{udp_hold, icmp_hold, is_pool_empty}
-use Rattle.gate_world.specs.Units.{uses_until}
-use Rattle.gate_world.specs.World.{World, source_of, destination_of, called}
-use Rattle.gate_world.specs.Rules.{SessionRules}
+use Rattle.gate_model.specs.Frame.{Udp, Echo, udp_kind, icmp_kind}
+use Rattle.gate_model.specs.Verdict.{udp_timeout, icmp_timeout, is_pool_empty}
+use Rattle.gate_model.specs.Units.{uses_until}
+use Rattle.gate_model.specs.World.{World, source_of, destination_of, called}
+use Rattle.gate_model.specs.Rules.{SessionRules}
 use Rattle.gate_payloads.specs.Taken.{IsTaken, IsWayOf}
 use Rattle.gate_payloads.specs.Ways.{image_by, is_empty}
 use Rattle.gate_payloads.specs.declared.addresses.Way.{Way}
@@ -61,30 +61,30 @@ empty_is rules live side d way w =
     ∙ sym (pool_empty_is live.table side (source_of d) (destination_of d) (ap is_settled (sym (of_destination_is live side d way w)) ∙ w.settled))
 
 -- the uses of a way are those of its datagram
-pub uses_are : {S : Type 0} (live : World S) (side : Side) (d : Datagram) (way : Way) (hold : ℕ) → IsWayOf live side d way →
-    after_uses live.table (uses_until way.side (way.moment.0 + hold) (way.source ∷ way.destination ∷ [])) ≡ after_uses live.table (uses_until side (live.clock + hold) (source_of d ∷ destination_of d ∷ []))
-uses_are live side d way hold w =
-    ap (λ (x : Side). after_uses live.table (uses_until x (way.moment.0 + hold) (way.source ∷ way.destination ∷ []))) w.side_is
-    ∙ ap (λ (m : ℕ). after_uses live.table (uses_until side (m + hold) (way.source ∷ way.destination ∷ []))) w.moment_is
-    ∙ ap (λ (a : Addr). after_uses live.table (uses_until side (live.clock + hold) (a ∷ way.destination ∷ []))) w.source_is
-    ∙ ap (λ (a : Addr). after_uses live.table (uses_until side (live.clock + hold) (source_of d ∷ a ∷ []))) w.destination_is
+pub uses_are : {S : Type 0} (live : World S) (side : Side) (d : Datagram) (way : Way) (timeout : ℕ) → IsWayOf live side d way →
+    after_uses live.table (uses_until way.side (way.moment.0 + timeout) (way.source ∷ way.destination ∷ [])) ≡ after_uses live.table (uses_until side (live.clock + timeout) (source_of d ∷ destination_of d ∷ []))
+uses_are live side d way timeout w =
+    ap (λ (x : Side). after_uses live.table (uses_until x (way.moment.0 + timeout) (way.source ∷ way.destination ∷ []))) w.side_is
+    ∙ ap (λ (m : ℕ). after_uses live.table (uses_until side (m + timeout) (way.source ∷ way.destination ∷ []))) w.moment_is
+    ∙ ap (λ (a : Addr). after_uses live.table (uses_until side (live.clock + timeout) (a ∷ way.destination ∷ []))) w.source_is
+    ∙ ap (λ (a : Addr). after_uses live.table (uses_until side (live.clock + timeout) (source_of d ∷ a ∷ []))) w.destination_is
 
 pub udp_taken : {S : Type 0} (rules : SessionRules S) (live : World S) (side : Side) (d : Datagram) (way : Way) (r : Option Refusal) (table : Bindings) (sent : List (List ℕ)) → IsWayOf live side d way → r ≡ first_that_holds ((is_empty way.of_source, PoolEmpty) ∷ [])
-    → table ≡ unless_refused r (after_uses live.table (uses_until way.side (way.moment.0 + udp_hold) (way.source ∷ way.destination ∷ []))) live.table
+    → table ≡ unless_refused r (after_uses live.table (uses_until way.side (way.moment.0 + udp_timeout) (way.source ∷ way.destination ∷ []))) live.table
     → sent ≡ unless_refused r (renamed d (image_by way.of_source way.source).0 (image_by way.of_destination way.destination).0 ∷ []) [] → IsTaken rules live side d Udp r table sent
 udp_taken rules live side d way r table sent w e t o = record {
   answer = e ∙ ap (λ (b : Bool). first_that_holds ((b, PoolEmpty) ∷ [])) (empty_is rules live side d way w);
-  bound = t ∙ ap (λ (x : Bindings). unless_refused r x live.table) (uses_are live side d way udp_hold w);
-  gone = o ∙ by_refusal (is_empty way.of_source) r _ _ e (images_are live side d way (live.clock + udp_hold) w);
+  bound = t ∙ ap (λ (x : Bindings). unless_refused r x live.table) (uses_are live side d way udp_timeout w);
+  gone = o ∙ by_refusal (is_empty way.of_source) r _ _ e (images_are live side d way (live.clock + udp_timeout) w);
 }
 
 pub echo_taken : {S : Type 0} (rules : SessionRules S) (live : World S) (side : Side) (d : Datagram) (way : Way) (r : Option Refusal) (table : Bindings) (sent : List (List ℕ)) → IsWayOf live side d way → r ≡ first_that_holds ((is_empty way.of_source, PoolEmpty) ∷ [])
-    → table ≡ unless_refused r (after_uses live.table (uses_until way.side (way.moment.0 + icmp_hold) (way.source ∷ way.destination ∷ []))) live.table
+    → table ≡ unless_refused r (after_uses live.table (uses_until way.side (way.moment.0 + icmp_timeout) (way.source ∷ way.destination ∷ []))) live.table
     → sent ≡ unless_refused r (renamed d (image_by way.of_source way.source).0 (image_by way.of_destination way.destination).0 ∷ []) [] → IsTaken rules live side d Echo r table sent
 echo_taken rules live side d way r table sent w e t o = record {
   answer = e ∙ ap (λ (b : Bool). first_that_holds ((b, PoolEmpty) ∷ [])) (empty_is rules live side d way w);
-  bound = t ∙ ap (λ (x : Bindings). unless_refused r x live.table) (uses_are live side d way icmp_hold w);
-  gone = o ∙ by_refusal (is_empty way.of_source) r _ _ e (images_are live side d way (live.clock + icmp_hold) w);
+  bound = t ∙ ap (λ (x : Bindings). unless_refused r x live.table) (uses_are live side d way icmp_timeout w);
+  gone = o ∙ by_refusal (is_empty way.of_source) r _ _ e (images_are live side d way (live.clock + icmp_timeout) w);
 }
 
 -- ## Kinds

@@ -13,16 +13,16 @@ use Rattle.gate_settings.specs.Cross.{is_in_same}
 use Rattle.realm_pools.specs.Addresses.{least_free}
 use Rattle.binding_table.specs.declared.binding.Binding.{Binding}
 use Rattle.binding_table.specs.declared.binding.Crossing.{Crossing}
-use Rattle.binding_table.specs.declared.binding.Crossing.TheVariants.{Same, Known, New, Unbound, Empty}
+use Rattle.binding_table.specs.declared.binding.Crossing.TheVariants.{Same, Bound, New, Unbound, Empty}
 use Rattle.binding_table.specs.Bindings.{Bindings, is_same, in_pool, is_of_host, alias_of, host_of, pool_of, free, cross, seen, seen_by, known_or, new_or_empty, with_binding, extended, IsNew, is_settled}
 use Rattle.binding_table.specs.Plan.{Use, used, used_by, after_uses, needed, needs_binding}
 use Rattle.binding_table.proofs.Pools.{same_side-itself}
 use Rattle.binding_table.proofs.Bind.{HasNoBinding, unbound_of}
 use Rattle.binding_table.proofs.Planned.{settled_stays, extended_follows, used_follows, flags_free}
-use Rattle.gate_world.specs.Verdict.{is_reachable}
-use Rattle.gate_world.specs.Units.{uses_until}
-use Rattle.gate_world.specs.World.{called}
-use Rattle.gate_world.proofs.BoundTables.{new_is_least}
+use Rattle.gate_model.specs.Verdict.{is_reachable}
+use Rattle.gate_model.specs.Units.{uses_until}
+use Rattle.gate_model.specs.World.{called}
+use Rattle.gate_model.proofs.BoundTables.{new_is_least}
 use Rattle.gate_payloads.specs.Ways.{image_by, is_empty}
 
 -- ## After a use
@@ -34,7 +34,7 @@ alias_last side host (one ∷ rest) binding is none = elim (cases_Bool (is_of_ho
   | inr later ↦ rw later (alias_last side host rest binding is (rw later at none))
 ]
 
-new_known : (t : Bindings) (side : Side) (host : Addr) (binding : Binding) → is_of_host side host.0 binding ≡ true → HasNoBinding t side host → cross (with_binding t binding) side host ≡ Known binding.alias
+new_known : (t : Bindings) (side : Side) (host : Addr) (binding : Binding) → is_of_host side host.0 binding ≡ true → HasNoBinding t side host → cross (with_binding t binding) side host ≡ Bound binding.alias
 unfolding cross
 new_known t side host binding is h = rw (h.differs, h.outside, alias_last side host t.entries binding is h.alias) refl
 
@@ -44,7 +44,7 @@ is_of_itself side host binding s h = rw (s, h, same_side-itself side) (eq-eqb ho
 -- what is seen is the image of a settled crossing
 seen_image : (t : Bindings) (side : Side) (address : Addr) (crossing : Crossing) → cross t side address ≡ crossing → is_settled crossing ≡ true → seen t side address ≡ Some (image_by crossing address)
 seen_image t side address Same e s = rw e refl
-seen_image t side address (Known image) e s = rw e refl
+seen_image t side address (Bound image) e s = rw e refl
 seen_image t side address (New alias) e s = absurd (false≢true s)
 seen_image t side address Unbound e s = absurd (false≢true s)
 seen_image t side address Empty e s = absurd (false≢true s)
@@ -59,12 +59,12 @@ of_crossing t side address crossing e s = record { settled = ap is_settled e ∙
 
 pub used_called : (t : Bindings) (side : Side) (address : Addr) (until : Moment) (crossing : Crossing) → cross t side address ≡ crossing → crossing ≢ Unbound → is_empty crossing ≡ false → IsCalled (used_by t side address until crossing) side address (image_by crossing address)
 used_called t side address until Same e u m = of_crossing t side address Same e refl
-used_called t side address until (Known image) e u m =
-    let stays = settled_stays t (extended t side address until) side address (extended_follows t side address until) (ap is_settled e) in of_crossing (extended t side address until) side address (Known image) (stays ∙ e) refl
+used_called t side address until (Bound image) e u m =
+    let stays = settled_stays t (extended t side address until) side address (extended_follows t side address until) (ap is_settled e) in of_crossing (extended t side address until) side address (Bound image) (stays ∙ e) refl
 used_called t side address until (New alias) e u m =
     let binding : Binding = record { side = side; host = address; alias = alias; until = until; fixed = false } in
     let unbound = unbound_of t side address (subst IsNew (sym e) tt) in
-    of_crossing (with_binding t binding) side address (Known alias) (new_known t side address binding (is_of_itself side address.0 binding refl refl) unbound) refl
+    of_crossing (with_binding t binding) side address (Bound alias) (new_known t side address binding (is_of_itself side address.0 binding refl refl) unbound) refl
 used_called t side address until Unbound e u m = absurd (u refl)
 used_called t side address until Empty e u m = absurd (false≢true (sym m))
 
@@ -103,7 +103,7 @@ same_settled t side address h = rw (same_or_not (is_unicast_number address.0) h)
 
 seen_settled : (address : Addr) (crossing : Crossing) → is_some (seen_by address crossing) ≡ true → is_settled crossing ≡ true
 seen_settled address Same h = refl
-seen_settled address (Known image) h = refl
+seen_settled address (Bound image) h = refl
 seen_settled address (New alias) h = absurd (false≢true h)
 seen_settled address Unbound h = absurd (false≢true h)
 seen_settled address Empty h = absurd (false≢true h)
@@ -162,22 +162,22 @@ least_taken first taken alias e h = cc (rw (none_free taken h) at e)
 
 needed_is : (t : Bindings) (side : Side) (source destination : Addr) (s d : Crossing) → cross t side source ≡ s → cross t side destination ≡ d → is_settled d ≡ true → needed t side (source ∷ destination ∷ []) ≡ (if needs_binding s then 1 else 0)
 needed_is t side source destination Same Same e f h = rw (e, f) refl
-needed_is t side source destination (Known i) Same e f h = rw (e, f) refl
+needed_is t side source destination (Bound i) Same e f h = rw (e, f) refl
 needed_is t side source destination (New a) Same e f h = rw (e, f) refl
 needed_is t side source destination Unbound Same e f h = rw (e, f) refl
 needed_is t side source destination Empty Same e f h = rw (e, f) refl
-needed_is t side source destination Same (Known j) e f h = rw (e, f) refl
-needed_is t side source destination (Known i) (Known j) e f h = rw (e, f) refl
-needed_is t side source destination (New a) (Known j) e f h = rw (e, f) refl
-needed_is t side source destination Unbound (Known j) e f h = rw (e, f) refl
-needed_is t side source destination Empty (Known j) e f h = rw (e, f) refl
+needed_is t side source destination Same (Bound j) e f h = rw (e, f) refl
+needed_is t side source destination (Bound i) (Bound j) e f h = rw (e, f) refl
+needed_is t side source destination (New a) (Bound j) e f h = rw (e, f) refl
+needed_is t side source destination Unbound (Bound j) e f h = rw (e, f) refl
+needed_is t side source destination Empty (Bound j) e f h = rw (e, f) refl
 needed_is t side source destination s (New a) e f h = absurd (false≢true h)
 needed_is t side source destination s Unbound e f h = absurd (false≢true h)
 needed_is t side source destination s Empty e f h = absurd (false≢true h)
 
 pub free_is : (t : Bindings) (side : Side) (source : Addr) (s : Crossing) → cross t side source ≡ s → nat_lt (free t (other side)) (if needs_binding s then 1 else 0) ≡ is_empty s
 free_is t side source Same e = le-ltb (free t (other side)) 0 (omega arith)
-free_is t side source (Known i) e = le-ltb (free t (other side)) 0 (omega arith)
+free_is t side source (Bound i) e = le-ltb (free t (other side)) 0 (omega arith)
 free_is t side source Unbound e = le-ltb (free t (other side)) 0 (omega arith)
 free_is t side source Empty e = rw (flags_free (pool_of t (other side)).taken (no_least (pool_of t (other side)).range.first (pool_of t (other side)).taken (empty_least t side source e))) refl
 free_is t side source (New a) e = elim (cases_lt 0 (free t (other side))) [

@@ -3,9 +3,9 @@ use Rattle.std.specs.Prelude.{ℕ, ◌+◌, List, [], ◌∷◌, ◌++◌}
 use Rattle.gate_base.specs.declared.address.Addr.{Addr}
 use Rattle.gate_base.specs.declared.side.Side.{Side}
 use Rattle.binding_table.specs.Plan.{Use}
-use Rattle.gate_world.specs.Verdict.{udp_hold, named_hold}
-use Rattle.gate_world.specs.Units.{uses_until}
+use Rattle.gate_model.specs.Verdict.{udp_timeout, named_timeout}
+use Rattle.gate_model.specs.Units.{uses_until}
 
 -- the uses of both addresses by the header, and of those in the message
 abbrev pub named_uses : Side → ℕ → Addr → Addr → List Addr → List Use
-named_uses side moment source destination named = uses_until side (moment + udp_hold) (source ∷ destination ∷ []) ++ uses_until side (moment + named_hold) named
+named_uses side moment source destination named = uses_until side (moment + udp_timeout) (source ∷ destination ∷ []) ++ uses_until side (moment + named_timeout) named

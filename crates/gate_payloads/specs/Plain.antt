@@ -1,8 +1,8 @@
 -- A world without sessions, over which it is said what becomes of a datagram that no session takes.
 use Rattle.std.specs.Prelude.{Bool, true, false, [], None}
-use Rattle.gate_world.specs.Frame.{Kind, Udp, Echo, Error, Dns, Snmp, Stream}
-use Rattle.gate_world.specs.Rules.{SessionRules}
-use Rattle.gate_world.specs.World.{World}
+use Rattle.gate_model.specs.Frame.{Kind, Udp, Echo, Error, Dns, Snmp, Stream}
+use Rattle.gate_model.specs.Rules.{SessionRules}
+use Rattle.gate_model.specs.World.{World}
 
 -- a session that knows nothing
 abbrev pub PlainSession : Type 0
@@ -11,7 +11,7 @@ PlainSession = Unit {0}
 abbrev pub plain_rules : SessionRules PlainSession
 plain_rules = record {
   made = λ port pair sequence mss. tt;
-  verdict = λ from_client x segment. None;
+  refusal = λ from_client x segment. None;
   units = λ from_client x segment. [];
   listed = λ client x. [];
   next = λ image from_client x segment. tt;

@@ -7,12 +7,12 @@ use Rattle.binding_table.specs.Bindings.{Bindings, in_pool, is_settled}
 use Rattle.ipv4_frames.specs.Ipv4.{Datagram}
 use Rattle.gate_base.specs.Tests.{first_that_holds, unless_refused}
 use Rattle.twice_translate.specs.Renamed.{CanGoOn, datagram_of}
-use Rattle.gate_world.specs.Frame.{Kind}
-use Rattle.gate_world.specs.Names.{carried}
-use Rattle.gate_world.specs.Step.{out_kind}
-use Rattle.gate_world.specs.Verdict.{kind_tests, late_tests, is_pool_empty, table_after}
-use Rattle.gate_world.specs.World.{World, source_of, destination_of}
-use Rattle.gate_world.specs.Rules.{SessionRules}
+use Rattle.gate_model.specs.Frame.{Kind}
+use Rattle.gate_model.specs.Names.{carried}
+use Rattle.gate_model.specs.Step.{out_kind}
+use Rattle.gate_model.specs.Verdict.{kind_tests, late_tests, is_pool_empty, table_after}
+use Rattle.gate_model.specs.World.{World, source_of, destination_of}
+use Rattle.gate_model.specs.Rules.{SessionRules}
 use Rattle.gate_payloads.specs.Ways.{IsWay}
 use Rattle.gate_payloads.specs.declared.addresses.Way.{Way}
 

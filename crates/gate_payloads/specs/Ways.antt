@@ -5,8 +5,8 @@ use Rattle.gate_base.specs.declared.refusal.Refusal.{Refusal}
 use Rattle.gate_base.specs.declared.refusal.Refusal.TheVariants.{SourceInPool, NoBinding}
 use Rattle.binding_table.specs.Bindings.{Bindings, cross, in_pool}
 use Rattle.binding_table.specs.declared.binding.Crossing.{Crossing}
-use Rattle.binding_table.specs.declared.binding.Crossing.TheVariants.{Known, New, Empty}
-use Rattle.gate_world.specs.Verdict.{is_reachable}
+use Rattle.binding_table.specs.declared.binding.Crossing.TheVariants.{Bound, New, Empty}
+use Rattle.gate_model.specs.Verdict.{is_reachable}
 use Rattle.gate_payloads.specs.declared.addresses.Way.{Way}
 
 -- the crossings are those of a table
@@ -16,7 +16,7 @@ pub record IsWay (table : Bindings) (way : Way) : Type 0 where
 
 -- what an address is called once it was used
 abbrev pub image_by : Crossing → Addr → Addr
-image_by (Known image) address = image
+image_by (Bound image) address = image
 image_by (New image) address = image
 image_by _ address = address
 

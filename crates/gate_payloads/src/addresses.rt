@@ -3,8 +3,8 @@ ghost use Rattle.std.specs.Prelude.{◌≡◌, ◌+◌, ◌*◌, ◌^◌, ◌<�
 ghost use Rattle.binding_table.specs.Bindings.{cross, seen, is_settled};
 ghost use Rattle.binding_table.specs.Plan.{used, used_by, after_uses};
 ghost use Rattle.gate_base.specs.Tests.{first_that_holds};
-ghost use Rattle.gate_world.specs.Verdict.{is_reachable};
-ghost use Rattle.gate_world.specs.Units.{uses_until};
+ghost use Rattle.gate_model.specs.Verdict.{is_reachable};
+ghost use Rattle.gate_model.specs.Units.{uses_until};
 ghost use Rattle.gate_payloads.specs.Ways.{IsWay, image_by, is_empty, way_tests};
 
 use binding_table::{Crossing, Table};
@@ -52,14 +52,14 @@ impl Way {
     }
 
     /// Uses both addresses, the source first.
-    pub fn use_both(&self, table: &mut Table, hold: u64)
+    pub fn use_both(&self, table: &mut Table, timeout: u64)
         requires way { IsWay table.old self.now }
         requires settled { is_settled self.now.of_destination ≡ true }
         requires moment { self.now.moment.0 < 2 ^ 32 * 1000000000 }
-        requires hold { hold ≤ 7440 * 1000000000 }
-        ensures { table.new ≡ after_uses table.old (uses_until self.now.side (self.now.moment.0 + hold) (self.now.source ∷ self.now.destination ∷ [])) }
+        requires timeout { timeout ≤ 7440 * 1000000000 }
+        ensures { table.new ≡ after_uses table.old (uses_until self.now.side (self.now.moment.0 + timeout) (self.now.source ∷ self.now.destination ∷ [])) }
     {
-        let until = Moment(self.moment.0 + hold);
+        let until = Moment(self.moment.0 + timeout);
         use_by(self.of_source, table, self.side, self.source, until);
         use_by(
             self.of_destination,
@@ -75,7 +75,7 @@ fn image_by(crossing: Crossing, address: Addr) -> Addr
     ensures { result ≡ image_by crossing address }
 {
     match crossing {
-        Crossing::Known(image) => image,
+        Crossing::Bound(image) => image,
         Crossing::New(image) => image,
         _ => address,
     }
@@ -87,7 +87,7 @@ fn use_by(crossing: Crossing, table: &mut Table, side: Side, address: Addr, unti
     ensures { table.new ≡ used table.old (record { side = side; address = address; until = until }) }
 {
     match crossing {
-        Crossing::Known(_) => table.extend(side, address, until),
+        Crossing::Bound(_) => table.extend(side, address, until),
         Crossing::New(_) => table.bind(side, address, until),
         _ => {}
     }
@@ -106,7 +106,7 @@ pub fn use_address(table: &mut Table, side: Side, address: Addr, until: Moment)
 fn is_seen(crossing: Crossing) -> bool
     ensures { result ≡ is_settled crossing }
 {
-    matches!(crossing, Crossing::Same | Crossing::Known(_))
+    matches!(crossing, Crossing::Same | Crossing::Bound(_))
 }
 
 fn is_reachable(table: &Table, way: &Way) -> bool

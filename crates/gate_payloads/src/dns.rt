@@ -8,19 +8,19 @@ ghost use Rattle.dns_gateway.specs.Addresses.{message_addresses};
 ghost use Rattle.dns_messages.specs.Reading.{message_at};
 ghost use Rattle.dns_messages.specs.Suits.{MessageSuits};
 ghost use Rattle.twice_translate.specs.Renamed.{CanGoOn, datagram_of, rebuilt};
-ghost use Rattle.gate_world.specs.Frame as kinds;
-ghost use Rattle.gate_world.specs.Names.{carried, message_in, named_in, is_unbound, has_unbound, reply_by};
-ghost use Rattle.gate_world.specs.Units.{uses_until};
-ghost use Rattle.gate_world.specs.World.{World};
+ghost use Rattle.gate_model.specs.Frame as kinds;
+ghost use Rattle.gate_model.specs.Names.{carried, message_in, named_in, is_unbound, has_unbound, reply_by};
+ghost use Rattle.gate_model.specs.Units.{uses_until};
+ghost use Rattle.gate_model.specs.World.{World};
 ghost use Rattle.gate_payloads.specs.Ways.{IsWay, image_by};
 ghost use Rattle.gate_payloads.specs.Named.{named_uses};
 ghost use Rattle.gate_payloads.specs.Plain.{PlainSession, plain_rules};
 ghost use Rattle.gate_payloads.specs.Taken.{IsTaken, IsUdpOf, IsWayOf};
 
 use crate::addresses::{Way, use_address};
-use crate::plain::{UDP_HOLD, take_plain};
+use crate::plain::{UDP_TIMEOUT, take_plain};
 use crate::udp::UdpDatagram;
-use binding_table::{Crossing, Firsts, Table};
+use binding_table::{Crossing, SeenAddresses, Table};
 use dns_gateway::{addresses_of, rename, reply};
 use dns_messages::{Message, read_message};
 use dns_names::NameStop;
@@ -29,7 +29,7 @@ use gate_outbox::Outbox;
 use std::alloc::Global;
 
 /// For how long a use by an address in a DNS message keeps a binding, in nanoseconds: 60 seconds.
-const NAMED_HOLD: u64 = 60_000_000_000;
+const NAMED_TIMEOUT: u64 = 60_000_000_000;
 
 /// The message that the octets are, or None where they are none.
 fn message_in(alloc: Global, octets: &[u8]) -> Result<Option<Message>, OutOfMemory>
@@ -110,7 +110,7 @@ fn planned_images(
     table: &Table,
     side: Side,
     addresses: &[Addr],
-    firsts: &mut Firsts,
+    seen_addresses: &mut SeenAddresses,
 ) -> Result<Option<Vec<Option<Addr>>>, OutOfMemory>
     requires bound { All (λ address. cross table.now side address ≢ Crossing.Unbound) addresses.now }
     ensures none { IfOk result (λ images. is_none images ≡ nat_lt (free table.now (other side)) (needed table.now side addresses.now)) }
@@ -118,7 +118,7 @@ fn planned_images(
     ensures count { IfOk result (λ images. IfSome images (λ v. length v.items ≡ length addresses.now)) }
 {
     let mut images = vec![in alloc; None; addresses.len()]?;
-    if table.plan(side, addresses, &mut images, firsts) {
+    if table.plan(side, addresses, &mut images, seen_addresses) {
         Ok(Some(images))
     } else {
         Ok(None)
@@ -175,8 +175,8 @@ fn pass_names(
     ensures table { table.new ≡ after_uses table.old (named_uses way.now.side way.now.moment.0 way.now.source way.now.destination named.now) }
     ensures out { outbox.new ≡ rebuilt (datagram_of octets.now) (image_by way.now.of_source way.now.source).0 (image_by way.now.of_destination way.now.destination).0 (unwrap_or (option_map (λ v. v.items) reply.now) (carried (datagram_of octets.now))) ∷ [] }
 {
-    way.use_both(table, UDP_HOLD);
-    use_all(table, way.side, named, Moment(way.moment.0 + NAMED_HOLD));
+    way.use_both(table, UDP_TIMEOUT);
+    use_all(table, way.side, named, Moment(way.moment.0 + NAMED_TIMEOUT));
     let (source, destination) = (way.source_image(), way.destination_image());
     put_reply(outbox, octets, source, destination, reply);
 }
@@ -192,7 +192,7 @@ fn take_unnamed(table: &mut Table, way: &Way, octets: &[u8], outbox: &mut Outbox
     requires protocol { (datagram_of octets.now).protocol ≡ 17 }
     ensures taken { (live : World PlainSession) → live.table ≡ table.old → IsWayOf live way.now.side (datagram_of octets.now) way.now → is_none (message_in (datagram_of octets.now)) ≡ false → named_in (message_in (datagram_of octets.now)) ≡ [] → IsTaken plain_rules live way.now.side (datagram_of octets.now) (kinds.Dns) result table.new outbox.new }
 {
-    take_plain(table, way, UDP_HOLD, octets, outbox)
+    take_plain(table, way, UDP_TIMEOUT, octets, outbox)
 }
 
 /// Takes a datagram with this message, which may have images of its addresses then.
@@ -200,7 +200,7 @@ fn take_message(
     alloc: Global,
     message: &mut Message,
     table: &mut Table,
-    firsts: &mut Firsts,
+    seen_addresses: &mut SeenAddresses,
     way: &Way,
     datagram: &UdpDatagram<'_>,
     outbox: &mut Outbox,
@@ -224,7 +224,7 @@ fn take_message(
         return Ok(Some(Refusal::DnsUnbound));
     }
     let addresses = all_addresses(alloc, way, &named)?;
-    let Some(images) = planned_images(alloc, table, way.side, &addresses, firsts)? else {
+    let Some(images) = planned_images(alloc, table, way.side, &addresses, seen_addresses)? else {
         return Ok(Some(Refusal::PoolEmpty));
     };
     let reply = reply_by(alloc, message, &images, datagram.payload)?;
@@ -237,7 +237,7 @@ fn take_message(
 pub fn take_dns(
     alloc: Global,
     table: &mut Table,
-    firsts: &mut Firsts,
+    seen_addresses: &mut SeenAddresses,
     way: &Way,
     datagram: &UdpDatagram<'_>,
     outbox: &mut Outbox,
@@ -254,7 +254,7 @@ pub fn take_dns(
     match message_in(alloc, datagram.payload)? {
         None => Ok(Some(Refusal::BadDns)),
         Some(mut message) => {
-            take_message(alloc, &mut message, table, firsts, way, datagram, outbox)
+            take_message(alloc, &mut message, table, seen_addresses, way, datagram, outbox)
         }
     }
 }

@@ -5,7 +5,7 @@ ghost use Rattle.binding_table.specs.Bindings.{is_settled};
 ghost use Rattle.gate_base.specs.Tests.{first_that_holds, unless_refused};
 ghost use Rattle.twice_translate.specs.Renamed.{CanGoOn, datagram_of, renamed};
 ghost use Rattle.gate_base.specs.declared.refusal.Refusal.TheVariants.{PoolEmpty};
-ghost use Rattle.gate_world.specs.Units.{uses_until};
+ghost use Rattle.gate_model.specs.Units.{uses_until};
 ghost use Rattle.gate_payloads.specs.Ways.{IsWay, image_by, is_empty};
 
 use crate::addresses::{Way, lacks_alias};
@@ -14,24 +14,24 @@ use gate_base::Refusal;
 use gate_outbox::Outbox;
 
 /// For how long a use by a UDP header keeps a binding, in nanoseconds: 300 seconds.
-pub const UDP_HOLD: u64 = 300_000_000_000;
+pub const UDP_TIMEOUT: u64 = 300_000_000_000;
 
 /// For how long one by an ICMP header does: 60 seconds.
-pub const ICMP_HOLD: u64 = 60_000_000_000;
+pub const ICMP_TIMEOUT: u64 = 60_000_000_000;
 
 /// The datagram passes: its addresses are used, and it goes on.
-pub fn pass_plain(table: &mut Table, way: &Way, hold: u64, octets: &[u8], outbox: &mut Outbox)
+pub fn pass_plain(table: &mut Table, way: &Way, timeout: u64, octets: &[u8], outbox: &mut Outbox)
     requires way { IsWay table.old way.now }
     requires settled { is_settled way.now.of_destination ≡ true }
     requires moment { way.now.moment.0 < 2 ^ 32 * 1000000000 }
-    requires hold { hold ≤ 7440 * 1000000000 }
+    requires timeout { timeout ≤ 7440 * 1000000000 }
     requires empty { outbox.old ≡ [] }
     requires few { length octets.now ≤ 65535 }
     requires can { CanGoOn octets.now }
-    ensures table { table.new ≡ after_uses table.old (uses_until way.now.side (way.now.moment.0 + hold) (way.now.source ∷ way.now.destination ∷ [])) }
+    ensures table { table.new ≡ after_uses table.old (uses_until way.now.side (way.now.moment.0 + timeout) (way.now.source ∷ way.now.destination ∷ [])) }
     ensures out { outbox.new ≡ renamed (datagram_of octets.now) (image_by way.now.of_source way.now.source).0 (image_by way.now.of_destination way.now.destination).0 ∷ [] }
 {
-    way.use_both(table, hold);
+    way.use_both(table, timeout);
     outbox.put_renamed(octets, way.source_image(), way.destination_image());
 }
 
@@ -39,24 +39,24 @@ pub fn pass_plain(table: &mut Table, way: &Way, hold: u64, octets: &[u8], outbox
 pub fn take_plain(
     table: &mut Table,
     way: &Way,
-    hold: u64,
+    timeout: u64,
     octets: &[u8],
     outbox: &mut Outbox,
 ) -> Option<Refusal>
     requires way { IsWay table.old way.now }
     requires settled { is_settled way.now.of_destination ≡ true }
     requires moment { way.now.moment.0 < 2 ^ 32 * 1000000000 }
-    requires hold { hold ≤ 7440 * 1000000000 }
+    requires timeout { timeout ≤ 7440 * 1000000000 }
     requires empty { outbox.old ≡ [] }
     requires few { length octets.now ≤ 65535 }
     requires can { CanGoOn octets.now }
     ensures refusal { result ≡ first_that_holds ((is_empty way.now.of_source, PoolEmpty) ∷ []) }
-    ensures table { table.new ≡ unless_refused result (after_uses table.old (uses_until way.now.side (way.now.moment.0 + hold) (way.now.source ∷ way.now.destination ∷ []))) table.old }
+    ensures table { table.new ≡ unless_refused result (after_uses table.old (uses_until way.now.side (way.now.moment.0 + timeout) (way.now.source ∷ way.now.destination ∷ []))) table.old }
     ensures out { outbox.new ≡ unless_refused result (renamed (datagram_of octets.now) (image_by way.now.of_source way.now.source).0 (image_by way.now.of_destination way.now.destination).0 ∷ []) [] }
 {
     if lacks_alias(way) {
         return Some(Refusal::PoolEmpty);
     }
-    pass_plain(table, way, hold, octets, outbox);
+    pass_plain(table, way, timeout, octets, outbox);
     None
 }

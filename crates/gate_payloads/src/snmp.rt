@@ -5,11 +5,11 @@ ghost use Rattle.binding_table.specs.Plan.{after_uses};
 ghost use Rattle.twice_translate.specs.Renamed.{datagram_of, rebuilt};
 ghost use Rattle.gate_base.specs.Tests.{first_that_holds, unless_refused};
 ghost use Rattle.gate_base.specs.declared.refusal.Refusal.TheVariants.{SnmpTooLong};
-ghost use Rattle.gate_world.specs.Frame as kinds;
-ghost use Rattle.gate_world.specs.Management.{number_seen};
-ghost use Rattle.gate_world.specs.Verdict.{udp_hold};
-ghost use Rattle.gate_world.specs.Units.{uses_until};
-ghost use Rattle.gate_world.specs.World.{World};
+ghost use Rattle.gate_model.specs.Frame as kinds;
+ghost use Rattle.gate_model.specs.Management.{number_seen};
+ghost use Rattle.gate_model.specs.Verdict.{udp_timeout};
+ghost use Rattle.gate_model.specs.Units.{uses_until};
+ghost use Rattle.gate_model.specs.World.{World};
 ghost use Rattle.snmp_gateway.specs.Message.{message};
 ghost use Rattle.snmp_oids.specs.Elements.{oid_renamed};
 ghost use Rattle.gate_payloads.specs.Planned.{number_planned};
@@ -18,7 +18,7 @@ ghost use Rattle.gate_payloads.specs.Plain.{PlainSession, plain_rules};
 ghost use Rattle.gate_payloads.specs.Taken.{IsTaken, IsUdpOf, IsWayOf};
 
 use crate::addresses::{Way, lacks_alias};
-use crate::plain::UDP_HOLD;
+use crate::plain::UDP_TIMEOUT;
 use crate::udp::UdpDatagram;
 use binding_table::Table;
 use gate_base::{Addr, Refusal, Side};
@@ -33,7 +33,7 @@ struct Seen<'a> {
 }
 
 impl<'a> Lookup for Seen<'a> {
-    ghost use Rattle.gate_world.specs.Management.{number_seen};
+    ghost use Rattle.gate_model.specs.Management.{number_seen};
 
     ghost image_of = { λ it address. number_seen it.table.now it.side address };
 
@@ -72,10 +72,10 @@ fn pass_basic(table: &mut Table, way: &Way, datagram: &UdpDatagram<'_>, outbox: 
     requires empty { outbox.old ≡ [] }
     requires whole { IsUdpOf datagram.now.octets.now datagram.now.payload.now }
     requires message { IsSome (message datagram.now.payload.now) }
-    ensures table { table.new ≡ after_uses table.old (uses_until way.now.side (way.now.moment.0 + udp_hold) (way.now.source ∷ way.now.destination ∷ [])) }
+    ensures table { table.new ≡ after_uses table.old (uses_until way.now.side (way.now.moment.0 + udp_timeout) (way.now.source ∷ way.now.destination ∷ [])) }
     ensures out { outbox.new ≡ rebuilt (datagram_of datagram.now.octets.now) (image_by way.now.of_source way.now.source).0 (image_by way.now.of_destination way.now.destination).0 (oid_renamed (number_seen table.new way.now.side) [] datagram.now.payload.now) ∷ [] }
 {
-    way.use_both(table, UDP_HOLD);
+    way.use_both(table, UDP_TIMEOUT);
     let seen = Seen {
         table,
         side: way.side,
@@ -103,7 +103,7 @@ fn pass_by_rules(
     requires whole { IsUdpOf datagram.now.octets.now datagram.now.payload.now }
     requires message { IsSome (message datagram.now.payload.now) }
     ensures refusal { result ≡ first_that_holds ((nat_lt 65507 (length (oid_renamed (number_planned table.old way.now) table.old.oids datagram.now.payload.now)), SnmpTooLong) ∷ []) }
-    ensures table { table.new ≡ unless_refused result (after_uses table.old (uses_until way.now.side (way.now.moment.0 + udp_hold) (way.now.source ∷ way.now.destination ∷ []))) table.old }
+    ensures table { table.new ≡ unless_refused result (after_uses table.old (uses_until way.now.side (way.now.moment.0 + udp_timeout) (way.now.source ∷ way.now.destination ∷ []))) table.old }
     ensures out { outbox.new ≡ unless_refused result (rebuilt (datagram_of datagram.now.octets.now) (image_by way.now.of_source way.now.source).0 (image_by way.now.of_destination way.now.destination).0 (oid_renamed (number_planned table.old way.now) table.old.oids datagram.now.payload.now) ∷ []) [] }
 {
     let fits = outbox.put_snmp_by_rules(
@@ -117,7 +117,7 @@ fn pass_by_rules(
     if !fits {
         return Some(Refusal::SnmpTooLong);
     }
-    way.use_both(table, UDP_HOLD);
+    way.use_both(table, UDP_TIMEOUT);
     None
 }
 

@@ -6,14 +6,14 @@ use Rattle.gate_base.specs.declared.event.Pair.{Pair}
 use Rattle.gate_base.specs.declared.side.Side.{Side}
 use Rattle.dialogue.specs.Learning.{Entry}
 use Rattle.ipv4_frames.specs.Ipv4.{Datagram}
-use Rattle.gate_world.specs.Stream.{segment_of, sent_as}
-use Rattle.gate_world.specs.Step.{stream_out}
-use Rattle.gate_world.specs.World.{Tracked}
-use Rattle.kept_world.specs.Kept.{KeptSession, kept_rules}
-use Rattle.gate_steps.proofs.SteppedSessions.{IsSeen}
+use Rattle.gate_model.specs.Stream.{segment_of, sent_as}
+use Rattle.gate_model.specs.Step.{stream_out}
+use Rattle.gate_model.specs.World.{Tracked}
+use Rattle.compact_worlds.specs.Kept.{CompactSession, compact_rules}
+use Rattle.event_steps.proofs.SteppedSessions.{IsSeen}
 
-pub gone_is : (client : Side) (pair : Pair) (session : KeptSession) (f : Bool) (side : Side) (d : Datagram) (t : Tracked KeptSession) (image : Addr → Option Addr) (entries : List Entry) (source destination : ℕ) (sent : List (List ℕ)) → IsSeen kept_rules client pair session f side d t image entries → sent ≡ map (sent_as d source destination) (kept_rules.out image f session (segment_of d)) → sent ≡ stream_out kept_rules image side d source destination (Some t)
+pub gone_is : (client : Side) (pair : Pair) (session : CompactSession) (f : Bool) (side : Side) (d : Datagram) (t : Tracked CompactSession) (image : Addr → Option Addr) (entries : List Entry) (source destination : ℕ) (sent : List (List ℕ)) → IsSeen compact_rules client pair session f side d t image entries → sent ≡ map (sent_as d source destination) (compact_rules.out image f session (segment_of d)) → sent ≡ stream_out compact_rules image side d source destination (Some t)
 gone_is client pair session f side d t image entries source destination sent i e =
     e
-    ∙ ap (λ (x : Tracked KeptSession). map (sent_as d source destination) (kept_rules.out image f x.session (segment_of d))) i.seen
-    ∙ ap (λ (b : Bool). map (sent_as d source destination) (kept_rules.out image b t.session (segment_of d))) i.sender
+    ∙ ap (λ (x : Tracked CompactSession). map (sent_as d source destination) (compact_rules.out image f x.session (segment_of d))) i.seen
+    ∙ ap (λ (b : Bool). map (sent_as d source destination) (compact_rules.out image b t.session (segment_of d))) i.sender

@@ -9,24 +9,24 @@ use Rattle.dialogue.proofs.Alike.{cut_alike, learned_alike}
 use Rattle.dns_stream.specs.Units.{unit_addresses}
 use Rattle.dns_stream.specs.Images.{dns_units}
 use Rattle.dns_stream.specs.Lawful.{dns_units-learning}
-use Rattle.stream_kept.specs.Kept.{SenderKept}
-use Rattle.stream_kept.specs.Sessions.{SessionKept, sender_kept}
-use Rattle.stream_kept.proofs.ReadsAlike.{keeps_alike}
+use Rattle.compact_stream.specs.Kept.{CompactSender}
+use Rattle.compact_stream.specs.Sessions.{CompactState, sender_kept}
+use Rattle.compact_stream.proofs.ReadsAlike.{keeps_alike}
 use Rattle.stream_gate.specs.Listed.{IsListedStream as IsStreamBy}
-use Rattle.gate_world.proofs.Entering.{listed_units_more}
-use Rattle.kept_world.specs.Kept.{IsListedStream}
-use Rattle.unit_plans.specs.Steps.{entered_all}
-use Rattle.unit_plans.proofs.EnteredLemmas.{all_grown}
+use Rattle.gate_model.proofs.Entering.{listed_units_more}
+use Rattle.compact_worlds.specs.Kept.{IsListedStream}
+use Rattle.dns_plans.specs.Steps.{entered_all}
+use Rattle.dns_plans.proofs.EnteredLemmas.{all_grown}
 use Rattle.gate_base.specs.declared.event.Pair.{Pair}
 use Rattle.stream_gate.specs.Listed.{entries_of}
 use Rattle.gate_sessions.specs.Directions.{DnsKept, listed_of, IsListedSide, dns_session}
 use Rattle.gate_sessions.specs.Sessions.{IsSession}
 
-alike : (es more : List Entry) (h : SenderKept) → (i : IsListedStream es h) → ReadAlike (dns_units es) (dns_units (es ++ more)) i.octets
+alike : (es more : List Entry) (h : CompactSender) → (i : IsListedStream es h) → ReadAlike (dns_units es) (dns_units (es ++ more)) i.octets
 alike es more h i = learned_alike unit_addresses dns_units es more i.octets dns_units-learning i.listed
 
 -- the stream of which it is kept is listed with more entries too
-listed_longer : (es more : List Entry) (h : SenderKept) → IsListedStream es h → IsListedStream (es ++ more) h
+listed_longer : (es more : List Entry) (h : CompactSender) → IsListedStream es h → IsListedStream (es ++ more) h
 listed_longer es more h i = record {
   octets = i.octets;
   keeps = keeps_alike (dns_units es) (dns_units (es ++ more)) h i.octets (alike es more h i) i.keeps;
@@ -38,7 +38,7 @@ listed_longer es more h i = record {
 pub side_longer : (b : Bool) (d e : DnsKept) (more : List Entry) → IsListedSide b d → listed_of b e ≡ listed_of b d ++ more → e.kept ≡ d.kept → IsListedSide b e
 side_longer b d e more i l k =
     subst (λ (es : List Entry). IsListedStream es (sender_kept b e.kept)) (sym l)
-    (subst (λ (x : SessionKept). IsListedStream (listed_of b d ++ more) (sender_kept b x)) (sym k) (listed_longer (listed_of b d) more (sender_kept b d.kept) i))
+    (subst (λ (x : CompactState). IsListedStream (listed_of b d ++ more) (sender_kept b x)) (sym k) (listed_longer (listed_of b d) more (sender_kept b d.kept) i))
 
 -- as far as the entries before a place
 pub record LearnedTo (b other : Bool) (old now : DnsKept) (named : List Entry) : Type 0 where
@@ -47,11 +47,11 @@ pub record LearnedTo (b other : Bool) (old now : DnsKept) (named : List Entry) :
   pub kept : now.kept ≡ old.kept
   pub stream : IsListedSide b now
 
-same_kept : (c d s t : List Entry) (k l : SessionKept) → c ≡ d → s ≡ t → k ≡ l → (let x : DnsKept = record { client_dialogue = c; server_dialogue = s; kept = k } in x) ≡ (let y : DnsKept = record { client_dialogue = d; server_dialogue = t; kept = l } in y)
+same_kept : (c d s t : List Entry) (k l : CompactState) → c ≡ d → s ≡ t → k ≡ l → (let x : DnsKept = record { client_dialogue = c; server_dialogue = s; kept = k } in x) ≡ (let y : DnsKept = record { client_dialogue = d; server_dialogue = t; kept = l } in y)
 same_kept c d s t k l e f h =
     ap (λ (x : List Entry). let y : DnsKept = record { client_dialogue = x; server_dialogue = s; kept = k } in y) e
     ∙ ap (λ (x : List Entry). let y : DnsKept = record { client_dialogue = d; server_dialogue = x; kept = k } in y) f
-    ∙ ap (λ (x : SessionKept). let y : DnsKept = record { client_dialogue = d; server_dialogue = t; kept = x } in y) h
+    ∙ ap (λ (x : CompactState). let y : DnsKept = record { client_dialogue = d; server_dialogue = t; kept = x } in y) h
 
 pub front_of : (es named : List Entry) (count : ℕ) → count ≡ length es → take count (entered_all es named) ≡ es
 front_of es named count is = let a = all_grown es named in ap (λ (n : ℕ). take n (entered_all es named)) is ∙ ap (take (length es)) a.1 ∙ take_at es a.0 (length es) refl
@@ -62,7 +62,7 @@ forgotten_is true old new e f h = same_kept new.client_dialogue old.client_dialo
 forgotten_is false old new e f h = same_kept new.client_dialogue old.client_dialogue new.server_dialogue old.server_dialogue new.kept old.kept f e h
 
 -- the stream of which it is kept is listed by the front of a longer list
-fewer : (es more : List Entry) (h : SenderKept) → IsListedStream es h → IsStreamBy unit_addresses (dns_units (es ++ more)) es h
+fewer : (es more : List Entry) (h : CompactSender) → IsListedStream es h → IsStreamBy unit_addresses (dns_units (es ++ more)) es h
 fewer es more h i = record {
   octets = i.octets;
   keeps = keeps_alike (dns_units es) (dns_units (es ++ more)) h i.octets (alike es more h i) i.keeps;
@@ -76,7 +76,7 @@ can_forget b old d named count i is l k =
     let a = all_grown es named in
     let ld : listed_of b d ≡ es ++ a.0 = l ∙ a.1 in
     subst (λ (xs : List Entry). IsStreamBy unit_addresses (dns_units xs) (take count xs) (sender_kept b d.kept)) (sym ld)
-    (subst (λ (x : SessionKept). IsStreamBy unit_addresses (dns_units (es ++ a.0)) (take count (es ++ a.0)) (sender_kept b x)) (sym k)
+    (subst (λ (x : CompactState). IsStreamBy unit_addresses (dns_units (es ++ a.0)) (take count (es ++ a.0)) (sender_kept b x)) (sym k)
     (subst (λ (xs : List Entry). IsStreamBy unit_addresses (dns_units (es ++ a.0)) xs (sender_kept b old.kept)) (sym (take_at es a.0 count (sym is)))
     (fewer es a.0 (sender_kept b old.kept) i)))
 

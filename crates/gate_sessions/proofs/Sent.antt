@@ -14,15 +14,15 @@ use Rattle.tcp_segments.specs.Flags.{flags_octet}
 use Rattle.stream_model.specs.Session.{Segment, Outgoing, arrival, place_acknowledged, segment_in}
 use Rattle.stream_model.specs.Steps.{Piece, pieces, empty_piece, syn_out}
 use Rattle.stream_model.proofs.Cutting.{pieces_from, pieces_are}
-use Rattle.stream_model.specs.declared.numbers.Near.{Near}
-use Rattle.stream_model.specs.declared.verdict.Extent.{Extent}
-use Rattle.stream_kept.specs.Kept.{SenderKept, extent_kept, taken_kept}
-use Rattle.stream_kept.specs.Outs.{start_kept, low_kept, high_kept, sends_end_kept, bare_offset_kept, pieces_kept, acknowledgement_kept, limit_kept, outgoing_kept, reset_kept, data_kept, sender_out, kept_out}
-use Rattle.stream_kept.specs.Sessions.{SessionKept}
-use Rattle.stream_gate.specs.Segments.{Way, datagram, datagram_ends}
+use Rattle.stream_model.specs.declared.numbers.Offset.{Offset}
+use Rattle.stream_model.specs.declared.refusals.Extent.{Extent}
+use Rattle.compact_stream.specs.Kept.{CompactSender, extent_kept, taken_kept}
+use Rattle.compact_stream.specs.Outs.{start_kept, low_kept, high_kept, sends_end_kept, bare_offset_kept, pieces_kept, acknowledgement_kept, limit_kept, outgoing_kept, reset_kept, data_kept, sender_out, kept_out}
+use Rattle.compact_stream.specs.Sessions.{CompactState}
+use Rattle.stream_gate.specs.Segments.{Headers, datagram, datagram_ends}
 use Rattle.stream_gate.proofs.PiecesInOrder.{flat-map}
 use Rattle.resegment.specs.Datagrams.{ends_from}
-use Rattle.gate_world.specs.Stream.{tcp_of, segment_of, sent_as}
+use Rattle.gate_model.specs.Stream.{tcp_of, segment_of, sent_as}
 use Rattle.gate_outbox.specs.Outboxes.{datagrams_from, AreEnds, IsOutbox}
 
 -- ## Datagrams by their ends
@@ -84,7 +84,7 @@ head_long model total lifetime source destination count =
     subst (λ (m : List ℕ). length (spelled_head m total lifetime source destination) ≡ 20 + length (drop 20 model)) (sym (front_items 20 model (omega (arith, count)))) (head_shown model (drop 20 model) total lifetime source destination) in
     omega (arith, shown, length-drop 20 model, count)
 
-datagram_short : (w : Way) (o : Outgoing) (limit : ℕ) → length w.ip ≡ 20 → IsTcpHeader w.tcp → length w.tcp + limit ≤ 65515 → length o.octets ≤ limit → length (datagram w o) ≤ 65535
+datagram_short : (w : Headers) (o : Outgoing) (limit : ℕ) → length w.ip ≡ 20 → IsTcpHeader w.tcp → length w.tcp + limit ≤ 65515 → length o.octets ≤ limit → length (datagram w o) ≤ 65535
 datagram_short w o limit ip tcp fits few =
     let segment = spelled_segment w.tcp w.source w.destination o.sequence o.acknowledgement (flags_octet o.flags) o.octets in
     let size : length segment ≡ length w.tcp + length o.octets = segment_long w.tcp o.octets w.source w.destination o.sequence o.acknowledgement (flags_octet o.flags) tcp in
@@ -99,7 +99,7 @@ abbrev AreSmall : ℕ → List Outgoing → Type 0
 AreSmall most [] = Unit {0}
 AreSmall most (o ∷ os) = (length o.octets ≤ most) × AreSmall most os
 
-pieces_small : (h : SenderKept) (ack : ℕ) (g : Segment) (limit : ℕ) (whole offset : ℕ) (octets : List ℕ) (fin push : Bool) → length octets ≤ whole * limit + limit → AreSmall limit (map (outgoing_kept h ack g) (pieces_from whole limit offset octets fin push))
+pieces_small : (h : CompactSender) (ack : ℕ) (g : Segment) (limit : ℕ) (whole offset : ℕ) (octets : List ℕ) (fin push : Bool) → length octets ≤ whole * limit + limit → AreSmall limit (map (outgoing_kept h ack g) (pieces_from whole limit offset octets fin push))
 pieces_small h ack g limit zero offset octets fin push few = (omega (arith, few), tt)
 pieces_small h ack g limit (suc whole) offset octets fin push few =
     let times : suc whole * limit ≡ limit + whole * limit = grind arith in
@@ -110,7 +110,7 @@ pieces_small h ack g limit (suc whole) offset octets fin push few =
     take_most (suc n) [] = omega arith
     take_most (suc n) (x ∷ xs) = omega (arith, take_most n xs)
 
-kept_small : (h new : SenderKept) (ack : ℕ) (g : Segment) (limit : ℕ) (old : Extent) (start : Near) (count : ℕ) (fin push : Bool) → 1 ≤ limit → AreSmall limit (map (outgoing_kept h ack g) (pieces_kept limit old new start count fin push))
+kept_small : (h new : CompactSender) (ack : ℕ) (g : Segment) (limit : ℕ) (old : Extent) (start : Offset) (count : ℕ) (fin push : Bool) → 1 ≤ limit → AreSmall limit (map (outgoing_kept h ack g) (pieces_kept limit old new start count fin push))
 kept_small h new ack g limit old start count fin push some =
     by_tests _ (nat_lt (low_kept old new start) (high_kept old new start count fin)) (sends_end_kept new fin)
   where
@@ -121,11 +121,11 @@ kept_small h new ack g limit old start count fin push some =
     by_tests copied false true = (omega arith, tt)
     by_tests copied false false = (omega arith, tt)
 
-data_small : (m : Meaning) (h receiver : SenderKept) (g : Segment) → 1 ≤ limit_kept receiver g → AreSmall (limit_kept receiver g) (data_kept m h receiver g)
+data_small : (m : Meaning) (h receiver : CompactSender) (g : Segment) → 1 ≤ limit_kept receiver g → AreSmall (limit_kept receiver g) (data_kept m h receiver g)
 data_small m h receiver g some =
     kept_small h (taken_kept m h g) (acknowledgement_kept receiver (max receiver.acked (place_acknowledged (extent_kept receiver) (arrival g)))) g (limit_kept receiver g) (extent_kept h) (start_kept h g) (length g.octets) g.flags.fin g.flags.push some
 
-outs_small : (m : Meaning) (h receiver : SenderKept) (g : Segment) → 1 ≤ limit_kept receiver g → AreSmall (limit_kept receiver g) (sender_out m h receiver g)
+outs_small : (m : Meaning) (h receiver : CompactSender) (g : Segment) → 1 ≤ limit_kept receiver g → AreSmall (limit_kept receiver g) (sender_out m h receiver g)
 outs_small m h receiver g some = by_flags g.flags.syn g.flags.reset
   where
     by_flags : (syn reset : Bool) → AreSmall (limit_kept receiver g) (cond syn (syn_out g) (cond reset (reset_kept h receiver g) (data_kept m h receiver g)))
@@ -139,17 +139,17 @@ limit_fits : (mss options : ℕ) → options ≤ 40 → (1 ≤ min (max mss 88) 
 limit_fits mss options few = (omega arith, omega arith)
 
 -- headers that datagrams can have, those of a segment
-pub record Heads (w : Way) (g : Segment) : Type 0 where
+pub record Heads (w : Headers) (g : Segment) : Type 0 where
   pub ip : length w.ip ≡ 20
   pub tcp : IsTcpHeader w.tcp
   pub few : length w.tcp ≤ 60
   pub options : g.options ≡ length w.tcp - 20
 
-datagrams_short : (w : Way) (os : List Outgoing) (limit : ℕ) → ((o : Outgoing) → length o.octets ≤ limit → length (datagram w o) ≤ 65535) → AreSmall limit os → AreShort 65535 (map (datagram w) os)
+datagrams_short : (w : Headers) (os : List Outgoing) (limit : ℕ) → ((o : Outgoing) → length o.octets ≤ limit → length (datagram w o) ≤ 65535) → AreSmall limit os → AreShort 65535 (map (datagram w) os)
 datagrams_short w [] limit short small = tt
 datagrams_short w (o ∷ os) limit short small = (short o small.0, datagrams_short w os limit short small.1)
 
-sender_short : (m : Meaning) (h receiver : SenderKept) (w : Way) (g : Segment) → Heads w g → AreShort 65535 (map (datagram w) (sender_out m h receiver g))
+sender_short : (m : Meaning) (h receiver : CompactSender) (w : Headers) (g : Segment) → Heads w g → AreShort 65535 (map (datagram w) (sender_out m h receiver g))
 sender_short m h receiver w g heads =
     let fits = limit_fits receiver.mss g.options (omega (arith, heads.options, heads.few)) in
     let long = heads.tcp.0 in
@@ -157,7 +157,7 @@ sender_short m h receiver w g heads =
     (λ o few. datagram_short w o (limit_kept receiver g) heads.ip heads.tcp (omega (arith, fits.1, heads.options, long)) few)
     (outs_small m h receiver g fits.0)
 
-pub sent_short : (m n : Meaning) (from_client : Bool) (h : SessionKept) (w : Way) (g : Segment) → Heads w g → AreShort 65535 (map (datagram w) (kept_out m n from_client h g))
+pub sent_short : (m n : Meaning) (from_client : Bool) (h : CompactState) (w : Headers) (g : Segment) → Heads w g → AreShort 65535 (map (datagram w) (kept_out m n from_client h g))
 sent_short m n true h w g heads = sender_short m h.client h.server w g heads
 sent_short m n false h w g heads = sender_short n h.server h.client w g heads
 
@@ -169,7 +169,7 @@ pub record Sends (octets ends : List ℕ) (ds : List (List ℕ)) : Type 0 where
   pub ends_are : ends ≡ ends_from 0 ds
   pub short : AreShort 65535 ds
 
-pub sends : {T E : Type 0} → (r : Result T E) (octets ends old old_ends : List ℕ) (w : Way) (os : List Outgoing) → old ≡ [] → old_ends ≡ [] → AreShort 65535 (map (datagram w) os) → OnOk r (octets ≡ old ++ flat_map (datagram w) os) → OnOk r (ends ≡ old_ends ++ datagram_ends (length old) w os) → OnOk r (Sends octets ends (map (datagram w) os))
+pub sends : {T E : Type 0} → (r : Result T E) (octets ends old old_ends : List ℕ) (w : Headers) (os : List Outgoing) → old ≡ [] → old_ends ≡ [] → AreShort 65535 (map (datagram w) os) → OnOk r (octets ≡ old ++ flat_map (datagram w) os) → OnOk r (ends ≡ old_ends ++ datagram_ends (length old) w os) → OnOk r (Sends octets ends (map (datagram w) os))
 sends (Ok x) octets ends old old_ends w os none no_ends short e f = record {
   octets_are = e ∙ ap (λ (xs : List ℕ). xs ++ flat_map (datagram w) os) none ∙ sym (flat-map (datagram w) os);
   ends_are = f ∙ ap (λ (xs : List ℕ). xs ++ datagram_ends (length old) w os) no_ends ∙ ap (λ (xs : List ℕ). datagram_ends (length xs) w os) none;
@@ -190,7 +190,7 @@ pub sent_view : {T E : Type 0} → (r : Result T E) (octets ends : List ℕ) (ds
 sent_view (Ok x) octets ends ds all s e = joined_view octets ends ds s.octets_are s.ends_are ∙ e
 sent_view (Err x) octets ends ds all s e = tt
 
-abbrev pub way_by : List ℕ → Tcp → ℕ → ℕ → ℕ → Way
+abbrev pub way_by : List ℕ → Tcp → ℕ → ℕ → ℕ → Headers
 way_by ip tcp source destination lifetime = record { ip = ip; tcp = tcp.header; source = source; destination = destination; lifetime = lifetime - 1 }
 
 -- the datagrams as the world says them

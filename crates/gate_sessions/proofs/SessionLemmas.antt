@@ -9,27 +9,27 @@ use Rattle.gate_base.specs.declared.event.Pair.{Pair}
 use Rattle.dialogue.specs.Stream.{cut}
 use Rattle.dns_stream.specs.Images.{dns_units}
 use Rattle.stream_model.specs.Session.{Segment, arrival}
-use Rattle.stream_model.specs.Verdict.{is_data}
-use Rattle.stream_kept.specs.Outs.{start_kept}
-use Rattle.stream_kept.specs.Sessions.{sender_kept}
-use Rattle.stream_kept.proofs.SessionLemmas.{verdict_is}
-use Rattle.gate_world.specs.Lists.{addresses_in, entered, most_entries}
-use Rattle.gate_world.specs.Rules.{whole_rules}
-use Rattle.gate_world.specs.Sessions.{meaning_by, whole_next}
-use Rattle.kept_world.specs.Kept.{KeptSession, kept_rules, kept_units, IsOfSome}
-use Rattle.kept_world.proofs.Agreed.{made_stands, next_stands}
-use Rattle.kept_world.proofs.Listing.{kept_have_lists}
-use Rattle.unit_plans.specs.Plans.{whole_units}
+use Rattle.stream_model.specs.Refusals.{is_data}
+use Rattle.compact_stream.specs.Outs.{start_kept}
+use Rattle.compact_stream.specs.Sessions.{sender_kept}
+use Rattle.compact_stream.proofs.SessionLemmas.{verdict_is}
+use Rattle.gate_model.specs.Lists.{addresses_in, entered, most_entries}
+use Rattle.gate_model.specs.Rules.{whole_rules}
+use Rattle.gate_model.specs.Sessions.{meaning_by, whole_next}
+use Rattle.compact_worlds.specs.Kept.{CompactSession, compact_rules, kept_units, IsOfSome}
+use Rattle.compact_worlds.proofs.Agreed.{made_stands, next_stands}
+use Rattle.compact_worlds.proofs.Listing.{kept_have_lists}
+use Rattle.dns_plans.specs.Plans.{whole_units}
 use Rattle.gate_sessions.specs.Directions.{DnsKept, dns_session}
 use Rattle.gate_sessions.specs.Sessions.{IsSession}
 
-pub made_session : (port : ℕ) (pair : Pair) (initial mss : ℕ) → IsSession (kept_rules.made port pair initial mss)
+pub made_session : (port : ℕ) (pair : Pair) (initial mss : ℕ) → IsSession (compact_rules.made port pair initial mss)
 made_session port pair initial mss = record {
   some = record { session = whole_rules.made port pair initial mss; stands = made_stands port pair initial mss };
   few = λ client. omega (arith, ap length (kept_have_lists.made port pair initial mss client));
 }
 
-some_next : (image : Addr → Option Addr) (f : Bool) (k : KeptSession) (g : Segment) → IsOfSome k → kept_rules.verdict f k g ≡ None → IsOfSome (kept_rules.next image f k g)
+some_next : (image : Addr → Option Addr) (f : Bool) (k : CompactSession) (g : Segment) → IsOfSome k → compact_rules.refusal f k g ≡ None → IsOfSome (compact_rules.next image f k g)
 some_next image f k g h v = record {
   session = whole_next image f h.session g;
   stands = next_stands image f h.session k g h.stands (sym (verdict_is (meaning_by k.lists k.pair true) (meaning_by k.lists k.pair false) k.kept h.session.session f g h.stands.session) ∙ v);
@@ -41,10 +41,10 @@ both P true own other false = other
 both P false own other true = other
 both P false own other false = own
 
-pub next_session : (image : Addr → Option Addr) (f : Bool) (k : KeptSession) (g : Segment) → IsSession k → kept_rules.verdict f k g ≡ None → length (entered image (kept_rules.listed f k) (addresses_in (kept_rules.units f k g))) ≤ 256 → IsSession (kept_rules.next image f k g)
+pub next_session : (image : Addr → Option Addr) (f : Bool) (k : CompactSession) (g : Segment) → IsSession k → compact_rules.refusal f k g ≡ None → length (entered image (compact_rules.listed f k) (addresses_in (compact_rules.units f k g))) ≤ 256 → IsSession (compact_rules.next image f k g)
 next_session image f k g h v few = record {
   some = some_next image f k g h.some v;
-  few = both (λ (b : Bool). length (kept_rules.listed b (kept_rules.next image f k g)) ≤ most_entries) f
+  few = both (λ (b : Bool). length (compact_rules.listed b (compact_rules.next image f k g)) ≤ most_entries) f
       (omega (arith, few, ap length (kept_have_lists.own image f k g)))
       (omega (arith, h.few (not f), ap length (kept_have_lists.other image f k g)));
 }

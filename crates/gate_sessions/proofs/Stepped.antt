@@ -14,21 +14,21 @@ use Rattle.ftp_lines.specs.Renaming.{client_lines, server_lines}
 use Rattle.ftp_lines.specs.declared.lines.ClientLines.{ClientLines}
 use Rattle.ftp_lines.specs.declared.lines.ServerLines.{ServerLines}
 use Rattle.stream_model.specs.Session.{Segment, Outgoing, arrival}
-use Rattle.stream_model.specs.Verdict.{is_data}
+use Rattle.stream_model.specs.Refusals.{is_data}
 use Rattle.stream_model.proofs.PassLemmas.{data_is}
-use Rattle.stream_kept.specs.Kept.{SenderKept}
-use Rattle.stream_kept.specs.Outs.{start_kept}
-use Rattle.stream_kept.specs.Sessions.{SessionKept, kept_next}
+use Rattle.compact_stream.specs.Kept.{CompactSender}
+use Rattle.compact_stream.specs.Outs.{start_kept}
+use Rattle.compact_stream.specs.Sessions.{CompactState, kept_next}
 use Rattle.stream_gate.specs.Gates.{GateKept}
 use Rattle.stream_gate.specs.Memory.{OneBears, units_behind, CompletesBy}
 use Rattle.stream_gate.proofs.MemoryLemmas.{released_none}
-use Rattle.gate_world.specs.Lists.{addresses_in, entered}
-use Rattle.kept_world.specs.Kept.{KeptSession, kept_rules, kept_units, kept_completed, IsListedStream}
-use Rattle.kept_world.proofs.Witness.{streams_listed}
-use Rattle.unit_plans.specs.Plans.{beside}
-use Rattle.unit_plans.specs.Steps.{entered_all}
-use Rattle.unit_plans.proofs.EnteredLemmas.{entered-beside}
-use Rattle.unit_plans.proofs.NamedLemmas.{units-first}
+use Rattle.gate_model.specs.Lists.{addresses_in, entered}
+use Rattle.compact_worlds.specs.Kept.{CompactSession, compact_rules, kept_units, kept_completed, IsListedStream}
+use Rattle.compact_worlds.proofs.Witness.{streams_listed}
+use Rattle.dns_plans.specs.Plans.{beside}
+use Rattle.dns_plans.specs.Steps.{entered_all}
+use Rattle.dns_plans.proofs.EnteredLemmas.{entered-beside}
+use Rattle.dns_plans.proofs.NamedLemmas.{units-first}
 use Rattle.gate_sessions.specs.Directions.{DnsKept, IsListedSide, with_entered, dns_next, dns_out, DnsCompletes, dns_session}
 use Rattle.gate_sessions.specs.Sessions.{IsSession, MayWantIn}
 use Rattle.gate_sessions.proofs.SessionLemmas.{next_session}
@@ -49,66 +49,66 @@ side_of pair d false h = streams_listed (dns_session pair d) false h.some
 -- ## What the session is, and what goes out
 
 -- the entries are the addresses in the units of a segment beside what they are called
-abbrev pub AreNamed : (Addr → Option Addr) → Bool → KeptSession → Segment → List Entry → Type 0
-AreNamed image f k g entries = entries ≡ beside image (addresses_in (kept_rules.units f k g))
+abbrev pub AreNamed : (Addr → Option Addr) → Bool → CompactSession → Segment → List Entry → Type 0
+AreNamed image f k g entries = entries ≡ beside image (addresses_in (compact_rules.units f k g))
 
 list_after : (image : Addr → Option Addr) (es entries : List Entry) (names : List Addr) → entries ≡ beside image names → entered_all es entries ≡ entered image es names
 list_after image es entries names e = ap (entered_all es) e ∙ entered-beside image es names
 
-next_units : (image : Addr → Option Addr) (pair : Pair) (d : DnsKept) (f : Bool) (g : Segment) (entries : List Entry) → AreNamed image f (dns_session pair d) g entries → dns_session pair (dns_next f (with_entered f entries d) g) ≡ kept_rules.next image f (dns_session pair d) g
+next_units : (image : Addr → Option Addr) (pair : Pair) (d : DnsKept) (f : Bool) (g : Segment) (entries : List Entry) → AreNamed image f (dns_session pair d) g entries → dns_session pair (dns_next f (with_entered f entries d) g) ≡ compact_rules.next image f (dns_session pair d) g
 next_units image pair d true g entries e =
     ap (λ (es : List Entry). dns_session pair (dns_next true (record d { client_dialogue = es }) g)) (list_after image d.client_dialogue entries (addresses_in (kept_units true (dns_session pair d) g)) e)
 next_units image pair d false g entries e =
     ap (λ (es : List Entry). dns_session pair (dns_next false (record d { server_dialogue = es }) g)) (list_after image d.server_dialogue entries (addresses_in (kept_units false (dns_session pair d) g)) e)
 
-out_units : (image : Addr → Option Addr) (pair : Pair) (d : DnsKept) (f : Bool) (g : Segment) (entries : List Entry) → AreNamed image f (dns_session pair d) g entries → dns_out f (with_entered f entries d) g ≡ kept_rules.out image f (dns_session pair d) g
+out_units : (image : Addr → Option Addr) (pair : Pair) (d : DnsKept) (f : Bool) (g : Segment) (entries : List Entry) → AreNamed image f (dns_session pair d) g entries → dns_out f (with_entered f entries d) g ≡ compact_rules.out image f (dns_session pair d) g
 out_units image pair d true g entries e =
     ap (λ (es : List Entry). dns_out true (record d { client_dialogue = es }) g) (list_after image d.client_dialogue entries (addresses_in (kept_units true (dns_session pair d) g)) e)
 out_units image pair d false g entries e =
     ap (λ (es : List Entry). dns_out false (record d { server_dialogue = es }) g) (list_after image d.server_dialogue entries (addresses_in (kept_units false (dns_session pair d) g)) e)
 
 -- the same of a session that is seen so
-pub next_seen : {X E : Type 0} (r : Result X E) (image : Addr → Option Addr) (pair : Pair) (d new : DnsKept) (k : KeptSession) (f : Bool) (g : Segment) (entries : List Entry) → dns_session pair d ≡ k → AreNamed image f k g entries → OnOk r (new ≡ dns_next f (with_entered f entries d) g) → OnOk r (dns_session pair new ≡ kept_rules.next image f k g)
+pub next_seen : {X E : Type 0} (r : Result X E) (image : Addr → Option Addr) (pair : Pair) (d new : DnsKept) (k : CompactSession) (f : Bool) (g : Segment) (entries : List Entry) → dns_session pair d ≡ k → AreNamed image f k g entries → OnOk r (new ≡ dns_next f (with_entered f entries d) g) → OnOk r (dns_session pair new ≡ compact_rules.next image f k g)
 next_seen r image pair d new k f g entries seen named =
-    on_ok r (λ n. ap (dns_session pair) n ∙ subst (λ (x : KeptSession). AreNamed image f x g entries → dns_session pair (dns_next f (with_entered f entries d) g) ≡ kept_rules.next image f x g) seen (next_units image pair d f g entries) named)
+    on_ok r (λ n. ap (dns_session pair) n ∙ subst (λ (x : CompactSession). AreNamed image f x g entries → dns_session pair (dns_next f (with_entered f entries d) g) ≡ compact_rules.next image f x g) seen (next_units image pair d f g entries) named)
 
-out_at : (image : Addr → Option Addr) (pair : Pair) (d : DnsKept) (k : KeptSession) (f : Bool) (g : Segment) (entries : List Entry) → dns_session pair d ≡ k → AreNamed image f k g entries → dns_out f (with_entered f entries d) g ≡ kept_rules.out image f k g
+out_at : (image : Addr → Option Addr) (pair : Pair) (d : DnsKept) (k : CompactSession) (f : Bool) (g : Segment) (entries : List Entry) → dns_session pair d ≡ k → AreNamed image f k g entries → dns_out f (with_entered f entries d) g ≡ compact_rules.out image f k g
 out_at image pair d k f g entries seen =
-    let P : KeptSession → Type 0 = λ x. AreNamed image f x g entries → dns_out f (with_entered f entries d) g ≡ kept_rules.out image f x g in
+    let P : CompactSession → Type 0 = λ x. AreNamed image f x g entries → dns_out f (with_entered f entries d) g ≡ compact_rules.out image f x g in
     subst P seen (out_units image pair d f g entries)
 
 sent_alike : {X E : Type 0} (r : Result X E) (sent : Outgoing → List ℕ) (out : List (List ℕ)) (a b : List Outgoing) → a ≡ b → OnOk r (out ≡ map sent a) → OnOk r (out ≡ map sent b)
 sent_alike r sent out a b e h = subst (λ (os : List Outgoing). OnOk r (out ≡ map sent os)) e h
 
-pub out_seen : {X E : Type 0} (r : Result X E) (image : Addr → Option Addr) (pair : Pair) (d : DnsKept) (k : KeptSession) (f : Bool) (g : Segment) (entries : List Entry) (sent : Outgoing → List ℕ) (out : List (List ℕ)) → dns_session pair d ≡ k → AreNamed image f k g entries → OnOk r (out ≡ map sent (dns_out f (with_entered f entries d) g)) → OnOk r (out ≡ map sent (kept_rules.out image f k g))
+pub out_seen : {X E : Type 0} (r : Result X E) (image : Addr → Option Addr) (pair : Pair) (d : DnsKept) (k : CompactSession) (f : Bool) (g : Segment) (entries : List Entry) (sent : Outgoing → List ℕ) (out : List (List ℕ)) → dns_session pair d ≡ k → AreNamed image f k g entries → OnOk r (out ≡ map sent (dns_out f (with_entered f entries d) g)) → OnOk r (out ≡ map sent (compact_rules.out image f k g))
 out_seen r image pair d k f g entries sent out seen named h =
-    sent_alike r sent out (dns_out f (with_entered f entries d) g) (kept_rules.out image f k g) (out_at image pair d k f g entries seen named) h
+    sent_alike r sent out (dns_out f (with_entered f entries d) g) (compact_rules.out image f k g) (out_at image pair d k f g entries seen named) h
 
-few_after : (image : Addr → Option Addr) (f : Bool) (k : KeptSession) (g : Segment) (entries : List Entry) → AreNamed image f k g entries → length (entered_all (kept_rules.listed f k) entries) ≤ 256 → length (entered image (kept_rules.listed f k) (addresses_in (kept_rules.units f k g))) ≤ 256
-few_after image f k g entries e few = omega (arith, few, ap length (list_after image (kept_rules.listed f k) entries (addresses_in (kept_rules.units f k g)) e))
+few_after : (image : Addr → Option Addr) (f : Bool) (k : CompactSession) (g : Segment) (entries : List Entry) → AreNamed image f k g entries → length (entered_all (compact_rules.listed f k) entries) ≤ 256 → length (entered image (compact_rules.listed f k) (addresses_in (compact_rules.units f k g))) ≤ 256
+few_after image f k g entries e few = omega (arith, few, ap length (list_after image (compact_rules.listed f k) entries (addresses_in (compact_rules.units f k g)) e))
 
 -- what holds of a session of DNS holds of it afterwards
-pub units_stay : {X E : Type 0} (r : Result X E) (pair : Pair) (d new : DnsKept) (f : Bool) (g : Segment) (entries : List Entry) → IsSession (dns_session pair d) → kept_rules.verdict f (dns_session pair d) g ≡ None → ((image : Addr → Option Addr) × AreNamed image f (dns_session pair d) g entries) → length (entered_all (kept_rules.listed f (dns_session pair d)) entries) ≤ 256 → OnOk r (new ≡ dns_next f (with_entered f entries d) g) → OnErr r (new ≡ d) → IsSession (dns_session pair new)
+pub units_stay : {X E : Type 0} (r : Result X E) (pair : Pair) (d new : DnsKept) (f : Bool) (g : Segment) (entries : List Entry) → IsSession (dns_session pair d) → compact_rules.refusal f (dns_session pair d) g ≡ None → ((image : Addr → Option Addr) × AreNamed image f (dns_session pair d) g entries) → length (entered_all (compact_rules.listed f (dns_session pair d)) entries) ≤ 256 → OnOk r (new ≡ dns_next f (with_entered f entries d) g) → OnErr r (new ≡ d) → IsSession (dns_session pair new)
 units_stay (Ok x) pair d new f g entries h v named few ok err =
-    let next : dns_session pair new ≡ kept_rules.next named.0 f (dns_session pair d) g = ap (dns_session pair) ok ∙ next_units named.0 pair d f g entries named.1 in
+    let next : dns_session pair new ≡ compact_rules.next named.0 f (dns_session pair d) g = ap (dns_session pair) ok ∙ next_units named.0 pair d f g entries named.1 in
     subst IsSession (sym next) (next_session named.0 f (dns_session pair d) g h v (few_after named.0 f (dns_session pair d) g entries named.1 few))
 units_stay (Err e) pair d new f g entries h v named few ok err = subst (λ (x : DnsKept). IsSession (dns_session pair x)) (sym err) h
 
 abbrev FtpKept : Type 0
 FtpKept = GateKept ClientLines ServerLines
 
-abbrev pub ftp_session : Pair → SessionKept → KeptSession
+abbrev pub ftp_session : Pair → CompactState → CompactSession
 ftp_session pair h = record { pair = pair; lists = None; kept = h }
 
 -- and of one of FTP
-pub lines_stay : {X E : Type 0} (r : Result X E) (pair : Pair) (d new : FtpKept) (f : Bool) (g : Segment) → (d.client_dialogue.pair ≡ pair) × (d.server_dialogue.pair ≡ pair) → IsSession (ftp_session pair d.kept) → kept_rules.verdict f (ftp_session pair d.kept) g ≡ None → OnOk r (new ≡ record d { kept = kept_next (client_lines d.client_dialogue.pair) (server_lines d.server_dialogue.pair) f d.kept g }) → OnErr r (new ≡ d) → ((new.client_dialogue.pair ≡ pair) × (new.server_dialogue.pair ≡ pair)) × IsSession (ftp_session pair new.kept)
+pub lines_stay : {X E : Type 0} (r : Result X E) (pair : Pair) (d new : FtpKept) (f : Bool) (g : Segment) → (d.client_dialogue.pair ≡ pair) × (d.server_dialogue.pair ≡ pair) → IsSession (ftp_session pair d.kept) → compact_rules.refusal f (ftp_session pair d.kept) g ≡ None → OnOk r (new ≡ record d { kept = kept_next (client_lines d.client_dialogue.pair) (server_lines d.server_dialogue.pair) f d.kept g }) → OnErr r (new ≡ d) → ((new.client_dialogue.pair ≡ pair) × (new.server_dialogue.pair ≡ pair)) × IsSession (ftp_session pair new.kept)
 lines_stay (Ok x) pair d new f g pairs h v ok err =
     let kept : new.kept ≡ kept_next (client_lines pair) (server_lines pair) f d.kept g =
     ap (λ (y : FtpKept). y.kept) ok
     ∙ ap (λ (p : Pair). kept_next (client_lines p) (server_lines d.server_dialogue.pair) f d.kept g) pairs.0
     ∙ ap (λ (p : Pair). kept_next (client_lines pair) (server_lines p) f d.kept g) pairs.1 in (
       (ap (λ (y : FtpKept). y.client_dialogue.pair) ok ∙ pairs.0, ap (λ (y : FtpKept). y.server_dialogue.pair) ok ∙ pairs.1),
-      subst (λ (k : SessionKept). IsSession (ftp_session pair k)) (sym kept) (next_session (λ a. None) f (ftp_session pair d.kept) g h v (omega arith)),
+      subst (λ (k : CompactState). IsSession (ftp_session pair k)) (sym kept) (next_session (λ a. None) f (ftp_session pair d.kept) g h v (omega arith)),
     )
 lines_stay (Err e) pair d new f g pairs h v ok err = (
   (ap (λ (y : FtpKept). y.client_dialogue.pair) err ∙ pairs.0, ap (λ (y : FtpKept). y.server_dialogue.pair) err ∙ pairs.1),
@@ -129,7 +129,7 @@ ends_some es t h =
     ]
 
 -- where a segment completes a unit that bears, by whichever list, it completes a unit
-completes_some : (es fs : List Entry) (h : SenderKept) (g : Segment) → IsListedStream es h → CompletesBy (dns_units fs) h g → 1 ≤ length (kept_completed (dns_units es) h g)
+completes_some : (es fs : List Entry) (h : CompactSender) (g : Segment) → IsListedStream es h → CompletesBy (dns_units fs) h g → 1 ≤ length (kept_completed (dns_units es) h g)
 completes_some es fs h g i by =
     let t : List ℕ = drop (start_kept h g).before g.octets in
     let whole : List (List ℕ) = (cut (dns_units es) (h.rest ++ t)).units in

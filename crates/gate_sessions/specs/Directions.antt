@@ -4,12 +4,12 @@ use Rattle.gate_base.specs.declared.event.Pair.{Pair}
 use Rattle.dialogue.specs.Learning.{Entry}
 use Rattle.dns_stream.specs.Images.{dns_units}
 use Rattle.stream_model.specs.Session.{Segment, Outgoing}
-use Rattle.stream_kept.specs.Outs.{kept_out}
-use Rattle.stream_kept.specs.Sessions.{sender_kept, kept_next}
+use Rattle.compact_stream.specs.Outs.{kept_out}
+use Rattle.compact_stream.specs.Sessions.{sender_kept, kept_next}
 use Rattle.stream_gate.specs.Gates.{GateKept}
 use Rattle.stream_gate.specs.Memory.{KeptCompletes}
-use Rattle.kept_world.specs.Kept.{KeptSession, IsListedStream}
-use Rattle.unit_plans.specs.Steps.{entered_all}
+use Rattle.compact_worlds.specs.Kept.{CompactSession, IsListedStream}
+use Rattle.dns_plans.specs.Steps.{entered_all}
 
 -- the dialogues are the lists
 abbrev pub DnsKept : Type 0
@@ -40,5 +40,5 @@ abbrev pub DnsCompletes : Bool → DnsKept → Segment → Type 0
 DnsCompletes from_client d g = KeptCompletes (dns_units d.client_dialogue) (dns_units d.server_dialogue) from_client d.kept g
 
 -- the session of hosts of this pair
-abbrev pub dns_session : Pair → DnsKept → KeptSession
+abbrev pub dns_session : Pair → DnsKept → CompactSession
 dns_session pair d = record { pair = pair; lists = Some (record { client = d.client_dialogue; server = d.server_dialogue }); kept = d.kept }

@@ -1,14 +1,14 @@
 -- What the gate tells of datagrams: those that go out.
 use Rattle.std.specs.Prelude.{ℕ, List, refl}
-use Rattle.gate_world.specs.Step.{stream_out}
-use Rattle.kept_world.specs.Kept.{KeptSession, kept_rules}
-use Rattle.gate_steps.specs.Passed.{Tells}
-use Rattle.gate_known.specs.Engines.{Gives}
+use Rattle.gate_model.specs.Step.{stream_out}
+use Rattle.compact_worlds.specs.Kept.{CompactSession, compact_rules}
+use Rattle.event_steps.specs.Passed.{Tells}
+use Rattle.event_engine.specs.Engines.{Gives}
 use Rattle.gate_sessions.specs.Sessions.{MayWantIn}
 
-abbrev pub gate_tells : Tells KeptSession (List (List ℕ))
-gate_tells = record { whole = λ datagrams. datagrams; segment = stream_out kept_rules; plain = λ image side d source destination. refl }
+abbrev pub gate_tells : Tells CompactSession (List (List ℕ))
+gate_tells = record { whole = λ datagrams. datagrams; segment = stream_out compact_rules; plain = λ image side d source destination. refl }
 
 -- those of a segment are what its session put; where memory runs out nothing has changed
-abbrev pub kept_gives : {P : Type 0} → Gives KeptSession P (List (List ℕ))
+abbrev pub kept_gives : {P : Type 0} → Gives CompactSession P (List (List ℕ))
 kept_gives = record { tells = gate_tells; cut = λ sent datagrams. datagrams; Keeps = Unit {0}; MayWant = MayWantIn }

@@ -4,32 +4,32 @@ use Rattle.gate_base.specs.declared.event.Pair.{Pair}
 use Rattle.ftp_lines.specs.Renaming.{client_lines, server_lines}
 use Rattle.stream_model.specs.Session.{Segment}
 use Rattle.stream_gate.specs.Memory.{KeptCompletes}
-use Rattle.gate_world.specs.Lists.{Lists, most_entries}
-use Rattle.gate_world.specs.Sessions.{entries_by}
-use Rattle.kept_world.specs.Kept.{KeptSession, kept_units, IsOfSome}
+use Rattle.gate_model.specs.Lists.{Lists, most_entries}
+use Rattle.gate_model.specs.Sessions.{entries_by}
+use Rattle.compact_worlds.specs.Kept.{CompactSession, kept_units, IsOfSome}
 use Rattle.gate_sessions.specs.Directions.{dns_session}
-use Rattle.gate_sessions.specs.declared.kinds.Dialog.{Dialog}
-use Rattle.gate_sessions.specs.declared.kinds.Dialog.TheVariants.{Lines, Units}
+use Rattle.gate_sessions.specs.declared.kinds.SessionKind.{SessionKind}
+use Rattle.gate_sessions.specs.declared.kinds.SessionKind.TheVariants.{Lines, Units}
 
 -- the session of hosts of this pair
-abbrev pub session_of : Pair → Dialog → KeptSession
+abbrev pub session_of : Pair → SessionKind → CompactSession
 session_of pair (Lines session) = record { pair = pair; lists = None; kept = session.kept }
 session_of pair (Units session) = dns_session pair session.value
 
 -- both dialogues of lines have this pair
-abbrev pub IsOfPair : Pair → Dialog → Type 0
+abbrev pub IsOfPair : Pair → SessionKind → Type 0
 IsOfPair pair (Lines session) = (session.client_dialogue.pair ≡ pair) × (session.server_dialogue.pair ≡ pair)
 IsOfPair pair (Units session) = Unit {0}
 
 -- what holds of each session by itself: it is kept of some session over whole lists, all of whose addresses are listed where it is one of DNS, and no list is longer than the most
-pub record IsSession (k : KeptSession) : Type 0 where
+pub record IsSession (k : CompactSession) : Type 0 where
   pub some : IsOfSome k
   pub few : (client : Bool) → length (entries_by k.lists client) ≤ most_entries
 
 -- where a segment may want memory: it completes a line that bears an address, or a unit of DNS
-abbrev pub MayWantBy : Option Lists → Bool → KeptSession → Segment → Type 0
+abbrev pub MayWantBy : Option Lists → Bool → CompactSession → Segment → Type 0
 MayWantBy None from_client k g = KeptCompletes (client_lines k.pair) (server_lines k.pair) from_client k.kept g
 MayWantBy (Some lists) from_client k g = 1 ≤ length (kept_units from_client k g)
 
-abbrev pub MayWantIn : Bool → KeptSession → Segment → Type 0
+abbrev pub MayWantIn : Bool → CompactSession → Segment → Type 0
 MayWantIn from_client k g = MayWantBy k.lists from_client k g

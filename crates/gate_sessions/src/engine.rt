@@ -1,16 +1,16 @@
 // The gate's sessions as those of an engine.
 ghost use Rattle.std.specs.Prelude.{◌≡◌, None, Some, if◌then◌else◌};
-ghost use Rattle.kept_world.specs.Kept.{kept_rules};
+ghost use Rattle.compact_worlds.specs.Kept.{compact_rules};
 
 use crate::kinds::FtpSession;
 use crate::session::{AnySession, Passing};
 use gate_base::{OutOfMemory, Pair, Refusal};
-use gate_known::{Engine, Stepped};
+use event_engine::{Engine, Stepped};
 use gate_outbox::{Outbox, Scratch, Segment};
 use gate_payloads::Way;
 use std::alloc::Global;
 use tcp_segments::TcpView;
-use unit_plans::{Entry, Tracked};
+use dns_plans::{Entry, Tracked};
 
 impl Engine for AnySession {
     ghost use Rattle.std.specs.Prelude.{ℕ, List};
@@ -22,7 +22,7 @@ impl Engine for AnySession {
 
     ghost gives = { kept_gives };
 
-    fn make(
+    fn new(
         alloc: Global,
         port: u16,
         pair: Pair,
@@ -32,8 +32,8 @@ impl Engine for AnySession {
         AnySession::opened(alloc, port, pair, initial, mss)
     }
 
-    fn first_verdict(_alloc: Global, _pair: Pair, segment: &TcpView<'_>) -> Option<Refusal> {
-        FtpSession::first_verdict(segment)
+    fn opening_refusal(_alloc: Global, _pair: Pair, segment: &TcpView<'_>) -> Option<Refusal> {
+        FtpSession::opening_refusal(segment)
     }
 
     fn take(
@@ -59,7 +59,7 @@ impl Engine for AnySession {
 
 /// How many changed lines or units wait in a session; None where it is over.
 fn waiting(session: &AnySession, over: bool) -> Option<u64>
-    ensures { result ≡ (if over then None else Some (kept_rules.pending session.now)) }
+    ensures { result ≡ (if over then None else Some (compact_rules.pending session.now)) }
 {
     if over {
         return None;

@@ -12,7 +12,7 @@ pub type DnsSession = StreamGate<DnsUnits, DnsUnits, 8_194>;
 
 /// What is kept of a session, by what its hosts speak. A session of DNS stands apart, since what it holds back is large.
 #[derive(Drop)]
-pub enum Dialog {
+pub enum SessionKind {
     Lines(FtpSession),
     Units(Box<DnsSession>),
 }

@@ -1,10 +1,10 @@
 // A connection of DNS that learns what its units name.
 ghost use Rattle.std.specs.Prelude.{◌≡◌, ◌≤◌, ◌<◌, [], not, false, length, map, None, IfOk, OnOk, OnErr};
 ghost use Rattle.dialogue.specs.Learning.{is_listed};
-ghost use Rattle.gate_world.specs.Stream.{segment_of, sent_as, tcp_of};
-ghost use Rattle.stream_kept.specs.Outs.{kept_ends};
-ghost use Rattle.stream_kept.specs.Sessions.{kept_verdict};
-ghost use Rattle.unit_plans.specs.Steps.{enter_one, entered_all};
+ghost use Rattle.gate_model.specs.Stream.{segment_of, sent_as, tcp_of};
+ghost use Rattle.compact_stream.specs.Outs.{kept_ends};
+ghost use Rattle.compact_stream.specs.Sessions.{kept_verdict};
+ghost use Rattle.dns_plans.specs.Steps.{enter_one, entered_all};
 ghost use Rattle.gate_sessions.specs.Directions.{listed_of, IsListedSide, with_entered, dns_next, dns_out, DnsCompletes};
 
 use crate::kinds::DnsSession;
@@ -12,7 +12,7 @@ use crate::segments::put_segments;
 use crate::session::Passing;
 use gate_base::OutOfMemory;
 use gate_outbox::{Outbox, Scratch};
-use unit_plans::Entry;
+use dns_plans::Entry;
 
 /// Enters an address into the client's list, or else the server's, unless it is listed.
 fn learn_one(session: &mut DnsSession, from_client: bool, one: Entry)

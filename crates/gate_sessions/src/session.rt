@@ -3,16 +3,16 @@ ghost use Rattle.std.specs.Prelude.{◌≡◌, ◌≤◌, ◌<◌, ℕ, Option, 
 ghost use Rattle.gate_base.specs.declared.address.Addr.{Addr};
 ghost use Rattle.stream_model.specs.Session.{segment_in, arrival};
 ghost use Rattle.stream_gate.specs.Directions.{nothing_pushed};
-ghost use Rattle.stream_kept.specs.Sessions.{kept_made};
-ghost use Rattle.stream_model.specs.Verdict.{is_data};
-ghost use Rattle.gate_world.specs.Lists.{addresses_in};
-ghost use Rattle.gate_world.specs.Stream.{segment_of, sent_as, tcp_of};
-ghost use Rattle.kept_world.specs.Kept.{kept_rules};
-ghost use Rattle.unit_plans.specs.Plans.{whole_units, beside};
-ghost use Rattle.unit_plans.specs.Steps.{entered_all};
+ghost use Rattle.compact_stream.specs.Sessions.{kept_made};
+ghost use Rattle.stream_model.specs.Refusals.{is_data};
+ghost use Rattle.gate_model.specs.Lists.{addresses_in};
+ghost use Rattle.gate_model.specs.Stream.{segment_of, sent_as, tcp_of};
+ghost use Rattle.compact_worlds.specs.Kept.{compact_rules};
+ghost use Rattle.dns_plans.specs.Plans.{whole_units, beside};
+ghost use Rattle.dns_plans.specs.Steps.{entered_all};
 ghost use Rattle.gate_sessions.specs.Sessions.{MayWantIn};
 
-use crate::kinds::{Dialog, DnsSession, FtpSession};
+use crate::kinds::{SessionKind, DnsSession, FtpSession};
 use crate::learned::step_units;
 use crate::segments::put_segments;
 use dns_stream::DnsUnits;
@@ -25,7 +25,7 @@ use std::boxed::Box;
 use std::marker::Model;
 use stream_gate::StreamGate;
 use tcp_segments::{TcpView, flags_of};
-use unit_plans::{Entry, Session, UnitOctets};
+use dns_plans::{Entry, Session, UnitOctets};
 
 /// A segment that passes: whether the client sends it, and the addresses between which it goes on.
 #[derive(Clone, Copy)]
@@ -41,26 +41,26 @@ pub struct Passing<'a> {
 #[derive(Drop)]
 pub struct AnySession {
     pair: Pair,
-    dialog: Dialog,
+    kind: SessionKind,
 }
 
 impl Model for AnySession {
-    ghost use Rattle.kept_world.specs.Kept.{KeptSession};
+    ghost use Rattle.compact_worlds.specs.Kept.{CompactSession};
     ghost use Rattle.gate_sessions.specs.Sessions.{session_of, IsOfPair, IsSession};
 
-    ghost Value = { KeptSession };
+    ghost Value = { CompactSession };
 
-    ghost view = { λ session. session_of session.pair session.dialog };
+    ghost view = { λ session. session_of session.pair session.kind };
 
-    ghost invariant = { λ session. IsOfPair session.pair session.dialog × IsSession (session_of session.pair session.dialog) };
+    ghost invariant = { λ session. IsOfPair session.pair session.kind × IsSession (session_of session.pair session.kind) };
 }
 
 fn ftp_session(alloc: Global, pair: Pair, initial: u32, mss: u16) -> Result<FtpSession, OutOfMemory>
     ensures { IfOk result (λ session. session ≡ record { client_dialogue = record { pair = pair }; server_dialogue = record { pair = pair }; kept = kept_made initial mss nothing_pushed nothing_pushed }) }
 {
-    let from_client = Recent::make(alloc)?;
-    let from_server = Recent::make(alloc)?;
-    Ok(StreamGate::make(
+    let from_client = Recent::new(alloc)?;
+    let from_server = Recent::new(alloc)?;
+    Ok(StreamGate::new(
         alloc,
         ClientLines { pair },
         ServerLines { pair },
@@ -74,11 +74,11 @@ fn ftp_session(alloc: Global, pair: Pair, initial: u32, mss: u16) -> Result<FtpS
 fn dns_session(alloc: Global, initial: u32, mss: u16) -> Result<DnsSession, OutOfMemory>
     ensures { IfOk result (λ session. session ≡ record { client_dialogue = []; server_dialogue = []; kept = kept_made initial mss nothing_pushed nothing_pushed }) }
 {
-    let client = DnsUnits::make(alloc)?;
-    let server = DnsUnits::make(alloc)?;
-    let from_client = Recent::make(alloc)?;
-    let from_server = Recent::make(alloc)?;
-    Ok(StreamGate::make(
+    let client = DnsUnits::new(alloc)?;
+    let server = DnsUnits::new(alloc)?;
+    let from_client = Recent::new(alloc)?;
+    let from_server = Recent::new(alloc)?;
+    Ok(StreamGate::new(
         alloc,
         client,
         server,
@@ -90,35 +90,35 @@ fn dns_session(alloc: Global, initial: u32, mss: u16) -> Result<DnsSession, OutO
 }
 
 impl Session for AnySession {
-    ghost use Rattle.kept_world.specs.Kept.{kept_rules};
+    ghost use Rattle.compact_worlds.specs.Kept.{compact_rules};
 
-    ghost rules = { kept_rules };
+    ghost rules = { compact_rules };
 
     fn inner(&self, from_client: bool, sequence: u32) -> Option<u32> {
-        match &self.dialog {
-            Dialog::Lines(session) => session.inner(from_client, sequence),
-            Dialog::Units(session) => session.inner(from_client, sequence),
+        match &self.kind {
+            SessionKind::Lines(session) => session.inner(from_client, sequence),
+            SessionKind::Units(session) => session.inner(from_client, sequence),
         }
     }
 
-    fn verdict(&self, from_client: bool, segment: &TcpView<'_>) -> Option<Refusal> {
-        match &self.dialog {
-            Dialog::Lines(session) => session.verdict(from_client, segment),
-            Dialog::Units(session) => session.verdict(from_client, segment),
+    fn refusal(&self, from_client: bool, segment: &TcpView<'_>) -> Option<Refusal> {
+        match &self.kind {
+            SessionKind::Lines(session) => session.refusal(from_client, segment),
+            SessionKind::Units(session) => session.refusal(from_client, segment),
         }
     }
 
     fn listed(&self, client: bool) -> usize {
-        match &self.dialog {
-            Dialog::Lines(_) => 0,
-            Dialog::Units(session) => session.listed(client),
+        match &self.kind {
+            SessionKind::Lines(_) => 0,
+            SessionKind::Units(session) => session.listed(client),
         }
     }
 
     fn entry(&self, client: bool, place: usize) -> Entry {
-        match &self.dialog {
-            Dialog::Lines(_) => unreachable!(),
-            Dialog::Units(session) => session.entry(client, place),
+        match &self.kind {
+            SessionKind::Lines(_) => unreachable!(),
+            SessionKind::Units(session) => session.entry(client, place),
         }
     }
 
@@ -133,7 +133,7 @@ impl Session for AnySession {
 
     fn put_octets(&self, from_client: bool, segment: &TcpView<'_>, octets: &mut UnitOctets) {
         octets.clear();
-        if let Dialog::Units(session) = &self.dialog {
+        if let SessionKind::Units(session) = &self.kind {
             if is_data(segment) {
                 let repeated = session.repeated(from_client, segment);
                 octets.join(session.rest(from_client), &segment.payload()[repeated..]);
@@ -152,28 +152,28 @@ impl AnySession {
         initial: u32,
         mss: u16,
     ) -> Result<AnySession, OutOfMemory>
-        ensures { IfOk result (λ session. session ≡ kept_rules.made port pair initial mss) }
+        ensures { IfOk result (λ session. session ≡ compact_rules.made port pair initial mss) }
     {
         if port == DNS_PORT {
             let session = dns_session(alloc, initial, mss)?;
             return Ok(AnySession {
                 pair,
-                dialog: Dialog::Units(Box::new(alloc, session)?),
+                kind: SessionKind::Units(Box::new(alloc, session)?),
             });
         }
         Ok(AnySession {
             pair,
-            dialog: Dialog::Lines(ftp_session(alloc, pair, initial, mss)?),
+            kind: SessionKind::Lines(ftp_session(alloc, pair, initial, mss)?),
         })
     }
 
     /// How many changed lines or units wait in it to be acknowledged.
     pub fn pending(&self) -> u64
-        ensures { result ≡ kept_rules.pending self.now }
+        ensures { result ≡ compact_rules.pending self.now }
     {
-        match &self.dialog {
-            Dialog::Lines(session) => session.pending() as u64,
-            Dialog::Units(session) => session.pending() as u64,
+        match &self.kind {
+            SessionKind::Lines(session) => session.pending() as u64,
+            SessionKind::Units(session) => session.pending() as u64,
         }
     }
 
@@ -187,22 +187,22 @@ impl AnySession {
         outbox: &mut Outbox,
         scratch: &mut Scratch,
     ) -> Result<bool, OutOfMemory>
-        requires few { length (entered_all (kept_rules.listed passing.now.from_client self.old) entries.now) ≤ 256 }
-        requires named { (image : Addr → Option Addr) × (entries.now ≡ beside image (addresses_in (kept_rules.units passing.now.from_client self.old (segment_of passing.now.segment.now.datagram.now)))) }
+        requires few { length (entered_all (compact_rules.listed passing.now.from_client self.old) entries.now) ≤ 256 }
+        requires named { (image : Addr → Option Addr) × (entries.now ≡ beside image (addresses_in (compact_rules.units passing.now.from_client self.old (segment_of passing.now.segment.now.datagram.now)))) }
         requires empty { outbox.old ≡ [] }
         requires segment { passing.now.segment.now.tcp.now ≡ tcp_of passing.now.segment.now.datagram.now }
         requires alive { 1 ≤ passing.now.segment.now.datagram.now.lifetime }
-        requires passes { kept_rules.verdict passing.now.from_client self.old (segment_of passing.now.segment.now.datagram.now) ≡ None }
-        ensures next { (image : Addr → Option Addr) → entries.now ≡ beside image (addresses_in (kept_rules.units passing.now.from_client self.old (segment_of passing.now.segment.now.datagram.now))) → OnOk result (self.new ≡ kept_rules.next image passing.now.from_client self.old (segment_of passing.now.segment.now.datagram.now)) }
-        ensures out { (image : Addr → Option Addr) → entries.now ≡ beside image (addresses_in (kept_rules.units passing.now.from_client self.old (segment_of passing.now.segment.now.datagram.now))) → OnOk result (outbox.new ≡ map (sent_as passing.now.segment.now.datagram.now passing.now.source.0 passing.now.destination.0) (kept_rules.out image passing.now.from_client self.old (segment_of passing.now.segment.now.datagram.now))) }
-        ensures over { IfOk result (λ b. b ≡ kept_rules.ends passing.now.from_client self.old (segment_of passing.now.segment.now.datagram.now)) }
+        requires passes { compact_rules.refusal passing.now.from_client self.old (segment_of passing.now.segment.now.datagram.now) ≡ None }
+        ensures next { (image : Addr → Option Addr) → entries.now ≡ beside image (addresses_in (compact_rules.units passing.now.from_client self.old (segment_of passing.now.segment.now.datagram.now))) → OnOk result (self.new ≡ compact_rules.next image passing.now.from_client self.old (segment_of passing.now.segment.now.datagram.now)) }
+        ensures out { (image : Addr → Option Addr) → entries.now ≡ beside image (addresses_in (compact_rules.units passing.now.from_client self.old (segment_of passing.now.segment.now.datagram.now))) → OnOk result (outbox.new ≡ map (sent_as passing.now.segment.now.datagram.now passing.now.source.0 passing.now.destination.0) (compact_rules.out image passing.now.from_client self.old (segment_of passing.now.segment.now.datagram.now))) }
+        ensures over { IfOk result (λ b. b ≡ compact_rules.ends passing.now.from_client self.old (segment_of passing.now.segment.now.datagram.now)) }
         ensures memory { OnErr result (MayWantIn passing.now.from_client self.old (segment_of passing.now.segment.now.datagram.now)) }
         ensures same { OnErr result (self.new ≡ self.old) }
         ensures nothing { OnErr result (outbox.new ≡ []) }
     {
-        match &mut self.dialog {
-            Dialog::Lines(session) => return put_segments(session, passing, outbox, scratch),
-            Dialog::Units(session) => {
+        match &mut self.kind {
+            SessionKind::Lines(session) => return put_segments(session, passing, outbox, scratch),
+            SessionKind::Units(session) => {
                 return step_units(&mut **session, passing, entries, outbox, scratch);
             }
         }

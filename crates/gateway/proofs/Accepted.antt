@@ -23,7 +23,7 @@ use Rattle.pcap_merge.specs.Events.{Ending, Fault as EndsFaulty}
 use Rattle.pcap_merge.specs.Picks.{EndsBy}
 use Rattle.pcap_merge.proofs.Weave.{merges}
 use Rattle.gateway.specs.Making.{workload_in}
-use Rattle.gate_phases.specs.Beginning.{events_in}
+use Rattle.run_setup.specs.Beginning.{events_in}
 
 abbrev zeros : List ℕ
 zeros = 0 ∷ 0 ∷ 0 ∷ 0 ∷ 0 ∷ 0 ∷ []

@@ -9,11 +9,11 @@ use Rattle.settings_file.specs.declared.fault.SettingsFault.{SettingsFault}
 use Rattle.gate_settings.specs.declared.settings.Settings.{Settings as GateSettings}
 use Rattle.pcap_files.specs.declared.fault.CaptureFault.{CaptureFault}
 use Rattle.pcap_merge.specs.Events.{Ending, Done as BothEnded, Fault as EndsFaulty}
-use Rattle.gate_phases.specs.declared.status.Status.{Status}
-use Rattle.gate_phases.specs.declared.status.Status.TheVariants.{Done, Usage, SettingsRefused, CaptureRefused, ReadFault, WriteFault, OpenFault, OutOfMemory, Unlawful}
-use Rattle.gate_phases.specs.Beginning.{IsAccepted, events_in}
-use Rattle.gate_phases.specs.Decided.{NoneRose, IsUnlessMemory}
-use Rattle.gate_phases.specs.RunNames.{Names}
+use Rattle.run_setup.specs.declared.status.Status.{Status}
+use Rattle.run_setup.specs.declared.status.Status.TheVariants.{Done, Usage, SettingsRefused, CaptureRefused, ReadFault, WriteFault, OpenFault, OutOfMemory, Unlawful}
+use Rattle.run_setup.specs.Beginning.{IsAccepted, events_in}
+use Rattle.run_setup.specs.Decided.{NoneRose, IsUnlessMemory}
+use Rattle.run_setup.specs.RunNames.{Names}
 use Rattle.gateway.specs.Decided.{IsRunOf}
 use Rattle.gateway.specs.Making.{IsMake}
 

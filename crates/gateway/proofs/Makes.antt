@@ -4,16 +4,16 @@ use Rattle.gate_desk.specs.declared.slot.Slot.{Slot}
 use Rattle.gate_desk.specs.declared.slot.Slot.TheVariants.{Report}
 use Rattle.gate_desk.specs.declared.slot.PerSlot.{PerSlot}
 use Rattle.gate_desk.specs.Discarded.{told_by}
-use Rattle.gate_desk.specs.Outside.{Outside, Told, FailsToStart, HasFailed, HasFailedToStart}
+use Rattle.gate_desk.specs.Outside.{Outside, Trace, FailsToStart, HasFailed, HasFailedToStart}
 use Rattle.gate_desk.proofs.Laws.{at-each, grows_on, grows_fails_to_start, none_failed_on, failed_since}
 use Rattle.gate_desk.specs.Slots.{inputs}
 use Rattle.gate_report.specs.declared.line.Line.{Line}
 use Rattle.gate_workload.specs.declared.workload.Workload.{Workload}
 use Rattle.gate_workload.specs.Workloads.{workload}
-use Rattle.gate_phases.specs.declared.status.Status.{Status}
-use Rattle.gate_phases.specs.declared.status.Status.TheVariants.{Done, SettingsRefused, CaptureRefused, ReadFault, WriteFault, OpenFault, OutOfMemory}
-use Rattle.gate_phases.specs.RunNames.{Names, make_starts}
-use Rattle.gate_phases.specs.Causes.{StartsAll}
+use Rattle.run_setup.specs.declared.status.Status.{Status}
+use Rattle.run_setup.specs.declared.status.Status.TheVariants.{Done, SettingsRefused, CaptureRefused, ReadFault, WriteFault, OpenFault, OutOfMemory}
+use Rattle.run_setup.specs.RunNames.{Names, make_starts}
+use Rattle.run_setup.specs.Causes.{StartsAll}
 use Rattle.gateway.specs.Causes.{WritesPieces}
 use Rattle.gateway.specs.Pieces.{wrote_pieces, WritesAll, IsFront}
 use Rattle.gateway.specs.Making.{workload_in, made_piece, IsLineOf, IsMake}
@@ -77,7 +77,7 @@ pub not_written : (e : Status) (line : Line) (number count : ℕ) (report : List
 not_written e line number count report a b c h is same k =
     let failed = subst (λ (s : Status). WritesPieces (Err s) (made_piece line ∷ []) b c) same k in
     subst (λ (s : Status). IsMake s number count report a c) (sym same) (record {
-      made = (failed_since Report a b c h.grows failed.0.1, line, is, failed.1.only.starts ∙ h.starts, subst (λ (t : Told). IsFront (made_piece line ∷ []) t c.written) h.written failed.1.front);
+      made = (failed_since Report a b c h.grows failed.0.1, line, is, failed.1.only.starts ∙ h.starts, subst (λ (t : Trace). IsFront (made_piece line ∷ []) t c.written) h.written failed.1.front);
       left = failed.1.only.left ∙ h.left;
       grows = grows_on a b c h.grows failed.1.only.grows;
     })

@@ -6,33 +6,33 @@ use Rattle.std.proofs.lemmas.Bool.{cases_Bool}
 use Rattle.gate_base.specs.Side.{other}
 use Rattle.gate_base.specs.declared.side.Side.{Side}
 use Rattle.gate_base.specs.declared.side.Side.TheVariants.{Left, Right}
-use Rattle.frag_join.specs.Arrivals.{Arrival, Comes, Stays, coming}
+use Rattle.frag_join.specs.Arrivals.{Arrival, Reaches, Stopped, coming}
 use Rattle.frag_join.proofs.ArrivalSteps.{arrivals_are}
 use Rattle.gate_desk.specs.declared.slot.PerSlot.{PerSlot}
 use Rattle.gate_desk.specs.declared.slot.Slot.TheVariants.{LeftIn, RightIn}
-use Rattle.gate_desk.specs.Outside.{Outside, Told}
+use Rattle.gate_desk.specs.Outside.{Outside, Trace}
 use Rattle.settings_file.specs.Accepting.{settings_of}
 use Rattle.gate_settings.specs.declared.settings.Settings.{Settings as GateSettings}
 use Rattle.settings_file.proofs.Accepted.{accepted as accepted_settings}
 use Rattle.pcap_files.specs.Capture.{Head, Good, Bad, head_of}
 use Rattle.pcap_merge.specs.Events.{Merged, Done as BothEnded, are_good, have_good_heads, events_of, by_heads}
-use Rattle.gate_world.specs.Rules.{whole_rules}
-use Rattle.gate_world.specs.Sessions.{WholeSession}
-use Rattle.gate_world.specs.Step.{next, out}
-use Rattle.gate_world.specs.Verdict.{verdict}
-use Rattle.gate_world.specs.World.{World}
-use Rattle.gate_world.proofs.Promises.{promised}
-use Rattle.gate_phases.specs.declared.status.Status.{Status}
-use Rattle.gate_phases.specs.declared.status.Status.TheVariants.{Done, CaptureRefused, ReadFault, WriteFault, OutOfMemory}
-use Rattle.gate_phases.specs.RunNames.{Names}
+use Rattle.gate_model.specs.Rules.{whole_rules}
+use Rattle.gate_model.specs.Sessions.{WholeSession}
+use Rattle.gate_model.specs.Step.{next, out}
+use Rattle.gate_model.specs.Verdict.{verdict}
+use Rattle.gate_model.specs.World.{World}
+use Rattle.gate_model.proofs.Promises.{promised}
+use Rattle.run_setup.specs.declared.status.Status.{Status}
+use Rattle.run_setup.specs.declared.status.Status.TheVariants.{Done, CaptureRefused, ReadFault, WriteFault, OutOfMemory}
+use Rattle.run_setup.specs.RunNames.{Names}
 use Rattle.gateway.specs.Pieces.{Piece, IsFront, wrote_pieces}
 use Rattle.gateway.specs.Machine.{State, opening, after_one, after, arrivals_by, sent, event_piece, given_by, given_by_all, given_by_merged, ended_by, heads, files}
-use Rattle.gateway.specs.Standing.{promised_of, EachStands, KeepsPromise}
-use Rattle.gate_phases.specs.Beginning.{IsAccepted, events_in}
+use Rattle.gateway.specs.Promise.{promised_of, EachStands, KeepsPromise}
+use Rattle.run_setup.specs.Beginning.{IsAccepted, events_in}
 use Rattle.gateway.specs.Ends.{Wants, outputs_of}
 use Rattle.gateway.specs.Answers.{HasWritten, IsRun, IsPromised, StopsAtCapture, WantsMemory}
 use Rattle.gateway.proofs.Pieces.{is_front_none, is_front_all, is_front_more, is_front_on}
-use Rattle.gate_phases.proofs.Beginning.{if_some}
+use Rattle.run_setup.proofs.Beginning.{if_some}
 use Rattle.gateway.proofs.Progress.{given_all-append, given_all-cons, front_of_first, front_of_line}
 use Rattle.gateway.proofs.Runs.{good_outputs, bad_outputs}
 
@@ -42,23 +42,23 @@ use Rattle.gateway.proofs.Runs.{good_outputs, bad_outputs}
 world_after : (arrivals : List Arrival) (s : State WholeSession) → (after whole_rules s arrivals).world ≡ fold (next whole_rules) s.world (coming arrivals)
 unfolding coming
 world_after [] s = refl
-world_after (Comes e ∷ others) s = world_after others (after_one whole_rules s (Comes e))
-world_after (Stays e v ∷ others) s = world_after others (after_one whole_rules s (Stays e v))
+world_after (Reaches e ∷ others) s = world_after others (after_one whole_rules s (Reaches e))
+world_after (Stopped e v ∷ others) s = world_after others (after_one whole_rules s (Stopped e v))
 
 -- it counts each frame
 counted_after : (arrivals : List Arrival) (s : State WholeSession) → (after whole_rules s arrivals).totals.events ≡ s.totals.events + length arrivals
 counted_after [] s = omega arith
-counted_after (Comes e ∷ others) s = let more = counted_after others (after_one whole_rules s (Comes e)) in omega (arith, more)
-counted_after (Stays e v ∷ others) s = let more = counted_after others (after_one whole_rules s (Stays e v)) in omega (arith, more)
+counted_after (Reaches e ∷ others) s = let more = counted_after others (after_one whole_rules s (Reaches e)) in omega (arith, more)
+counted_after (Stopped e v ∷ others) s = let more = counted_after others (after_one whole_rules s (Stopped e v)) in omega (arith, more)
 
 -- what a frame gives after others
 given_after : (settings : GateSettings) (done : List Arrival) (a : Arrival) → given_by whole_rules settings (after whole_rules (opening settings) done) a ≡ promised_of settings done a
-given_after settings done (Comes e) =
+given_after settings done (Reaches e) =
     let gives : ℕ → World WholeSession → List Piece = λ n w. sent settings (other e.side) e.moment (out whole_rules w e) ++ event_piece settings.json (n + 1) e.side e.moment (verdict whole_rules w e) (length (out whole_rules w e)) ∷ [] in
     let s = after whole_rules (opening settings) done in
     let counted : s.totals.events ≡ length done = omega (arith, counted_after done (opening settings)) in
     ap (λ (n : ℕ). gives n s.world) counted ∙ ap (gives (length done)) (world_after done (opening settings))
-given_after settings done (Stays e v) =
+given_after settings done (Stopped e v) =
     let s = after whole_rules (opening settings) done in
     let counted : s.totals.events ≡ length done = omega (arith, counted_after done (opening settings)) in
     ap (λ (n : ℕ). event_piece settings.json (n + 1) e.side e.moment v 0 ∷ []) counted
@@ -89,11 +89,11 @@ same_answer : {A E : Type 0} (r : Result A E) (x y : A) → r ≡ Ok x → r ≡
 same_answer r x y e f = cc
 
 -- there is one result of the settings
-for_all_accepted : (t : Told) (P : GateSettings → PerSlot (List ℕ) → Type 0) → IfSome t (λ all. (s : GateSettings) × IsAccepted s all × P s all) → IfSome t (λ all. (s : GateSettings) → IsAccepted s all → P s all)
+for_all_accepted : (t : Trace) (P : GateSettings → PerSlot (List ℕ) → Type 0) → IfSome t (λ all. (s : GateSettings) × IsAccepted s all × P s all) → IfSome t (λ all. (s : GateSettings) → IsAccepted s all → P s all)
 for_all_accepted None P h = tt
 for_all_accepted (Some all) P h = λ s accepted. subst (λ (x : GateSettings). P x all) (same_answer (settings_of all.settings) h.0 s h.1 accepted) h.2
 
-always : (t : Told) (P : GateSettings → PerSlot (List ℕ) → Type 0) → ((s : GateSettings) (all : PerSlot (List ℕ)) → P s all) → IfSome t (λ all. (s : GateSettings) → IsAccepted s all → P s all)
+always : (t : Trace) (P : GateSettings → PerSlot (List ℕ) → Type 0) → ((s : GateSettings) (all : PerSlot (List ℕ)) → P s all) → IfSome t (λ all. (s : GateSettings) → IsAccepted s all → P s all)
 always None P f = tt
 always (Some all) P f = λ s accepted. f s all
 
@@ -104,7 +104,7 @@ WrotesFront a b s all = IsFront (files s (events_in all)) a.written b.written
 nothing_written : (a b : Outside) → b.written ≡ a.written → IfSome a.left (λ all. (s : GateSettings) → IsAccepted s all → WrotesFront a b s all)
 nothing_written a b e = always a.left (WrotesFront a b) (λ s all. subst (λ t. IsFront (files s (events_in all)) a.written t) (sym e) (is_front_none (files s (events_in all)) a.written))
 
-files_front : (s : GateSettings) (all : PerSlot (List ℕ)) (t u : Told) → IsFront (outputs_of s all) t u → IsFront (files s (events_in all)) t u
+files_front : (s : GateSettings) (all : PerSlot (List ℕ)) (t u : Trace) → IsFront (outputs_of s all) t u → IsFront (files s (events_in all)) t u
 files_front s all t u h =
     elim (cases_Bool (have_good_heads all.left_in all.right_in)) [
       | inl good ↦ subst (λ ps. IsFront ps t u) (good_outputs s all good) h
@@ -123,7 +123,7 @@ behind_heads a b h =
     for_all_accepted a.left (WrotesFront a b)
     (if_some a.left _ _ h (λ all k. (k.0, k.1, is_front_on (heads k.0) (given_by_merged k.0 (events_in all)) a.written (wrote_pieces (heads k.0) a.written) b.written refl k.2)))
 
-wanted_front : (s : GateSettings) (all : Merged) (a b : Told) → Wants s all a b → IsFront (given_by_merged s all) a b
+wanted_front : (s : GateSettings) (all : Merged) (a b : Trace) → Wants s all a b → IsFront (given_by_merged s all) a b
 wanted_front s all a b (inl h) = front_of_first s h.handled all a b (record { others = h.next ∷ h.others; split = h.split; written = h.written })
 wanted_front s all a b (inr h) = front_of_line s all a b h.1
 
@@ -155,7 +155,7 @@ ended_good : (left right : List ℕ) → (events_of left right).ending ≡ BothE
 unfolding events_of have_good_heads
 ended_good left right e = ended_heads left right (head_of left) (head_of right) e
 
-with_ended : (t a b : Told) → IfSome t (λ all. (s : GateSettings) × IsAccepted s all × (b ≡ wrote_pieces (outputs_of s all) a)) → IfSome t (λ all. (s : GateSettings) × IsAccepted s all × ((events_in all).ending ≡ BothEnded))
+with_ended : (t a b : Trace) → IfSome t (λ all. (s : GateSettings) × IsAccepted s all × (b ≡ wrote_pieces (outputs_of s all) a)) → IfSome t (λ all. (s : GateSettings) × IsAccepted s all × ((events_in all).ending ≡ BothEnded))
     → IfSome t (λ all. (s : GateSettings) × IsAccepted s all × (b ≡ wrote_pieces (files s (events_in all)) a))
 with_ended None a b h k = tt
 with_ended (Some all) a b h k = (h.0, h.1, h.2 ∙ ap (λ (ps : List Piece). wrote_pieces ps a) (good_outputs h.0 all (ended_good all.left_in all.right_in k.2)))
@@ -163,7 +163,7 @@ with_ended (Some all) a b h k = (h.0, h.1, h.2 ∙ ap (λ (ps : List Piece). wro
 whole_files : (names : Names) (a b : Outside) → IsRun Done names a b → IfSome a.left (λ all. (s : GateSettings) → IsAccepted s all → b.written ≡ wrote_pieces (files s (events_in all)) a.written)
 whole_files names a b h = for_all_accepted a.left (λ s all. b.written ≡ wrote_pieces (files s (events_in all)) a.written) (with_ended a.left a.written b.written h.written h.ends.cause.0)
 
-keeps : (t : Told) (status : Status) (a b : Told) → IfSome t (λ all. (s : GateSettings) → IsAccepted s all → IsFront (files s (events_in all)) a b)
+keeps : (t : Trace) (status : Status) (a b : Trace) → IfSome t (λ all. (s : GateSettings) → IsAccepted s all → IsFront (files s (events_in all)) a b)
     → (status ≡ Done → IfSome t (λ all. (s : GateSettings) → IsAccepted s all → b ≡ wrote_pieces (files s (events_in all)) a))
     → IfSome t (λ all. (s : GateSettings) → IsAccepted s all → KeepsPromise status s (events_in all) a b)
 keeps None status a b f w = tt

@@ -3,26 +3,26 @@ use Rattle.std.specs.Prelude.{◌≡◌, ◌⊎◌, ℕ, List, [], ◌∷◌, �
 use Rattle.gate_base.specs.Events.{Event}
 use Rattle.gate_desk.specs.declared.slot.Slot.TheVariants.{LeftIn, RightIn}
 use Rattle.gate_desk.specs.declared.slot.PerSlot.{PerSlot}
-use Rattle.gate_desk.specs.Outside.{Outside, Told, Grows, NoneFailed, IsAtEnd}
+use Rattle.gate_desk.specs.Outside.{Outside, Trace, Grows, NoneFailed, IsAtEnd}
 use Rattle.gate_settings.specs.declared.settings.Settings.{Settings as GateSettings}
 use Rattle.settings_file.specs.Accepting.{settings_of}
 use Rattle.pcap_merge.specs.Events.{Merged, Ending, Done as BothEnded, Fault as EndsFaulty, have_good_heads}
-use Rattle.gate_phases.specs.declared.status.Status.{Status}
-use Rattle.gate_phases.specs.declared.status.Status.TheVariants.{Done, Usage, SettingsRefused, CaptureRefused, ReadFault, WriteFault, OpenFault, OutOfMemory, Unlawful}
-use Rattle.gate_phases.specs.Beginning.{IsAccepted, events_in}
+use Rattle.run_setup.specs.declared.status.Status.{Status}
+use Rattle.run_setup.specs.declared.status.Status.TheVariants.{Done, Usage, SettingsRefused, CaptureRefused, ReadFault, WriteFault, OpenFault, OutOfMemory, Unlawful}
+use Rattle.run_setup.specs.Beginning.{IsAccepted, events_in}
 use Rattle.gateway.specs.Pieces.{Piece, wrote_pieces, IsFront}
-use Rattle.gate_phases.specs.Causes.{Causes}
+use Rattle.run_setup.specs.Causes.{Causes}
 use Rattle.gate_core.specs.Memory.{MayWant}
-use Rattle.gate_world.specs.Rules.{whole_rules}
-use Rattle.gate_world.specs.World.{World, at_moment}
-use Rattle.kept_world.specs.Kept.{KeptSession, kept_rules}
-use Rattle.frag_join.specs.Arrivals.{Comes, arrival, joiner_of}
+use Rattle.gate_model.specs.Rules.{whole_rules}
+use Rattle.gate_model.specs.World.{World, at_moment}
+use Rattle.compact_worlds.specs.Kept.{CompactSession, compact_rules}
+use Rattle.frag_join.specs.Arrivals.{Reaches, arrival, joiner_of}
 use Rattle.frag_join.specs.Joining.{by_list}
 use Rattle.gateway.specs.Machine.{after, arrivals_by, frames_of, given_by_all, files, opening}
-use Rattle.gate_phases.specs.Beginning.{IsAccepted, events_in}
+use Rattle.run_setup.specs.Beginning.{IsAccepted, events_in}
 
 -- the gate may want memory for an event
-abbrev pub MayWantAt : World KeptSession → Event → Type 0
+abbrev pub MayWantAt : World CompactSession → Event → Type 0
 MayWantAt w e = MayWant (at_moment w e.moment) e
 
 -- the cause of a status, by what the desk tells of the settings and the captures as the run begins, and by the counts, none of which rose where a run is done or refuses its settings or a capture
@@ -47,42 +47,42 @@ pub record Ends (status : Status) (old new : Outside) : Type 0 where
   pub grows : Grows old new
 
 -- these are the first of the events, and what they give stands written, whole
-pub record IsOfFirst (settings : GateSettings) (handled events : List Event) (old new : Told) : Type 0 where
+pub record IsOfFirst (settings : GateSettings) (handled events : List Event) (old new : Trace) : Type 0 where
   pub others : List Event
   pub split : events ≡ handled ++ others
   pub written : new ≡ wrote_pieces (given_by_all whole_rules settings (opening settings) (arrivals_by settings handled)) old
 
 -- these are the first of the events, and what they give stands written, with a front of something behind it
-pub record StandWritten (settings : GateSettings) (handled events : List Event) (old new : Told) : Type 0 where
+pub record StandWritten (settings : GateSettings) (handled events : List Event) (old new : Trace) : Type 0 where
   pub others : List Event
   pub split : events ≡ handled ++ others
   pub behind : List Piece
   pub written : IsFront behind (wrote_pieces (given_by_all whole_rules settings (opening settings) (arrivals_by settings handled)) old) new
 
 -- the gate wanted memory for the event that came to it with a frame: what those before it give stands written, whole
-pub record WantsAt (settings : GateSettings) (events : List Event) (old new : Told) : Type 0 where
+pub record WantsAt (settings : GateSettings) (events : List Event) (old new : Trace) : Type 0 where
   pub handled : List Event
   pub next : Event
   pub others : List Event
   pub split : events ≡ handled ++ next ∷ others
   pub written : new ≡ wrote_pieces (given_by_all whole_rules settings (opening settings) (arrivals_by settings handled)) old
   pub came : Event
-  pub comes : arrivals_by settings (handled ++ next ∷ []) ≡ arrivals_by settings handled ++ Comes came ∷ []
-  pub wants : MayWantAt (after kept_rules (opening settings) (arrivals_by settings handled)).world came
+  pub comes : arrivals_by settings (handled ++ next ∷ []) ≡ arrivals_by settings handled ++ Reaches came ∷ []
+  pub wants : MayWantAt (after compact_rules (opening settings) (arrivals_by settings handled)).world came
 
 -- behind what these events gave the frames of the next one stand written, whole; where there is none, nothing, and both captures are at their ends
-abbrev pub WroteFrames : GateSettings → Ending → List Event → List Event → Told → Told → Type 0
+abbrev pub WroteFrames : GateSettings → Ending → List Event → List Event → Trace → Trace → Type 0
 WroteFrames settings ending handled [] old new = (ending ≡ BothEnded) × (new ≡ old)
 WroteFrames settings ending handled (next ∷ others) old new =
     new ≡ wrote_pieces (frames_of whole_rules settings (after whole_rules (opening settings) (arrivals_by settings handled)) (arrival by_list (joiner_of settings.join handled) next)) old
 
 -- memory was wanting for a line: what the events before it give stands written, whole, and of its own event just the frames
-pub record WantsLine (settings : GateSettings) (all : Merged) (old new : Told) : Type 0 where
+pub record WantsLine (settings : GateSettings) (all : Merged) (old new : Trace) : Type 0 where
   pub handled : List Event
   pub others : List Event
   pub split : all.events ≡ handled ++ others
   pub written : WroteFrames settings all.ending handled others (wrote_pieces (given_by_all whole_rules settings (opening settings) (arrivals_by settings handled)) old) new
 
 -- memory was wanting behind the heads: for an event on which the gate may want it, or for a line in JSON
-abbrev pub Wants : GateSettings → Merged → Told → Told → Type 0
+abbrev pub Wants : GateSettings → Merged → Trace → Trace → Type 0
 Wants settings all old new = WantsAt settings all.events old new ⊎ ((settings.json ≡ true) × WantsLine settings all old new)

@@ -8,13 +8,13 @@ use Rattle.gate_settings.specs.declared.settings.Settings.{Settings as GateSetti
 use Rattle.gate_report.specs.declared.line.Line.{Line}
 use Rattle.gate_workload.specs.Workloads.{workload}
 use Rattle.pcap_merge.specs.Events.{Done as BothEnded}
-use Rattle.gate_phases.specs.declared.status.Status.{Status}
-use Rattle.gate_phases.specs.declared.status.Status.TheVariants.{Done, WriteFault, OpenFault, OutOfMemory}
-use Rattle.gate_phases.specs.RunNames.{make_starts}
-use Rattle.gate_phases.specs.Causes.{started_all}
+use Rattle.run_setup.specs.declared.status.Status.{Status}
+use Rattle.run_setup.specs.declared.status.Status.TheVariants.{Done, WriteFault, OpenFault, OutOfMemory}
+use Rattle.run_setup.specs.RunNames.{make_starts}
+use Rattle.run_setup.specs.Causes.{started_all}
 use Rattle.gateway.specs.Pieces.{Piece, wrote_pieces, IsFront}
 use Rattle.gateway.specs.Machine.{line_piece, line_of}
-use Rattle.gate_phases.specs.Beginning.{IsAccepted, events_in}
+use Rattle.run_setup.specs.Beginning.{IsAccepted, events_in}
 
 -- the workload, as a run reads it
 abbrev pub workload_in : ℕ → ℕ → PerSlot (List ℕ)

@@ -3,7 +3,7 @@ ghost use Rattle.std.specs.Prelude.{◌≡◌, ◌+◌, ◌*◌, ◌<◌, ◌≤
 ghost use Rattle.gate_base.specs.Events.{event_of};
 ghost use Rattle.gate_desk.specs.declared.slot.Slot.TheVariants.{LeftOut, RightOut, Report};
 ghost use Rattle.gate_desk.specs.Outside.{CanWrite};
-ghost use Rattle.frag_join.specs.Arrivals.{Comes, Stays, arrival, joiner_after, joined_in};
+ghost use Rattle.frag_join.specs.Arrivals.{Reaches, Stopped, arrival, joiner_after, joined_in};
 ghost use Rattle.frag_join.specs.Joining.{by_known};
 ghost use Rattle.ether_frames.specs.Ether.{ipv4_head};
 ghost use Rattle.gateway.specs.Machine.{out_slot, frame_piece, sent};
@@ -16,7 +16,7 @@ use frag_join::{Joiner, Taken, ask, joined};
 use gate_base::{Event, Link, Moment, Side, Verdict};
 use gate_core::{Gate, Outbox};
 use gate_desk::{Desk, Slot};
-use gate_phases::Status;
+use run_setup::Status;
 use gate_report::Line;
 use gate_settings::{Settings, SideSettings};
 use pcap_files::write_packet;
@@ -126,7 +126,7 @@ fn handle<D: Desk>(
     requires refused { reporter.old.totals.refused ≤ reporter.old.totals.events }
     requires to_left { reporter.old.totals.to_left ≤ 4096 * reporter.old.totals.events }
     requires to_right { reporter.old.totals.to_right ≤ 4096 * reporter.old.totals.events }
-    ensures { Handles (counting reporter.new.totals result) gate.old gate.new reporter.old.totals (Comes (event_of event.entry)) (D.outside desk.old) (D.outside desk.new) }
+    ensures { Handles (counting reporter.new.totals result) gate.old gate.new reporter.old.totals (Reaches (event_of event.entry)) (D.outside desk.old) (D.outside desk.new) }
 {
     let verdict = gate.step(&event, outbox)?;
     let frames = outbox.len() as u32;
@@ -160,7 +160,7 @@ fn leave<D: Desk>(
     requires refused { reporter.old.totals.refused ≤ reporter.old.totals.events }
     requires to_left { reporter.old.totals.to_left ≤ 4096 * reporter.old.totals.events }
     requires to_right { reporter.old.totals.to_right ≤ 4096 * reporter.old.totals.events }
-    ensures { Handles (counting reporter.new.totals result) gate.now gate.now reporter.old.totals (Stays (event_of event.entry) verdict) (D.outside desk.old) (D.outside desk.new) }
+    ensures { Handles (counting reporter.new.totals result) gate.now gate.now reporter.old.totals (Stopped (event_of event.entry) verdict) (D.outside desk.old) (D.outside desk.new) }
 {
     let line = Line::Event {
         number: reporter.totals.events + 1,
@@ -194,7 +194,7 @@ fn handle_joined<D: Desk>(
     requires refused { reporter.old.totals.refused ≤ reporter.old.totals.events }
     requires to_left { reporter.old.totals.to_left ≤ 4096 * reporter.old.totals.events }
     requires to_right { reporter.old.totals.to_right ≤ 4096 * reporter.old.totals.events }
-    ensures { IfSome (joined_in joiner.now) (λ e. Handles (counting reporter.new.totals result) gate.old gate.new reporter.old.totals (Comes e) (D.outside desk.old) (D.outside desk.new)) }
+    ensures { IfSome (joined_in joiner.now) (λ e. Handles (counting reporter.new.totals result) gate.old gate.new reporter.old.totals (Reaches e) (D.outside desk.old) (D.outside desk.new)) }
 {
     handle(alloc, desk, gate, outbox, reporter, joined(joiner))
 }

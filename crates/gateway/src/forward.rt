@@ -4,7 +4,7 @@ ghost use Rattle.gate_desk.specs.declared.slot.Slot.TheVariants.{LeftIn, RightIn
 ghost use Rattle.gate_desk.specs.Outside.{CanRead, CanWrite, Grows};
 ghost use Rattle.pcap_merge.specs.Merge.{work, AtEnds};
 ghost use Rattle.frag_join.specs.Arrivals.{opened};
-ghost use Rattle.gate_world.specs.World.{opening_world};
+ghost use Rattle.gate_model.specs.World.{opening_world};
 ghost use Rattle.gateway.specs.Phases.{Forwards, WritesLastLine, TookFew};
 
 use crate::event::take;
@@ -12,7 +12,7 @@ use crate::report::{Reporter, put_line};
 use frag_join::Joiner;
 use gate_core::{Gate, Outbox};
 use gate_desk::Desk;
-use gate_phases::Status;
+use run_setup::Status;
 use gate_report::{LINE, Line, Totals};
 use pcap_merge::Merge;
 use std::alloc::Global;

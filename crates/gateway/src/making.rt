@@ -4,8 +4,8 @@ ghost use Rattle.gateway.specs.Making.{IsMake, IsLineOf};
 
 use crate::report::put_text;
 use crate::running::run;
-use gate_desk::{Desk, DiscardingDesk, Slot, Way};
-use gate_phases::{FileNames, Status};
+use gate_desk::{Desk, DiscardingDesk, Slot, Access};
+use run_setup::{FileNames, Status};
 use gate_report::{LINE, Line};
 use gate_workload::Workload;
 use std::alloc::Global;
@@ -32,7 +32,7 @@ fn rehearse(alloc: Global, number: u32, count: u32) -> Result<Line, Status>
         left,
         right,
     } = workload;
-    let mut desk = DiscardingDesk::make(
+    let mut desk = DiscardingDesk::new(
         alloc,
         settings.into_vec(),
         left.into_vec(),
@@ -46,7 +46,7 @@ pub fn make<D: Desk>(alloc: Global, desk: &mut D, number: u32, count: u32, repor
     requires { count ≤ 100000 }
     ensures { IsMake result number count report.now (D.outside desk.old) (D.outside desk.new) }
 {
-    match desk.start(Slot::Report, report, Way::Write) {
+    match desk.start(Slot::Report, report, Access::Write) {
         Ok(()) => {}
         Err(_) => return Status::OpenFault(Slot::Report),
     }

@@ -1,6 +1,6 @@
 // A run over files.
 ghost use Rattle.gate_desk.specs.Outside.{Outside};
-ghost use Rattle.gate_phases.specs.RunNames.{names_of, first_starts};
+ghost use Rattle.run_setup.specs.RunNames.{names_of, first_starts};
 ghost use Rattle.gateway.specs.Phases.{Prepared, IsPrepared};
 ghost use Rattle.gateway.specs.Answers.{Runs, TookForWritten};
 
@@ -10,7 +10,7 @@ use crate::ready::ready;
 use frag_join::open_joiner;
 use gate_core::{Gate, Outbox};
 use gate_desk::Desk;
-use gate_phases::{FileNames, Status};
+use run_setup::{FileNames, Status};
 use gate_report::Line;
 use pcap_merge::Merge;
 use std::alloc::Global;
@@ -36,7 +36,7 @@ fn run_prepared<D: Desk>(
     ensures answer { (since : Outside) → Prepared gate.old merge.old (first_starts (names_of names.entry)) since (D.outside desk.old) → Runs result (names_of names.entry) since (D.outside desk.new) }
     ensures taken { (since : Outside) → Prepared gate.old merge.old (first_starts (names_of names.entry)) since (D.outside desk.old) → TookForWritten since (D.outside desk.new) }
 {
-    let mut outbox = Outbox::make(alloc)?;
+    let mut outbox = Outbox::new(alloc)?;
     let mut joiner = open_joiner(alloc, gate.settings().join)?;
     ready(desk, names, gate.settings())?;
     forward(alloc, desk, merge, &mut joiner, gate, &mut outbox)

@@ -11,12 +11,12 @@ use Rattle.pcap_files.specs.declared.fault.CaptureFault.{CaptureFault}
 use Rattle.pcap_merge.specs.Events.{Ending, Done as BothEnded, Fault as EndsFaulty, have_good_heads}
 use Rattle.lawful_files.specs.declared.reason.AuditReason.{AuditReason}
 use Rattle.lawful_files.proofs.ReasonsApart.{no_reason, one_reason}
-use Rattle.gate_phases.specs.declared.status.Status.{Status}
-use Rattle.gate_phases.specs.declared.status.Status.TheVariants.{Done, Usage, SettingsRefused, CaptureRefused, ReadFault, WriteFault, OpenFault, OutOfMemory, Unlawful}
-use Rattle.gate_phases.specs.AuditNames.{Names}
-use Rattle.gate_phases.specs.Beginning.{IsAccepted, events_in}
+use Rattle.run_setup.specs.declared.status.Status.{Status}
+use Rattle.run_setup.specs.declared.status.Status.TheVariants.{Done, Usage, SettingsRefused, CaptureRefused, ReadFault, WriteFault, OpenFault, OutOfMemory, Unlawful}
+use Rattle.run_setup.specs.AuditNames.{Names}
+use Rattle.run_setup.specs.Beginning.{IsAccepted, events_in}
 use Rattle.gateway_audit.specs.Causes.{AreLawful, IsFirstReason}
-use Rattle.gate_phases.specs.Decided.{IsUnlessMemory}
+use Rattle.run_setup.specs.Decided.{IsUnlessMemory}
 use Rattle.gateway_audit.specs.Decided.{IsAuditOf}
 
 -- ## What is told

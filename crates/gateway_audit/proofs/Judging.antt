@@ -7,8 +7,8 @@ use Rattle.gate_base.specs.declared.side.Side.TheVariants.{Left, Right}
 use Rattle.gate_desk.specs.declared.slot.Slot.{Slot}
 use Rattle.gate_desk.specs.declared.slot.Slot.TheVariants.{Settings, LeftIn, RightIn, LeftGiven, RightGiven, ReportGiven, Report}
 use Rattle.gate_desk.specs.declared.slot.PerSlot.{PerSlot}
-use Rattle.gate_desk.specs.declared.slot.Way.TheVariants.{Read}
-use Rattle.gate_desk.specs.Outside.{Outside, Told, Grows, NoneFailed, IsAtEnd, HasFailed, Writes, WritesPart, took, told_at, wrote}
+use Rattle.gate_desk.specs.declared.slot.Access.TheVariants.{Read}
+use Rattle.gate_desk.specs.Outside.{Outside, Trace, Grows, NoneFailed, IsAtEnd, HasFailed, Writes, WritesPart, took, told_at, wrote}
 use Rattle.gate_desk.proofs.Laws.{grows_on, none_failed_on, grows_writes, failed_since, failed_to_start_since, took-none}
 use Rattle.gate_settings.specs.declared.settings.Settings.{Settings as GateSettings}
 use Rattle.frag_join.specs.Arrivals.{arrivals_of}
@@ -29,16 +29,16 @@ use Rattle.file_audit.specs.Given.{IfBoth, ReadsGiven, TookFiles, given_slot, gi
 use Rattle.file_audit.proofs.IncomingEnds.{ends_kept, left_kept, right_kept}
 use Rattle.file_audit.proofs.Wanting.{given_later, incoming_kept}
 use Rattle.file_audit.proofs.Files.{files_given, files_later, files_more, files_none, files_on}
-use Rattle.gate_phases.specs.declared.status.Status.{Status}
-use Rattle.gate_phases.specs.declared.status.Status.TheVariants.{CaptureRefused, ReadFault, WriteFault, OpenFault, OutOfMemory}
-use Rattle.gate_phases.specs.Beginning.{IsAccepted, TookInputs, events_in}
-use Rattle.gate_phases.specs.Causes.{started_all}
-use Rattle.gate_phases.proofs.Causes.{all_on, before_on, way_of}
-use Rattle.gate_phases.proofs.Beginning.{if_some}
-use Rattle.gateway_audit.specs.declared.verdict.Verdict.{Verdict}
-use Rattle.gateway_audit.specs.declared.verdict.Verdict.TheVariants.{Lawful, Unlawful}
+use Rattle.run_setup.specs.declared.status.Status.{Status}
+use Rattle.run_setup.specs.declared.status.Status.TheVariants.{CaptureRefused, ReadFault, WriteFault, OpenFault, OutOfMemory}
+use Rattle.run_setup.specs.Beginning.{IsAccepted, TookInputs, events_in}
+use Rattle.run_setup.specs.Causes.{started_all}
+use Rattle.run_setup.proofs.Causes.{all_on, before_on, access_of}
+use Rattle.run_setup.proofs.Beginning.{if_some}
+use Rattle.gateway_audit.specs.declared.verdict.AuditVerdict.{AuditVerdict}
+use Rattle.gateway_audit.specs.declared.verdict.AuditVerdict.TheVariants.{Lawful, Unlawful}
 use Rattle.gateway_audit.specs.Stops.{verdict_of}
-use Rattle.gate_phases.specs.AuditNames.{Names, first_starts, given_starts, plan}
+use Rattle.run_setup.specs.AuditNames.{Names, first_starts, given_starts, plan}
 use Rattle.gateway_audit.specs.Lines.{answer_line}
 use Rattle.gateway_audit.specs.Causes.{AreLawful, IsRead, IsVerdict, MayHaveWanted}
 use Rattle.gateway_audit.specs.Audits.{IsAudit, HasStartedToRead, HasAnswered, TookForEvents, TookRead}
@@ -48,22 +48,22 @@ use Rattle.gateway_audit.proofs.Phases.{behind_inputs, refused}
 -- ## What is told
 
 -- what stays of the given files where the settings and the incoming captures are read, and of the incoming captures where the given files are
-given_kept : (i j k : ℕ) (t : Told) → option_map given_in (took RightIn k (took LeftIn j (took Settings i t))) ≡ option_map given_in t
+given_kept : (i j k : ℕ) (t : Trace) → option_map given_in (took RightIn k (took LeftIn j (took Settings i t))) ≡ option_map given_in t
 unfolding took
 given_kept i j k None = refl
 given_kept i j k (Some all) = refl
 
-heads_kept : (P : List ℕ → List ℕ → Type 0) (i j k : ℕ) (t : Told) → IfSome (took RightIn k (took LeftIn j (took Settings i t))) (λ all. P all.left_given all.right_given) → IfSome t (λ all. P all.left_given all.right_given)
+heads_kept : (P : List ℕ → List ℕ → Type 0) (i j k : ℕ) (t : Trace) → IfSome (took RightIn k (took LeftIn j (took Settings i t))) (λ all. P all.left_given all.right_given) → IfSome t (λ all. P all.left_given all.right_given)
 unfolding took
 heads_kept P i j k None h = tt
 heads_kept P i j k (Some all) h = h
 
-ahead_kept : (m : Merging) (i j k : ℕ) (t : Told) → ahead m (took ReportGiven k (took RightGiven j (took LeftGiven i t))) ≡ ahead m t
+ahead_kept : (m : Merging) (i j k : ℕ) (t : Trace) → ahead m (took ReportGiven k (took RightGiven j (took LeftGiven i t))) ≡ ahead m t
 unfolding ahead took
 ahead_kept m i j k None = refl
 ahead_kept m i j k (Some all) = refl
 
-both_told : (t : Told) (o : Option Merged) (p : Option Given) (R : Merged → Given → Type 0) → all_events t ≡ o → p ≡ option_map given_in t → IfBoth o p R → IfSome t (λ all. R (events_in all) (given_in all))
+both_told : (t : Trace) (o : Option Merged) (p : Option Given) (R : Merged → Given → Type 0) → all_events t ≡ o → p ≡ option_map given_in t → IfBoth o p R → IfSome t (λ all. R (events_in all) (given_in all))
 unfolding all_events
 both_told None o p R e f h = tt
 both_told (Some all) o p R e f h = subst (λ q. IfSome q (R (events_in all))) f (subst (λ q. IfBoth q p R) (sym e) h)
@@ -74,8 +74,8 @@ with_some (Some x) P Q S h k f = f x h k
 
 -- what was read of the given files left the incoming captures as they were
 incoming_left : (m n k : ℕ) (b c : Outside) → c.left ≡ took ReportGiven k (took RightGiven n (took LeftGiven m b.left)) → (side : Side) → told_at c.left (slot_of side) ≡ told_at b.left (slot_of side)
-incoming_left m n k b c e Left = ap (λ (t : Told). told_at t LeftIn) e ∙ left_kept m n k b.left
-incoming_left m n k b c e Right = ap (λ (t : Told). told_at t RightIn) e ∙ right_kept m n k b.left
+incoming_left m n k b c e Left = ap (λ (t : Trace). told_at t LeftIn) e ∙ left_kept m n k b.left
+incoming_left m n k b c e Right = ap (λ (t : Trace). told_at t RightIn) e ∙ right_kept m n k b.left
 
 -- ## The parts before the events, joined
 
@@ -128,11 +128,11 @@ to_walk settings m r names a b c h k =
       ends = ends_kept m k.left_count k.right_count k.report_count b c k.left h.ends;
       running = k.heads.0;
       fits = k.heads.1;
-      left_in = way_of LeftIn Read (plan names) a c all (λ w. refl);
-      right_in = way_of RightIn Read (plan names) a c all (λ w. refl);
-      left_given = way_of LeftGiven Read (plan names) a c all (λ w. refl);
-      right_given = way_of RightGiven Read (plan names) a c all (λ w. refl);
-      report_given = way_of ReportGiven Read (plan names) a c all (λ w. refl);
+      left_in = access_of LeftIn Read (plan names) a c all (λ w. refl);
+      right_in = access_of RightIn Read (plan names) a c all (λ w. refl);
+      left_given = access_of LeftGiven Read (plan names) a c all (λ w. refl);
+      right_given = access_of RightGiven Read (plan names) a c all (λ w. refl);
+      report_given = access_of ReportGiven Read (plan names) a c all (λ w. refl);
     }
 
 -- ## What is found
@@ -147,7 +147,7 @@ good settings m names a b h = with_some a.left (IsAccepted settings) (λ all. ha
 -- a given head isn't good
 pub no_head : (settings : GateSettings) (m : Merging) (names : Names) (a b c : Outside) → Prepared settings m names a b → Readied None settings names b c → Judged (Unlawful 0 Capture) names a c
 no_head settings m names a b c h k =
-    let bad = heads_kept (λ l r. HasLink settings.left.link l × HasLink settings.right.link r → ⊥) h.settings_count h.left_count h.right_count a.left (subst (λ (t : Told). IfSome t (λ all. HaveLinks settings all → ⊥)) h.left k.heads) in
+    let bad = heads_kept (λ l r. HasLink settings.left.link l × HasLink settings.right.link r → ⊥) h.settings_count h.left_count h.right_count a.left (subst (λ (t : Trace). IfSome t (λ all. HaveLinks settings all → ⊥)) h.left k.heads) in
     record {
       verdict_is = with_some a.left (AreGood settings) (λ all. HaveLinks settings all → ⊥) (IsVerdict (Unlawful 0 Capture)) (good settings m names a b h) bad (λ all is no. (settings, is.0, is.1, inl (refl, refl, no)));
       read = tt;
@@ -161,7 +161,7 @@ no_head settings m names a b c h k =
 of_files : (settings : GateSettings) (m : Merging) (r : GivenFiles) (names : Names) (a b c : Outside) (R : Merged → Given → Type 0) (S : PerSlot (List ℕ) → Type 0) → Prepared settings m names a b → Readied (Some r) settings names b c → IfBoth (ahead m c.left) (given_told r c.left) R
     → ((all : PerSlot (List ℕ)) → AreGood settings all → HaveLinks settings all → R (events_in all) (given_in all) → S all) → IfSome a.left S
 of_files settings m r names a b c R S h k both f =
-    let links = heads_kept (λ l r. HasLink settings.left.link l × HasLink settings.right.link r) h.settings_count h.left_count h.right_count a.left (subst (λ (t : Told). IfSome t (HaveLinks settings)) h.left k.heads.2) in
+    let links = heads_kept (λ l r. HasLink settings.left.link l × HasLink settings.right.link r) h.settings_count h.left_count h.right_count a.left (subst (λ (t : Trace). IfSome t (HaveLinks settings)) h.left k.heads.2) in
     let events = h.events ∙ sym (ap (ahead m) k.left ∙ ahead_kept m k.left_count k.right_count k.report_count b.left) in
     let given = k.heads.3 ∙ ap (option_map given_in) h.left ∙ given_kept h.settings_count h.left_count h.right_count a.left in
     let told = both_told a.left (ahead m c.left) (given_told r c.left) R events given both in
@@ -169,7 +169,7 @@ of_files settings m r names a b c R S h k both f =
     (with_some a.left (HaveLinks settings) (λ all. R (events_in all) (given_in all)) (λ all. HaveLinks settings all × R (events_in all) (given_in all)) links told (λ all l q. (l, q))) (λ all is p. f all is p.0 p.1)
 
 -- the events were taken
-judged : (verdict : Verdict) (settings : GateSettings) (m : Merging) (r : GivenFiles) (names : Names) (a b c d : Outside) → Prepared settings m names a b → Readied (Some r) settings names b c → d.starts ≡ c.starts → d.written ≡ c.written → Grows c d → NoneFailed c d
+judged : (verdict : AuditVerdict) (settings : GateSettings) (m : Merging) (r : GivenFiles) (names : Names) (a b c d : Outside) → Prepared settings m names a b → Readied (Some r) settings names b c → d.starts ≡ c.starts → d.written ≡ c.written → Grows c d → NoneFailed c d
     → IfSome a.left (IsVerdict verdict) → WasRead verdict d → Judged verdict names a d
 judged verdict settings m r names a b c d h k starts written grows counts is read = record {
   verdict_is = is;
@@ -206,12 +206,12 @@ walks_of (Err stops.OutOfMemory) settings m r old new finds leaves left right = 
 -- memory was wanting before any event, or for one
 wanted : (settings : GateSettings) (m : Merging) (r : GivenFiles) (names : Names) (a b c d : Outside) → Prepared settings m names a b → Readied (Some r) settings names b c → Walks (Err OutOfMemory) settings m r c d
     → TakenFor [] a d ⊎ IfSome a.left (λ all. (s : GateSettings) × IsAccepted s all × MayHaveWanted s all)
-wanted settings m r names a b c d h k (inl same) = inl (taken_later a b d [] (λ side. ap (λ (t : Told). told_at t (slot_of side)) same ∙ incoming_left k.left_count k.right_count k.report_count b c k.left side) (given_few a m b [] h.given))
+wanted settings m r names a b c d h k (inl same) = inl (taken_later a b d [] (λ side. ap (λ (t : Trace). told_at t (slot_of side)) same ∙ incoming_left k.left_count k.right_count k.report_count b c k.left side) (given_few a m b [] h.given))
 wanted settings m r names a b c d h k (inr (inl json)) = inr (if_some a.left _ _ h.accepted (λ all is. (settings, is, inl json)))
 wanted settings m r names a b c d h k (inr (inr both)) =
     inr (of_files settings m r names a b c (WantsAt settings) (λ all. (s : GateSettings) × IsAccepted s all × MayHaveWanted s all) h k both (λ all is links q. (settings, is.0, inr q)))
 
-pub walked : (found : Result Verdict Status) (settings : GateSettings) (m : Merging) (r : GivenFiles) (names : Names) (a b c d : Outside) → Prepared settings m names a b → Readied (Some r) settings names b c → Walks found settings m r c d
+pub walked : (found : Result AuditVerdict Status) (settings : GateSettings) (m : Merging) (r : GivenFiles) (names : Names) (a b c d : Outside) → Prepared settings m names a b → Readied (Some r) settings names b c → Walks found settings m r c d
     → d.starts ≡ c.starts → d.written ≡ c.written → Grows c d → Judges found names a d
 walked (Ok (Lawful events)) settings m r names a b c d h k f starts written grows =
     judged (Lawful events) settings m r names a b c d h k starts written grows f.1
@@ -250,9 +250,9 @@ walked (Err e) settings m r names a b c d h k f starts written grows = absurd f
 
 -- what is written changes nothing of what is left
 still_at_end : (slot : Slot) (a b : Outside) → b.left ≡ a.left → IsAtEnd a slot → IsAtEnd b slot
-still_at_end slot a b e h = subst (λ (t : Told). IfSome (told_at t slot) (λ all. length all ≡ 0)) (sym e) h
+still_at_end slot a b e h = subst (λ (t : Trace). IfSome (told_at t slot) (λ all. length all ≡ 0)) (sym e) h
 
-answered : (verdict : Verdict) (names : Names) (a b c : Outside) → Judged verdict names a b → Writes Report (answer_line verdict) b c → NoneFailed b c → IsAudit (status_of verdict) names a c
+answered : (verdict : AuditVerdict) (names : Names) (a b c : Outside) → Judged verdict names a b → Writes Report (answer_line verdict) b c → NoneFailed b c → IsAudit (status_of verdict) names a c
 answered (Lawful events) names a b c h k counts = record {
   cause = (if_some a.left _ _ h.verdict_is (λ all p. (p.0, p.1, p.2, p.3, refl)), still_at_end LeftIn b c k.left h.read.0, still_at_end RightIn b c k.left h.read.1, none_failed_on a b c h.counts counts);
   starts = k.starts ∙ h.starts;
@@ -266,7 +266,7 @@ answered (Unlawful number reason) names a b c h k counts = record {
   grows = grows_on a b c h.grows (grows_writes Report (answer_line (Unlawful number reason)) b c k);
 }
 
-unanswered : (verdict : Verdict) (names : Names) (a b c : Outside) → Judged verdict names a b → WritesPart Report (answer_line verdict) b c → HasFailed Report b c → IsAudit (WriteFault Report) names a c
+unanswered : (verdict : AuditVerdict) (names : Names) (a b c : Outside) → Judged verdict names a b → WritesPart Report (answer_line verdict) b c → HasFailed Report b c → IsAudit (WriteFault Report) names a c
 unanswered verdict names a b c h k failed = record {
   cause = (refl, failed_since Report a b c h.grows failed);
   starts = k.2.starts ∙ h.starts;
@@ -275,7 +275,7 @@ unanswered verdict names a b c h k failed = record {
 }
 
 -- the line of the verdict was written, or a front of it
-pub said : (status : Status) (verdict : Verdict) (names : Names) (a b c : Outside) → Judged verdict names a b → Says status verdict b c → IsAudit status names a c
+pub said : (status : Status) (verdict : AuditVerdict) (names : Names) (a b c : Outside) → Judged verdict names a b → Says status verdict b c → IsAudit status names a c
 said status verdict names a b c h k =
     elim k [
       | inl all ↦ subst (λ s. IsAudit s names a c) (sym all.0) (answered verdict names a b c h all.1 all.2)
@@ -287,7 +287,7 @@ said status verdict names a b c h k =
 -- of the settings and the incoming captures alone
 pub read_inputs : (a b : Outside) → TookInputs a b → TookRead a b
 read_inputs a b h =
-    let inputs : Told = took RightIn h.right_count (took LeftIn h.left_count (took Settings h.settings_count a.left)) in
+    let inputs : Trace = took RightIn h.right_count (took LeftIn h.left_count (took Settings h.settings_count a.left)) in
     record {
       settings_count = h.settings_count;
       few = h.few;
@@ -310,7 +310,7 @@ read_on a b c h k = record {
   right_given_count = h.right_given_count + k.right_given_count;
   report_given_count = h.report_given_count + k.report_given_count;
   left = k.left
-      ∙ ap (λ (t : Told). took ReportGiven k.report_given_count (took RightGiven k.right_given_count (took LeftGiven k.left_given_count (took RightIn k.right_in_count (took LeftIn k.left_in_count t))))) h.left
+      ∙ ap (λ (t : Trace). took ReportGiven k.report_given_count (took RightGiven k.right_given_count (took LeftGiven k.left_given_count (took RightIn k.right_in_count (took LeftIn k.left_in_count t))))) h.left
       ∙ files_more h.left_in_count h.right_in_count h.left_given_count h.right_given_count h.report_given_count k.left_in_count k.right_in_count k.left_given_count k.right_given_count k.report_given_count (took Settings h.settings_count a.left);
 }
 
@@ -333,7 +333,7 @@ front_none (Some all) = (all.events, refl)
 pub took_not : (m : Merging) (a b : Outside) → b ≡ a → TookFew m a b
 took_not m a b e = record { handled = []; few = λ start g. subst (λ (o : Outside). TakenFor [] start o) (sym e) (given_few start m a [] g); front = front_none (ahead m a.left); files = files_none a b (ap (λ (o : Outside). o.left) e) }
 
-all_told : (o : Told) (P : Merged → Type 0) → IfSome (all_events o) P → IfSome o (λ all. P (events_in all))
+all_told : (o : Trace) (P : Merged → Type 0) → IfSome (all_events o) P → IfSome o (λ all. P (events_in all))
 unfolding all_events
 all_told None P k = tt
 all_told (Some all) P k = k
@@ -347,13 +347,13 @@ took_walked settings m r names a b c d h k t inputs files = record {
 }
 
 pub incoming_on : (a b c d : Outside) → b.left ≡ a.left → ReadsGiven b c → d.left ≡ c.left → LeavesIncoming a d
-incoming_on a b c d e reads f side = ap (λ (t : Told). told_at t (slot_of side)) f ∙ incoming_kept b c reads side ∙ ap (λ (t : Told). told_at t (slot_of side)) e
+incoming_on a b c d e reads f side = ap (λ (t : Trace). told_at t (slot_of side)) f ∙ incoming_kept b c reads side ∙ ap (λ (t : Trace). told_at t (slot_of side)) e
 
 -- the answer reads nothing
-says_left : (status : Status) (verdict : Verdict) (b c : Outside) → Says status verdict b c → c.left ≡ b.left
+says_left : (status : Status) (verdict : AuditVerdict) (b c : Outside) → Says status verdict b c → c.left ≡ b.left
 says_left status verdict b c k = elim k [ inl all ↦ all.1.left | inr part ↦ part.1.2.left ]
 
-pub took_said : (status : Status) (verdict : Verdict) (a b c : Outside) → Says status verdict b c → TookForEvents a b → TookForEvents a c
+pub took_said : (status : Status) (verdict : AuditVerdict) (a b c : Outside) → Says status verdict b c → TookForEvents a b → TookForEvents a c
 took_said status verdict a b c k h =
     let same = says_left status verdict b c k in
-    record { handled = h.handled; few = taken_later a b c h.handled (λ side. ap (λ (t : Told). told_at t (slot_of side)) same) h.few; front = h.front; read = read_on a b c h.read (files_none b c same) }
+    record { handled = h.handled; few = taken_later a b c h.handled (λ side. ap (λ (t : Trace). told_at t (slot_of side)) same) h.few; front = h.front; read = read_on a b c h.read (files_none b c same) }

@@ -4,7 +4,7 @@ use Rattle.std.proofs.lemmas.Bool.{false≢true}
 use Rattle.gate_base.specs.declared.side.Side.{Side}
 use Rattle.gate_base.specs.declared.side.Side.TheVariants.{Left, Right}
 use Rattle.gate_desk.specs.declared.slot.Slot.TheVariants.{LeftIn, RightIn, LeftGiven, RightGiven, ReportGiven}
-use Rattle.gate_desk.specs.Outside.{Outside, Told, Start, took, told_at}
+use Rattle.gate_desk.specs.Outside.{Outside, Trace, Start, took, told_at}
 use Rattle.gate_desk.proofs.Laws.{grows_on, none_failed_on, failed_since, failed_to_start_since}
 use Rattle.gate_settings.specs.declared.settings.Settings.{Settings as GateSettings}
 use Rattle.pcap_merge.specs.Events.{Merged, Fault as EndsFaulty, have_good_heads}
@@ -14,13 +14,13 @@ use Rattle.pcap_merge.specs.Stops.{slot_of}
 use Rattle.file_audit.specs.declared.given.GivenFiles.{GivenFiles}
 use Rattle.file_audit.specs.Given.{ReadsGiven, given_told}
 use Rattle.file_audit.proofs.Wanting.{incoming_kept}
-use Rattle.gate_phases.specs.declared.status.Status.{Status}
-use Rattle.gate_phases.specs.declared.status.Status.TheVariants.{SettingsRefused, CaptureRefused, ReadFault, OpenFault, OutOfMemory}
-use Rattle.gate_phases.specs.Beginning.{IsAccepted, events_in, settings_start, inputs_start, Settled, EndsAtSettings, Begun, EndsAtHeads}
-use Rattle.gate_phases.specs.Causes.{started_all, StartsAll, Stops, Opens}
-use Rattle.gate_phases.proofs.Causes.{all_on, before_more, before_on}
-use Rattle.gate_phases.proofs.Beginning.{all_events-took_settings, heads_before, accepted_and, given_since, settled_stops, told_before}
-use Rattle.gate_phases.specs.AuditNames.{Names, first_starts, given_starts, answer_start}
+use Rattle.run_setup.specs.declared.status.Status.{Status}
+use Rattle.run_setup.specs.declared.status.Status.TheVariants.{SettingsRefused, CaptureRefused, ReadFault, OpenFault, OutOfMemory}
+use Rattle.run_setup.specs.Beginning.{IsAccepted, events_in, settings_start, inputs_start, Settled, EndsAtSettings, Begun, EndsAtHeads}
+use Rattle.run_setup.specs.Causes.{started_all, StartsAll, Stops, Opens}
+use Rattle.run_setup.proofs.Causes.{all_on, before_more, before_on}
+use Rattle.run_setup.proofs.Beginning.{all_events-took_settings, heads_before, accepted_and, given_since, settled_stops, told_before}
+use Rattle.run_setup.specs.AuditNames.{Names, first_starts, given_starts, answer_start}
 use Rattle.gateway_audit.specs.Causes.{AreLawful}
 use Rattle.gateway_audit.specs.Audits.{IsAudit, refused_starts}
 use Rattle.gateway_audit.specs.Phases.{Prepared, HaveLinks, HeadsGiven, Begins, Readied, StopsAtGiven, given_in}
@@ -50,13 +50,13 @@ settings_end OutOfMemory names a b few h = record {
 settings_end e names a b few h = absurd h
 
 -- nothing is asked of the given files where a head isn't good
-bad_head : (t : Told) (P : Merged → Type 0) → HeadsAre false t → IfSome t (λ all. (s : GateSettings) × IsAccepted s all × P (events_in all))
+bad_head : (t : Trace) (P : Merged → Type 0) → HeadsAre false t → IfSome t (λ all. (s : GateSettings) × IsAccepted s all × P (events_in all))
     → IfSome t (λ all. (s : GateSettings) × IsAccepted s all × P (events_in all) × (have_good_heads all.left_in all.right_in ≡ true → AreLawful s all))
 bad_head None P h k = tt
 bad_head (Some all) P h k = (k.0, k.1, k.2, λ good. absurd (false≢true (sym h ∙ good)))
 
 -- what is started where a capture is refused
-pub refused : (good : Bool) (t : Told) (names : Names) (a b : Outside) → HeadsAre good t → b.starts ≡ started_all (refused_starts good names) a.starts → IfSome t (λ all. b.starts ≡ started_all (refused_starts (have_good_heads all.left_in all.right_in) names) a.starts)
+pub refused : (good : Bool) (t : Trace) (names : Names) (a b : Outside) → HeadsAre good t → b.starts ≡ started_all (refused_starts good names) a.starts → IfSome t (λ all. b.starts ≡ started_all (refused_starts (have_good_heads all.left_in all.right_in) names) a.starts)
 refused good None names a b h e = tt
 refused good (Some all) names a b h e = subst (λ (is : Bool). b.starts ≡ started_all (refused_starts is names) a.starts) (sym h) e
 
@@ -95,13 +95,13 @@ prepared settings m names a b c h k = record {
   stop = k.stop;
   work = k.work;
   ends = k.ends;
-  given = given_since b a m c [] (λ side. ap (λ (t : Told). told_at t (slot_of side)) h.left ∙ told_before side h.count a.left) k.given;
+  given = given_since b a m c [] (λ side. ap (λ (t : Trace). told_at t (slot_of side)) h.left ∙ told_before side h.count a.left) k.given;
   heads = heads_before true settings (settings_start names.settings) a b h k.heads;
   events = sym (ap all_events h.left ∙ all_events-took_settings h.count a.left) ∙ k.events;
   settings_count = h.count;
   left_count = k.left_count;
   right_count = k.right_count;
-  left = k.left ∙ ap (λ (t : Told). took RightIn k.right_count (took LeftIn k.left_count t)) h.left;
+  left = k.left ∙ ap (λ (t : Trace). took RightIn k.right_count (took LeftIn k.left_count t)) h.left;
   starts = all_on (settings_start names.settings) (inputs_start names.left_in names.right_in) a b c h.starts k.starts;
   written = k.written ∙ h.written;
   grows = grows_on a b c h.grows k.grows;
@@ -124,7 +124,7 @@ not_begun (ReadFault s) settings names a b c h reads k = record {
   grows = grows_on a b c h.grows reads.grows;
 }
 not_begun OutOfMemory settings names a b c h reads k = record {
-  cause = λ side. incoming_kept b c reads side ∙ ap (λ (t : Told). told_at t (slot_of side)) h.left;
+  cause = λ side. incoming_kept b c reads side ∙ ap (λ (t : Trace). told_at t (slot_of side)) h.left;
   started = reads.starts ∙ h.starts;
   written = reads.written ∙ h.written;
   grows = grows_on a b c h.grows reads.grows;
@@ -144,8 +144,8 @@ no_report (OpenFault s) names a b c d h reads k =
 no_report e names a b c d h reads k = absurd k
 
 heads_since : (found : Option GivenFiles) (settings : GateSettings) (a b c d : Outside) → b.left ≡ a.left → d.left ≡ c.left → HeadsGiven found settings b c → HeadsGiven found settings a d
-heads_since (Some r) settings a b c d e f h = (h.0, h.1, subst (λ (t : Told). IfSome t (HaveLinks settings)) e h.2, ap (given_told r) f ∙ h.3 ∙ ap (option_map given_in) e)
-heads_since None settings a b c d e f h = subst (λ (t : Told). IfSome t (λ all. HaveLinks settings all → ⊥)) e h
+heads_since (Some r) settings a b c d e f h = (h.0, h.1, subst (λ (t : Trace). IfSome t (HaveLinks settings)) e h.2, ap (given_told r) f ∙ h.3 ∙ ap (option_map given_in) e)
+heads_since None settings a b c d e f h = subst (λ (t : Trace). IfSome t (λ all. HaveLinks settings all → ⊥)) e h
 
 -- all was started
 pub readied : (found : Option GivenFiles) (settings : GateSettings) (names : Names) (a b c d : Outside) → StartsAll (given_starts names) a b → ReadsGiven b c → Begins (Ok found) settings b c → StartsAll (answer_start names) c d
@@ -155,7 +155,7 @@ readied found settings names a b c d h reads k l = record {
   left_count = reads.left_count;
   right_count = reads.right_count;
   report_count = reads.report_count;
-  left = l.left ∙ reads.left ∙ ap (λ (t : Told). took ReportGiven reads.report_count (took RightGiven reads.right_count (took LeftGiven reads.left_count t))) h.left;
+  left = l.left ∙ reads.left ∙ ap (λ (t : Trace). took ReportGiven reads.report_count (took RightGiven reads.right_count (took LeftGiven reads.left_count t))) h.left;
   starts = all_on (given_starts names) (answer_start names) a c d (reads.starts ∙ h.starts) l.starts;
   written = l.written ∙ reads.written ∙ h.written;
   grows = grows_on a c d (grows_on a b c h.grows reads.grows) l.grows;

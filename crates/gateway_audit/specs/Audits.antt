@@ -6,13 +6,13 @@ use Rattle.gate_desk.specs.Outside.{Outside, Start, Grows, took, wrote}
 use Rattle.gate_base.specs.Events.{Event}
 use Rattle.pcap_merge.specs.Events.{have_good_heads}
 use Rattle.pcap_merge.specs.Given.{TakenFor}
-use Rattle.gate_phases.specs.declared.status.Status.{Status}
-use Rattle.gate_phases.specs.declared.status.Status.TheVariants.{Done, SettingsRefused, CaptureRefused, ReadFault, WriteFault, OpenFault, OutOfMemory, Unlawful}
-use Rattle.gate_phases.specs.Beginning.{events_in, settings_start}
-use Rattle.gate_phases.specs.Causes.{started_all, StartsBefore}
-use Rattle.gateway_audit.specs.declared.verdict.Verdict.{Verdict}
-use Rattle.gateway_audit.specs.declared.verdict.Verdict.TheVariants as verdicts
-use Rattle.gate_phases.specs.AuditNames.{Names, first_starts, read_starts, plan}
+use Rattle.run_setup.specs.declared.status.Status.{Status}
+use Rattle.run_setup.specs.declared.status.Status.TheVariants.{Done, SettingsRefused, CaptureRefused, ReadFault, WriteFault, OpenFault, OutOfMemory, Unlawful}
+use Rattle.run_setup.specs.Beginning.{events_in, settings_start}
+use Rattle.run_setup.specs.Causes.{started_all, StartsBefore}
+use Rattle.gateway_audit.specs.declared.verdict.AuditVerdict.{AuditVerdict}
+use Rattle.gateway_audit.specs.declared.verdict.AuditVerdict.TheVariants as verdicts
+use Rattle.run_setup.specs.AuditNames.{Names, first_starts, read_starts, plan}
 use Rattle.gateway_audit.specs.Lines.{answer_line}
 use Rattle.gateway_audit.specs.Causes.{IsVerdict, HasCause}
 
@@ -48,18 +48,18 @@ HasStarted OutOfMemory names old new = HasStartedToWant names old new
 HasStarted status names old new = new.starts ≡ started_all (plan names) old.starts
 
 -- this line stands written on the report
-abbrev pub HasAnswered : Verdict → Outside → Outside → Type 0
+abbrev pub HasAnswered : AuditVerdict → Outside → Outside → Type 0
 HasAnswered verdict old new = new.written ≡ wrote Report (answer_line verdict) old.written
 
 -- or a front of it
-abbrev pub HasAnsweredPartly : Verdict → Outside → Outside → Type 0
+abbrev pub HasAnsweredPartly : AuditVerdict → Outside → Outside → Type 0
 HasAnsweredPartly verdict old new = (n : ℕ) × (n ≤ length (answer_line verdict)) × (new.written ≡ wrote Report (take n (answer_line verdict)) old.written)
 
 -- what stands written after an audit, by its status: its answer, or a front of that, or nothing
 abbrev pub HasWritten : Status → Outside → Outside → Type 0
 HasWritten Done old new = IfSome old.left (λ all. HasAnswered (verdicts.Lawful (length (events_in all).events)) old new)
 HasWritten (Unlawful number reason) old new = HasAnswered (verdicts.Unlawful number reason) old new
-HasWritten (WriteFault slot) old new = (verdict : Verdict) × IfSome old.left (IsVerdict verdict) × HasAnsweredPartly verdict old new
+HasWritten (WriteFault slot) old new = (verdict : AuditVerdict) × IfSome old.left (IsVerdict verdict) × HasAnsweredPartly verdict old new
 HasWritten status old new = new.written ≡ old.written
 
 -- of the settings no more octets were taken than they may have and one, of the incoming captures and of the given files so many, and of no other slot any

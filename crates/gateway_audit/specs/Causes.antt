@@ -13,12 +13,12 @@ use Rattle.lawful_files.specs.declared.reason.AuditReason.{AuditReason}
 use Rattle.lawful_files.specs.Files.{LawfulFor, given_of}
 use Rattle.file_audit.specs.Events.{WantsAt}
 use Rattle.lawful_files.specs.Reasons.{FirstReason}
-use Rattle.gate_phases.specs.declared.status.Status.{Status}
-use Rattle.gate_phases.specs.declared.status.Status.TheVariants.{Done, Usage, SettingsRefused, CaptureRefused, ReadFault, WriteFault, OpenFault, OutOfMemory, Unlawful}
-use Rattle.gate_phases.specs.Beginning.{IsAccepted, events_in}
-use Rattle.gate_phases.specs.Causes.{is_started}
-use Rattle.gateway_audit.specs.declared.verdict.Verdict.{Verdict}
-use Rattle.gateway_audit.specs.declared.verdict.Verdict.TheVariants as verdicts
+use Rattle.run_setup.specs.declared.status.Status.{Status}
+use Rattle.run_setup.specs.declared.status.Status.TheVariants.{Done, Usage, SettingsRefused, CaptureRefused, ReadFault, WriteFault, OpenFault, OutOfMemory, Unlawful}
+use Rattle.run_setup.specs.Beginning.{IsAccepted, events_in}
+use Rattle.run_setup.specs.Causes.{is_started}
+use Rattle.gateway_audit.specs.declared.verdict.AuditVerdict.{AuditVerdict}
+use Rattle.gateway_audit.specs.declared.verdict.AuditVerdict.TheVariants as verdicts
 
 -- the given files are lawful for the incoming captures
 abbrev pub AreLawful : GateSettings → PerSlot (List ℕ) → Type 0
@@ -29,7 +29,7 @@ abbrev pub IsFirstReason : GateSettings → PerSlot (List ℕ) → ℕ → Audit
 IsFirstReason settings all number reason = FirstReason settings (arrivals_of settings.join (events_in all).events) (events_in all).ending all.left_given all.right_given all.report_given number reason
 
 -- the verdict on these files: the settings are accepted; and both captures end and the given files are lawful, so many events; or both captures have heads and this is the first reason
-abbrev pub IsVerdict : Verdict → PerSlot (List ℕ) → Type 0
+abbrev pub IsVerdict : AuditVerdict → PerSlot (List ℕ) → Type 0
 IsVerdict (verdicts.Lawful events) all = (settings : GateSettings) × IsAccepted settings all × ((events_in all).ending ≡ BothEnded) × AreLawful settings all × (events ≡ length (events_in all).events)
 IsVerdict (verdicts.Unlawful number reason) all = (settings : GateSettings) × IsAccepted settings all × (have_good_heads all.left_in all.right_in ≡ true) × IsFirstReason settings all number reason
 

@@ -2,9 +2,9 @@
 use Rattle.std.specs.Prelude.{◌≡◌, ℕ, List, Some}
 use Rattle.gate_desk.specs.declared.slot.PerSlot.{PerSlot}
 use Rattle.gate_desk.specs.Outside.{Outside}
-use Rattle.gate_phases.specs.declared.status.Status.{Status}
-use Rattle.gate_phases.specs.AuditNames.{Names}
-use Rattle.gate_phases.specs.Decided.{NoneRose}
+use Rattle.run_setup.specs.declared.status.Status.{Status}
+use Rattle.run_setup.specs.AuditNames.{Names}
+use Rattle.run_setup.specs.Decided.{NoneRose}
 use Rattle.gateway_audit.specs.Audits.{IsAudit}
 
 -- an audit ended so over a desk that told these octets as it began, and no count rose

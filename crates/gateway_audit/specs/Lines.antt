@@ -2,8 +2,8 @@
 use Rattle.std.specs.Prelude.{ℕ, List, ◌++◌, codes, decimal}
 use Rattle.lawful_files.specs.declared.reason.AuditReason.{AuditReason}
 use Rattle.lawful_files.specs.declared.reason.AuditReason.TheVariants.{Capture, Line, Missing, Frame, Left}
-use Rattle.gateway_audit.specs.declared.verdict.Verdict.{Verdict}
-use Rattle.gateway_audit.specs.declared.verdict.Verdict.TheVariants.{Lawful, Unlawful}
+use Rattle.gateway_audit.specs.declared.verdict.AuditVerdict.{AuditVerdict}
+use Rattle.gateway_audit.specs.declared.verdict.AuditVerdict.TheVariants.{Lawful, Unlawful}
 
 -- the name of a reason
 unfoldable pub reason_name : AuditReason → List ℕ
@@ -14,6 +14,6 @@ reason_name Frame = codes "Frame"
 reason_name Left = codes "Left"
 
 -- how many events are lawful, or the first event that isn't and why
-abbrev pub answer_line : Verdict → List ℕ
+abbrev pub answer_line : AuditVerdict → List ℕ
 answer_line (Lawful events) = codes "lawful events=" ++ decimal events ++ codes "\n"
 answer_line (Unlawful number reason) = codes "unlawful event=" ++ decimal number ++ codes " " ++ reason_name reason ++ codes "\n"

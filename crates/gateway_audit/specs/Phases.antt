@@ -15,13 +15,13 @@ use Rattle.file_audit.specs.declared.given.GivenFiles.{GivenFiles}
 use Rattle.file_audit.specs.declared.stop.AuditStop.TheVariants as stops
 use Rattle.file_audit.specs.Events.{Finds}
 use Rattle.file_audit.specs.Given.{Fits, IsRunning, given_slot, given_told}
-use Rattle.gate_phases.specs.declared.status.Status.{Status}
-use Rattle.gate_phases.specs.declared.status.Status.TheVariants.{Done, CaptureRefused, ReadFault, WriteFault, OpenFault, OutOfMemory, Unlawful}
-use Rattle.gate_phases.specs.Beginning.{IsAccepted}
-use Rattle.gate_phases.specs.Causes.{started_all, StartsBefore, is_started}
-use Rattle.gateway_audit.specs.declared.verdict.Verdict.{Verdict}
-use Rattle.gateway_audit.specs.declared.verdict.Verdict.TheVariants as verdicts
-use Rattle.gate_phases.specs.AuditNames.{Names, first_starts, given_starts, answer_start, plan}
+use Rattle.run_setup.specs.declared.status.Status.{Status}
+use Rattle.run_setup.specs.declared.status.Status.TheVariants.{Done, CaptureRefused, ReadFault, WriteFault, OpenFault, OutOfMemory, Unlawful}
+use Rattle.run_setup.specs.Beginning.{IsAccepted}
+use Rattle.run_setup.specs.Causes.{started_all, StartsBefore, is_started}
+use Rattle.gateway_audit.specs.declared.verdict.AuditVerdict.{AuditVerdict}
+use Rattle.gateway_audit.specs.declared.verdict.AuditVerdict.TheVariants as verdicts
+use Rattle.run_setup.specs.AuditNames.{Names, first_starts, given_starts, answer_start, plan}
 use Rattle.gateway_audit.specs.Lines.{answer_line}
 use Rattle.gateway_audit.specs.Causes.{IsVerdict}
 use Rattle.gateway_audit.specs.Audits.{IsAudit}
@@ -129,7 +129,7 @@ pub record AreToWalk (settings : GateSettings) (m : Merging) (r : GivenFiles) (o
   pub report_given : CanRead o ReportGiven
 
 -- what is found at the events: a verdict, or an incoming capture is faulty behind frames that are lawful; or a read failed, or memory was wanting
-abbrev pub Walks : Result Verdict Status → GateSettings → Merging → GivenFiles → Outside → Outside → Type 0
+abbrev pub Walks : Result AuditVerdict Status → GateSettings → Merging → GivenFiles → Outside → Outside → Type 0
 Walks (Ok (verdicts.Lawful events)) settings m r old new = Finds (Ok events) settings m r old new × NoneFailed old new × IsAtEnd new LeftIn × IsAtEnd new RightIn
 Walks (Ok (verdicts.Unlawful number reason)) settings m r old new = Finds (Err (stops.Unlawful number reason)) settings m r old new × NoneFailed old new
 Walks (Err (CaptureRefused side fault place)) settings m r old new = Finds (Err (stops.Capture side fault place)) settings m r old new × NoneFailed old new
@@ -140,12 +140,12 @@ Walks (Err status) settings m r old new = ⊥
 -- ## The verdict
 
 -- where the given files are lawful, both incoming captures were read to their ends
-abbrev pub WasRead : Verdict → Outside → Type 0
+abbrev pub WasRead : AuditVerdict → Outside → Type 0
 WasRead (verdicts.Lawful events) new = IsAtEnd new LeftIn × IsAtEnd new RightIn
 WasRead (verdicts.Unlawful number reason) new = Unit {0}
 
 -- a verdict was found, and all slots are started
-pub record Judged (verdict : Verdict) (names : Names) (old new : Outside) : Type 0 where
+pub record Judged (verdict : AuditVerdict) (names : Names) (old new : Outside) : Type 0 where
   pub verdict_is : IfSome old.left (IsVerdict verdict)
   pub read : WasRead verdict new
   pub starts : new.starts ≡ started_all (plan names) old.starts
@@ -154,17 +154,17 @@ pub record Judged (verdict : Verdict) (names : Names) (old new : Outside) : Type
   pub counts : NoneFailed old new
 
 -- what an audit finds before it answers, or why it ended
-abbrev pub Judges : Result Verdict Status → Names → Outside → Outside → Type 0
+abbrev pub Judges : Result AuditVerdict Status → Names → Outside → Outside → Type 0
 Judges (Ok verdict) names old new = Judged verdict names old new
 Judges (Err status) names old new = IsAudit status names old new
 
 -- the status of a verdict
-abbrev pub status_of : Verdict → Status
+abbrev pub status_of : AuditVerdict → Status
 status_of (verdicts.Lawful events) = Done
 status_of (verdicts.Unlawful number reason) = Unlawful number reason
 
 -- what writing its line answers
-abbrev pub Says : Status → Verdict → Outside → Outside → Type 0
+abbrev pub Says : Status → AuditVerdict → Outside → Outside → Type 0
 Says status verdict old new =
     ((status ≡ status_of verdict) × Writes Report (answer_line verdict) old new × NoneFailed old new)
     ⊎ ((status ≡ WriteFault Report) × WritesPart Report (answer_line verdict) old new × HasFailed Report old new)

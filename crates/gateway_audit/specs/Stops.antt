@@ -2,10 +2,10 @@
 use Rattle.std.specs.Prelude.{ℕ, Result, Ok, Err}
 use Rattle.file_audit.specs.declared.stop.AuditStop.{AuditStop}
 use Rattle.file_audit.specs.declared.stop.AuditStop.TheVariants as stops
-use Rattle.gate_phases.specs.declared.status.Status.{Status}
-use Rattle.gate_phases.specs.declared.status.Status.TheVariants.{CaptureRefused, ReadFault, OutOfMemory, Unlawful}
-use Rattle.gateway_audit.specs.declared.verdict.Verdict.{Verdict}
-use Rattle.gateway_audit.specs.declared.verdict.Verdict.TheVariants as verdicts
+use Rattle.run_setup.specs.declared.status.Status.{Status}
+use Rattle.run_setup.specs.declared.status.Status.TheVariants.{CaptureRefused, ReadFault, OutOfMemory, Unlawful}
+use Rattle.gateway_audit.specs.declared.verdict.AuditVerdict.{AuditVerdict}
+use Rattle.gateway_audit.specs.declared.verdict.AuditVerdict.TheVariants as verdicts
 
 abbrev pub status_of : AuditStop → Status
 status_of (stops.Unlawful number reason) = Unlawful number reason
@@ -14,7 +14,7 @@ status_of (stops.Desk slot) = ReadFault slot
 status_of stops.OutOfMemory = OutOfMemory
 
 -- what an audit of all events found, or the status of its stop
-abbrev pub verdict_of : Result ℕ AuditStop → Result Verdict Status
+abbrev pub verdict_of : Result ℕ AuditStop → Result AuditVerdict Status
 verdict_of (Ok events) = Ok (verdicts.Lawful events)
 verdict_of (Err (stops.Unlawful number reason)) = Ok (verdicts.Unlawful number reason)
 verdict_of (Err (stops.Capture side fault place)) = Err (CaptureRefused side fault place)

@@ -5,10 +5,10 @@ ghost use Rattle.gate_desk.specs.Outside.{CanWrite};
 ghost use Rattle.gateway_audit.specs.Lines.{answer_line, reason_name};
 ghost use Rattle.gateway_audit.specs.Phases.{Says};
 
-use crate::verdict::Verdict;
+use crate::verdict::AuditVerdict;
 use arrayvec::ArrayString;
 use gate_desk::{Desk, Failed, Slot, write_whole};
-use gate_phases::Status;
+use run_setup::Status;
 use itoa::Buffer;
 use lawful_files::AuditReason;
 
@@ -30,17 +30,17 @@ fn reason_name(reason: AuditReason) -> &'static str
 }
 
 /// The line of a verdict.
-fn line_of(verdict: Verdict) -> ArrayString<LINE>
+fn line_of(verdict: AuditVerdict) -> ArrayString<LINE>
     ensures { result.bytes ≡ answer_line verdict }
 {
     let mut line = ArrayString::new();
     let mut digits = Buffer::new();
     match verdict {
-        Verdict::Lawful(events) => {
+        AuditVerdict::Lawful(events) => {
             line.push_str("lawful events=");
             line.push_str(digits.format(events));
         }
-        Verdict::Unlawful(number, reason) => {
+        AuditVerdict::Unlawful(number, reason) => {
             line.push_str("unlawful event=");
             line.push_str(digits.format(number));
             line.push_str(" ");
@@ -52,7 +52,7 @@ fn line_of(verdict: Verdict) -> ArrayString<LINE>
 }
 
 /// Writes the line of a verdict on the report: the verdict's status, or that the write failed.
-pub fn say<D: Desk>(desk: &mut D, verdict: Verdict) -> Status
+pub fn write_verdict<D: Desk>(desk: &mut D, verdict: AuditVerdict) -> Status
     requires { CanWrite (D.outside desk.old) Report }
     ensures { Says result verdict (D.outside desk.old) (D.outside desk.new) }
 {

@@ -1,11 +1,11 @@
 // The audit.
-ghost use Rattle.gate_phases.specs.AuditNames.{names_of};
+ghost use Rattle.run_setup.specs.AuditNames.{names_of};
 ghost use Rattle.gateway_audit.specs.Audits.{IsAudit, TookForEvents};
 
-use crate::answer::say;
+use crate::answer::write_verdict;
 use crate::judge::judge;
 use gate_desk::Desk;
-use gate_phases::{AuditNames, Status};
+use run_setup::{AuditNames, Status};
 use std::alloc::Global;
 
 /// Audits given files: the report says for how many events they are lawful for the incoming captures, or which event is the
@@ -15,7 +15,7 @@ pub fn audit<D: Desk>(alloc: Global, desk: &mut D, names: AuditNames<'_>) -> Sta
     ensures taken { TookForEvents (D.outside desk.old) (D.outside desk.new) }
 {
     match judge(alloc, desk, names) {
-        Ok(verdict) => say(desk, verdict),
+        Ok(verdict) => write_verdict(desk, verdict),
         Err(status) => status,
     }
 }

@@ -10,7 +10,7 @@ mod prepare;
 mod ready;
 mod stops;
 mod verdict;
-mod walk;
+mod audit_all;
 
 pub use call::audit;
 pub use laws::files_decide;

@@ -1,13 +1,13 @@
 // What an audit does before it opens the given files: the settings, and the heads of both incoming captures.
 ghost use Rattle.std.specs.Prelude.{MatchResult, OnErr, []};
 ghost use Rattle.pcap_merge.specs.Given.{TakenFor};
-ghost use Rattle.gate_phases.specs.Beginning.{TookInputs};
+ghost use Rattle.run_setup.specs.Beginning.{TookInputs};
 ghost use Rattle.gateway_audit.specs.Audits.{IsAudit};
-ghost use Rattle.gate_phases.specs.AuditNames.{names_of};
+ghost use Rattle.run_setup.specs.AuditNames.{names_of};
 ghost use Rattle.gateway_audit.specs.Phases.{Prepared};
 
 use gate_desk::Desk;
-use gate_phases::{AuditNames, Status, begin, settle};
+use run_setup::{AuditNames, Status, begin, read_settings_file};
 use gate_settings::Settings;
 use pcap_merge::Merge;
 use std::alloc::Global;
@@ -24,7 +24,7 @@ pub fn prepare<D: Desk>(
     ensures taken { OnErr result (TakenFor [] (D.outside desk.old) (D.outside desk.new)) }
     ensures inputs { TookInputs (D.outside desk.old) (D.outside desk.new) }
 {
-    let settings = settle(alloc, desk, names.settings)?;
+    let settings = read_settings_file(alloc, desk, names.settings)?;
     let merge = begin(alloc, desk, names.left_in, names.right_in)?;
     Ok((settings, merge))
 }

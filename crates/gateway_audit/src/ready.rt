@@ -2,14 +2,14 @@
 ghost use Rattle.gate_desk.specs.Outside.{CanRead};
 ghost use Rattle.gate_desk.specs.declared.slot.Slot.TheVariants.{LeftGiven, RightGiven};
 ghost use Rattle.file_audit.specs.Given.{ReadsGiven, TookFiles};
-ghost use Rattle.gate_phases.specs.AuditNames.{names_of};
+ghost use Rattle.run_setup.specs.AuditNames.{names_of};
 ghost use Rattle.gateway_audit.specs.Phases.{Begins, LeavesIncoming, Readies};
 
 use crate::open::open_given;
 use crate::stops::status_of;
 use file_audit::{AuditStop, GivenFiles};
-use gate_desk::{Desk, Slot, Way};
-use gate_phases::{AuditNames, Status, start_slot};
+use gate_desk::{Desk, Slot, Access};
+use run_setup::{AuditNames, Status, start_slot};
 use gate_settings::Settings;
 use std::alloc::Global;
 
@@ -44,6 +44,6 @@ pub fn ready<D: Desk>(
 {
     open_given(desk, names)?;
     let given = begin_given(alloc, desk, settings)?;
-    start_slot(desk, Slot::Report, names.report, Way::Write)?;
+    start_slot(desk, Slot::Report, names.report, Access::Write)?;
     Ok(given)
 }

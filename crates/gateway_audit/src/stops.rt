@@ -2,9 +2,9 @@
 ghost use Rattle.std.specs.Prelude.{◌≡◌};
 ghost use Rattle.gateway_audit.specs.Stops.{status_of, verdict_of};
 
-use crate::verdict::Verdict;
+use crate::verdict::AuditVerdict;
 use file_audit::AuditStop;
-use gate_phases::Status;
+use run_setup::Status;
 
 /// The status of an audit that stopped so.
 pub fn status_of(stop: AuditStop) -> Status
@@ -19,12 +19,12 @@ pub fn status_of(stop: AuditStop) -> Status
 }
 
 /// What an audit of all events found, or the status of its stop.
-pub fn verdict_of(found: Result<u64, AuditStop>) -> Result<Verdict, Status>
+pub fn verdict_of(found: Result<u64, AuditStop>) -> Result<AuditVerdict, Status>
     ensures { result ≡ verdict_of found }
 {
     match found {
-        Ok(events) => Ok(Verdict::Lawful(events)),
-        Err(AuditStop::Unlawful(number, reason)) => Ok(Verdict::Unlawful(number, reason)),
+        Ok(events) => Ok(AuditVerdict::Lawful(events)),
+        Err(AuditStop::Unlawful(number, reason)) => Ok(AuditVerdict::Unlawful(number, reason)),
         Err(AuditStop::Capture(side, fault, place)) => Err(Status::CaptureRefused(
             side, fault, place,
         )),

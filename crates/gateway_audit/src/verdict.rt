@@ -1,19 +1,19 @@
 // What an audit finds.
 ghost use Rattle.std.specs.Prelude.{◌≡◌};
 
-use gate_phases::Status;
+use run_setup::Status;
 use lawful_files::AuditReason;
 
 /// What an audit finds of given files.
 #[derive(Clone, Copy)]
-pub enum Verdict {
+pub enum AuditVerdict {
     /// They are lawful, for so many events.
     Lawful(u64),
     /// They aren't, at the event of this number first, for this reason.
     Unlawful(u64, AuditReason),
 }
 
-impl Verdict {
+impl AuditVerdict {
     ghost use Rattle.gateway_audit.specs.Phases.{status_of};
 
     /// The status of an audit that finds this.
@@ -21,8 +21,8 @@ impl Verdict {
         ensures { result ≡ status_of self }
     {
         match self {
-            Verdict::Lawful(_) => Status::Done,
-            Verdict::Unlawful(number, reason) => Status::Unlawful(number, reason),
+            AuditVerdict::Lawful(_) => Status::Done,
+            AuditVerdict::Unlawful(number, reason) => Status::Unlawful(number, reason),
         }
     }
 }

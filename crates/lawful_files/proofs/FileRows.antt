@@ -31,7 +31,7 @@ use Rattle.ftp_lines.specs.Numbers.{number, four, six}
 use Rattle.ftp_lines.specs.Grammar.{port, eprt, delimited, passive, client_text, server_text}
 use Rattle.ftp_lines.specs.Renaming.{spelled}
 use Rattle.std.specs.Fmt.{digits}
-use Rattle.gate_world.specs.Verdict.{verdict}
+use Rattle.gate_model.specs.Verdict.{verdict}
 use Rattle.std.specs.Prelude.{map, codes, take}
 use Rattle.gate_base.specs.Refusal.{name_of as refusal_name}
 use Rattle.gate_base.specs.declared.side.Link.TheVariants.{Ethernet, Raw}
@@ -40,7 +40,7 @@ use Rattle.pcap_files.specs.Capture.{capture_of, head_of, next_at, up_to, record
 use Rattle.pcap_files.specs.Spelling.{head_octets, record_octets}
 use Rattle.pcap_merge.specs.Events.{Merged, up_to as merge_up_to, merge_from, events_of}
 use Rattle.frag_join.specs.Arrivals.{arrivals_from}
-use Rattle.gate_world.proofs.RowWords.{hex, fixed, pool, set}
+use Rattle.gate_model.proofs.RowWords.{hex, fixed, pool, set}
 use Rattle.lawful_files.specs.declared.reason.AuditReason.{AuditReason}
 use Rattle.lawful_files.specs.declared.reason.AuditReason.TheVariants.{Capture, Line, Missing, Frame, Left as SomethingLeft}
 use Rattle.lawful_files.specs.Judging.{reason_from, reason_against}

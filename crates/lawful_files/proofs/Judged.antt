@@ -8,7 +8,7 @@ use Rattle.std.proofs.lemmas.Bool.{and_parts, and_from, eqb-true, true≢false, 
 use Rattle.std.proofs.lemmas.Fmt.{decimal_is_IsNumeral}
 use Rattle.std.proofs.lemmas.List.{take_at, drop_at, take-append-drop, length-take-le, length-map, nil_from_length}
 use Rattle.std.proofs.lemmas.Slice.Eq.{bytes_eq-Decides}
-use Rattle.frag_join.specs.Arrivals.{Arrival, Comes, Stays}
+use Rattle.frag_join.specs.Arrivals.{Arrival, Reaches, Stopped}
 use Rattle.gate_base.specs.Refusal.{verdict_name}
 use Rattle.gate_base.specs.Side.{name_of, other}
 use Rattle.gate_base.specs.declared.event.Verdict.{Verdict}
@@ -105,12 +105,12 @@ addresses_of settings sides.Left h = h.left
 addresses_of settings sides.Right h = h.right
 
 sound_first : (k : State) (f : Arrival) (fs : List Arrival) → AllOctets (f ∷ fs) → IsSound (wanted_of k.world f)
-sound_first k (Comes e) fs h = wanted_sound k.world e h.0
-sound_first k (Stays e v) fs h = tt
+sound_first k (Reaches e) fs h = wanted_sound k.world e h.0
+sound_first k (Stopped e v) fs h = tt
 
 octets_behind : (f : Arrival) (fs : List Arrival) → AllOctets (f ∷ fs) → AllOctets fs
-octets_behind (Comes e) fs h = h.1
-octets_behind (Stays e v) fs h = h
+octets_behind (Reaches e) fs h = h.1
+octets_behind (Stopped e v) fs h = h
 
 abbrev next_given : Settings → State → Arrival → Given → ℕ → Given
 next_given settings k f g n = behind_records (other (event_in f).side) n (drop (length (line_of settings k f n)) g.report) g

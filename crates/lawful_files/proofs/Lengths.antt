@@ -12,7 +12,7 @@ use Rattle.tcp_segments.specs.Flags.{flags_octet}
 use Rattle.tcp_segments.specs.Options.{blanked}
 use Rattle.tcp_segments.specs.Tcp.{IsTcpHeader, tcp_header_with, sealed_tcp, spelled_segment}
 use Rattle.tcp_segments.proofs.Blanking.{blanks}
-use Rattle.gate_world.specs.Stream.{tcp_of, sent_as}
+use Rattle.gate_model.specs.Stream.{tcp_of, sent_as}
 use Rattle.lawful_files.specs.Files.{HasMacAddresses}
 use Rattle.lawful_files.specs.Progress.{HasHeads, head_length}
 

@@ -15,7 +15,7 @@ use Rattle.ipv4_frames.specs.Ipv4.{Datagram}
 use Rattle.pcap_files.specs.Capture.{Packet}
 use Rattle.stream_model.specs.Session.{Outgoing}
 use Rattle.stream_model.specs.Steps.{Piece, pieces}
-use Rattle.gate_world.specs.Stream.{sent_as}
+use Rattle.gate_model.specs.Stream.{sent_as}
 use Rattle.stream_cuts.specs.Cuts.{Sent, IsPiece, ArePieces, segment_with, alone, MaySend}
 use Rattle.lawful_files.specs.Wanted.{Wanted, Exactly, Cut}
 use Rattle.lawful_files.specs.Files.{record_of, HasMacAddresses}

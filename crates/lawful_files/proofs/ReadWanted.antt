@@ -8,17 +8,17 @@ use Rattle.gate_base.specs.declared.side.Side.{Side}
 use Rattle.binding_table.specs.Bindings.{Bindings}
 use Rattle.icmp_errors.specs.Inner.{inner_fields}
 use Rattle.ipv4_frames.specs.Ipv4.{Datagram}
-use Rattle.gate_world.specs.Frame.{Kind, Udp, Echo, Error, Dns, Snmp, Stream, datagram_in, kind_of}
-use Rattle.gate_world.specs.Inner.{inside}
-use Rattle.gate_world.specs.Reading.{tracked_as, world_as, Reads}
-use Rattle.gate_world.specs.Rules.{SessionRules, whole_rules}
-use Rattle.gate_world.specs.Sessions.{WholeSession}
-use Rattle.gate_world.specs.Step.{taker_in}
-use Rattle.gate_world.specs.Stream.{segment_of, session_refusal}
-use Rattle.gate_world.specs.Verdict.{table_after, image_in, verdict}
-use Rattle.gate_world.specs.World.{World, Tracked, at_moment, called, source_of, destination_of, is_client}
-use Rattle.gate_world.proofs.Passing.{Passes, passes, stream_passes}
-use Rattle.gate_world.proofs.ReadWorlds.{table_as, image_as, taker_as, inner_number_as, moment_as, verdict_as}
+use Rattle.gate_model.specs.Frame.{Kind, Udp, Echo, Error, Dns, Snmp, Stream, datagram_in, kind_of}
+use Rattle.gate_model.specs.Inner.{inside}
+use Rattle.gate_model.specs.Reading.{tracked_as, world_as, Reads}
+use Rattle.gate_model.specs.Rules.{SessionRules, whole_rules}
+use Rattle.gate_model.specs.Sessions.{WholeSession}
+use Rattle.gate_model.specs.Step.{taker_in}
+use Rattle.gate_model.specs.Stream.{segment_of, session_refusal}
+use Rattle.gate_model.specs.Verdict.{table_after, image_in, verdict}
+use Rattle.gate_model.specs.World.{World, Tracked, at_moment, called, source_of, destination_of, is_client}
+use Rattle.gate_model.proofs.Passing.{Passes, passes, stream_passes}
+use Rattle.gate_model.proofs.ReadWorlds.{table_as, image_as, taker_as, inner_number_as, moment_as, verdict_as}
 use Rattle.lawful_files.specs.Wanted.{Wanted, Cut, Sends, SendAlike, whole_sent, wanted_segment, wanted_kind, wanted_by, wanted, wanted_in}
 
 module _ {S : Type 0} (h : S → WholeSession) (rules : SessionRules S) (sends : Sends S) (reads : Reads h rules whole_rules) (alike : SendAlike h rules sends) where

@@ -32,16 +32,16 @@ use Rattle.ftp_lines.specs.Numbers.{number, four, six}
 use Rattle.ftp_lines.specs.Grammar.{port, eprt, delimited, passive, client_text, server_text}
 use Rattle.ftp_lines.specs.Renaming.{spelled}
 use Rattle.std.specs.Fmt.{digits}
-use Rattle.gate_world.specs.Verdict.{verdict}
+use Rattle.gate_model.specs.Verdict.{verdict}
 use Rattle.std.specs.List.{fold}
 use Rattle.std.specs.Prelude.{ℕ, map}
 use Rattle.gate_base.specs.Events.{Event}
 use Rattle.gate_base.specs.Side.{other}
 use Rattle.pcap_files.specs.Capture.{Packet}
-use Rattle.gate_world.specs.Rules.{whole_rules}
-use Rattle.gate_world.specs.Step.{next}
-use Rattle.gate_world.specs.World.{opening_world}
-use Rattle.gate_world.proofs.RowWords.{hex, fixed, pool, set, event}
+use Rattle.gate_model.specs.Rules.{whole_rules}
+use Rattle.gate_model.specs.Step.{next}
+use Rattle.gate_model.specs.World.{opening_world}
+use Rattle.gate_model.proofs.RowWords.{hex, fixed, pool, set, event}
 use Rattle.lawful_files.specs.Wanted.{Wanted, wanted}
 use Rattle.lawful_files.specs.Progress.{Progress, behind_all, is_closed}
 

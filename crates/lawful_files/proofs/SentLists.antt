@@ -16,14 +16,14 @@ use Rattle.ipv4_frames.specs.Ipv4.{Datagram, total_length_of}
 use Rattle.stream_model.specs.Session.{Sender, Segment, other}
 use Rattle.stream_model.specs.Steps.{session_out, limit_of}
 use Rattle.tcp_segments.specs.Tcp.{tcp_header_length_of}
-use Rattle.gate_world.specs.Frame.{Kind, Udp, Echo, Error, Dns, Snmp, Stream, datagram_in, kind_of}
+use Rattle.gate_model.specs.Frame.{Kind, Udp, Echo, Error, Dns, Snmp, Stream, datagram_in, kind_of}
 use Rattle.twice_translate.specs.Renamed.{datagram_of}
-use Rattle.gate_world.specs.Rules.{whole_rules}
-use Rattle.gate_world.specs.Sessions.{WholeSession, whole_learned}
-use Rattle.gate_world.specs.Step.{out, out_by, out_kind, stream_out, taker_in}
-use Rattle.gate_world.specs.Stream.{segment_of}
-use Rattle.gate_world.specs.Verdict.{table_after, image_in, verdict}
-use Rattle.gate_world.specs.World.{World, Tracked, at_moment, called, source_of, destination_of, is_client}
+use Rattle.gate_model.specs.Rules.{whole_rules}
+use Rattle.gate_model.specs.Sessions.{WholeSession, whole_learned}
+use Rattle.gate_model.specs.Step.{out, out_by, out_kind, stream_out, taker_in}
+use Rattle.gate_model.specs.Stream.{segment_of}
+use Rattle.gate_model.specs.Verdict.{table_after, image_in, verdict}
+use Rattle.gate_model.specs.World.{World, Tracked, at_moment, called, source_of, destination_of, is_client}
 use Rattle.lawful_files.specs.Wanted.{whole_sent, wanted_segment, wanted_kind, wanted_by, wanted, IsLawfulList}
 use Rattle.stream_cuts.proofs.Ways.{session_lawful}
 

@@ -19,15 +19,15 @@ use Rattle.stream_model.specs.Steps.{limit_of}
 use Rattle.tcp_segments.specs.Options.{are_options}
 use Rattle.tcp_segments.specs.Tcp.{IsTcpHeader, tcp_header_length_of, has_bad_offset, has_bad_options}
 use Rattle.udp_icmp.specs.Udp.{has_bad_length}
-use Rattle.gate_world.specs.Frame.{Kind, Udp, Echo, Error, Dns, Snmp, Stream, datagram_in, kind_of, udp_kind, icmp_kind, is_bad_transport, is_bad_sum, header_tests, datagram_tests, transport_tests, has_port, dns_port, snmp_port, trap_port}
+use Rattle.gate_model.specs.Frame.{Kind, Udp, Echo, Error, Dns, Snmp, Stream, datagram_in, kind_of, udp_kind, icmp_kind, is_bad_transport, is_bad_sum, header_tests, datagram_tests, transport_tests, has_port, dns_port, snmp_port, trap_port}
 use Rattle.udp_icmp.specs.Icmp.{is_error_type}
-use Rattle.gate_world.specs.Rules.{whole_rules}
-use Rattle.gate_world.specs.Sessions.{WholeSession, whole_learned}
-use Rattle.gate_world.specs.Step.{taker_in}
-use Rattle.gate_world.specs.Stream.{segment_of}
-use Rattle.gate_world.specs.Verdict.{tests, world_tests, verdict, verdict_of}
-use Rattle.gate_world.specs.World.{World, Tracked, at_moment, is_client}
-use Rattle.gate_world.proofs.Passing.{NoneHolds, none_head, none_tail, none_left, none_right}
+use Rattle.gate_model.specs.Rules.{whole_rules}
+use Rattle.gate_model.specs.Sessions.{WholeSession, whole_learned}
+use Rattle.gate_model.specs.Step.{taker_in}
+use Rattle.gate_model.specs.Stream.{segment_of}
+use Rattle.gate_model.specs.Verdict.{tests, world_tests, verdict, verdict_of}
+use Rattle.gate_model.specs.World.{World, Tracked, at_moment, is_client}
+use Rattle.gate_model.proofs.Passing.{NoneHolds, none_head, none_tail, none_left, none_right}
 use Rattle.lawful_files.specs.Wanted.{whole_sent, wanted_segment, wanted_kind, wanted_by, wanted}
 use Rattle.lawful_files.specs.Progress.{HasHeads, IsSound}
 use Rattle.lawful_files.proofs.SentLists.{AreOctets, event_options}

@@ -15,8 +15,8 @@ use Rattle.gate_settings.specs.declared.settings.SideSettings.{SideSettings}
 use Rattle.pcap_files.specs.Capture.{Packet, Records, Whole, Good, head_of, capture_of}
 use Rattle.pcap_files.specs.declared.form.Form.{Form}
 use Rattle.pcap_merge.specs.Events.{Merged, Ending, Done, Fault}
-use Rattle.gate_world.specs.Sessions.{WholeSession}
-use Rattle.gate_world.specs.World.{World, opening_world}
+use Rattle.gate_model.specs.Sessions.{WholeSession}
+use Rattle.gate_model.specs.World.{World, opening_world}
 use Rattle.lawful_files.specs.Wanted.{IsLawfulList, event_in, verdict_of, wanted_of, world_after}
 
 -- ## What is given

@@ -3,7 +3,7 @@ use Rattle.std.specs.Prelude.{ℕ, ◌+◌, ◌^◌, ◌<◌, Bool, true, false,
 use Rattle.std.specs.Char.{is_digit}
 use Rattle.std.specs.Str.{bytes_eq}
 use Rattle.std.specs.Str.Parse.{digits_value}
-use Rattle.frag_join.specs.Arrivals.{Arrival, Comes, Stays, arrivals_of}
+use Rattle.frag_join.specs.Arrivals.{Arrival, Reaches, Stopped, arrivals_of}
 use Rattle.gate_base.specs.Refusal.{verdict_name}
 use Rattle.gate_base.specs.Side.{name_of, other}
 use Rattle.gate_base.specs.declared.side.Link.{Link}
@@ -108,5 +108,5 @@ reason_against settings all left right report = reason_of settings (arrivals_of 
 -- those that come to the gate are octets
 abbrev pub AllOctets : List Arrival → Type 0
 AllOctets [] = Unit {0}
-AllOctets (Comes e ∷ arrivals) = All (λ octet. octet < 256) e.octets × AllOctets arrivals
-AllOctets (Stays e v ∷ arrivals) = AllOctets arrivals
+AllOctets (Reaches e ∷ arrivals) = All (λ octet. octet < 256) e.octets × AllOctets arrivals
+AllOctets (Stopped e v ∷ arrivals) = AllOctets arrivals

@@ -5,17 +5,17 @@ use Rattle.gate_base.specs.declared.address.Addr.{Addr}
 use Rattle.gate_base.specs.declared.event.Verdict.{Verdict}
 use Rattle.gate_base.specs.declared.event.Verdict.TheVariants.{Pass, Refused, Held}
 use Rattle.gate_base.specs.declared.side.Side.{Side}
-use Rattle.frag_join.specs.Arrivals.{Arrival, Comes, Stays}
+use Rattle.frag_join.specs.Arrivals.{Arrival, Reaches, Stopped}
 use Rattle.ipv4_frames.specs.Ipv4.{Datagram}
 use Rattle.stream_model.specs.Session.{Segment, Outgoing}
 use Rattle.twice_translate.specs.Renamed.{renamed}
-use Rattle.gate_world.specs.Frame.{Kind, Udp, Echo, Error, Dns, Snmp, Stream, datagram_in, kind_of}
-use Rattle.gate_world.specs.Rules.{SessionRules, whole_rules}
-use Rattle.gate_world.specs.Sessions.{WholeSession, whole_learned}
-use Rattle.gate_world.specs.Step.{next, out_kind, taker_in}
-use Rattle.gate_world.specs.Stream.{segment_of, sent_as}
-use Rattle.gate_world.specs.Verdict.{table_after, image_in, verdict}
-use Rattle.gate_world.specs.World.{World, Tracked, at_moment, called, source_of, destination_of, is_client}
+use Rattle.gate_model.specs.Frame.{Kind, Udp, Echo, Error, Dns, Snmp, Stream, datagram_in, kind_of}
+use Rattle.gate_model.specs.Rules.{SessionRules, whole_rules}
+use Rattle.gate_model.specs.Sessions.{WholeSession, whole_learned}
+use Rattle.gate_model.specs.Step.{next, out_kind, taker_in}
+use Rattle.gate_model.specs.Stream.{segment_of, sent_as}
+use Rattle.gate_model.specs.Verdict.{table_after, image_in, verdict}
+use Rattle.gate_model.specs.World.{World, Tracked, at_moment, called, source_of, destination_of, is_client}
 use Rattle.stream_cuts.specs.Cuts.{Sent, session_sent, IsLawfulWay}
 
 -- ## What is wanted of an event
@@ -35,7 +35,7 @@ whole_sent image from_client x segment = session_sent from_client (whole_learned
 
 -- sessions that are read as those over whole lists send the same for each segment that passes
 abbrev pub SendAlike : {S : Type 0} → (S → WholeSession) → SessionRules S → Sends S → Type 0
-SendAlike {S = S} h rules sends = (image : Addr → Option Addr) (from_client : Bool) (x : S) (segment : Segment) → rules.verdict from_client x segment ≡ None → whole_sent image from_client (h x) segment ≡ sends image from_client x segment
+SendAlike {S = S} h rules sends = (image : Addr → Option Addr) (from_client : Bool) (x : S) (segment : Segment) → rules.refusal from_client x segment ≡ None → whole_sent image from_client (h x) segment ≡ sends image from_client x segment
 
 -- of a segment, by the session that takes it
 abbrev pub wanted_segment : {S : Type 0} → Sends S → (Addr → Option Addr) → Side → Datagram → ℕ → ℕ → Option (Tracked S) → Wanted
@@ -78,19 +78,19 @@ IsLawfulList (Cut d source destination sent) list = (outs : List Outgoing) × Is
 
 -- the event that comes to the gate, or the frame that stays
 abbrev pub event_in : Arrival → Event
-event_in (Comes e) = e
-event_in (Stays e v) = e
+event_in (Reaches e) = e
+event_in (Stopped e v) = e
 
 abbrev pub verdict_of : World WholeSession → Arrival → Verdict
-verdict_of w (Comes e) = verdict whole_rules w e
-verdict_of w (Stays e v) = v
+verdict_of w (Reaches e) = verdict whole_rules w e
+verdict_of w (Stopped e v) = v
 
 -- of a frame that stays nothing is wanted
 abbrev pub wanted_of : World WholeSession → Arrival → Wanted
-wanted_of w (Comes e) = wanted w e
-wanted_of w (Stays e v) = Exactly []
+wanted_of w (Reaches e) = wanted w e
+wanted_of w (Stopped e v) = Exactly []
 
 -- and it changes nothing of what is known
 abbrev pub world_after : World WholeSession → Arrival → World WholeSession
-world_after w (Comes e) = next whole_rules w e
-world_after w (Stays e v) = w
+world_after w (Reaches e) = next whole_rules w e
+world_after w (Stopped e v) = w

@@ -3,11 +3,11 @@ ghost use Rattle.std.specs.Prelude.{◌≡◌, ◌≤◌, ◌<◌, ℕ, Bool, tr
 ghost use Rattle.frag_join.specs.Arrivals.{Arrival};
 ghost use Rattle.gate_base.specs.Events.{Event};
 ghost use Rattle.gate_base.specs.declared.side.Side.{Side};
-ghost use Rattle.gate_world.specs.Reading.{Reads, world_as};
-ghost use Rattle.gate_world.specs.Rules.{SessionRules, whole_rules};
-ghost use Rattle.gate_world.specs.Sessions.{WholeSession};
-ghost use Rattle.gate_world.specs.Step.{out};
-ghost use Rattle.gate_world.specs.World.{World};
+ghost use Rattle.gate_model.specs.Reading.{Reads, world_as};
+ghost use Rattle.gate_model.specs.Rules.{SessionRules, whole_rules};
+ghost use Rattle.gate_model.specs.Sessions.{WholeSession};
+ghost use Rattle.gate_model.specs.Step.{out};
+ghost use Rattle.gate_model.specs.World.{World};
 ghost use Rattle.gate_settings.specs.Cross.{side_settings};
 ghost use Rattle.gate_settings.specs.declared.settings.Settings.{Settings};
 ghost use Rattle.pcap_files.specs.Capture.{Packet};

@@ -14,17 +14,17 @@ pub total_len-append : (es fs : List Entry) → total_len (es ++ fs) ≡ total_l
 total_len-append [] fs = omega arith
 total_len-append (e ∷ es) fs = omega (arith, total_len-append es fs)
 
-one-start : (e : Entry) (more : List ℕ) → e.len ≡ length more → starts_in (e ∷ []) more ≡ (record { slot = e.slot; name = more; way = e.way }) ∷ []
-one-start e more h = ap (λ (xs : List ℕ). let x : List Start = (record { slot = e.slot; name = xs; way = e.way }) ∷ [] in x) (take_all e.len more (omega arith))
+one-start : (e : Entry) (more : List ℕ) → e.len ≡ length more → starts_in (e ∷ []) more ≡ (record { slot = e.slot; name = more; access = e.access }) ∷ []
+one-start e more h = ap (λ (xs : List ℕ). let x : List Start = (record { slot = e.slot; name = xs; access = e.access }) ∷ [] in x) (take_all e.len more (omega arith))
 
 pub starts_in-push : (es : List Entry) (names : List ℕ) (e : Entry) (more : List ℕ) → total_len es ≡ length names → e.len ≡ length more
-    → starts_in (es ++ e ∷ []) (names ++ more) ≡ starts_in es names ++ (record { slot = e.slot; name = more; way = e.way }) ∷ []
+    → starts_in (es ++ e ∷ []) (names ++ more) ≡ starts_in es names ++ (record { slot = e.slot; name = more; access = e.access }) ∷ []
 starts_in-push [] names e more h k = ap (λ (xs : List ℕ). starts_in (e ∷ []) (xs ++ more)) (nil_from_length names (sym h)) ∙ one-start e more k
 starts_in-push (d ∷ es) names e more h k =
     let fits : d.len ≤ length names = omega arith in
     let front = take-append-le d.len names more fits in
     let back = drop-append-le d.len names more fits in
     let rest = starts_in-push es (drop d.len names) e more (omega (arith, length-drop d.len names)) k in
-    ap (λ (xs : List ℕ). let x : List Start = (record { slot = d.slot; name = xs; way = d.way }) ∷ starts_in (es ++ e ∷ []) (drop d.len (names ++ more)) in x) front
-    ∙ ap (λ (xs : List ℕ). let x : List Start = (record { slot = d.slot; name = take d.len names; way = d.way }) ∷ starts_in (es ++ e ∷ []) xs in x) back
-    ∙ ap (λ (ss : List Start). let x : List Start = (record { slot = d.slot; name = take d.len names; way = d.way }) ∷ ss in x) rest
+    ap (λ (xs : List ℕ). let x : List Start = (record { slot = d.slot; name = xs; access = d.access }) ∷ starts_in (es ++ e ∷ []) (drop d.len (names ++ more)) in x) front
+    ∙ ap (λ (xs : List ℕ). let x : List Start = (record { slot = d.slot; name = take d.len names; access = d.access }) ∷ starts_in (es ++ e ∷ []) xs in x) back
+    ∙ ap (λ (ss : List Start). let x : List Start = (record { slot = d.slot; name = take d.len names; access = d.access }) ∷ ss in x) rest

@@ -2,7 +2,7 @@
 use Rattle.std.proofs.Common.{◌≡◌, ℕ, ◌+◌, ◌≤◌, List, [], ◌∷◌, ◌++◌, Some, min, take, drop, length, refl, sym, ap, subst, ◌∙◌, arith, length-append}
 use Rattle.std.proofs.lemmas.List.{length-take-le, take_all}
 use Rattle.gate_desk.specs.declared.slot.Slot.{Slot}
-use Rattle.gate_desk.specs.declared.slot.Way.{Way}
+use Rattle.gate_desk.specs.declared.slot.Access.{Access}
 use Rattle.gate_desk.specs.declared.slot.PerSlot.{PerSlot}
 use Rattle.gate_desk.specs.Slots.{at, put}
 use Rattle.gate_desk.specs.Outside.{Start, Starts, FailsToStart, Takes, Writes, AreNext, IsAtEnd, wrote, took, told_at, started}
@@ -18,9 +18,9 @@ rose_one s a b e =
 pub memory_fails_to_start : (s : Slot) (m : Memory) (n : PerSlot ℕ) → n ≡ put m.start_faults s (raised (at m.start_faults s)) → FailsToStart s (told_of m) (told_of (record m { start_faults = n }))
 memory_fails_to_start s m n e = record { cause = rose_one s m.start_faults n e; starts = refl; left = refl; written = refl; faults = refl; start_faults = rises_one s m.start_faults n e }
 
-pub memory_starts : (s : Slot) (name : List ℕ) (way : Way) (m : Memory) (n : List Start) → n ≡ m.starts ++ (record { slot = s; name = name; way = way }) ∷ [] → Starts s name way (told_of m) (told_of (record m { starts = n }))
+pub memory_starts : (s : Slot) (name : List ℕ) (access : Access) (m : Memory) (n : List Start) → n ≡ m.starts ++ (record { slot = s; name = name; access = access }) ∷ [] → Starts s name access (told_of m) (told_of (record m { starts = n }))
 unfolding started
-memory_starts s name way m n e = record { starts = ap Some e; left = refl; written = refl; faults = refl; start_faults = rises_not s m.start_faults }
+memory_starts s name access m n e = record { starts = ap Some e; left = refl; written = refl; faults = refl; start_faults = rises_not s m.start_faults }
 
 pub memory_takes : (s : Slot) (n : ℕ) (m : Memory) (l : PerSlot (List ℕ)) → l ≡ put m.left s (drop n (at m.left s)) → Takes s n (told_of m) (told_of (record m { left = l }))
 unfolding took

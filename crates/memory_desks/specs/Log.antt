@@ -7,7 +7,7 @@ use Rattle.gate_desk.specs.Outside.{Start}
 -- the names, cut one after another
 abbrev pub starts_in : List Entry → List ℕ → List Start
 starts_in [] names = []
-starts_in (e ∷ es) names = (record { slot = e.slot; name = take e.len names; way = e.way }) ∷ starts_in es (drop e.len names)
+starts_in (e ∷ es) names = (record { slot = e.slot; name = take e.len names; access = e.access }) ∷ starts_in es (drop e.len names)
 
 abbrev pub log_view : Inside → List Start
 log_view d = starts_in d.entries.items d.names.items

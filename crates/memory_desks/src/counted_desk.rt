@@ -7,7 +7,7 @@ ghost use Rattle.memory_desks.specs.Counted.{IsListed, FailsToWrite, counted, co
 ghost use Rattle.gate_desk.specs.Outside.{names_size, Starts, FailsToStart, Takes, AreNext, IsAtEnd, Writes, WritesPart, HasFailed};
 
 use crate::MemoryDesk;
-use gate_desk::{Desk, Failed, Slot, Way};
+use gate_desk::{Desk, Failed, Slot, Access};
 use std::marker::Model;
 
 /// A desk in memory, of which the listed calls fail. Starts, reads and writes are counted together, from 1.
@@ -34,7 +34,7 @@ fn is_listed(failing: &[u64], call: u64) -> bool
 
 impl CountedDesk {
     /// The desk as it is, of which these calls are to fail.
-    pub fn make(inner: MemoryDesk, failing: Vec<u64>) -> CountedDesk
+    pub fn new(inner: MemoryDesk, failing: Vec<u64>) -> CountedDesk
         ensures { result ≡ record { inner = inner; failing = failing.items; calls = 0 } }
     {
         CountedDesk {
@@ -88,8 +88,8 @@ impl Desk for CountedDesk {
     ghost ready = { λ d slot. 0 };
 
     /// Fails exactly where the call is listed or the names would be more than 64 KiB.
-    fn start(&mut self, slot: Slot, name: &str, way: Way) -> Result<(), Failed>
-        ensures ok { OnOk result (Starts slot name.now way (told_by self.old) (told_by self.new)) }
+    fn start(&mut self, slot: Slot, name: &str, access: Access) -> Result<(), Failed>
+        ensures ok { OnOk result (Starts slot name.now access (told_by self.old) (told_by self.new)) }
         ensures err { OnErr result (FailsToStart slot (told_by self.old) (told_by self.new)) }
         ensures leaves { OnOk result ((told_by self.new).start_faults ≡ (told_by self.old).start_faults) }
         ensures exact { IsErr result ↔ (IsListed self.old ⊎ (2 ^ 16 < names_size self.old.inner.starts + length name.now + 3)) }
@@ -101,7 +101,7 @@ impl Desk for CountedDesk {
             self.inner.fail_start(slot);
             return Err(Failed);
         }
-        self.inner.start(slot, name, way)
+        self.inner.start(slot, name, access)
     }
 
     /// Fails exactly where the call is listed.

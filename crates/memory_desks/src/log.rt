@@ -2,14 +2,14 @@
 ghost use Rattle.std.specs.Prelude.{◌≡◌, ◌+◌, ◌≤◌, ◌++◌, [], ◌∷◌, length, IfOk};
 ghost use Rattle.gate_desk.specs.Outside.{names_size};
 
-use gate_desk::{Slot, Way};
+use gate_desk::{Slot, Access};
 use std::alloc::{AllocError, Global};
 use std::marker::Model;
 
 #[derive(Clone, Copy)]
 struct Entry {
     slot: Slot,
-    way: Way,
+    access: Access,
     len: usize,
 }
 
@@ -49,13 +49,13 @@ impl StartLog {
         self.names.len() + 3 * self.entries.len()
     }
 
-    pub fn push(&mut self, slot: Slot, name: &[u8], way: Way)
+    pub fn push(&mut self, slot: Slot, name: &[u8], access: Access)
         requires { names_size self.old + length name.now + 3 ≤ 65536 }
-        ensures { self.new ≡ self.old ++ (record { slot = slot; name = name.now; way = way }) ∷ [] }
+        ensures { self.new ≡ self.old ++ (record { slot = slot; name = name.now; access = access }) ∷ [] }
     {
         let entry = Entry {
             slot,
-            way,
+            access,
             len: name.len(),
         };
         if self.entries.push(entry).is_err() {

@@ -8,7 +8,7 @@ ghost use Rattle.gate_desk.specs.Outside.{names_size, Starts, FailsToStart, Take
 use crate::log::StartLog;
 use crate::sink::{Sink, total_of};
 use gate_base::OutOfMemory;
-use gate_desk::{Desk, Failed, PerSlot, Slot, Source, Way};
+use gate_desk::{Desk, Failed, PerSlot, Slot, Source, Access};
 use std::alloc::Global;
 use std::marker::Model;
 
@@ -47,7 +47,7 @@ impl MemoryDesk {
     ghost use Rattle.memory_desks.specs.Memory.{opening, opening_of, audit_inputs};
 
     /// A desk with these octets to be read, nothing written, no start and no fault. It takes all its memory here.
-    pub fn make(
+    pub fn new(
         alloc: Global,
         settings: Vec<u8>,
         left: Vec<u8>,
@@ -131,8 +131,8 @@ impl Desk for MemoryDesk {
     ghost ready = { λ m slot. length (at m.left slot) };
 
     /// Fails exactly where the names would be more than 64 KiB.
-    fn start(&mut self, slot: Slot, name: &str, way: Way) -> Result<(), Failed>
-        ensures ok { OnOk result (Starts slot name.now way (told_of self.old) (told_of self.new)) }
+    fn start(&mut self, slot: Slot, name: &str, access: Access) -> Result<(), Failed>
+        ensures ok { OnOk result (Starts slot name.now access (told_of self.old) (told_of self.new)) }
         ensures err { OnErr result (FailsToStart slot (told_of self.old) (told_of self.new)) }
         ensures leaves { OnOk result ((told_of self.new).start_faults ≡ (told_of self.old).start_faults) }
         ensures exact { IsErr result ↔ (2 ^ 16 < names_size self.old.starts + length name.now + 3) }
@@ -142,7 +142,7 @@ impl Desk for MemoryDesk {
             self.start_faults.raise(slot);
             return Err(Failed);
         }
-        self.log.push(slot, name.as_bytes(), way);
+        self.log.push(slot, name.as_bytes(), access);
         Ok(())
     }
 

@@ -56,7 +56,7 @@ fn reversed(alloc: Global, old: &[u8], address: u32) -> Option<Vec<u8>> {
 fn spelled(alloc: Global, first: &[u8], second: &[u8]) -> Option<Vec<u8>> {
     let (first, _) = read_name(alloc, first, 0).ok()?;
     let (second, _) = read_name(alloc, second, 0).ok()?;
-    let mut writer = NameWriter::make(Vec::new(alloc)).ok()?;
+    let mut writer = NameWriter::new(Vec::new(alloc)).ok()?;
     writer.put_octets(b"\x09\x09").ok()?;
     writer.put_name(&first).ok()?;
     writer.put_name(&second).ok()?;

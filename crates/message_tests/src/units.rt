@@ -102,7 +102,7 @@ fn learn_all(units: &mut DnsUnits, addresses: &[Addr], images: &[Option<Addr>]) 
 
 /// The units by a list.
 fn units_with(alloc: Global, list: &[(Addr, Option<Addr>)]) -> Result<DnsUnits, OutOfMemory> {
-    let mut units = DnsUnits::make(alloc)?;
+    let mut units = DnsUnits::new(alloc)?;
     for (address, image) in list {
         learn_all(&mut units, &[*address], &[*image]);
     }
@@ -148,7 +148,7 @@ fn entries_of(
 fn nine_with(alloc: Global, images: &[Option<Addr>]) -> Result<(bool, bool, usize), UnitStop> {
     let addresses = unit_addresses(alloc, NINE)?;
     let entries = entries_of(alloc, &addresses, images)?;
-    let mut units = DnsUnits::make(alloc)?;
+    let mut units = DnsUnits::new(alloc)?;
     learn_all(&mut units, &addresses, images);
     let image = units.image(alloc, NINE)?;
     if images.len() != addresses.len() {

@@ -2,7 +2,7 @@
 use Rattle.std.proofs.Common.{◌≡◌, ℕ, List, [], true, false, Option, Some, None, Ok, Err, IfSome, drop, refl, sym, ap, subst, ◌∙◌, arith}
 use Rattle.gate_base.specs.declared.side.Side.TheVariants.{Left, Right}
 use Rattle.gate_desk.specs.declared.slot.Slot.TheVariants.{LeftIn, RightIn}
-use Rattle.gate_desk.specs.Outside.{Outside, Told, HasFailed, told_at, took}
+use Rattle.gate_desk.specs.Outside.{Outside, Trace, HasFailed, told_at, took}
 use Rattle.gate_desk.proofs.Laws.{takes_none, failed_since, grows_takes}
 use Rattle.pcap_files.specs.declared.fault.CaptureFault.{CaptureFault}
 use Rattle.pcap_files.specs.declared.fault.ReadStop.{ReadStop}
@@ -20,7 +20,7 @@ use Rattle.pcap_merge.proofs.Reading.{one_at_most}
 use Rattle.pcap_merge.proofs.Given.{given_none, heads_few}
 use Rattle.pcap_merge.proofs.Steps.{reads_of, left_told, right_told, both, sides}
 
-all_events_are : (o : Told) (y : Merged) → IfSome o (λ all. events_of all.left_in all.right_in ≡ y) → IfSome (all_events o) (λ x. x ≡ y)
+all_events_are : (o : Trace) (y : Merged) → IfSome o (λ all. events_of all.left_in all.right_in ≡ y) → IfSome (all_events o) (λ x. x ≡ y)
 unfolding all_events
 all_events_are None y h = tt
 all_events_are (Some all) y h = h
@@ -42,13 +42,13 @@ both_heads a b l r h k e f =
     ∙ ap (λ (x : Records). merge_from (sides 0 l.form r.form x (capture_of b))) (capture-good a l.form h ∙ ap (λ (n : ℕ). records_from l.form n (drop 24 a)) (sym e))
     ∙ ap (λ (x : Records). merge_from (sides 0 l.form r.form (records_from l.form l.place (drop 24 a)) x)) (capture-good b r.form k ∙ ap (λ (n : ℕ). records_from r.form n (drop 24 b)) (sym f))
 
-all_ahead-of : (o : Told) (x : Merging) → IfSome o (λ all. events_of all.left_in all.right_in ≡ merge_from (sides_ahead x (drop 24 all.left_in) (drop 24 all.right_in)))
+all_ahead-of : (o : Trace) (x : Merging) → IfSome o (λ all. events_of all.left_in all.right_in ≡ merge_from (sides_ahead x (drop 24 all.left_in) (drop 24 all.right_in)))
     → all_events o ≡ ahead x (took RightIn 24 (took LeftIn 24 o))
 unfolding all_events ahead took
 all_ahead-of None x h = refl
 all_ahead-of (Some all) x h = ap Some h
 
-nothing_spent : (o : Told) (p q : Option Packet) → IfSome o (λ all. IsSpent true p all.left_in × IsSpent true q all.right_in)
+nothing_spent : (o : Trace) (p q : Option Packet) → IfSome o (λ all. IsSpent true p all.left_in × IsSpent true q all.right_in)
 nothing_spent None p q = tt
 nothing_spent (Some all) p q = (tt, tt)
 

@@ -8,7 +8,7 @@ use Rattle.gate_base.specs.Side.{same_side}
 use Rattle.gate_base.specs.Events.{Event}
 use Rattle.gate_desk.specs.declared.slot.Slot.TheVariants.{LeftIn, RightIn}
 use Rattle.gate_desk.specs.declared.slot.PerSlot.{PerSlot}
-use Rattle.gate_desk.specs.Outside.{Outside, Told, Takes, HasFailed, told_at, took}
+use Rattle.gate_desk.specs.Outside.{Outside, Trace, Takes, HasFailed, told_at, took}
 use Rattle.gate_desk.proofs.Laws.{takes_none, grows_on, grows_takes, failed_since}
 use Rattle.pcap_files.specs.declared.fault.CaptureFault.{CaptureFault}
 use Rattle.pcap_files.specs.declared.form.Form.{Form}
@@ -38,13 +38,13 @@ reads_of m n old mid new t u = record {
 }
 
 -- a fact of the left capture
-pub left_told : (o : Told) (P : List ℕ → Type 0) → IfSome (told_at o LeftIn) P → IfSome o (λ all. P all.left_in)
+pub left_told : (o : Trace) (P : List ℕ → Type 0) → IfSome (told_at o LeftIn) P → IfSome o (λ all. P all.left_in)
 unfolding told_at
 left_told None P h = tt
 left_told (Some all) P h = h
 
 -- a fact of the right capture, where octets were taken from the left one
-right_told-of : (o : Told) (m : ℕ) (P : List ℕ → Type 0) → IfSome (told_at (took LeftIn m o) RightIn) P → IfSome o (λ all. P all.right_in)
+right_told-of : (o : Trace) (m : ℕ) (P : List ℕ → Type 0) → IfSome (told_at (took LeftIn m o) RightIn) P → IfSome o (λ all. P all.right_in)
 unfolding told_at took
 right_told-of None m P h = tt
 right_told-of (Some all) m P h = h
@@ -54,19 +54,19 @@ pub right_told : (m : ℕ) (old mid : Outside) (P : List ℕ → Type 0) → Tak
 right_told m old mid P t h = right_told-of old.left m P (subst (λ o. IfSome (told_at o RightIn) P) t.left h)
 
 -- two facts of both captures
-pub both : (o : Told) (P Q R : PerSlot (List ℕ) → Type 0) → IfSome o P → IfSome o Q → ((all : PerSlot (List ℕ)) → P all → Q all → R all) → IfSome o R
+pub both : (o : Trace) (P Q R : PerSlot (List ℕ) → Type 0) → IfSome o P → IfSome o Q → ((all : PerSlot (List ℕ)) → P all → Q all → R all) → IfSome o R
 both None P Q R h k f = tt
 both (Some all) P Q R h k f = f all h k
 
 -- the events still to come, from those of whole lists
-ahead_gives-of : (x x' : Merging) (m n : ℕ) (o : Told) (e : Event)
+ahead_gives-of : (x x' : Merging) (m n : ℕ) (o : Trace) (e : Event)
     → IfSome o (λ all. merge_from (sides_ahead x all.left_in all.right_in) ≡ with_event e (merge_from (sides_ahead x' (drop m all.left_in) (drop n all.right_in))))
     → ahead x o ≡ option_map (with_event e) (ahead x' (took RightIn n (took LeftIn m o)))
 unfolding ahead took
 ahead_gives-of x x' m n None e h = refl
 ahead_gives-of x x' m n (Some all) e h = ap Some h
 
-ahead_is : (x : Merging) (o : Told) (y : Merged) → IfSome o (λ all. merge_from (sides_ahead x all.left_in all.right_in) ≡ y) → IfSome (ahead x o) (λ z. z ≡ y)
+ahead_is : (x : Merging) (o : Trace) (y : Merged) → IfSome o (λ all. merge_from (sides_ahead x all.left_in all.right_in) ≡ y) → IfSome (ahead x o) (λ z. z ≡ y)
 unfolding ahead
 ahead_is x None y h = tt
 ahead_is x (Some all) y h = h
@@ -182,7 +182,7 @@ still_spent : (unread : Bool) (p : Option Packet) (octets : List ℕ) → IsSpen
 still_spent true p octets h = tt
 still_spent false p octets h = h
 
-keeps_ends-of : (o : Told) (m n : ℕ) (l l' r r' : Reading) (last next : Last)
+keeps_ends-of : (o : Trace) (m n : ℕ) (l l' r r' : Reading) (last next : Last)
     → IfSome o (λ all. IsSpent (is_unread Left last) l.packet all.left_in → IsSpent false l'.packet (drop m all.left_in))
     → IfSome o (λ all. IsSpent (is_unread Right last) r.packet all.right_in → IsSpent false r'.packet (drop n all.right_in))
     → IfSome o (λ all. IsSpent (is_unread Left last) l.packet all.left_in × IsSpent (is_unread Right last) r.packet all.right_in)
@@ -238,7 +238,7 @@ gives_at l l' r r' clock time last side p stop old mid new sound running h k nex
       work = falls l l' r r' last side p old mid new (sound.running running).holds h k next.held;
       events = ahead_gives-of (merging l r clock last stop) after is.reads.left_count is.reads.right_count old.left event
           (both old.left _ _ _ is.left is.right (λ all left right. first_event l l' r r' clock last stop side p time all.left_in all.right_in _ _ next h.form k.form left right))
-          ∙ ap (λ (o : Told). option_map (with_event event) (ahead after o)) (sym is.reads.left);
+          ∙ ap (λ (o : Trace). option_map (with_event event) (ahead after o)) (sym is.reads.left);
       ends = λ e. subst (λ o. IfSome o (λ all. IsSpent (is_unread Left (LastEvent side)) l'.packet all.left_in × IsSpent (is_unread Right (LastEvent side)) r'.packet all.right_in)) (sym is.reads.left)
           (keeps_ends-of old.left is.reads.left_count is.reads.right_count l l' r r' last (LastEvent side) is.spent_left is.spent_right e);
       given = λ start events given. given_more l l' r r' clock (max clock p.stamp) last event stop start old mid new events
@@ -267,14 +267,14 @@ both_end l r clock a b e f =
 nothing_left : (q : Option Packet) (octets : List ℕ) → q ≡ None → IsSpent false q octets → length octets ≡ 0
 nothing_left q octets e h = subst (λ x. IsSpent false x octets) e h
 
-left_end : (o : Told) (m n : ℕ) (unread : Bool) (l l' : Reading) (P : List ℕ → Type 0) → l'.packet ≡ None
+left_end : (o : Trace) (m n : ℕ) (unread : Bool) (l l' : Reading) (P : List ℕ → Type 0) → l'.packet ≡ None
     → IfSome o (λ all. IsSpent unread l.packet all.left_in → IsSpent false l'.packet (drop m all.left_in))
     → IfSome o (λ all. IsSpent unread l.packet all.left_in × P all.right_in) → IfSome (told_at (took RightIn n (took LeftIn m o)) LeftIn) (λ all. length all ≡ 0)
 unfolding told_at took
 left_end None m n unread l l' P e h k = tt
 left_end (Some all) m n unread l l' P e h k = nothing_left l'.packet (drop m all.left_in) e (h k.0)
 
-right_end : (o : Told) (m n : ℕ) (unread : Bool) (r r' : Reading) (P : List ℕ → Type 0) → r'.packet ≡ None
+right_end : (o : Trace) (m n : ℕ) (unread : Bool) (r r' : Reading) (P : List ℕ → Type 0) → r'.packet ≡ None
     → IfSome o (λ all. IsSpent unread r.packet all.right_in → IsSpent false r'.packet (drop n all.right_in))
     → IfSome o (λ all. P all.left_in × IsSpent unread r.packet all.right_in) → IfSome (told_at (took RightIn n (took LeftIn m o)) RightIn) (λ all. length all ≡ 0)
 unfolding told_at took

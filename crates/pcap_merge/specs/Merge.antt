@@ -5,7 +5,7 @@ use Rattle.gate_base.specs.declared.side.Side.TheVariants.{Left, Right}
 use Rattle.gate_base.specs.Events.{Event}
 use Rattle.gate_desk.specs.declared.slot.Slot.TheVariants.{LeftIn, RightIn}
 use Rattle.gate_desk.specs.declared.slot.PerSlot.{PerSlot}
-use Rattle.gate_desk.specs.Outside.{Outside, Told, told_at, took, HasFailed, Grows, IsAtEnd}
+use Rattle.gate_desk.specs.Outside.{Outside, Trace, told_at, took, HasFailed, Grows, IsAtEnd}
 use Rattle.pcap_files.specs.Capture.{Packet}
 use Rattle.pcap_files.specs.Reader.{Reading, IsSmall}
 use Rattle.pcap_merge.specs.declared.order.Last.{Last}
@@ -85,7 +85,7 @@ abbrev pub OnlyUnread : {old new : Outside} → Last → Reads old new → Type 
 OnlyUnread last reads = (is_unread Left last ≡ false → reads.left_count ≡ 0) × (is_unread Right last ≡ false → reads.right_count ≡ 0)
 
 -- all events of the captures, where the desk tells them
-unfoldable pub all_events : Told → Option Merged
+unfoldable pub all_events : Trace → Option Merged
 all_events told = option_map (λ (all : PerSlot (List ℕ)). events_of all.left_in all.right_in) told
 
 -- what is still to come of the two sides, by the octets that are still to be read
@@ -99,7 +99,7 @@ sides_ahead m left right = record {
 }
 
 -- the events of a merge that are still to come, where the desk tells what is still to be read
-unfoldable pub ahead : Merging → Told → Option Merged
+unfoldable pub ahead : Merging → Trace → Option Merged
 ahead m told = option_map (λ (all : PerSlot (List ℕ)). merge_from (sides_ahead m all.left_in all.right_in)) told
 
 -- a number that falls with each event
@@ -116,7 +116,7 @@ pub record IsSmallEvent (e : Event) : Type 0 where
   pub octets : length e.octets ≤ 262144
 
 -- whether both heads are good, where the desk tells the captures
-abbrev pub HeadsAre : Bool → Told → Type 0
+abbrev pub HeadsAre : Bool → Trace → Type 0
 HeadsAre good told = IfSome told (λ all. have_good_heads all.left_in all.right_in ≡ good)
 
 -- these events were given since the captures began, and of each side the records of its events, with one that is held, and nothing else were taken

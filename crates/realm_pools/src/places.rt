@@ -32,7 +32,7 @@ impl Model for Places {
 
 impl Places {
     /// The places below a size, all of which are there.
-    pub fn make(alloc: Global, size: usize) -> Result<Places, OutOfMemory>
+    pub fn new(alloc: Global, size: usize) -> Result<Places, OutOfMemory>
         requires { size ≤ 65536 }
         ensures long { IfOk result (λ places. size < 64 * length places) }
         ensures all { IfOk result (λ places. (place : ℕ) → bit_of places place ≡ one_if (nat_lt place size)) }

@@ -34,7 +34,7 @@ impl Model for Pool {
 impl Pool {
     /// The pool of the addresses from the first to the last, 1 to 65,536 of them, all free. The error is that there is too little
     /// memory.
-    pub fn make(alloc: Global, first: Addr, last: Addr) -> Result<Pool, OutOfMemory>
+    pub fn new(alloc: Global, first: Addr, last: Addr) -> Result<Pool, OutOfMemory>
         requires ordered { first.0 ≤ last.0 }
         requires small { last.0 - first.0 < 65536 }
         ensures { IfOk result (λ pool. pool ≡ addresses.unused first last) }
@@ -45,7 +45,7 @@ impl Pool {
             last: last.0,
             taken: vec![in alloc; false; size as usize]?,
             free: size,
-            places: Places::make(alloc, size as usize)?,
+            places: Places::new(alloc, size as usize)?,
         })
     }
 

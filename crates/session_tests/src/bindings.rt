@@ -44,12 +44,12 @@ fn pool_of_one(rt: HostRuntime) -> Result<(), Fail> {
         assert!(rt; false, "settings");
         return Ok(());
     };
-    let Ok(mut table) = Table::make(rt.alloc(), &settings, Seed::from_number(1)) else {
+    let Ok(mut table) = Table::new(rt.alloc(), &settings, Seed::from_number(1)) else {
         assert!(rt; false, "table");
         return Ok(());
     };
     assert!(rt; use_at(&mut table, SECOND, FIRST_HOST) == Crossing::New(ONLY_ALIAS));
-    assert!(rt; use_at(&mut table, 2 * SECOND, STATIC_ALIAS) == Crossing::Known(FIRST_HOST));
+    assert!(rt; use_at(&mut table, 2 * SECOND, STATIC_ALIAS) == Crossing::Bound(FIRST_HOST));
     assert!(rt; use_at(&mut table, 2 * SECOND, SECOND_HOST) == Crossing::Empty);
     assert!(rt; use_at(&mut table, 301 * SECOND - 1, SECOND_HOST) == Crossing::Empty);
     assert!(rt; use_at(&mut table, 301 * SECOND, SECOND_HOST) == Crossing::New(ONLY_ALIAS));

@@ -22,7 +22,7 @@ const ACK: u8 = 16;
 
 // A segment passes at a second. Answers for how many seconds the connection is then held.
 fn pass(tracker: &mut Tracker, from: Side, flags: u8, session: Option<usize>, at: u32) -> u64 {
-    let hold = tracker.hold_of(&KEY, from, flags);
+    let hold = tracker.timeout_of(&KEY, from, flags);
     if tracker.len() < 65_536 {
         tracker.note(KEY, from, flags, session, Moment(u64::from(at) * SECOND));
     }
@@ -36,7 +36,7 @@ fn ended_at(tracker: &mut Tracker, now: u64) -> Option<Option<usize>> {
 
 #[test]
 fn connections_end(rt: HostRuntime) -> Result<(), Fail> {
-    let Ok(mut tracker) = Tracker::make(rt.alloc(), Seed::from_number(1)) else {
+    let Ok(mut tracker) = Tracker::new(rt.alloc(), Seed::from_number(1)) else {
         assert!(rt; false, "tracker");
         return Ok(());
     };

@@ -121,7 +121,7 @@ fn taken<D: Dialogue>(lines: &D, octets: &[u8], count: usize) -> (usize, usize, 
     requires { HoldsAtMost (D.meaning lines.now) 511 }
 {
     let (first, second) = octets.split_at(count.min(octets.len()));
-    let mut holder = Holder::<512>::make();
+    let mut holder = Holder::<512>::new();
     let first = holder.take(lines, first);
     let second = holder.take(lines, second);
     let rest = holder.rest().len();

@@ -4,7 +4,7 @@ use gate_sessions::AnySession;
 use std::alloc::Global;
 use std::test::Fail;
 use tcp_segments::TcpView;
-use unit_plans::{Session, UnitOctets};
+use dns_plans::{Session, UnitOctets};
 
 const CLIENT: Addr = Addr(0x0a00_0005);
 
@@ -32,8 +32,8 @@ fn judged(
     segment: &TcpView<'_>,
 ) -> Result<(Option<Refusal>, usize, usize), OutOfMemory> {
     let session = AnySession::opened(alloc, port, PAIR, 1000, 1460)?;
-    let mut octets = UnitOctets::make(alloc)?;
-    let verdict = session.verdict(true, segment);
+    let mut octets = UnitOctets::new(alloc)?;
+    let verdict = session.refusal(true, segment);
     match verdict {
         None => session.put_octets(true, segment, &mut octets),
         Some(_) => {}

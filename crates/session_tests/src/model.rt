@@ -1,7 +1,7 @@
 use gate_base::Refusal;
 use std::test::Fail;
 use stream_model::{
-    Arrival, Extent, Near, number_after, number_at, place_acknowledged, place_near, refusal,
+    Arrival, Extent, Offset, number_after, number_at, place_acknowledged, place_near, refusal,
     start_at,
 };
 use tcp_segments::Flags;
@@ -46,7 +46,7 @@ const SERVER: Extent = Extent {
 fn segments_are_judged(rt: HostRuntime) -> Result<(), Fail> {
     for (initial, place, number, before, after) in PLACES {
         let near = place_near(initial, place, number);
-        assert!(rt; near == Near { before, after }, "{number}");
+        assert!(rt; near == Offset { before, after }, "{number}");
     }
     assert!(rt; number_after(4_294_967_293, 21) == 18);
     assert!(rt; number_at(1000, 0) == 1001);
@@ -60,7 +60,7 @@ fn segments_are_judged(rt: HostRuntime) -> Result<(), Fail> {
     assert!(rt; place_acknowledged(CLIENT, acknowledging) == 21);
     assert!(rt;
         start_at(SERVER, acknowledging)
-            == Near {
+            == Offset {
                 before: 0,
                 after: 0
             }

@@ -3,7 +3,7 @@ use std::test::Fail;
 
 #[test]
 fn answers_for_a_changed_unit(rt: HostRuntime) -> Result<(), Fail> {
-    let mut ledger = Ledger::make(rt.alloc());
+    let mut ledger = Ledger::new(rt.alloc());
     let mut image = vec![in rt.alloc(); 7u8; 21]?;
     image[20] = 8;
     ledger.push_plain(10);

@@ -2,15 +2,15 @@ ghost use Rattle.std.specs.Prelude.{◌≡◌, not};
 ghost use Rattle.std.specs.List.{list_all};
 ghost use Rattle.gate_base.specs.declared.side.Side.TheVariants as sides;
 ghost use Rattle.binding_table.specs.Bindings.{cross};
-ghost use Rattle.gate_world.specs.Names.{is_unbound};
+ghost use Rattle.gate_model.specs.Names.{is_unbound};
 
-use binding_table::{Crossing, Firsts, Table};
+use binding_table::{Crossing, SeenAddresses, Table};
 use expiring_table::Seed;
 use gate_base::{Addr, OutOfMemory, Refusal, Side};
 use settings_file::read_settings;
 use std::alloc::Global;
 use std::test::Fail;
-use unit_plans::{Endpoints, Entry, PlanStop, UnitPlan, plan_units};
+use dns_plans::{Endpoints, Entry, PlanStop, UnitPlan, plan_units};
 
 /// The other realm's pool has ten addresses.
 const SETTINGS: &[u8] = b"left.pool_first = \"192.168.200.1\"
@@ -65,7 +65,7 @@ fn all_bound(table: &Table, entries: &[Entry]) -> bool
 fn planned(
     alloc: Global,
     table: &Table,
-    firsts: &mut Firsts,
+    seen_addresses: &mut SeenAddresses,
     entries: &[Entry],
     octets: &[u8],
 ) -> Result<UnitPlan, PlanStop> {
@@ -73,7 +73,7 @@ fn planned(
     if !all_bound(table, &header) || !all_bound(table, entries) {
         return Err(PlanStop::OutOfMemory);
     }
-    plan_units(alloc, table, firsts, &ENDPOINTS, entries, octets)
+    plan_units(alloc, table, seen_addresses, &ENDPOINTS, entries, octets)
 }
 
 /// Whether a plan has these entries, or tells this refusal.
@@ -119,57 +119,57 @@ fn hosts(
 fn answered(
     alloc: Global,
     table: &Table,
-    firsts: &mut Firsts,
+    seen_addresses: &mut SeenAddresses,
     entries: &[Entry],
     (addresses, behind): (&[Addr], &[u8]),
     wanted: &Result<&[Entry], Refusal>,
 ) -> Result<bool, OutOfMemory> {
     let octets = answers(alloc, addresses, behind)?;
-    Ok(tells(&planned(alloc, table, firsts, entries, &octets), wanted))
+    Ok(tells(&planned(alloc, table, seen_addresses, entries, &octets), wanted))
 }
 
 /// Whether units that pass are planned.
-fn passes(alloc: Global, table: &Table, firsts: &mut Firsts) -> Result<bool, OutOfMemory> {
+fn passes(alloc: Global, table: &Table, seen_addresses: &mut SeenAddresses) -> Result<bool, OutOfMemory> {
     let kept = [(NEW.0, None)];
-    let rest = answered(alloc, table, firsts, &[], (&[], b"\0-"), &Ok(&[]))?;
-    let question = answered(alloc, table, firsts, &[], (&[], QUESTION), &Ok(&[]))?;
-    let answer = answered(alloc, table, firsts, &[], (&[NEW.0], b""), &Ok(&[NEW]))?;
+    let rest = answered(alloc, table, seen_addresses, &[], (&[], b"\0-"), &Ok(&[]))?;
+    let question = answered(alloc, table, seen_addresses, &[], (&[], QUESTION), &Ok(&[]))?;
+    let answer = answered(alloc, table, seen_addresses, &[], (&[NEW.0], b""), &Ok(&[NEW]))?;
     let twice = (&[NEW.0, NEW.0] as &[Addr], b"\0" as &[u8]);
-    let listed = answered(alloc, table, firsts, &kept, twice, &Ok(&[NEW, NEW]))?;
+    let listed = answered(alloc, table, seen_addresses, &kept, twice, &Ok(&[NEW, NEW]))?;
     Ok(rest && question && answer && listed)
 }
 
 /// Whether units are refused for what they name.
-fn refuses(alloc: Global, table: &Table, firsts: &mut Firsts) -> Result<bool, OutOfMemory> {
+fn refuses(alloc: Global, table: &Table, seen_addresses: &mut SeenAddresses) -> Result<bool, OutOfMemory> {
     let bad = Err(Refusal::BadUnit);
     let unbound = Err(Refusal::UnitUnbound);
     let empty = Err(Refusal::PoolEmpty);
-    let first = answered(alloc, table, firsts, &[], (&[UNBOUND], b"\0\0"), &bad)?;
-    let second = answered(alloc, table, firsts, &[], (&[UNBOUND], b""), &unbound)?;
-    let third = answered(alloc, table, firsts, &[], (&[NEW.0], NINE), &empty)?;
+    let first = answered(alloc, table, seen_addresses, &[], (&[UNBOUND], b"\0\0"), &bad)?;
+    let second = answered(alloc, table, seen_addresses, &[], (&[UNBOUND], b""), &unbound)?;
+    let third = answered(alloc, table, seen_addresses, &[], (&[NEW.0], NINE), &empty)?;
     Ok(first && second && third)
 }
 
 /// Whether a list has at most 256 entries.
-fn fills(alloc: Global, table: &Table, firsts: &mut Firsts) -> Result<bool, OutOfMemory> {
+fn fills(alloc: Global, table: &Table, seen_addresses: &mut SeenAddresses) -> Result<bool, OutOfMemory> {
     let fewer = hosts(alloc, 0x0a01_0000, 255, 0, 0)?;
     let most = hosts(alloc, 0x0a01_0000, 256, 0, 0)?;
     let full = Err(Refusal::RenamesFull);
-    let first = answered(alloc, table, firsts, &fewer, (&[NEW.0], b""), &Ok(&[NEW]))?;
-    let second = answered(alloc, table, firsts, &most, (&[NEW.0], b""), &full)?;
-    let third = answered(alloc, table, firsts, &most, (&[], QUESTION), &Ok(&[]))?;
+    let first = answered(alloc, table, seen_addresses, &fewer, (&[NEW.0], b""), &Ok(&[NEW]))?;
+    let second = answered(alloc, table, seen_addresses, &most, (&[NEW.0], b""), &full)?;
+    let third = answered(alloc, table, seen_addresses, &most, (&[], QUESTION), &Ok(&[]))?;
     Ok(first && second && third)
 }
 
 /// Whether nine names grow too much exactly where their images, by the list, share nothing.
-fn grows(alloc: Global, table: &Table, firsts: &mut Firsts) -> Result<bool, OutOfMemory> {
+fn grows(alloc: Global, table: &Table, seen_addresses: &mut SeenAddresses) -> Result<bool, OutOfMemory> {
     let near = hosts(alloc, 0x0a00_0001, 9, 0xac10_0902, 1)?;
     let far = hosts(alloc, 0x0a00_0001, 9, 0xc0a8_c865, 0x0100_0000)?;
-    let first = answered(alloc, table, firsts, &[], (&[], NINE), &Ok(&near))?;
+    let first = answered(alloc, table, seen_addresses, &[], (&[], NINE), &Ok(&near))?;
     let second = answered(
         alloc,
         table,
-        firsts,
+        seen_addresses,
         &far,
         (&[], NINE),
         &Err(Refusal::UnitGrows),
@@ -179,11 +179,11 @@ fn grows(alloc: Global, table: &Table, firsts: &mut Firsts) -> Result<bool, OutO
 
 /// Whether all units are planned so.
 fn plans(alloc: Global, table: &Table) -> Result<bool, OutOfMemory> {
-    let mut firsts = Firsts::make(alloc, Seed::from_number(1))?;
-    let passing = passes(alloc, table, &mut firsts)?;
-    let refused = refuses(alloc, table, &mut firsts)?;
-    let filled = fills(alloc, table, &mut firsts)?;
-    let growing = grows(alloc, table, &mut firsts)?;
+    let mut seen_addresses = SeenAddresses::new(alloc, Seed::from_number(1))?;
+    let passing = passes(alloc, table, &mut seen_addresses)?;
+    let refused = refuses(alloc, table, &mut seen_addresses)?;
+    let filled = fills(alloc, table, &mut seen_addresses)?;
+    let growing = grows(alloc, table, &mut seen_addresses)?;
     Ok(passing && refused && filled && growing)
 }
 
@@ -194,7 +194,7 @@ fn units_are_planned(rt: HostRuntime) -> Result<(), Fail> {
         assert!(rt; false, "settings");
         return Ok(());
     };
-    let Ok(table) = Table::make(alloc, &settings, Seed::from_number(1)) else {
+    let Ok(table) = Table::new(alloc, &settings, Seed::from_number(1)) else {
         assert!(rt; false, "table");
         return Ok(());
     };

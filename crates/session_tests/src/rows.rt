@@ -75,7 +75,7 @@ fn pass_by(rows: &mut Rows<u64>, rounds: u64) -> u64
 
 #[test]
 fn rows_come_and_go(rt: HostRuntime) -> Result<(), Fail> {
-    let Ok(mut rows) = Rows::make(rt.alloc(), MOST, Seed::from_number(1)) else {
+    let Ok(mut rows) = Rows::new(rt.alloc(), MOST, Seed::from_number(1)) else {
         assert!(rt; false, "rows");
         return Ok(());
     };

@@ -214,7 +214,7 @@ fn take<C: Dialogue, S: Dialogue>(
         && let Ok(tcp) = TcpView::of(ip.payload(), ip.source(), ip.destination())
     {
         repeated = session.repeated(from_client, &tcp);
-        match session.verdict(from_client, &tcp) {
+        match session.refusal(from_client, &tcp) {
             Some(found) => refusal = Some(found),
             None => sent = Some(session.step(from_client, &tcp)?),
         }
@@ -313,7 +313,7 @@ fn run_rows<C: Dialogue, S: Dialogue>(
 }
 
 fn begin_lines(alloc: Global) -> Lines {
-    WholeStreams::make(
+    WholeStreams::new(
         alloc,
         ClientLines { pair: PAIR },
         ServerLines { pair: PAIR },
@@ -326,10 +326,10 @@ fn begin_names(alloc: Global) -> Result<Names, Fail>
     ensures client { IfOk result (λ session. session.client ≡ unheard (Some 1000) 1460) }
     ensures server { IfOk result (λ session. session.server ≡ unheard None 536) }
 {
-    Ok(WholeStreams::make(
+    Ok(WholeStreams::new(
         alloc,
-        DnsUnits::make(alloc)?,
-        DnsUnits::make(alloc)?,
+        DnsUnits::new(alloc)?,
+        DnsUnits::new(alloc)?,
         1000,
         1460,
     ))

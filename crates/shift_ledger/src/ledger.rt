@@ -51,7 +51,7 @@ impl Model for Ledger {
 
 impl Ledger {
     /// A ledger of which nothing was pushed. It takes no memory.
-    pub fn make(alloc: Global) -> Ledger
+    pub fn new(alloc: Global) -> Ledger
         ensures { StandsFor result [] 0 }
     {
         Ledger {

@@ -33,7 +33,7 @@ impl Model for Recent {
 
 impl Recent {
     /// No octet, with the room for all that are ever kept.
-    pub fn make(alloc: Global) -> Result<Recent, OutOfMemory>
+    pub fn new(alloc: Global) -> Result<Recent, OutOfMemory>
         ensures { IfOk result (λ r. r ≡ []) }
     {
         Ok(Recent {

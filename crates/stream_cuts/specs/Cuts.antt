@@ -5,7 +5,7 @@ use Rattle.tcp_segments.specs.declared.flags.Flags.{Flags}
 use Rattle.stream_model.specs.Numbers.{number_after, known}
 use Rattle.stream_model.specs.Session.{Sender, Session, Segment, Outgoing, own, other, due_in, start_of}
 use Rattle.stream_model.specs.Steps.{Piece, pieces, limit_of, taken, acknowledged, sends_end, low, high, bare_offset, acknowledgement_to}
-use Rattle.stream_model.specs.declared.numbers.Near.{Near}
+use Rattle.stream_model.specs.declared.numbers.Offset.{Offset}
 
 -- ## What goes out
 
@@ -42,7 +42,7 @@ data_sent sender acknowledgement segment limit offset octets fin push = record {
 }
 
 -- any other segment: octets of the image where some go out, and else an empty segment, with the end where it goes out
-abbrev pub other_sent : Sender → Sender → Segment → Near → ℕ → ℕ → Sent
+abbrev pub other_sent : Sender → Sender → Segment → Offset → ℕ → ℕ → Sent
 other_sent sender new segment start acknowledgement limit =
     let first = low sender new start in
     let past = high sender new segment start in

@@ -7,9 +7,9 @@ use Rattle.gate_base.specs.Tests.{first_that_holds}
 use Rattle.gate_base.specs.declared.refusal.Refusal.{Refusal}
 use Rattle.tcp_segments.specs.Flags.{one_if}
 use Rattle.stream_model.specs.Numbers.{known, number_at, near_by}
-use Rattle.stream_model.specs.declared.numbers.Near.{Near}
+use Rattle.stream_model.specs.declared.numbers.Offset.{Offset}
 use Rattle.stream_model.specs.Session.{Sender, Session, Segment, own, other, recent, extent, arrival, start_of, repeats_unlike}
-use Rattle.stream_model.specs.Verdict.{is_data, gap, backlog, tests, session_verdict, refusal_of}
+use Rattle.stream_model.specs.Refusals.{is_data, gap, backlog, tests, segment_refusal, refusal_of}
 use Rattle.stream_model.specs.Progress.{acknowledged_of, BeginsBy}
 use Rattle.stream_model.specs.Keeping.{KeepsTo}
 use Rattle.stream_model.proofs.PassLemmas.{IsData}
@@ -26,7 +26,7 @@ none_first (t ∷ ts) h = ap (λ (b : Bool). cond b (Some t.1) (first_that_holds
 near_one : (ahead : ℕ) → ((near_by ahead).before ≡ 0) ⊎ ((near_by ahead).after ≡ 0)
 near_one ahead = by_test (nat_lt ahead (2 ^ 31))
   where
-    IsOne : Near → Type 0
+    IsOne : Offset → Type 0
     IsOne n = (n.before ≡ 0) ⊎ (n.after ≡ 0)
 
     by_test : (b : Bool) → IsOne (cond b (record { before = 0; after = ahead }) (record { before = 2 ^ 32 - ahead; after = 0 }))
@@ -105,5 +105,5 @@ keeping_passes f a b g k =
       ),
     )
 
-pub session_keeping : (f : Bool) (s : Session) (g : Segment) → KeepsTo (own f s) (other f s) g → session_verdict f s g ≡ None
+pub session_keeping : (f : Bool) (s : Session) (g : Segment) → KeepsTo (own f s) (other f s) g → segment_refusal f s g ≡ None
 session_keeping f s g k = keeping_passes f (own f s) (other f s) g k

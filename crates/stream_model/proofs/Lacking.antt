@@ -12,7 +12,7 @@ use Rattle.dialogue.proofs.Laws.{fore-back, length-due-le, length-spans}
 use Rattle.tcp_segments.specs.Flags.{one_if}
 use Rattle.stream_model.specs.Numbers.{number_after, known}
 use Rattle.stream_model.specs.Session.{Sender, Session, Segment, Outgoing, own, other, due_in, extent, arrival, start_of}
-use Rattle.stream_model.specs.Verdict.{is_data, past_end_at, session_verdict}
+use Rattle.stream_model.specs.Refusals.{is_data, past_end_at, segment_refusal}
 use Rattle.stream_model.specs.Steps.{Piece, empty_piece, limit_of, taken, acknowledged, opened, own_after, other_after, session_next, out, session_out, grows, sends_end, low, high, bare_offset, pieces_for, acknowledgement_to, outgoing, data_out}
 use Rattle.stream_model.specs.History.{OneShows, Facts}
 use Rattle.stream_model.specs.Progress.{acknowledged_of, BeginsBy, EndsBy, Reaches, OneEnds, AsksAgain, EachCarries, Brings}
@@ -323,7 +323,7 @@ brings_by f a b g law facts p e =
     subst (λ (z : Sender). Brings a z g (out a b g)) (sym (own_is a g d))
     (subst (λ (os : List Outgoing). Brings a (taken a g) g os) (sym (out_is a b g d)) (brings f a b g law p d facts.acked))
 
-pub session_brings : (from : Bool) (s : Session) (g : Segment) → IsLawful (own from s).meaning → Facts (own from s) → session_verdict from s g ≡ None → is_data (arrival g) ≡ true → Brings (own from s) (own from (session_next from s g)) g (session_out from s g)
+pub session_brings : (from : Bool) (s : Session) (g : Segment) → IsLawful (own from s).meaning → Facts (own from s) → segment_refusal from s g ≡ None → is_data (arrival g) ≡ true → Brings (own from s) (own from (session_next from s g)) g (session_out from s g)
 session_brings true s g law facts v e = brings_by true s.client s.server g law facts (passes true s.client s.server g v) e
 session_brings false s g law facts v e = brings_by false s.server s.client g law facts (passes false s.server s.client g v) e
 

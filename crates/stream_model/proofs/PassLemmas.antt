@@ -7,10 +7,10 @@ use Rattle.tcp_segments.specs.Flags.{one_if}
 use Rattle.stream_model.specs.Numbers.{is_number}
 use Rattle.stream_model.specs.Session.{Sender, Segment, extent, arrival, acknowledged_at, place_acknowledged, start_of, repeats_unlike}
 use Rattle.gate_base.specs.Tests.{first_that_holds}
-use Rattle.stream_model.specs.Verdict.{is_data, no_session, syn_data, opens, syn_in_session, no_ack, gap, past_end_at, past_end, ack_ahead, stream_limit, backlog, tests}
-use Rattle.stream_model.specs.declared.numbers.Near.{Near}
-use Rattle.stream_model.specs.declared.verdict.Arrival.{Arrival}
-use Rattle.stream_model.specs.declared.verdict.Extent.{Extent}
+use Rattle.stream_model.specs.Refusals.{is_data, no_session, syn_data, opens, syn_in_session, no_ack, gap, past_end_at, past_end, ack_ahead, stream_limit, backlog, tests}
+use Rattle.stream_model.specs.declared.numbers.Offset.{Offset}
+use Rattle.stream_model.specs.declared.refusals.Arrival.{Arrival}
+use Rattle.stream_model.specs.declared.refusals.Extent.{Extent}
 use Rattle.gate_base.specs.declared.refusal.Refusal.{Refusal}
 
 pub second_false : (x y : Bool) → (x && y) ≡ false → x ≡ true → y ≡ false
@@ -120,7 +120,7 @@ nothing_past f a b g p d ended =
     let one : (a.ended && nat_lt 0 (length g.octets) && nat_lt (start_of a g).before ((start_of a g).after + length g.octets)) ≡ false = (or_parts _ _ (or_parts _ _ x).0).0 in
     at_near (start_of a g) g.octets (rw ended at one)
   where
-    at_near : (n : Near) (os : List ℕ) → (nat_lt 0 (length os) && nat_lt n.before (n.after + length os)) ≡ false → drop n.before os ≡ []
+    at_near : (n : Offset) (os : List ℕ) → (nat_lt 0 (length os) && nat_lt n.before (n.after + length os)) ≡ false → drop n.before os ≡ []
     at_near n os e =
         elim (and_cases _ _ e) [
           | inl z ↦ drop_all n.before os (let l : length os ≤ 0 = ltb-false _ _ z in omega arith)

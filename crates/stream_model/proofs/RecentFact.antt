@@ -8,7 +8,7 @@ use Rattle.dialogue.specs.Stream.{image, due, back}
 use Rattle.dialogue.proofs.Laws.{back-mono, length-due-le}
 use Rattle.tcp_segments.specs.Flags.{one_if}
 use Rattle.stream_model.specs.Session.{Sender, Session, Segment, own, recent, due_in, extent, arrival, start_of, place_acknowledged}
-use Rattle.stream_model.specs.Verdict.{is_data, session_verdict}
+use Rattle.stream_model.specs.Refusals.{is_data, segment_refusal}
 use Rattle.stream_model.specs.Steps.{taken, acknowledged, other_after, session_next}
 use Rattle.stream_model.specs.History.{Event, Facts, next, after, AllPass}
 use Rattle.stream_model.proofs.PassLemmas.{Passes, IsData, passes, data_is, second_false, ack_within}
@@ -62,7 +62,7 @@ other_few f a b g law bound p few =
       | inr c ↦ subst (λ (z : Sender). Few z) (sym (cond-false (g.flags.syn || g.flags.reset) b (acknowledged b g) c)) (ack_few f a b g law bound p few (or_parts g.flags.syn g.flags.reset c))
     ]
 
-few_step : (client from : Bool) (s : Session) (g : Segment) (ps ns : List ℕ) → session_verdict from s g ≡ None → Acked (own client s) ps ns → Few (own client s) → Few (own client (session_next from s g))
+few_step : (client from : Bool) (s : Session) (g : Segment) (ps ns : List ℕ) → segment_refusal from s g ≡ None → Acked (own client s) ps ns → Few (own client s) → Few (own client (session_next from s g))
 few_step true true s g ps ns v h few = own_keeps Few true s.client s.server g (passes true s.client s.server g v) few few (own_few true s.client s.server g h.lawful h.bound (passes true s.client s.server g v) few)
 few_step false false s g ps ns v h few = own_keeps Few false s.server s.client g (passes false s.server s.client g v) few few (own_few false s.server s.client g h.lawful h.bound (passes false s.server s.client g v) few)
 few_step true false s g ps ns v h few = other_few false s.server s.client g h.lawful h.bound (passes false s.server s.client g v) few

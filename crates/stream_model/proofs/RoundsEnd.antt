@@ -8,7 +8,7 @@ use Rattle.dialogue.proofs.Laws.{back-mono, length-due-le}
 use Rattle.tcp_segments.specs.Flags.{one_if}
 use Rattle.stream_model.specs.Numbers.{known}
 use Rattle.stream_model.specs.Session.{Sender, Session, Segment, Outgoing, own, due_in, extent, arrival, place_acknowledged, repeats_unlike}
-use Rattle.stream_model.specs.Verdict.{is_data}
+use Rattle.stream_model.specs.Refusals.{is_data}
 use Rattle.stream_model.specs.Steps.{taken, acknowledged, own_after, other_after, data_out}
 use Rattle.stream_model.specs.History.{OneShows}
 use Rattle.stream_model.specs.Progress.{acknowledged_of, BeginsBy, Covers, OneEnds}

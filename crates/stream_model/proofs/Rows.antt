@@ -10,7 +10,7 @@ use Rattle.ftp_lines.specs.Renaming.{spelled}
 use Rattle.stream_model.specs.Numbers.{place_near}
 use Rattle.stream_model.specs.Session.{Outgoing}
 use Rattle.tcp_segments.specs.declared.flags.Flags.{Flags}
-use Rattle.stream_model.specs.Verdict.{refusal_of}
+use Rattle.stream_model.specs.Refusals.{refusal_of}
 use Rattle.stream_model.specs.Steps.{session_ends, session_inner, session_open}
 use Rattle.stream_model.proofs.RowWords.{line, ack, ack_fin, ack_push, ack_syn, ack_reset, segment, client_with, server_with, client, server, goes_with, Refused, Goes, goes, Row, found, wanted, run, begun, answer, shake, shaken}
 

@@ -2,7 +2,7 @@
 use Rattle.std.specs.Prelude.{◌≡◌, ◌≤◌, ◌<◌, ◌⊎◌, ℕ, Bool, true, not, List, [], ◌∷◌, length, None}
 use Rattle.stream_model.specs.Numbers.{known}
 use Rattle.stream_model.specs.Session.{Sender, Session, Segment, Outgoing, own, due_in, extent, arrival, place_acknowledged}
-use Rattle.stream_model.specs.Verdict.{is_data, session_verdict}
+use Rattle.stream_model.specs.Refusals.{is_data, segment_refusal}
 use Rattle.stream_model.specs.Steps.{session_next, session_out}
 use Rattle.stream_model.specs.History.{OneShows}
 use Rattle.stream_model.specs.Progress.{acknowledged_of, BeginsBy, Covers, OneEnds}
@@ -41,13 +41,13 @@ pub record LacksEnd (a new : Sender) (g : Segment) (knows : ℕ) : Type 0 where
 -- of the stream of the client (true), or of the server, of whose octets it knows so many to be acknowledged, and of whose image the other host has so many octets:
 pub record IsRound (client : Bool) (s : Session) (knows had : ℕ) (x : Round) : Type 0 where
   -- while not all that is due is acknowledged, or the end isn't, a segment passes that has the first octet that isn't known to be acknowledged, or begins there and has the end;
-  pub passes : session_verdict client s x.repeat ≡ None
+  pub passes : segment_refusal client s x.repeat ≡ None
   pub kind : is_data (arrival x.repeat) ≡ true
   pub lacks : LacksOctets (own client s) (own client (after_repeat client s x)) x.repeat knows ⊎ LacksEnd (own client s) (own client (after_repeat client s x)) x.repeat knows
   -- the other host hears what goes out for it,
   pub hears : Hears (known (own client s).initial) (due_in (own client (after_repeat client s x))) had (session_out client s x.repeat) x.has
   -- and acknowledges all that it has by a segment that passes
-  pub answered : session_verdict (not client) (after_repeat client s x) x.answer ≡ None
+  pub answered : segment_refusal (not client) (after_repeat client s x) x.answer ≡ None
   pub answers : is_data (arrival x.answer) ≡ true
   pub all : place_acknowledged (extent (own client (after_repeat client s x))) (arrival x.answer) ≡ x.has
 

@@ -15,7 +15,7 @@ use Rattle.gate_base.specs.declared.event.Moment.{Moment}
 use Rattle.gate_base.specs.declared.side.Side.{Side}
 use Rattle.gate_base.specs.declared.side.Side.TheVariants.{Left, Right}
 use Rattle.tcp_segments.specs.Flags.{flags_of}
-use Rattle.tcp_tracker.specs.Connections.{is_of, place_of, connection_of, AreNamedOnce, changed, after, held, with_flags, unused, is_reset, starts_anew, hold_or_short, kept, kept_or_begun}
+use Rattle.tcp_tracker.specs.Connections.{is_of, place_of, connection_of, AreNamedOnce, changed, after, held, with_flags, unused, is_reset, starts_anew, timeout_or_short, kept, kept_or_begun}
 use Rattle.tcp_tracker.specs.Filed.{IsKey, IsFiled, number_of, filed}
 
 -- ## Names and numbers
@@ -280,22 +280,22 @@ name_after key from flags session now None is = name_begun key from now (flags_o
 name_after key from flags session now (Some c) is = name_kept key from now (is_reset flags c) (starts_anew flags c) c flags is
 
 -- a connection is held as long, whenever it was noted, and whether or not it has a session
-held_hold : (from : Side) (flags : ℕ) (now : Moment) (next : Option (Connection ℕ)) → hold_or_short (option_map (λ c. held now (with_flags from flags c)) next) ≡ hold_or_short (option_map (with_flags from flags) next)
-held_hold from flags now None = refl
-held_hold Left flags now (Some c) = refl
-held_hold Right flags now (Some c) = refl
+held_timeout : (from : Side) (flags : ℕ) (now : Moment) (next : Option (Connection ℕ)) → timeout_or_short (option_map (λ c. held now (with_flags from flags c)) next) ≡ timeout_or_short (option_map (with_flags from flags) next)
+held_timeout from flags now None = refl
+held_timeout Left flags now (Some c) = refl
+held_timeout Right flags now (Some c) = refl
 
 abbrev begun : ConnKey → Option ℕ → Bool → Option (Connection ℕ)
 begun key session reset = if reset then None else Some (unused key session)
 
-begun_hold : (key : ConnKey) (from : Side) (flags : ℕ) (session : Option ℕ) (reset : Bool) → hold_or_short (option_map (with_flags from flags) (begun key session reset)) ≡ hold_or_short (option_map (with_flags from flags) (begun key None reset))
-begun_hold key from flags session true = refl
-begun_hold key Left flags session false = refl
-begun_hold key Right flags session false = refl
+begun_timeout : (key : ConnKey) (from : Side) (flags : ℕ) (session : Option ℕ) (reset : Bool) → timeout_or_short (option_map (with_flags from flags) (begun key session reset)) ≡ timeout_or_short (option_map (with_flags from flags) (begun key None reset))
+begun_timeout key from flags session true = refl
+begun_timeout key Left flags session false = refl
+begun_timeout key Right flags session false = refl
 
-pub hold_noted : (key : ConnKey) (from : Side) (flags : ℕ) (session : Option ℕ) (now : Moment) (found : Option (Connection ℕ)) → hold_or_short (after key from flags session now found) ≡ hold_or_short (option_map (with_flags from flags) (kept_or_begun key flags None found))
-hold_noted key from flags session now None = held_hold from flags now (kept_or_begun key flags session None) ∙ begun_hold key from flags session (flags_of flags).reset
-hold_noted key from flags session now (Some c) = held_hold from flags now (kept flags c)
+pub timeout_noted : (key : ConnKey) (from : Side) (flags : ℕ) (session : Option ℕ) (now : Moment) (found : Option (Connection ℕ)) → timeout_or_short (after key from flags session now found) ≡ timeout_or_short (option_map (with_flags from flags) (kept_or_begun key flags None found))
+timeout_noted key from flags session now None = held_timeout from flags now (kept_or_begun key flags session None) ∙ begun_timeout key from flags session (flags_of flags).reset
+timeout_noted key from flags session now (Some c) = held_timeout from flags now (kept flags c)
 
 pub named_once : (rows : List (Row (Connection ℕ))) → All IsFiled rows → AreDistinct rows → AreNamedOnce (connections_in rows)
 named_once [] all distinct = tt

@@ -112,7 +112,7 @@ fn joins(joiner: &mut Joiner, nanoseconds: u64, octets: &[u8], datagram: &[u8]) 
 
 #[test]
 fn two_fragments(rt: HostRuntime) -> Result<(), Fail> {
-    let Ok(mut joiner) = Joiner::make(rt.alloc()) else {
+    let Ok(mut joiner) = Joiner::new(rt.alloc()) else {
         assert!(rt; false, "joiner");
         return Ok(());
     };
@@ -135,7 +135,7 @@ fn two_fragments(rt: HostRuntime) -> Result<(), Fail> {
 
 #[test]
 fn orders_of_four(rt: HostRuntime) -> Result<(), Fail> {
-    let Ok(mut joiner) = Joiner::make(rt.alloc()) else {
+    let Ok(mut joiner) = Joiner::new(rt.alloc()) else {
         assert!(rt; false, "joiner");
         return Ok(());
     };
@@ -151,7 +151,7 @@ fn orders_of_four(rt: HostRuntime) -> Result<(), Fail> {
 
 #[test]
 fn as_many_as_may_be(rt: HostRuntime) -> Result<(), Fail> {
-    let Ok(mut joiner) = Joiner::make(rt.alloc()) else {
+    let Ok(mut joiner) = Joiner::new(rt.alloc()) else {
         assert!(rt; false, "joiner");
         return Ok(());
     };
@@ -174,7 +174,7 @@ fn filled(alloc: Global, count: usize) -> Result<Vec<u8>, AllocError> {
 
 #[test]
 fn longest_datagram(rt: HostRuntime) -> Result<(), AllocError> {
-    let Ok(mut joiner) = Joiner::make(rt.alloc()) else {
+    let Ok(mut joiner) = Joiner::new(rt.alloc()) else {
         assert!(rt; false, "joiner");
         return Ok(());
     };

@@ -1,7 +1,7 @@
 // A worked case: files that a run is given, and files that say what it must answer and write.
 use gate_command::realm_gate;
 use gate_desk::{Desk, Slot};
-use gate_phases::Status;
+use run_setup::Status;
 use memory_desks::{CountedDesk, MemoryDesk};
 use std::alloc::{AllocError, Global};
 use std::{fs, io};
@@ -56,7 +56,7 @@ pub(crate) fn desk_over(
     right: Vec<u8>,
 ) -> io::Result<MemoryDesk> {
     let settings = read_part(rt, name, "settings.toml")?;
-    match MemoryDesk::make(rt.alloc(), settings, left, right) {
+    match MemoryDesk::new(rt.alloc(), settings, left, right) {
         Ok(desk) => Ok(desk),
         Err(_) => Err(io::Error::from(AllocError)),
     }
@@ -123,6 +123,6 @@ pub(crate) fn run_failing(rt: &HostRuntime, name: &str, call: u64) -> io::Result
     run_in_front(
         rt,
         name,
-        &mut CountedDesk::make(desk_of(rt, name)?, failing),
+        &mut CountedDesk::new(desk_of(rt, name)?, failing),
     )
 }

@@ -1,7 +1,7 @@
 // Checks beside the worked cases.
 use crate::case::{run_failing, run_gate, words_of};
 use gate_desk::{Desk, Slot};
-use gate_phases::Status;
+use run_setup::Status;
 use memory_desks::MemoryDesk;
 use std::alloc::{AllocError, Global};
 use std::io;
@@ -41,7 +41,7 @@ pub(crate) fn failing_calls(rt: &HostRuntime, name: &str) -> io::Result<Option<u
 
 // A desk with nothing to be read.
 fn empty_desk(alloc: Global) -> Result<MemoryDesk, AllocError> {
-    match MemoryDesk::make(alloc, Vec::new(alloc), Vec::new(alloc), Vec::new(alloc)) {
+    match MemoryDesk::new(alloc, Vec::new(alloc), Vec::new(alloc), Vec::new(alloc)) {
         Ok(desk) => Ok(desk),
         Err(_) => Err(AllocError),
     }

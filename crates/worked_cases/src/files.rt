@@ -16,7 +16,7 @@ const WRITTEN: &str = "written.";
 
 fn exit_status(rt: &HostRuntime, words: &str) -> io::Result<u8> {
     let words = words_of(rt.alloc(), words)?;
-    Ok(carry_out(rt.alloc(), &words, &mut FileDesk::make(*rt, 0)))
+    Ok(carry_out(rt.alloc(), &words, &mut FileDesk::new(*rt, 0)))
 }
 
 // Whether a file that was written is that of the case.

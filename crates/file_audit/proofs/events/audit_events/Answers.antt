@@ -3,13 +3,13 @@ use Rattle.frag_join.specs.Arrivals.{arrival}
 use Rattle.frag_join.specs.Joining.{by_known}
 use Rattle.gate_base.specs.Events.{event_of}
 use Rattle.gate_desk.proofs.Laws.{grows_on, grows_not}
-use Rattle.gate_desk.specs.Outside.{Told, told_at}
+use Rattle.gate_desk.specs.Outside.{Trace, told_at}
 use Rattle.gate_desk.specs.declared.slot.Slot.TheVariants.{LeftIn, RightIn}
 use Rattle.gate_report.specs.Counts.{nothing_counted}
 use Rattle.gate_report.specs.declared.totals.Totals.{Totals}
 use Rattle.gate_settings.specs.declared.settings.Settings.{Settings}
-use Rattle.gate_world.specs.Sessions.{WholeSession}
-use Rattle.gate_world.specs.World.{World}
+use Rattle.gate_model.specs.Sessions.{WholeSession}
+use Rattle.gate_model.specs.World.{World}
 use Rattle.pcap_merge.specs.Merge.{Advances}
 use Rattle.lawful_files.specs.Files.{State}
 use Rattle.file_audit.specs.Events.{Expected, Finds, FindsLast, state_of, stop_of}
@@ -188,7 +188,7 @@ returns-in-Ok-take_rest-clause-left_end g c =
     let i = c.events.invariant in
     let finished = subst (λ (b : Bool). Advances (Ok b) c.events.merge c.advance.new.self now mid) c.if-not-more.true (c.in-Ok.ensures.first i.stop) in
     let reads = c.take_rest.ensures.reads in
-    let same = ap (λ (t : Told). told_at t LeftIn) reads.left ∙ left_kept reads.left_count reads.right_count reads.report_count mid.left in
+    let same = ap (λ (t : Trace). told_at t LeftIn) reads.left ∙ left_kept reads.left_count reads.right_count reads.report_count mid.left in
     subst (λ (o : Option (List ℕ)). IfSome o (λ all. length all ≡ 0)) (sym same) (finished.left i.ends)
 
 pub returns-in-Ok-take_rest-clause-right_end : goal.returns-in-Ok-take_rest-clause-right_end
@@ -198,7 +198,7 @@ returns-in-Ok-take_rest-clause-right_end g c =
     let i = c.events.invariant in
     let finished = subst (λ (b : Bool). Advances (Ok b) c.events.merge c.advance.new.self now mid) c.if-not-more.true (c.in-Ok.ensures.first i.stop) in
     let reads = c.take_rest.ensures.reads in
-    let same = ap (λ (t : Told). told_at t RightIn) reads.left ∙ right_kept reads.left_count reads.right_count reads.report_count mid.left in
+    let same = ap (λ (t : Trace). told_at t RightIn) reads.left ∙ right_kept reads.left_count reads.right_count reads.report_count mid.left in
     subst (λ (o : Option (List ℕ)). IfSome o (λ all. length all ≡ 0)) (sym same) (finished.right i.ends)
 
 pub returns-in-Err-clause-taken : goal.returns-in-Err-clause-taken

@@ -1,7 +1,7 @@
 use Rattle.std.proofs.Common.{refl}
 use Rattle.gate_desk.proofs.Laws.{can_read_started, can_read_kept}
 use Rattle.gate_desk.specs.declared.slot.Slot.TheVariants.{LeftIn, RightIn}
-use Rattle.gate_desk.specs.declared.slot.Way.TheVariants.{Read}
+use Rattle.gate_desk.specs.declared.slot.Access.TheVariants.{Read}
 use Rattle.file_tests.proofs.merging.start.Goals as goal
 
 pub returns-clause-left : goal.returns-clause-left

@@ -1,8 +1,8 @@
 use Rattle.std.proofs.Common.{◌≡◌, refl, inl, inr, subst}
 use Rattle.gate_desk.specs.Outside.{HasFailed}
 use Rattle.gate_desk.specs.Untold.{Files, told_by, all_dropped}
-use Rattle.gate_phases.specs.Telling.{TellsLine}
-use Rattle.gate_phases.specs.declared.status.Status.TheVariants.{WriteFault}
+use Rattle.run_setup.specs.Telling.{TellsLine}
+use Rattle.run_setup.specs.declared.status.Status.TheVariants.{WriteFault}
 use Rattle.gate_command.proofs.Codes.{first_refused}
 use Rattle.gate_command.proofs.program.finish.Goals as goal
 

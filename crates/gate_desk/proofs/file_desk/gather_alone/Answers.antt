@@ -2,18 +2,18 @@ use Rattle.std.proofs.Common.{◌++◌, ap, ◌∙◌}
 use Rattle.gate_desk.proofs.Gathering.{gathered_at, waits_alone}
 use Rattle.gate_desk.proofs.Laws.{mapped-same}
 use Rattle.gate_desk.proofs.Taken.{gathered_behind}
-use Rattle.gate_desk.specs.Gathering.{ahead, got, got_in, unread, waiting_in, way_of}
+use Rattle.gate_desk.specs.Gathering.{ahead, got, got_in, unread, waiting_in, access_of}
 use Rattle.gate_desk.specs.Slots.{put}
 use Rattle.gate_desk.proofs.file_desk.gather_alone.Goals as goal
 
-pub returns-in-Gathered-clause-ways : goal.returns-in-Gathered-clause-ways
-returns-in-Gathered-clause-ways g c = mapped-same way_of c.hand_out.new.places c.args.slot c.gather.new.self (c.gather.ensures.way ∙ ap way_of c.at_mut.ensures.value) ∙ c.hand_out.ensures.ways
+pub returns-in-Gathered-clause-accesses : goal.returns-in-Gathered-clause-accesses
+returns-in-Gathered-clause-accesses g c = mapped-same access_of c.hand_out.new.places c.args.slot c.gather.new.self (c.gather.ensures.access ∙ ap access_of c.at_mut.ensures.value) ∙ c.hand_out.ensures.accesses
 
 pub returns-in-Gathered-clause-ahead : goal.returns-in-Gathered-clause-ahead
 returns-in-Gathered-clause-ahead g c = mapped-same ahead c.hand_out.new.places c.args.slot c.gather.new.self (c.gather.ensures.ahead ∙ ap ahead c.at_mut.ensures.value) ∙ c.hand_out.ensures.ahead
 
 pub returns-in_default : goal.returns-in_default
-returns-in_default g c = record { ways = mapped-same way_of c.hand_out.new.places c.args.slot c.gather.new.self (c.gather.ensures.way ∙ ap way_of c.at_mut.ensures.value) ∙ c.hand_out.ensures.ways; ahead = mapped-same ahead c.hand_out.new.places c.args.slot c.gather.new.self (c.gather.ensures.ahead ∙ ap ahead c.at_mut.ensures.value) ∙ c.hand_out.ensures.ahead; unread = mapped-same (unread g.R.File.Read.remaining) c.hand_out.new.places c.args.slot c.gather.new.self (c.gather.ensures.unread ∙ ap (unread g.R.File.Read.remaining) c.at_mut.ensures.value) ∙ c.hand_out.ensures.unread; waits = tt; takes = tt; still = λ waits. rw c.in_ok-hand_out.ensures.none tt }
+returns-in_default g c = record { accesses = mapped-same access_of c.hand_out.new.places c.args.slot c.gather.new.self (c.gather.ensures.access ∙ ap access_of c.at_mut.ensures.value) ∙ c.hand_out.ensures.accesses; ahead = mapped-same ahead c.hand_out.new.places c.args.slot c.gather.new.self (c.gather.ensures.ahead ∙ ap ahead c.at_mut.ensures.value) ∙ c.hand_out.ensures.ahead; unread = mapped-same (unread g.R.File.Read.remaining) c.hand_out.new.places c.args.slot c.gather.new.self (c.gather.ensures.unread ∙ ap (unread g.R.File.Read.remaining) c.at_mut.ensures.value) ∙ c.hand_out.ensures.unread; waits = tt; takes = tt; still = λ waits. rw c.in_ok-hand_out.ensures.none tt }
 
 pub returns-in-Gathered-clause-waits : goal.returns-in-Gathered-clause-waits
 returns-in-Gathered-clause-waits g c =

@@ -1,7 +1,7 @@
 use Rattle.std.proofs.Common.{◌≡◌, ℕ, ◌≤◌, List, [], Option, Result, Ok, Err, OnOk, length, ap, sym, subst, ◌∙◌, arith}
 use Rattle.std.proofs.lemmas.Result.{IfOk-weaker, err_from_is_err_and}
 use Rattle.gate_desk.specs.declared.slot.PerSlot.{PerSlot}
-use Rattle.gate_desk.specs.Gathering.{ahead, ahead_in, got, got_in, unread, unread_in, waiting, waiting_in, way_of, TakesAhead, TakesNothing}
+use Rattle.gate_desk.specs.Gathering.{ahead, ahead_in, got, got_in, unread, unread_in, waiting, waiting_in, access_of, TakesAhead, TakesNothing}
 use Rattle.gate_desk.specs.Slots.{at, put}
 use Rattle.gate_desk.proofs.Laws.{at-mapped, mapped-put, mapped-put_only, mapped-same, put-put}
 use Rattle.std.specs.Io.KnownBytes.{ReadConsumes}
@@ -13,14 +13,14 @@ always : {A E : Type 0} {P : Type 0} → P → (r : Result A E) → OnOk r P
 always p (Ok x) = p
 always p (Err e) = tt
 
-pub returns-in_err-hand_out-in-None-clause-ways : goal.returns-in_err-hand_out-in-None-clause-ways
-returns-in_err-hand_out-in-None-clause-ways g c =
-    c.hand_out.ensures.ways ∙ mapped-same way_of c.args.places.now c.args.slot c.take_ahead.new.self (c.take_ahead.ensures.way ∙ ap way_of c.at_mut.ensures.value)
+pub returns-in_err-hand_out-in-None-clause-accesses : goal.returns-in_err-hand_out-in-None-clause-accesses
+returns-in_err-hand_out-in-None-clause-accesses g c =
+    c.hand_out.ensures.accesses ∙ mapped-same access_of c.args.places.now c.args.slot c.take_ahead.new.self (c.take_ahead.ensures.access ∙ ap access_of c.at_mut.ensures.value)
 
-pub returns-in_ok-hand_out-in-None-clause-ways : goal.returns-in_ok-hand_out-in-None-clause-ways
-returns-in_ok-hand_out-in-None-clause-ways g c =
-    mapped-same way_of c.hand_out.new.places c.args.slot c.read.new.self (c.read.ensures.way ∙ ap way_of c.at_mut-in-None.ensures.value)
-    ∙ c.hand_out.ensures.ways ∙ mapped-same way_of c.args.places.now c.args.slot c.take_ahead.new.self (c.take_ahead.ensures.way ∙ ap way_of c.at_mut.ensures.value)
+pub returns-in_ok-hand_out-in-None-clause-accesses : goal.returns-in_ok-hand_out-in-None-clause-accesses
+returns-in_ok-hand_out-in-None-clause-accesses g c =
+    mapped-same access_of c.hand_out.new.places c.args.slot c.read.new.self (c.read.ensures.access ∙ ap access_of c.at_mut-in-None.ensures.value)
+    ∙ c.hand_out.ensures.accesses ∙ mapped-same access_of c.args.places.now c.args.slot c.take_ahead.new.self (c.take_ahead.ensures.access ∙ ap access_of c.at_mut.ensures.value)
 
 pub returns-in_ok-hand_out-in-None-clause-ahead : goal.returns-in_ok-hand_out-in-None-clause-ahead
 returns-in_ok-hand_out-in-None-clause-ahead g c =

@@ -1,18 +1,18 @@
 use Rattle.std.proofs.Common.{ℕ, List, [], Option, Some, ap, ◌∙◌}
 use Rattle.gate_desk.specs.declared.slot.PerSlot.{PerSlot}
-use Rattle.gate_desk.specs.declared.slot.Way.{Way}
-use Rattle.gate_desk.specs.Gathering.{ahead, ahead_in, unread, unread_in, waiting, way_of, ways_in}
+use Rattle.gate_desk.specs.declared.slot.Access.{Access}
+use Rattle.gate_desk.specs.Gathering.{ahead, ahead_in, unread, unread_in, waiting, access_of, accesses_in}
 use Rattle.gate_desk.specs.Slots.{put}
 use Rattle.gate_desk.proofs.Laws.{at-mapped, at-put, mapped-put, mapped-put_only}
 use Rattle.gate_desk.proofs.Unread.{put_behind}
 use Rattle.gate_desk.proofs.Taken.{nothing_else}
 use Rattle.gate_desk.proofs.file_desk.start_slot.Goals as goal
 
-pub returns-in-Ok-clause-ways : goal.returns-in-Ok-clause-ways
-returns-in-Ok-clause-ways g c =
-    mapped-put way_of c.hand_out.new.places c.args.slot c.in-Ok.place
-    ∙ ap (λ (w : Option Way). put (ways_in c.hand_out.new.places) c.args.slot w) c.in-Ok.ensures.way
-    ∙ ap (λ (ways : PerSlot (Option Way)). put ways c.args.slot (Some c.args.way)) c.hand_out.ensures.ways
+pub returns-in-Ok-clause-accesses : goal.returns-in-Ok-clause-accesses
+returns-in-Ok-clause-accesses g c =
+    mapped-put access_of c.hand_out.new.places c.args.slot c.in-Ok.place
+    ∙ ap (λ (w : Option Access). put (accesses_in c.hand_out.new.places) c.args.slot w) c.in-Ok.ensures.access
+    ∙ ap (λ (accesses : PerSlot (Option Access)). put accesses c.args.slot (Some c.args.access)) c.hand_out.ensures.accesses
 
 pub returns-in-Ok-clause-ahead : goal.returns-in-Ok-clause-ahead
 returns-in-Ok-clause-ahead g c =

@@ -2,12 +2,12 @@ use Rattle.std.proofs.Common.{◌++◌, ap, ◌∙◌}
 use Rattle.gate_desk.proofs.Gathering.{gathered_at, waits_later}
 use Rattle.gate_desk.proofs.Laws.{mapped-same}
 use Rattle.gate_desk.proofs.Taken.{gathered_one, taken_later}
-use Rattle.gate_desk.specs.Gathering.{ahead, got, got_in, unread, waiting_in, way_of}
+use Rattle.gate_desk.specs.Gathering.{ahead, got, got_in, unread, waiting_in, access_of}
 use Rattle.gate_desk.specs.Slots.{put}
 use Rattle.gate_desk.proofs.file_desk.write_slot.Goals as goal
 
-pub returns-in-NoRoom-clause-ways : goal.returns-in-NoRoom-clause-ways
-returns-in-NoRoom-clause-ways g c = c.gather_alone.ensures.ways ∙ mapped-same way_of c.args.places.now c.args.slot c.gather.new.self (c.gather.ensures.way ∙ ap way_of c.at_mut.ensures.value)
+pub returns-in-NoRoom-clause-accesses : goal.returns-in-NoRoom-clause-accesses
+returns-in-NoRoom-clause-accesses g c = c.gather_alone.ensures.accesses ∙ mapped-same access_of c.args.places.now c.args.slot c.gather.new.self (c.gather.ensures.access ∙ ap access_of c.at_mut.ensures.value)
 
 pub returns-in-NoRoom-clause-ahead : goal.returns-in-NoRoom-clause-ahead
 returns-in-NoRoom-clause-ahead g c = c.gather_alone.ensures.ahead ∙ mapped-same ahead c.args.places.now c.args.slot c.gather.new.self (c.gather.ensures.ahead ∙ ap ahead c.at_mut.ensures.value)

@@ -9,7 +9,7 @@ use Rattle.std.proofs.lemmas.Result.{err_from_is_err_and}
 use Rattle.gate_base.specs.Events.{event_of}
 use Rattle.gate_base.specs.Tests.{first_that_holds}
 use Rattle.twice_translate.proofs.Accepted.{reads}
-use Rattle.gate_world.specs.Frame.{datagram_in, header_tests, datagram_tests, transport_tests}
+use Rattle.gate_model.specs.Frame.{datagram_in, header_tests, datagram_tests, transport_tests}
 use Rattle.gate_frames.proofs.Judging.{is_judged}
 use Rattle.gate_frames.proofs.Tests.{front_is, judged_err, judged_ok}
 use Rattle.gate_frames.proofs.judged.judge.Goals as goal

@@ -6,7 +6,7 @@ use Rattle.binding_table.specs.Bindings.{free, is_settled}
 use Rattle.binding_table.specs.Plan.{after_uses, images_after, needed}
 use Rattle.dns_messages.specs.Reading.{message_at}
 use Rattle.twice_translate.specs.Renamed.{datagram_of}
-use Rattle.gate_world.specs.Names.{carried, message_in, named_in, has_unbound, reply_by}
+use Rattle.gate_model.specs.Names.{carried, message_in, named_in, has_unbound, reply_by}
 use Rattle.gate_payloads.specs.Named.{named_uses}
 use Rattle.gate_payloads.proofs.DnsTaken.{all_bound, all_used, short_payload, names_passed}
 use Rattle.gate_payloads.specs.Plain.{plain_rules}

@@ -2,7 +2,7 @@ use Rattle.std.proofs.Common.{◌≡◌, ◌<◌, suc, false, List, None, length
 use Rattle.std.specs.List.{slice_index_or}
 use Rattle.dialogue.specs.Learning.{Entry, is_listed}
 use Rattle.gate_sessions.specs.Directions.{listed_of}
-use Rattle.unit_plans.proofs.EnteredLemmas.{room_for, drop-next}
+use Rattle.dns_plans.proofs.EnteredLemmas.{room_for, drop-next}
 use Rattle.gate_sessions.proofs.learned.learn_all.Goals as goal
 
 pub learn_one-requires-clause-few : goal.learn_one-requires-clause-few

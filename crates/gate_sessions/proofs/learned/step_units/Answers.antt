@@ -3,11 +3,11 @@ use Rattle.std.specs.Prelude.{not}
 use Rattle.dialogue.specs.Learning.{Entry}
 use Rattle.dns_stream.specs.Units.{unit_addresses}
 use Rattle.dns_stream.specs.Images.{dns_units}
-use Rattle.stream_kept.specs.Sessions.{sender_kept}
+use Rattle.compact_stream.specs.Sessions.{sender_kept}
 use Rattle.stream_gate.specs.Listed.{IsListedStream}
-use Rattle.unit_plans.specs.Steps.{entered_all}
+use Rattle.dns_plans.specs.Steps.{entered_all}
 use Rattle.gate_sessions.specs.Directions.{DnsKept, listed_of}
-use Rattle.unit_plans.proofs.EnteredLemmas.{all-more}
+use Rattle.dns_plans.proofs.EnteredLemmas.{all-more}
 use Rattle.gate_sessions.proofs.ListedLemmas.{can_forget, front_of, other_same, forgotten_is}
 use Rattle.gate_sessions.proofs.learned.step_units.Goals as goal
 

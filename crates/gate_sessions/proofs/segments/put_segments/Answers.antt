@@ -2,8 +2,8 @@ use Rattle.std.proofs.Common.{◌≡◌, ℕ, List, [], length, ap, sym, subst, 
 use Rattle.std.specs.Prelude.{None, Result, Ok, Err, IfOk, OnErr}
 use Rattle.tcp_segments.specs.Tcp.{Tcp}
 use Rattle.stream_model.specs.Session.{Segment, Outgoing, segment_in}
-use Rattle.stream_kept.specs.Outs.{kept_out, kept_ends}
-use Rattle.stream_kept.specs.Sessions.{kept_verdict}
+use Rattle.compact_stream.specs.Outs.{kept_out, kept_ends}
+use Rattle.compact_stream.specs.Sessions.{kept_verdict}
 use Rattle.gate_outbox.specs.Outboxes.{datagrams_from}
 use Rattle.gate_outbox.proofs.Boxes.{no_ends, no_octets}
 use Rattle.gate_sessions.proofs.Sent.{way_by, heads_of, sent_short, sends, sent_box, sent_view, sent_same}

@@ -1,6 +1,6 @@
 use Rattle.std.proofs.Common.{Option, IfSome, ◌<◌, ◌*◌, ◌^◌, sym, subst}
 use Rattle.gate_base.specs.Events.{Event}
-use Rattle.frag_join.specs.Arrivals.{Comes}
+use Rattle.frag_join.specs.Arrivals.{Reaches}
 use Rattle.gateway.specs.Phases.{Handles, counting}
 use Rattle.gateway.proofs.event.handle_joined.Goals as goal
 
@@ -9,4 +9,4 @@ handle-requires-clause-early g c = subst (λ (o : Option Event). IfSome o (λ e.
 
 pub returns : goal.returns
 returns g c =
-    subst (λ (o : Option Event). IfSome o (λ e. Handles (counting c.handle.new.reporter.totals c.handle.result) c.args.gate.now c.handle.new.gate c.args.reporter.now.totals (Comes e) (g.D.Desk.outside c.args.desk.now) (g.D.Desk.outside c.handle.new.desk))) (sym c.joined.ensures) c.handle.ensures
+    subst (λ (o : Option Event). IfSome o (λ e. Handles (counting c.handle.new.reporter.totals c.handle.result) c.args.gate.now c.handle.new.gate c.args.reporter.now.totals (Reaches e) (g.D.Desk.outside c.args.desk.now) (g.D.Desk.outside c.handle.new.desk))) (sym c.joined.ensures) c.handle.ensures

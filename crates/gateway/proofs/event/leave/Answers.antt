@@ -1,10 +1,10 @@
 use Rattle.std.proofs.Common.{Err, ◌+◌, [], ◌∷◌, subst}
 use Rattle.gate_base.specs.Events.{event_of}
-use Rattle.frag_join.specs.Arrivals.{Stays}
+use Rattle.frag_join.specs.Arrivals.{Stopped}
 use Rattle.gateway.specs.Machine.{event_piece}
 use Rattle.gateway.specs.Causes.{WritesReportLine}
 use Rattle.gateway.specs.Phases.{Handles, counting}
-use Rattle.gate_phases.proofs.Causes.{handed_on}
+use Rattle.run_setup.proofs.Causes.{handed_on}
 use Rattle.gateway.proofs.Events.{left_fails}
 use Rattle.gateway.proofs.event.leave.Goals as goal
 
@@ -14,6 +14,6 @@ returns-in_err-put_line g c =
     let old = g.D.Desk.outside c.args.desk.now in
     let new = g.D.Desk.outside c.put_line.new.desk in
     let status = c.in_err-put_line.field-0.0 in
-    handed_on (λ r. Handles (counting c.args.reporter.now.totals r) c.args.gate.now c.args.gate.now c.args.reporter.now.totals (Stays e c.args.verdict) old new) c.from_residual.result status c.from_residual.ensures.1
+    handed_on (λ r. Handles (counting c.args.reporter.now.totals r) c.args.gate.now c.args.gate.now c.args.reporter.now.totals (Stopped e c.args.verdict) old new) c.from_residual.result status c.from_residual.ensures.1
     (left_fails status c.args.gate.now c.args.reporter.now.totals e c.args.verdict old new
     (subst (λ settings. WritesReportLine (Err status) settings.json (event_piece settings.json (c.args.reporter.now.totals.events + 1) c.args.event.side c.args.event.moment.0 c.args.verdict 0 ∷ []) old new) c.settings.ensures c.in_err-put_line.ensures))

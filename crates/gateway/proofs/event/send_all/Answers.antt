@@ -2,7 +2,7 @@ use Rattle.std.proofs.Common.{arith}
 use Rattle.gate_desk.specs.declared.slot.Slot.TheVariants.{LeftOut, RightOut}
 use Rattle.gateway.specs.Causes.{WritesPieces}
 use Rattle.gateway.specs.Machine.{sent}
-use Rattle.gate_phases.proofs.Causes.{handed_on}
+use Rattle.run_setup.proofs.Causes.{handed_on}
 use Rattle.gateway.proofs.Events.{sends_next, sending_fails, can_still_write}
 use Rattle.gateway.proofs.Pieces.{writes_none}
 use Rattle.gateway.proofs.event.send_all.Goals as goal

@@ -1,7 +1,7 @@
 use Rattle.gate_desk.specs.declared.slot.Slot.TheVariants.{Report}
-use Rattle.gate_desk.specs.declared.slot.Way.TheVariants.{Write}
+use Rattle.gate_desk.specs.declared.slot.Access.TheVariants.{Write}
 use Rattle.gate_desk.proofs.Laws.{can_write_started}
-use Rattle.gate_phases.proofs.Causes.{opens_one}
+use Rattle.run_setup.proofs.Causes.{opens_one}
 use Rattle.gateway.proofs.Makes.{not_made, made, not_written}
 use Rattle.gateway.proofs.making.make.Goals as goal
 

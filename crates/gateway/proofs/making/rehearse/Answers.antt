@@ -1,7 +1,7 @@
 use Rattle.std.proofs.Common.{◌≡◌, MatchResult, refl}
-use Rattle.gate_phases.specs.declared.status.Status.TheVariants.{OutOfMemory}
+use Rattle.run_setup.specs.declared.status.Status.TheVariants.{OutOfMemory}
 use Rattle.gateway.specs.Making.{IsLineOf}
-use Rattle.gate_phases.proofs.Causes.{handed_on}
+use Rattle.run_setup.proofs.Causes.{handed_on}
 use Rattle.gateway.proofs.Makes.{holds_workload, rehearses}
 use Rattle.gateway.proofs.making.rehearse.Goals as goal
 
@@ -11,5 +11,5 @@ returns-in_err-workload c =
 
 pub returns : goal.returns
 returns c =
-    let holds = holds_workload c.args.number c.args.count c.in_ok-workload.workload c.make-desk.result c.into_vec.result.items c.into_vec-2.result.items c.into_vec-3.result.items c.in_ok-workload.ensures c.make-desk.ensures c.into_vec.ensures c.into_vec-2.ensures c.into_vec-3.ensures in
-    rehearses c.run.result _ c.args.number c.args.count c.make-desk.result c.run.new.desk c.requires holds c.run.ensures.answer
+    let holds = holds_workload c.args.number c.args.count c.in_ok-workload.workload c.new-desk.result c.into_vec.result.items c.into_vec-2.result.items c.into_vec-3.result.items c.in_ok-workload.ensures c.new-desk.ensures c.into_vec.ensures c.into_vec-2.ensures c.into_vec-3.ensures in
+    rehearses c.run.result _ c.args.number c.args.count c.new-desk.result c.run.new.desk c.requires holds c.run.ensures.answer

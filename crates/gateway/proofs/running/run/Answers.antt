@@ -1,6 +1,6 @@
-use Rattle.gate_phases.specs.RunNames.{names_of}
+use Rattle.run_setup.specs.RunNames.{names_of}
 use Rattle.gateway.specs.Answers.{Runs}
-use Rattle.gate_phases.proofs.Causes.{handed_on}
+use Rattle.run_setup.proofs.Causes.{handed_on}
 use Rattle.gateway.proofs.Runs.{run_unwritten}
 use Rattle.gateway.proofs.Took.{took_unwritten}
 use Rattle.gateway.proofs.running.run.Goals as goal

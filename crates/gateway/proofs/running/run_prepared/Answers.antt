@@ -1,12 +1,12 @@
 use Rattle.std.proofs.Common.{refl, subst}
 use Rattle.gate_desk.specs.declared.slot.Slot.TheVariants.{LeftIn, RightIn, LeftOut, RightOut, Report}
-use Rattle.gate_desk.specs.declared.slot.Way.TheVariants.{Read, Write}
-use Rattle.gate_phases.specs.RunNames.{names_of, first_starts, output_starts, plan}
-use Rattle.gate_phases.specs.declared.status.Status.TheVariants.{OutOfMemory}
+use Rattle.gate_desk.specs.declared.slot.Access.TheVariants.{Read, Write}
+use Rattle.run_setup.specs.RunNames.{names_of, first_starts, output_starts, plan}
+use Rattle.run_setup.specs.declared.status.Status.TheVariants.{OutOfMemory}
 use Rattle.gateway.specs.Phases.{Readied, StopsInFront}
 use Rattle.gateway.specs.Machine.{heads}
 use Rattle.gateway.specs.Answers.{Runs}
-use Rattle.gate_phases.proofs.Causes.{handed_on, way_of}
+use Rattle.run_setup.proofs.Causes.{handed_on, access_of}
 use Rattle.gateway.proofs.Runs.{run_no_memory, run_not_ready, run_forwards, whole}
 use Rattle.gateway.proofs.Took.{took_prepared, took_events}
 use Rattle.gateway.proofs.running.run_prepared.Goals as goal
@@ -50,35 +50,35 @@ forward-requires-clause-left_in g c =
     let mid = g.D.Desk.outside c.args.desk.now in
     let new = g.D.Desk.outside c.ready.new.desk in
     let ready = subst (λ s. Readied s (output_starts (names_of c.args.names)) mid new) c.settings-2.ensures c.in_ok-ready.ensures.answer in
-    way_of LeftIn Read (plan (names_of c.args.names)) c.requires.since new (whole c.args.gate.now c.args.merge.now (names_of c.args.names) c.requires.since mid new new c.requires.prepared ready refl) (λ w. refl)
+    access_of LeftIn Read (plan (names_of c.args.names)) c.requires.since new (whole c.args.gate.now c.args.merge.now (names_of c.args.names) c.requires.since mid new new c.requires.prepared ready refl) (λ w. refl)
 
 pub forward-requires-clause-right_in : goal.forward-requires-clause-right_in
 forward-requires-clause-right_in g c =
     let mid = g.D.Desk.outside c.args.desk.now in
     let new = g.D.Desk.outside c.ready.new.desk in
     let ready = subst (λ s. Readied s (output_starts (names_of c.args.names)) mid new) c.settings-2.ensures c.in_ok-ready.ensures.answer in
-    way_of RightIn Read (plan (names_of c.args.names)) c.requires.since new (whole c.args.gate.now c.args.merge.now (names_of c.args.names) c.requires.since mid new new c.requires.prepared ready refl) (λ w. refl)
+    access_of RightIn Read (plan (names_of c.args.names)) c.requires.since new (whole c.args.gate.now c.args.merge.now (names_of c.args.names) c.requires.since mid new new c.requires.prepared ready refl) (λ w. refl)
 
 pub forward-requires-clause-left_out : goal.forward-requires-clause-left_out
 forward-requires-clause-left_out g c =
     let mid = g.D.Desk.outside c.args.desk.now in
     let new = g.D.Desk.outside c.ready.new.desk in
     let ready = subst (λ s. Readied s (output_starts (names_of c.args.names)) mid new) c.settings-2.ensures c.in_ok-ready.ensures.answer in
-    way_of LeftOut Write (plan (names_of c.args.names)) c.requires.since new (whole c.args.gate.now c.args.merge.now (names_of c.args.names) c.requires.since mid new new c.requires.prepared ready refl) (λ w. refl)
+    access_of LeftOut Write (plan (names_of c.args.names)) c.requires.since new (whole c.args.gate.now c.args.merge.now (names_of c.args.names) c.requires.since mid new new c.requires.prepared ready refl) (λ w. refl)
 
 pub forward-requires-clause-right_out : goal.forward-requires-clause-right_out
 forward-requires-clause-right_out g c =
     let mid = g.D.Desk.outside c.args.desk.now in
     let new = g.D.Desk.outside c.ready.new.desk in
     let ready = subst (λ s. Readied s (output_starts (names_of c.args.names)) mid new) c.settings-2.ensures c.in_ok-ready.ensures.answer in
-    way_of RightOut Write (plan (names_of c.args.names)) c.requires.since new (whole c.args.gate.now c.args.merge.now (names_of c.args.names) c.requires.since mid new new c.requires.prepared ready refl) (λ w. refl)
+    access_of RightOut Write (plan (names_of c.args.names)) c.requires.since new (whole c.args.gate.now c.args.merge.now (names_of c.args.names) c.requires.since mid new new c.requires.prepared ready refl) (λ w. refl)
 
 pub forward-requires-clause-report : goal.forward-requires-clause-report
 forward-requires-clause-report g c =
     let mid = g.D.Desk.outside c.args.desk.now in
     let new = g.D.Desk.outside c.ready.new.desk in
     let ready = subst (λ s. Readied s (output_starts (names_of c.args.names)) mid new) c.settings-2.ensures c.in_ok-ready.ensures.answer in
-    way_of Report Write (plan (names_of c.args.names)) c.requires.since new (whole c.args.gate.now c.args.merge.now (names_of c.args.names) c.requires.since mid new new c.requires.prepared ready refl) (λ w. refl)
+    access_of Report Write (plan (names_of c.args.names)) c.requires.since new (whole c.args.gate.now c.args.merge.now (names_of c.args.names) c.requires.since mid new new c.requires.prepared ready refl) (λ w. refl)
 
 pub returns-clause-answer : goal.returns-clause-answer
 returns-clause-answer g c since prepared =

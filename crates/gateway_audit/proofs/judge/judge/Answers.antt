@@ -1,6 +1,6 @@
 use Rattle.std.proofs.Common.{subst}
-use Rattle.gate_phases.proofs.Causes.{handed_on}
-use Rattle.gate_phases.specs.AuditNames.{names_of}
+use Rattle.run_setup.proofs.Causes.{handed_on}
+use Rattle.run_setup.specs.AuditNames.{names_of}
 use Rattle.gateway_audit.specs.Phases.{Readied, Judges}
 use Rattle.gateway_audit.proofs.Judging.{not_ready, no_head, read_inputs, to_walk, took_none, took_prepared, took_walked, walked}
 use Rattle.gateway_audit.proofs.judge.judge.Goals as goal
@@ -14,8 +14,8 @@ returns-in_err-given-clause-answer g c =
     let status = c.in_err-given.field-0.0 in
     handed_on (λ r. Judges r names old new) c.from_residual-in_err-given.result status c.from_residual-in_err-given.ensures.1 (not_ready status c.in_ok-settings.settings c.in_ok-settings.merge names old mid new c.in_ok-settings.ensures.answer c.in_err-given.ensures.answer)
 
-pub walk-requires : goal.walk-requires
-walk-requires g c =
+pub audit_all-requires : goal.audit_all-requires
+audit_all-requires g c =
     let names = names_of c.args.names in
     let mid = g.D.Desk.outside c.prepare.new.desk in
     let new = g.D.Desk.outside c.ready.new.desk in
@@ -28,7 +28,7 @@ returns-in-Some-clause-answer g c =
     let mid = g.D.Desk.outside c.prepare.new.desk in
     let new = g.D.Desk.outside c.ready.new.desk in
     let readied = subst (λ found. Readied found c.in_ok-settings.settings names mid new) c.in-Some.is c.in_ok-given.ensures.answer in
-    walked c.walk.result c.in_ok-settings.settings c.in_ok-settings.merge c.in-Some.given names (g.D.Desk.outside c.args.desk.now) mid new (g.D.Desk.outside c.walk.new.desk) c.in_ok-settings.ensures.answer readied c.walk.ensures.answer c.walk.ensures.starts c.walk.ensures.written c.walk.ensures.counts
+    walked c.audit_all.result c.in_ok-settings.settings c.in_ok-settings.merge c.in-Some.given names (g.D.Desk.outside c.args.desk.now) mid new (g.D.Desk.outside c.audit_all.new.desk) c.in_ok-settings.ensures.answer readied c.audit_all.ensures.answer c.audit_all.ensures.starts c.audit_all.ensures.written c.audit_all.ensures.counts
 
 pub returns-in-None-clause-answer : goal.returns-in-None-clause-answer
 returns-in-None-clause-answer g c =
@@ -53,4 +53,4 @@ returns-in-Some-clause-taken g c =
     let mid = g.D.Desk.outside c.prepare.new.desk in
     let new = g.D.Desk.outside c.ready.new.desk in
     let readied = subst (λ found. Readied found c.in_ok-settings.settings names mid new) c.in-Some.is c.in_ok-given.ensures.answer in
-    took_walked c.in_ok-settings.settings c.in_ok-settings.merge c.in-Some.given names (g.D.Desk.outside c.args.desk.now) mid new (g.D.Desk.outside c.walk.new.desk) c.in_ok-settings.ensures.answer readied c.walk.ensures.taken c.prepare.ensures.inputs c.ready.ensures.files
+    took_walked c.in_ok-settings.settings c.in_ok-settings.merge c.in-Some.given names (g.D.Desk.outside c.args.desk.now) mid new (g.D.Desk.outside c.audit_all.new.desk) c.in_ok-settings.ensures.answer readied c.audit_all.ensures.taken c.prepare.ensures.inputs c.ready.ensures.files

@@ -1,11 +1,11 @@
 use Rattle.std.proofs.Common.{refl, ap}
 use Rattle.gate_desk.specs.declared.slot.Slot.TheVariants.{LeftGiven, RightGiven}
-use Rattle.gate_desk.specs.declared.slot.Way.TheVariants.{Read}
-use Rattle.gate_phases.proofs.Causes.{handed_on, way_of}
-use Rattle.gate_phases.specs.AuditNames.{names_of, given_starts}
+use Rattle.gate_desk.specs.declared.slot.Access.TheVariants.{Read}
+use Rattle.run_setup.proofs.Causes.{handed_on, access_of}
+use Rattle.run_setup.specs.AuditNames.{names_of, given_starts}
 use Rattle.gateway_audit.specs.Phases.{Readies}
 use Rattle.gateway_audit.proofs.Phases.{not_opened, not_begun, no_report, readied}
-use Rattle.gate_desk.specs.Outside.{Told, told_at}
+use Rattle.gate_desk.specs.Outside.{Trace, told_at}
 use Rattle.pcap_merge.specs.Stops.{slot_of}
 use Rattle.gateway_audit.proofs.Judging.{incoming_on, files_ready}
 use Rattle.file_audit.proofs.Files.{files_none}
@@ -20,10 +20,10 @@ returns-in_err-open_given-clause-answer g c =
     handed_on (λ r. Readies r c.args.settings.now names old new) c.from_residual.result status c.from_residual.ensures.1 (not_opened status names old new c.in_err-open_given.ensures.answer)
 
 pub begin_given-requires-clause-left : goal.begin_given-requires-clause-left
-begin_given-requires-clause-left g c = way_of LeftGiven Read (given_starts (names_of c.args.names)) (g.D.Desk.outside c.args.desk.now) (g.D.Desk.outside c.open_given.new.desk) c.in_ok-open_given.ensures.answer.starts (λ w. refl)
+begin_given-requires-clause-left g c = access_of LeftGiven Read (given_starts (names_of c.args.names)) (g.D.Desk.outside c.args.desk.now) (g.D.Desk.outside c.open_given.new.desk) c.in_ok-open_given.ensures.answer.starts (λ w. refl)
 
 pub begin_given-requires-clause-right : goal.begin_given-requires-clause-right
-begin_given-requires-clause-right g c = way_of RightGiven Read (given_starts (names_of c.args.names)) (g.D.Desk.outside c.args.desk.now) (g.D.Desk.outside c.open_given.new.desk) c.in_ok-open_given.ensures.answer.starts (λ w. refl)
+begin_given-requires-clause-right g c = access_of RightGiven Read (given_starts (names_of c.args.names)) (g.D.Desk.outside c.args.desk.now) (g.D.Desk.outside c.open_given.new.desk) c.in_ok-open_given.ensures.answer.starts (λ w. refl)
 
 pub returns-in_err-given-clause-answer : goal.returns-in_err-given-clause-answer
 returns-in_err-given-clause-answer g c =
@@ -52,7 +52,7 @@ returns-clause-answer g c =
     c.in_ok-open_given.ensures.answer c.begin_given.ensures.reads c.in_ok-given.ensures.answer c.in_ok-start_slot.ensures.answer
 
 pub returns-in_err-open_given-clause-incoming : goal.returns-in_err-open_given-clause-incoming
-returns-in_err-open_given-clause-incoming g c = λ side. ap (λ (t : Told). told_at t (slot_of side)) c.open_given.ensures.left
+returns-in_err-open_given-clause-incoming g c = λ side. ap (λ (t : Trace). told_at t (slot_of side)) c.open_given.ensures.left
 
 pub returns-in_err-given-clause-incoming : goal.returns-in_err-given-clause-incoming
 returns-in_err-given-clause-incoming g c = incoming_on (g.D.Desk.outside c.args.desk.now) (g.D.Desk.outside c.open_given.new.desk) (g.D.Desk.outside c.begin_given.new.desk) (g.D.Desk.outside c.begin_given.new.desk) c.open_given.ensures.left c.begin_given.ensures.reads refl

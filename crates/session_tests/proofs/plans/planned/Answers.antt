@@ -1,7 +1,7 @@
 use Rattle.std.proofs.Common.{None, [], ◌∷◌, List, sym, ◌∙◌}
 use Rattle.gate_base.specs.declared.side.Side.TheVariants.{Left}
 use Rattle.dialogue.specs.Learning.{Entry}
-use Rattle.unit_plans.proofs.PlannedLemmas.{all_bound}
+use Rattle.dns_plans.proofs.PlannedLemmas.{all_bound}
 use Rattle.session_tests.proofs.plans.planned.Goals as goal
 
 pub plan_units-requires : goal.plan_units-requires

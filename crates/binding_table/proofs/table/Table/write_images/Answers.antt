@@ -30,7 +30,7 @@ loop-place-init c =
     record {
       plan = λ room uses e. at_start c.args.self.now c.args.side c.args.addresses.now c.args.images.now uses room;
       count = from_nothing (length (fresh_after c.args.self.now c.args.side [] c.args.addresses.now));
-      firsts = subst (λ (firsts : Table ℕ). AreFirsts needs [] firsts) (sym c.requires.empty) (no_firsts needs);
+      seen_addresses = subst (λ (seen_addresses : Table ℕ). AreFirsts needs [] seen_addresses) (sym c.requires.empty) (no_firsts needs);
     }
 
 pub loop-place-preserved : goal.loop-place-preserved
@@ -49,7 +49,7 @@ loop-place-preserved c =
           subst (λ (p : Option Addr × Option Addr). IsAt table side addresses (place + 1) (set c.loop-place.images place p.0) p.1 uses) (sym c.image-planned.ensures.value)
           (at_step table side addresses place c.loop-place.images c.loop-place.given uses zero (c.keeps_apart.ensures.ranges (other side)) e within long bound (c.loop-place.invariant.plan room uses e));
       count = omega (arith, c.loop-place.invariant.count, step, counted c.image-planned.result.fresh _ c.image-planned.ensures.fresh);
-      firsts = subst (λ (earlier : List Addr). AreFirsts (needing table side) earlier c.image-planned.new.firsts) (sym (take_more addresses place zero within)) c.image-planned.ensures.firsts;
+      seen_addresses = subst (λ (earlier : List Addr). AreFirsts (needing table side) earlier c.image-planned.new.seen_addresses) (sym (take_more addresses place zero within)) c.image-planned.ensures.seen_addresses;
     }
 
 pub returns-clause-images : goal.returns-clause-images

@@ -1,7 +1,7 @@
 use Rattle.std.proofs.Common.{◌≡◌, ◌+◌, ◌≤◌, ◌∙◌, ◌||◌, ◌&&◌, not, max, false, is_some, drop, sym, subst, ap, arith}
 use Rattle.std.specs.Option.{option_or}
 use Rattle.frag_join.specs.Places.{count_below}
-use Rattle.frag_join.specs.Known.{Known, is_bad, added, octet_of, header_told}
+use Rattle.frag_join.specs.Coverage.{Coverage, is_bad, added, octet_of, header_told}
 use Rattle.frag_join.specs.Fragments.{end_of, covers}
 use Rattle.frag_join.specs.Inside.{octet_inside}
 use Rattle.frag_join.proofs.PlaceLemmas.{count-le}
@@ -11,14 +11,14 @@ use Rattle.frag_join.proofs.buffer.Buffer.put.Goals as goal
 pub overflow_add-self : goal.overflow_add-self
 overflow_add-self c =
     let b = c.self.inside in
-    let P : Known → Type 0 = λ k. is_bad k c.args.fragment.now ≡ false in
+    let P : Coverage → Type 0 = λ k. is_bad k c.args.fragment.now ≡ false in
     let good : IsGood b c.args.fragment.now = good-fragment b c.args.fragment.now (subst P (sym c.self.view_is) c.requires) in
     omega (arith, good.fits, c.fresh.ensures.few, c.self.invariant.fits, c.self.invariant.counted, count-le (λ place. is_some (octet_inside b place)) b.reach)
 
 -- it isn't bad for what the buffer holds
 good : (c : goal.After-self-4-1) → IsGood c.self.inside c.args.fragment.now
 good c =
-    let P : Known → Type 0 = λ k. is_bad k c.args.fragment.now ≡ false in
+    let P : Coverage → Type 0 = λ k. is_bad k c.args.fragment.now ≡ false in
     good-fragment c.self.inside c.args.fragment.now (subst P (sym c.self.view_is) c.requires)
 
 put : (c : goal.After-self-4-1)
@@ -28,7 +28,7 @@ put c =
     let f = c.args.fragment.now in
     let fits : end_of f ≤ 65515 = (good c).fits in
     let octets = octets-put b.octets.items c.write.new.target.items c.payload.result.now c.start-start.result f c.start-start.ensures.place c.payload.ensures.octets c.write.ensures in
-    let F : Known → Type 0 = λ k. c.fresh.result ≡ count_below (λ place. covers f place && not (is_some (octet_of k place))) (end_of f) in
+    let F : Coverage → Type 0 = λ k. c.fresh.result ≡ count_below (λ place. covers f place && not (is_some (octet_of k place))) (end_of f) in
     record {
       octets = c.put_header-self-inside.ensures.rest ∙ ap (drop 20) octets;
       count = c.put_header-self-inside.ensures.count ∙ count-put b.octets.items c.write.new.target.items f c.self.invariant.octets fits octets;

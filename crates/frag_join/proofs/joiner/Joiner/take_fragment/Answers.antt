@@ -6,7 +6,7 @@ use Rattle.gate_base.specs.Events.{event_of}
 use Rattle.ipv4_frames.specs.Ipv4.{has_options}
 use Rattle.frag_join.specs.declared.part.Part.{Part}
 use Rattle.frag_join.specs.Fragments.{name_in, name_of, fragment_in, fragment_of, octets_of}
-use Rattle.frag_join.specs.Known.{Known, nothing, is_bad}
+use Rattle.frag_join.specs.Coverage.{Coverage, nothing, is_bad}
 use Rattle.frag_join.specs.Joining.{State, Step, by_known, is_of, place_of, limit, fragment_step, part_or_new, with_fragment}
 use Rattle.frag_join.specs.Kept.{known_at, known_or_nothing, put_at, new_part}
 use Rattle.frag_join.proofs.PartLemmas.{get-or-some, get-last}
@@ -15,7 +15,7 @@ use Rattle.frag_join.proofs.joiner.Joiner.take_fragment.Goals as goal
 
 -- ## The datagram is there
 
-part : (c : goal.After-put) → Part Known
+part : (c : goal.After-put) → Part Coverage
 part c = get_or c.args.self.now.parts c.in-Some.place (new_part c.name_of-name.result c.args.event.now.moment)
 
 found : (c : goal.After-put) → place_of (name_in (event_of c.args.event.now)) c.args.self.now.parts ≡ Some c.in-Some.place
@@ -23,7 +23,7 @@ found c =
     let e = event_of c.args.event.now in
     let parts = c.args.self.now.parts in
     ap (λ n. place_of n parts) (sym (c.name_of-name.ensures ∙ ap (name_of e.side) c.requires.octets))
-    ∙ ap (place_of c.name_of-name.result) (sym (c.deref.ensures.value ∙ ap (λ (s : State Known). s.parts) c.self.view_is))
+    ∙ ap (place_of c.name_of-name.result) (sym (c.deref.ensures.value ∙ ap (λ (s : State Coverage). s.parts) c.self.view_is))
     ∙ sym c.place_of-place.ensures.place ∙ c.in-Some.is
 
 there : (c : goal.After-put) → slice_get c.args.self.now.parts c.in-Some.place ≡ Some (part c)
@@ -45,10 +45,10 @@ step c =
     sym (step-there by_known parts e c.in-Some.place (part c) options (found c) (there c) good)
 
 pub returns-in-Some-clause-answer : goal.returns-in-Some-clause-answer
-returns-in-Some-clause-answer c = c.put.ensures.answer (part c) (there c) ∙ ap (λ (s : Step Known). s.answer) (step c)
+returns-in-Some-clause-answer c = c.put.ensures.answer (part c) (there c) ∙ ap (λ (s : Step Coverage). s.answer) (step c)
 
 pub returns-in-Some-clause-state : goal.returns-in-Some-clause-state
-returns-in-Some-clause-state c = c.put.ensures.state (part c) (there c) ∙ ap (λ (s : Step Known). s.state) (step c)
+returns-in-Some-clause-state c = c.put.ensures.state (part c) (there c) ∙ ap (λ (s : Step Coverage). s.state) (step c)
 
 -- ## It begins
 
@@ -56,7 +56,7 @@ named : (c : goal.After-put-in-None) → c.name_of-name.result ≡ name_in (even
 named c = c.name_of-name.ensures ∙ ap (name_of c.args.event.now.side) c.requires.octets
 
 begun : (c : goal.After-put-in-None) → c.begin-place.new.self.parts ≡ c.args.self.now.parts ++ part_or_new by_known (event_of c.args.event.now) None ∷ []
-begun c = ap (λ (s : State Known). s.parts) c.begin-place.ensures.state ∙ ap (λ n. c.args.self.now.parts ++ new_part n c.args.event.now.moment ∷ []) (named c)
+begun c = ap (λ (s : State Coverage). s.parts) c.begin-place.ensures.state ∙ ap (λ n. c.args.self.now.parts ++ new_part n c.args.event.now.moment ∷ []) (named c)
 
 last : (c : goal.After-put-in-None) → slice_get c.begin-place.new.self.parts c.begin-place.result ≡ Some (part_or_new by_known (event_of c.args.event.now) None)
 last c =
@@ -70,7 +70,7 @@ first c =
     let new = part_or_new by_known e None in
     let options : has_options (octets_of e) ≡ false = ap has_options (sym c.requires.octets) ∙ sym c.has_options.ensures ∙ c.if-has_options.false in
     let none : place_of (name_in e) parts ≡ None =
-    ap (λ n. place_of n parts) (sym (named c)) ∙ ap (place_of c.name_of-name.result) (sym (c.deref.ensures.value ∙ ap (λ (s : State Known). s.parts) c.self.view_is))
+    ap (λ n. place_of n parts) (sym (named c)) ∙ ap (place_of c.name_of-name.result) (sym (c.deref.ensures.value ∙ ap (λ (s : State Coverage). s.parts) c.self.view_is))
     ∙ sym c.place_of-place.ensures.place ∙ c.in-None.is in
     let good : is_bad nothing (fragment_in e) ≡ false =
     ap (λ p. is_bad (known_at parts p) (fragment_in e)) (sym c.in-None.is)
@@ -81,7 +81,7 @@ first c =
     ∙ settled-last by_known parts e new (with_fragment by_known new e) ∙ sym (step-new by_known parts e options none good room)
 
 pub returns-in-None-clause-answer : goal.returns-in-None-clause-answer
-returns-in-None-clause-answer c = c.put-in-None.ensures.answer _ (last c) ∙ ap (λ (s : Step Known). s.answer) (first c)
+returns-in-None-clause-answer c = c.put-in-None.ensures.answer _ (last c) ∙ ap (λ (s : Step Coverage). s.answer) (first c)
 
 pub returns-in-None-clause-state : goal.returns-in-None-clause-state
-returns-in-None-clause-state c = c.put-in-None.ensures.state _ (last c) ∙ ap (λ (s : Step Known). s.state) (first c)
+returns-in-None-clause-state c = c.put-in-None.ensures.state _ (last c) ∙ ap (λ (s : Step Coverage). s.state) (first c)

@@ -1,24 +1,24 @@
 use Rattle.std.proofs.Common.{◌≡◌, false, refl, ap, subst, sym, ◌∙◌}
 use Rattle.gate_base.specs.Events.{event_of}
 use Rattle.gate_base.specs.Tests.{first_that_holds}
-use Rattle.gate_world.specs.Frame.{datagram_in, kind_of}
-use Rattle.gate_world.specs.Held.{KeepsListed}
-use Rattle.gate_world.specs.Reading.{world_as}
-use Rattle.gate_world.specs.Verdict.{tests}
-use Rattle.gate_world.specs.World.{World, at_moment}
-use Rattle.gate_world.proofs.ListsWorld.{moment_lists, next_lists}
+use Rattle.gate_model.specs.Frame.{datagram_in, kind_of}
+use Rattle.gate_model.specs.Held.{KeepsListed}
+use Rattle.gate_model.specs.Reading.{world_as}
+use Rattle.gate_model.specs.Verdict.{tests}
+use Rattle.gate_model.specs.World.{World, at_moment}
+use Rattle.gate_model.proofs.ListsWorld.{moment_lists, next_lists}
 use Rattle.lawful_files.specs.Progress.{IsSound, begun}
 use Rattle.lawful_files.specs.Wanted.{Wanted}
 use Rattle.lawful_files.proofs.SoundWanted.{wanted_sound}
 use Rattle.audit_records.specs.Kept.{Expecting}
-use Rattle.heard_sessions.specs.Heard.{HeardSession, heard_rules, session_in}
-use Rattle.heard_sessions.proofs.HeardLaws.{heard_lists}
+use Rattle.audit_sessions.specs.Heard.{HeardSession, heard_rules, session_in}
+use Rattle.audit_sessions.proofs.HeardLaws.{heard_lists}
 use Rattle.gate_audit.specs.Auditing.{Auditing}
-use Rattle.heard_sessions.specs.Gives.{heard_gives}
-use Rattle.gate_known.specs.Given.{IsGiven}
-use Rattle.gate_known.specs.Knowing.{world_in}
-use Rattle.gate_known.specs.Lost.{IsLost, early_tests}
-use Rattle.gate_steps.proofs.Results.{on_err}
+use Rattle.audit_sessions.specs.Gives.{heard_gives}
+use Rattle.event_engine.specs.Given.{IsGiven}
+use Rattle.event_engine.specs.Knowing.{world_in}
+use Rattle.event_engine.specs.Lost.{IsLost, early_tests}
+use Rattle.event_steps.proofs.Results.{on_err}
 use Rattle.gate_audit.proofs.LostEvents.{wanted}
 use Rattle.gate_audit.proofs.ExpectedEvents.{expected}
 use Rattle.gate_audit.proofs.Laws.{heard_laws}
@@ -28,7 +28,7 @@ use Rattle.gate_audit.proofs.auditor.Auditor.expect.Goals as goal
 pub take_frame-requires-clause-listed : goal.take_frame-requires-clause-listed
 take_frame-requires-clause-listed c =
     let kept : c.self.inside.lost ≡ false = ap (λ (a : Auditing). a.lost) c.self.view_is ∙ c.requires.kept in
-    subst (λ (x : World HeardSession). KeepsListed heard_rules x) (sym c.expire.ensures.live) (moment_lists heard_rules (world_in c.self.inside.known) (event_of c.args.event.now).moment (c.self.invariant kept))
+    subst (λ (x : World HeardSession). KeepsListed heard_rules x) (sym c.expire.ensures.live) (moment_lists heard_rules (world_in c.self.inside.state) (event_of c.args.event.now).moment (c.self.invariant kept))
 
 pub take_frame-requires-clause-laws : goal.take_frame-requires-clause-laws
 take_frame-requires-clause-laws c = heard_laws
@@ -44,17 +44,17 @@ invariant_of-self-2 c = λ lost.
     let e = event_of c.args.event.now in
     let w = c.args.self.now.world in
     let kept : c.self.inside.lost ≡ false = ap (λ (a : Auditing). a.lost) c.self.view_is ∙ c.requires.kept in
-    let known : world_in c.self.inside.known ≡ w = ap (λ (a : Auditing). a.world) c.self.view_is in
-    let live : world_in c.expire.new.self ≡ at_moment w e.moment = c.expire.ensures.live ∙ ap (λ (x : World HeardSession). at_moment x e.moment) known in
+    let state : world_in c.self.inside.state ≡ w = ap (λ (a : Auditing). a.world) c.self.view_is in
+    let live : world_in c.expire.new.self ≡ at_moment w e.moment = c.expire.ensures.live ∙ ap (λ (x : World HeardSession). at_moment x e.moment) state in
     let s = expected w e c.in_ok-taken.taken (world_in c.take_frame.new.self) c.take_frame.new.outbox (subst (λ (x : World HeardSession). IsGiven heard_rules heard_gives (first_that_holds (tests heard_rules x e)) (kind_of (datagram_in e)) x e.side (datagram_in e) c.in_ok-taken.taken (world_in c.take_frame.new.self) c.take_frame.new.outbox) live c.in_ok-taken.ensures) in
-    subst (λ (x : World HeardSession). KeepsListed heard_rules x) (sym s.kept_is) (next_lists heard_rules heard_lists w e (subst (λ (x : World HeardSession). KeepsListed heard_rules x) known (c.self.invariant kept)))
+    subst (λ (x : World HeardSession). KeepsListed heard_rules x) (sym s.kept_is) (next_lists heard_rules heard_lists w e (subst (λ (x : World HeardSession). KeepsListed heard_rules x) state (c.self.invariant kept)))
 
 pub returns-clause-verdict : goal.returns-clause-verdict
 returns-clause-verdict c =
     let e = event_of c.args.event.now in
     let w = c.args.self.now.world in
-    let known : world_in c.self.inside.known ≡ w = ap (λ (a : Auditing). a.world) c.self.view_is in
-    let live : world_in c.expire.new.self ≡ at_moment w e.moment = c.expire.ensures.live ∙ ap (λ (x : World HeardSession). at_moment x e.moment) known in
+    let state : world_in c.self.inside.state ≡ w = ap (λ (a : Auditing). a.world) c.self.view_is in
+    let live : world_in c.expire.new.self ≡ at_moment w e.moment = c.expire.ensures.live ∙ ap (λ (x : World HeardSession). at_moment x e.moment) state in
     let s = expected w e c.in_ok-taken.taken (world_in c.take_frame.new.self) c.take_frame.new.outbox (subst (λ (x : World HeardSession). IsGiven heard_rules heard_gives (first_that_holds (tests heard_rules x e)) (kind_of (datagram_in e)) x e.side (datagram_in e) c.in_ok-taken.taken (world_in c.take_frame.new.self) c.take_frame.new.outbox) live c.in_ok-taken.ensures) in
     c.want-verdict.ensures.verdict ∙ s.verdict_is
 
@@ -62,8 +62,8 @@ pub returns-clause-next : goal.returns-clause-next
 returns-clause-next c =
     let e = event_of c.args.event.now in
     let w = c.args.self.now.world in
-    let known : world_in c.self.inside.known ≡ w = ap (λ (a : Auditing). a.world) c.self.view_is in
-    let live : world_in c.expire.new.self ≡ at_moment w e.moment = c.expire.ensures.live ∙ ap (λ (x : World HeardSession). at_moment x e.moment) known in
+    let state : world_in c.self.inside.state ≡ w = ap (λ (a : Auditing). a.world) c.self.view_is in
+    let live : world_in c.expire.new.self ≡ at_moment w e.moment = c.expire.ensures.live ∙ ap (λ (x : World HeardSession). at_moment x e.moment) state in
     let s = expected w e c.in_ok-taken.taken (world_in c.take_frame.new.self) c.take_frame.new.outbox (subst (λ (x : World HeardSession). IsGiven heard_rules heard_gives (first_that_holds (tests heard_rules x e)) (kind_of (datagram_in e)) x e.side (datagram_in e) c.in_ok-taken.taken (world_in c.take_frame.new.self) c.take_frame.new.outbox) live c.in_ok-taken.ensures) in
     let expecting : c.want-verdict.new.expected ≡ _ = c.want-verdict.ensures.wanted ∙ ap (λ (x : Wanted). let y : Expecting = record { side = e.side; moment = e.moment; wanted = x; so_far = begun } in y) s.wanted_is in
     record {
@@ -78,6 +78,6 @@ pub returns-in_err-taken-clause-wants : goal.returns-in_err-taken-clause-wants
 returns-in_err-taken-clause-wants c =
     let e = event_of c.args.event.now in
     let w = c.args.self.now.world in
-    let known : world_in c.self.inside.known ≡ w = ap (λ (a : Auditing). a.world) c.self.view_is in
-    let live : world_in c.expire.new.self ≡ at_moment w e.moment = c.expire.ensures.live ∙ ap (λ (x : World HeardSession). at_moment x e.moment) known in
+    let state : world_in c.self.inside.state ≡ w = ap (λ (a : Auditing). a.world) c.self.view_is in
+    let live : world_in c.expire.new.self ≡ at_moment w e.moment = c.expire.ensures.live ∙ ap (λ (x : World HeardSession). at_moment x e.moment) state in
     on_err c.from_residual.result (wanted w e _ _ (subst (λ (x : World HeardSession). IsLost heard_rules heard_gives (first_that_holds (early_tests x e)) (kind_of (datagram_in e)) x e.side (datagram_in e) (world_in c.take_frame.new.self) c.take_frame.new.outbox) live c.in_err-taken.ensures))

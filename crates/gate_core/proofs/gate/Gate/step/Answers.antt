@@ -2,89 +2,89 @@ use Rattle.std.proofs.Common.{◌≡◌, ◌∙◌, ap, subst, sym}
 use Rattle.gate_base.specs.Events.{event_of}
 use Rattle.gate_base.specs.Tests.{first_that_holds}
 use Rattle.gate_settings.specs.declared.settings.Settings.{Settings}
-use Rattle.gate_world.specs.Frame.{datagram_in, kind_of}
-use Rattle.gate_world.specs.Held.{KeepsListed}
-use Rattle.gate_world.specs.Step.{next}
-use Rattle.gate_world.specs.Verdict.{tests}
-use Rattle.gate_world.specs.World.{World, at_moment}
-use Rattle.gate_world.proofs.ListsWorld.{moment_lists, next_lists}
-use Rattle.kept_world.specs.Kept.{KeptSession, kept_rules}
-use Rattle.kept_world.proofs.Listing.{kept_have_lists}
+use Rattle.gate_model.specs.Frame.{datagram_in, kind_of}
+use Rattle.gate_model.specs.Held.{KeepsListed}
+use Rattle.gate_model.specs.Step.{next}
+use Rattle.gate_model.specs.Verdict.{tests}
+use Rattle.gate_model.specs.World.{World, at_moment}
+use Rattle.gate_model.proofs.ListsWorld.{moment_lists, next_lists}
+use Rattle.compact_worlds.specs.Kept.{CompactSession, compact_rules}
+use Rattle.compact_worlds.proofs.Listing.{kept_have_lists}
 use Rattle.gate_core.specs.Gates.{Gateway}
 use Rattle.gate_core.specs.Memory.{MayWant}
 use Rattle.gate_core.proofs.Laws.{kept_laws}
 use Rattle.gate_core.proofs.Stepping.{stepped, wanted, put_is}
-use Rattle.gate_known.specs.Given.{IsGiven, refusal_of, given_by}
-use Rattle.gate_known.specs.Knowing.{world_in}
+use Rattle.event_engine.specs.Given.{IsGiven, refusal_of, given_by}
+use Rattle.event_engine.specs.Knowing.{world_in}
 use Rattle.gate_sessions.specs.Gives.{kept_gives}
-use Rattle.gate_steps.proofs.Results.{on_err}
+use Rattle.event_steps.proofs.Results.{on_err}
 use Rattle.gate_core.proofs.gate.Gate.step.Goals as goal
 
 pub take_frame-requires-clause-listed : goal.take_frame-requires-clause-listed
-take_frame-requires-clause-listed c = subst (λ (x : World KeptSession). KeepsListed kept_rules x) (sym c.expire.ensures.live) (moment_lists kept_rules (world_in c.self.inside.known) (event_of c.args.event.now).moment c.self.invariant)
+take_frame-requires-clause-listed c = subst (λ (x : World CompactSession). KeepsListed compact_rules x) (sym c.expire.ensures.live) (moment_lists compact_rules (world_in c.self.inside.state) (event_of c.args.event.now).moment c.self.invariant)
 
 pub take_frame-requires-clause-laws : goal.take_frame-requires-clause-laws
 take_frame-requires-clause-laws c = kept_laws
 
 pub invariant_of-self : goal.invariant_of-self
-invariant_of-self c = subst (λ (x : World KeptSession). KeepsListed kept_rules x) (sym (c.in_err-taken.ensures.same tt ∙ c.expire.ensures.live)) (moment_lists kept_rules (world_in c.self.inside.known) (event_of c.args.event.now).moment c.self.invariant)
+invariant_of-self c = subst (λ (x : World CompactSession). KeepsListed compact_rules x) (sym (c.in_err-taken.ensures.same tt ∙ c.expire.ensures.live)) (moment_lists compact_rules (world_in c.self.inside.state) (event_of c.args.event.now).moment c.self.invariant)
 
 pub invariant_of-self-2 : goal.invariant_of-self-2
 invariant_of-self-2 c =
     let e = event_of c.args.event.now in
     let w = c.args.self.now.world in
-    let known : world_in c.self.inside.known ≡ w = ap (λ g. g.world) (c.self.view_is ∙ c.spread_keys.ensures) in
-    let live : world_in c.expire.new.self ≡ at_moment w e.moment = c.expire.ensures.live ∙ ap (λ x. at_moment x e.moment) known in
-    let s = stepped w e (refusal_of c.in_ok-taken.taken) (world_in c.take_frame.new.self) (given_by kept_gives c.in_ok-taken.taken c.take_frame.new.outbox) (subst (λ x. IsGiven kept_rules kept_gives (first_that_holds (tests kept_rules x e)) (kind_of (datagram_in e)) x e.side (datagram_in e) c.in_ok-taken.taken (world_in c.take_frame.new.self) c.take_frame.new.outbox) live c.in_ok-taken.ensures) in
-    subst (λ (x : World KeptSession). KeepsListed kept_rules x) (sym s.next_is) (next_lists kept_rules kept_have_lists w e (subst (λ (x : World KeptSession). KeepsListed kept_rules x) known c.self.invariant))
+    let state : world_in c.self.inside.state ≡ w = ap (λ g. g.world) (c.self.view_is ∙ c.spread_keys.ensures) in
+    let live : world_in c.expire.new.self ≡ at_moment w e.moment = c.expire.ensures.live ∙ ap (λ x. at_moment x e.moment) state in
+    let s = stepped w e (refusal_of c.in_ok-taken.taken) (world_in c.take_frame.new.self) (given_by kept_gives c.in_ok-taken.taken c.take_frame.new.outbox) (subst (λ x. IsGiven compact_rules kept_gives (first_that_holds (tests compact_rules x e)) (kind_of (datagram_in e)) x e.side (datagram_in e) c.in_ok-taken.taken (world_in c.take_frame.new.self) c.take_frame.new.outbox) live c.in_ok-taken.ensures) in
+    subst (λ (x : World CompactSession). KeepsListed compact_rules x) (sym s.next_is) (next_lists compact_rules kept_have_lists w e (subst (λ (x : World CompactSession). KeepsListed compact_rules x) state c.self.invariant))
 
 pub returns-clause-verdict : goal.returns-clause-verdict
 returns-clause-verdict c =
     let e = event_of c.args.event.now in
     let w = c.args.self.now.world in
-    let known : world_in c.self.inside.known ≡ w = ap (λ g. g.world) (c.self.view_is ∙ c.spread_keys.ensures) in
-    let live : world_in c.expire.new.self ≡ at_moment w e.moment = c.expire.ensures.live ∙ ap (λ x. at_moment x e.moment) known in
-    let s = stepped w e (refusal_of c.in_ok-taken.taken) (world_in c.take_frame.new.self) (given_by kept_gives c.in_ok-taken.taken c.take_frame.new.outbox) (subst (λ x. IsGiven kept_rules kept_gives (first_that_holds (tests kept_rules x e)) (kind_of (datagram_in e)) x e.side (datagram_in e) c.in_ok-taken.taken (world_in c.take_frame.new.self) c.take_frame.new.outbox) live c.in_ok-taken.ensures) in
+    let state : world_in c.self.inside.state ≡ w = ap (λ g. g.world) (c.self.view_is ∙ c.spread_keys.ensures) in
+    let live : world_in c.expire.new.self ≡ at_moment w e.moment = c.expire.ensures.live ∙ ap (λ x. at_moment x e.moment) state in
+    let s = stepped w e (refusal_of c.in_ok-taken.taken) (world_in c.take_frame.new.self) (given_by kept_gives c.in_ok-taken.taken c.take_frame.new.outbox) (subst (λ x. IsGiven compact_rules kept_gives (first_that_holds (tests compact_rules x e)) (kind_of (datagram_in e)) x e.side (datagram_in e) c.in_ok-taken.taken (world_in c.take_frame.new.self) c.take_frame.new.outbox) live c.in_ok-taken.ensures) in
     c.verdict_of.ensures ∙ s.verdict_is
 
 pub returns-clause-next : goal.returns-clause-next
 returns-clause-next c =
     let e = event_of c.args.event.now in
     let w = c.args.self.now.world in
-    let known : world_in c.self.inside.known ≡ w = ap (λ g. g.world) (c.self.view_is ∙ c.spread_keys.ensures) in
-    let live : world_in c.expire.new.self ≡ at_moment w e.moment = c.expire.ensures.live ∙ ap (λ x. at_moment x e.moment) known in
-    let s = stepped w e (refusal_of c.in_ok-taken.taken) (world_in c.take_frame.new.self) (given_by kept_gives c.in_ok-taken.taken c.take_frame.new.outbox) (subst (λ x. IsGiven kept_rules kept_gives (first_that_holds (tests kept_rules x e)) (kind_of (datagram_in e)) x e.side (datagram_in e) c.in_ok-taken.taken (world_in c.take_frame.new.self) c.take_frame.new.outbox) live c.in_ok-taken.ensures) in
+    let state : world_in c.self.inside.state ≡ w = ap (λ g. g.world) (c.self.view_is ∙ c.spread_keys.ensures) in
+    let live : world_in c.expire.new.self ≡ at_moment w e.moment = c.expire.ensures.live ∙ ap (λ x. at_moment x e.moment) state in
+    let s = stepped w e (refusal_of c.in_ok-taken.taken) (world_in c.take_frame.new.self) (given_by kept_gives c.in_ok-taken.taken c.take_frame.new.outbox) (subst (λ x. IsGiven compact_rules kept_gives (first_that_holds (tests compact_rules x e)) (kind_of (datagram_in e)) x e.side (datagram_in e) c.in_ok-taken.taken (world_in c.take_frame.new.self) c.take_frame.new.outbox) live c.in_ok-taken.ensures) in
     let settings : c.self.inside.settings ≡ c.args.self.now.settings = ap (λ g. g.settings) (c.self.view_is ∙ c.spread_keys.ensures) in
-    ap (λ (x : World KeptSession). let g : Gateway = record { settings = c.self.inside.settings; world = x } in g) s.next_is
-    ∙ ap (λ (x : Settings). let g : Gateway = record { settings = x; world = next kept_rules w e } in g) settings
+    ap (λ (x : World CompactSession). let g : Gateway = record { settings = c.self.inside.settings; world = x } in g) s.next_is
+    ∙ ap (λ (x : Settings). let g : Gateway = record { settings = x; world = next compact_rules w e } in g) settings
 
 pub returns-clause-out : goal.returns-clause-out
 returns-clause-out c =
     let e = event_of c.args.event.now in
     let w = c.args.self.now.world in
-    let known : world_in c.self.inside.known ≡ w = ap (λ g. g.world) (c.self.view_is ∙ c.spread_keys.ensures) in
-    let live : world_in c.expire.new.self ≡ at_moment w e.moment = c.expire.ensures.live ∙ ap (λ x. at_moment x e.moment) known in
-    let s = stepped w e (refusal_of c.in_ok-taken.taken) (world_in c.take_frame.new.self) (given_by kept_gives c.in_ok-taken.taken c.take_frame.new.outbox) (subst (λ x. IsGiven kept_rules kept_gives (first_that_holds (tests kept_rules x e)) (kind_of (datagram_in e)) x e.side (datagram_in e) c.in_ok-taken.taken (world_in c.take_frame.new.self) c.take_frame.new.outbox) live c.in_ok-taken.ensures) in
+    let state : world_in c.self.inside.state ≡ w = ap (λ g. g.world) (c.self.view_is ∙ c.spread_keys.ensures) in
+    let live : world_in c.expire.new.self ≡ at_moment w e.moment = c.expire.ensures.live ∙ ap (λ x. at_moment x e.moment) state in
+    let s = stepped w e (refusal_of c.in_ok-taken.taken) (world_in c.take_frame.new.self) (given_by kept_gives c.in_ok-taken.taken c.take_frame.new.outbox) (subst (λ x. IsGiven compact_rules kept_gives (first_that_holds (tests compact_rules x e)) (kind_of (datagram_in e)) x e.side (datagram_in e) c.in_ok-taken.taken (world_in c.take_frame.new.self) c.take_frame.new.outbox) live c.in_ok-taken.ensures) in
     sym (put_is c.in_ok-taken.taken c.take_frame.new.outbox) ∙ s.out_is
 
 pub returns-in_err-taken-clause-wants : goal.returns-in_err-taken-clause-wants
 returns-in_err-taken-clause-wants c =
     let e = event_of c.args.event.now in
     let w = c.args.self.now.world in
-    let known : world_in c.self.inside.known ≡ w = ap (λ g. g.world) (c.self.view_is ∙ c.spread_keys.ensures) in
-    let live : world_in c.expire.new.self ≡ at_moment w e.moment = c.expire.ensures.live ∙ ap (λ x. at_moment x e.moment) known in
-    on_err c.from_residual.result (subst (λ (x : World KeptSession). MayWant x e) live (wanted _ e _ _ c.in_err-taken.ensures))
+    let state : world_in c.self.inside.state ≡ w = ap (λ g. g.world) (c.self.view_is ∙ c.spread_keys.ensures) in
+    let live : world_in c.expire.new.self ≡ at_moment w e.moment = c.expire.ensures.live ∙ ap (λ x. at_moment x e.moment) state in
+    on_err c.from_residual.result (subst (λ (x : World CompactSession). MayWant x e) live (wanted _ e _ _ c.in_err-taken.ensures))
 
 pub returns-in_err-taken-clause-memory : goal.returns-in_err-taken-clause-memory
 returns-in_err-taken-clause-memory c =
     let e = event_of c.args.event.now in
     let w = c.args.self.now.world in
-    let known : world_in c.self.inside.known ≡ w = ap (λ g. g.world) (c.self.view_is ∙ c.spread_keys.ensures) in
-    let live : world_in c.expire.new.self ≡ at_moment w e.moment = c.expire.ensures.live ∙ ap (λ x. at_moment x e.moment) known in
+    let state : world_in c.self.inside.state ≡ w = ap (λ g. g.world) (c.self.view_is ∙ c.spread_keys.ensures) in
+    let live : world_in c.expire.new.self ≡ at_moment w e.moment = c.expire.ensures.live ∙ ap (λ x. at_moment x e.moment) state in
     let settings : c.self.inside.settings ≡ c.args.self.now.settings = ap (λ g. g.settings) (c.self.view_is ∙ c.spread_keys.ensures) in
     let lost = c.in_err-taken.ensures in
     on_err c.from_residual.result (
-      ap (λ (x : World KeptSession). let g : Gateway = record { settings = c.self.inside.settings; world = x } in g) (lost.same tt ∙ live)
+      ap (λ (x : World CompactSession). let g : Gateway = record { settings = c.self.inside.settings; world = x } in g) (lost.same tt ∙ live)
           ∙ ap (λ (x : Settings). let g : Gateway = record { settings = x; world = at_moment w e.moment } in g) settings,
       lost.nothing tt,
     )

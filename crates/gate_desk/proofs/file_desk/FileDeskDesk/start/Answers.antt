@@ -2,10 +2,10 @@ use Rattle.gate_desk.proofs.FileLaws.{untold_starts}
 use Rattle.gate_desk.proofs.file_desk.FileDeskDesk.start.Goals as goal
 
 pub returns-in-Ok-clause-ok : goal.returns-in-Ok-clause-ok
-returns-in-Ok-clause-ok g c = rw (← c.self.view_is) (untold_starts c.args.slot c.args.name.now c.args.way c.self.inside.faults c.self.inside.start_faults)
+returns-in-Ok-clause-ok g c = rw (← c.self.view_is) (untold_starts c.args.slot c.args.name.now c.args.access c.self.inside.faults c.self.inside.start_faults)
 
-pub returns-in-Ok-clause-ways : goal.returns-in-Ok-clause-ways
-returns-in-Ok-clause-ways g c = rw (← c.self.view_is) c.in-Ok.ensures.ways
+pub returns-in-Ok-clause-accesses : goal.returns-in-Ok-clause-accesses
+returns-in-Ok-clause-accesses g c = rw (← c.self.view_is) c.in-Ok.ensures.accesses
 
 pub returns-in-Ok-clause-ahead : goal.returns-in-Ok-clause-ahead
 returns-in-Ok-clause-ahead g c = rw (← c.self.view_is) c.in-Ok.ensures.ahead

@@ -1,12 +1,12 @@
 use Rattle.std.proofs.Common.{Bool, Some, ap, subst, ◌∙◌}
 use Rattle.gate_base.specs.declared.address.Addr.{Addr}
-use Rattle.gate_world.specs.Step.{stream_out}
-use Rattle.gate_world.specs.Stream.{segment_of}
-use Rattle.gate_world.specs.World.{Tracked}
-use Rattle.kept_world.specs.Kept.{KeptSession, kept_rules}
+use Rattle.gate_model.specs.Step.{stream_out}
+use Rattle.gate_model.specs.Stream.{segment_of}
+use Rattle.gate_model.specs.World.{Tracked}
+use Rattle.compact_worlds.specs.Kept.{CompactSession, compact_rules}
 use Rattle.gate_payloads.specs.Ways.{image_by}
-use Rattle.gate_steps.proofs.Results.{on_err}
-use Rattle.gate_steps.proofs.SteppedSessions.{IsSeen, seen_as, called_is, next_is, waits_is}
+use Rattle.event_steps.proofs.Results.{on_err}
+use Rattle.event_steps.proofs.SteppedSessions.{IsSeen, seen_as, called_is, next_is, waits_is}
 use Rattle.gate_sessions.specs.Sessions.{MayWantIn}
 use Rattle.gate_sessions.proofs.Gone.{gone_is}
 use Rattle.gate_sessions.proofs.engine.AnySessionEngine.take.Goals as goal
@@ -17,9 +17,9 @@ returns-clause-next c = λ image called.
     let d = c.args.segment.now.datagram.now in
     let t = c.args.tracked.now in
     let entries = c.args.entries.now in
-    let i : IsSeen kept_rules c.tracked.inside.client c.tracked.inside.pair c.tracked.inside.session c.is_client.result side d t image entries = record { seen = c.tracked.view_is; sender = c.is_client.ensures; called = called } in
-    next_is kept_rules c.tracked.inside.client c.tracked.inside.pair c.tracked.inside.session c.step.new.self c.is_client.result side d t image entries i
-    (c.in_ok-over.ensures.next image (called_is kept_rules c.tracked.inside.client c.tracked.inside.pair c.tracked.inside.session c.is_client.result side d t image entries i))
+    let i : IsSeen compact_rules c.tracked.inside.client c.tracked.inside.pair c.tracked.inside.session c.is_client.result side d t image entries = record { seen = c.tracked.view_is; sender = c.is_client.ensures; called = called } in
+    next_is compact_rules c.tracked.inside.client c.tracked.inside.pair c.tracked.inside.session c.step.new.self c.is_client.result side d t image entries i
+    (c.in_ok-over.ensures.next image (called_is compact_rules c.tracked.inside.client c.tracked.inside.pair c.tracked.inside.session c.is_client.result side d t image entries i))
 
 pub returns-clause-stepped : goal.returns-clause-stepped
 returns-clause-stepped c = λ image called.
@@ -28,13 +28,13 @@ returns-clause-stepped c = λ image called.
     let d = c.args.segment.now.datagram.now in
     let t = c.args.tracked.now in
     let entries = c.args.entries.now in
-    let i : IsSeen kept_rules c.tracked.inside.client c.tracked.inside.pair c.tracked.inside.session c.is_client.result side d t image entries = record { seen = c.tracked.view_is; sender = c.is_client.ensures; called = called } in
-    let named = called_is kept_rules c.tracked.inside.client c.tracked.inside.pair c.tracked.inside.session c.is_client.result side d t image entries i in
+    let i : IsSeen compact_rules c.tracked.inside.client c.tracked.inside.pair c.tracked.inside.session c.is_client.result side d t image entries = record { seen = c.tracked.view_is; sender = c.is_client.ensures; called = called } in
+    let named = called_is compact_rules c.tracked.inside.client c.tracked.inside.pair c.tracked.inside.session c.is_client.result side d t image entries i in
     record {
       gone = gone_is c.tracked.inside.client c.tracked.inside.pair c.tracked.inside.session c.is_client.result side d t image entries c.source_image.result.0 c.destination_image.result.0 c.step.new.outbox i (c.in_ok-over.ensures.out image named)
-          ∙ ap (λ (a : Addr). stream_out kept_rules image side d a.0 c.destination_image.result.0 (Some t)) c.source_image.ensures
-          ∙ ap (λ (a : Addr). stream_out kept_rules image side d (image_by way.of_source way.source).0 a.0 (Some t)) c.destination_image.ensures;
-      waits = waits_is kept_rules c.tracked.inside.client c.tracked.inside.pair c.tracked.inside.session c.step.new.self c.is_client.result side d t image entries c.in_ok-over.over c.waiting-waiting.result i (c.in_ok-over.ensures.next image named) c.in_ok-over.ensures.over c.waiting-waiting.ensures;
+          ∙ ap (λ (a : Addr). stream_out compact_rules image side d a.0 c.destination_image.result.0 (Some t)) c.source_image.ensures
+          ∙ ap (λ (a : Addr). stream_out compact_rules image side d (image_by way.of_source way.source).0 a.0 (Some t)) c.destination_image.ensures;
+      waits = waits_is compact_rules c.tracked.inside.client c.tracked.inside.pair c.tracked.inside.session c.step.new.self c.is_client.result side d t image entries c.in_ok-over.over c.waiting-waiting.result i (c.in_ok-over.ensures.next image named) c.in_ok-over.ensures.over c.waiting-waiting.ensures;
     }
 
 pub returns-in_err-over-clause-lost : goal.returns-in_err-over-clause-lost
@@ -44,5 +44,5 @@ returns-in_err-over-clause-lost c =
     on_err c.from_residual.result (record {
       same = λ keeps. ap (seen_as c.tracked.inside.client c.tracked.inside.pair) c.in_err-over.ensures.same ∙ c.tracked.view_is;
       nothing = λ keeps. c.in_err-over.ensures.nothing;
-      wants = subst (λ (b : Bool). MayWantIn b t.session (segment_of d)) c.is_client.ensures (subst (λ (x : Tracked KeptSession). MayWantIn c.is_client.result x.session (segment_of d)) c.tracked.view_is c.in_err-over.ensures.memory);
+      wants = subst (λ (b : Bool). MayWantIn b t.session (segment_of d)) c.is_client.ensures (subst (λ (x : Tracked CompactSession). MayWantIn c.is_client.result x.session (segment_of d)) c.tracked.view_is c.in_err-over.ensures.memory);
     })

@@ -1,6 +1,6 @@
 use Rattle.std.proofs.Common.{ap, subst, sym, ◌∙◌}
 use Rattle.std.specs.Prelude.{None}
-use Rattle.stream_kept.specs.Sessions.{SessionKept}
+use Rattle.compact_stream.specs.Sessions.{CompactState}
 use Rattle.gate_sessions.specs.Directions.{DnsKept, dns_session}
 use Rattle.gate_sessions.specs.Sessions.{IsSession}
 use Rattle.gate_sessions.proofs.SessionLemmas.{made_session}
@@ -12,4 +12,4 @@ invariant_of-result c = (tt, subst (λ (d : DnsKept). IsSession (dns_session c.a
 pub invariant_of-result-2 : goal.invariant_of-result-2
 invariant_of-result-2 c =
     let is = c.in_ok-ftp_session.ensures in
-    ((ap (λ s. s.client_dialogue.pair) is, ap (λ s. s.server_dialogue.pair) is), subst (λ (h : SessionKept). IsSession (record { pair = c.args.pair; lists = None; kept = h })) (sym (ap (λ s. s.kept) is)) (made_session 21 c.args.pair c.args.initial c.args.mss))
+    ((ap (λ s. s.client_dialogue.pair) is, ap (λ s. s.server_dialogue.pair) is), subst (λ (h : CompactState). IsSession (record { pair = c.args.pair; lists = None; kept = h })) (sym (ap (λ s. s.kept) is)) (made_session 21 c.args.pair c.args.initial c.args.mss))

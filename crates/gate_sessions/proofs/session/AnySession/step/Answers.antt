@@ -3,12 +3,12 @@ use Rattle.std.specs.Prelude.{Option, None}
 use Rattle.gate_base.specs.declared.address.Addr.{Addr}
 use Rattle.dialogue.specs.Learning.{Entry}
 use Rattle.stream_model.specs.Session.{Segment}
-use Rattle.gate_world.specs.Stream.{segment_of, sent_as}
-use Rattle.kept_world.specs.Kept.{KeptSession, kept_rules}
-use Rattle.unit_plans.specs.Steps.{entered_all}
+use Rattle.gate_model.specs.Stream.{segment_of, sent_as}
+use Rattle.compact_worlds.specs.Kept.{CompactSession, compact_rules}
+use Rattle.dns_plans.specs.Steps.{entered_all}
 use Rattle.gate_sessions.specs.Directions.{DnsKept, dns_session}
 use Rattle.gate_sessions.specs.Sessions.{session_of, IsOfPair, IsSession, MayWantIn}
-use Rattle.gate_sessions.specs.declared.kinds.Dialog.{Dialog}
+use Rattle.gate_sessions.specs.declared.kinds.SessionKind.{SessionKind}
 use Rattle.gate_sessions.proofs.Stepped.{on_err, side_of, AreNamed, next_seen, out_seen, units_stay, ftp_session, lines_stay, may_want}
 use Rattle.gate_sessions.proofs.session.AnySession.step.Goals as goal
 
@@ -18,15 +18,15 @@ invariant_of-self c =
     let f = c.args.passing.now.from_client in
     let g : Segment = segment_of c.args.passing.now.segment.now.datagram.now in
     let seen : ftp_session pair c.in-Lines.session.kept ≡ c.args.self.now = ap (session_of pair) (sym c.in-Lines.is) ∙ c.self.view_is in
-    let holds = subst (λ (x : Dialog). IsOfPair pair x × IsSession (session_of pair x)) c.in-Lines.is c.self.invariant in
-    let v : kept_rules.verdict f (ftp_session pair c.in-Lines.session.kept) g ≡ None = subst (λ (k : KeptSession). kept_rules.verdict f k g ≡ None) (sym seen) c.requires.passes in
+    let holds = subst (λ (x : SessionKind). IsOfPair pair x × IsSession (session_of pair x)) c.in-Lines.is c.self.invariant in
+    let v : compact_rules.refusal f (ftp_session pair c.in-Lines.session.kept) g ≡ None = subst (λ (k : CompactSession). compact_rules.refusal f k g ≡ None) (sym seen) c.requires.passes in
     lines_stay c.put_segments.result pair c.in-Lines.session c.put_segments.new.session f g holds.0 holds.1 v c.put_segments.ensures.next c.put_segments.ensures.same
 
 pub step_units-requires-clause-stream : goal.step_units-requires-clause-stream
 step_units-requires-clause-stream c =
     let pair = c.self.inside.pair in
     let d : DnsKept = c.deref_mut.result.now in
-    let seen : session_of pair c.self.inside.dialog ≡ dns_session pair d = ap (session_of pair) c.in-Units.is ∙ ap (dns_session pair) (sym c.deref_mut.ensures.value) in
+    let seen : session_of pair c.self.inside.kind ≡ dns_session pair d = ap (session_of pair) c.in-Units.is ∙ ap (dns_session pair) (sym c.deref_mut.ensures.value) in
     side_of pair d c.args.passing.now.from_client (subst IsSession seen c.self.invariant.1)
 
 pub invariant_of-self-in-Units : goal.invariant_of-self-in-Units
@@ -36,11 +36,11 @@ invariant_of-self-in-Units c =
     let g : Segment = segment_of c.args.passing.now.segment.now.datagram.now in
     let entries : List Entry = c.args.entries.now in
     let d : DnsKept = c.deref_mut.result.now in
-    let seen : session_of pair c.self.inside.dialog ≡ dns_session pair d = ap (session_of pair) c.in-Units.is ∙ ap (dns_session pair) (sym c.deref_mut.ensures.value) in
+    let seen : session_of pair c.self.inside.kind ≡ dns_session pair d = ap (session_of pair) c.in-Units.is ∙ ap (dns_session pair) (sym c.deref_mut.ensures.value) in
     let back : c.args.self.now ≡ dns_session pair d = sym c.self.view_is ∙ seen in
-    let v : kept_rules.verdict f (dns_session pair d) g ≡ None = subst (λ (k : KeptSession). kept_rules.verdict f k g ≡ None) back c.requires.passes in
-    let named = subst (λ (k : KeptSession). (image : Addr → Option Addr) × AreNamed image f k g entries) back c.requires.named in
-    let few : length (entered_all (kept_rules.listed f (dns_session pair d)) entries) ≤ 256 = subst (λ (k : KeptSession). length (entered_all (kept_rules.listed f k) entries) ≤ 256) back c.requires.few in
+    let v : compact_rules.refusal f (dns_session pair d) g ≡ None = subst (λ (k : CompactSession). compact_rules.refusal f k g ≡ None) back c.requires.passes in
+    let named = subst (λ (k : CompactSession). (image : Addr → Option Addr) × AreNamed image f k g entries) back c.requires.named in
+    let few : length (entered_all (compact_rules.listed f (dns_session pair d)) entries) ≤ 256 = subst (λ (k : CompactSession). length (entered_all (compact_rules.listed f k) entries) ≤ 256) back c.requires.few in
     (tt, units_stay c.step_units.result pair d c.step_units.new.session f g entries (subst IsSession seen c.self.invariant.1) v named few c.step_units.ensures.next c.step_units.ensures.same)
 
 pub returns-in-Units-clause-next : goal.returns-in-Units-clause-next
@@ -64,7 +64,7 @@ returns-in-Units-clause-memory c =
     let f = c.args.passing.now.from_client in
     let g : Segment = segment_of c.args.passing.now.segment.now.datagram.now in
     let d : DnsKept = c.deref_mut.result.now in
-    let seen : session_of pair c.self.inside.dialog ≡ dns_session pair d = ap (session_of pair) c.in-Units.is ∙ ap (dns_session pair) (sym c.deref_mut.ensures.value) in
+    let seen : session_of pair c.self.inside.kind ≡ dns_session pair d = ap (session_of pair) c.in-Units.is ∙ ap (dns_session pair) (sym c.deref_mut.ensures.value) in
     on_err c.step_units.result
-    (λ m. subst (λ (k : KeptSession). MayWantIn f k g) (sym seen ∙ c.self.view_is) (may_want pair d f g c.args.entries.now (subst IsSession seen c.self.invariant.1) m))
+    (λ m. subst (λ (k : CompactSession). MayWantIn f k g) (sym seen ∙ c.self.view_is) (may_want pair d f g c.args.entries.now (subst IsSession seen c.self.invariant.1) m))
     c.step_units.ensures.memory

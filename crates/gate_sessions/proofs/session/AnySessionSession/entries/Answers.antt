@@ -1,11 +1,11 @@
 use Rattle.std.proofs.Common.{◌∷◌, ◌++◌, [], List, sym, ◌∙◌, ap}
 use Rattle.dialogue.specs.Learning.{Entry}
-use Rattle.kept_world.specs.Kept.{kept_rules}
-use Rattle.unit_plans.proofs.EnteredLemmas.{take-next}
+use Rattle.compact_worlds.specs.Kept.{compact_rules}
+use Rattle.dns_plans.proofs.EnteredLemmas.{take-next}
 use Rattle.gate_sessions.proofs.session.AnySessionSession.entries.Goals as goal
 
 pub loop-place-preserved : goal.loop-place-preserved
 loop-place-preserved c =
     c.in_ok-push.ensures.items
     ∙ ap (λ (xs : List Entry). xs ++ c.entry.result ∷ []) c.loop-place.invariant
-    ∙ sym (take-next (kept_rules.listed c.args.client c.args.self.now) c.loop-place.place c.entry.result c.entry.ensures)
+    ∙ sym (take-next (compact_rules.listed c.args.client c.args.self.now) c.loop-place.place c.entry.result c.entry.ensures)

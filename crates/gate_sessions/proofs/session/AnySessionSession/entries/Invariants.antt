@@ -1,6 +1,6 @@
 use Rattle.std.proofs.Common.{◌≡◌, take}
-use Rattle.kept_world.specs.Kept.{kept_rules}
+use Rattle.compact_worlds.specs.Kept.{compact_rules}
 use Rattle.gate_sessions.proofs.session.AnySessionSession.entries.Given as goal
 
 abbrev pub invariant-loop-place : goal.invariant-loop-place
-invariant-loop-place l = l.entries.items ≡ take l.place (kept_rules.listed l.client l.self)
+invariant-loop-place l = l.entries.items ≡ take l.place (compact_rules.listed l.client l.self)

@@ -2,15 +2,15 @@ use Rattle.std.proofs.Common.{◌≡◌, ◌≤◌, ◌++◌, ℕ, Bool, List, t
 use Rattle.gate_base.specs.declared.event.Pair.{Pair}
 use Rattle.dns_stream.specs.Ends.{rest-short}
 use Rattle.stream_model.specs.Session.{Segment, arrival, segment_in}
-use Rattle.stream_model.specs.Verdict.{is_data}
-use Rattle.stream_kept.specs.Outs.{start_kept}
-use Rattle.stream_kept.specs.Sessions.{sender_kept}
-use Rattle.kept_world.specs.Kept.{KeptSession, kept_units}
-use Rattle.unit_plans.specs.Plans.{whole_units}
-use Rattle.unit_plans.proofs.NamedLemmas.{whole_part}
+use Rattle.stream_model.specs.Refusals.{is_data}
+use Rattle.compact_stream.specs.Outs.{start_kept}
+use Rattle.compact_stream.specs.Sessions.{sender_kept}
+use Rattle.compact_worlds.specs.Kept.{CompactSession, kept_units}
+use Rattle.dns_plans.specs.Plans.{whole_units}
+use Rattle.dns_plans.proofs.NamedLemmas.{whole_part}
 use Rattle.gate_sessions.specs.Directions.{DnsKept, dns_session}
 use Rattle.gate_sessions.specs.Sessions.{session_of, IsSession}
-use Rattle.gate_sessions.specs.declared.kinds.Dialog.{Dialog}
+use Rattle.gate_sessions.specs.declared.kinds.SessionKind.{SessionKind}
 use Rattle.gate_sessions.proofs.SessionLemmas.{joined_units}
 use Rattle.gate_sessions.proofs.session.AnySessionSession.put_octets.Goals as goal
 
@@ -24,7 +24,7 @@ join-requires-clause-rest c =
     let f = c.args.from_client in
     let d : DnsKept = c.in-Units.session.value in
     subst (λ (r : List ℕ). length r ≤ 8193) (sym (c.rest.ensures ∙ ap (λ (x : DnsKept). (sender_kept f x.kept).rest) c.deref-then-is_data.ensures))
-    (rest_in c.self.inside.pair d f (subst (λ (x : Dialog). IsSession (session_of c.self.inside.pair x)) c.in-Units.is c.self.invariant.1))
+    (rest_in c.self.inside.pair d f (subst (λ (x : SessionKind). IsSession (session_of c.self.inside.pair x)) c.in-Units.is c.self.invariant.1))
 
 pub returns-then-is_data : goal.returns-then-is_data
 returns-then-is_data c =
@@ -40,4 +40,4 @@ returns-then-is_data c =
     ∙ ap (λ (t : List ℕ). c.rest.result.now ++ t) (whole_part c.repeated-repeated.result c.payload.result.now ∙ fresh)
     ∙ ap (λ (r : List ℕ). r ++ drop (min (length g.octets) (start_kept (sender_kept f d.kept) g).before) g.octets) (c.rest.ensures ∙ ap (λ (x : DnsKept). (sender_kept f x.kept).rest) c.deref-then-is_data.ensures) in
     let data_is : is_data (arrival g) ≡ true = sym c.is_data.ensures ∙ c.if-is_data.true in
-    ap whole_units joined ∙ joined_units pair d f g data_is ∙ ap (λ (k : KeptSession). kept_units f k g) seen
+    ap whole_units joined ∙ joined_units pair d f g data_is ∙ ap (λ (k : CompactSession). kept_units f k g) seen

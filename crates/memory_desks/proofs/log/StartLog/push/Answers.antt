@@ -13,7 +13,7 @@ unreachable-requires-then-is_err-2 c =
 
 pub invariant_of-self : goal.invariant_of-self
 invariant_of-self c =
-    let e : Entry = record { slot = c.args.slot; way = c.args.way; len = length c.args.name.now } in
+    let e : Entry = record { slot = c.args.slot; access = c.args.access; len = length c.args.name.now } in
     let es : c.push.new.self.items ≡ c.self.inside.entries.items ++ e ∷ [] = search rules in
     let ns : c.extend_from_slice.new.self.items ≡ c.self.inside.names.items ++ c.args.name.now = search rules in
     let size = names_size-starts_in c.self.inside.entries.items c.self.inside.names.items (omega (arith, c.self.invariant.whole)) in
@@ -27,7 +27,7 @@ invariant_of-self c =
 
 pub returns : goal.returns
 returns c =
-    let e : Entry = record { slot = c.args.slot; way = c.args.way; len = length c.args.name.now } in
+    let e : Entry = record { slot = c.args.slot; access = c.args.access; len = length c.args.name.now } in
     let es : c.push.new.self.items ≡ c.self.inside.entries.items ++ e ∷ [] = search rules in
     let ns : c.extend_from_slice.new.self.items ≡ c.self.inside.names.items ++ c.args.name.now = search rules in
     rw (← c.self.view_is, es, ns) (starts_in-push c.self.inside.entries.items c.self.inside.names.items e c.args.name.now c.self.invariant.whole refl)

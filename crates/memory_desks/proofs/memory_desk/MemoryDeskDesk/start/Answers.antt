@@ -6,4 +6,4 @@ pub returns-then-name-gt-NAMES_LIMIT-clause-err : goal.returns-then-name-gt-NAME
 returns-then-name-gt-NAMES_LIMIT-clause-err c = rw (← c.self.view_is) (memory_fails_to_start c.args.slot (the_view c.self.inside) c.raise.new.self c.raise.ensures)
 
 pub returns-clause-ok : goal.returns-clause-ok
-returns-clause-ok c = rw (← c.self.view_is) (memory_starts c.args.slot c.args.name.now c.args.way (the_view c.self.inside) c.push.new.self (rw c.as_bytes.ensures.value at c.push.ensures))
+returns-clause-ok c = rw (← c.self.view_is) (memory_starts c.args.slot c.args.name.now c.args.access (the_view c.self.inside) c.push.new.self (rw c.as_bytes.ensures.value at c.push.ensures))

@@ -1,0 +1,61 @@
+-- Sessions by all that was heard of both hosts: they answer as sessions over whole lists do.
+use Rattle.std.specs.Prelude.{◌≤◌, ℕ, Bool, true, false, List, Option, IfSome, length}
+use Rattle.gate_base.specs.declared.event.Pair.{Pair}
+use Rattle.dns_stream.specs.Units.{unit_addresses}
+use Rattle.dns_stream.specs.Images.{dns_units}
+use Rattle.stream_model.specs.Session.{Sender, own}
+use Rattle.audit_streams.specs.Hosts.{Heard, sender_by}
+use Rattle.dialogue.specs.Learning.{AllUnitsListed}
+use Rattle.gate_model.specs.Lists.{Lists, list_of, most_entries}
+use Rattle.gate_model.specs.Rules.{SessionRules, whole_rules}
+use Rattle.gate_model.specs.Sessions.{WholeSession, meaning_by}
+use Rattle.lawful_files.specs.Wanted.{Sends, whole_sent}
+
+-- the pair of a session's hosts, its lists where it is one of DNS, and what was heard of both hosts
+pub record HeardSession : Type 0 where
+  pub pair : Pair
+  pub lists : Option Lists
+  pub client : Heard
+  pub server : Heard
+
+-- the session over whole lists of which this was heard
+abbrev pub session_in : HeardSession → WholeSession
+session_in h = record {
+  lists = h.lists;
+  session = record { client = sender_by (meaning_by h.lists h.pair true) h.client; server = sender_by (meaning_by h.lists h.pair false) h.server };
+}
+
+-- what was heard of a sender
+abbrev pub heard_of : Sender → Heard
+heard_of a = record { mss = a.mss; initial = a.initial; octets = a.octets; ended = a.ended; acked = a.acked }
+
+-- and of a session of hosts of this pair
+abbrev pub heard_in : Pair → WholeSession → HeardSession
+heard_in pair x = record { pair = pair; lists = x.lists; client = heard_of x.session.client; server = heard_of x.session.server }
+
+-- sessions by what was heard
+abbrev pub heard_rules : SessionRules HeardSession
+heard_rules = record {
+  made = λ port pair initial mss. heard_in pair (whole_rules.made port pair initial mss);
+  refusal = λ from_client h g. whole_rules.refusal from_client (session_in h) g;
+  units = λ from_client h g. whole_rules.units from_client (session_in h) g;
+  listed = λ client h. whole_rules.listed client (session_in h);
+  next = λ image from_client h g. heard_in h.pair (whole_rules.next image from_client (session_in h) g);
+  out = λ image from_client h g. whole_rules.out image from_client (session_in h) g;
+  ends = λ from_client h g. whole_rules.ends from_client (session_in h) g;
+  inner = λ from_client h number. whole_rules.inner from_client (session_in h) number;
+  pending = λ h. whole_rules.pending (session_in h);
+}
+
+-- what they send for a segment that passes, before it is cut
+abbrev pub heard_sent : Sends HeardSession
+heard_sent image from_client h g = whole_sent image from_client (session_in h) g
+
+-- all addresses in the whole units of the client's octets (true), or of the server's, have an entry, where there are lists
+abbrev pub AreKnown : Option Lists → Bool → List ℕ → Type 0
+AreKnown lists client octets = IfSome lists (λ l. AllUnitsListed unit_addresses (dns_units (list_of client l)) (list_of client l) octets)
+
+-- what holds of each session by itself: all addresses that were heard of are listed, and no list is longer than the most
+pub record IsSession (h : HeardSession) : Type 0 where
+  pub known : (client : Bool) → AreKnown h.lists client (own client (session_in h).session).octets
+  pub few : (client : Bool) → length (heard_rules.listed client h) ≤ most_entries

@@ -1,0 +1,54 @@
+-- Sessions of two kinds as code keeps them.
+use Rattle.std.specs.Prelude.{◌≡◌, Bool, true, false, Some, None, List}
+use Rattle.gate_base.specs.declared.event.Pair.{Pair}
+use Rattle.dialogue.specs.Learning.{Entry, AllUnitsListed}
+use Rattle.dns_stream.specs.Units.{unit_addresses}
+use Rattle.dns_stream.specs.Images.{dns_units}
+use Rattle.stream_model.specs.Session.{Session, Segment, own}
+use Rattle.stream_model.specs.Steps.{session_next}
+use Rattle.audit_streams.specs.Hosts.{HeardStreams, session_of}
+use Rattle.audit_streams.specs.Known.{entries_of}
+use Rattle.dns_plans.specs.Steps.{entered_all}
+use Rattle.audit_sessions.specs.Heard.{HeardSession}
+use Rattle.audit_sessions.specs.declared.kinds.SessionKind.{SessionKind}
+use Rattle.audit_sessions.specs.declared.kinds.SessionKind.TheVariants.{Lines, Units}
+
+-- a connection of DNS: its dialogues are the lists
+abbrev pub DnsHeard : Type 0
+DnsHeard = HeardStreams (List Entry) (List Entry)
+
+-- the list of the client (true), or of the server
+abbrev pub listed_of : Bool → DnsHeard → List Entry
+listed_of client d = entries_of (λ entries. entries) (λ entries. entries) client d
+
+-- the session over whole lists of both hosts
+abbrev pub streams_of : DnsHeard → Session
+streams_of d = session_of dns_units dns_units d
+
+-- all addresses in the whole units of that host have an entry
+abbrev pub IsListedSide : Bool → DnsHeard → Type 0
+IsListedSide client d = AllUnitsListed unit_addresses (dns_units (listed_of client d)) (listed_of client d) (own client (streams_of d)).octets
+
+-- with these entered into the list of the client (true), or of the server
+abbrev pub with_entered : Bool → List Entry → DnsHeard → DnsHeard
+with_entered true named d = record d { client_dialogue = entered_all d.client_dialogue named }
+with_entered false named d = record d { server_dialogue = entered_all d.server_dialogue named }
+
+-- it has passed a segment, by the lists as they are
+pub record HasPassed (from_client : Bool) (old new : DnsHeard) (segment : Segment) : Type 0 where
+  pub client : new.client_dialogue ≡ old.client_dialogue
+  pub server : new.server_dialogue ≡ old.server_dialogue
+  pub session : streams_of new ≡ session_next from_client (streams_of old) segment
+
+-- what was heard of hosts of this pair
+abbrev pub dns_session : Pair → DnsHeard → HeardSession
+dns_session pair d = record { pair = pair; lists = Some (record { client = d.client_dialogue; server = d.server_dialogue }); client = d.client; server = d.server }
+
+abbrev pub session_by : Pair → SessionKind → HeardSession
+session_by pair (Lines d) = record { pair = pair; lists = None; client = d.client; server = d.server }
+session_by pair (Units d) = dns_session pair d
+
+-- both dialogues of lines have this pair
+abbrev pub IsOfPair : Pair → SessionKind → Type 0
+IsOfPair pair (Lines d) = (d.client_dialogue.pair ≡ pair) × (d.server_dialogue.pair ≡ pair)
+IsOfPair pair (Units d) = Unit {0}

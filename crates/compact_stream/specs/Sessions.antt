@@ -1,0 +1,44 @@
+-- What is kept of a session.
+use Rattle.std.specs.Prelude.{ℕ, Bool, true, false, [], Option, Some, None}
+use Rattle.shift_ledger.specs.Kept.{Kept}
+use Rattle.gate_base.specs.declared.refusal.Refusal.{Refusal}
+use Rattle.dialogue.specs.Meaning.{Meaning}
+use Rattle.stream_model.specs.Session.{Session, Segment, arrival}
+use Rattle.stream_model.specs.Refusals.{refusal_of}
+use Rattle.compact_stream.specs.Kept.{CompactSender, KeepsSender, extent_kept, unlike_kept, own_kept, other_kept}
+
+-- what is kept of both hosts
+pub record CompactState : Type 0 where
+  pub client : CompactSender
+  pub server : CompactSender
+
+-- what is kept of the session that a client's first SYN makes, by its initial number, its maximum segment size and two ledgers of nothing
+abbrev pub kept_made : ℕ → ℕ → Kept → Kept → CompactState
+kept_made initial mss client server = record {
+  client = record { mss = mss; initial = Some initial; ended = false; acked = 0; rest = []; released = false; ledger = client; recent = [] };
+  server = record { mss = 536; initial = None; ended = false; acked = 0; rest = []; released = false; ledger = server; recent = [] };
+}
+
+-- what is kept is that of this session
+pub record StandsForSession (m n : Meaning) (h : CompactState) (x : Session) : Type 0 where
+  pub client : KeepsSender m h.client x.client
+  pub server : KeepsSender n h.server x.server
+
+-- what is kept of who sends a segment: the client (true), or the server
+abbrev pub sender_kept : Bool → CompactState → CompactSender
+sender_kept true h = h.client
+sender_kept false h = h.server
+
+-- what is kept of who takes it
+abbrev pub receiver_kept : Bool → CompactState → CompactSender
+receiver_kept true h = h.server
+receiver_kept false h = h.client
+
+-- the verdict, by what is kept
+abbrev pub kept_verdict : Bool → CompactState → Segment → Option Refusal
+kept_verdict from_client h segment = refusal_of from_client (extent_kept (sender_kept from_client h)) (extent_kept (receiver_kept from_client h)) (arrival segment) (unlike_kept (sender_kept from_client h) segment)
+
+-- what is kept after a segment of the client (true), or of the server
+abbrev pub kept_next : Meaning → Meaning → Bool → CompactState → Segment → CompactState
+kept_next m n true h segment = record { client = own_kept m h.client segment; server = other_kept h.server segment }
+kept_next m n false h segment = record { client = other_kept h.client segment; server = own_kept n h.server segment }

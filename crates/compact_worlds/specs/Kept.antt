@@ -1,0 +1,76 @@
+-- Sessions by what is kept of them.
+use Rattle.std.specs.Prelude.{◌≡◌, ℕ, Bool, true, false, cond, List, [], ◌++◌, drop, max, length, Option, IfSome, option_map}
+use Rattle.std.specs.List.{AllByRecursion}
+use Rattle.gate_base.specs.declared.address.Addr.{Addr}
+use Rattle.gate_base.specs.declared.event.Pair.{Pair}
+use Rattle.dialogue.specs.Learning.{Entry, AllListed, AllUnitsListed}
+use Rattle.dialogue.specs.Meaning.{Meaning}
+use Rattle.dialogue.specs.Stream.{cut}
+use Rattle.dns_stream.specs.Units.{unit_addresses}
+use Rattle.dns_stream.specs.Images.{dns_units}
+use Rattle.stream_model.specs.Session.{Segment, arrival, own}
+use Rattle.stream_model.specs.Refusals.{is_data}
+use Rattle.compact_stream.specs.Kept.{CompactSender, Keeps, InRange}
+use Rattle.compact_stream.specs.Outs.{start_kept, kept_out, kept_ends, inner_kept}
+use Rattle.compact_stream.specs.Sessions.{CompactState, StandsForSession, sender_kept, kept_made, kept_verdict, kept_next}
+use Rattle.stream_gate.specs.Directions.{nothing_pushed}
+use Rattle.gate_model.specs.Lists.{Lists, list_of, with_list, addresses_in, entered}
+use Rattle.gate_model.specs.Rules.{SessionRules}
+use Rattle.gate_model.specs.Sessions.{WholeSession, lists_at, meaning_by, entries_by, units_by}
+use Rattle.stream_gate.specs.Listed.{IsListedStream as IsStreamListed}
+
+-- the pair of a session's hosts, the lists of a DNS session, and what is kept of both hosts
+pub record CompactSession : Type 0 where
+  pub pair : Pair
+  pub lists : Option Lists
+  pub kept : CompactState
+
+-- how many changed lines or units wait to be acknowledged
+abbrev pub kept_pending : CompactState → ℕ
+kept_pending h = max (length h.client.ledger.changed) (length h.server.ledger.changed)
+
+-- the units that a sender's segment completes: those in the held rest and what goes on behind it
+abbrev pub kept_completed : Meaning → CompactSender → Segment → List (List ℕ)
+kept_completed m h segment = cond (is_data (arrival segment)) (cut m (h.rest ++ drop (start_kept h segment).before segment.octets)).units []
+
+abbrev pub kept_units : Bool → CompactSession → Segment → List (List ℕ)
+kept_units from_client k segment = units_by k.lists (kept_completed (meaning_by k.lists k.pair from_client) (sender_kept from_client k.kept) segment)
+
+-- the lists after the addresses of a segment's units were entered, by what they are called
+abbrev pub kept_lists : (Addr → Option Addr) → Bool → CompactSession → Segment → Option Lists
+kept_lists image from_client k segment = option_map (with_list from_client (entered image (entries_by k.lists from_client) (addresses_in (kept_units from_client k segment)))) k.lists
+
+-- sessions by what is kept of them
+abbrev pub compact_rules : SessionRules CompactSession
+compact_rules = record {
+  made = λ port pair initial mss. record { pair = pair; lists = lists_at port; kept = kept_made initial mss nothing_pushed nothing_pushed };
+  refusal = λ from_client k g. kept_verdict from_client k.kept g;
+  units = kept_units;
+  listed = λ client k. entries_by k.lists client;
+  next = λ image from_client k g. let lists = kept_lists image from_client k g in record { pair = k.pair; lists = lists; kept = kept_next (meaning_by lists k.pair true) (meaning_by lists k.pair false) from_client k.kept g };
+  out = λ image from_client k g. let lists = kept_lists image from_client k g in kept_out (meaning_by lists k.pair true) (meaning_by lists k.pair false) from_client k.kept g;
+  ends = λ from_client k g. kept_ends from_client k.kept g;
+  inner = λ from_client k number. inner_kept from_client k.kept number;
+  pending = λ k. kept_pending k.kept;
+}
+
+-- each address of the whole units of a stream is listed, where there are lists
+abbrev pub AllNamesListed : Option Lists → Bool → List ℕ → Type 0
+AllNamesListed lists client octets = IfSome lists (λ l. AllUnitsListed unit_addresses (dns_units (list_of client l)) (list_of client l) octets)
+
+-- what is kept is that of this session, and in its ranges
+pub record StandsFor (x : WholeSession) (k : CompactSession) : Type 0 where
+  pub lists : x.lists ≡ k.lists
+  pub session : StandsForSession (meaning_by k.lists k.pair true) (meaning_by k.lists k.pair false) k.kept x.session
+  pub client : InRange (meaning_by k.lists k.pair true) k.kept.client
+  pub server : InRange (meaning_by k.lists k.pair false) k.kept.server
+  pub listed : (client : Bool) → AllNamesListed k.lists client (own client x.session).octets
+
+-- what is kept is that of some session, all of whose addresses are listed
+pub record IsOfSome (k : CompactSession) : Type 0 where
+  pub session : WholeSession
+  pub stands : StandsFor session k
+
+-- a stream of which this is kept, all of whose addresses are listed
+abbrev pub IsListedStream : List Entry → CompactSender → Type 0
+IsListedStream entries h = IsStreamListed unit_addresses (dns_units entries) entries h

@@ -1,0 +1,49 @@
+-- What the tests of units tell.
+use Rattle.std.proofs.Common.{◌≡◌, ◌≤◌, ℕ, true, false, List, [], length, refl, sym, ◌∙◌, ap, arith}
+use Rattle.std.specs.Prelude.{map, nat_lt, Option, Some, None, is_some}
+use Rattle.std.specs.List.{list_any}
+use Rattle.gate_base.specs.Side.{other}
+use Rattle.gate_base.specs.Tests.{first_that_holds}
+use Rattle.gate_base.specs.declared.address.Addr.{Addr}
+use Rattle.gate_base.specs.declared.refusal.Refusal.TheVariants.{RenamesFull, PoolEmpty}
+use Rattle.binding_table.specs.Bindings.{Bindings, free}
+use Rattle.binding_table.specs.Plan.{needed}
+use Rattle.dialogue.specs.Learning.{Entry}
+use Rattle.dns_stream.specs.Units.{unit_end}
+use Rattle.gate_model.specs.Lists.{entered, is_bad}
+use Rattle.gate_model.specs.Units.{is_new_unbound}
+use Rattle.dns_plans.specs.Plans.{whole_units, names_in, all_addresses, plan_tests}
+use Rattle.dns_plans.specs.Steps.{entered_all, none_tests}
+use Rattle.dns_plans.specs.declared.plan.Endpoints.{Endpoints}
+use Rattle.dns_plans.proofs.EnteredLemmas.{same_count}
+use Rattle.dns_plans.proofs.NamedLemmas.{units-first, units-none}
+
+-- where no unit is whole, two tests are left
+pub none_told : (t : Bindings) (called : Addr → Option Addr) (ends : Endpoints) (es : List Entry) (octets : List ℕ) → unit_end octets ≡ None → first_that_holds (plan_tests t called ends es octets) ≡ first_that_holds (none_tests t ends es)
+none_told t called ends es octets none = let e : whole_units octets ≡ [] = units-none octets none in rw e refl
+
+pub none_named : (octets : List ℕ) → unit_end octets ≡ None → names_in octets ≡ []
+none_named octets none = let e : whole_units octets ≡ [] = units-none octets none in rw e refl
+
+pub none_whole : (end : Option ℕ) → is_some end ≡ false → end ≡ None
+none_whole None e = refl
+none_whole (Some n) e = cc
+
+pub some_whole : (octets : List ℕ) → is_some (unit_end octets) ≡ true → 1 ≤ length (whole_units octets)
+some_whole octets e = from (unit_end octets) refl e
+  where
+    from : (end : Option ℕ) → unit_end octets ≡ end → is_some end ≡ true → 1 ≤ length (whole_units octets)
+    from None f e = cc
+    from (Some n) f e = let g = units-first octets n f in rw g (omega arith)
+
+-- there are too many entries afterwards
+pub full_told : (t : Bindings) (called : Addr → Option Addr) (ends : Endpoints) (es named : List Entry) (octets : List ℕ) → list_any is_bad (whole_units octets) ≡ false → list_any (is_new_unbound t ends.side es) (names_in octets) ≡ false → map (λ (entry : Entry). entry.0) named ≡ names_in octets → nat_lt 256 (length (entered_all es named)) ≡ true → first_that_holds (plan_tests t called ends es octets) ≡ Some RenamesFull
+full_told t called ends es named octets good bound are full =
+    let many : nat_lt 256 (length (entered called es (names_in octets))) ≡ true = ap (nat_lt 256) (sym (same_count called es named (names_in octets) are)) ∙ full in
+    rw (good, bound, many) refl
+
+-- or not, and the other realm's pool has too few free addresses
+pub empty_told : (t : Bindings) (called : Addr → Option Addr) (ends : Endpoints) (es named : List Entry) (octets : List ℕ) → list_any is_bad (whole_units octets) ≡ false → list_any (is_new_unbound t ends.side es) (names_in octets) ≡ false → map (λ (entry : Entry). entry.0) named ≡ names_in octets → nat_lt 256 (length (entered_all es named)) ≡ false → nat_lt (free t (other ends.side)) (needed t ends.side (all_addresses ends (names_in octets))) ≡ true → first_that_holds (plan_tests t called ends es octets) ≡ Some PoolEmpty
+empty_told t called ends es named octets good bound are few lacks =
+    let some : nat_lt 256 (length (entered called es (names_in octets))) ≡ false = ap (nat_lt 256) (sym (same_count called es named (names_in octets) are)) ∙ few in
+    rw (good, bound, some, lacks) refl

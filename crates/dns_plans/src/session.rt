@@ -1,0 +1,82 @@
+// Sessions that are tracked, whatever they keep.
+ghost use Rattle.std.specs.Prelude.{◌≡◌, ◌≤◌, ◌<◌, length, slice_get, None, Some, IfOk};
+ghost use Rattle.stream_model.specs.Session.{segment_in};
+ghost use Rattle.dns_plans.specs.Plans.{whole_units};
+ghost use Rattle.gate_model.specs.Rules.{SessionRules};
+ghost use Rattle.gate_model.specs.World.{is_client};
+
+use crate::octets::UnitOctets;
+use crate::plan::Entry;
+use gate_base::{OutOfMemory, Pair, Refusal, Side};
+use std::alloc::Global;
+use std::marker::Model;
+use tcp_segments::TcpView;
+
+/// A tracked session, whatever it keeps of what passed.
+pub trait Session {
+    /// The answers of such sessions.
+    ghost rules: { SessionRules Self };
+
+    /// Why a segment of the client, or else of the server, is refused; None where it passes.
+    fn refusal(&self, from_client: bool, segment: &TcpView<'_>) -> Option<Refusal>
+        ensures { result ≡ rules.refusal from_client self.now (segment_in segment.now) };
+
+    /// What the sequence number of a datagram that an ICMP error brings back was at the client, or else the server, that sent it.
+    fn inner(&self, from_client: bool, sequence: u32) -> Option<u32>
+        ensures { result ≡ rules.inner from_client self.now sequence };
+
+    /// How many entries the list of the client, or else of the server, has, at most 256: none in a session of FTP.
+    fn listed(&self, client: bool) -> usize
+        ensures count { result ≡ length (rules.listed client self.now) }
+        ensures few { result ≤ 256 };
+
+    /// The address and its image at a place of that list; None for an address that is kept. The place must lie below `listed`.
+    fn entry(&self, client: bool, place: usize) -> Entry
+        requires { place < length (rules.listed client self.now) }
+        ensures { slice_get (rules.listed client self.now) place ≡ Some result };
+
+    /// A copy of that list.
+    fn entries(&self, alloc: Global, client: bool) -> Result<Vec<Entry>, OutOfMemory>
+        ensures { IfOk result (λ entries. entries.items ≡ rules.listed client self.now) };
+
+    /// Puts the octets whose whole units a segment of the client, or else of the server, completes: a held rest and what goes on behind
+    /// it, in a session of DNS. The segment must pass.
+    fn put_octets(&self, from_client: bool, segment: &TcpView<'_>, octets: &mut UnitOctets)
+        requires passes { rules.refusal from_client self.now (segment_in segment.now) ≡ None }
+        ensures { whole_units octets.new ≡ rules.units from_client self.now (segment_in segment.now) };
+}
+
+/// A session that is tracked: its client's realm, the pair of its hosts, and the session itself.
+pub struct Tracked<S> {
+    pub client: Side,
+    pub pair: Pair,
+    pub session: S,
+}
+
+// By a call of its own, since a drop that is written out wherever it happens is slow to prove.
+impl<S: Drop> Drop for Tracked<S> {
+    fn drop(self) {
+        let Self {
+            client,
+            pair,
+            session,
+        } = self;
+    }
+}
+
+impl<S> Model for Tracked<S> {
+    ghost use Rattle.gate_model.specs.World as worlds;
+
+    ghost Value = { worlds.Tracked S };
+
+    ghost view = { λ t. record { client = t.client; pair = t.pair; session = t.session } };
+}
+
+impl<S> Tracked<S> {
+    /// Whether the session's client is of the realm.
+    pub fn is_client(&self, side: Side) -> bool
+        ensures { result ≡ is_client side self.now }
+    {
+        self.client == side
+    }
+}

@@ -1,0 +1,17 @@
+-- The tests of a frame before those of its kind.
+use Rattle.std.proofs.Common.{◌≡◌, Option, None, sym, ap, ◌∙◌}
+use Rattle.std.specs.Option.{option_or}
+use Rattle.gate_base.specs.Events.{Event}
+use Rattle.gate_base.specs.Tests.{first_that_holds}
+use Rattle.gate_base.specs.declared.refusal.Refusal.{Refusal}
+use Rattle.gate_frames.specs.Judged.{front_tests}
+use Rattle.gate_frames.proofs.Tests.{first-append}
+use Rattle.gate_model.specs.Frame.{datagram_in}
+use Rattle.gate_model.specs.Verdict.{address_tests}
+use Rattle.gate_model.specs.World.{World}
+use Rattle.event_engine.specs.Lost.{early_tests}
+
+-- where none holds of the frame by itself, the first is that of its addresses
+pub first_early : {S : Type 0} (live : World S) (e : Event) → first_that_holds (front_tests e) ≡ None → first_that_holds (address_tests live.table e.side (datagram_in e)) ≡ first_that_holds (early_tests live e)
+first_early live e none =
+    sym (first-append (front_tests e) (address_tests live.table e.side (datagram_in e)) ∙ ap (λ (o : Option Refusal). option_or o (first_that_holds (address_tests live.table e.side (datagram_in e)))) none)

@@ -1,0 +1,63 @@
+-- Datagrams that go out whole, and where memory runs out for them.
+use Rattle.std.proofs.Common.{◌≡◌, ℕ, true, false, List, [], Option, Some, None, refl, sym, ap, ◌∙◌, subst, inl}
+use Rattle.std.proofs.Common.{◌==◌, Result, Ok, Err}
+use Rattle.std.specs.Prelude.{IfOk, OnErr}
+use Rattle.gate_base.specs.declared.event.OutOfMemory.{OutOfMemory}
+use Rattle.gate_base.specs.declared.refusal.Refusal.{Refusal}
+use Rattle.gate_base.specs.declared.side.Side.{Side}
+use Rattle.binding_table.specs.Bindings.{Bindings}
+use Rattle.ipv4_frames.specs.Ipv4.{Datagram}
+use Rattle.gate_base.specs.Tests.{first_that_holds}
+use Rattle.gate_model.specs.Frame.{Kind, Dns, Stream, udp_kind, icmp_kind, kind_of}
+use Rattle.gate_model.specs.Rules.{SessionRules}
+use Rattle.gate_model.specs.Verdict.{address_tests, world_tests}
+use Rattle.gate_model.specs.World.{World}
+use Rattle.gate_payloads.specs.Taken.{IsTaken}
+use Rattle.gate_payloads.specs.declared.addresses.Way.{Way}
+use Rattle.event_steps.specs.Passed.{IsPassed}
+use Rattle.event_steps.specs.Segments.{refusal_as}
+use Rattle.event_steps.proofs.Taking.{IsAllowed, leaves_connections, taken_as, told_kinds, udp_leaves, icmp_leaves, udp_is, icmp_is, tcp_is}
+use Rattle.event_engine.specs.Engines.{Gives}
+use Rattle.event_engine.specs.Given.{IsGiven, taken_whole, result_whole}
+use Rattle.event_engine.specs.Lost.{IsDone, IsDoneBy, IsDoneAs}
+use Rattle.event_engine.specs.declared.taken.Taken.{Taken}
+
+-- one that no session takes
+pub as_whole : {S P A : Type 0} (rules : SessionRules S) (gives : Gives S P A) (told : Option Refusal) (kind : Kind) (live : World S) (side : Side) (d : Datagram) (r : Option Refusal) (after : World S) (sent : List (List ℕ)) → IsPassed rules gives.tells told kind live side d r after (gives.tells.whole sent) → IsGiven rules gives told kind live side d (taken_whole r) after sent
+as_whole rules gives told kind live side d None after sent h = h
+as_whole rules gives told kind live side d (Some r) after sent h = h
+
+taken_done : {S P A : Type 0} (rules : SessionRules S) (gives : Gives S P A) (live after : World S) (side : Side) (d : Datagram) (kind : Kind) (res : Result (Option Refusal) OutOfMemory) (table : Bindings) (sent : List (List ℕ)) → leaves_connections kind ≡ true → after ≡ record live { table = table } →
+    IfOk res (λ r. IsTaken rules live side d kind r table sent) → OnErr res ((table ≡ live.table) × (sent ≡ [])) → OnErr res (kind ≡ Dns) → IsDoneAs rules gives kind live side d (result_whole res) after sent
+taken_done {S = S} rules gives live after side d kind (Ok r) table sent leaves e h m n =
+    subst (λ (w : World S). IsGiven rules gives (refusal_as rules kind live side d) kind live side d (taken_whole r) w sent) (sym e)
+    (as_whole rules gives (refusal_as rules kind live side d) kind live side d r (record live { table = table }) sent (taken_as rules gives.tells live side d kind r table sent (gives.tells.whole sent) leaves h refl))
+taken_done {S = S} rules gives live after side d kind (Err x) table sent leaves e h m n = record {
+  same = λ keeps. e ∙ ap (λ (x : Bindings). let w : World S = record live { table = x } in w) m.0;
+  nothing = λ keeps. m.1;
+  allowed = refl;
+  wants = inl n;
+}
+
+-- the tests of a datagram whose addresses are not refused are those of its kind
+done_of : {S P A : Type 0} (rules : SessionRules S) (gives : Gives S P A) (live after : World S) (side : Side) (d : Datagram) (kind : Kind) (res : Result (Taken P) OutOfMemory) (sent : List (List ℕ)) → kind_of d ≡ kind → first_that_holds (address_tests live.table side d) ≡ None →
+    IsDoneAs rules gives kind live side d res after sent → IsDone rules gives (first_that_holds (world_tests rules live side live.clock d (kind_of d))) (first_that_holds (address_tests live.table side d)) live side d res after sent
+done_of rules gives live after side d kind res sent is none h =
+    subst (λ (k : Kind). IsDoneBy rules gives (first_that_holds (world_tests rules live side live.clock d k)) (first_that_holds (address_tests live.table side d)) k live side d res after sent) (sym is)
+    (subst (λ (o : Option Refusal). IsDoneBy rules gives (first_that_holds (world_tests rules live side live.clock d kind)) o kind live side d res after sent) (sym none) (subst (λ (o : Option Refusal). IsDoneBy rules gives o None kind live side d res after sent) (told_kinds rules live side d kind none) h))
+
+pub udp_done : {S P A : Type 0} (rules : SessionRules S) (gives : Gives S P A) (live after : World S) (side : Side) (one d : Datagram) (w : Way) (res : Result (Option Refusal) OutOfMemory) (table : Bindings) (sent : List (List ℕ)) → IsAllowed live side d w → one ≡ d → d.protocol ≡ 17 → after ≡ record live { table = table } →
+    IfOk res (λ r. IsTaken rules live w.side one (udp_kind one) r table sent) → OnErr res ((table ≡ live.table) × (sent ≡ [])) → OnErr res (udp_kind one ≡ Dns) → IsDone rules gives (first_that_holds (world_tests rules live side live.clock d (kind_of d))) (first_that_holds (address_tests live.table side d)) live side d (result_whole res) after sent
+udp_done rules gives live after side one d w res table sent a same p e h m n =
+    done_of rules gives live after side d (udp_kind d) (result_whole res) sent (udp_is d p) a.none
+    (subst (λ (x : Side). IsDoneAs rules gives (udp_kind d) live x d (result_whole res) after sent) a.one_side (subst (λ (x : Datagram). IsDoneAs rules gives (udp_kind x) live w.side x (result_whole res) after sent) same (taken_done rules gives live after w.side one (udp_kind one) res table sent (udp_leaves _ _) e h m n)))
+
+pub icmp_done : {S P A : Type 0} (rules : SessionRules S) (gives : Gives S P A) (live after : World S) (side : Side) (one d : Datagram) (w : Way) (r : Option Refusal) (table : Bindings) (sent : List (List ℕ)) → IsAllowed live side d w → one ≡ d → (d.protocol == 17) ≡ false → (d.protocol == 6) ≡ false → after ≡ record live { table = table } →
+    IsTaken rules live w.side one (icmp_kind one) r table sent → IsDone rules gives (first_that_holds (world_tests rules live side live.clock d (kind_of d))) (first_that_holds (address_tests live.table side d)) live side d (Ok (taken_whole r)) after sent
+icmp_done rules gives live after side one d w r table sent a same p q e h =
+    done_of rules gives live after side d (icmp_kind d) (Ok (taken_whole r)) sent (icmp_is d p q) a.none
+    (subst (λ (x : Side). IsDoneAs rules gives (icmp_kind d) live x d (Ok (taken_whole r)) after sent) a.one_side (subst (λ (x : Datagram). IsDoneAs rules gives (icmp_kind x) live w.side x (Ok (taken_whole r)) after sent) same (taken_done rules gives live after w.side one (icmp_kind one) (Ok r) table sent (icmp_leaves _) e h tt tt)))
+
+pub tcp_done : {S P A : Type 0} (rules : SessionRules S) (gives : Gives S P A) (live after : World S) (side : Side) (d : Datagram) (w : Way) (res : Result (Taken P) OutOfMemory) (sent : List (List ℕ)) → IsAllowed live side d w → d.protocol ≡ 6 →
+    IsDoneAs rules gives Stream live w.side d res after sent → IsDone rules gives (first_that_holds (world_tests rules live side live.clock d (kind_of d))) (first_that_holds (address_tests live.table side d)) live side d res after sent
+tcp_done rules gives live after side d w res sent a p h = done_of rules gives live after side d Stream res sent (tcp_is d p) a.none (subst (λ (x : Side). IsDoneAs rules gives Stream live x d res after sent) a.one_side h)

@@ -1,0 +1,154 @@
+use Rattle.std.proofs.Common.{◌≡◌, true, false, Some, None, List, [], sym, ap, subst, refl, ◌∙◌, ℕ}
+use Rattle.tcp_segments.specs.Tcp.{Tcp}
+use Rattle.tcp_tracker.specs.Connections.{connection_of, place_of, timeout_of, short_timeout, noted, without}
+use Rattle.tcp_tracker.specs.declared.connection.ConnKey.{ConnKey}
+use Rattle.tcp_tracker.specs.declared.connection.Connection.{Connection}
+use Rattle.session_table.specs.Joined.{replaced}
+use Rattle.gate_model.specs.Stream.{key_in, session_in, stepped}
+use Rattle.gate_model.specs.World.{Tracked}
+use Rattle.event_steps.specs.SegmentFate.{image_of}
+use Rattle.event_steps.specs.Passed.{world_of}
+use Rattle.gate_model.specs.Frame.{Stream}
+use Rattle.event_steps.specs.Segments.{Enters, stream_refusal}
+use Rattle.event_steps.proofs.NotedConnections.{at_place, place_replaced, session_replaced}
+use Rattle.event_steps.proofs.SegmentsPassed.{session_goes_on, session_is_over}
+use Rattle.event_steps.proofs.SessionUsed.{enters_by, called_by, still_within, planned_used}
+use Rattle.event_engine.specs.Given.{IsGiven, given_by}
+use Rattle.event_engine.specs.Knowing.{world_in}
+use Rattle.event_engine.specs.declared.taken.Taken.TheVariants.{Cut}
+use Rattle.event_engine.proofs.Lost.{lost_in_session, lost_done}
+use Rattle.event_engine.proofs.state.State.take_by_session.Goals as goal
+
+same_session : {S : Type 0} (a b : Tracked S) → Some a ≡ Some b → a ≡ b
+same_session a b e = cc
+
+pub step_session-requires-clause-enters : goal.step_session-requires-clause-enters
+step_session-requires-clause-enters g c = λ x e.
+    let (t, p) = c.requires.plan in
+    let side = c.args.way.now.side in
+    let d = c.args.segment.now.datagram.now in
+    let found = ap (λ (k : ConnKey). session_in (connection_of k c.args.self.now.connections)) c.requires.key ∙ p.found in
+    subst (λ (y : Tracked g.row.S.Denot). Enters g.S.Session.rules side d y c.deref.result.now) (same_session t x (sym found ∙ e)) (enters_by g.S.Session.rules (world_in c.args.self.now) side d t c.args.plan.now c.deref.result.now p c.deref.ensures.value)
+
+pub returns-in_err-stepped : goal.returns-in_err-stepped
+returns-in_err-stepped g c =
+    let (t, p) = c.requires.plan in
+    let side = c.args.way.now.side in
+    let d = c.args.segment.now.datagram.now in
+    let live = world_in c.args.self.now in
+    let found = ap (λ (k : ConnKey). session_in (connection_of k c.args.self.now.connections)) c.requires.key ∙ p.found in
+    lost_done g.S.Session.rules g.S.Engine.gives live side d c.from_residual.result _ c.step_session.new.outbox c.from_residual.ensures.0 (
+    let lost = c.in_err-stepped.ensures.lost t found in
+    lost_in_session g.S.Session.rules g.S.Engine.gives live side d t _ c.step_session.new.outbox p.found p.refusal lost.wants (sym p.units.passes)
+    (λ keeps. ap (λ (x : List (Connection (Tracked g.row.S.Denot))). world_of c.args.self.now.clock.0 c.args.self.now.table x c.args.self.now.pending) (lost.same keeps)) lost.nothing)
+
+pub use_segment-requires-clause-client : goal.use_segment-requires-clause-client
+use_segment-requires-clause-client g c = λ x e.
+    let (t, p) = c.requires.plan in
+    let side = c.args.way.now.side in
+    let d = c.args.segment.now.datagram.now in
+    let live = world_in c.args.self.now in
+    let found = ap (λ (k : ConnKey). session_in (connection_of k c.args.self.now.connections)) c.requires.key ∙ p.found in
+    let s = stepped g.S.Session.rules (image_of g.S.Session.rules live side d) side d t in
+    let next = c.in_ok-stepped.ensures.next (image_of g.S.Session.rules live side d) t found (called_by g.S.Session.rules live side d t c.args.plan.now c.deref.result.now p c.deref.ensures.value) in
+    let is : Some x ≡ Some s = sym e ∙ ap (λ (all : List (Connection (Tracked g.row.S.Denot))). session_in (connection_of c.args.key.now all)) next ∙ session_replaced c.args.key.now c.args.self.now.connections t s found in
+    still_within g.S.Session.rules c.requires.laws.lists live side d t x true c.args.plan.now.client (same_session x s is) p.client
+
+pub use_segment-requires-clause-server : goal.use_segment-requires-clause-server
+use_segment-requires-clause-server g c = λ x e.
+    let (t, p) = c.requires.plan in
+    let side = c.args.way.now.side in
+    let d = c.args.segment.now.datagram.now in
+    let live = world_in c.args.self.now in
+    let found = ap (λ (k : ConnKey). session_in (connection_of k c.args.self.now.connections)) c.requires.key ∙ p.found in
+    let s = stepped g.S.Session.rules (image_of g.S.Session.rules live side d) side d t in
+    let next = c.in_ok-stepped.ensures.next (image_of g.S.Session.rules live side d) t found (called_by g.S.Session.rules live side d t c.args.plan.now c.deref.result.now p c.deref.ensures.value) in
+    let is : Some x ≡ Some s = sym e ∙ ap (λ (all : List (Connection (Tracked g.row.S.Denot))). session_in (connection_of c.args.key.now all)) next ∙ session_replaced c.args.key.now c.args.self.now.connections t s found in
+    still_within g.S.Session.rules c.requires.laws.lists live side d t x false c.args.plan.now.server (same_session x s is) p.server
+
+pub note-requires-clause-room : goal.note-requires-clause-room
+note-requires-clause-room g c = λ h.
+    let (t, p) = c.requires.plan in
+    let way = c.args.way.now in
+    let side = way.side in
+    let d = c.args.segment.now.datagram.now in
+    let live = world_in c.args.self.now in
+    let found = ap (λ (k : ConnKey). session_in (connection_of k c.args.self.now.connections)) c.requires.key ∙ p.found in
+    let image = image_of g.S.Session.rules live side d in
+    let s = stepped g.S.Session.rules image side d t in
+    let called = called_by g.S.Session.rules live side d t c.args.plan.now c.deref.result.now p c.deref.ensures.value in
+    let next = c.in_ok-stepped.ensures.next image t found called in
+    let there : session_in (connection_of c.args.key.now c.step_session.new.connections) ≡ Some s = ap (λ (all : List (Connection (Tracked g.row.S.Denot))). session_in (connection_of c.args.key.now all)) next ∙ session_replaced c.args.key.now c.args.self.now.connections t s found in
+    let a = at_place c.args.key.now c.args.self.now.connections t found in
+    let no : None ≡ Some a.place = sym h ∙ ap (place_of c.args.key.now) next ∙ place_replaced c.args.key.now c.args.self.now.connections t s found ∙ a.stands in
+    absurd cc
+
+pub use_segment-requires-in-None-clause-client : goal.use_segment-requires-in-None-clause-client
+use_segment-requires-in-None-clause-client g c = λ x e.
+    let (t, p) = c.requires.plan in
+    let side = c.args.way.now.side in
+    let d = c.args.segment.now.datagram.now in
+    let live = world_in c.args.self.now in
+    let found = ap (λ (k : ConnKey). session_in (connection_of k c.args.self.now.connections)) c.requires.key ∙ p.found in
+    let s = stepped g.S.Session.rules (image_of g.S.Session.rules live side d) side d t in
+    let next = c.in_ok-stepped.ensures.next (image_of g.S.Session.rules live side d) t found (called_by g.S.Session.rules live side d t c.args.plan.now c.deref.result.now p c.deref.ensures.value) in
+    let is : Some x ≡ Some s = sym e ∙ ap (λ (all : List (Connection (Tracked g.row.S.Denot))). session_in (connection_of c.args.key.now all)) next ∙ session_replaced c.args.key.now c.args.self.now.connections t s found in
+    still_within g.S.Session.rules c.requires.laws.lists live side d t x true c.args.plan.now.client (same_session x s is) p.client
+
+pub use_segment-requires-in-None-clause-server : goal.use_segment-requires-in-None-clause-server
+use_segment-requires-in-None-clause-server g c = λ x e.
+    let (t, p) = c.requires.plan in
+    let side = c.args.way.now.side in
+    let d = c.args.segment.now.datagram.now in
+    let live = world_in c.args.self.now in
+    let found = ap (λ (k : ConnKey). session_in (connection_of k c.args.self.now.connections)) c.requires.key ∙ p.found in
+    let s = stepped g.S.Session.rules (image_of g.S.Session.rules live side d) side d t in
+    let next = c.in_ok-stepped.ensures.next (image_of g.S.Session.rules live side d) t found (called_by g.S.Session.rules live side d t c.args.plan.now c.deref.result.now p c.deref.ensures.value) in
+    let is : Some x ≡ Some s = sym e ∙ ap (λ (all : List (Connection (Tracked g.row.S.Denot))). session_in (connection_of c.args.key.now all)) next ∙ session_replaced c.args.key.now c.args.self.now.connections t s found in
+    still_within g.S.Session.rules c.requires.laws.lists live side d t x false c.args.plan.now.server (same_session x s is) p.server
+
+pub returns-in-Some : goal.returns-in-Some
+returns-in-Some g c =
+    let (t, p) = c.requires.plan in
+    let way = c.args.way.now in
+    let side = way.side in
+    let d = c.args.segment.now.datagram.now in
+    let live = world_in c.args.self.now in
+    let found = ap (λ (k : ConnKey). session_in (connection_of k c.args.self.now.connections)) c.requires.key ∙ p.found in
+    let image = image_of g.S.Session.rules live side d in
+    let s = stepped g.S.Session.rules image side d t in
+    let called = called_by g.S.Session.rules live side d t c.args.plan.now c.deref.result.now p c.deref.ensures.value in
+    let next = c.in_ok-stepped.ensures.next image t found called in
+    let did = c.in_ok-stepped.ensures.stepped image t found called in
+    let there : session_in (connection_of c.args.key.now c.step_session.new.connections) ≡ Some s = ap (λ (all : List (Connection (Tracked g.row.S.Denot))). session_in (connection_of c.args.key.now all)) next ∙ session_replaced c.args.key.now c.args.self.now.connections t s found in
+    let flags = c.flags-flags.ensures ∙ ap (λ (x : Tcp). x.flags) c.requires.whole.tcp_is in
+    let timeout = c.timeout_of-timeout.ensures.is ∙ ap (λ (k : ConnKey). timeout_of c.args.self.now.connections k side c.flags-flags.result) c.requires.key ∙ ap (timeout_of c.args.self.now.connections (key_in c.args.self.now.table side d) side) flags in
+    subst (λ (n : ℕ). IsGiven g.S.Session.rules g.S.Engine.gives (stream_refusal g.S.Session.rules live side d) Stream live side d (Cut c.in_ok-stepped.stepped.sent) (world_of c.args.self.now.clock.0 c.use_segment.new.table c.note.new.self n) c.step_session.new.outbox) (sym c.max-self.ensures)
+    (session_goes_on g.S.Session.rules g.S.Engine.gives.tells live way d t c.in-Some.waiting c.use_segment.new.table c.note.new.self (given_by g.S.Engine.gives (Cut c.in_ok-stepped.stepped.sent) c.step_session.new.outbox) c.requires.way p.found (sym p.units.passes) (sym c.in-Some.is ∙ did.waits)
+    (λ h. planned_used g.S.Session.rules c.requires.laws.lists live way d t s c.args.plan.now c.timeout_of-timeout.result c.use_segment.new.table c.requires.listed.lawful c.requires.way p refl (h ∙ sym timeout) (c.use_segment.ensures s there))
+    (c.note.ensures.noted
+    ∙ ap (λ (x : List (Connection (Tracked g.row.S.Denot))). noted x c.args.key.now side c.flags-flags.result None way.moment) next
+    ∙ ap (λ (k : ConnKey). noted (replaced c.args.self.now.connections k s) k side c.flags-flags.result None way.moment) c.requires.key
+    ∙ ap (λ (n : ℕ). noted (replaced c.args.self.now.connections (key_in c.args.self.now.table side d) s) (key_in c.args.self.now.table side d) side n None way.moment) flags)
+    did.gone)
+
+pub returns-in-None : goal.returns-in-None
+returns-in-None g c =
+    let (t, p) = c.requires.plan in
+    let way = c.args.way.now in
+    let side = way.side in
+    let d = c.args.segment.now.datagram.now in
+    let live = world_in c.args.self.now in
+    let found = ap (λ (k : ConnKey). session_in (connection_of k c.args.self.now.connections)) c.requires.key ∙ p.found in
+    let image = image_of g.S.Session.rules live side d in
+    let s = stepped g.S.Session.rules image side d t in
+    let called = called_by g.S.Session.rules live side d t c.args.plan.now c.deref.result.now p c.deref.ensures.value in
+    let next = c.in_ok-stepped.ensures.next image t found called in
+    let did = c.in_ok-stepped.ensures.stepped image t found called in
+    let there : session_in (connection_of c.args.key.now c.step_session.new.connections) ≡ Some s = ap (λ (all : List (Connection (Tracked g.row.S.Denot))). session_in (connection_of c.args.key.now all)) next ∙ session_replaced c.args.key.now c.args.self.now.connections t s found in
+    session_is_over g.S.Session.rules g.S.Engine.gives.tells live way d t c.use_segment-in-None.new.table c.remove.new.self (given_by g.S.Engine.gives (Cut c.in_ok-stepped.stepped.sent) c.step_session.new.outbox) c.requires.way p.found (sym p.units.passes) (sym c.in-None.is ∙ did.waits)
+    (λ h. planned_used g.S.Session.rules c.requires.laws.lists live way d t s c.args.plan.now short_timeout c.use_segment-in-None.new.table c.requires.listed.lawful c.requires.way p refl h (c.use_segment-in-None.ensures s there))
+    (c.remove.ensures
+    ∙ ap (λ (x : List (Connection (Tracked g.row.S.Denot))). without x c.args.key.now) next
+    ∙ ap (λ (k : ConnKey). without (replaced c.args.self.now.connections k s) k) c.requires.key)
+    did.gone

@@ -1,0 +1,60 @@
+// What an engine does with its sessions, and what it tells of a datagram.
+ghost use Rattle.std.specs.Prelude.{◌≡◌, ◌≤◌, true, Option, [], length, IfOk, OnErr, OnOk};
+ghost use Rattle.gate_base.specs.declared.address.Addr.{Addr};
+ghost use Rattle.stream_model.specs.Session.{segment_in};
+ghost use Rattle.gate_model.specs.Stream as streams;
+ghost use Rattle.event_steps.specs.Segments.{IsSegmentOf, AreCalled, Enters};
+ghost use Rattle.event_engine.specs.Engines.{Gives, IsStepped, IsUnstepped};
+
+use crate::stepped::Stepped;
+use gate_base::{OutOfMemory, Pair, Refusal};
+use gate_outbox::{Outbox, Scratch, Segment};
+use gate_payloads::Way;
+use std::alloc::Global;
+use tcp_segments::TcpView;
+use dns_plans::{Entry, Session, Tracked};
+
+/// The sessions of an engine: the gate's, which put datagrams, or the auditor's, which tell what is sent before it is cut.
+pub trait Engine: Session + Drop {
+    /// What a session hands out for a segment, beside the datagrams that it puts.
+    type Sent: Drop;
+
+    /// What is told of a datagram.
+    ghost Told: { Type 0 };
+
+    /// What is told of datagrams that pass, and of those for which memory runs out.
+    ghost gives: { Gives Self Self.Sent Told };
+
+    /// The session that a client's first SYN to a port of the server makes, by the SYN's number and maximum segment size. On the
+    /// port of DNS it is one of DNS, and else one of FTP.
+    fn new(
+        alloc: Global,
+        port: u16,
+        pair: Pair,
+        initial: u32,
+        mss: u16,
+    ) -> Result<Self, OutOfMemory>
+        ensures { IfOk result (λ session. session ≡ Self.rules.made port pair initial mss) };
+
+    /// Why the first segment of a client is refused by the session that it makes; None where it passes.
+    fn opening_refusal(alloc: Global, pair: Pair, segment: &TcpView<'_>) -> Option<Refusal>
+        requires { length segment.now.payload ≤ 65535 }
+        ensures { result ≡ Self.rules.refusal true (Self.rules.made segment.now.destination_port pair segment.now.sequence segment.now.mss) (segment_in segment.now) };
+
+    /// A session takes a segment, whose units name addresses that are called so.
+    fn take(
+        tracked: &mut Tracked<Self>,
+        alloc: Global,
+        scratch: &mut Scratch,
+        way: &Way,
+        segment: &Segment<'_>,
+        entries: &[Entry],
+        outbox: &mut Outbox,
+    ) -> Result<Stepped<Self::Sent>, OutOfMemory>
+        requires enters { Enters Self.rules way.now.side segment.now.datagram.now tracked.old entries.now }
+        requires empty { outbox.old ≡ [] }
+        requires whole { IsSegmentOf segment.now.octets.now segment.now.datagram.now segment.now.tcp.now }
+        ensures next { (image : Addr → Option Addr) → AreCalled Self.rules image way.now.side segment.now.datagram.now tracked.old entries.now → OnOk result (tracked.new ≡ streams.stepped Self.rules image way.now.side segment.now.datagram.now tracked.old) }
+        ensures stepped { (image : Addr → Option Addr) → AreCalled Self.rules image way.now.side segment.now.datagram.now tracked.old entries.now → IfOk result (λ s. IsStepped Self.rules gives image way.now segment.now.datagram.now tracked.old s outbox.new) }
+        ensures lost { OnErr result (IsUnstepped gives way.now.side segment.now.datagram.now tracked.old tracked.old tracked.new outbox.new) };
+}

@@ -1,0 +1,283 @@
+// TCP segments, their connections and their sessions.
+ghost use Rattle.std.specs.Prelude.{◌≡◌, ◌*◌, ◌^◌, ◌<◌, ◌&&◌, [], true, Option, None, Some, IfOk, OnErr, OnOk};
+ghost use Rattle.gate_base.specs.declared.address.Addr.{Addr};
+ghost use Rattle.tcp_tracker.specs.Connections.{connection_of};
+ghost use Rattle.session_table.specs.Joined.{replaced};
+ghost use Rattle.gate_model.specs.Frame as kinds;
+ghost use Rattle.gate_model.specs.Stream as streams;
+ghost use Rattle.gate_model.specs.Held.{KeepsListed};
+ghost use Rattle.gate_model.specs.World as worlds;
+ghost use Rattle.gate_payloads.specs.Taken.{IsWayOf};
+ghost use Rattle.event_steps.specs.SegmentFate.{IsPlanOf};
+ghost use Rattle.event_steps.specs.Segments.{IsSegmentOf, AreCalled, Enters, made_on, pair_on};
+ghost use Rattle.event_engine.specs.Engines.{HasLaws, IsStepped, IsUnstepped};
+ghost use Rattle.event_engine.specs.Knowing.{world_in};
+ghost use Rattle.event_engine.specs.Lost.{IsSegmentDone};
+
+use crate::engine::Engine;
+use crate::state::State;
+use crate::stepped::Stepped;
+use crate::taken::{Taken, whole};
+use gate_base::{OutOfMemory, Pair, Refusal};
+use gate_outbox::{Outbox, Scratch, Segment};
+use gate_payloads::{Way, lacks_alias};
+use event_steps::{
+    SegmentFate, SegmentPlan, timeout_of, is_first, is_full, is_late, key_in, look_up, take_untracked,
+    use_segment,
+};
+use session_table::SessionTable;
+use std::alloc::Global;
+use tcp_segments::TcpView;
+use tcp_tracker::{ConnKey, SHORT_TIMEOUT};
+use dns_plans::{Entry, Tracked};
+
+impl<S: Engine> State<S> {
+    /// Takes a segment.
+    pub fn take_segment(
+        &mut self,
+        way: &Way,
+        segment: &Segment<'_>,
+        outbox: &mut Outbox,
+    ) -> Result<Taken<S::Sent>, OutOfMemory>
+        requires laws { HasLaws S.rules }
+        requires listed { KeepsListed S.rules (world_in self.old) }
+        requires way { IsWayOf (world_in self.old) way.now.side segment.now.datagram.now way.now }
+        requires moment { way.now.moment.0 < 2 ^ 32 * 1000000000 }
+        requires empty { outbox.old ≡ [] }
+        requires whole { IsSegmentOf segment.now.octets.now segment.now.datagram.now segment.now.tcp.now }
+        ensures { IsSegmentDone S.rules S.gives (world_in self.old) way.now.side segment.now.datagram.now result (world_in self.new) outbox.new }
+    {
+        let key = key_in(way, segment.tcp.ports());
+        self.take_on_connection(way, &key, segment, outbox)
+    }
+
+    // Takes a segment of the connection with this name.
+    fn take_on_connection(
+        &mut self,
+        way: &Way,
+        key: &ConnKey,
+        segment: &Segment<'_>,
+        outbox: &mut Outbox,
+    ) -> Result<Taken<S::Sent>, OutOfMemory>
+        requires laws { HasLaws S.rules }
+        requires listed { KeepsListed S.rules (world_in self.old) }
+        requires way { IsWayOf (world_in self.old) way.now.side segment.now.datagram.now way.now }
+        requires key { key.now ≡ streams.key_in self.old.table way.now.side segment.now.datagram.now }
+        requires moment { way.now.moment.0 < 2 ^ 32 * 1000000000 }
+        requires empty { outbox.old ≡ [] }
+        requires whole { IsSegmentOf segment.now.octets.now segment.now.datagram.now segment.now.tcp.now }
+        ensures { IsSegmentDone S.rules S.gives (world_in self.old) way.now.side segment.now.datagram.now result (world_in self.new) outbox.new }
+    {
+        let found = look_up(
+            &mut self.workspace,
+            &self.table,
+            &self.connections,
+            way,
+            key,
+            segment,
+        );
+        match found {
+            SegmentFate::Absent => self.take_beginning(way, key, segment, outbox),
+            SegmentFate::Untracked => Ok(whole(take_untracked(
+                &mut self.table,
+                &mut self.connections,
+                way,
+                key,
+                segment,
+                outbox,
+            ))),
+            SegmentFate::Tracked(plan) => self.take_by_session(way, key, segment, &plan, outbox),
+            SegmentFate::Refused(refusal) => Ok(Taken::Refused(refusal)),
+            SegmentFate::Lost => Err(OutOfMemory),
+        }
+    }
+
+    // Takes a segment whose connection doesn't live.
+    fn take_beginning(
+        &mut self,
+        way: &Way,
+        key: &ConnKey,
+        segment: &Segment<'_>,
+        outbox: &mut Outbox,
+    ) -> Result<Taken<S::Sent>, OutOfMemory>
+        requires laws { HasLaws S.rules }
+        requires way { IsWayOf (world_in self.old) way.now.side segment.now.datagram.now way.now }
+        requires key { key.now ≡ streams.key_in self.old.table way.now.side segment.now.datagram.now }
+        requires absent { connection_of key.now self.old.connections ≡ None }
+        requires moment { way.now.moment.0 < 2 ^ 32 * 1000000000 }
+        requires empty { outbox.old ≡ [] }
+        requires whole { IsSegmentOf segment.now.octets.now segment.now.datagram.now segment.now.tcp.now }
+        ensures { IsSegmentDone S.rules S.gives (world_in self.old) way.now.side segment.now.datagram.now result (world_in self.new) outbox.new }
+    {
+        if is_late(segment.tcp) {
+            return Ok(Taken::Refused(Refusal::NoSession));
+        }
+        if is_first(segment.tcp) {
+            return self.take_first(way, key, segment, outbox);
+        }
+        Ok(whole(take_untracked(
+            &mut self.table,
+            &mut self.connections,
+            way,
+            key,
+            segment,
+            outbox,
+        )))
+    }
+
+    // Takes a segment of a connection that has a session, which takes it by this plan.
+    fn take_by_session(
+        &mut self,
+        way: &Way,
+        key: &ConnKey,
+        segment: &Segment<'_>,
+        plan: &SegmentPlan,
+        outbox: &mut Outbox,
+    ) -> Result<Taken<S::Sent>, OutOfMemory>
+        requires laws { HasLaws S.rules }
+        requires listed { KeepsListed S.rules (world_in self.old) }
+        requires way { IsWayOf (world_in self.old) way.now.side segment.now.datagram.now way.now }
+        requires key { key.now ≡ streams.key_in self.old.table way.now.side segment.now.datagram.now }
+        requires plan { (t : worlds.Tracked S) × IsPlanOf S.rules (world_in self.old) way.now.side segment.now.datagram.now t plan.now }
+        requires moment { way.now.moment.0 < 2 ^ 32 * 1000000000 }
+        requires empty { outbox.old ≡ [] }
+        requires whole { IsSegmentOf segment.now.octets.now segment.now.datagram.now segment.now.tcp.now }
+        ensures { IsSegmentDone S.rules S.gives (world_in self.old) way.now.side segment.now.datagram.now result (world_in self.new) outbox.new }
+    {
+        let flags = segment.tcp.flags();
+        let timeout = timeout_of(&self.connections, way, key, flags);
+        let entries = &plan.units.entries;
+        let stepped = step_session(
+            &mut self.connections,
+            self.workspace.alloc,
+            &mut self.workspace.scratch,
+            way,
+            key,
+            segment,
+            entries,
+            outbox,
+        )?;
+        match stepped.waiting {
+            Some(waiting) => {
+                self.pending = self.pending.max(waiting);
+                use_segment(&mut self.table, &self.connections, way, key, plan, timeout);
+                self.connections.note(*key, way.side, flags, way.moment);
+                Ok(Taken::Cut(stepped.sent))
+            }
+            None => {
+                use_segment(
+                    &mut self.table,
+                    &self.connections,
+                    way,
+                    key,
+                    plan,
+                    SHORT_TIMEOUT,
+                );
+                self.connections.remove(key);
+                Ok(Taken::Cut(stepped.sent))
+            }
+        }
+    }
+
+    // Takes the first segment of a connection that is tracked: it makes the session, and is the first segment that this takes.
+    #[inline(never)]
+    fn take_first(
+        &mut self,
+        way: &Way,
+        key: &ConnKey,
+        segment: &Segment<'_>,
+        outbox: &mut Outbox,
+    ) -> Result<Taken<S::Sent>, OutOfMemory>
+        requires laws { HasLaws S.rules }
+        requires way { IsWayOf (world_in self.old) way.now.side segment.now.datagram.now way.now }
+        requires key { key.now ≡ streams.key_in self.old.table way.now.side segment.now.datagram.now }
+        requires absent { connection_of key.now self.old.connections ≡ None }
+        requires first { (streams.is_opening segment.now.tcp.now.flags && kinds.is_tracked_port segment.now.tcp.now.destination_port) ≡ true }
+        requires moment { way.now.moment.0 < 2 ^ 32 * 1000000000 }
+        requires empty { outbox.old ≡ [] }
+        requires whole { IsSegmentOf segment.now.octets.now segment.now.datagram.now segment.now.tcp.now }
+        ensures { IsSegmentDone S.rules S.gives (world_in self.old) way.now.side segment.now.datagram.now result (world_in self.new) outbox.new }
+    {
+        let pair = pair_on(way);
+        if let Some(refusal) = S::opening_refusal(self.workspace.alloc, pair, segment.tcp) {
+            return Ok(Taken::Refused(refusal));
+        }
+        if is_full(&self.connections) {
+            return Ok(Taken::Refused(Refusal::SessionsFull));
+        }
+        if lacks_alias(way) {
+            return Ok(Taken::Refused(Refusal::PoolEmpty));
+        }
+        let flags = segment.tcp.flags();
+        let timeout = timeout_of(&self.connections, way, key, flags);
+        let mut tracked: Tracked<S> = made(self.workspace.alloc, way, pair, segment.tcp)?;
+        let stepped = S::take(
+            &mut tracked,
+            self.workspace.alloc,
+            &mut self.workspace.scratch,
+            way,
+            segment,
+            &[],
+            outbox,
+        )?;
+        self.pending = self.pending.max(stepped.waiting.unwrap_or(0));
+        self.connections
+            .open(*key, way.side, flags, tracked, way.moment);
+        way.use_both(&mut self.table, timeout);
+        Ok(Taken::Cut(stepped.sent))
+    }
+}
+
+/// The session of a connection takes a segment, whose units name addresses that are called so.
+fn step_session<S: Engine>(
+    connections: &mut SessionTable<Tracked<S>>,
+    alloc: Global,
+    scratch: &mut Scratch,
+    way: &Way,
+    key: &ConnKey,
+    segment: &Segment<'_>,
+    entries: &[Entry],
+    outbox: &mut Outbox,
+) -> Result<Stepped<S::Sent>, OutOfMemory>
+    requires enters { (t : worlds.Tracked S) → streams.session_in (connection_of key.now connections.old) ≡ Some t → Enters S.rules way.now.side segment.now.datagram.now t entries.now }
+    requires empty { outbox.old ≡ [] }
+    requires whole { IsSegmentOf segment.now.octets.now segment.now.datagram.now segment.now.tcp.now }
+    ensures next { (image : Addr → Option Addr) (t : worlds.Tracked S) → streams.session_in (connection_of key.now connections.old) ≡ Some t → AreCalled S.rules image way.now.side segment.now.datagram.now t entries.now → OnOk result (connections.new ≡ replaced connections.old key.now (streams.stepped S.rules image way.now.side segment.now.datagram.now t)) }
+    ensures stepped { (image : Addr → Option Addr) (t : worlds.Tracked S) → streams.session_in (connection_of key.now connections.old) ≡ Some t → AreCalled S.rules image way.now.side segment.now.datagram.now t entries.now → IfOk result (λ s. IsStepped S.rules S.gives image way.now segment.now.datagram.now t s outbox.new) }
+    ensures lost { (t : worlds.Tracked S) → streams.session_in (connection_of key.now connections.old) ≡ Some t → OnErr result (IsUnstepped S.gives way.now.side segment.now.datagram.now t connections.old connections.new outbox.new) }
+{
+    match connections.session_mut(key) {
+        Some(tracked) => S::take(tracked, alloc, scratch, way, segment, entries, outbox),
+        None => Err(OutOfMemory),
+    }
+}
+
+/// The pair of the hosts on a way.
+fn pair_on(way: &Way) -> Pair
+    ensures { result ≡ pair_on way.now }
+{
+    Pair {
+        client: way.source,
+        client_alias: way.source_image(),
+        server: way.destination_image(),
+        server_alias: way.destination,
+    }
+}
+
+/// The session that a client's first segment makes, itself not yet taken.
+fn made<S: Engine>(
+    alloc: Global,
+    way: &Way,
+    pair: Pair,
+    tcp: &TcpView<'_>,
+) -> Result<Tracked<S>, OutOfMemory>
+    requires { pair ≡ pair_on way.now }
+    ensures { IfOk result (λ tracked. tracked ≡ made_on S.rules way.now tcp.now) }
+{
+    let session = S::new(alloc, tcp.ports().1, pair, tcp.sequence(), tcp.mss())?;
+    Ok(Tracked {
+        client: way.side,
+        pair,
+        session,
+    })
+}

@@ -1,0 +1,86 @@
+// The uses of a segment of a session (RFC 2694, RFC 3022, 3.1).
+ghost use Rattle.std.specs.Prelude.{◌≡◌, ◌≤◌, ◌<◌, ◌*◌, ◌^◌, ◌++◌, take, length, true, false, Some};
+ghost use Rattle.gate_base.specs.Side.{other};
+ghost use Rattle.binding_table.specs.Bindings.{is_settled};
+ghost use Rattle.binding_table.specs.Plan.{after_uses};
+ghost use Rattle.gate_model.specs.Lists.{renamed_in};
+ghost use Rattle.gate_model.specs.Stream as streams;
+ghost use Rattle.gate_model.specs.Units.{uses_until};
+ghost use Rattle.gate_model.specs.World as worlds;
+ghost use Rattle.tcp_tracker.specs.Connections.{connection_of};
+ghost use Rattle.gate_payloads.specs.Ways.{IsWay};
+ghost use Rattle.event_steps.specs.SegmentFate.{uses_planned};
+
+use crate::entries::use_entry;
+use crate::found::SegmentPlan;
+use binding_table::Table;
+use gate_base::{Moment, Side};
+use gate_payloads::{Way, use_all};
+use session_table::SessionTable;
+use tcp_tracker::ConnKey;
+use dns_plans::{Session, Tracked};
+
+/// Uses the addresses of the first entries of the client's list, or else of the server's, from the realm of its sender.
+fn use_list<S: Session>(
+    table: &mut Table,
+    session: &S,
+    client: bool,
+    count: usize,
+    side: Side,
+    until: Moment,
+)
+    requires { count ≤ length (S.rules.listed client session.now) }
+    ensures { table.new ≡ after_uses table.old (uses_until side until.0 (renamed_in (take count (S.rules.listed client session.now)))) }
+{
+    for place in 0..count {
+        use_entry(table, side, session.entry(client, place), until);
+    }
+}
+
+/// Uses the addresses that the lists of a session rename, as long as they were before the segment: the client's list first.
+fn use_lists<S: Session>(table: &mut Table, tracked: &Tracked<S>, plan: &SegmentPlan, until: Moment)
+    requires client { plan.now.client ≤ length (S.rules.listed true tracked.now.session) }
+    requires server { plan.now.server ≤ length (S.rules.listed false tracked.now.session) }
+    ensures { table.new ≡ after_uses table.old (uses_until tracked.now.client until.0 (renamed_in (take plan.now.client (S.rules.listed true tracked.now.session))) ++ uses_until (other tracked.now.client) until.0 (renamed_in (take plan.now.server (S.rules.listed false tracked.now.session)))) }
+{
+    let client = tracked.client;
+    use_list(table, &tracked.session, true, plan.client, client, until);
+    use_list(
+        table,
+        &tracked.session,
+        false,
+        plan.server,
+        client.other(),
+        until,
+    );
+}
+
+/// Uses the addresses of a segment's header, those that its units name, and those that the lists of its session rename, which has taken
+/// it.
+#[inline(always)]
+pub fn use_segment<S: Session>(
+    table: &mut Table,
+    connections: &SessionTable<Tracked<S>>,
+    way: &Way,
+    key: &ConnKey,
+    plan: &SegmentPlan,
+    timeout: u64,
+)
+    requires way { IsWay table.old way.now }
+    requires settled { is_settled way.now.of_destination ≡ true }
+    requires moment { way.now.moment.0 < 2 ^ 32 * 1000000000 }
+    requires timeout { timeout ≤ 7440 * 1000000000 }
+    requires client { (t : worlds.Tracked S) → streams.session_in (connection_of key.now connections.now) ≡ Some t → plan.now.client ≤ length (S.rules.listed true t.session) }
+    requires server { (t : worlds.Tracked S) → streams.session_in (connection_of key.now connections.now) ≡ Some t → plan.now.server ≤ length (S.rules.listed false t.session) }
+    ensures { (t : worlds.Tracked S) → streams.session_in (connection_of key.now connections.now) ≡ Some t → table.new ≡ after_uses table.old (uses_planned S.rules way.now plan.now timeout t) }
+{
+    let until = Moment(way.moment.0 + timeout);
+    way.use_both(table, timeout);
+    use_all(table, way.side, &plan.units.named, until);
+    if plan.client == 0 && plan.server == 0 {
+        return;
+    }
+    if let Some(tracked) = connections.session(key) {
+        use_lists(table, tracked, plan, until);
+    }
+}

@@ -1,0 +1,39 @@
+// The memory and the rooms to work with.
+use binding_table::SeenAddresses;
+use expiring_table::Seed;
+use gate_base::OutOfMemory;
+use gate_outbox::Scratch;
+use std::alloc::Global;
+use dns_plans::UnitOctets;
+
+/// The memory and the rooms to work with.
+pub struct Workspace {
+    pub alloc: Global,
+    pub scratch: Scratch,
+    pub seen_addresses: SeenAddresses,
+    pub octets: UnitOctets,
+}
+
+// By a call of its own, since a drop that is written out wherever it happens is slow to prove.
+impl Drop for Workspace {
+    fn drop(self) {
+        let Self {
+            alloc,
+            scratch,
+            seen_addresses,
+            octets,
+        } = self;
+    }
+}
+
+impl Workspace {
+    /// The rooms; the seed spreads the addresses that are counted in one. The error is that there is too little memory.
+    pub fn new(alloc: Global, seed: Seed) -> Result<Workspace, OutOfMemory> {
+        Ok(Workspace {
+            alloc,
+            scratch: Scratch::new(alloc)?,
+            seen_addresses: SeenAddresses::new(alloc, seed)?,
+            octets: UnitOctets::new(alloc)?,
+        })
+    }
+}

@@ -1,9 +1,0 @@
-use Rattle.std.proofs.Common.{sym, subst}
-use Rattle.gate_world.specs.Held.{KeepsListed}
-use Rattle.gate_world.specs.World.{World}
-use Rattle.gate_world.proofs.ListsWorld.{opening_lists}
-use Rattle.heard_sessions.specs.Heard.{HeardSession, heard_rules}
-use Rattle.gate_audit.proofs.auditor.Auditor.make.Goals as goal
-
-pub invariant_of-result : goal.invariant_of-result
-invariant_of-result c = λ kept. subst (λ (x : World HeardSession). KeepsListed heard_rules x) (sym c.in_ok-make.ensures) (opening_lists heard_rules c.args.settings c.requires.sound c.requires.forms)

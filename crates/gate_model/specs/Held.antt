@@ -1,0 +1,94 @@
+-- The bindings of connections: while a connection lives its hosts keep their aliases.
+use Rattle.std.specs.Prelude.{◌≡◌, ◌≤◌, ◌⊎◌, ℕ, Bool, true, false, not, All, [], length, unwrap_or, Option, Some, None, IfSome}
+use Rattle.std.specs.List.{AllByRecursion}
+use Rattle.gate_base.specs.Side.{other}
+use Rattle.gate_base.specs.declared.address.Addr.{Addr}
+use Rattle.gate_base.specs.declared.event.Pair.{Pair}
+use Rattle.gate_base.specs.declared.side.Side.{Side}
+use Rattle.gate_base.specs.declared.side.Side.TheVariants.{Left, Right}
+use Rattle.binding_table.specs.Bindings.{Bindings, is_same, seen}
+use Rattle.binding_table.specs.Lasting.{IsBoundTo, IsKnownAs}
+use Rattle.binding_table.specs.Lawful.{IsLawful}
+use Rattle.dialogue.specs.Learning.{Entry, is_listed}
+use Rattle.dns_stream.specs.Images.{image_in}
+use Rattle.tcp_tracker.specs.declared.connection.ConnKey.{ConnKey}
+use Rattle.tcp_tracker.specs.declared.connection.Connection.{Connection}
+use Rattle.stream_model.specs.Session.{Segment}
+use Rattle.gate_model.specs.Lists.{most_entries, addresses_in, entered}
+use Rattle.gate_model.specs.Rules.{SessionRules}
+use Rattle.gate_model.specs.World.{Tracked, World}
+
+-- the realm's host in the name of a connection
+abbrev pub host_in : Side → ConnKey → ℕ
+host_in Left key = key.left.0
+host_in Right key = key.right.0
+
+-- the pair of a session is that of its connection's hosts and their aliases
+pub record IsPairOf (client : Side) (pair : Pair) (hosts aliases : Side → ℕ) : Type 0 where
+  pub client_host : pair.client.0 ≡ hosts client
+  pub client_alias : pair.client_alias.0 ≡ aliases client
+  pub server_host : pair.server.0 ≡ hosts (other client)
+  pub server_alias : pair.server_alias.0 ≡ aliases (other client)
+
+-- both hosts of a connection are bound as long as it lives, and a session's pair is that of these bindings
+pub record KeepsHosts {S : Type 0} (table : Bindings) (c : Connection (Tracked S)) : Type 0 where
+  pub aliases : Side → ℕ
+  pub known : (side : Side) → IsKnownAs table side (host_in side c.key) (aliases side) c.until.0
+  pub pair : IfSome c.session (λ t. IsPairOf t.client t.pair (λ side. host_in side c.key) aliases)
+
+-- what crossing gives for a session's pair
+pub record PairCrosses {S : Type 0} (table : Bindings) (t : Tracked S) : Type 0 where
+  pub client : seen table t.client t.pair.client ≡ Some t.pair.client_alias
+  pub server : seen table t.client t.pair.server_alias ≡ Some t.pair.server
+
+-- an address of the realm crosses to another through a binding that is for good or lasts at least until a moment: its own, or that of the host for which it stands
+abbrev pub IsBoundAs : Bindings → Side → ℕ → ℕ → ℕ → Type 0
+IsBoundAs table side address image until = IsBoundTo table side address image until ⊎ IsBoundTo table (other side) image address until
+
+-- so does an address to its listed image; one that is kept crosses unchanged
+abbrev pub IsImage : Bindings → Side → ℕ → Addr → Option Addr → Type 0
+IsImage table side until address None = is_same table address ≡ true
+IsImage table side until address (Some image) = IsBoundAs table side address.0 image.0 until
+
+abbrev pub IsEntryBound : Bindings → Side → ℕ → Entry → Type 0
+IsEntryBound table side until entry = IsImage table side until entry.0 entry.1
+
+-- the realm of the client (true), or of the server
+abbrev pub side_of : {S : Type 0} → Bool → Tracked S → Side
+side_of true t = t.client
+side_of false t = other t.client
+
+-- what the lists of a session rename is bound, as it is listed, until a moment
+abbrev pub ListsAreBound : {S : Type 0} → SessionRules S → Bindings → ℕ → Tracked S → Type 0
+ListsAreBound rules table until t = (client : Bool) → AllByRecursion (IsEntryBound table (side_of client t) until) (rules.listed client t.session)
+
+-- for as long as its connection lives
+abbrev pub KeepsLists : {S : Type 0} → SessionRules S → Bindings → Connection (Tracked S) → Type 0
+KeepsLists rules table c = IfSome c.session (ListsAreBound rules table c.until.0)
+
+-- what each representation of sessions does with lists: nothing is listed when a session begins, the addresses in the units of a segment are entered into its sender's list and the other one stays, and a SYN completes no unit
+pub record HasLists {S : Type 0} (rules : SessionRules S) : Type 0 where
+  pub made : (port : ℕ) (pair : Pair) (initial mss : ℕ) (client : Bool) → rules.listed client (rules.made port pair initial mss) ≡ []
+  pub own : (image : Addr → Option Addr) (from_client : Bool) (s : S) (g : Segment) → rules.listed from_client (rules.next image from_client s g) ≡ entered image (rules.listed from_client s) (addresses_in (rules.units from_client s g))
+  pub other : (image : Addr → Option Addr) (from_client : Bool) (s : S) (g : Segment) → rules.listed (not from_client) (rules.next image from_client s g) ≡ rules.listed (not from_client) s
+  pub syn : (from_client : Bool) (s : S) (g : Segment) → g.flags.syn ≡ true → rules.units from_client s g ≡ []
+
+-- a world in which all that is listed is bound
+pub record KeepsListed {S : Type 0} (rules : SessionRules S) (w : World S) : Type 0 where
+  pub lawful : IsLawful w.table
+  pub lists : All (KeepsLists rules w.table) w.connections
+
+-- what crossing gives for an address that is listed: its image, or itself where it is kept
+abbrev pub EntryCrosses : Bindings → Side → Entry → Type 0
+EntryCrosses table side entry = seen table side entry.0 ≡ Some (unwrap_or entry.1 entry.0)
+
+abbrev pub ListsCross : {S : Type 0} → SessionRules S → Bindings → Tracked S → Type 0
+ListsCross rules table t = (client : Bool) → AllByRecursion (EntryCrosses table (side_of client t)) (rules.listed client t.session)
+
+-- each address that was listed keeps its image
+abbrev pub KeepsImages : {S : Type 0} → SessionRules S → Tracked S → Tracked S → Type 0
+KeepsImages rules old new = (client : Bool) (number : ℕ) → is_listed (rules.listed client old.session) number ≡ true → image_in (rules.listed client new.session) number ≡ image_in (rules.listed client old.session) number
+
+-- no list is longer than the most
+abbrev pub ListsAreFew : {S : Type 0} → SessionRules S → Tracked S → Type 0
+ListsAreFew rules t = (client : Bool) → length (rules.listed client t.session) ≤ most_entries

@@ -1,0 +1,91 @@
+-- What is promised of the frames of two realms, whatever they are.
+use Rattle.std.specs.Prelude.{◌≡◌, ◌≤◌, ◌+◌, ℕ, Bool, All, List, [], ◌∷◌, ◌++◌, length, Option, Some, None}
+use Rattle.std.specs.List.{fold}
+use Rattle.gate_base.specs.Events.{Event}
+use Rattle.gate_base.specs.Tests.{first_that_holds}
+use Rattle.gate_base.specs.declared.event.Verdict.TheVariants.{Pass, Refused}
+use Rattle.gate_base.specs.declared.refusal.Refusal.{Refusal}
+use Rattle.gate_settings.specs.declared.settings.Settings.{Settings}
+use Rattle.twice_translate.specs.Renamed.{renamed}
+use Rattle.gate_model.specs.Frame.{Stream, datagram_in, kind_of}
+use Rattle.gate_model.specs.GoingOn.{streams_of, OnlyRestsWait, HasDataSegment, GoesOnBy, ComesThrough}
+use Rattle.gate_model.specs.Held.{PairCrosses, KeepsLists, ListsCross, KeepsImages}
+use Rattle.gate_model.specs.Reading.{world_as}
+use Rattle.gate_model.specs.Rounds.{FrameRound, AllFrameRounds, after_frame_rounds}
+use Rattle.gate_model.specs.Rules.{whole_rules}
+use Rattle.gate_model.specs.Sessions.{WholeSession}
+use Rattle.gate_model.specs.Step.{next, out, taker_in, translated}
+use Rattle.gate_model.specs.Taken.{TakesSegment, said, taken_by}
+use Rattle.gate_model.specs.Remembered.{RememberedSession, remembering_rules, SessionIs, EachTracked}
+use Rattle.stream_model.specs.Progress.{acknowledged_of}
+use Rattle.stream_model.specs.Session.{own}
+use Rattle.gate_model.specs.Verdict.{table_after, tests, verdict}
+use Rattle.gate_model.specs.World.{Tracked, World, at_moment, called, destination_of, opening_world, source_of}
+
+-- what is known after these events
+abbrev pub known_after : Settings → List Event → World WholeSession
+known_after settings events = fold (next whole_rules) (opening_world settings) events
+
+-- the same, where each session remembers what passed and what went out
+abbrev pub remembered_after : Settings → List Event → World RememberedSession
+remembered_after settings events = fold (next remembering_rules) (opening_world settings) events
+
+-- the first reason to refuse an event's frame, if there is one
+abbrev pub reason : World WholeSession → Event → Option Refusal
+reason w e = first_that_holds (tests whole_rules (at_moment w e.moment) e)
+
+-- no session takes an event's frame
+abbrev pub IsPlain : World WholeSession → Event → Type 0
+IsPlain w e = kind_of (datagram_in e) ≡ Stream → taker_in whole_rules (at_moment w e.moment) e.side e.moment (datagram_in e) ≡ None
+
+-- the renaming of an event's frame: its addresses are called as after its uses, those in its payload too, and its lifetime is less by 1
+abbrev pub renaming : World WholeSession → Event → List ℕ
+renaming w e =
+    let live = at_moment w e.moment in
+    let d = datagram_in e in
+    let table = table_after whole_rules live e.side e.moment d (kind_of d) in
+    renamed (translated whole_rules live table e.side d (kind_of d)) (called table e.side (source_of d)).0 (called table e.side (destination_of d)).0
+
+-- what becomes of an event's frame:
+pub record FrameIs (w : World WholeSession) (e : Event) : Type 0 where
+  -- where there is a reason to refuse it, it is refused by the name of the first one, and nothing goes out;
+  pub refused : (r : Refusal) → reason w e ≡ Some r → (verdict whole_rules w e ≡ Refused r) × (out whole_rules w e ≡ [])
+  -- else it passes, and something goes out at its own event;
+  pub passes : reason w e ≡ None → (verdict whole_rules w e ≡ Pass) × (1 ≤ length (out whole_rules w e))
+  -- and where no session takes it, that is its renaming
+  pub renames : verdict whole_rules w e ≡ Pass → IsPlain w e → out whole_rules w e ≡ renaming w e ∷ []
+
+-- each round of repeats of the client's octets (true), or the server's, raises what is acknowledged of their image, or what their sender knows to be acknowledged
+abbrev pub RoundsEnd : Settings → List Event → Bool → Tracked RememberedSession → ℕ → ℕ → List FrameRound → Type 0
+RoundsEnd settings done client t knows had rounds =
+    let w = remembered_after settings done in
+    let a = own client (streams_of t) in
+    let new = own client (streams_of (after_frame_rounds w t rounds)) in
+    knows ≤ acknowledged_of a → a.acked ≤ had → AllFrameRounds client w t knows had rounds → length rounds + a.acked + knows ≤ new.acked + acknowledged_of new
+
+-- by accepted settings, at each of these events and after each:
+pub record Promised (settings : Settings) (events : List Event) : Type 0 where
+  -- each frame is forwarded at its own event, unless exactly its named refusal holds, and one that no session takes as its renaming;
+  pub frames : (done others : List Event) (e : Event) → events ≡ done ++ e ∷ others → FrameIs (known_after settings done) e
+  -- in each session the octets that were sent to a host are a prefix of the peer's stream with its address lines renamed by the session's pair, or its messages by the session's lists, and acknowledgements cover only octets whose images were acknowledged;
+  pub sessions : (done others : List Event) → events ≡ done ++ others → EachTracked SessionIs (remembered_after settings done).connections
+  -- so it is with one that has taken a segment, also where it ends with that;
+  pub taken : (done others : List Event) (e : Event) → events ≡ done ++ e ∷ others → (t : Tracked RememberedSession) → TakesSegment remembering_rules (remembered_after settings done) e t → SessionIs (taken_by remembering_rules (remembered_after settings done) e t)
+  -- and each address that its lists named before has kept its image;
+  pub images : (done others : List Event) (e : Event) → events ≡ done ++ e ∷ others → (t : Tracked RememberedSession) → TakesSegment remembering_rules (remembered_after settings done) e t → KeepsImages remembering_rules t (taken_by remembering_rules (remembered_after settings done) e t)
+  -- these sessions are those that are known,
+  pub remembers : (done others : List Event) → events ≡ done ++ others → world_as (λ (t : RememberedSession). t.session) (remembered_after settings done) ≡ known_after settings done
+  -- and for a segment that one takes exactly what it says goes out;
+  pub said_is : (done others : List Event) (e : Event) → events ≡ done ++ e ∷ others → (t : Tracked RememberedSession) → TakesSegment remembering_rules (remembered_after settings done) e t → out whole_rules (known_after settings done) e ≡ said remembering_rules (remembered_after settings done) e t
+  -- its pair is what crossing gives for its hosts
+  pub pairs : (done others : List Event) → events ≡ done ++ others → EachTracked (PairCrosses (known_after settings done).table) (known_after settings done).connections
+  -- and what its lists rename is bound, as it is listed, for as long as its connection lives, so that crossing gives each listed address its one image
+  pub lists : (done others : List Event) → events ≡ done ++ others → let w = known_after settings done in All (KeepsLists whole_rules w.table) w.connections × EachTracked (ListsCross whole_rules w.table) w.connections
+  -- sessions go on: of their hosts' octets nothing waits but held rests;
+  pub waits : (done others : List Event) → events ≡ done ++ others → EachTracked (λ t. OnlyRestsWait (streams_of t)) (remembered_after settings done).connections
+  -- what goes out for a segment that one takes, without SYN and RST, brings what is lacking of its sender's octets, also where the session ends with that;
+  pub going : (done others : List Event) (e : Event) → events ≡ done ++ e ∷ others → (t : Tracked RememberedSession) → TakesSegment remembering_rules (remembered_after settings done) e t → HasDataSegment e → GoesOnBy (remembered_after settings done) e t
+  -- nothing else changes a session, whatever frames come in between;
+  pub through : (done others : List Event) (e : Event) → events ≡ done ++ e ∷ others → EachTracked (ComesThrough (remembered_after settings done) e) (next remembering_rules (remembered_after settings done) e).connections
+  -- and where a host sends again what it has no acknowledgement of, and the other acknowledges what it has, there are no more such rounds than octets and their image have
+  pub rounds : (done others : List Event) → events ≡ done ++ others → (client : Bool) (t : Tracked RememberedSession) (knows had : ℕ) (rounds : List FrameRound) → RoundsEnd settings done client t knows had rounds

@@ -1,0 +1,131 @@
+-- Sessions that remember: each segment that passed, what went out, and what was acknowledged.
+use Rattle.std.specs.Prelude.{◌≡◌, ℕ, Bool, true, false, List, [], ◌∷◌, ◌++◌, Option, Some, None, IfSome, All, map}
+use Rattle.std.specs.List.{fold, AllByRecursion}
+use Rattle.gate_base.specs.declared.address.Addr.{Addr}
+use Rattle.gate_base.specs.declared.event.Pair.{Pair}
+use Rattle.dialogue.specs.Learning.{Entry, AllListed}
+use Rattle.dialogue.specs.Stream.{cut}
+use Rattle.dns_messages.specs.declared.message.Message.{Message}
+use Rattle.dns_gateway.specs.Addresses.{message_addresses}
+use Rattle.dns_stream.specs.Units.{message_in}
+use Rattle.dns_stream.specs.Images.{image_in, renamed, dns_units}
+use Rattle.stream_model.specs.Numbers.{known}
+use Rattle.stream_model.specs.Session.{Session, Segment, Outgoing, own, other, due_in}
+use Rattle.stream_model.specs.History.{if_by, if_to, places_of, numbers_of, SentIs, EachIsBack}
+use Rattle.tcp_tracker.specs.declared.connection.Connection.{Connection}
+use Rattle.gate_model.specs.Lists.{Lists, list_of}
+use Rattle.gate_model.specs.Rules.{SessionRules, whole_rules}
+use Rattle.gate_model.specs.Sessions.{WholeSession, meaning_by}
+use Rattle.gate_model.specs.World.{Tracked}
+
+-- a segment that passed, whether the client sent it, and what an address that it names first was called
+pub record Passed : Type 0 where
+  pub from_client : Bool
+  pub segment : Segment
+  pub image : Addr → Option Addr
+
+-- of the stream of one host: what went out of its segments, the places of its image that the other host acknowledged, and the acknowledgement numbers that went out to it
+pub record Remembered : Type 0 where
+  pub sent : List Outgoing
+  pub places : List ℕ
+  pub numbers : List ℕ
+
+-- a session, the server's port, the pair and the numbers with which it began, the segments that passed, in their order, and what is remembered of both hosts' streams
+pub record RememberedSession : Type 0 where
+  pub session : WholeSession
+  pub port : ℕ
+  pub pair : Pair
+  pub initial : ℕ
+  pub mss : ℕ
+  pub past : List Passed
+  pub client : Remembered
+  pub server : Remembered
+
+-- of the client's stream (true), or the server's
+abbrev pub stream_of : Bool → RememberedSession → Remembered
+stream_of true t = t.client
+stream_of false t = t.server
+
+-- one segment more, of which this went out
+abbrev pub remembered : Bool → Bool → Session → Segment → List Outgoing → Remembered → Remembered
+remembered client from_client s segment outs r = record {
+  sent = r.sent ++ if_by client from_client outs;
+  places = r.places ++ if_to client from_client (places_of (other from_client s) segment);
+  numbers = r.numbers ++ if_to client from_client (numbers_of (other from_client s) segment outs);
+}
+
+abbrev nothing : Remembered
+nothing = record { sent = []; places = []; numbers = [] }
+
+-- they answer as sessions over whole lists do
+abbrev pub remembering_rules : SessionRules RememberedSession
+remembering_rules = record {
+  made = λ port pair initial mss. record { session = whole_rules.made port pair initial mss; port = port; pair = pair; initial = initial; mss = mss; past = []; client = nothing; server = nothing };
+  refusal = λ from_client t g. whole_rules.refusal from_client t.session g;
+  units = λ from_client t g. whole_rules.units from_client t.session g;
+  listed = λ client t. whole_rules.listed client t.session;
+  next = λ image from_client t g. record {
+    session = whole_rules.next image from_client t.session g;
+    port = t.port;
+    pair = t.pair;
+    initial = t.initial;
+    mss = t.mss;
+    past = t.past ++ record { from_client = from_client; segment = g; image = image } ∷ [];
+    client = remembered true from_client t.session.session g (whole_rules.out image from_client t.session g) t.client;
+    server = remembered false from_client t.session.session g (whole_rules.out image from_client t.session g) t.server;
+  };
+  out = λ image from_client t g. whole_rules.out image from_client t.session g;
+  ends = λ from_client t g. whole_rules.ends from_client t.session g;
+  inner = λ from_client t number. whole_rules.inner from_client t.session number;
+  pending = λ t. whole_rules.pending t.session;
+}
+
+-- as it began
+abbrev pub begun : RememberedSession → RememberedSession
+begun t = remembering_rules.made t.port t.pair t.initial t.mss
+
+-- after one segment more
+abbrev pub step : RememberedSession → Passed → RememberedSession
+step t p = remembering_rules.next p.image p.from_client t p.segment
+
+-- none of these segments, one after the other, is refused
+abbrev pub AllPass : RememberedSession → List Passed → Type 0
+AllPass t [] = Unit {0}
+AllPass t (p ∷ ps) = (remembering_rules.refusal p.from_client t p.segment ≡ None) × AllPass (step t p) ps
+
+-- a unit holds a message, each of whose addresses is listed, and goes on as that message renamed by the list
+pub record IsRenamed (entries : List Entry) (unit : List ℕ) : Type 0 where
+  pub message : Message
+  pub holds : message_in unit ≡ Some message
+  pub listed : AllListed entries (message_addresses message)
+  pub image : (dns_units entries).image unit ≡ renamed (map (image_in entries) (message_addresses message)) unit message
+
+-- each whole unit of a DNS session's stream is renamed by the list of its sender: true for the client's, false for the server's
+abbrev pub UnitsAreRenamed : Option Lists → Bool → List ℕ → Type 0
+UnitsAreRenamed lists client octets = IfSome lists (λ all. let entries = list_of client all in AllByRecursion (IsRenamed entries) (cut (dns_units entries) octets).units)
+
+-- what holds of the stream of the client (true), or the server:
+pub record StreamIs (client : Bool) (t : Tracked RememberedSession) : Type 0 where
+  -- its lines are renamed by the session's one pair, or its units by the list of its sender;
+  pub meaning : (own client t.session.session.session).meaning ≡ meaning_by t.session.session.lists t.pair client
+  -- each whole unit of DNS is a message, which that list renames;
+  pub units : UnitsAreRenamed t.session.session.lists client (own client t.session.session.session).octets
+  -- the octets that went out are those of its image that are due, each at its place and none left out;
+  pub sent : SentIs (known (own client t.session.session.session).initial) (due_in (own client t.session.session.session)) (stream_of client t.session).sent
+  -- and each acknowledgement that went out to its sender covers only octets whose images the other host acknowledged
+  pub acknowledged : EachIsBack (own client t.session.session.session) (stream_of client t.session).places (stream_of client t.session).numbers
+
+-- what a session remembers is true: it began with its hosts' pair, none of its segments was refused, and it is what they made of it
+pub record IsRemembered (t : Tracked RememberedSession) : Type 0 where
+  pub pair : t.session.pair ≡ t.pair
+  pub passed : AllPass (begun t.session) t.session.past
+  pub session : t.session ≡ fold step (begun t.session) t.session.past
+
+-- what holds of a session: what it remembers is true, and the streams of both hosts are as they should be
+pub record SessionIs (t : Tracked RememberedSession) : Type 0 where
+  pub remembers : IsRemembered t
+  pub streams : (client : Bool) → StreamIs client t
+
+-- each tracked session has this
+abbrev pub EachTracked : {S : Type 0} → (Tracked S → Type 0) → List (Connection (Tracked S)) → Type 0
+EachTracked Q all = All (λ c. IfSome c.session Q) all

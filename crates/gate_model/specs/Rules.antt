@@ -1,0 +1,45 @@
+-- What a tracked session answers, however it is represented.
+use Rattle.std.specs.Prelude.{ℕ, Bool, List, Option}
+use Rattle.gate_base.specs.declared.address.Addr.{Addr}
+use Rattle.gate_base.specs.declared.event.Pair.{Pair}
+use Rattle.gate_base.specs.declared.refusal.Refusal.{Refusal}
+use Rattle.dialogue.specs.Learning.{Entry}
+use Rattle.stream_model.specs.Session.{Segment, Outgoing}
+use Rattle.stream_model.specs.Refusals.{segment_refusal}
+use Rattle.stream_model.specs.Steps.{session_ends, session_inner, session_open}
+use Rattle.gate_model.specs.Sessions.{WholeSession, whole_made, whole_units, whole_listed, whole_next, whole_out}
+
+-- the answers of sessions of one representation; where a segment is taken, it is told whether the client sends it, and what an address that it names first is called
+pub record SessionRules (S : Type 0) : Type 0 where
+  -- the session of a client's first SYN, by the server's port, the pair of its hosts, the SYN's number and its maximum segment size
+  pub made : ℕ → Pair → ℕ → ℕ → S
+  -- why a segment is refused
+  pub refusal : Bool → S → Segment → Option Refusal
+  -- the units that a segment completes; only a session of DNS tells any
+  pub units : Bool → S → Segment → List (List ℕ)
+  -- the list of entries of the client (true), or of the server
+  pub listed : Bool → S → List Entry
+  -- the session after a segment that passes, into whose list the addresses in its units are entered first
+  pub next : (Addr → Option Addr) → Bool → S → Segment → S
+  -- what goes out of it
+  pub out : (Addr → Option Addr) → Bool → S → Segment → List Outgoing
+  -- whether it ends the session
+  pub ends : Bool → S → Segment → Bool
+  -- the sender's own number of one that an ICMP error brings back
+  pub inner : Bool → S → ℕ → Option ℕ
+  -- how many changed lines or units wait to be acknowledged
+  pub pending : S → ℕ
+
+-- sessions over whole lists
+abbrev pub whole_rules : SessionRules WholeSession
+whole_rules = record {
+  made = whole_made;
+  refusal = λ from_client x segment. segment_refusal from_client x.session segment;
+  units = whole_units;
+  listed = whole_listed;
+  next = whole_next;
+  out = whole_out;
+  ends = λ from_client x segment. session_ends from_client x.session segment;
+  inner = λ from_client x number. session_inner from_client x.session number;
+  pending = λ x. session_open x.session;
+}

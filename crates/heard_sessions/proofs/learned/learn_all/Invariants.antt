@@ -1,6 +1,0 @@
-use Rattle.std.proofs.Common.{◌≡◌, take}
-use Rattle.heard_sessions.specs.Sessions.{with_entered}
-use Rattle.heard_sessions.proofs.learned.learn_all.Given as goal
-
-abbrev pub invariant-loop-one : goal.invariant-loop-one
-invariant-loop-one l = l.session ≡ with_entered l.from_client (take l.one-index l.named) l.initial.session

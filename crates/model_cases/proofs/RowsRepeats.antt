@@ -1,0 +1,72 @@
+-- Worked cases, computed: whole frames, the verdict on each and the datagrams that go out. Written by bench/model_cases.py.
+use Rattle.std.proofs.Common.{◌≡◌, true, List, [], ◌∷◌, refl}
+use Rattle.gate_base.specs.declared.refusal.Refusal.TheVariants.{Unlike}
+use Rattle.gate_base.specs.declared.side.Link.TheVariants.{Raw}
+use Rattle.gate_base.specs.declared.side.Side.TheVariants.{Left, Right}
+use Rattle.gate_settings.specs.declared.settings.Settings.{Settings}
+use Rattle.ether_frames.specs.Ether.{read_frame}
+use Rattle.inet_sum.specs.Sum.{words, fold_of}
+use Rattle.ipv4_frames.specs.Ipv4.{head_with}
+use Rattle.udp_icmp.specs.Icmp.{sealed_icmp}
+use Rattle.udp_icmp.specs.Udp.{sealed_udp}
+use Rattle.tcp_segments.specs.Options.{options_within}
+use Rattle.tcp_segments.specs.Tcp.{sealed_tcp, tcp_header_with}
+use Rattle.twice_translate.specs.Renamed.{sealed_payload, renamed}
+use Rattle.gate_base.specs.Address.{number_of}
+use Rattle.binding_table.specs.Bindings.{cross}
+use Rattle.gate_settings.specs.Cross.{block_end}
+use Rattle.icmp_errors.specs.Inner.{inner_with}
+use Rattle.dns_names.specs.Names.{piece_at}
+use Rattle.dns_names.specs.Octets.{reverse_in}
+use Rattle.dns_names.specs.Reverse.{full_reverse}
+use Rattle.dns_names.specs.Spelling.{spell}
+use Rattle.dns_names.specs.Walk.{name_at}
+use Rattle.dns_messages.specs.Reading.{content_by, resource_at, resources_at, question_at, questions_at, message_at}
+use Rattle.dns_messages.specs.Writing.{spelling}
+use Rattle.snmp_ber.specs.Element.{element_at}
+use Rattle.snmp_gateway.specs.Message.{binding, bindings_within, outline_of, message}
+use Rattle.snmp_gateway.specs.Parts.{first_of, skip}
+use Rattle.snmp_oids.specs.Arcs.{numbers_from}
+use Rattle.snmp_oids.specs.Elements.{elements_within}
+use Rattle.ftp_lines.specs.Numbers.{number, four, six}
+use Rattle.ftp_lines.specs.Grammar.{port, eprt, delimited, passive, client_text, server_text}
+use Rattle.ftp_lines.specs.Renaming.{spelled}
+use Rattle.std.specs.Fmt.{digits}
+use Rattle.gate_model.specs.Verdict.{verdict}
+use Rattle.gate_model.proofs.RowWords.{Row, hex, fixed, pool, set, event, passes, refused, found, wanted}
+
+-- a repeat with other octets is refused, and passes unread once acknowledged
+abbrev repeat_that_differs : List Row
+repeat_that_differs =
+    (event Left 1000000000 Raw true (hex 44 0x4500002c000240004006a81b0a000005c0a8c8019c400015000003e80000000060022000453a0000020405b4), passes (hex 44 0x4500002c000240003f067cb4ac1009010a0000059c400015000003e8000000006002200018d30000020405b4 ∷ []))
+    ∷ (event Right 2000000000 Raw true (hex 44 0x4500002c0002400040067bb40a000005ac10090100159c4000001388000003e960122000053a0000020405b4), passes (hex 44 0x4500002c000240003f06a91bc0a8c8010a00000500159c4000001388000003e96012200031a10000020405b4 ∷ []))
+    ∷ (event Left 3000000000 Raw true (hex 40 0x45000028000240004006a81f0a000005c0a8c8019c400015000003e90000138950102000495e0000), passes (hex 40 0x45000028000240003f067cb8ac1009010a0000059c400015000003e900001389501020001cf70000 ∷ []))
+    ∷ (event Left 4000000000 Raw true (hex 46 0x4500002e000240004006a8190a000005c0a8c8019c400015000003e900001389501820009ea600004e4f4f500d0a), passes (hex 46 0x4500002e000240003f067cb2ac1009010a0000059c400015000003e90000138950182000723f00004e4f4f500d0a ∷ []))
+    ∷ (event Left 5000000000 Raw true (hex 46 0x4500002e000240004006a8190a000005c0a8c8019c400015000003e900001389501820009ea500004e4f4f510d0a), refused Unlike)
+    ∷ (event Right 6000000000 Raw true (hex 40 0x450000280002400040067bb80a000005ac10090100159c4000001389000003ef501020001cf10000), passes (hex 40 0x45000028000240003f06a91fc0a8c8010a00000500159c4000001389000003ef5010200049580000 ∷ []))
+    ∷ (event Left 7000000000 Raw true (hex 46 0x4500002e000240004006a8190a000005c0a8c8019c400015000003e900001389501820009ea500004e4f4f510d0a), passes (hex 40 0x45000028000240003f067cb8ac1009010a0000059c400015000003ee00001389501020001cf20000 ∷ []))
+    ∷ []
+
+abbrev repeat_that_differs_settings : Settings
+repeat_that_differs_settings = set ([]) (pool 0xc0a8c801 0xc0a8c8fe) (pool 0xac100901 0xac1009fe) (fixed Left 0x0a000005 0xac100901 ∷ fixed Right 0x0a000005 0xc0a8c801 ∷ fixed Right 0x0a000035 0xc0a8c835 ∷ [])
+
+repeat_that_differs_holds : found repeat_that_differs_settings repeat_that_differs ≡ wanted repeat_that_differs 0
+unfolding read_frame words fold_of head_with sealed_icmp sealed_udp options_within sealed_tcp tcp_header_with sealed_payload renamed number_of cross block_end inner_with piece_at reverse_in full_reverse spell name_at content_by resource_at resources_at question_at questions_at message_at spelling element_at binding bindings_within outline_of message first_of skip numbers_from elements_within number four six port eprt delimited passive client_text server_text spelled digits verdict
+repeat_that_differs_holds = refl
+
+-- a repeated PORT line with another address is refused
+abbrev repeat_of_changed_line_differs : List Row
+repeat_of_changed_line_differs =
+    (event Left 1000000000 Raw true (hex 44 0x4500002c000240004006a81b0a000005c0a8c8019c400015000003e80000000060022000453a0000020405b4), passes (hex 44 0x4500002c000240003f067cb4ac1009010a0000059c400015000003e8000000006002200018d30000020405b4 ∷ []))
+    ∷ (event Right 2000000000 Raw true (hex 44 0x4500002c0002400040067bb40a000005ac10090100159c4000001388000003e960122000053a0000020405b4), passes (hex 44 0x4500002c000240003f06a91bc0a8c8010a00000500159c4000001388000003e96012200031a10000020405b4 ∷ []))
+    ∷ (event Left 3000000000 Raw true (hex 40 0x45000028000240004006a81f0a000005c0a8c8019c400015000003e90000138950102000495e0000), passes (hex 40 0x45000028000240003f067cb8ac1009010a0000059c400015000003e900001389501020001cf70000 ∷ []))
+    ∷ (event Left 4000000000 Raw true (hex 59 0x4500003b000240004006a80c0a000005c0a8c8019c400015000003e9000013895018200051840000504f52542031302c302c302c352c342c310d0a), passes (hex 61 0x4500003d000240003f067ca3ac1009010a0000059c400015000003e90000138950182000e6e30000504f5254203137322c31362c392c312c342c310d0a ∷ []))
+    ∷ (event Left 5000000000 Raw true (hex 59 0x4500003b000240004006a80c0a000005c0a8c8019c400015000003e9000013895018200050840000504f52542031302c302c302c362c342c310d0a), refused Unlike)
+    ∷ []
+
+abbrev repeat_of_changed_line_differs_settings : Settings
+repeat_of_changed_line_differs_settings = set ([]) (pool 0xc0a8c801 0xc0a8c8fe) (pool 0xac100901 0xac1009fe) (fixed Left 0x0a000005 0xac100901 ∷ fixed Right 0x0a000005 0xc0a8c801 ∷ fixed Right 0x0a000035 0xc0a8c835 ∷ [])
+
+repeat_of_changed_line_differs_holds : found repeat_of_changed_line_differs_settings repeat_of_changed_line_differs ≡ wanted repeat_of_changed_line_differs 1
+unfolding read_frame words fold_of head_with sealed_icmp sealed_udp options_within sealed_tcp tcp_header_with sealed_payload renamed number_of cross block_end inner_with piece_at reverse_in full_reverse spell name_at content_by resource_at resources_at question_at questions_at message_at spelling element_at binding bindings_within outline_of message first_of skip numbers_from elements_within number four six port eprt delimited passive client_text server_text spelled digits verdict
+repeat_of_changed_line_differs_holds = refl

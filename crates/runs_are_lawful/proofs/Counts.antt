@@ -1,0 +1,184 @@
+-- How many datagrams an event gives.
+use Rattle.std.proofs.Common.{◌≡◌, ◌≤◌, ◌<◌, ◌+◌, ◌-◌, ◌/◌, ◌^◌, ℕ, zero, suc, Bool, true, false, cond, List, length, drop, Option, Some, None, refl, sym, ap, subst, arith, length-take, length-drop}
+use Rattle.std.specs.Prelude.{IfSome, nat_lt, slice_range, if◌then◌else◌, ◌||◌}
+use Rattle.std.proofs.Math.Nat.{div-le_self}
+use Rattle.std.proofs.lemmas.List.{length-map}
+use Rattle.std.proofs.lemmas.List.Elements.{All-filter}
+use Rattle.dialogue.specs.Meaning.{Meaning, IsLawful}
+use Rattle.dialogue.specs.Stream.{image}
+use Rattle.dns_stream.specs.Lawful.{dns_units-lawful}
+use Rattle.gate_base.specs.Events.{Event}
+use Rattle.gate_base.specs.declared.address.Addr.{Addr}
+use Rattle.gate_base.specs.declared.event.Pair.{Pair}
+use Rattle.gate_base.specs.declared.event.Verdict.{Verdict}
+use Rattle.gate_base.specs.declared.event.Verdict.TheVariants.{Pass, Refused, Held}
+use Rattle.gate_base.specs.declared.side.Side.{Side}
+use Rattle.binding_table.specs.Bindings.{Bindings}
+use Rattle.ipv4_frames.specs.Ipv4.{Datagram}
+use Rattle.stream_model.specs.Session.{Sender, Session, Segment, own, other, session, due_in, start_of}
+use Rattle.stream_model.specs.Refusals.{segment_refusal}
+use Rattle.stream_model.specs.Steps.{pieces, limit_of, taken, acknowledged, sends_end, low, high, empty_piece, bare_offset, acknowledgement_to, outgoing, pieces_for, syn_out, reset_out, data_out, out as sender_out, session_out, session_next, session_made, own_after}
+use Rattle.stream_model.specs.declared.numbers.Offset.{Offset}
+use Rattle.stream_model.proofs.Cutting.{pieces_from, pieces_are}
+use Rattle.stream_model.proofs.FactLemmas.{image_small, short_step}
+use Rattle.stream_model.proofs.SessionSent.{own_meaning, other_meaning}
+use Rattle.tcp_tracker.specs.Connections.{is_live}
+use Rattle.tcp_tracker.specs.declared.connection.Connection.{Connection}
+use Rattle.gate_model.specs.Frame.{Kind, Udp, Echo, Error, Dns, Snmp, Stream, datagram_in, kind_of}
+use Rattle.gate_model.specs.Lists.{Lists, list_of}
+use Rattle.gate_model.specs.Rules.{whole_rules}
+use Rattle.gate_model.specs.Sessions.{WholeSession, lists_at, meaning_by, reads_by, whole_learned}
+use Rattle.gate_model.specs.Step.{out, out_by, out_kind, stream_out, taker_in}
+use Rattle.gate_model.specs.Stream.{tcp_of, segment_of, sent_as, found_in, key_in, begins, made_by, taker_by, session_refusal}
+use Rattle.gate_model.specs.Remembered.{EachTracked}
+use Rattle.gate_model.specs.Verdict.{table_after, image_in, kind_tests, verdict}
+use Rattle.gate_model.specs.World.{World, Tracked, at_moment, called, source_of, destination_of, is_client}
+use Rattle.gate_model.proofs.Passing.{NoneHolds, passes, stream_passes}
+use Rattle.gate_model.proofs.RememberedSessions.{meaning_lawful}
+use Rattle.gate_model.proofs.Tracking.{Keeps, all_found}
+
+-- ## What each session keeps
+
+pub record Fit (a : Sender) : Type 0 where
+  pub lawful : IsLawful a.meaning
+  pub short : length a.octets < 2 ^ 30
+
+abbrev pub AreFit : Tracked WholeSession → Type 0
+AreFit t = (client : Bool) → Fit (own client t.session.session)
+
+meaning_stays : (client from : Bool) (s : Session) (g : Segment) → (own client (session_next from s g)).meaning ≡ (own client s).meaning
+meaning_stays true true s g = own_meaning g.flags.syn g.flags.reset s.client g
+meaning_stays false false s g = own_meaning g.flags.syn g.flags.reset s.server g
+meaning_stays true false s g = other_meaning (g.flags.syn || g.flags.reset) s.client g
+meaning_stays false true s g = other_meaning (g.flags.syn || g.flags.reset) s.server g
+
+made_fit : (lists : Option Lists) (pair : Pair) (initial mss : ℕ) (client : Bool) → Fit (own client (session_made (meaning_by lists pair true) (meaning_by lists pair false) initial mss))
+made_fit lists pair initial mss true = record { lawful = meaning_lawful lists pair true; short = omega arith }
+made_fit lists pair initial mss false = record { lawful = meaning_lawful lists pair false; short = omega arith }
+
+-- the session that has learned, whatever its lists are
+abbrev learned : Option Lists → Bool → Session → Session
+learned lists from s = session from (reads_by lists from (own from s)) (other from s)
+
+learned_fit : (lists : Option Lists) (client from : Bool) (s : Session) → Fit (own client s) → Fit (own client (learned lists from s))
+learned_fit None true true s h = h
+learned_fit None true false s h = h
+learned_fit None false true s h = h
+learned_fit None false false s h = h
+learned_fit (Some lists) true true s h = record { lawful = dns_units-lawful (list_of true lists); short = h.short }
+learned_fit (Some lists) false false s h = record { lawful = dns_units-lawful (list_of false lists); short = h.short }
+learned_fit (Some lists) true false s h = h
+learned_fit (Some lists) false true s h = h
+
+-- the octets afterwards don't depend on how they are read
+own_short : (lists : Option Lists) (from : Bool) (a : Sender) (g : Segment) → length (own_after a g).octets < 2 ^ 30 → length (own_after (reads_by lists from a) g).octets < 2 ^ 30
+own_short None from a g h = h
+own_short (Some lists) from a g h = by_flags g.flags.syn g.flags.reset h
+  where
+    by_flags : (syn reset : Bool) → length (cond syn (record a { initial = Some g.sequence; mss = g.mss }) (cond reset a (taken a g))).octets < 2 ^ 30
+        → length (cond syn (record (reads_by (Some lists) from a) { initial = Some g.sequence; mss = g.mss }) (cond reset (reads_by (Some lists) from a) (taken (reads_by (Some lists) from a) g))).octets < 2 ^ 30
+    by_flags true reset k = k
+    by_flags false true k = k
+    by_flags false false k = k
+
+next_short : (lists : Option Lists) (client from : Bool) (s : Session) (g : Segment) → length (own client (session_next from s g)).octets < 2 ^ 30 → length (own client (session_next from (learned lists from s) g)).octets < 2 ^ 30
+next_short lists true true s g h = own_short lists true s.client g h
+next_short lists false false s g h = own_short lists false s.server g h
+next_short lists true false s g h = h
+next_short lists false true s g h = h
+
+next_fit : (lists : Option Lists) (from client : Bool) (s : Session) (g : Segment) → segment_refusal from s g ≡ None → Fit (own client s) → Fit (own client (session_next from (learned lists from s) g))
+next_fit lists from client s g v h = record {
+  lawful = subst (λ (m : Meaning). IsLawful m) (sym (meaning_stays client from (learned lists from s) g)) (learned_fit lists client from s h).lawful;
+  short = next_short lists client from s g (short_step client from s g v h.short);
+}
+
+pub fit_keeps : Keeps whole_rules AreFit
+fit_keeps = record {
+  made = λ port side pair initial mss client. made_fit (lists_at port) pair initial mss client;
+  next = λ image from t g v fit h client. next_fit (whole_learned image from t.session g).lists from client t.session.session g v (h client);
+}
+
+-- ## How many segments a session sends
+
+count_pieces : (limit offset : ℕ) (octets : List ℕ) (fin push : Bool) → length (pieces limit offset octets fin push) ≤ length octets + 1
+count_pieces limit offset octets fin push =
+    let few : (length octets - 1) / limit ≤ length octets - 1 = div-le_self (length octets - 1) limit in
+    omega (arith, few, ap length (pieces_are limit offset octets fin push), count_from ((length octets - 1) / limit) limit offset octets fin push)
+  where
+    count_from : (whole limit offset : ℕ) (octets : List ℕ) (fin push : Bool) → length (pieces_from whole limit offset octets fin push) ≡ whole + 1
+    count_from zero limit offset octets fin push = omega arith
+    count_from (suc whole) limit offset octets fin push = omega (arith, count_from whole limit (offset + limit) (drop limit octets) fin push)
+
+part_short : (xs : List ℕ) (low high : ℕ) → length (slice_range xs low high) ≤ length xs
+part_short xs low high = omega (arith, length-take (high - low) (drop low xs), length-drop low xs)
+
+data_few : (limit : ℕ) (a new : Sender) (g : Segment) (start : Offset) → length (pieces_for limit a new g start) ≤ length (image new.meaning new.octets) + 1
+data_few limit a new g start = by_tests (nat_lt (low a new start) (high a new g start)) (sends_end new g)
+  where
+    by_tests : (more ends : Bool) → length (cond more (pieces limit (low a new start + 1) (slice_range (image new.meaning new.octets) (low a new start) (high a new g start)) ends g.flags.push) (cond ends (empty_piece (length (due_in new) + 1) true) (empty_piece (bare_offset new start) false))) ≤ length (image new.meaning new.octets) + 1
+    by_tests true ends = omega (arith, count_pieces limit (low a new start + 1) (slice_range (image new.meaning new.octets) (low a new start) (high a new g start)) ends g.flags.push, part_short (image new.meaning new.octets) (low a new start) (high a new g start))
+    by_tests false true = omega arith
+    by_tests false false = omega arith
+
+sender_few : (a b : Sender) (g : Segment) → IsLawful a.meaning → length (own_after a g).octets < 2 ^ 30 → length (sender_out a b g) < 2 ^ 31
+sender_few a b g law short = by_flags g.flags.syn g.flags.reset short
+  where
+    by_flags : (syn reset : Bool) → length (cond syn (record a { initial = Some g.sequence; mss = g.mss }) (cond reset a (taken a g))).octets < 2 ^ 30 → length (cond syn (syn_out g) (cond reset (reset_out a b g) (data_out a b g))) < 2 ^ 31
+    by_flags true reset h = omega arith
+    by_flags false true h = omega arith
+    by_flags false false h =
+        omega (
+          arith,
+          h,
+          length-map (pieces_for (limit_of b g) a (taken a g) g (start_of a g)) (outgoing a (acknowledgement_to (acknowledged b g)) g),
+          data_few (limit_of b g) a (taken a g) g (start_of a g),
+          image_small a.meaning law (taken a g).octets,
+        )
+
+session_few : (from : Bool) (s : Session) (g : Segment) → Fit (own from s) → length (own from (session_next from s g)).octets < 2 ^ 30 → length (session_out from s g) < 2 ^ 31
+session_few true s g h short = sender_few s.client s.server g h.lawful short
+session_few false s g h short = sender_few s.server s.client g h.lawful short
+
+whole_few : (image : Addr → Option Addr) (from : Bool) (x : WholeSession) (g : Segment) → segment_refusal from x.session g ≡ None → Fit (own from x.session) → length (session_out from (whole_learned image from x g).session g) < 2 ^ 31
+whole_few image from x g v h =
+    let lists = (whole_learned image from x g).lists in
+    session_few from (learned lists from x.session) g (learned_fit lists from from x.session h) (next_short lists from from x.session g (short_step from from x.session g v h.short))
+
+-- ## How many datagrams an event gives
+
+taker_fit : (table : Bindings) (side : Side) (d : Datagram) (found : Option (Connection (Tracked WholeSession))) → IfSome found (λ c. IfSome c.session AreFit) → IfSome (taker_by whole_rules table side d found) AreFit
+taker_fit table side d None h = by_test (begins {S = WholeSession} None d)
+  where
+    by_test : (b : Bool) → IfSome (if b then Some (made_by whole_rules table side d) else None) AreFit
+    by_test true = fit_keeps.made (tcp_of d).destination_port side (made_by whole_rules table side d).pair (tcp_of d).sequence (tcp_of d).mss
+    by_test false = tt
+taker_fit table side d (Some c) h = h
+
+stream_few : (image : Addr → Option Addr) (side : Side) (d : Datagram) (source destination : ℕ) (t : Option (Tracked WholeSession)) → session_refusal whole_rules side d t ≡ None → IfSome t AreFit → length (stream_out whole_rules image side d source destination t) < 2 ^ 32
+stream_few image side d source destination None v h = omega arith
+stream_few image side d source destination (Some t) v h =
+    let from = is_client side t in
+    omega (arith, length-map (session_out from (whole_learned image from t.session (segment_of d)).session (segment_of d)) (sent_as d source destination), whole_few image from t.session (segment_of d) v (h from))
+
+kind_few : (live : World WholeSession) (side : Side) (moment : ℕ) (d : Datagram) (kind : Kind) → (kind ≡ Stream → session_refusal whole_rules side d (taker_in whole_rules live side moment d) ≡ None) → EachTracked AreFit live.connections → length (out_kind whole_rules live side moment d kind) < 2 ^ 32
+kind_few live side moment d Udp v h = omega arith
+kind_few live side moment d Echo v h = omega arith
+kind_few live side moment d Error v h = omega arith
+kind_few live side moment d Dns v h = omega arith
+kind_few live side moment d Snmp v h = omega arith
+kind_few live side moment d Stream v h =
+    let table = table_after whole_rules live side moment d Stream in
+    stream_few (image_in whole_rules live side moment d) side d (called table side (source_of d)).0 (called table side (destination_of d)).0 (taker_in whole_rules live side moment d) (v refl)
+    (taker_fit table side d (found_in live side d) (all_found (λ c. IfSome c.session AreFit) (key_in live.table side d) live.connections h))
+
+pub out_few : (w : World WholeSession) (e : Event) → EachTracked AreFit w.connections → length (out whole_rules w e) < 2 ^ 32
+out_few w e h = by_verdict (verdict whole_rules w e) refl
+  where
+    by_verdict : (v : Verdict) → verdict whole_rules w e ≡ v → length (out_by whole_rules (at_moment w e.moment) e v) < 2 ^ 32
+    by_verdict (Refused r) p = omega arith
+    by_verdict Held p = omega arith
+    by_verdict Pass p =
+        kind_few (at_moment w e.moment) e.side e.moment (datagram_in e) (kind_of (datagram_in e))
+        (λ same. (stream_passes whole_rules (at_moment w e.moment) e.side e.moment (datagram_in e) (subst (λ (k : Kind). NoneHolds (kind_tests whole_rules (at_moment w e.moment) e.side e.moment (datagram_in e) k)) same (passes whole_rules w e p).content)).taken)
+        (All-filter (is_live (record { 0 = e.moment })) (λ c. IfSome c.session AreFit) w.connections h)
