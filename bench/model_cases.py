@@ -95,7 +95,7 @@ UNFOLDING = [
     ("icmp_errors.specs.Inner", "inner_with"), ("dns_names.specs.Names", "piece_at"), ("dns_names.specs.Octets", "reverse_in"),
     ("dns_names.specs.Reverse", "full_reverse"), ("dns_names.specs.Spelling", "spell"), ("dns_names.specs.Walk", "name_at"),
     ("dns_messages.specs.Reading", "content_by resource_at resources_at question_at questions_at message_at"),
-    ("dns_messages.specs.Writing", "spelling"), ("snmp_ber.specs.Element", "element_at"),
+    ("dns_messages.specs.Writing", "spelling"), ("snmp_gateway.specs.Element", "element_at"),
     ("snmp_gateway.specs.Message", "binding bindings_within outline_of message"), ("snmp_gateway.specs.Parts", "first_of skip"),
     ("snmp_oids.specs.Arcs", "numbers_from"), ("snmp_oids.specs.Identifier", "place_behind"),
     ("snmp_oids.specs.Elements", "elements_within"), ("dns_stream.specs.Images", "renamed as unit_renamed"),

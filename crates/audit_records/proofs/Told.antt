@@ -4,8 +4,8 @@ use Rattle.tcp_segments.specs.Flags.{flags_of, flags_octet, one_if}
 use Rattle.tcp_segments.specs.Tcp.{Tcp}
 use Rattle.tcp_segments.specs.declared.flags.Flags.{Flags}
 use Rattle.stream_model.specs.Session.{Session, other, segment_in}
-use Rattle.stream_cuts.proofs.Ways.{session_limit}
-use Rattle.stream_cuts.specs.Cuts.{Sent, session_sent}
+use Rattle.stream_model.proofs.Ways.{session_limit}
+use Rattle.stream_model.specs.Cuts.{Sent, session_sent}
 use Rattle.audit_streams.specs.Sending.{Handed, handed}
 use Rattle.audit_records.specs.Cutting.{told}
 

@@ -5,7 +5,7 @@ use Rattle.ipv4_frames.specs.Ipv4.{Datagram, fields_of}
 use Rattle.tcp_segments.specs.Flags.{flags_of}
 use Rattle.tcp_segments.specs.Tcp.{IsTcpHeader}
 use Rattle.gate_model.specs.Stream.{tcp_of}
-use Rattle.stream_cuts.specs.Cuts.{Sent}
+use Rattle.stream_model.specs.Cuts.{Sent}
 
 -- the segment's datagram, its addresses in the other realm, and what is sent for it
 pub record Cutting : Type 0 where

@@ -12,7 +12,7 @@ use Rattle.dialogue.proofs.Alike.{learned_alike, due_alike, back_alike}
 use Rattle.dns_stream.specs.Units.{unit_addresses}
 use Rattle.dns_stream.specs.Images.{dns_units}
 use Rattle.dns_stream.specs.Lawful.{dns_units-learning}
-use Rattle.stream_cuts.specs.Cuts.{session_sent}
+use Rattle.stream_model.specs.Cuts.{session_sent}
 use Rattle.stream_model.specs.Session.{Sender, Session, Segment, extent, arrival, start_of, repeats_unlike}
 use Rattle.stream_model.specs.Steps.{session_next, session_ends}
 use Rattle.stream_model.specs.Refusals.{refusal_of, segment_refusal}

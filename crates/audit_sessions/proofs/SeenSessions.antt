@@ -7,7 +7,7 @@ use Rattle.dialogue.specs.Learning.{Entry}
 use Rattle.ftp_lines.specs.Renaming.{client_lines, server_lines}
 use Rattle.ftp_lines.specs.declared.lines.ClientLines.{ClientLines}
 use Rattle.ftp_lines.specs.declared.lines.ServerLines.{ServerLines}
-use Rattle.stream_cuts.specs.Cuts.{session_sent}
+use Rattle.stream_model.specs.Cuts.{session_sent}
 use Rattle.stream_model.specs.Session.{Session, Segment, own, other, session}
 use Rattle.stream_model.specs.Steps.{session_next, session_ends}
 use Rattle.audit_streams.specs.Hosts.{HeardStreams, sender_by, session_of}

@@ -3,7 +3,7 @@ ghost use Rattle.std.specs.Prelude.{◌≡◌, ◌≤◌, ◌<◌, ◌∷◌, []
 ghost use Rattle.dialogue.specs.Learning.{is_listed};
 ghost use Rattle.stream_model.specs.Refusals.{segment_refusal};
 ghost use Rattle.stream_model.specs.Steps.{session_ends};
-ghost use Rattle.stream_cuts.specs.Cuts.{session_sent};
+ghost use Rattle.stream_model.specs.Cuts.{session_sent};
 ghost use Rattle.audit_streams.specs.Sending.{handed};
 ghost use Rattle.stream_model.specs.Session.{segment_in};
 ghost use Rattle.dns_plans.specs.Steps.{entered_all};

@@ -7,7 +7,7 @@ use Rattle.stream_model.specs.Steps.{sends_end, bare_offset}
 use Rattle.dialogue.specs.Stream.{image, fore, rear, back}
 use Rattle.stream_model.specs.declared.numbers.Offset.{Offset}
 use Rattle.stream_model.specs.declared.refusals.Extent.{Extent}
-use Rattle.stream_cuts.specs.Cuts.{Sent, data_sent}
+use Rattle.stream_model.specs.Cuts.{Sent, data_sent}
 
 -- a segment with neither SYN nor RST that passes keeps the numbers in their ranges
 pub record CanTake (sender : Sender) (segment : Segment) : Type 0 where

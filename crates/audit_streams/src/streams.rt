@@ -10,7 +10,7 @@ ghost use Rattle.stream_model.specs.Steps.{session_next, session_inner, session_
 ghost use Rattle.audit_streams.specs.Hosts.{sender_of, session_of, unheard, held_in};
 ghost use Rattle.audit_streams.specs.Known.{entries_of};
 ghost use Rattle.audit_streams.specs.Sending.{CanTake, handed, sent_by};
-ghost use Rattle.stream_cuts.specs.Cuts.{session_sent, sent, reset_sent, other_sent};
+ghost use Rattle.stream_model.specs.Cuts.{session_sent, sent, reset_sent, other_sent};
 
 use crate::host::WholeStream;
 use crate::sent::Sent;

@@ -27,7 +27,7 @@ use gate_outbox::{Outbox, Segment};
 use gate_payloads::{ICMP_TIMEOUT, UdpDatagram, Way, address_refusal, take_plain};
 use gate_settings::Settings;
 use event_steps::{Workspace, take_error, take_udp};
-use session_table::SessionTable;
+use tcp_tracker::SessionTable;
 use std::alloc::Global;
 use udp_icmp::IcmpView;
 use dns_plans::Tracked;

@@ -2,7 +2,7 @@
 ghost use Rattle.std.specs.Prelude.{◌≡◌, ◌*◌, ◌^◌, ◌<◌, ◌&&◌, [], true, Option, None, Some, IfOk, OnErr, OnOk};
 ghost use Rattle.gate_base.specs.declared.address.Addr.{Addr};
 ghost use Rattle.tcp_tracker.specs.Connections.{connection_of};
-ghost use Rattle.session_table.specs.Joined.{replaced};
+ghost use Rattle.tcp_tracker.specs.Joined.{replaced};
 ghost use Rattle.gate_model.specs.Frame as kinds;
 ghost use Rattle.gate_model.specs.Stream as streams;
 ghost use Rattle.gate_model.specs.Held.{KeepsListed};
@@ -25,7 +25,7 @@ use event_steps::{
     SegmentFate, SegmentPlan, timeout_of, is_first, is_full, is_late, key_in, look_up, take_untracked,
     use_segment,
 };
-use session_table::SessionTable;
+use tcp_tracker::SessionTable;
 use std::alloc::Global;
 use tcp_segments::TcpView;
 use tcp_tracker::{ConnKey, SHORT_TIMEOUT};

@@ -11,7 +11,7 @@ use Rattle.tcp_segments.specs.Flags.{flags_of}
 use Rattle.tcp_tracker.specs.Connections.{is_of, place_of, connection_of, is_reset, starts_anew, unused, kept, with_flags, held, after, changed, noted, without, timeout_of, timeout_or_short, kept_or_begun, short_timeout, with_session}
 use Rattle.tcp_tracker.specs.declared.connection.ConnKey.{ConnKey}
 use Rattle.tcp_tracker.specs.declared.connection.Connection.{Connection}
-use Rattle.session_table.specs.Joined.{replaced}
+use Rattle.tcp_tracker.specs.Joined.{replaced}
 use Rattle.gate_model.specs.Stream.{session_in}
 use Rattle.gate_model.specs.World.{Tracked}
 

@@ -15,7 +15,7 @@ use Rattle.tcp_segments.specs.Flags.{flags_of}
 use Rattle.tcp_tracker.specs.Connections.{connection_of, timeout_of, short_timeout, noted, without, changed, place_of, after, with_session}
 use Rattle.tcp_tracker.specs.declared.connection.ConnKey.{ConnKey}
 use Rattle.tcp_tracker.specs.declared.connection.Connection.{Connection}
-use Rattle.session_table.specs.Joined.{replaced}
+use Rattle.tcp_tracker.specs.Joined.{replaced}
 use Rattle.twice_translate.specs.Renamed.{datagram_of, renamed}
 use Rattle.gate_base.specs.Tests.{first_that_holds, unless_refused}
 use Rattle.gate_model.specs.Frame.{Stream, is_tracked_port}

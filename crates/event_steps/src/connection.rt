@@ -16,7 +16,7 @@ use dns_stream::unit_end;
 use gate_base::Refusal;
 use gate_outbox::Segment;
 use gate_payloads::Way;
-use session_table::SessionTable;
+use tcp_tracker::SessionTable;
 use tcp_tracker::ConnKey;
 use dns_plans::{Endpoints, PlanStop, Session, Tracked, UnitPlan, plan_units};
 

@@ -13,7 +13,7 @@ use gate_base::{Addr, Refusal, Side, TCP};
 use gate_outbox::Outbox;
 use gate_payloads::{ICMP_TIMEOUT, Way, key_of, lacks_alias};
 use icmp_errors::{Inner, inner_of};
-use session_table::SessionTable;
+use tcp_tracker::SessionTable;
 use dns_plans::{Session, Tracked};
 
 /// The number that the sender of the datagram inside gave it, where a session tells; None inside that where the session sent

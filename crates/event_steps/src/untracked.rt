@@ -15,7 +15,7 @@ use binding_table::Table;
 use gate_base::Refusal;
 use gate_outbox::{Outbox, Segment};
 use gate_payloads::{Way, lacks_alias, pass_plain};
-use session_table::SessionTable;
+use tcp_tracker::SessionTable;
 use tcp_segments::flags_of;
 use tcp_tracker::{ConnKey, SHORT_TIMEOUT};
 

@@ -16,7 +16,7 @@ use crate::found::SegmentPlan;
 use binding_table::Table;
 use gate_base::{Moment, Side};
 use gate_payloads::{Way, use_all};
-use session_table::SessionTable;
+use tcp_tracker::SessionTable;
 use tcp_tracker::ConnKey;
 use dns_plans::{Session, Tracked};
 

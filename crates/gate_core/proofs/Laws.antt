@@ -10,8 +10,8 @@ use Rattle.stream_gate.specs.Directions.{nothing_pushed}
 use Rattle.stream_gate.proofs.GateLemmas.{syn_alone}
 use Rattle.stream_model.specs.Session.{segment_in}
 use Rattle.gate_model.specs.Stream.{is_opening}
-use Rattle.compact_worlds.specs.Kept.{CompactSession, compact_rules}
-use Rattle.compact_worlds.proofs.Listing.{kept_have_lists}
+use Rattle.gate_sessions.specs.Compact.{CompactSession, compact_rules}
+use Rattle.gate_sessions.proofs.Listing.{kept_have_lists}
 use Rattle.event_steps.proofs.NoUnits.{syn_held}
 use Rattle.event_engine.specs.Engines.{HasLaws}
 

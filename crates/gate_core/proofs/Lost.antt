@@ -7,7 +7,7 @@ use Rattle.ipv4_frames.specs.Ipv4.{Datagram}
 use Rattle.gate_model.specs.Stream.{segment_of, found_in, session_in, session_refusal}
 use Rattle.gate_model.specs.Units.{units_in}
 use Rattle.gate_model.specs.World.{Tracked, World, is_client}
-use Rattle.compact_worlds.specs.Kept.{CompactSession, compact_rules}
+use Rattle.gate_sessions.specs.Compact.{CompactSession, compact_rules}
 use Rattle.event_steps.specs.Segments.{stream_refusal}
 use Rattle.event_engine.specs.Lost as state
 use Rattle.gate_core.specs.Memory.{SegmentMayWant}

@@ -9,7 +9,7 @@ use Rattle.gate_model.specs.Frame.{datagram_in, kind_of}
 use Rattle.gate_model.specs.Step.{out_kind, next, next_by, out, out_by}
 use Rattle.gate_model.specs.Verdict.{tests, verdict, verdict_of}
 use Rattle.gate_model.specs.World.{World, at_moment}
-use Rattle.compact_worlds.specs.Kept.{CompactSession, compact_rules}
+use Rattle.gate_sessions.specs.Compact.{CompactSession, compact_rules}
 use Rattle.gate_core.specs.Memory.{MayWant, MayWantAs}
 use Rattle.gate_core.proofs.Lost.{segment_wants}
 use Rattle.event_engine.specs.Given.{given_by}

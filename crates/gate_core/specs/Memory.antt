@@ -9,7 +9,7 @@ use Rattle.stream_gate.specs.Memory.{KeptCompletes}
 use Rattle.gate_model.specs.Frame.{Kind, Dns, Stream, datagram_in, kind_of}
 use Rattle.gate_model.specs.Stream.{begins, found_in, segment_of, session_in}
 use Rattle.gate_model.specs.World.{Tracked, World, is_client}
-use Rattle.compact_worlds.specs.Kept.{CompactSession, compact_rules}
+use Rattle.gate_sessions.specs.Compact.{CompactSession, compact_rules}
 use Rattle.event_steps.specs.Segments.{refusal_as}
 use Rattle.event_steps.specs.SegmentFate.{CompletesUnit}
 use Rattle.event_engine.specs.Lost.{early_tests}

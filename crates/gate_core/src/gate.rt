@@ -1,7 +1,7 @@
 // One event of the gate.
 ghost use Rattle.std.specs.Prelude.{◌≡◌, ◌*◌, ◌^◌, ◌<◌, [], Ok, Err, IfOk, OnErr, OnOk};
 ghost use Rattle.gate_model.specs.World.{opening_world, at_moment};
-ghost use Rattle.compact_worlds.specs.Kept.{compact_rules};
+ghost use Rattle.gate_sessions.specs.Compact.{compact_rules};
 ghost use Rattle.gate_core.specs.Memory.{MayWant};
 ghost use Rattle.gate_base.specs.Events.{event_of};
 ghost use Rattle.gate_settings.specs.Sound.{IsSound};
@@ -41,7 +41,7 @@ impl Drop for Gate {
 
 impl Model for Gate {
     ghost use Rattle.gate_model.specs.Held.{KeepsListed};
-    ghost use Rattle.compact_worlds.specs.Kept.{compact_rules};
+    ghost use Rattle.gate_sessions.specs.Compact.{compact_rules};
     ghost use Rattle.gate_core.specs.Gates.{Gateway};
     ghost use Rattle.event_engine.specs.Knowing.{world_in};
 

@@ -9,7 +9,7 @@ use Rattle.ipv4_frames.specs.Ipv4.{Datagram}
 use Rattle.gate_model.specs.Stream.{segment_of, sent_as}
 use Rattle.gate_model.specs.Step.{stream_out}
 use Rattle.gate_model.specs.World.{Tracked}
-use Rattle.compact_worlds.specs.Kept.{CompactSession, compact_rules}
+use Rattle.gate_sessions.specs.Compact.{CompactSession, compact_rules}
 use Rattle.event_steps.proofs.SteppedSessions.{IsSeen}
 
 pub gone_is : (client : Side) (pair : Pair) (session : CompactSession) (f : Bool) (side : Side) (d : Datagram) (t : Tracked CompactSession) (image : Addr → Option Addr) (entries : List Entry) (source destination : ℕ) (sent : List (List ℕ)) → IsSeen compact_rules client pair session f side d t image entries → sent ≡ map (sent_as d source destination) (compact_rules.out image f session (segment_of d)) → sent ≡ stream_out compact_rules image side d source destination (Some t)

@@ -3,3 +3,8 @@ pub mod Sent
 pub mod SessionLemmas
 pub mod Stepped
 mod Gone
+pub mod Completed
+pub mod Relearned
+pub mod Agreed
+pub mod Witness
+pub mod Listing

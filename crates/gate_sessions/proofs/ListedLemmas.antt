@@ -14,7 +14,7 @@ use Rattle.compact_stream.specs.Sessions.{CompactState, sender_kept}
 use Rattle.compact_stream.proofs.ReadsAlike.{keeps_alike}
 use Rattle.stream_gate.specs.Listed.{IsListedStream as IsStreamBy}
 use Rattle.gate_model.proofs.Entering.{listed_units_more}
-use Rattle.compact_worlds.specs.Kept.{IsListedStream}
+use Rattle.gate_sessions.specs.Compact.{IsListedStream}
 use Rattle.dns_plans.specs.Steps.{entered_all}
 use Rattle.dns_plans.proofs.EnteredLemmas.{all_grown}
 use Rattle.gate_base.specs.declared.event.Pair.{Pair}

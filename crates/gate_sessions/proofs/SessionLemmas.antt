@@ -16,9 +16,9 @@ use Rattle.compact_stream.proofs.SessionLemmas.{verdict_is}
 use Rattle.gate_model.specs.Lists.{addresses_in, entered, most_entries}
 use Rattle.gate_model.specs.Rules.{whole_rules}
 use Rattle.gate_model.specs.Sessions.{meaning_by, whole_next}
-use Rattle.compact_worlds.specs.Kept.{CompactSession, compact_rules, kept_units, IsOfSome}
-use Rattle.compact_worlds.proofs.Agreed.{made_stands, next_stands}
-use Rattle.compact_worlds.proofs.Listing.{kept_have_lists}
+use Rattle.gate_sessions.specs.Compact.{CompactSession, compact_rules, kept_units, IsOfSome}
+use Rattle.gate_sessions.proofs.Agreed.{made_stands, next_stands}
+use Rattle.gate_sessions.proofs.Listing.{kept_have_lists}
 use Rattle.dns_plans.specs.Plans.{whole_units}
 use Rattle.gate_sessions.specs.Directions.{DnsKept, dns_session}
 use Rattle.gate_sessions.specs.Sessions.{IsSession}

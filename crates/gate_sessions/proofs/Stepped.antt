@@ -23,8 +23,8 @@ use Rattle.stream_gate.specs.Gates.{GateKept}
 use Rattle.stream_gate.specs.Memory.{OneBears, units_behind, CompletesBy}
 use Rattle.stream_gate.proofs.MemoryLemmas.{released_none}
 use Rattle.gate_model.specs.Lists.{addresses_in, entered}
-use Rattle.compact_worlds.specs.Kept.{CompactSession, compact_rules, kept_units, kept_completed, IsListedStream}
-use Rattle.compact_worlds.proofs.Witness.{streams_listed}
+use Rattle.gate_sessions.specs.Compact.{CompactSession, compact_rules, kept_units, kept_completed, IsListedStream}
+use Rattle.gate_sessions.proofs.Witness.{streams_listed}
 use Rattle.dns_plans.specs.Plans.{beside}
 use Rattle.dns_plans.specs.Steps.{entered_all}
 use Rattle.dns_plans.proofs.EnteredLemmas.{entered-beside}

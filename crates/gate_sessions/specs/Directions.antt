@@ -8,7 +8,7 @@ use Rattle.compact_stream.specs.Outs.{kept_out}
 use Rattle.compact_stream.specs.Sessions.{sender_kept, kept_next}
 use Rattle.stream_gate.specs.Gates.{GateKept}
 use Rattle.stream_gate.specs.Memory.{KeptCompletes}
-use Rattle.compact_worlds.specs.Kept.{CompactSession, IsListedStream}
+use Rattle.gate_sessions.specs.Compact.{CompactSession, IsListedStream}
 use Rattle.dns_plans.specs.Steps.{entered_all}
 
 -- the dialogues are the lists

@@ -1,7 +1,7 @@
 -- What the gate tells of datagrams: those that go out.
 use Rattle.std.specs.Prelude.{ℕ, List, refl}
 use Rattle.gate_model.specs.Step.{stream_out}
-use Rattle.compact_worlds.specs.Kept.{CompactSession, compact_rules}
+use Rattle.gate_sessions.specs.Compact.{CompactSession, compact_rules}
 use Rattle.event_steps.specs.Passed.{Tells}
 use Rattle.event_engine.specs.Engines.{Gives}
 use Rattle.gate_sessions.specs.Sessions.{MayWantIn}

@@ -6,7 +6,7 @@ use Rattle.stream_model.specs.Session.{Segment}
 use Rattle.stream_gate.specs.Memory.{KeptCompletes}
 use Rattle.gate_model.specs.Lists.{Lists, most_entries}
 use Rattle.gate_model.specs.Sessions.{entries_by}
-use Rattle.compact_worlds.specs.Kept.{CompactSession, kept_units, IsOfSome}
+use Rattle.gate_sessions.specs.Compact.{CompactSession, kept_units, IsOfSome}
 use Rattle.gate_sessions.specs.Directions.{dns_session}
 use Rattle.gate_sessions.specs.declared.kinds.SessionKind.{SessionKind}
 use Rattle.gate_sessions.specs.declared.kinds.SessionKind.TheVariants.{Lines, Units}

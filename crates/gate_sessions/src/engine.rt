@@ -1,6 +1,6 @@
 // The gate's sessions as those of an engine.
 ghost use Rattle.std.specs.Prelude.{◌≡◌, None, Some, if◌then◌else◌};
-ghost use Rattle.compact_worlds.specs.Kept.{compact_rules};
+ghost use Rattle.gate_sessions.specs.Compact.{compact_rules};
 
 use crate::kinds::FtpSession;
 use crate::session::{AnySession, Passing};

@@ -7,5 +7,7 @@ mod kinds;
 mod learned;
 mod segments;
 mod session;
+mod laws;
 
 pub use session::{AnySession, Passing};
+pub use laws::compact_worlds_answer;

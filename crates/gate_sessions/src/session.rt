@@ -7,7 +7,7 @@ ghost use Rattle.compact_stream.specs.Sessions.{kept_made};
 ghost use Rattle.stream_model.specs.Refusals.{is_data};
 ghost use Rattle.gate_model.specs.Lists.{addresses_in};
 ghost use Rattle.gate_model.specs.Stream.{segment_of, sent_as, tcp_of};
-ghost use Rattle.compact_worlds.specs.Kept.{compact_rules};
+ghost use Rattle.gate_sessions.specs.Compact.{compact_rules};
 ghost use Rattle.dns_plans.specs.Plans.{whole_units, beside};
 ghost use Rattle.dns_plans.specs.Steps.{entered_all};
 ghost use Rattle.gate_sessions.specs.Sessions.{MayWantIn};
@@ -45,7 +45,7 @@ pub struct AnySession {
 }
 
 impl Model for AnySession {
-    ghost use Rattle.compact_worlds.specs.Kept.{CompactSession};
+    ghost use Rattle.gate_sessions.specs.Compact.{CompactSession};
     ghost use Rattle.gate_sessions.specs.Sessions.{session_of, IsOfPair, IsSession};
 
     ghost Value = { CompactSession };
@@ -90,7 +90,7 @@ fn dns_session(alloc: Global, initial: u32, mss: u16) -> Result<DnsSession, OutO
 }
 
 impl Session for AnySession {
-    ghost use Rattle.compact_worlds.specs.Kept.{compact_rules};
+    ghost use Rattle.gate_sessions.specs.Compact.{compact_rules};
 
     ghost rules = { compact_rules };
 

@@ -12,7 +12,7 @@ use Rattle.pcap_merge.specs.Given.{TakenFor}
 use Rattle.pcap_merge.specs.Merge.{Merging, ComesTo, Finishes as FinishesMerge, Reads, StopsBy, TakesFew, ahead}
 use Rattle.pcap_merge.specs.Stops.{slot_of}
 use Rattle.pcap_merge.proofs.Given.{given_few, taken_later}
-use Rattle.compact_worlds.specs.Kept.{CompactSession, compact_rules}
+use Rattle.gate_sessions.specs.Compact.{CompactSession, compact_rules}
 use Rattle.gate_core.specs.Gates.{Gateway}
 use Rattle.gate_report.specs.declared.totals.Totals.{Totals}
 use Rattle.run_setup.specs.declared.status.Status.{Status}

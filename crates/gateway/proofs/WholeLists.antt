@@ -12,8 +12,8 @@ use Rattle.gate_model.specs.Sessions.{WholeSession}
 use Rattle.gate_model.specs.Step.{out}
 use Rattle.gate_model.specs.Verdict.{verdict}
 use Rattle.gate_model.proofs.Related.{related_verdict, related_out, related_next, opening_related}
-use Rattle.compact_worlds.specs.Kept.{CompactSession, compact_rules, StandsFor}
-use Rattle.compact_worlds.proofs.Agreed.{agreed, pending_related}
+use Rattle.gate_sessions.specs.Compact.{CompactSession, compact_rules, StandsFor}
+use Rattle.gate_sessions.proofs.Agreed.{agreed, pending_related}
 use Rattle.gate_report.specs.declared.line.Line.{Line}
 use Rattle.gate_report.specs.declared.totals.Totals.{Totals}
 use Rattle.gateway.specs.Pieces.{Piece}

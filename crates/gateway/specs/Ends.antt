@@ -15,7 +15,7 @@ use Rattle.run_setup.specs.Causes.{Causes}
 use Rattle.gate_core.specs.Memory.{MayWant}
 use Rattle.gate_model.specs.Rules.{whole_rules}
 use Rattle.gate_model.specs.World.{World, at_moment}
-use Rattle.compact_worlds.specs.Kept.{CompactSession, compact_rules}
+use Rattle.gate_sessions.specs.Compact.{CompactSession, compact_rules}
 use Rattle.frag_join.specs.Arrivals.{Reaches, arrival, joiner_of}
 use Rattle.frag_join.specs.Joining.{by_list}
 use Rattle.gateway.specs.Machine.{after, arrivals_by, frames_of, given_by_all, files, opening}

@@ -16,12 +16,12 @@ use Rattle.pcap_files.specs.Capture.{Packet}
 use Rattle.stream_model.specs.Session.{Outgoing}
 use Rattle.stream_model.specs.Steps.{Piece, pieces}
 use Rattle.gate_model.specs.Stream.{sent_as}
-use Rattle.stream_cuts.specs.Cuts.{Sent, IsPiece, ArePieces, segment_with, alone, MaySend}
+use Rattle.stream_model.specs.Cuts.{Sent, IsPiece, ArePieces, segment_with, alone, MaySend}
 use Rattle.lawful_files.specs.Wanted.{Wanted, Exactly, Cut}
 use Rattle.lawful_files.specs.Files.{record_of, HasMacAddresses}
 use Rattle.lawful_files.specs.Progress.{Progress, HasHeads, IsSound, begun, before_octets, is_record, piece_behind, carries_piece, is_next_piece, is_alone, is_right, behind, is_closed, AreLawful, behind_all, AreFront}
 use Rattle.lawful_files.proofs.Lengths.{sent_long, framed_long}
-use Rattle.stream_cuts.proofs.Ways.{cut_lawful}
+use Rattle.stream_model.proofs.Ways.{cut_lawful}
 
 -- ## Equal records
 

@@ -25,7 +25,7 @@ use Rattle.gate_model.specs.Stream.{segment_of}
 use Rattle.gate_model.specs.Verdict.{table_after, image_in, verdict}
 use Rattle.gate_model.specs.World.{World, Tracked, at_moment, called, source_of, destination_of, is_client}
 use Rattle.lawful_files.specs.Wanted.{whole_sent, wanted_segment, wanted_kind, wanted_by, wanted, IsLawfulList}
-use Rattle.stream_cuts.proofs.Ways.{session_lawful}
+use Rattle.stream_model.proofs.Ways.{session_lawful}
 
 -- ## Few options
 

@@ -31,7 +31,7 @@ use Rattle.gate_model.proofs.Passing.{NoneHolds, none_head, none_tail, none_left
 use Rattle.lawful_files.specs.Wanted.{whole_sent, wanted_segment, wanted_kind, wanted_by, wanted}
 use Rattle.lawful_files.specs.Progress.{HasHeads, IsSound}
 use Rattle.lawful_files.proofs.SentLists.{AreOctets, event_options}
-use Rattle.stream_cuts.proofs.Ways.{session_limit}
+use Rattle.stream_model.proofs.Ways.{session_limit}
 
 -- ## What a frame that passes is like
 

@@ -12,7 +12,7 @@ use Rattle.pcap_files.specs.Capture.{Packet}
 use Rattle.stream_model.specs.Steps.{Piece}
 use Rattle.tcp_segments.specs.Tcp.{IsTcpHeader}
 use Rattle.gate_model.specs.Stream.{tcp_of, sent_as}
-use Rattle.stream_cuts.specs.Cuts.{Sent, segment_with, alone}
+use Rattle.stream_model.specs.Cuts.{Sent, segment_with, alone}
 use Rattle.lawful_files.specs.Wanted.{Wanted, Exactly, Cut, IsLawfulList}
 use Rattle.lawful_files.specs.Files.{record_of}
 

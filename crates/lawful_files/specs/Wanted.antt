@@ -16,7 +16,7 @@ use Rattle.gate_model.specs.Step.{next, out_kind, taker_in}
 use Rattle.gate_model.specs.Stream.{segment_of, sent_as}
 use Rattle.gate_model.specs.Verdict.{table_after, image_in, verdict}
 use Rattle.gate_model.specs.World.{World, Tracked, at_moment, called, source_of, destination_of, is_client}
-use Rattle.stream_cuts.specs.Cuts.{Sent, session_sent, IsLawfulWay}
+use Rattle.stream_model.specs.Cuts.{Sent, session_sent, IsLawfulWay}
 
 -- ## What is wanted of an event
 

@@ -1,4 +1,4 @@
-use snmp_ber::Tlv;
+use snmp_gateway::Tlv;
 use std::test::Fail;
 
 /// Octets, and the tag, the content and the rest that are read from them, where they begin with an element.

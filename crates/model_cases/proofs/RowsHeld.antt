@@ -23,7 +23,7 @@ use Rattle.dns_names.specs.Spelling.{spell}
 use Rattle.dns_names.specs.Walk.{name_at}
 use Rattle.dns_messages.specs.Reading.{content_by, resource_at, resources_at, question_at, questions_at, message_at}
 use Rattle.dns_messages.specs.Writing.{spelling}
-use Rattle.snmp_ber.specs.Element.{element_at}
+use Rattle.snmp_gateway.specs.Element.{element_at}
 use Rattle.snmp_gateway.specs.Message.{binding, bindings_within, outline_of, message}
 use Rattle.snmp_gateway.specs.Parts.{first_of, skip}
 use Rattle.snmp_oids.specs.Arcs.{numbers_from}

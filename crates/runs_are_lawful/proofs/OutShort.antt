@@ -25,11 +25,11 @@ use Rattle.gate_model.specs.Stream.{segment_of, sent_as}
 use Rattle.gate_model.specs.Verdict.{table_after, image_in, verdict}
 use Rattle.gate_model.specs.World.{World, Tracked, at_moment, called, source_of, destination_of, is_client}
 use Rattle.gate_model.proofs.Passing.{Passes, none_head, passes}
-use Rattle.stream_cuts.specs.Cuts.{Sent, session_sent, ArePieces, segment_with, MaySend}
+use Rattle.stream_model.specs.Cuts.{Sent, session_sent, ArePieces, segment_with, MaySend}
 use Rattle.lawful_files.proofs.SentLists.{AreOctets, event_options}
 use Rattle.runs_are_lawful.proofs.ShortNames.{names_short}
 use Rattle.runs_are_lawful.proofs.Shorts.{IsShort, event_short, renamed_short, sent_short, error_short, rebuilt_short}
-use Rattle.stream_cuts.proofs.Ways.{session_limit, session_lawful}
+use Rattle.stream_model.proofs.Ways.{session_limit, session_lawful}
 
 -- each has at most 131,072 octets, which is far more than a datagram can have, and leaves room for a head in a record
 abbrev pub AreShort : List (List ℕ) → Type 0

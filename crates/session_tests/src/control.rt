@@ -4,7 +4,7 @@ ghost use Rattle.dialogue.specs.Meaning.{HoldsAtMost};
 use dialogue::Dialogue;
 use ftp_lines::{ClientLines, ServerLines, rests_are_short};
 use gate_base::{Addr, Pair};
-use line_holder::Holder;
+use dialogue::Holder;
 use std::alloc::{AllocError, Global};
 use std::test::Fail;
 

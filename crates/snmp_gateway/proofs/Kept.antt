@@ -5,8 +5,8 @@ use Rattle.std.proofs.lemmas.List.{length-take-le, get_or-take, get_or-drop, get
 use Rattle.gate_base.specs.Address.{◌>>=◌}
 use Rattle.gate_base.specs.Fields.{u32_at, with_u32}
 use Rattle.byteorder.specs.Endian.{big_bytes}
-use Rattle.snmp_ber.specs.Element.{element_at}
-use Rattle.snmp_ber.proofs.Elements.{some_same, element_room, element_alike}
+use Rattle.snmp_gateway.specs.Element.{element_at}
+use Rattle.snmp_gateway.proofs.Elements.{some_same, element_room, element_alike}
 use Rattle.snmp_gateway.specs.declared.message.SnmpKind.{SnmpKind}
 use Rattle.snmp_gateway.specs.declared.part.Part.{Part}
 use Rattle.snmp_gateway.specs.declared.part.Piece.{Piece}

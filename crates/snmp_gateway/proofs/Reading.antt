@@ -4,8 +4,8 @@ use Rattle.std.proofs.lemmas.Bool.{eqb-true}
 use Rattle.std.proofs.lemmas.Bool.Decides.{nat_tests}
 use Rattle.std.proofs.lemmas.List.{length-take-le, drop_all}
 use Rattle.gate_base.specs.Address.{◌>>=◌}
-use Rattle.snmp_ber.specs.Element.{Element, element_at}
-use Rattle.snmp_ber.proofs.Elements.{some_same, element_room}
+use Rattle.snmp_gateway.specs.Element.{Element, element_at}
+use Rattle.snmp_gateway.proofs.Elements.{some_same, element_room}
 use Rattle.snmp_gateway.specs.declared.message.SnmpKind.{SnmpKind}
 use Rattle.snmp_gateway.specs.declared.part.Part.{Part}
 use Rattle.snmp_gateway.specs.declared.part.Piece.{Piece}

@@ -2,3 +2,4 @@ pub mod Parts
 pub mod Message
 pub mod Walk
 pub mod Renaming
+pub mod Element

@@ -6,6 +6,8 @@ mod message;
 mod outline;
 mod part;
 mod rename;
+mod tlv;
 
 pub use message::{SnmpKind, SnmpStop, addresses, check};
 pub use rename::{Lookup, rename_in_place};
+pub use tlv::Tlv;

@@ -2,7 +2,7 @@
 ghost use Rattle.std.specs.Prelude.{◌≡◌, ◌+◌, ◌≤◌, option_map, length, IfSome};
 ghost use Rattle.snmp_gateway.specs.Parts.{is_exception, has_right_size, octets_in, first_of, field, skip, only, in_sequence};
 
-use snmp_ber::Tlv;
+use crate::tlv::Tlv;
 
 // The tags of X.690, 8, and of RFC 1155, 6.
 pub(crate) const INTEGER: u8 = 0x02;

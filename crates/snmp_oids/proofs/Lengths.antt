@@ -4,8 +4,8 @@ use Rattle.std.specs.Prelude.{option_and_then}
 use Rattle.std.proofs.lemmas.Bool.{cases_Bool, eqb-true}
 use Rattle.std.proofs.lemmas.Bool.Decides.{nat_tests}
 use Rattle.std.proofs.lemmas.List.{length-take-le}
-use Rattle.snmp_ber.specs.Element.{Element, element_at}
-use Rattle.snmp_ber.proofs.Elements.{element_room}
+use Rattle.snmp_gateway.specs.Element.{Element, element_at}
+use Rattle.snmp_gateway.proofs.Elements.{element_room}
 use Rattle.snmp_gateway.specs.declared.message.SnmpKind.{SnmpKind}
 use Rattle.snmp_gateway.specs.declared.message.SnmpKind.TheVariants.{V1, V2, V3}
 use Rattle.snmp_gateway.specs.Message.{kind_of}

@@ -6,7 +6,7 @@ use Rattle.std.specs.List.{starts_with, list_all}
 use Rattle.std.specs.Option.{option_or}
 use Rattle.gate_base.specs.Address.{◌>>=◌}
 use Rattle.gate_base.specs.declared.rule.OidRule.{OidRule}
-use Rattle.snmp_ber.proofs.Elements.{some_same}
+use Rattle.snmp_gateway.proofs.Elements.{some_same}
 use Rattle.snmp_oids.specs.Arcs.{joined, numbers_from, numbers_of, numbers_in, arcs_for, arcs_of, arcs_in, address_of, named_by, named, named_in, small_first, before}
 use Rattle.gate_base.specs.Rules.{is_rule}
 use Rattle.snmp_oids.specs.Identifier.{place_behind}

@@ -1,7 +1,7 @@
 -- Worked messages, computed.
 use Rattle.std.proofs.Common.{◌≡◌, ℕ, ◌==◌, if◌then◌else◌, List, [], ◌∷◌, ◌++◌, take, drop, Option, Some, None, refl}
 use Rattle.gate_base.specs.declared.rule.OidRule.{OidRule}
-use Rattle.snmp_ber.specs.Element.{element_at}
+use Rattle.snmp_gateway.specs.Element.{element_at}
 use Rattle.snmp_gateway.specs.Message.{message, outline_of, bindings_within, binding}
 use Rattle.snmp_gateway.specs.Parts.{skip, first_of}
 use Rattle.snmp_oids.specs.Arcs.{numbers_from, named_in, arcs_of}

@@ -5,8 +5,8 @@ use Rattle.std.proofs.lemmas.Bool.Decides.{nat_tests}
 use Rattle.std.proofs.lemmas.List.{length-take-le, take-append-drop}
 use Rattle.byteorder.specs.Numbers.{big_from-lt, length-bytes_high_first}
 use Rattle.gate_base.specs.declared.rule.OidRule.{OidRule}
-use Rattle.snmp_ber.specs.Element.{Element, element_at, element_with, length_at, is_long_form}
-use Rattle.snmp_ber.proofs.Elements.{some_same, element_room}
+use Rattle.snmp_gateway.specs.Element.{Element, element_at, element_with, length_at, is_long_form}
+use Rattle.snmp_gateway.proofs.Elements.{some_same, element_room}
 use Rattle.snmp_oids.specs.Elements.{octets_for, shortest, head_for, head_of, is_constructed, primitive_renamed, content_renamed, elements_within, elements_renamed}
 use Rattle.snmp_oids.specs.Written.{with_octets}
 use Rattle.snmp_oids.proofs.Writing.{written_after, overwritten, read_back}

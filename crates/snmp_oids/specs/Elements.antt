@@ -2,7 +2,7 @@
 use Rattle.std.specs.Prelude.{ℕ, zero, suc, ◌+◌, ◌-◌, ◌/◌, ◌%◌, ◌^◌, ◌==◌, Bool, nat_lt, if◌then◌else◌, List, [], ◌∷◌, ◌++◌, take, length, Option, Some, option_map, unwrap_or}
 use Rattle.byteorder.specs.Endian.{big_bytes}
 use Rattle.gate_base.specs.declared.rule.OidRule.{OidRule}
-use Rattle.snmp_ber.specs.Element.{Element, element_at}
+use Rattle.snmp_gateway.specs.Element.{Element, element_at}
 use Rattle.snmp_gateway.specs.declared.message.SnmpKind.{SnmpKind}
 use Rattle.snmp_gateway.specs.declared.message.SnmpKind.TheVariants.{V3}
 use Rattle.snmp_gateway.specs.Message.{kind_of}

@@ -1,6 +1,6 @@
 // The elements of a message, with the images of the addresses in them (X.690, 8.1).
 ghost use Rattle.std.specs.Prelude.{◌≡◌, ◌+◌, ◌*◌, ◌^◌, ◌<◌, ◌≤◌, length, option_map, IfSome};
-ghost use Rattle.snmp_ber.specs.Element.{Element, element_at};
+ghost use Rattle.snmp_gateway.specs.Element.{Element, element_at};
 ghost use Rattle.gate_base.specs.Rules.{AreRules};
 ghost use Rattle.snmp_oids.specs.Elements.{is_constructed, address_renamed, primitive_renamed, content_renamed, elements_renamed};
 ghost use Rattle.snmp_oids.specs.Written.{with_octets};
@@ -10,7 +10,7 @@ use crate::identifier::put_identifier;
 use crate::put::put;
 use gate_base::{Addr, get_u32, put_u32};
 use oid_rules::SortedRules;
-use snmp_ber::Tlv;
+use snmp_gateway::Tlv;
 use snmp_gateway::Lookup;
 
 // The tags of X.690, 8.19, and of RFC 1155, 6.

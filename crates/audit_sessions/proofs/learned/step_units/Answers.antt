@@ -2,7 +2,7 @@ use Rattle.std.proofs.Common.{◌≡◌, ◌∙◌, ap, subst}
 use Rattle.std.specs.Prelude.{IfOk}
 use Rattle.audit_streams.specs.Sending.{handed}
 use Rattle.stream_model.specs.Session.{segment_in}
-use Rattle.stream_cuts.specs.Cuts.{session_sent}
+use Rattle.stream_model.specs.Cuts.{session_sent}
 use Rattle.stream_model.specs.Steps.{session_ends}
 use Rattle.stream_model.specs.Refusals.{segment_refusal}
 use Rattle.audit_sessions.specs.Sessions.{DnsHeard, streams_of, with_entered}

@@ -1,6 +1,6 @@
 use Rattle.std.proofs.Common.{◌≡◌, Some, sym, ap, subst, ◌∙◌}
 use Rattle.std.specs.Prelude.{IfOk}
-use Rattle.session_table.specs.Joined.{replaced}
+use Rattle.tcp_tracker.specs.Joined.{replaced}
 use Rattle.gate_model.specs.Stream.{stepped, segment_of}
 use Rattle.gate_model.specs.World.{Tracked, is_client}
 use Rattle.event_steps.specs.Segments.{AreCalled}

@@ -3,7 +3,7 @@ use Rattle.tcp_segments.specs.Tcp.{Tcp}
 use Rattle.tcp_tracker.specs.Connections.{connection_of, place_of, timeout_of, short_timeout, noted, without}
 use Rattle.tcp_tracker.specs.declared.connection.ConnKey.{ConnKey}
 use Rattle.tcp_tracker.specs.declared.connection.Connection.{Connection}
-use Rattle.session_table.specs.Joined.{replaced}
+use Rattle.tcp_tracker.specs.Joined.{replaced}
 use Rattle.gate_model.specs.Stream.{key_in, session_in, stepped}
 use Rattle.gate_model.specs.World.{Tracked}
 use Rattle.event_steps.specs.SegmentFate.{image_of}

@@ -2,7 +2,7 @@ use Rattle.std.proofs.Common.{sym, subst}
 use Rattle.gate_model.specs.World.{World}
 use Rattle.gate_model.specs.Held.{KeepsListed}
 use Rattle.gate_model.proofs.ListsWorld.{opening_lists}
-use Rattle.compact_worlds.specs.Kept.{CompactSession, compact_rules}
+use Rattle.gate_sessions.specs.Compact.{CompactSession, compact_rules}
 use Rattle.gate_core.proofs.gate.Gate.new.Goals as goal
 
 pub invariant_of-result : goal.invariant_of-result

@@ -8,8 +8,8 @@ use Rattle.gate_model.specs.Step.{next}
 use Rattle.gate_model.specs.Verdict.{tests}
 use Rattle.gate_model.specs.World.{World, at_moment}
 use Rattle.gate_model.proofs.ListsWorld.{moment_lists, next_lists}
-use Rattle.compact_worlds.specs.Kept.{CompactSession, compact_rules}
-use Rattle.compact_worlds.proofs.Listing.{kept_have_lists}
+use Rattle.gate_sessions.specs.Compact.{CompactSession, compact_rules}
+use Rattle.gate_sessions.proofs.Listing.{kept_have_lists}
 use Rattle.gate_core.specs.Gates.{Gateway}
 use Rattle.gate_core.specs.Memory.{MayWant}
 use Rattle.gate_core.proofs.Laws.{kept_laws}

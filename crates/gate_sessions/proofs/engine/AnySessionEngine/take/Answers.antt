@@ -3,7 +3,7 @@ use Rattle.gate_base.specs.declared.address.Addr.{Addr}
 use Rattle.gate_model.specs.Step.{stream_out}
 use Rattle.gate_model.specs.Stream.{segment_of}
 use Rattle.gate_model.specs.World.{Tracked}
-use Rattle.compact_worlds.specs.Kept.{CompactSession, compact_rules}
+use Rattle.gate_sessions.specs.Compact.{CompactSession, compact_rules}
 use Rattle.gate_payloads.specs.Ways.{image_by}
 use Rattle.event_steps.proofs.Results.{on_err}
 use Rattle.event_steps.proofs.SteppedSessions.{IsSeen, seen_as, called_is, next_is, waits_is}

@@ -4,7 +4,7 @@ use Rattle.gate_base.specs.declared.address.Addr.{Addr}
 use Rattle.dialogue.specs.Learning.{Entry}
 use Rattle.stream_model.specs.Session.{Segment}
 use Rattle.gate_model.specs.Stream.{segment_of, sent_as}
-use Rattle.compact_worlds.specs.Kept.{CompactSession, compact_rules}
+use Rattle.gate_sessions.specs.Compact.{CompactSession, compact_rules}
 use Rattle.dns_plans.specs.Steps.{entered_all}
 use Rattle.gate_sessions.specs.Directions.{DnsKept, dns_session}
 use Rattle.gate_sessions.specs.Sessions.{session_of, IsOfPair, IsSession, MayWantIn}

@@ -1,6 +1,6 @@
 use Rattle.std.proofs.Common.{◌∷◌, ◌++◌, [], List, sym, ◌∙◌, ap}
 use Rattle.dialogue.specs.Learning.{Entry}
-use Rattle.compact_worlds.specs.Kept.{compact_rules}
+use Rattle.gate_sessions.specs.Compact.{compact_rules}
 use Rattle.dns_plans.proofs.EnteredLemmas.{take-next}
 use Rattle.gate_sessions.proofs.session.AnySessionSession.entries.Goals as goal
 

@@ -1,5 +1,5 @@
 use Rattle.std.proofs.Common.{◌≡◌, take}
-use Rattle.compact_worlds.specs.Kept.{compact_rules}
+use Rattle.gate_sessions.specs.Compact.{compact_rules}
 use Rattle.gate_sessions.proofs.session.AnySessionSession.entries.Given as goal
 
 abbrev pub invariant-loop-place : goal.invariant-loop-place

@@ -5,7 +5,7 @@ use Rattle.stream_model.specs.Session.{Segment, arrival, segment_in}
 use Rattle.stream_model.specs.Refusals.{is_data}
 use Rattle.compact_stream.specs.Outs.{start_kept}
 use Rattle.compact_stream.specs.Sessions.{sender_kept}
-use Rattle.compact_worlds.specs.Kept.{CompactSession, kept_units}
+use Rattle.gate_sessions.specs.Compact.{CompactSession, kept_units}
 use Rattle.dns_plans.specs.Plans.{whole_units}
 use Rattle.dns_plans.proofs.NamedLemmas.{whole_part}
 use Rattle.gate_sessions.specs.Directions.{DnsKept, dns_session}

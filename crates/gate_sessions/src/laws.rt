@@ -1,0 +1,33 @@
+// The laws of worlds by what is kept. The functions do nothing: their clauses are proved.
+ghost use Rattle.std.specs.Prelude.{◌≡◌, Bool, List, IfSome};
+ghost use Rattle.std.specs.List.{fold};
+ghost use Rattle.gate_base.specs.Events.{Event};
+ghost use Rattle.gate_settings.specs.declared.settings.Settings.{Settings};
+ghost use Rattle.gate_model.specs.Sessions.{WholeSession};
+ghost use Rattle.gate_model.specs.Held.{HasLists};
+ghost use Rattle.gate_model.specs.Reading.{Agree, AreRelated};
+ghost use Rattle.gate_model.specs.Rules.{whole_rules};
+ghost use Rattle.gate_model.specs.Step.{next, out};
+ghost use Rattle.gate_model.specs.Verdict.{verdict};
+ghost use Rattle.gate_model.specs.World.{World, opening_world};
+ghost use Rattle.gate_sessions.specs.Compact.{CompactSession, compact_rules, StandsFor, IsOfSome, IsListedStream};
+ghost use Rattle.gate_model.specs.Lists.{list_of};
+ghost use Rattle.compact_stream.specs.Sessions.{sender_kept};
+ghost use Rattle.gate_model.specs.Remembered.{EachTracked};
+
+/// Whatever events come, what is kept of sessions decides the verdict on each event and what goes out, as the sessions over
+/// whole lists do.
+pub fn compact_worlds_answer()
+    ensures agree { Agree StandsFor whole_rules compact_rules }
+    ensures verdict { (settings : Settings) (events : List Event) (e : Event) → verdict compact_rules (fold (next compact_rules) (opening_world settings) events) e ≡ verdict whole_rules (fold (next whole_rules) (opening_world settings) events) e }
+    ensures out { (settings : Settings) (events : List Event) (e : Event) → out compact_rules (fold (next compact_rules) (opening_world settings) events) e ≡ out whole_rules (fold (next whole_rules) (opening_world settings) events) e }
+    ensures pending { (settings : Settings) (events : List Event) → (fold (next compact_rules) (opening_world settings) events).pending ≡ (fold (next whole_rules) (opening_world settings) events).pending }
+    ensures related { (settings : Settings) (events : List Event) → AreRelated StandsFor (fold (next whole_rules) (opening_world settings) events) (fold (next compact_rules) (opening_world settings) events) }
+    ensures lists { HasLists compact_rules }
+    ensures some { (settings : Settings) (events : List Event) → EachTracked (λ t. IsOfSome t.session) (fold (next compact_rules) (opening_world settings) events).connections }
+    ensures step_some { (w : World CompactSession) (e : Event) → EachTracked (λ t. IsOfSome t.session) w.connections → EachTracked (λ t. IsOfSome t.session) (next compact_rules w e).connections }
+    ensures listed { (k : CompactSession) (client : Bool) → IsOfSome k → IfSome k.lists (λ l. IsListedStream (list_of client l) (sender_kept client k.kept)) }
+    ensures step_verdict { (w : World WholeSession) (v : World CompactSession) (e : Event) → AreRelated StandsFor w v → verdict compact_rules v e ≡ verdict whole_rules w e }
+    ensures step_out { (w : World WholeSession) (v : World CompactSession) (e : Event) → AreRelated StandsFor w v → out compact_rules v e ≡ out whole_rules w e }
+    ensures step_next { (w : World WholeSession) (v : World CompactSession) (e : Event) → AreRelated StandsFor w v → AreRelated StandsFor (next whole_rules w e) (next compact_rules v e) }
+{}

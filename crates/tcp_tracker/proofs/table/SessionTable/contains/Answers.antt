@@ -1,0 +1,13 @@
+use Rattle.std.proofs.Common.{◌∙◌, sym, ap}
+use Rattle.std.specs.Prelude.{is_some}
+use Rattle.tcp_tracker.specs.Connections.{connection_of, seen_as}
+use Rattle.tcp_tracker.specs.Joined.{inline}
+use Rattle.tcp_tracker.proofs.Joining.{connection_joined, some_mapped}
+use Rattle.tcp_tracker.proofs.table.SessionTable.contains.Goals as goal
+
+pub returns : goal.returns
+returns g c =
+    rw (← c.self.view_is)
+    (c.is_some.ensures ∙ ap is_some c.find.ensures ∙ some_mapped seen_as (connection_of c.args.key.now c.self.inside.tracker)
+    ∙ sym (some_mapped (inline c.self.inside.sessions) (connection_of c.args.key.now c.self.inside.tracker))
+    ∙ ap is_some (sym (connection_joined c.self.inside.sessions c.args.key.now c.self.inside.tracker)))
