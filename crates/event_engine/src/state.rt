@@ -1,5 +1,6 @@
 // What is known from event to event, and what a frame changes of it.
-ghost use Rattle.std.specs.Prelude.{◌≡◌, ◌*◌, ◌^◌, ◌<◌, ◌≤◌, false, ◌==◌, [], length, IfOk};
+ghost use Rattle.std.specs.Prelude.{◌≡◌, ◌≤◌, false, ◌==◌, [], length, IfOk};
+ghost use Rattle.gate_base.specs.Moments.{IsMoment};
 ghost use Rattle.twice_translate.specs.Renamed.{CanGoOn, datagram_of};
 ghost use Rattle.gate_model.specs.Frame as kinds;
 ghost use Rattle.gate_model.specs.World.{opening_world, at_moment};
@@ -99,7 +100,7 @@ impl<S: Engine> State<S> {
         requires laws { HasLaws S.rules }
         requires listed { KeepsListed S.rules (world_in self.old) }
         requires clock { self.old.clock ≡ event.now.moment }
-        requires moment { event.now.moment.0 < 2 ^ 32 * 1000000000 }
+        requires moment { IsMoment event.now.moment.0 }
         requires empty { outbox.old ≡ [] }
         ensures { IsDone S.rules S.gives (first_that_holds (tests S.rules (world_in self.old) (event_of event.now))) (first_that_holds (early_tests (world_in self.old) (event_of event.now))) (world_in self.old) event.now.side (datagram_in (event_of event.now)) result (world_in self.new) outbox.new }
     {
@@ -119,7 +120,7 @@ impl<S: Engine> State<S> {
         requires laws { HasLaws S.rules }
         requires listed { KeepsListed S.rules (world_in self.old) }
         requires judged { IsJudged frame.now.octets.now frame.now.datagram frame.now.content }
-        requires moment { self.old.clock.0 < 2 ^ 32 * 1000000000 }
+        requires moment { IsMoment self.old.clock.0 }
         requires empty { outbox.old ≡ [] }
         ensures { IsDone S.rules S.gives (first_that_holds (world_tests S.rules (world_in self.old) side self.old.clock.0 frame.now.datagram (kind_of frame.now.datagram))) (first_that_holds (address_tests self.old.table side frame.now.datagram)) (world_in self.old) side frame.now.datagram result (world_in self.new) outbox.new }
     {
@@ -168,7 +169,7 @@ impl<S: Engine> State<S> {
         outbox: &mut Outbox,
     ) -> Option<Refusal>
         requires way { IsWayOf (world_in self.old) way.now.side (datagram_of octets.now) way.now }
-        requires moment { way.now.moment.0 < 2 ^ 32 * 1000000000 }
+        requires moment { IsMoment way.now.moment.0 }
         requires empty { outbox.old ≡ [] }
         requires few { length octets.now ≤ 65535 }
         requires can { CanGoOn octets.now }

@@ -1,5 +1,6 @@
 // TCP segments, their connections and their sessions.
-ghost use Rattle.std.specs.Prelude.{◌≡◌, ◌*◌, ◌^◌, ◌<◌, ◌&&◌, [], true, Option, None, Some, IfOk, OnErr, OnOk};
+ghost use Rattle.std.specs.Prelude.{◌≡◌, ◌&&◌, [], true, Option, None, Some, IfOk, OnErr, OnOk};
+ghost use Rattle.gate_base.specs.Moments.{IsMoment};
 ghost use Rattle.gate_base.specs.declared.address.Addr.{Addr};
 ghost use Rattle.tcp_tracker.specs.Connections.{connection_of};
 ghost use Rattle.tcp_tracker.specs.Joined.{replaced};
@@ -42,7 +43,7 @@ impl<S: Engine> State<S> {
         requires laws { HasLaws S.rules }
         requires listed { KeepsListed S.rules (world_in self.old) }
         requires way { IsWayOf (world_in self.old) way.now.side segment.now.datagram.now way.now }
-        requires moment { way.now.moment.0 < 2 ^ 32 * 1000000000 }
+        requires moment { IsMoment way.now.moment.0 }
         requires empty { outbox.old ≡ [] }
         requires whole { IsSegmentOf segment.now.octets.now segment.now.datagram.now segment.now.tcp.now }
         ensures { IsSegmentDone S.rules S.gives (world_in self.old) way.now.side segment.now.datagram.now result (world_in self.new) outbox.new }
@@ -63,7 +64,7 @@ impl<S: Engine> State<S> {
         requires listed { KeepsListed S.rules (world_in self.old) }
         requires way { IsWayOf (world_in self.old) way.now.side segment.now.datagram.now way.now }
         requires key { key.now ≡ streams.key_in self.old.table way.now.side segment.now.datagram.now }
-        requires moment { way.now.moment.0 < 2 ^ 32 * 1000000000 }
+        requires moment { IsMoment way.now.moment.0 }
         requires empty { outbox.old ≡ [] }
         requires whole { IsSegmentOf segment.now.octets.now segment.now.datagram.now segment.now.tcp.now }
         ensures { IsSegmentDone S.rules S.gives (world_in self.old) way.now.side segment.now.datagram.now result (world_in self.new) outbox.new }
@@ -104,7 +105,7 @@ impl<S: Engine> State<S> {
         requires way { IsWayOf (world_in self.old) way.now.side segment.now.datagram.now way.now }
         requires key { key.now ≡ streams.key_in self.old.table way.now.side segment.now.datagram.now }
         requires absent { connection_of key.now self.old.connections ≡ None }
-        requires moment { way.now.moment.0 < 2 ^ 32 * 1000000000 }
+        requires moment { IsMoment way.now.moment.0 }
         requires empty { outbox.old ≡ [] }
         requires whole { IsSegmentOf segment.now.octets.now segment.now.datagram.now segment.now.tcp.now }
         ensures { IsSegmentDone S.rules S.gives (world_in self.old) way.now.side segment.now.datagram.now result (world_in self.new) outbox.new }
@@ -139,7 +140,7 @@ impl<S: Engine> State<S> {
         requires way { IsWayOf (world_in self.old) way.now.side segment.now.datagram.now way.now }
         requires key { key.now ≡ streams.key_in self.old.table way.now.side segment.now.datagram.now }
         requires plan { (t : worlds.Tracked S) × IsPlanOf S.rules (world_in self.old) way.now.side segment.now.datagram.now t plan.now }
-        requires moment { way.now.moment.0 < 2 ^ 32 * 1000000000 }
+        requires moment { IsMoment way.now.moment.0 }
         requires empty { outbox.old ≡ [] }
         requires whole { IsSegmentOf segment.now.octets.now segment.now.datagram.now segment.now.tcp.now }
         ensures { IsSegmentDone S.rules S.gives (world_in self.old) way.now.side segment.now.datagram.now result (world_in self.new) outbox.new }
@@ -193,7 +194,7 @@ impl<S: Engine> State<S> {
         requires key { key.now ≡ streams.key_in self.old.table way.now.side segment.now.datagram.now }
         requires absent { connection_of key.now self.old.connections ≡ None }
         requires first { (streams.is_opening segment.now.tcp.now.flags && kinds.is_tracked_port segment.now.tcp.now.destination_port) ≡ true }
-        requires moment { way.now.moment.0 < 2 ^ 32 * 1000000000 }
+        requires moment { IsMoment way.now.moment.0 }
         requires empty { outbox.old ≡ [] }
         requires whole { IsSegmentOf segment.now.octets.now segment.now.datagram.now segment.now.tcp.now }
         ensures { IsSegmentDone S.rules S.gives (world_in self.old) way.now.side segment.now.datagram.now result (world_in self.new) outbox.new }

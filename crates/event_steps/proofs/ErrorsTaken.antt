@@ -20,7 +20,7 @@ use Rattle.gate_model.specs.Units.{uses_until}
 use Rattle.gate_model.specs.World.{World, source_of, destination_of, called}
 use Rattle.gate_model.specs.Rules.{SessionRules}
 use Rattle.gate_payloads.specs.Taken.{IsTaken, IsWayOf}
-use Rattle.gate_payloads.specs.Ways.{image_by, is_empty}
+use Rattle.gate_payloads.specs.Ways.{image_by, is_empty, header_uses}
 use Rattle.gate_payloads.specs.declared.addresses.Way.{Way}
 use Rattle.gate_payloads.proofs.HeadersOnly.{are_images, empty_is, uses_are}
 
@@ -116,7 +116,7 @@ inner_is rules live side d inner source destination number k =
     ∙ ap (λ (i : Inner). W (called live.table side i.source) (called live.table side i.destination) (inner_number rules live side i)) k.read.fields
 
 pub error_passes : {S : Type 0} (rules : SessionRules S) (live : World S) (side : Side) (d : Datagram) (way : Way) (inner : Inner) (source destination : Addr) (number : Option (Option ℕ)) (table : Bindings) (sent : List (List ℕ)) → IsWayOf live side d way → IsKnown rules live side d inner source destination number → is_unknown number ≡ false → is_empty way.of_source ≡ false
-    → table ≡ after_uses live.table (uses_until way.side (way.moment.0 + icmp_timeout) (way.source ∷ way.destination ∷ []))
+    → table ≡ after_uses live.table (header_uses way icmp_timeout)
     → sent ≡ renamed (with_inside d (inner_with (inside d) source.0 destination.0 (option_and_then (λ n. n) number))) (image_by way.of_source way.source).0 (image_by way.of_destination way.destination).0 ∷ []
     → IsTaken rules live side d Error None table sent
 error_passes rules live side d way inner source destination number table sent w k known room t s =

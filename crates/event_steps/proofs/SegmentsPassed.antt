@@ -26,7 +26,7 @@ use Rattle.gate_model.specs.Units.{uses_until}
 use Rattle.gate_model.specs.World.{Tracked, World, called, source_of, destination_of}
 use Rattle.gate_model.specs.Rules.{SessionRules}
 use Rattle.gate_payloads.specs.Taken.{IsWayOf}
-use Rattle.gate_payloads.specs.Ways.{image_by, is_empty}
+use Rattle.gate_payloads.specs.Ways.{image_by, is_empty, header_uses}
 use Rattle.gate_payloads.specs.declared.addresses.Way.{Way}
 use Rattle.gate_payloads.proofs.Passes.{source_called, destination_called}
 use Rattle.gate_payloads.proofs.HeadersOnly.{of_source_is, of_destination_is, uses_are}
@@ -79,7 +79,7 @@ passed_is {S = S} rules tells live side d way taker table connections pending se
 
 -- where no session is, the header's uses are all
 pub used_alone : {S : Type 0} (rules : SessionRules S) (live : World S) (side : Side) (d : Datagram) (way : Way) (timeout : ℕ) (table : Bindings) → IsWayOf live side d way → is_empty way.of_source ≡ false → session_in (found_in live side d) ≡ None → stream_timeout rules live side d ≡ timeout →
-    table ≡ after_uses live.table (uses_until way.side (way.moment.0 + timeout) (way.source ∷ way.destination ∷ [])) → AreUsed rules live side d way table
+    table ≡ after_uses live.table (header_uses way timeout) → AreUsed rules live side d way table
 used_alone rules live side d way timeout table w room alone h one =
     let until = live.clock + stream_timeout rules live side d in
     record {
@@ -104,7 +104,7 @@ pub untracked_taken : {S A : Type 0} (rules : SessionRules S) (tells : Tells S A
     let key = key_in live.table way.side d in let flags = (tcp_of d).flags in
     IsWayOf live way.side d way → IsJoined rules live way.side d None full → session_in (found_in live way.side d) ≡ None →
     refusal ≡ first_that_holds (room_tests full (is_empty way.of_source)) →
-    table_new ≡ unless_refused refusal (after_uses live.table (uses_until way.side (way.moment.0 + timeout_of live.connections key way.side flags) (way.source ∷ way.destination ∷ []))) live.table →
+    table_new ≡ unless_refused refusal (after_uses live.table (header_uses way (timeout_of live.connections key way.side flags))) live.table →
     connections_new ≡ unless_refused refusal (noted live.connections key way.side flags None way.moment) live.connections →
     sent ≡ tells.whole (unless_refused refusal (renamed d (image_by way.of_source way.source).0 (image_by way.of_destination way.destination).0 ∷ []) []) →
     IsSegmentTaken rules tells live way.side d refusal (world_of live.clock table_new connections_new live.pending) sent
@@ -128,7 +128,7 @@ untracked_taken {S = S} rules tells live way d full None table_new connections_n
 pub untracked_by : {S A : Type 0} (rules : SessionRules S) (tells : Tells S A) (live : World S) (way : Way) (d : Datagram) (key : ConnKey) (tcp : Tcp) (octets : List ℕ) (full : Bool) (refusal : Option Refusal) (table_new : Bindings) (connections_new : List (Connection (Tracked S))) (sent : A) →
     IsWayOf live way.side d way → key ≡ key_in live.table way.side d → tcp ≡ tcp_of d → datagram_of octets ≡ d → lacks_place live.connections (connection_of key live.connections) tcp.flags ≡ full → IsJoined rules live way.side d None full → session_in (found_in live way.side d) ≡ None →
     refusal ≡ first_that_holds (room_tests (lacks_place live.connections (connection_of key live.connections) tcp.flags) (is_empty way.of_source)) →
-    table_new ≡ unless_refused refusal (after_uses live.table (uses_until way.side (way.moment.0 + timeout_of live.connections key way.side tcp.flags) (way.source ∷ way.destination ∷ []))) live.table →
+    table_new ≡ unless_refused refusal (after_uses live.table (header_uses way (timeout_of live.connections key way.side tcp.flags))) live.table →
     connections_new ≡ unless_refused refusal (noted live.connections key way.side tcp.flags None way.moment) live.connections →
     sent ≡ tells.whole (unless_refused refusal (renamed (datagram_of octets) (image_by way.of_source way.source).0 (image_by way.of_destination way.destination).0 ∷ []) []) →
     IsSegmentTaken rules tells live way.side d refusal (world_of live.clock table_new connections_new live.pending) sent
@@ -140,7 +140,7 @@ untracked_by {S = S} rules tells live way d key tcp octets full refusal table_ne
     (g ∙ ap (λ (x : Datagram). tells.whole (unless_refused refusal (renamed x (image_by way.of_source way.source).0 (image_by way.of_destination way.destination).0 ∷ []) [])) o)
   where
     T : ConnKey → Tcp → Bindings
-    T x y = unless_refused refusal (after_uses live.table (uses_until way.side (way.moment.0 + timeout_of live.connections x way.side y.flags) (way.source ∷ way.destination ∷ []))) live.table
+    T x y = unless_refused refusal (after_uses live.table (header_uses way (timeout_of live.connections x way.side y.flags))) live.table
 
     C : ConnKey → Tcp → List (Connection (Tracked S))
     C x y = unless_refused refusal (noted live.connections x way.side y.flags None way.moment) live.connections
@@ -237,7 +237,7 @@ pub session_begins : {S A : Type 0} (rules : SessionRules S) (tells : Tells S A)
     let key = key_in live.table way.side d in let flags = (tcp_of d).flags in let t = made_on rules way (tcp_of d) in
     IsWayOf live way.side d way → found_in live way.side d ≡ None → IsJoined rules live way.side d (Some (made_by rules (table_after rules live way.side live.clock d Stream) way.side d)) full → full ≡ false →
     session_refusal rules way.side d (Some (made_by rules (table_after rules live way.side live.clock d Stream) way.side d)) ≡ None → (flags_of flags).reset ≡ false → ends_by rules way.side d (Some t) ≡ false → is_empty way.of_source ≡ false → waiting ≡ waiting_after rules (image_of rules live way.side d) way.side d t →
-    table_new ≡ after_uses live.table (uses_until way.side (way.moment.0 + timeout_of live.connections key way.side flags) (way.source ∷ way.destination ∷ [])) →
+    table_new ≡ after_uses live.table (header_uses way (timeout_of live.connections key way.side flags)) →
     connections_new ≡ noted live.connections key way.side flags (Some (stepped rules (image_of rules live way.side d) way.side d t)) way.moment →
     sent ≡ tells.segment (image_of rules live way.side d) way.side d (image_by way.of_source way.source).0 (image_by way.of_destination way.destination).0 (Some t) →
     IsSegmentTaken rules tells live way.side d None (world_of live.clock table_new connections_new (max live.pending (unwrap_or waiting 0))) sent

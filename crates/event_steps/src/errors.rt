@@ -1,5 +1,6 @@
 // ICMP errors: the datagram inside, which came from the other realm and goes back.
-ghost use Rattle.std.specs.Prelude.{◌≡◌, ◌*◌, ◌^◌, ◌<◌, ◌≤◌, ◌==◌, true, false, [], drop, length};
+ghost use Rattle.std.specs.Prelude.{◌≡◌, ◌≤◌, ◌==◌, true, false, [], drop, length};
+ghost use Rattle.gate_base.specs.Moments.{IsMoment};
 ghost use Rattle.binding_table.specs.Bindings.{is_settled};
 ghost use Rattle.twice_translate.specs.Renamed.{CanGoOn, datagram_of};
 ghost use Rattle.gate_model.specs.Frame as kinds;
@@ -58,7 +59,7 @@ pub fn take_error<S: Session>(
 ) -> Option<Refusal>
     requires way { IsWay table.old way.now }
     requires settled { is_settled way.now.of_destination ≡ true }
-    requires moment { way.now.moment.0 < 2 ^ 32 * 1000000000 }
+    requires moment { IsMoment way.now.moment.0 }
     requires empty { outbox.old ≡ [] }
     requires few { length octets.now ≤ 65535 }
     requires can { CanGoOn octets.now }

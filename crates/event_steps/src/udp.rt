@@ -1,5 +1,6 @@
 // UDP datagrams, by their ports.
-ghost use Rattle.std.specs.Prelude.{◌≡◌, ◌*◌, ◌^◌, ◌<◌, ◌||◌, ◌==◌, [], IfOk, OnErr};
+ghost use Rattle.std.specs.Prelude.{◌≡◌, ◌||◌, ◌==◌, [], IfOk, OnErr};
+ghost use Rattle.gate_base.specs.Moments.{IsMoment};
 ghost use Rattle.twice_translate.specs.Renamed.{datagram_of};
 ghost use Rattle.udp_icmp.specs.Udp.{udp_fields_of};
 ghost use Rattle.gate_model.specs.Frame as kinds;
@@ -25,7 +26,7 @@ pub fn take_udp(
     outbox: &mut Outbox,
 ) -> Result<Option<Refusal>, OutOfMemory>
     requires way { IsWayOf (plain_world way.now.moment.0 table.old) way.now.side (datagram_of datagram.now.octets.now) way.now }
-    requires moment { way.now.moment.0 < 2 ^ 32 * 1000000000 }
+    requires moment { IsMoment way.now.moment.0 }
     requires empty { outbox.old ≡ [] }
     requires whole { IsUdpOf datagram.now.octets.now datagram.now.payload.now }
     requires view { view.now ≡ udp_fields_of (datagram_of datagram.now.octets.now).payload }

@@ -1,5 +1,6 @@
 // Segments that no session takes, and the room for connections.
-ghost use Rattle.std.specs.Prelude.{◌≡◌, ◌+◌, ◌*◌, ◌^◌, ◌<◌, ◌≤◌, ◌||◌, ◌&&◌, nat_le, [], ◌∷◌, length, true, false, None, is_none, count_by};
+ghost use Rattle.std.specs.Prelude.{◌≡◌, ◌≤◌, ◌||◌, ◌&&◌, nat_le, [], ◌∷◌, length, true, false, None, is_none, count_by};
+ghost use Rattle.gate_base.specs.Moments.{IsMoment, IsTimeout};
 ghost use Rattle.binding_table.specs.Bindings.{is_settled};
 ghost use Rattle.binding_table.specs.Plan.{after_uses};
 ghost use Rattle.twice_translate.specs.Renamed.{CanGoOn, datagram_of, renamed};
@@ -8,7 +9,7 @@ ghost use Rattle.tcp_tracker.specs.Connections.{connection_of, timeout_of, noted
 ghost use Rattle.gate_base.specs.Tests.{first_that_holds, unless_refused};
 ghost use Rattle.gate_model.specs.Stream.{most_connections, most_sessions};
 ghost use Rattle.gate_model.specs.Units.{uses_until};
-ghost use Rattle.gate_payloads.specs.Ways.{IsWay, image_by, is_empty};
+ghost use Rattle.gate_payloads.specs.Ways.{IsWay, image_by, is_empty, header_uses};
 ghost use Rattle.event_steps.specs.Segments.{room_tests, lacks_place};
 
 use binding_table::Table;
@@ -37,12 +38,12 @@ pub fn take_untracked<X>(
 ) -> Option<Refusal>
     requires way { IsWay table.old way.now }
     requires settled { is_settled way.now.of_destination ≡ true }
-    requires moment { way.now.moment.0 < 2 ^ 32 * 1000000000 }
+    requires moment { IsMoment way.now.moment.0 }
     requires empty { outbox.old ≡ [] }
     requires few { length segment.now.octets.now ≤ 65535 }
     requires can { CanGoOn segment.now.octets.now }
     ensures refusal { result ≡ first_that_holds (room_tests (lacks_place connections.old (connection_of key.now connections.old) segment.now.tcp.now.flags) (is_empty way.now.of_source)) }
-    ensures table { table.new ≡ unless_refused result (after_uses table.old (uses_until way.now.side (way.now.moment.0 + timeout_of connections.old key.now way.now.side segment.now.tcp.now.flags) (way.now.source ∷ way.now.destination ∷ []))) table.old }
+    ensures table { table.new ≡ unless_refused result (after_uses table.old (header_uses way.now (timeout_of connections.old key.now way.now.side segment.now.tcp.now.flags))) table.old }
     ensures connections { connections.new ≡ unless_refused result (noted connections.old key.now way.now.side segment.now.tcp.now.flags None way.now.moment) connections.old }
     ensures out { outbox.new ≡ unless_refused result (renamed (datagram_of segment.now.octets.now) (image_by way.now.of_source way.now.source).0 (image_by way.now.of_destination way.now.destination).0 ∷ []) [] }
 {
@@ -62,10 +63,10 @@ pub fn take_untracked<X>(
 #[inline(always)]
 fn note_untracked<X>(connections: &mut SessionTable<X>, way: &Way, key: &ConnKey, flags: u8) -> u64
     requires place { lacks_place connections.old (connection_of key.now connections.old) flags ≡ false }
-    requires moment { way.now.moment.0 < 2 ^ 32 * 1000000000 }
+    requires moment { IsMoment way.now.moment.0 }
     ensures noted { connections.new ≡ noted connections.old key.now way.now.side flags None way.now.moment }
     ensures timeout { result ≡ timeout_of connections.old key.now way.now.side flags }
-    ensures small { result ≤ 7440 * 1000000000 }
+    ensures small { IsTimeout result }
 {
     if is_stray_reset(connections, key, flags) {
         return SHORT_TIMEOUT;
@@ -97,7 +98,7 @@ pub fn is_full<X>(connections: &SessionTable<X>) -> bool
 /// How long the addresses of a segment are held: as its connection is.
 pub fn timeout_of<X>(connections: &SessionTable<X>, way: &Way, key: &ConnKey, flags: u8) -> u64
     ensures is { result ≡ timeout_of connections.now key.now way.now.side flags }
-    ensures small { result ≤ 7440 * 1000000000 }
+    ensures small { IsTimeout result }
 {
     connections.timeout_of(key, way.side, flags)
 }

@@ -1,5 +1,6 @@
 // The uses of a segment of a session (RFC 2694, RFC 3022, 3.1).
-ghost use Rattle.std.specs.Prelude.{◌≡◌, ◌≤◌, ◌<◌, ◌*◌, ◌^◌, ◌++◌, take, length, true, false, Some};
+ghost use Rattle.std.specs.Prelude.{◌≡◌, ◌≤◌, ◌++◌, take, length, true, false, Some};
+ghost use Rattle.gate_base.specs.Moments.{IsMoment, IsTimeout};
 ghost use Rattle.gate_base.specs.Side.{other};
 ghost use Rattle.binding_table.specs.Bindings.{is_settled};
 ghost use Rattle.binding_table.specs.Plan.{after_uses};
@@ -68,8 +69,8 @@ pub fn use_segment<S: Session>(
 )
     requires way { IsWay table.old way.now }
     requires settled { is_settled way.now.of_destination ≡ true }
-    requires moment { way.now.moment.0 < 2 ^ 32 * 1000000000 }
-    requires timeout { timeout ≤ 7440 * 1000000000 }
+    requires moment { IsMoment way.now.moment.0 }
+    requires timeout { IsTimeout timeout }
     requires client { (t : worlds.Tracked S) → streams.session_in (connection_of key.now connections.now) ≡ Some t → plan.now.client ≤ length (S.rules.listed true t.session) }
     requires server { (t : worlds.Tracked S) → streams.session_in (connection_of key.now connections.now) ≡ Some t → plan.now.server ≤ length (S.rules.listed false t.session) }
     ensures { (t : worlds.Tracked S) → streams.session_in (connection_of key.now connections.now) ≡ Some t → table.new ≡ after_uses table.old (uses_planned S.rules way.now plan.now timeout t) }

@@ -1,5 +1,6 @@
 // What is found at a frame, and behind the last one.
-ghost use Rattle.std.specs.Prelude.{◌≡◌, ◌<◌, ◌*◌, ◌^◌, false, length};
+ghost use Rattle.std.specs.Prelude.{◌≡◌, ◌<◌, ◌^◌, false, length};
+ghost use Rattle.gate_base.specs.Moments.{IsMoment};
 ghost use Rattle.frag_join.specs.Arrivals.{Arrival};
 ghost use Rattle.gate_desk.specs.Outside.{CanRead};
 ghost use Rattle.gate_desk.specs.declared.slot.Slot.TheVariants.{LeftGiven, RightGiven, ReportGiven};
@@ -55,7 +56,7 @@ pub fn take_event<D: Desk>(
     requires begun { auditor.old.expecting.so_far ≡ begun }
     requires number { head.number < 2 ^ 43 }
     requires few { totals.events < 2 ^ 42 }
-    requires moment { head.moment.0 < 2 ^ 32 * 1000000000 }
+    requires moment { IsMoment head.moment.0 }
     requires fits { Fits totals given.old }
     ensures answer { (s : State) (x : Arrival) → IsExpecting head totals auditor.old s x → FindsAt result s x given.old given.new auditor.old auditor.new (D.outside desk.old) (D.outside desk.new) }
     ensures reads { ReadsGiven (D.outside desk.old) (D.outside desk.new) }

@@ -1,5 +1,6 @@
 // A frame is expected: as the event that comes to the gate, or as one that stays before it.
-ghost use Rattle.std.specs.Prelude.{◌≡◌, ◌<◌, ◌*◌, ◌^◌, false, OnOk};
+ghost use Rattle.std.specs.Prelude.{◌≡◌, false, OnOk};
+ghost use Rattle.gate_base.specs.Moments.{IsMoment};
 ghost use Rattle.frag_join.specs.Arrivals.{Reaches, Stopped, arrival, joiner_after};
 ghost use Rattle.frag_join.specs.Joining.{by_known};
 ghost use Rattle.gate_base.specs.Events.{event_of};
@@ -17,7 +18,7 @@ fn expect_event(
     event: Event<'_>,
 ) -> Result<LineHead, OutOfMemory>
     requires kept { auditor.old.lost ≡ false }
-    requires early { event.moment.0 < 2 ^ 32 * 1000000000 }
+    requires early { IsMoment event.moment.0 }
     ensures { Expected result number auditor.old auditor.new (Reaches (event_of event.entry)) }
 {
     match auditor.expect(&event) {
@@ -59,7 +60,7 @@ pub fn expect(
     event: Event<'_>,
 ) -> Result<LineHead, OutOfMemory>
     requires kept { auditor.old.lost ≡ false }
-    requires early { event.moment.0 < 2 ^ 32 * 1000000000 }
+    requires early { IsMoment event.moment.0 }
     ensures answer { Expected result number auditor.old auditor.new (arrival by_known joiner.old (event_of event.entry)) }
     ensures joiner { joiner.new ≡ joiner_after by_known joiner.old (event_of event.entry) }
 {

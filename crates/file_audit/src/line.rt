@@ -1,5 +1,6 @@
 // The lines of the given report.
-ghost use Rattle.std.specs.Prelude.{OnErr, true, ◌≡◌, ◌<◌, ◌≤◌, ◌*◌, ◌^◌, IfOk, length};
+ghost use Rattle.std.specs.Prelude.{OnErr, true, ◌≡◌, ◌<◌, ◌≤◌, ◌^◌, IfOk, length};
+ghost use Rattle.gate_base.specs.Moments.{IsMoment};
 ghost use Rattle.gate_desk.specs.declared.slot.Slot.TheVariants.{ReportGiven};
 ghost use Rattle.gate_desk.specs.Outside.{CanRead};
 ghost use Rattle.file_audit.specs.Lines.{agreed, agreement, number_after, with_digit, octets_of, line_with, FindsLine, IsLast, TakesLine, TakesLast};
@@ -172,7 +173,7 @@ pub fn take_line<D: Desk>(
 ) -> Result<Option<u32>, AuditStop>
     requires can { CanRead (D.outside desk.old) ReportGiven }
     requires number { head.number < 2 ^ 64 }
-    requires moment { head.moment.0 < 2 ^ 32 * 1000000000 }
+    requires moment { IsMoment head.moment.0 }
     ensures takes { TakesLine result json head report.old report.new (D.outside desk.old) (D.outside desk.new) }
     ensures leaves { LeavesFaults result (D.outside desk.old) (D.outside desk.new) }
 {

@@ -1,5 +1,6 @@
 // One event of the auditor, and the records that are given for it.
-ghost use Rattle.std.specs.Prelude.{◌≡◌, ◌*◌, ◌^◌, ◌<◌, [], true, false, All, IfOk, OnOk, OnErr};
+ghost use Rattle.std.specs.Prelude.{◌≡◌, ◌^◌, ◌<◌, [], true, false, All, IfOk, OnOk, OnErr};
+ghost use Rattle.gate_base.specs.Moments.{IsMoment};
 ghost use Rattle.gate_base.specs.Events.{event_of};
 ghost use Rattle.gate_base.specs.Side.{other};
 ghost use Rattle.gate_settings.specs.Sound.{IsSound};
@@ -90,7 +91,7 @@ impl Auditor {
     /// Takes an event, whose moment isn't before that of an earlier one: the gateway's verdict on its frame. What the gateway sends for it
     /// is expected then. After OutOfMemory the auditor isn't used again.
     pub fn expect(&mut self, event: &Event<'_>) -> Result<Verdict, OutOfMemory>
-        requires moment { event.now.moment.0 < 2 ^ 32 * 1000000000 }
+        requires moment { IsMoment event.now.moment.0 }
         requires kept { self.old.lost ≡ false }
         ensures verdict { IfOk result (λ v. v ≡ verdict whole_rules (whole_world self.old) (event_of event.now)) }
         ensures next { OnOk result (Expects self.old self.new (event_of event.now)) }

@@ -1,5 +1,6 @@
 // One event of the gate.
-ghost use Rattle.std.specs.Prelude.{◌≡◌, ◌*◌, ◌^◌, ◌<◌, [], Ok, Err, IfOk, OnErr, OnOk};
+ghost use Rattle.std.specs.Prelude.{◌≡◌, [], Ok, Err, IfOk, OnErr, OnOk};
+ghost use Rattle.gate_base.specs.Moments.{IsMoment};
 ghost use Rattle.gate_model.specs.World.{opening_world, at_moment};
 ghost use Rattle.gate_sessions.specs.Compact.{compact_rules};
 ghost use Rattle.gate_core.specs.Memory.{MayWant};
@@ -89,7 +90,7 @@ impl Gate {
     /// datagram of DNS. The second is a segment that isn't refused, and that is the first of a session or completes a line that
     /// bears an address. The third is one that completes a unit of a session of DNS, which doesn't refuse it.
     pub fn step(&mut self, event: &Event<'_>, outbox: &mut Outbox) -> Result<Verdict, OutOfMemory>
-        requires moment { event.now.moment.0 < 2 ^ 32 * 1000000000 }
+        requires moment { IsMoment event.now.moment.0 }
         ensures verdict { IfOk result (λ v. v ≡ verdict compact_rules self.old.world (event_of event.now)) }
         ensures next { OnOk result (self.new ≡ record self.old { world = next compact_rules self.old.world (event_of event.now) }) }
         ensures out { OnOk result (outbox.new ≡ out compact_rules self.old.world (event_of event.now)) }

@@ -18,7 +18,7 @@ use Rattle.gate_model.specs.Units.{uses_until}
 use Rattle.gate_model.specs.World.{World, source_of, destination_of, called}
 use Rattle.gate_model.specs.Rules.{SessionRules}
 use Rattle.gate_payloads.specs.Taken.{IsTaken, IsWayOf}
-use Rattle.gate_payloads.specs.Ways.{image_by, is_empty}
+use Rattle.gate_payloads.specs.Ways.{image_by, is_empty, header_uses}
 use Rattle.gate_payloads.specs.declared.addresses.Way.{Way}
 use Rattle.gate_payloads.proofs.Passes.{pool_empty_is, source_called, destination_called}
 
@@ -62,7 +62,7 @@ empty_is rules live side d way w =
 
 -- the uses of a way are those of its datagram
 pub uses_are : {S : Type 0} (live : World S) (side : Side) (d : Datagram) (way : Way) (timeout : ℕ) → IsWayOf live side d way →
-    after_uses live.table (uses_until way.side (way.moment.0 + timeout) (way.source ∷ way.destination ∷ [])) ≡ after_uses live.table (uses_until side (live.clock + timeout) (source_of d ∷ destination_of d ∷ []))
+    after_uses live.table (header_uses way timeout) ≡ after_uses live.table (uses_until side (live.clock + timeout) (source_of d ∷ destination_of d ∷ []))
 uses_are live side d way timeout w =
     ap (λ (x : Side). after_uses live.table (uses_until x (way.moment.0 + timeout) (way.source ∷ way.destination ∷ []))) w.side_is
     ∙ ap (λ (m : ℕ). after_uses live.table (uses_until side (m + timeout) (way.source ∷ way.destination ∷ []))) w.moment_is
@@ -70,7 +70,7 @@ uses_are live side d way timeout w =
     ∙ ap (λ (a : Addr). after_uses live.table (uses_until side (live.clock + timeout) (source_of d ∷ a ∷ []))) w.destination_is
 
 pub udp_taken : {S : Type 0} (rules : SessionRules S) (live : World S) (side : Side) (d : Datagram) (way : Way) (r : Option Refusal) (table : Bindings) (sent : List (List ℕ)) → IsWayOf live side d way → r ≡ first_that_holds ((is_empty way.of_source, PoolEmpty) ∷ [])
-    → table ≡ unless_refused r (after_uses live.table (uses_until way.side (way.moment.0 + udp_timeout) (way.source ∷ way.destination ∷ []))) live.table
+    → table ≡ unless_refused r (after_uses live.table (header_uses way udp_timeout)) live.table
     → sent ≡ unless_refused r (renamed d (image_by way.of_source way.source).0 (image_by way.of_destination way.destination).0 ∷ []) [] → IsTaken rules live side d Udp r table sent
 udp_taken rules live side d way r table sent w e t o = record {
   answer = e ∙ ap (λ (b : Bool). first_that_holds ((b, PoolEmpty) ∷ [])) (empty_is rules live side d way w);
@@ -79,7 +79,7 @@ udp_taken rules live side d way r table sent w e t o = record {
 }
 
 pub echo_taken : {S : Type 0} (rules : SessionRules S) (live : World S) (side : Side) (d : Datagram) (way : Way) (r : Option Refusal) (table : Bindings) (sent : List (List ℕ)) → IsWayOf live side d way → r ≡ first_that_holds ((is_empty way.of_source, PoolEmpty) ∷ [])
-    → table ≡ unless_refused r (after_uses live.table (uses_until way.side (way.moment.0 + icmp_timeout) (way.source ∷ way.destination ∷ []))) live.table
+    → table ≡ unless_refused r (after_uses live.table (header_uses way icmp_timeout)) live.table
     → sent ≡ unless_refused r (renamed d (image_by way.of_source way.source).0 (image_by way.of_destination way.destination).0 ∷ []) [] → IsTaken rules live side d Echo r table sent
 echo_taken rules live side d way r table sent w e t o = record {
   answer = e ∙ ap (λ (b : Bool). first_that_holds ((b, PoolEmpty) ∷ [])) (empty_is rules live side d way w);

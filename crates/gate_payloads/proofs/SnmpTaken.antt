@@ -31,7 +31,7 @@ use Rattle.gate_model.specs.Units.{uses_until}
 use Rattle.gate_model.specs.World.{World, source_of, destination_of, called}
 use Rattle.gate_model.specs.Rules.{SessionRules}
 use Rattle.gate_payloads.specs.Taken.{IsTaken, IsWayOf}
-use Rattle.gate_payloads.specs.Ways.{image_by, is_empty}
+use Rattle.gate_payloads.specs.Ways.{image_by, is_empty, header_uses}
 use Rattle.gate_payloads.specs.declared.addresses.Way.{Way}
 use Rattle.gate_payloads.specs.Planned.{number_planned}
 use Rattle.gate_payloads.proofs.HeadersOnly.{are_images, empty_is, uses_are, of_source_is, of_destination_is}
@@ -118,7 +118,7 @@ planned_is rules live side d way w room =
 -- a message that the rules rename
 pub message_by_rules : {S : Type 0} (rules : SessionRules S) (live : World S) (side : Side) (d : Datagram) (way : Way) (r : Option Refusal) (table : Bindings) (sent : List (List ℕ)) → IsWayOf live side d way → is_bad_snmp d ≡ false → is_empty way.of_source ≡ false
     → r ≡ first_that_holds ((nat_lt 65507 (length (oid_renamed (number_planned live.table way) live.table.oids (carried d))), SnmpTooLong) ∷ [])
-    → table ≡ unless_refused r (after_uses live.table (uses_until way.side (way.moment.0 + udp_timeout) (way.source ∷ way.destination ∷ []))) live.table
+    → table ≡ unless_refused r (after_uses live.table (header_uses way udp_timeout)) live.table
     → sent ≡ unless_refused r (rebuilt d (image_by way.of_source way.source).0 (image_by way.of_destination way.destination).0 (oid_renamed (number_planned live.table way) live.table.oids (carried d)) ∷ []) [] → IsTaken rules live side d Snmp r table sent
 message_by_rules rules live side d way r table sent w good room e t s =
     let planned = oid_renamed (number_planned live.table way) live.table.oids (carried d) in
@@ -141,18 +141,18 @@ message_by_rules rules live side d way r table sent w good room e t s =
 -- the same over an equal table and payload
 pub taken_by_rules : {S : Type 0} (rules : SessionRules S) (live : World S) (side : Side) (d : Datagram) (way : Way) (old : Bindings) (payload : List ℕ) (r : Option Refusal) (table : Bindings) (sent : List (List ℕ)) → live.table ≡ old → payload ≡ carried d → IsWayOf live side d way → is_bad_snmp d ≡ false → is_empty way.of_source ≡ false
     → r ≡ first_that_holds ((nat_lt 65507 (length (oid_renamed (number_planned old way) old.oids payload)), SnmpTooLong) ∷ [])
-    → table ≡ unless_refused r (after_uses old (uses_until way.side (way.moment.0 + udp_timeout) (way.source ∷ way.destination ∷ []))) old
+    → table ≡ unless_refused r (after_uses old (header_uses way udp_timeout)) old
     → sent ≡ unless_refused r (rebuilt d (image_by way.of_source way.source).0 (image_by way.of_destination way.destination).0 (oid_renamed (number_planned old way) old.oids payload) ∷ []) [] → IsTaken rules live side d Snmp r table sent
 taken_by_rules rules live side d way old payload r table sent same p w good room =
     let P : Bindings → List ℕ → Type 0 = λ x xs.
     r ≡ first_that_holds ((nat_lt 65507 (length (oid_renamed (number_planned x way) x.oids xs)), SnmpTooLong) ∷ [])
-    → table ≡ unless_refused r (after_uses x (uses_until way.side (way.moment.0 + udp_timeout) (way.source ∷ way.destination ∷ []))) x
+    → table ≡ unless_refused r (after_uses x (header_uses way udp_timeout)) x
     → sent ≡ unless_refused r (rebuilt d (image_by way.of_source way.source).0 (image_by way.of_destination way.destination).0 (oid_renamed (number_planned x way) x.oids xs) ∷ []) [] → IsTaken rules live side d Snmp r table sent in
     subst (λ (x : Bindings). P x payload) same (subst (λ (xs : List ℕ). P live.table xs) (sym p) (message_by_rules rules live side d way r table sent w good room))
 
 -- one where there is no rule
 pub message_basic : {S : Type 0} (rules : SessionRules S) (live : World S) (side : Side) (d : Datagram) (way : Way) (table : Bindings) (sent : List (List ℕ)) → IsWayOf live side d way → is_bad_snmp d ≡ false → is_empty way.of_source ≡ false → live.table.oids ≡ [] → length (carried d) ≤ 65507
-    → table ≡ after_uses live.table (uses_until way.side (way.moment.0 + udp_timeout) (way.source ∷ way.destination ∷ []))
+    → table ≡ after_uses live.table (header_uses way udp_timeout)
     → sent ≡ rebuilt d (image_by way.of_source way.source).0 (image_by way.of_destination way.destination).0 (oid_renamed (number_seen table way.side) [] (carried d)) ∷ [] → IsTaken rules live side d Snmp None table sent
 message_basic rules live side d way table sent w good room none few t s =
     let images = are_images live side d way (live.clock + udp_timeout) w room in
@@ -178,11 +178,11 @@ message_basic rules live side d way table sent w good room none few t s =
     }
 
 pub taken_basic : {S : Type 0} (rules : SessionRules S) (live : World S) (side : Side) (d : Datagram) (way : Way) (old : Bindings) (payload : List ℕ) (table : Bindings) (sent : List (List ℕ)) → live.table ≡ old → payload ≡ carried d → IsWayOf live side d way → is_bad_snmp d ≡ false → is_empty way.of_source ≡ false → old.oids ≡ [] → length payload ≤ 65507
-    → table ≡ after_uses old (uses_until way.side (way.moment.0 + udp_timeout) (way.source ∷ way.destination ∷ []))
+    → table ≡ after_uses old (header_uses way udp_timeout)
     → sent ≡ rebuilt d (image_by way.of_source way.source).0 (image_by way.of_destination way.destination).0 (oid_renamed (number_seen table way.side) [] payload) ∷ [] → IsTaken rules live side d Snmp None table sent
 taken_basic rules live side d way old payload table sent same p w good room =
     let P : Bindings → List ℕ → Type 0 = λ x xs.
-    x.oids ≡ [] → length xs ≤ 65507 → table ≡ after_uses x (uses_until way.side (way.moment.0 + udp_timeout) (way.source ∷ way.destination ∷ []))
+    x.oids ≡ [] → length xs ≤ 65507 → table ≡ after_uses x (header_uses way udp_timeout)
     → sent ≡ rebuilt d (image_by way.of_source way.source).0 (image_by way.of_destination way.destination).0 (oid_renamed (number_seen table way.side) [] xs) ∷ [] → IsTaken rules live side d Snmp None table sent in
     subst (λ (x : Bindings). P x payload) same (subst (λ (xs : List ℕ). P live.table xs) (sym p) (message_basic rules live side d way table sent w good room))
 

@@ -1,11 +1,13 @@
 -- Both addresses of a datagram, and how they cross.
-use Rattle.std.specs.Prelude.{◌≡◌, Bool, true, false, not, List, [], ◌∷◌}
+use Rattle.std.specs.Prelude.{◌≡◌, ℕ, ◌+◌, Bool, true, false, not, List, [], ◌∷◌}
 use Rattle.gate_base.specs.declared.address.Addr.{Addr}
 use Rattle.gate_base.specs.declared.refusal.Refusal.{Refusal}
 use Rattle.gate_base.specs.declared.refusal.Refusal.TheVariants.{SourceInPool, NoBinding}
 use Rattle.binding_table.specs.Bindings.{Bindings, cross, in_pool}
 use Rattle.binding_table.specs.declared.binding.Crossing.{Crossing}
 use Rattle.binding_table.specs.declared.binding.Crossing.TheVariants.{Bound, New, Empty}
+use Rattle.binding_table.specs.Plan.{Use}
+use Rattle.gate_model.specs.Units.{uses_until}
 use Rattle.gate_model.specs.Verdict.{is_reachable}
 use Rattle.gate_payloads.specs.declared.addresses.Way.{Way}
 
@@ -31,3 +33,7 @@ way_tests table way =
     (in_pool table way.side way.source, SourceInPool)
     ∷ (not (is_reachable table way.side way.destination), NoBinding)
     ∷ []
+
+-- the uses of both addresses, until a timeout after the datagram's moment
+abbrev pub header_uses : Way → ℕ → List Use
+header_uses way timeout = uses_until way.side (way.moment.0 + timeout) (way.source ∷ way.destination ∷ [])

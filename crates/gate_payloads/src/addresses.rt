@@ -1,11 +1,12 @@
 // The addresses of a datagram: what they are called in the other realm, and what a use of them changes.
-ghost use Rattle.std.specs.Prelude.{◌≡◌, ◌+◌, ◌*◌, ◌^◌, ◌<◌, ◌≤◌, [], ◌∷◌, None, true};
+ghost use Rattle.std.specs.Prelude.{◌≡◌, None, true};
+ghost use Rattle.gate_base.specs.Moments.{IsMoment, IsTimeout};
 ghost use Rattle.binding_table.specs.Bindings.{cross, seen, is_settled};
 ghost use Rattle.binding_table.specs.Plan.{used, used_by, after_uses};
 ghost use Rattle.gate_base.specs.Tests.{first_that_holds};
 ghost use Rattle.gate_model.specs.Verdict.{is_reachable};
 ghost use Rattle.gate_model.specs.Units.{uses_until};
-ghost use Rattle.gate_payloads.specs.Ways.{IsWay, image_by, is_empty, way_tests};
+ghost use Rattle.gate_payloads.specs.Ways.{IsWay, image_by, is_empty, way_tests, header_uses};
 
 use binding_table::{Crossing, Table};
 use gate_base::{Addr, Moment, Refusal, Side};
@@ -55,9 +56,9 @@ impl Way {
     pub fn use_both(&self, table: &mut Table, timeout: u64)
         requires way { IsWay table.old self.now }
         requires settled { is_settled self.now.of_destination ≡ true }
-        requires moment { self.now.moment.0 < 2 ^ 32 * 1000000000 }
-        requires timeout { timeout ≤ 7440 * 1000000000 }
-        ensures { table.new ≡ after_uses table.old (uses_until self.now.side (self.now.moment.0 + timeout) (self.now.source ∷ self.now.destination ∷ [])) }
+        requires moment { IsMoment self.now.moment.0 }
+        requires timeout { IsTimeout timeout }
+        ensures { table.new ≡ after_uses table.old (header_uses self.now timeout) }
     {
         let until = Moment(self.moment.0 + timeout);
         use_by(self.of_source, table, self.side, self.source, until);

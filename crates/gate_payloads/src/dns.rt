@@ -1,6 +1,7 @@
 // DNS messages over UDP (RFC 2694).
-ghost use Rattle.std.specs.Prelude.{◌≡◌, ◌≢◌, ◌+◌, ◌*◌, ◌^◌, ◌<◌, ◌≤◌, [], ◌∷◌, List, drop, length, option_map, unwrap_or, true, false, All, IfOk, IfSome, OnErr, is_some, is_none, nat_lt};
+ghost use Rattle.std.specs.Prelude.{◌≡◌, ◌≢◌, ◌+◌, ◌≤◌, [], ◌∷◌, List, drop, length, option_map, unwrap_or, true, false, All, IfOk, IfSome, OnErr, is_some, is_none, nat_lt};
 ghost use Rattle.std.specs.List.{list_any};
+ghost use Rattle.gate_base.specs.Moments.{IsMoment};
 ghost use Rattle.gate_base.specs.Side.{other};
 ghost use Rattle.binding_table.specs.Bindings.{cross, in_pool, free, is_settled};
 ghost use Rattle.binding_table.specs.Plan.{Use, AreUsesOf, needed, after_uses, images_after};
@@ -166,7 +167,7 @@ fn pass_names(
 )
     requires way { IsWay table.old way.now }
     requires settled { is_settled way.now.of_destination ≡ true }
-    requires moment { way.now.moment.0 < 2 ^ 32 * 1000000000 }
+    requires moment { IsMoment way.now.moment.0 }
     requires empty { outbox.old ≡ [] }
     requires few { length octets.now ≤ 65535 }
     requires can { CanGoOn octets.now }
@@ -185,7 +186,7 @@ fn pass_names(
 fn take_unnamed(table: &mut Table, way: &Way, octets: &[u8], outbox: &mut Outbox) -> Option<Refusal>
     requires way { IsWay table.old way.now }
     requires settled { is_settled way.now.of_destination ≡ true }
-    requires moment { way.now.moment.0 < 2 ^ 32 * 1000000000 }
+    requires moment { IsMoment way.now.moment.0 }
     requires empty { outbox.old ≡ [] }
     requires few { length octets.now ≤ 65535 }
     requires can { CanGoOn octets.now }
@@ -208,7 +209,7 @@ fn take_message(
     requires way { IsWay table.old way.now }
     requires outside { in_pool table.old way.now.side way.now.source ≡ false }
     requires settled { is_settled way.now.of_destination ≡ true }
-    requires moment { way.now.moment.0 < 2 ^ 32 * 1000000000 }
+    requires moment { IsMoment way.now.moment.0 }
     requires empty { outbox.old ≡ [] }
     requires whole { IsUdpOf datagram.now.octets.now datagram.now.payload.now }
     requires message { message_at datagram.now.payload.now ≡ Some message.old }
@@ -245,7 +246,7 @@ pub fn take_dns(
     requires way { IsWay table.old way.now }
     requires outside { in_pool table.old way.now.side way.now.source ≡ false }
     requires settled { is_settled way.now.of_destination ≡ true }
-    requires moment { way.now.moment.0 < 2 ^ 32 * 1000000000 }
+    requires moment { IsMoment way.now.moment.0 }
     requires empty { outbox.old ≡ [] }
     requires whole { IsUdpOf datagram.now.octets.now datagram.now.payload.now }
     ensures taken { (live : World PlainSession) → live.table ≡ table.old → IsWayOf live way.now.side (datagram_of datagram.now.octets.now) way.now → IfOk result (λ r. IsTaken plain_rules live way.now.side (datagram_of datagram.now.octets.now) (kinds.Dns) r table.new outbox.new) }

@@ -1,12 +1,13 @@
 // Datagrams of which only the header is renamed: other UDP, echoes, and segments that no session takes.
-ghost use Rattle.std.specs.Prelude.{◌≡◌, ◌+◌, ◌*◌, ◌^◌, ◌<◌, ◌≤◌, [], ◌∷◌, None, length, true};
+ghost use Rattle.std.specs.Prelude.{◌≡◌, ◌≤◌, [], ◌∷◌, None, length, true};
+ghost use Rattle.gate_base.specs.Moments.{IsMoment, IsTimeout};
 ghost use Rattle.binding_table.specs.Plan.{after_uses};
 ghost use Rattle.binding_table.specs.Bindings.{is_settled};
 ghost use Rattle.gate_base.specs.Tests.{first_that_holds, unless_refused};
 ghost use Rattle.twice_translate.specs.Renamed.{CanGoOn, datagram_of, renamed};
 ghost use Rattle.gate_base.specs.declared.refusal.Refusal.TheVariants.{PoolEmpty};
 ghost use Rattle.gate_model.specs.Units.{uses_until};
-ghost use Rattle.gate_payloads.specs.Ways.{IsWay, image_by, is_empty};
+ghost use Rattle.gate_payloads.specs.Ways.{IsWay, image_by, is_empty, header_uses};
 
 use crate::addresses::{Way, lacks_alias};
 use binding_table::Table;
@@ -23,12 +24,12 @@ pub const ICMP_TIMEOUT: u64 = 60_000_000_000;
 pub fn pass_plain(table: &mut Table, way: &Way, timeout: u64, octets: &[u8], outbox: &mut Outbox)
     requires way { IsWay table.old way.now }
     requires settled { is_settled way.now.of_destination ≡ true }
-    requires moment { way.now.moment.0 < 2 ^ 32 * 1000000000 }
-    requires timeout { timeout ≤ 7440 * 1000000000 }
+    requires moment { IsMoment way.now.moment.0 }
+    requires timeout { IsTimeout timeout }
     requires empty { outbox.old ≡ [] }
     requires few { length octets.now ≤ 65535 }
     requires can { CanGoOn octets.now }
-    ensures table { table.new ≡ after_uses table.old (uses_until way.now.side (way.now.moment.0 + timeout) (way.now.source ∷ way.now.destination ∷ [])) }
+    ensures table { table.new ≡ after_uses table.old (header_uses way.now timeout) }
     ensures out { outbox.new ≡ renamed (datagram_of octets.now) (image_by way.now.of_source way.now.source).0 (image_by way.now.of_destination way.now.destination).0 ∷ [] }
 {
     way.use_both(table, timeout);
@@ -45,13 +46,13 @@ pub fn take_plain(
 ) -> Option<Refusal>
     requires way { IsWay table.old way.now }
     requires settled { is_settled way.now.of_destination ≡ true }
-    requires moment { way.now.moment.0 < 2 ^ 32 * 1000000000 }
-    requires timeout { timeout ≤ 7440 * 1000000000 }
+    requires moment { IsMoment way.now.moment.0 }
+    requires timeout { IsTimeout timeout }
     requires empty { outbox.old ≡ [] }
     requires few { length octets.now ≤ 65535 }
     requires can { CanGoOn octets.now }
     ensures refusal { result ≡ first_that_holds ((is_empty way.now.of_source, PoolEmpty) ∷ []) }
-    ensures table { table.new ≡ unless_refused result (after_uses table.old (uses_until way.now.side (way.now.moment.0 + timeout) (way.now.source ∷ way.now.destination ∷ []))) table.old }
+    ensures table { table.new ≡ unless_refused result (after_uses table.old (header_uses way.now timeout)) table.old }
     ensures out { outbox.new ≡ unless_refused result (renamed (datagram_of octets.now) (image_by way.now.of_source way.now.source).0 (image_by way.now.of_destination way.now.destination).0 ∷ []) [] }
 {
     if lacks_alias(way) {

@@ -1,5 +1,6 @@
 // SNMP messages (RFC 2962).
-ghost use Rattle.std.specs.Prelude.{◌≡◌, ◌+◌, ◌*◌, ◌^◌, ◌<◌, ◌≤◌, nat_lt, true, [], ◌∷◌, length, IsSome};
+ghost use Rattle.std.specs.Prelude.{◌≡◌, nat_lt, true, [], ◌∷◌, length, IsSome};
+ghost use Rattle.gate_base.specs.Moments.{IsMoment};
 ghost use Rattle.binding_table.specs.Bindings.{is_settled};
 ghost use Rattle.binding_table.specs.Plan.{after_uses};
 ghost use Rattle.twice_translate.specs.Renamed.{datagram_of, rebuilt};
@@ -13,7 +14,7 @@ ghost use Rattle.gate_model.specs.World.{World};
 ghost use Rattle.snmp_gateway.specs.Message.{message};
 ghost use Rattle.snmp_oids.specs.Elements.{oid_renamed};
 ghost use Rattle.gate_payloads.specs.Planned.{number_planned};
-ghost use Rattle.gate_payloads.specs.Ways.{IsWay, image_by};
+ghost use Rattle.gate_payloads.specs.Ways.{IsWay, image_by, header_uses};
 ghost use Rattle.gate_payloads.specs.Plain.{PlainSession, plain_rules};
 ghost use Rattle.gate_payloads.specs.Taken.{IsTaken, IsUdpOf, IsWayOf};
 
@@ -68,11 +69,11 @@ impl<'a> Lookup for Planned<'a> {
 fn pass_basic(table: &mut Table, way: &Way, datagram: &UdpDatagram<'_>, outbox: &mut Outbox)
     requires way { IsWay table.old way.now }
     requires settled { is_settled way.now.of_destination ≡ true }
-    requires moment { way.now.moment.0 < 2 ^ 32 * 1000000000 }
+    requires moment { IsMoment way.now.moment.0 }
     requires empty { outbox.old ≡ [] }
     requires whole { IsUdpOf datagram.now.octets.now datagram.now.payload.now }
     requires message { IsSome (message datagram.now.payload.now) }
-    ensures table { table.new ≡ after_uses table.old (uses_until way.now.side (way.now.moment.0 + udp_timeout) (way.now.source ∷ way.now.destination ∷ [])) }
+    ensures table { table.new ≡ after_uses table.old (header_uses way.now udp_timeout) }
     ensures out { outbox.new ≡ rebuilt (datagram_of datagram.now.octets.now) (image_by way.now.of_source way.now.source).0 (image_by way.now.of_destination way.now.destination).0 (oid_renamed (number_seen table.new way.now.side) [] datagram.now.payload.now) ∷ [] }
 {
     way.use_both(table, UDP_TIMEOUT);
@@ -98,12 +99,12 @@ fn pass_by_rules(
 ) -> Option<Refusal>
     requires way { IsWay table.old way.now }
     requires settled { is_settled way.now.of_destination ≡ true }
-    requires moment { way.now.moment.0 < 2 ^ 32 * 1000000000 }
+    requires moment { IsMoment way.now.moment.0 }
     requires empty { outbox.old ≡ [] }
     requires whole { IsUdpOf datagram.now.octets.now datagram.now.payload.now }
     requires message { IsSome (message datagram.now.payload.now) }
     ensures refusal { result ≡ first_that_holds ((nat_lt 65507 (length (oid_renamed (number_planned table.old way.now) table.old.oids datagram.now.payload.now)), SnmpTooLong) ∷ []) }
-    ensures table { table.new ≡ unless_refused result (after_uses table.old (uses_until way.now.side (way.now.moment.0 + udp_timeout) (way.now.source ∷ way.now.destination ∷ []))) table.old }
+    ensures table { table.new ≡ unless_refused result (after_uses table.old (header_uses way.now udp_timeout)) table.old }
     ensures out { outbox.new ≡ unless_refused result (rebuilt (datagram_of datagram.now.octets.now) (image_by way.now.of_source way.now.source).0 (image_by way.now.of_destination way.now.destination).0 (oid_renamed (number_planned table.old way.now) table.old.oids datagram.now.payload.now) ∷ []) [] }
 {
     let fits = outbox.put_snmp_by_rules(
@@ -132,7 +133,7 @@ pub fn take_snmp(
 ) -> Option<Refusal>
     requires way { IsWay table.old way.now }
     requires settled { is_settled way.now.of_destination ≡ true }
-    requires moment { way.now.moment.0 < 2 ^ 32 * 1000000000 }
+    requires moment { IsMoment way.now.moment.0 }
     requires empty { outbox.old ≡ [] }
     requires whole { IsUdpOf datagram.now.octets.now datagram.now.payload.now }
     ensures taken { (live : World PlainSession) → live.table ≡ table.old → IsWayOf live way.now.side (datagram_of datagram.now.octets.now) way.now → IsTaken plain_rules live way.now.side (datagram_of datagram.now.octets.now) (kinds.Snmp) result table.new outbox.new }

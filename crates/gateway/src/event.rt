@@ -1,5 +1,6 @@
 // One frame: it is judged, and what it gives is written.
-ghost use Rattle.std.specs.Prelude.{◌≡◌, ◌+◌, ◌*◌, ◌<◌, ◌≤◌, ◌^◌, ◌++◌, [], ◌∷◌, length, IfSome, IsSome};
+ghost use Rattle.std.specs.Prelude.{◌≡◌, ◌*◌, ◌<◌, ◌≤◌, ◌^◌, ◌++◌, [], ◌∷◌, length, IfSome, IsSome};
+ghost use Rattle.gate_base.specs.Moments.{IsMoment};
 ghost use Rattle.gate_base.specs.Events.{event_of};
 ghost use Rattle.gate_desk.specs.declared.slot.Slot.TheVariants.{LeftOut, RightOut, Report};
 ghost use Rattle.gate_desk.specs.Outside.{CanWrite};
@@ -45,7 +46,7 @@ fn write_frame<D: Desk>(
 ) -> Result<(), Status>
     requires left { CanWrite (D.outside desk.old) LeftOut }
     requires right { CanWrite (D.outside desk.old) RightOut }
-    requires early { moment.0 < 2 ^ 32 * 1000000000 }
+    requires early { IsMoment moment.0 }
     requires head { length head.now ≤ HEAD }
     requires short { length datagram.now ≤ 65535 }
     ensures { WritesPieces result (frame_piece side moment.0 (head.now ++ datagram.now) ∷ []) (D.outside desk.old) (D.outside desk.new) }
@@ -76,7 +77,7 @@ fn send<D: Desk>(
 ) -> Result<(), Status>
     requires left { CanWrite (D.outside desk.old) LeftOut }
     requires right { CanWrite (D.outside desk.old) RightOut }
-    requires early { moment.0 < 2 ^ 32 * 1000000000 }
+    requires early { IsMoment moment.0 }
     requires short { length datagram.now ≤ 65535 }
     ensures { WritesPieces result (sent settings.now side moment.0 (datagram.now ∷ [])) (D.outside desk.old) (D.outside desk.new) }
 {
@@ -98,7 +99,7 @@ fn send_all<D: Desk>(
 ) -> Result<(), Status>
     requires left { CanWrite (D.outside desk.old) LeftOut }
     requires right { CanWrite (D.outside desk.old) RightOut }
-    requires early { moment.0 < 2 ^ 32 * 1000000000 }
+    requires early { IsMoment moment.0 }
     ensures { WritesPieces result (sent settings.now side moment.0 outbox.now) (D.outside desk.old) (D.outside desk.new) }
 {
     for place in 0..outbox.len() {
@@ -120,7 +121,7 @@ fn handle<D: Desk>(
     requires left { CanWrite (D.outside desk.old) LeftOut }
     requires right { CanWrite (D.outside desk.old) RightOut }
     requires report { CanWrite (D.outside desk.old) Report }
-    requires early { event.moment.0 < 2 ^ 32 * 1000000000 }
+    requires early { IsMoment event.moment.0 }
     requires few { reporter.old.totals.events < 2 ^ 42 }
     requires passed { reporter.old.totals.passed ≤ reporter.old.totals.events }
     requires refused { reporter.old.totals.refused ≤ reporter.old.totals.events }
@@ -188,7 +189,7 @@ fn handle_joined<D: Desk>(
     requires right { CanWrite (D.outside desk.old) RightOut }
     requires report { CanWrite (D.outside desk.old) Report }
     requires joined { IsSome (joined_in joiner.now) }
-    requires early { IfSome (joined_in joiner.now) (λ e. e.moment < 2 ^ 32 * 1000000000) }
+    requires early { IfSome (joined_in joiner.now) (λ e. IsMoment e.moment) }
     requires few { reporter.old.totals.events < 2 ^ 42 }
     requires passed { reporter.old.totals.passed ≤ reporter.old.totals.events }
     requires refused { reporter.old.totals.refused ≤ reporter.old.totals.events }
@@ -212,7 +213,7 @@ pub fn take<D: Desk>(
     requires left { CanWrite (D.outside desk.old) LeftOut }
     requires right { CanWrite (D.outside desk.old) RightOut }
     requires report { CanWrite (D.outside desk.old) Report }
-    requires early { event.moment.0 < 2 ^ 32 * 1000000000 }
+    requires early { IsMoment event.moment.0 }
     requires few { reporter.old.totals.events < 2 ^ 42 }
     requires passed { reporter.old.totals.passed ≤ reporter.old.totals.events }
     requires refused { reporter.old.totals.refused ≤ reporter.old.totals.events }

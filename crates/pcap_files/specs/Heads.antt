@@ -1,5 +1,6 @@
 -- What is read of a capture's head and of a record.
 use Rattle.std.specs.Prelude.{◌≡◌, ℕ, ◌+◌, ◌*◌, ◌^◌, ◌<◌, ◌≤◌, List, Bool, Option, Some, None, Result, Ok, Err, IfSome, if◌then◌else◌, nat_lt, nat_le, take, drop, length}
+use Rattle.gate_base.specs.Moments.{IsMoment}
 use Rattle.gate_desk.specs.declared.slot.Slot.{Slot}
 use Rattle.gate_desk.specs.Outside.{Outside, Takes, HasFailed, told_at}
 use Rattle.pcap_files.specs.declared.fault.CaptureFault.{CaptureFault}
@@ -32,7 +33,7 @@ after_head form place head rest =
 pub record Fits (place : ℕ) (h : RecordHead) : Type 0 where
   pub kept : h.kept ≤ 262144
   pub ends : place + 16 + h.kept ≤ 2 ^ 40
-  pub early : h.stamp < 2 ^ 32 * 1000000000
+  pub early : IsMoment h.stamp
 
 -- the head's fault, or what it says
 abbrev pub Judges : Result RecordHead CaptureFault → Form → ℕ → List ℕ → Type 0

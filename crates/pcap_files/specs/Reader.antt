@@ -1,5 +1,6 @@
 -- A reader of a capture, and what its calls answer.
 use Rattle.std.specs.Prelude.{◌≡◌, ℕ, ◌+◌, ◌*◌, ◌^◌, ◌<◌, ◌≤◌, length, Bool, true, false, Option, Some, None, Result, Ok, Err, IfSome}
+use Rattle.gate_base.specs.Moments.{IsMoment}
 use Rattle.gate_desk.specs.declared.slot.Slot.{Slot}
 use Rattle.gate_desk.specs.Outside.{Outside, Takes, HasFailed, told_at}
 use Rattle.pcap_files.specs.declared.fault.CaptureFault.{CaptureFault}
@@ -44,7 +45,7 @@ pub record TakesToFailure (slot : Slot) (form : Form) (place : ℕ) (old new : O
 
 -- a record that can be written again
 pub record IsSmall (p : Packet) : Type 0 where
-  pub stamp : p.stamp < 2 ^ 32 * 1000000000
+  pub stamp : IsMoment p.stamp
   pub octets : length p.octets ≤ 262144
 
 -- no count of reads rose, but where the desk failed

@@ -1,5 +1,6 @@
 // Captures, written to a desk's slot: little-endian, fractions in nanoseconds.
-ghost use Rattle.std.specs.Prelude.{◌≡◌, ◌+◌, ◌*◌, ◌^◌, ◌<◌, ◌≤◌, ◌++◌, length, take, OnOk, OnErr};
+ghost use Rattle.std.specs.Prelude.{◌≡◌, ◌+◌, ◌≤◌, ◌++◌, length, take, OnOk, OnErr};
+ghost use Rattle.gate_base.specs.Moments.{IsMoment};
 ghost use Rattle.gate_desk.specs.Outside.{Writes, WritesPart, HasFailed, CanWrite};
 ghost use Rattle.pcap_files.specs.Capture.{link_number};
 ghost use Rattle.pcap_files.specs.Spelling.{head_octets, record_octets, record_head};
@@ -39,7 +40,7 @@ pub fn write_head<D: Desk>(desk: &mut D, slot: Slot, link: Link) -> Result<(), F
 }
 
 fn head_of_record(moment: Moment, kept: u32) -> [u8; 16]
-    requires { moment.0 < 2 ^ 32 * 1000000000 }
+    requires { IsMoment moment.0 }
     ensures { result ≡ record_head moment.0 kept }
 {
     let mut head = [0; RECORD_HEAD];
@@ -61,7 +62,7 @@ pub fn write_packet<D: Desk>(
     octets: &[u8],
 ) -> Result<(), Failed>
     requires can { CanWrite (D.outside desk.old) slot }
-    requires early { moment.0 < 2 ^ 32 * 1000000000 }
+    requires early { IsMoment moment.0 }
     requires short { length head.now + length octets.now ≤ 262144 }
     ensures ok { OnOk result (Writes slot (record_octets moment.0 (head.now ++ octets.now)) (D.outside desk.old) (D.outside desk.new)) }
     ensures err { OnErr result (WritesPart slot (record_octets moment.0 (head.now ++ octets.now)) (D.outside desk.old) (D.outside desk.new)) }

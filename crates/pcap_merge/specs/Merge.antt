@@ -1,5 +1,6 @@
 -- A merge of two captures, and what its calls answer.
 use Rattle.std.specs.Prelude.{◌≡◌, ℕ, ◌+◌, ◌*◌, ◌^◌, ◌<◌, ◌≤◌, List, [], ◌∷◌, ◌++◌, Bool, true, false, Option, Some, None, Result, Ok, Err, IfSome, IsSome, option_map, drop, length}
+use Rattle.gate_base.specs.Moments.{IsMoment}
 use Rattle.gate_base.specs.declared.side.Side.{Side}
 use Rattle.gate_base.specs.declared.side.Side.TheVariants.{Left, Right}
 use Rattle.gate_base.specs.Events.{Event}
@@ -60,7 +61,7 @@ pub record IsRunning (l r : Reading) (last : Last) : Type 0 where
 pub record IsSound (l r : Reading) (clock : ℕ) (last : Last) (stop : Option MergeStop) : Type 0 where
   pub left : l.slot ≡ LeftIn
   pub right : r.slot ≡ RightIn
-  pub small_clock : clock < 2 ^ 32 * 1000000000
+  pub small_clock : IsMoment clock
   pub small_left : IfSome l.packet IsSmall
   pub small_right : IfSome r.packet IsSmall
   pub running : stop ≡ None → IsRunning l r last
@@ -112,7 +113,7 @@ AtEnds m o = IfSome o.left (λ all. IsSpent (is_unread Left m.last) m.left.packe
 
 -- an event that can be written again
 pub record IsSmallEvent (e : Event) : Type 0 where
-  pub moment : e.moment < 2 ^ 32 * 1000000000
+  pub moment : IsMoment e.moment
   pub octets : length e.octets ≤ 262144
 
 -- whether both heads are good, where the desk tells the captures

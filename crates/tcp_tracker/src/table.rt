@@ -1,7 +1,8 @@
 // The tracker and the sessions in their slots, as one list of connections.
-ghost use Rattle.std.specs.Prelude.{◌≡◌, ◌<◌, ◌+◌, ◌*◌, ◌^◌, None, Some, [], length, option_copied, option_map, option_and_then, is_some, count_by, IfOk, IsSome, true, false};
+ghost use Rattle.std.specs.Prelude.{◌≡◌, ◌<◌, ◌+◌, None, Some, [], length, option_copied, option_map, option_and_then, is_some, count_by, IfOk, IsSome, true, false};
 ghost use Rattle.std.specs.Borrow.{sem};
 ghost use Rattle.std.specs.Option.{option_copied_mut};
+ghost use Rattle.gate_base.specs.Moments.{IsMoment};
 ghost use Rattle.tcp_tracker.specs.Lends.{lends_session};
 ghost use Rattle.slab.specs.Slab.{get, slab_len, Updates};
 ghost use Rattle.tcp_segments.specs.Flags.{flags_of};
@@ -118,7 +119,7 @@ impl<X> SessionTable<X> {
     /// connections, or the segment's is there. It answers how long the connection lives on, as `timeout_of` does.
     pub fn note(&mut self, key: ConnKey, from: Side, flags: u8, now: Moment) -> u64
         requires room { place_of key self.old ≡ None → length self.old < 65536 }
-        requires moment { now.0 < 2 ^ 32 * 1000000000 }
+        requires moment { IsMoment now.0 }
         ensures noted { self.new ≡ noted self.old key from flags None now }
         ensures timeout { result ≡ timeout_of self.old key from flags }
     {
@@ -131,7 +132,7 @@ impl<X> SessionTable<X> {
         requires flags { (flags_of flags).reset ≡ false }
         requires room { length self.old < 65536 }
         requires sessions { count_by is_tracked self.old < 4096 }
-        requires moment { now.0 < 2 ^ 32 * 1000000000 }
+        requires moment { IsMoment now.0 }
         ensures { self.new ≡ noted self.old key from flags (Some session) now }
     {
         let slot = self.sessions.insert_reserved(session);

@@ -1,4 +1,5 @@
 use Rattle.std.proofs.Common.{◌+◌, [], ◌∷◌}
+use Rattle.gate_payloads.specs.Ways.{header_uses}
 use Rattle.twice_translate.specs.Renamed.{datagram_of}
 use Rattle.gate_model.specs.Verdict.{udp_timeout}
 use Rattle.gate_model.specs.Units.{uses_until}
@@ -16,6 +17,6 @@ returns c = record {
       nothing_named plain_rules live way.side d r c.take_plain.new.table c.take_plain.new.outbox some none
       (λ source destination. rebuilt_same c.args.octets.now source destination c.requires.can c.requires.protocol c.type_inv.octets)
       (udp_taken plain_rules live way.side d way r c.take_plain.new.table c.take_plain.new.outbox w c.take_plain.ensures.refusal
-      (over_table r (uses_until way.side (way.moment.0 + udp_timeout) (way.source ∷ way.destination ∷ [])) c.args.table.now live.table c.take_plain.new.table same c.take_plain.ensures.table)
+      (over_table r (header_uses way udp_timeout) c.args.table.now live.table c.take_plain.new.table same c.take_plain.ensures.table)
       c.take_plain.ensures.out);
 }
