@@ -65,32 +65,6 @@ among_is earlier address (Some place) e = let at = position-Some (is_address add
 -- ## An address more
 
 module _ (needs : Addr → Bool) (earlier : List Addr) (address : Addr) (seen_addresses : Table ℕ) (are : AreFirsts needs earlier seen_addresses) where
-  -- where no other address is the new one, nothing is noted
-  same_firsts : ((one : Addr) → needs one ≡ true → row_of one.0 seen_addresses.rows ≡ None → length seen_addresses.rows < seen_addresses.most → is_address one address ≡ false) → AreFirsts needs (earlier ++ address ∷ []) seen_addresses
-  same_firsts other = record {
-    most = are.most;
-    ends = are.ends;
-    found = λ one h. IfSome_then (row_of one.0 seen_addresses.rows) (are.found one h) (λ row found. stays_found earlier one address row.value found);
-    lacks = λ one h none room. stays_absent earlier one address (are.lacks one h none room) (other one h none room);
-  }
-
-  -- an address that needs no binding
-  pub firsts_passed : needs address ≡ false → AreFirsts needs (earlier ++ address ∷ []) seen_addresses
-  firsts_passed settled = same_firsts (λ one h none room. elim (cases_Bool (is_address one address)) [
-    | inl same ↦ let e = address_is address one same in cc
-    | inr differs ↦ differs
-  ])
-
-  -- one that was noted
-  pub firsts_found : (row : Row ℕ) → row_of address.0 seen_addresses.rows ≡ Some row → AreFirsts needs (earlier ++ address ∷ []) seen_addresses
-  firsts_found row there = same_firsts (λ one h none room. elim (cases_Bool (is_address one address)) [
-    | inl same ↦ let e = address_is address one same in absurd (none-some row (sym none ∙ ap (λ (a : Addr). row_of a.0 seen_addresses.rows) (sym e) ∙ there))
-    | inr differs ↦ differs
-  ])
-
-  -- one for which there is no room
-  pub firsts_full : seen_addresses.most ≤ length seen_addresses.rows → AreFirsts needs (earlier ++ address ∷ []) seen_addresses
-  firsts_full full = same_firsts (λ one h none room. absurd (omega arith))
 
   abbrev noted : Row ℕ
   noted = record { key = address.0; end = Some 0; value = length earlier }

@@ -64,10 +64,6 @@ alone Less = refl
 alone Equal = refl
 alone Greater = refl
 
--- one octet at the end
-pub other-octet : (os bs : List ℕ) (x y : ℕ) → (x ≡ y → ⊥) → slice_cmp nat_cmp (reverse (os ++ x ∷ [])) (reverse (bs ++ y ∷ [])) ≡ nat_cmp x y
-other-octet os bs x y off = other-last os bs (x ∷ []) (y ∷ []) refl (λ e. off (let q : x ∷ [] ≡ y ∷ [] = e in cc)) ∙ alone (nat_cmp x y)
-
 -- ---- eight octets as a number
 
 digit : (x y a b : ℕ) → x < 256 → y < 256 → nat_cmp (x + 256 * a) (y + 256 * b) ≡ ordering_then (nat_cmp a b) (nat_cmp x y)

@@ -72,21 +72,6 @@ are-known-more m kept more known a = record {
   each = λ place lt some. let k = a.each place lt some in (k.0, says-more m kept more place (known_there known place) k.0 k.1);
 }
 
-pub are-known-set : (m kept : List ℕ) (known : List Known) (at : ℕ) (k : Known) → at < length known → Knows m kept at k → AreKnown m kept known → AreKnown m kept (set known at k)
-are-known-set m kept known at k lt knows a = record {
-  each = λ place inside some.
-      elim (cases_Bool (eqb place at)) [
-        | inl t ↦
-            let same : place ≡ at = eqb-true _ _ t in
-            let is : known_there (set known at k) place ≡ k = ap (λ (p : ℕ). known_there (set known at k) p) same ∙ get_or-set_same known at k unknown lt in
-            rw (is, same) knows
-        | inr f ↦
-            let other : known_there (set known at k) place ≡ known_there known place = get_or-set_other known at place k unknown (eqb-false _ _ f) in
-            let low : place < length known = omega (arith, inside, length-set known at k) in
-            rw other (a.each place low (rw (← other) some))
-      ];
-}
-
 -- ---- where a way ends
 
 pub says-long : (m kept : List ℕ) (place : ℕ) (k : Known) (labels : List (List ℕ)) → Says m kept place k labels → length (spelled labels) ≡ k.count

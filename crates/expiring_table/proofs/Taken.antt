@@ -42,13 +42,3 @@ module _ {T : Type 0} where
         | inl h ↦ rw (h.0) (let e : length (without row.key rows) ≡ length rows = ap length (rest_is first row rows distinct (h.1)) in omega arith)
         | inr h ↦ rw (h.0) (omega (arith, taken_fewer row rows (distinct.1) (h.1)))
       ]
-
-  pub taken_living : (now : ℕ) (row : Row T) (rows : List (Row T)) → AreDistinct rows → row_of row.key rows ≡ Some row → lives now row ≡ false → living now (without row.key rows) ≡ living now rows
-  taken_living now row [] distinct found ended = refl
-  taken_living now row (first ∷ rows) distinct found ended =
-      elim (found_cases first row rows found) [
-        | inl h ↦
-            let gone : lives now first ≡ false = ap (lives now) (h.1) ∙ ended in
-            rw (h.0) (rw gone (ap (living now) (rest_is first row rows distinct (h.1))))
-        | inr h ↦ rw (h.0) (ap (λ more. cond (lives now first) (first ∷ more) more) (taken_living now row rows (distinct.1) (h.1) ended))
-      ]

@@ -70,9 +70,5 @@ module _ {T : Type 0} where
   walk_found key cells met within None at is = absurd (true-false (sym is))
   walk_found key cells met within (Some row) at is = (within, (row, at, eqb-true row.key key is))
 
-  -- nothing is ahead
-  pub walk_ended : (key : ℕ) (cells : List (Option (Row T))) (chained : Chained) → IsWalk key cells chained None → IsPlaceOf key cells None
-  walk_ended key cells chained walk = walk.ahead
-
   pub met_within : (key : ℕ) (cells : List (Option (Row T))) (chained : Chained) (met : ℕ) → length chained.buckets ≡ length cells → IsWalk key cells chained (Some met) → met < length cells
   met_within key cells chained met links walk = omega (arith, walk.bucket.0)

@@ -37,13 +37,6 @@ line_stops (Capture side fault place) json h ahead ahead' s x r r' a a' old new 
 line_stops (Desk slot) json h ahead ahead' s x r r' a a' old new is k = (subst IsReadInAudit (sym k.1) tt, subst (λ u. HasFailed u old new) (sym k.1) k.2)
 line_stops OutOfMemory json h ahead ahead' s x r r' a a' old new is k = sym is ∙ k.1
 
--- nor the last one
-pub last_stops : (stop : AuditStop) (json : Bool) (line : Line) (ahead ahead' : List ℕ) (settings : Settings) (s : State) (r : GivenFiles) (old mid new : Outside) → json ≡ settings.json → Grows old mid → TakesLast (Err stop) json line ahead ahead' mid new → FindsLast (Err stop) settings s r old new
-last_stops (Unlawful number reason) json line ahead ahead' settings s r old mid new is grows k = absurd k
-last_stops (Capture side fault place) json line ahead ahead' settings s r old mid new is grows k = absurd k
-last_stops (Desk slot) json line ahead ahead' settings s r old mid new is grows k = (subst IsReadInAudit (sym k.1) tt, subst (λ u. HasFailed u old new) (sym k.1) (failed_since ReportGiven old mid new grows k.2))
-last_stops OutOfMemory json line ahead ahead' settings s r old mid new is grows k = sym is ∙ k.1
-
 -- ## What was taken of the incoming captures
 
 -- what is read of the given files leaves them as they are

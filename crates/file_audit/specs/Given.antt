@@ -19,11 +19,6 @@ pub record Fills (ahead ahead' : List ℕ) (old new : Outside) : Type 0 where
   pub first : IfSome (told_at old.left ReportGiven) (λ all. ahead' ≡ take 256 (ahead ++ all))
   pub whole : IfSome (told_at old.left ReportGiven) (λ all. ahead' ++ drop count all ≡ ahead ++ all)
 
--- the reader of a realm's given capture, and its slot
-abbrev pub reading_at : Side → GivenFiles → Reading
-reading_at Left g = g.left
-reading_at Right g = g.right
-
 abbrev pub given_slot : Side → Slot
 given_slot Left = LeftGiven
 given_slot Right = RightGiven

@@ -224,9 +224,6 @@ grows_not a = record { faults = λ s. omega arith; start_faults = λ s. omega ar
 pub grows_on : (a b c : Outside) → Grows a b → Grows b c → Grows a c
 grows_on a b c h k = record { faults = λ s. omega (arith, h.faults s, k.faults s); start_faults = λ s. omega (arith, h.start_faults s, k.start_faults s) }
 
-pub grows_same : (a b : Outside) → a ≡ b → Grows a b
-grows_same a b e = subst (Grows a) e (grows_not a)
-
 keeps : (a b : PerSlot ℕ) → b ≡ a → NoneFell a b
 keeps a b e s = omega (arith, ap (λ (p : PerSlot ℕ). at p s) e)
 
@@ -241,9 +238,6 @@ grows_starts s name access a b h = record { faults = keeps a.faults b.faults h.f
 
 pub failed_since : (s : Slot) (a b c : Outside) → Grows a b → HasFailed s b c → HasFailed s a c
 failed_since s a b c h k = omega (arith, h.faults s, k)
-
-pub failed_till : (s : Slot) (a b c : Outside) → HasFailed s a b → Grows b c → HasFailed s a c
-failed_till s a b c k h = omega (arith, h.faults s, k)
 
 pub failed_to_start_since : (s : Slot) (a b c : Outside) → Grows a b → HasFailedToStart s b c → HasFailedToStart s a c
 failed_to_start_since s a b c h k = omega (arith, h.start_faults s, k)

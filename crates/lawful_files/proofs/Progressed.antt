@@ -377,9 +377,6 @@ module _ (settings : Settings) (side : Side) (moment : ℕ) where
       no_length : (length s.octets == 0) ≡ true
       no_length = ap (λ (xs : List ℕ). length xs == 0) none
 
-      alone_packet : Packet
-      alone_packet = packet (sent_as d source destination (alone s))
-
       alone_right_is : (k : Progress) (p : Packet) → accepts cut k p ≡ stands_alone k.count p
       alone_right_is k p = ap (λ (b : Bool). cond b (stands_alone k.count p) (follows k.carried p (length p.octets - head_size))) no_length
 

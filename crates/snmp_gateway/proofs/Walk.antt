@@ -21,10 +21,6 @@ pub record Walks (octets : List ℕ) (old now : Outline) : Type 0 where
   pub end : now.bindings.end ≡ old.bindings.end
   pub ordered : now.bindings.start ≤ now.bindings.end
 
--- the walk with no address before the bindings
-abbrev pub in_bindings : SnmpKind → Part → Outline
-in_bindings kind part = record { kind = kind; agent = None; bindings = part }
-
 none_first : (first : Option ℕ) (o : Option (List ℕ)) → first ≡ None → (o >>= λ places. Some (option_to_list first ++ places)) ≡ o
 none_first None None e = refl
 none_first None (Some places) e = refl
