@@ -31,7 +31,17 @@ impl<'a> Model for Came<'a> {
 
 impl<'a> Came<'a> {
     pub fn of(settings: &'a Settings, side: Side, moment: u64, packet: &Packet<'a>) -> Came<'a>
-        ensures { result ≡ record { settings = settings.now; side = side; moment = moment; packet = record { stamp = packet.now.stamp; whole = packet.now.whole; octets = packet.now.octets.now } } }
+        ensures { result
+            ≡ record {
+              settings = settings.now;
+              side = side;
+              moment = moment;
+              packet = record {
+                stamp = packet.now.stamp;
+                whole = packet.now.whole;
+                octets = packet.now.octets.now;
+              };
+            } }
     {
         Came {
             settings,
@@ -53,7 +63,10 @@ impl<'a> Came<'a> {
     /// How many octets the record has behind the head of its frame and headers of so many octets.
     pub fn size_behind(&self, headers: usize) -> u64
         requires { headers ≤ 80 }
-        ensures is { result ≡ length self.now.packet.octets - (head_length (side_settings self.now.settings self.now.side).link + headers) }
+        ensures is { result
+            ≡ length self.now.packet.octets
+            - (head_length (side_settings self.now.settings self.now.side).link
+            + headers) }
         ensures small { result < 2 ^ 63 }
     {
         let before = head_len(self.settings.side(self.side)) + headers;
@@ -73,7 +86,9 @@ fn head_len(side: &SideSettings) -> usize
 
 /// Whether the octets are the datagram, in a frame where the link wants one.
 fn carries(side: &SideSettings, octets: &[u8], datagram: &[u8]) -> bool
-    ensures { result ≡ bytes_eq octets.now (framed_on side.now.link side.now.next_mac side.now.gateway_mac datagram.now) }
+    ensures { result
+        ≡ bytes_eq octets.now (framed_on side.now.link side.now.next_mac
+        side.now.gateway_mac datagram.now) }
 {
     match side.link {
         Link::Raw => octets == datagram,

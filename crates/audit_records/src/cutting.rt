@@ -18,8 +18,12 @@ pub fn is_right_cut(
 ) -> bool
     requires carried { carried < 2 ^ 62 }
     requires room { 65535 ≤ length room.old }
-    ensures answer { let r = came.now in let p = pieces.now in
-        result ≡ progress.is_right_cut r.settings r.side r.moment p.datagram p.source p.destination p.sent (record { count = count; carried = carried; right = true }) r.packet }
+    ensures answer { let r = came.now in
+        let p = pieces.now in
+        result
+        ≡ progress.is_right_cut r.settings r.side r.moment p.datagram p.source
+        p.destination p.sent
+        (record { count = count; carried = carried; right = true }) r.packet }
     ensures room { length room.new ≡ length room.old }
 {
     if is_nothing(pieces) {
@@ -31,7 +35,10 @@ pub fn is_right_cut(
 
 /// How many octets of those that are cut a record carries.
 pub fn size_of(came: &Came<'_>, pieces: &Pieces) -> u64
-    ensures is { result ≡ length came.now.packet.octets - progress.before_octets came.now.settings came.now.side pieces.now.datagram }
+    ensures is { result
+        ≡ length came.now.packet.octets
+        - progress.before_octets came.now.settings came.now.side
+        pieces.now.datagram }
     ensures small { result < 2 ^ 63 }
 {
     came.size_behind(20 + pieces.tcp().len())
@@ -39,7 +46,9 @@ pub fn size_of(came: &Came<'_>, pieces: &Pieces) -> u64
 
 /// Whether all octets came, or the one segment without octets.
 pub fn has_all(pieces: &Pieces, count: u64, carried: u64) -> bool
-    ensures { result ≡ (if length pieces.now.sent.octets == 0 then count == 1 else carried == length pieces.now.sent.octets) }
+    ensures { result
+        ≡ (if length pieces.now.sent.octets == 0 then count == 1 else carried ==
+        length pieces.now.sent.octets) }
 {
     let all = pieces.octets().len();
     if all == 0 {
@@ -60,8 +69,11 @@ fn is_nothing(pieces: &Pieces) -> bool
 fn is_alone(came: &Came<'_>, pieces: &Pieces, count: u64, room: &mut [u8]) -> bool
     requires none { length pieces.now.sent.octets ≡ 0 }
     requires room { 65535 ≤ length room.old }
-    ensures answer { let r = came.now in let p = pieces.now in
-        result ≡ progress.is_alone r.settings r.side r.moment p.datagram p.source p.destination p.sent count r.packet }
+    ensures answer { let r = came.now in
+        let p = pieces.now in
+        result
+        ≡ progress.is_alone r.settings r.side r.moment p.datagram p.source
+        p.destination p.sent count r.packet }
     ensures room { length room.new ≡ length room.old }
 {
     let same = is_segment(
@@ -79,8 +91,11 @@ fn is_alone(came: &Came<'_>, pieces: &Pieces, count: u64, room: &mut [u8]) -> bo
 fn is_next_piece(came: &Came<'_>, pieces: &Pieces, carried: u64, size: u64, room: &mut [u8]) -> bool
     requires sum { carried + size < 2 ^ 64 }
     requires room { 65535 ≤ length room.old }
-    ensures answer { let r = came.now in let p = pieces.now in
-        result ≡ progress.is_next_piece r.settings r.side r.moment p.datagram p.source p.destination p.sent carried r.packet size }
+    ensures answer { let r = came.now in
+        let p = pieces.now in
+        result
+        ≡ progress.is_next_piece r.settings r.side r.moment p.datagram p.source
+        p.destination p.sent carried r.packet size }
     ensures room { length room.new ≡ length room.old }
 {
     if is_within(pieces, carried, size) {
@@ -92,7 +107,10 @@ fn is_next_piece(came: &Came<'_>, pieces: &Pieces, carried: u64, size: u64, room
 /// So many octets behind those that were carried may be a piece.
 fn is_within(pieces: &Pieces, carried: u64, size: u64) -> bool
     requires { carried + size < 2 ^ 64 }
-    ensures { result ≡ (nat_lt 0 size && (nat_le size pieces.now.sent.limit && nat_le (carried + size) (length pieces.now.sent.octets))) }
+    ensures { result
+        ≡ (nat_lt 0 size
+        && (nat_le size pieces.now.sent.limit
+        && nat_le (carried + size) (length pieces.now.sent.octets))) }
 {
     let all = pieces.octets().len() as u64;
     is_both(
@@ -106,8 +124,14 @@ fn either_piece(came: &Came<'_>, pieces: &Pieces, carried: u64, size: u64, room:
     requires few { size ≤ pieces.now.sent.limit }
     requires within { carried + size ≤ length pieces.now.sent.octets }
     requires room { 65535 ≤ length room.old }
-    ensures answer { let r = came.now in let p = pieces.now in
-        result ≡ (progress.carries_piece r.settings r.side r.moment p.datagram p.source p.destination p.sent carried r.packet size false || (p.sent.flags.push && progress.carries_piece r.settings r.side r.moment p.datagram p.source p.destination p.sent carried r.packet size true)) }
+    ensures answer { let r = came.now in
+        let p = pieces.now in
+        result
+        ≡ (progress.carries_piece r.settings r.side r.moment p.datagram p.source
+        p.destination p.sent carried r.packet size false
+        || (p.sent.flags.push
+        && progress.carries_piece r.settings r.side r.moment p.datagram
+        p.source p.destination p.sent carried r.packet size true)) }
     ensures room { length room.new ≡ length room.old }
 {
     if is_piece(came, pieces, carried, size, false, room) {
@@ -121,8 +145,12 @@ fn is_pushed(came: &Came<'_>, pieces: &Pieces, carried: u64, size: u64, room: &m
     requires few { size ≤ pieces.now.sent.limit }
     requires within { carried + size ≤ length pieces.now.sent.octets }
     requires room { 65535 ≤ length room.old }
-    ensures answer { let r = came.now in let p = pieces.now in
-        result ≡ (p.sent.flags.push && progress.carries_piece r.settings r.side r.moment p.datagram p.source p.destination p.sent carried r.packet size true) }
+    ensures answer { let r = came.now in
+        let p = pieces.now in
+        result
+        ≡ (p.sent.flags.push
+        && progress.carries_piece r.settings r.side r.moment p.datagram p.source
+        p.destination p.sent carried r.packet size true) }
     ensures room { length room.new ≡ length room.old }
 {
     if pieces.flags().push {
@@ -143,8 +171,11 @@ fn is_piece(
     requires few { size ≤ pieces.now.sent.limit }
     requires within { carried + size ≤ length pieces.now.sent.octets }
     requires room { 65535 ≤ length room.old }
-    ensures answer { let r = came.now in let p = pieces.now in
-        result ≡ progress.carries_piece r.settings r.side r.moment p.datagram p.source p.destination p.sent carried r.packet size push }
+    ensures answer { let r = came.now in
+        let p = pieces.now in
+        result
+        ≡ progress.carries_piece r.settings r.side r.moment p.datagram p.source
+        p.destination p.sent carried r.packet size push }
     ensures room { length room.new ≡ length room.old }
 {
     let all = pieces.octets();
@@ -172,7 +203,13 @@ fn is_segment(
     requires few { length octets.now ≤ pieces.now.sent.limit }
     requires room { 65535 ≤ length room.old }
     ensures answer { let p = pieces.now in
-        result ≡ holds came.now (sent_as p.datagram p.source p.destination (record { sequence = sequence; acknowledgement = p.sent.acknowledgement; flags = flags; octets = octets.now })) }
+        result
+        ≡ holds came.now (sent_as p.datagram p.source p.destination (record {
+          sequence = sequence;
+          acknowledgement = p.sent.acknowledgement;
+          flags = flags;
+          octets = octets.now;
+        })) }
     ensures room { length room.new ≡ length room.old }
 {
     let total = 20 + pieces.tcp().len() + octets.len();

@@ -58,7 +58,13 @@ impl Expected {
     /// Nothing, of a moment 0 on the left, with all the memory that it ever needs but for what sessions send. The error is that there is
     /// too little.
     pub fn new(alloc: Global) -> Result<Expected, OutOfMemory>
-        ensures { IfOk result (λ e. e ≡ record { side = Left; moment = 0; wanted = Exactly []; so_far = begun }) }
+        ensures { IfOk result (λ e. e
+            ≡ record {
+              side = Left;
+              moment = 0;
+              wanted = Exactly [];
+              so_far = begun;
+            }) }
     {
         Ok(Expected {
             side: Side::Left,
@@ -72,7 +78,13 @@ impl Expected {
 
     /// No datagrams are wanted of an event.
     pub fn want_nothing(&mut self, side: Side, moment: Moment)
-        ensures { self.new ≡ record { side = side; moment = moment.0; wanted = Exactly []; so_far = begun } }
+        ensures { self.new
+            ≡ record {
+              side = side;
+              moment = moment.0;
+              wanted = Exactly [];
+              so_far = begun;
+            } }
     {
         self.side = side;
         self.moment = moment;
@@ -84,7 +96,13 @@ impl Expected {
     /// This datagram is wanted of an event.
     pub fn want_datagram(&mut self, side: Side, moment: Moment, datagram: &[u8])
         requires { length datagram.now ≤ 65535 }
-        ensures { self.new ≡ record { side = side; moment = moment.0; wanted = Exactly (datagram.now ∷ []); so_far = begun } }
+        ensures { self.new
+            ≡ record {
+              side = side;
+              moment = moment.0;
+              wanted = Exactly (datagram.now ∷ []);
+              so_far = begun;
+            } }
     {
         self.side = side;
         self.moment = moment;
@@ -95,7 +113,14 @@ impl Expected {
 
     /// What a session sends is wanted of an event, however its octets are cut.
     pub fn want_pieces(&mut self, side: Side, moment: Moment, pieces: Pieces)
-        ensures { self.new ≡ record { side = side; moment = moment.0; wanted = Cut pieces.datagram pieces.source pieces.destination pieces.sent; so_far = begun } }
+        ensures { self.new
+            ≡ record {
+              side = side;
+              moment = moment.0;
+              wanted = Cut pieces.datagram pieces.source pieces.destination
+                  pieces.sent;
+              so_far = begun;
+            } }
     {
         self.side = side;
         self.moment = moment;
@@ -107,7 +132,15 @@ impl Expected {
     pub fn frame(&mut self, settings: &Settings, packet: &Packet<'_>) -> bool
         requires count { self.old.so_far.count < 2 ^ 32 }
         requires carried { self.old.so_far.carried < 2 ^ 62 }
-        ensures next { self.new ≡ record self.old { so_far = progress.behind settings.now (other self.old.side) self.old.moment self.old.wanted self.old.so_far (record { stamp = packet.now.stamp; whole = packet.now.whole; octets = packet.now.octets.now }) } }
+        ensures next { self.new
+            ≡ record self.old {
+              so_far = progress.behind settings.now (other self.old.side)
+                  self.old.moment self.old.wanted self.old.so_far (record {
+                    stamp = packet.now.stamp;
+                    whole = packet.now.whole;
+                    octets = packet.now.octets.now;
+                  });
+            } }
         ensures answer { result ≡ self.new.so_far.right }
     {
         let came = Came::of(settings, self.side.other(), self.moment.0, packet);
@@ -140,7 +173,10 @@ fn behind(
     requires count { so_far.count < 2 ^ 32 }
     requires carried { so_far.carried < 2 ^ 62 }
     requires room { 65535 ≤ length room.old }
-    ensures next { let r = came.now in progress_of result ≡ progress.behind r.settings r.side r.moment (wanted_of pieces.now single.now) (progress_of so_far) r.packet }
+    ensures next { let r = came.now in
+        progress_of result
+        ≡ progress.behind r.settings r.side r.moment (wanted_of pieces.now single.now)
+        (progress_of so_far) r.packet }
     ensures room { length room.new ≡ length room.old }
 {
     let right = is_right(came, single, pieces, so_far, room);
@@ -161,7 +197,10 @@ fn is_right(
 ) -> bool
     requires carried { so_far.carried < 2 ^ 62 }
     requires room { 65535 ≤ length room.old }
-    ensures answer { let r = came.now in result ≡ progress.is_right r.settings r.side r.moment (wanted_of pieces.now single.now) (progress_of so_far) r.packet }
+    ensures answer { let r = came.now in
+        result
+        ≡ progress.is_right r.settings r.side r.moment
+        (wanted_of pieces.now single.now) (progress_of so_far) r.packet }
     ensures room { length room.new ≡ length room.old }
 {
     match pieces {
@@ -183,7 +222,8 @@ fn carried_by(came: &Came<'_>, pieces: &Option<Pieces>) -> u64
 
 /// Whether all that is wanted came.
 fn is_closed(single: &Single, pieces: &Option<Pieces>, so_far: Progress) -> bool
-    ensures { result ≡ progress.is_closed (wanted_of pieces.now single.now) (progress_of so_far) }
+    ensures { result
+        ≡ progress.is_closed (wanted_of pieces.now single.now) (progress_of so_far) }
 {
     so_far.right
         && match pieces {

@@ -48,7 +48,13 @@ impl Pieces {
     ) -> Result<Pieces, OutOfMemory>
         requires segment { segment.now ≡ tcp_of datagram.now }
         requires fits { sent.limit + (length segment.now.header - 20) ≤ 65495 }
-        ensures { IfOk result (λ p. p ≡ record { datagram = fields_of datagram.now.header datagram.now.payload; source = source.0; destination = destination.0; sent = told sent }) }
+        ensures { IfOk result (λ p. p
+            ≡ record {
+              datagram = fields_of datagram.now.header datagram.now.payload;
+              source = source.0;
+              destination = destination.0;
+              sent = told sent;
+            }) }
     {
         let header = Vec::from_slice(alloc, datagram.header())?;
         let payload = Vec::from_slice(alloc, datagram.payload())?;
@@ -107,9 +113,16 @@ impl Pieces {
     pub(crate) fn put(&self, sequence: u32, flags: Flags, octets: &[u8], target: &mut [u8])
         requires ecn { flags.ecn ≤ 3 }
         requires few { length octets.now ≤ self.now.sent.limit }
-        requires room { length target.old ≡ 20 + (length (tcp_of self.now.datagram).header + length octets.now) }
+        requires room { length target.old
+            ≡ 20 + (length (tcp_of self.now.datagram).header + length octets.now) }
         ensures { let p = self.now in
-            target.new ≡ sent_as p.datagram p.source p.destination (record { sequence = sequence; acknowledgement = p.sent.acknowledgement; flags = flags; octets = octets.now }) }
+            target.new
+            ≡ sent_as p.datagram p.source p.destination (record {
+              sequence = sequence;
+              acknowledgement = p.sent.acknowledgement;
+              flags = flags;
+              octets = octets.now;
+            }) }
     {
         put_segment(
             target,

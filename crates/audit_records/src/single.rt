@@ -68,7 +68,9 @@ impl Single {
 
     /// Whether a record holds the datagram with this place.
     pub fn is_held(&self, came: &Came<'_>, place: u64) -> bool
-        ensures { result ≡ (nat_lt place (length self.now) && holds came.now (slice_index_or self.now place [])) }
+        ensures { result
+            ≡ (nat_lt place (length self.now)
+            && holds came.now (slice_index_or self.now place [])) }
     {
         match self.size {
             None => false,

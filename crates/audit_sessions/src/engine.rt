@@ -4,13 +4,13 @@ ghost use Rattle.audit_sessions.specs.Heard.{heard_rules};
 
 use crate::session::{AuditedSession, ftp_session};
 use audit_records::Pieces;
-use gate_base::{OutOfMemory, Pair, Refusal};
+use dns_plans::{Entry, Tracked};
 use event_engine::{Engine, Stepped};
+use gate_base::{OutOfMemory, Pair, Refusal};
 use gate_outbox::{Outbox, Scratch, Segment};
 use gate_payloads::Way;
 use std::alloc::Global;
 use tcp_segments::TcpView;
-use dns_plans::{Entry, Tracked};
 
 impl Engine for AuditedSession {
     ghost use Rattle.lawful_files.specs.Wanted.{Wanted};
@@ -69,7 +69,8 @@ impl Engine for AuditedSession {
 
 /// How many changed lines or units wait in a session; None where it is over.
 fn waiting(session: &AuditedSession, over: bool) -> Option<u64>
-    ensures { result ≡ (if over then None else Some (heard_rules.pending session.now)) }
+    ensures { result
+        ≡ (if over then None else Some (heard_rules.pending session.now)) }
 {
     if over {
         return None;

@@ -16,6 +16,12 @@ pub fn heard_sessions_are_whole()
     ensures reads { Reads session_in heard_rules whole_rules }
     ensures sent { SendAlike session_in heard_rules heard_sent }
     ensures lists { HasLists heard_rules }
-    ensures made { (port : ℕ) (pair : Pair) (initial mss : ℕ) → IsSession (heard_rules.made port pair initial mss) }
-    ensures next { (image : Addr → Option Addr) (from_client : Bool) (h : HeardSession) (g : Segment) → IsSession h → length (entered image (heard_rules.listed from_client h) (addresses_in (heard_rules.units from_client h g))) ≤ most_entries → IsSession (heard_rules.next image from_client h g) }
+    ensures made { (port : ℕ) (pair : Pair) (initial mss : ℕ)
+        → IsSession (heard_rules.made port pair initial mss) }
+    ensures next { (image : Addr → Option Addr) (from_client : Bool)
+        (h : HeardSession) (g : Segment)
+        → IsSession h
+        → length (entered image (heard_rules.listed from_client h)
+        (addresses_in (heard_rules.units from_client h g))) ≤ most_entries
+        → IsSession (heard_rules.next image from_client h g) }
 {}

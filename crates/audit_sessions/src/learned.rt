@@ -11,13 +11,14 @@ ghost use Rattle.audit_sessions.specs.Sessions.{listed_of, streams_of, IsListedS
 
 use crate::kinds::DnsSession;
 use audit_streams::Sent;
+use dns_plans::Entry;
 use gate_base::OutOfMemory;
 use tcp_segments::TcpView;
-use dns_plans::Entry;
 
 /// Enters an address into the client's list, or else the server's, unless it is listed.
 fn learn_one(session: &mut DnsSession, from_client: bool, one: Entry)
-    requires few { is_listed (listed_of from_client session.old) one.0.0 ≡ false → length (listed_of from_client session.old) < 256 }
+    requires few { is_listed (listed_of from_client session.old) one.0.0 ≡ false
+        → length (listed_of from_client session.old) < 256 }
     requires listed { IsListedSide from_client session.old }
     ensures { session.new ≡ with_entered from_client (one ∷ []) session.old }
 {
@@ -29,7 +30,8 @@ fn learn_one(session: &mut DnsSession, from_client: bool, one: Entry)
 
 /// Enters addresses into the client's list, or else the server's, one after the other.
 fn learn_all(session: &mut DnsSession, from_client: bool, named: &[Entry])
-    requires few { length (entered_all (listed_of from_client session.old) named.now) ≤ 256 }
+    requires few { length (entered_all (listed_of from_client session.old) named.now)
+        ≤ 256 }
     requires listed { IsListedSide from_client session.old }
     ensures { session.new ≡ with_entered from_client named.now session.old }
 {
@@ -46,11 +48,19 @@ pub fn step_units(
     segment: &TcpView<'_>,
     named: &[Entry],
 ) -> Result<Sent, OutOfMemory>
-    requires few { length (entered_all (listed_of from_client session.old) named.now) ≤ 256 }
+    requires few { length (entered_all (listed_of from_client session.old) named.now)
+        ≤ 256 }
     requires listed { IsListedSide from_client session.old }
-    requires passes { segment_refusal from_client (streams_of session.old) (segment_in segment.now) ≡ None }
-    ensures next { OnOk result (HasPassed from_client (with_entered from_client named.now session.old) session.new (segment_in segment.now)) }
-    ensures sent { let learned = streams_of (with_entered from_client named.now session.old) in IfOk result (λ s. s ≡ handed (session_sent from_client learned (segment_in segment.now)) (session_ends from_client learned (segment_in segment.now))) }
+    requires passes { segment_refusal from_client (streams_of session.old)
+        (segment_in segment.now) ≡ None }
+    ensures next { OnOk result (HasPassed from_client
+        (with_entered from_client named.now session.old) session.new
+        (segment_in segment.now)) }
+    ensures sent { let learned = streams_of
+        (with_entered from_client named.now session.old) in
+        IfOk result (λ s. s
+        ≡ handed (session_sent from_client learned (segment_in segment.now))
+        (session_ends from_client learned (segment_in segment.now))) }
 {
     learn_all(session, from_client, named);
     session.step(from_client, segment)

@@ -12,16 +12,16 @@ ghost use Rattle.dns_plans.specs.Steps.{entered_all};
 ghost use Rattle.audit_sessions.specs.Heard.{heard_rules, heard_sent};
 ghost use Rattle.audit_sessions.specs.Sessions.{streams_of};
 
-use crate::kinds::{SessionKind, DnsSession, FtpSession};
+use crate::kinds::{DnsSession, FtpSession, SessionKind};
 use crate::learned::step_units;
 use audit_streams::{Sent, WholeStreams};
+use dns_plans::{Entry, Session, UnitOctets};
 use dns_stream::DnsUnits;
 use ftp_lines::{ClientLines, ServerLines};
 use gate_base::{DNS_PORT, OutOfMemory, Pair, Refusal};
 use std::alloc::Global;
 use std::marker::Model;
 use tcp_segments::{TcpView, flags_of};
-use dns_plans::{Entry, Session, UnitOctets};
 
 /// A session of one of two kinds: of FTP, which has no lists, or of DNS. It is seen as what was heard of its hosts, and answers as the
 /// rules of such sessions say.
@@ -45,7 +45,13 @@ impl Model for AuditedSession {
 
 /// A session of FTP.
 pub fn ftp_session(alloc: Global, pair: Pair, initial: u32, mss: u16) -> FtpSession
-    ensures { result ≡ record { client_dialogue = record { pair = pair }; server_dialogue = record { pair = pair }; client = unheard (Some initial) mss; server = unheard None 536 } }
+    ensures { result
+        ≡ record {
+          client_dialogue = record { pair = pair };
+          server_dialogue = record { pair = pair };
+          client = unheard (Some initial) mss;
+          server = unheard None 536;
+        } }
 {
     WholeStreams::new(
         alloc,
@@ -57,7 +63,13 @@ pub fn ftp_session(alloc: Global, pair: Pair, initial: u32, mss: u16) -> FtpSess
 }
 
 fn dns_session(alloc: Global, initial: u32, mss: u16) -> Result<DnsSession, OutOfMemory>
-    ensures { IfOk result (λ session. session ≡ record { client_dialogue = []; server_dialogue = []; client = unheard (Some initial) mss; server = unheard None 536 }) }
+    ensures { IfOk result (λ session. session
+        ≡ record {
+          client_dialogue = [];
+          server_dialogue = [];
+          client = unheard (Some initial) mss;
+          server = unheard None 536;
+        }) }
 {
     let client = DnsUnits::new(alloc)?;
     let server = DnsUnits::new(alloc)?;
@@ -124,7 +136,8 @@ impl AuditedSession {
         initial: u32,
         mss: u16,
     ) -> Result<AuditedSession, OutOfMemory>
-        ensures { IfOk result (λ session. session ≡ heard_rules.made port pair initial mss) }
+        ensures { IfOk result
+            (λ session. session ≡ heard_rules.made port pair initial mss) }
     {
         if port == DNS_PORT {
             return Ok(AuditedSession {
@@ -159,11 +172,31 @@ impl AuditedSession {
         segment: &TcpView<'_>,
         entries: &[Entry],
     ) -> Result<Sent, OutOfMemory>
-        requires few { length (entered_all (heard_rules.listed from_client self.old) entries.now) ≤ 256 }
-        requires named { (image : Addr → Option Addr) × (entries.now ≡ beside image (addresses_in (heard_rules.units from_client self.old (segment_in segment.now)))) }
-        requires passes { heard_rules.refusal from_client self.old (segment_in segment.now) ≡ None }
-        ensures next { (image : Addr → Option Addr) → entries.now ≡ beside image (addresses_in (heard_rules.units from_client self.old (segment_in segment.now))) → OnOk result (self.new ≡ heard_rules.next image from_client self.old (segment_in segment.now)) }
-        ensures sent { (image : Addr → Option Addr) → entries.now ≡ beside image (addresses_in (heard_rules.units from_client self.old (segment_in segment.now))) → IfOk result (λ s. s ≡ handed (heard_sent image from_client self.old (segment_in segment.now)) (heard_rules.ends from_client self.old (segment_in segment.now))) }
+        requires few { length
+            (entered_all (heard_rules.listed from_client self.old) entries.now)
+            ≤ 256 }
+        requires named { (image : Addr → Option Addr)
+            × (entries.now
+            ≡ beside image (addresses_in (heard_rules.units from_client self.old
+            (segment_in segment.now)))) }
+        requires passes { heard_rules.refusal from_client self.old
+            (segment_in segment.now) ≡ None }
+        ensures next { (image : Addr → Option Addr)
+            → entries.now
+            ≡ beside image (addresses_in
+            (heard_rules.units from_client self.old (segment_in segment.now)))
+            → OnOk result (self.new
+            ≡ heard_rules.next image from_client self.old
+            (segment_in segment.now)) }
+        ensures sent { (image : Addr → Option Addr)
+            → entries.now
+            ≡ beside image (addresses_in
+            (heard_rules.units from_client self.old (segment_in segment.now)))
+            → IfOk result (λ s. s
+            ≡ handed
+            (heard_sent image from_client self.old (segment_in segment.now))
+            (heard_rules.ends from_client self.old
+            (segment_in segment.now))) }
     {
         match &mut self.kind {
             SessionKind::Lines(session) => return session.step(from_client, segment),
@@ -188,8 +221,11 @@ fn put_units(
     octets: &mut UnitOctets,
 )
     requires empty { octets.old ≡ [] }
-    requires passes { segment_refusal from_client (streams_of session.now) (segment_in segment.now) ≡ None }
-    ensures { whole_units octets.new ≡ completed (own from_client (streams_of session.now)) (segment_in segment.now) }
+    requires passes { segment_refusal from_client (streams_of session.now)
+        (segment_in segment.now) ≡ None }
+    ensures { whole_units octets.new
+        ≡ completed (own from_client (streams_of session.now))
+        (segment_in segment.now) }
 {
     if is_data(segment) {
         let repeated = session.repeated(from_client, segment);

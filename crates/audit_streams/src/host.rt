@@ -44,7 +44,8 @@ impl<D: Dialogue> Model for WholeStream<D> {
 
 impl<D: Dialogue> WholeStream<D> {
     pub(crate) fn new(alloc: Global, dialogue: D, initial: Option<u32>, mss: u16) -> WholeStream<D>
-        ensures { result ≡ record { dialogue = dialogue; heard = unheard initial mss } }
+        ensures { result
+            ≡ record { dialogue = dialogue; heard = unheard initial mss } }
     {
         WholeStream {
             dialogue,
@@ -95,7 +96,8 @@ impl<D: Dialogue> WholeStream<D> {
     /// How many octets of their image are due.
     pub(crate) fn due(&self) -> u64
         ensures due { result ≡ length (due_in (sender_of D.meaning self.now)) }
-        ensures within { result ≤ length (image (D.meaning self.now.dialogue) self.now.heard.octets) }
+        ensures within { result
+            ≤ length (image (D.meaning self.now.dialogue) self.now.heard.octets) }
         ensures few { result < 2 ^ 31 }
     {
         let all = self.transcript.image().len();
@@ -107,7 +109,8 @@ impl<D: Dialogue> WholeStream<D> {
 
     /// How many octets their whole image has.
     pub(crate) fn image_len(&self) -> u64
-        ensures len { result ≡ length (image (D.meaning self.now.dialogue) self.now.heard.octets) }
+        ensures len { result
+            ≡ length (image (D.meaning self.now.dialogue) self.now.heard.octets) }
         ensures few { result < 2 ^ 31 }
     {
         self.transcript.image().len() as u64
@@ -136,7 +139,8 @@ impl<D: Dialogue> WholeStream<D> {
     /// Whether octets that start so far before the end of its octets have another octet than the recent ones at a place that both
     /// have.
     pub(crate) fn is_unlike(&self, before: u64, octets: &[u8]) -> bool
-        ensures { result ≡ is_unlike (recent (sender_of D.meaning self.now)) before octets.now }
+        ensures { result
+            ≡ is_unlike (recent (sender_of D.meaning self.now)) before octets.now }
     {
         let known = self.recent();
         let skipped = before
@@ -148,22 +152,26 @@ impl<D: Dialogue> WholeStream<D> {
 
     /// The least image place of an octet.
     pub(crate) fn fore(&self, place: u64) -> u64
-        ensures { let a = sender_of D.meaning self.now in result ≡ fore a.meaning a.ended a.octets place }
+        ensures { let a = sender_of D.meaning self.now in
+            result ≡ fore a.meaning a.ended a.octets place }
     {
         self.transcript.fore(place, self.due())
     }
 
     /// One more than the greatest image place of the octet before one.
     pub(crate) fn rear(&self, end: u64) -> u64
-        ensures rear { let a = sender_of D.meaning self.now in result ≡ rear a.meaning a.ended a.octets end }
-        ensures within { result ≤ length (image (D.meaning self.now.dialogue) self.now.heard.octets) }
+        ensures rear { let a = sender_of D.meaning self.now in
+            result ≡ rear a.meaning a.ended a.octets end }
+        ensures within { result
+            ≤ length (image (D.meaning self.now.dialogue) self.now.heard.octets) }
     {
         self.transcript.rear(end, self.due())
     }
 
     /// How many octets have all their image places below one.
     pub(crate) fn back(&self, place: u64) -> u64
-        ensures back { let a = sender_of D.meaning self.now in result ≡ back a.meaning a.ended a.octets place }
+        ensures back { let a = sender_of D.meaning self.now in
+            result ≡ back a.meaning a.ended a.octets place }
         ensures few { result ≤ 2 ^ 30 }
     {
         if self.is_past_end(place) {
@@ -174,14 +182,19 @@ impl<D: Dialogue> WholeStream<D> {
 
     // It has ended, and the place is the one behind its end.
     fn is_past_end(&self, place: u64) -> bool
-        ensures { result ≡ (self.now.heard.ended && place == length (image (D.meaning self.now.dialogue) self.now.heard.octets) + 1) }
+        ensures { result
+            ≡ (self.now.heard.ended
+            && place == length
+            (image (D.meaning self.now.dialogue) self.now.heard.octets)
+            + 1) }
     {
         self.ended && place == self.image_len() + 1
     }
 
     /// Back of the greatest acknowledged place.
     pub(crate) fn back_acked(&self) -> u64
-        ensures back { let a = sender_of D.meaning self.now in result ≡ back a.meaning a.ended a.octets a.acked }
+        ensures back { let a = sender_of D.meaning self.now in
+            result ≡ back a.meaning a.ended a.octets a.acked }
         ensures few { result ≤ 2 ^ 30 }
     {
         self.back(self.acked)
@@ -235,7 +248,11 @@ impl<D: Dialogue> WholeStream<D> {
 
     /// A SYN brings the initial number and the maximum segment size.
     pub(crate) fn open(&mut self, initial: u32, mss: u16)
-        ensures { self.new ≡ record self.old { heard = record self.old.heard { initial = Some initial; mss = mss } } }
+        ensures { self.new
+            ≡ record self.old {
+              heard =
+                  record self.old.heard { initial = Some initial; mss = mss };
+            } }
     {
         self.initial = Some(initial);
         self.mss = mss;
@@ -245,7 +262,13 @@ impl<D: Dialogue> WholeStream<D> {
     pub(crate) fn take(&mut self, alloc: Global, fresh: &[u8], fin: bool) -> Result<(), OutOfMemory>
         requires limit { length self.old.heard.octets + length fresh.now < 2 ^ 30 }
         ensures dialogue { self.new.dialogue ≡ self.old.dialogue }
-        ensures taken { OnOk result (self.new ≡ record self.old { heard = record self.old.heard { octets = self.old.heard.octets ++ fresh.now; ended = self.old.heard.ended || fin } }) }
+        ensures taken { OnOk result (self.new
+            ≡ record self.old {
+              heard = record self.old.heard {
+                octets = self.old.heard.octets ++ fresh.now;
+                ended = self.old.heard.ended || fin;
+              };
+            }) }
     {
         take_octets(
             alloc,
@@ -260,7 +283,12 @@ impl<D: Dialogue> WholeStream<D> {
 
     /// Its image is acknowledged up to a place.
     pub(crate) fn acknowledge(&mut self, place: u64)
-        ensures { self.new ≡ record self.old { heard = record self.old.heard { acked = max self.old.heard.acked place } } }
+        ensures { self.new
+            ≡ record self.old {
+              heard = record self.old.heard {
+                acked = max self.old.heard.acked place;
+              };
+            } }
     {
         self.acked = self.acked.max(place);
     }
@@ -273,8 +301,11 @@ impl<D: Dialogue> WholeStream<D> {
         past: u64,
     ) -> Result<Vec<u8>, OutOfMemory>
         requires order { first ≤ past }
-        requires within { past ≤ length (image (D.meaning self.now.dialogue) self.now.heard.octets) }
-        ensures { IfOk result (λ octets. octets.items ≡ slice_range (image (D.meaning self.now.dialogue) self.now.heard.octets) first past) }
+        requires within { past
+            ≤ length (image (D.meaning self.now.dialogue) self.now.heard.octets) }
+        ensures { IfOk result (λ octets. octets.items
+            ≡ slice_range (image (D.meaning self.now.dialogue) self.now.heard.octets)
+            first past) }
     {
         let octets = Vec::from_slice(
             alloc,
@@ -285,7 +316,9 @@ impl<D: Dialogue> WholeStream<D> {
 
     /// Its own number of a place of its image, if that was sent.
     pub(crate) fn inner(&self, sequence: u32) -> Option<u32>
-        ensures { result ≡ inner_by (sender_of D.meaning self.now) self.now.heard.initial sequence }
+        ensures { result
+            ≡ inner_by (sender_of D.meaning self.now) self.now.heard.initial
+            sequence }
     {
         let initial = self.initial?;
         let due = self.due();
@@ -301,7 +334,12 @@ impl<D: Dialogue> WholeStream<D> {
         requires due { due ≡ length (due_in (sender_of D.meaning self.now)) }
         requires small { due < 2 ^ 31 }
         requires after { place.after < 2 ^ 31 }
-        ensures { let a = sender_of D.meaning self.now in result ≡ cond (nat_le (a.acked + place.before) (due + place.after)) (number_at initial (back a.meaning a.ended a.octets (due + place.after - place.before))) (number_after initial (back a.meaning a.ended a.octets a.acked)) }
+        ensures { let a = sender_of D.meaning self.now in
+            result
+            ≡ cond (nat_le (a.acked + place.before) (due + place.after))
+            (number_at initial (back a.meaning a.ended a.octets
+            (due + place.after - place.before)))
+            (number_after initial (back a.meaning a.ended a.octets a.acked)) }
     {
         let at = due + place.after;
         if place.before <= at && self.acked <= at - place.before {
@@ -338,10 +376,16 @@ impl<D: Learns> WholeStream<D> {
     pub(crate) fn learn(&mut self, address: Addr, image: Option<Addr>)
         requires unknown { is_listed (D.entries self.old.dialogue) address.0 ≡ false }
         requires few { length (D.entries self.old.dialogue) < 256 }
-        requires known { AllUnitsListed D.addresses (D.meaning self.old.dialogue) (D.entries self.old.dialogue) self.old.heard.octets }
-        ensures entries { D.entries self.new.dialogue ≡ D.entries self.old.dialogue ++ (address, image) ∷ [] }
+        requires known { AllUnitsListed D.addresses (D.meaning self.old.dialogue)
+            (D.entries self.old.dialogue) self.old.heard.octets }
+        ensures entries { D.entries self.new.dialogue
+            ≡ D.entries self.old.dialogue ++ (address, image) ∷ [] }
         ensures heard { self.new.heard ≡ self.old.heard }
-        ensures alike { (s : List ℕ) → AllUnitsListed D.addresses (D.meaning self.old.dialogue) (D.entries self.old.dialogue) s → ReadAlike (D.meaning self.old.dialogue) (D.meaning self.new.dialogue) s }
+        ensures alike { (s : List ℕ)
+            → AllUnitsListed D.addresses (D.meaning self.old.dialogue)
+            (D.entries self.old.dialogue) s
+            → ReadAlike (D.meaning self.old.dialogue) (D.meaning self.new.dialogue)
+            s }
     {
         self.dialogue.learn(address, image);
     }

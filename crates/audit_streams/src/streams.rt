@@ -51,7 +51,13 @@ impl<C: Dialogue, S: Dialogue> Model for WholeStreams<C, S> {
 impl<C: Dialogue, S: Dialogue> WholeStreams<C, S> {
     /// The session that a client's first SYN makes, by its initial number and maximum segment size. It takes no memory.
     pub fn new(alloc: Global, client: C, server: S, initial: u32, mss: u16) -> WholeStreams<C, S>
-        ensures { result ≡ record { client_dialogue = client; server_dialogue = server; client = unheard (Some initial) mss; server = unheard None 536 } }
+        ensures { result
+            ≡ record {
+              client_dialogue = client;
+              server_dialogue = server;
+              client = unheard (Some initial) mss;
+              server = unheard None 536;
+            } }
     {
         WholeStreams {
             alloc,
@@ -62,7 +68,9 @@ impl<C: Dialogue, S: Dialogue> WholeStreams<C, S> {
 
     /// Why a segment of the client, or else of the server, is refused; None where it passes.
     pub fn refusal(&self, from_client: bool, segment: &TcpView) -> Option<Refusal>
-        ensures { result ≡ segment_refusal from_client (session_of C.meaning S.meaning self.now) (segment_in segment.now) }
+        ensures { result
+            ≡ segment_refusal from_client (session_of C.meaning S.meaning self.now)
+            (segment_in segment.now) }
     {
         if from_client {
             return judge(true, &self.client, &self.server, segment);
@@ -73,11 +81,19 @@ impl<C: Dialogue, S: Dialogue> WholeStreams<C, S> {
     /// Passes a segment of the client, or else of the server: what is sent for it, or OutOfMemory. The verdict must be None. After
     /// OutOfMemory the session must not be used again.
     pub fn step(&mut self, from_client: bool, segment: &TcpView) -> Result<Sent, OutOfMemory>
-        requires passes { segment_refusal from_client (session_of C.meaning S.meaning self.old) (segment_in segment.now) ≡ None }
-        ensures next { OnOk result (session_of C.meaning S.meaning self.new ≡ session_next from_client (session_of C.meaning S.meaning self.old) (segment_in segment.now)) }
+        requires passes { segment_refusal from_client
+            (session_of C.meaning S.meaning self.old) (segment_in segment.now)
+            ≡ None }
+        ensures next { OnOk result (session_of C.meaning S.meaning self.new
+            ≡ session_next from_client (session_of C.meaning S.meaning self.old)
+            (segment_in segment.now)) }
         ensures client { self.new.client_dialogue ≡ self.old.client_dialogue }
         ensures server { self.new.server_dialogue ≡ self.old.server_dialogue }
-        ensures sent { IfOk result (λ s. s ≡ handed (session_sent from_client (session_of C.meaning S.meaning self.old) (segment_in segment.now)) (session_ends from_client (session_of C.meaning S.meaning self.old) (segment_in segment.now))) }
+        ensures sent { IfOk result (λ s. s
+            ≡ handed
+            (session_sent from_client (session_of C.meaning S.meaning self.old)
+            (segment_in segment.now)) (session_ends from_client
+            (session_of C.meaning S.meaning self.old) (segment_in segment.now))) }
     {
         if from_client {
             return pass(self.alloc, &mut self.client, &mut self.server, segment);
@@ -88,7 +104,9 @@ impl<C: Dialogue, S: Dialogue> WholeStreams<C, S> {
     /// What the sequence number of a datagram that an ICMP error brings back was at the client, or else the server, that
     /// sent it.
     pub fn inner(&self, from_client: bool, sequence: u32) -> Option<u32>
-        ensures { result ≡ session_inner from_client (session_of C.meaning S.meaning self.now) sequence }
+        ensures { result
+            ≡ session_inner from_client (session_of C.meaning S.meaning self.now)
+            sequence }
     {
         if from_client {
             return self.client.inner(sequence);
@@ -105,7 +123,8 @@ impl<C: Dialogue, S: Dialogue> WholeStreams<C, S> {
 
     /// The held rest of the client, or else of the server.
     pub fn rest(&self, from_client: bool) -> &[u8]
-        ensures { result.now ≡ held_in (own from_client (session_of C.meaning S.meaning self.now)) }
+        ensures { result.now
+            ≡ held_in (own from_client (session_of C.meaning S.meaning self.now)) }
     {
         if from_client {
             return self.client.rest();
@@ -115,7 +134,10 @@ impl<C: Dialogue, S: Dialogue> WholeStreams<C, S> {
 
     /// How many octets of a segment that passes its sender has sent before.
     pub fn repeated(&self, from_client: bool, segment: &TcpView) -> usize
-        ensures { result ≡ min (length segment.now.payload) (start_of (own from_client (session_of C.meaning S.meaning self.now)) (segment_in segment.now)).before }
+        ensures { result
+            ≡ min (length segment.now.payload) (start_of
+            (own from_client (session_of C.meaning S.meaning self.now))
+            (segment_in segment.now)).before }
     {
         let sender = if from_client {
             self.client.extent()
@@ -130,7 +152,9 @@ impl<C: Dialogue, S: Dialogue> WholeStreams<C, S> {
 impl<C: Learns, S: Learns> WholeStreams<C, S> {
     /// Whether the client's list, or else the server's, has an entry of an address.
     pub fn knows(&self, from_client: bool, address: Addr) -> bool
-        ensures { result ≡ is_listed (entries_of C.entries S.entries from_client self.now) address.0 }
+        ensures { result
+            ≡ is_listed (entries_of C.entries S.entries from_client self.now)
+            address.0 }
     {
         if from_client {
             return self.client.knows(address);
@@ -140,7 +164,8 @@ impl<C: Learns, S: Learns> WholeStreams<C, S> {
 
     /// The number of entries of the client's list, or else of the server's.
     pub fn listed(&self, from_client: bool) -> usize
-        ensures { result ≡ length (entries_of C.entries S.entries from_client self.now) }
+        ensures { result
+            ≡ length (entries_of C.entries S.entries from_client self.now) }
     {
         if from_client {
             return self.client.listed();
@@ -150,8 +175,10 @@ impl<C: Learns, S: Learns> WholeStreams<C, S> {
 
     /// The entry at a place of the client's list, or else of the server's. The place must lie below `listed`.
     pub fn entry(&self, from_client: bool, place: usize) -> (Addr, Option<Addr>)
-        requires { place < length (entries_of C.entries S.entries from_client self.now) }
-        ensures { slice_get (entries_of C.entries S.entries from_client self.now) place ≡ Some result }
+        requires { place
+            < length (entries_of C.entries S.entries from_client self.now) }
+        ensures { slice_get (entries_of C.entries S.entries from_client self.now)
+            place ≡ Some result }
     {
         if from_client {
             return self.client.entry(place);
@@ -163,17 +190,38 @@ impl<C: Learns, S: Learns> WholeStreams<C, S> {
     /// 256 entries. All addresses in the whole units that were heard of that host so far must be listed already: its octets then
     /// read as they did.
     pub fn learn(&mut self, from_client: bool, address: Addr, image: Option<Addr>)
-        requires unknown { is_listed (entries_of C.entries S.entries from_client self.old) address.0 ≡ false }
-        requires few { length (entries_of C.entries S.entries from_client self.old) < 256 }
-        requires client_known { from_client ≡ true → AllUnitsListed C.addresses (C.meaning self.old.client_dialogue) (C.entries self.old.client_dialogue) self.old.client.octets }
-        requires server_known { from_client ≡ false → AllUnitsListed S.addresses (S.meaning self.old.server_dialogue) (S.entries self.old.server_dialogue) self.old.server.octets }
-        ensures entries { entries_of C.entries S.entries from_client self.new ≡ entries_of C.entries S.entries from_client self.old ++ (address, image) ∷ [] }
+        requires unknown { is_listed
+            (entries_of C.entries S.entries from_client self.old) address.0
+            ≡ false }
+        requires few { length (entries_of C.entries S.entries from_client self.old)
+            < 256 }
+        requires client_known { from_client ≡ true
+            → AllUnitsListed C.addresses (C.meaning self.old.client_dialogue)
+            (C.entries self.old.client_dialogue) self.old.client.octets }
+        requires server_known { from_client ≡ false
+            → AllUnitsListed S.addresses (S.meaning self.old.server_dialogue)
+            (S.entries self.old.server_dialogue) self.old.server.octets }
+        ensures entries { entries_of C.entries S.entries from_client self.new
+            ≡ entries_of C.entries S.entries from_client self.old ++ (address, image)
+            ∷ [] }
         ensures client_heard { self.new.client ≡ self.old.client }
         ensures server_heard { self.new.server ≡ self.old.server }
-        ensures server { from_client ≡ true → self.new.server_dialogue ≡ self.old.server_dialogue }
-        ensures client { from_client ≡ false → self.new.client_dialogue ≡ self.old.client_dialogue }
-        ensures client_alike { (s : List ℕ) → from_client ≡ true → AllUnitsListed C.addresses (C.meaning self.old.client_dialogue) (C.entries self.old.client_dialogue) s → ReadAlike (C.meaning self.old.client_dialogue) (C.meaning self.new.client_dialogue) s }
-        ensures server_alike { (s : List ℕ) → from_client ≡ false → AllUnitsListed S.addresses (S.meaning self.old.server_dialogue) (S.entries self.old.server_dialogue) s → ReadAlike (S.meaning self.old.server_dialogue) (S.meaning self.new.server_dialogue) s }
+        ensures server { from_client ≡ true
+            → self.new.server_dialogue ≡ self.old.server_dialogue }
+        ensures client { from_client ≡ false
+            → self.new.client_dialogue ≡ self.old.client_dialogue }
+        ensures client_alike { (s : List ℕ)
+            → from_client ≡ true
+            → AllUnitsListed C.addresses (C.meaning self.old.client_dialogue)
+            (C.entries self.old.client_dialogue) s
+            → ReadAlike (C.meaning self.old.client_dialogue)
+            (C.meaning self.new.client_dialogue) s }
+        ensures server_alike { (s : List ℕ)
+            → from_client ≡ false
+            → AllUnitsListed S.addresses (S.meaning self.old.server_dialogue)
+            (S.entries self.old.server_dialogue) s
+            → ReadAlike (S.meaning self.old.server_dialogue)
+            (S.meaning self.new.server_dialogue) s }
     {
         if from_client {
             self.client.learn(address, image);
@@ -189,7 +237,11 @@ fn judge<A: Dialogue, B: Dialogue>(
     other: &WholeStream<B>,
     segment: &TcpView,
 ) -> Option<Refusal>
-    ensures { result ≡ refusal_of from_client (extent (sender_of A.meaning own.now)) (extent (sender_of B.meaning other.now)) (arrival (segment_in segment.now)) (repeats_unlike (sender_of A.meaning own.now) (segment_in segment.now)) }
+    ensures { result
+        ≡ refusal_of from_client (extent (sender_of A.meaning own.now))
+        (extent (sender_of B.meaning other.now))
+        (arrival (segment_in segment.now))
+        (repeats_unlike (sender_of A.meaning own.now) (segment_in segment.now)) }
 {
     let sender = own.extent();
     let arrival = arrival_of(segment);
@@ -203,13 +255,22 @@ fn pass<A: Dialogue, B: Dialogue>(
     other: &mut WholeStream<B>,
     segment: &TcpView,
 ) -> Result<Sent, OutOfMemory>
-    requires opens { (flags_of segment.now.flags).syn ≡ true → (flags_of segment.now.flags).reset ≡ false }
-    requires can { (flags_of segment.now.flags).syn ≡ false → (flags_of segment.now.flags).reset ≡ false → CanTake (sender_of A.meaning own.old) (segment_in segment.now) }
-    ensures own { OnOk result (sender_of A.meaning own.new ≡ own_after (sender_of A.meaning own.old) (segment_in segment.now)) }
-    ensures other { OnOk result (sender_of B.meaning other.new ≡ other_after (sender_of B.meaning other.old) (segment_in segment.now)) }
+    requires opens { (flags_of segment.now.flags).syn ≡ true
+        → (flags_of segment.now.flags).reset ≡ false }
+    requires can { (flags_of segment.now.flags).syn ≡ false
+        → (flags_of segment.now.flags).reset ≡ false
+        → CanTake (sender_of A.meaning own.old) (segment_in segment.now) }
+    ensures own { OnOk result (sender_of A.meaning own.new
+        ≡ own_after (sender_of A.meaning own.old) (segment_in segment.now)) }
+    ensures other { OnOk result (sender_of B.meaning other.new
+        ≡ other_after (sender_of B.meaning other.old) (segment_in segment.now)) }
     ensures own_dialogue { own.new.dialogue ≡ own.old.dialogue }
     ensures other_dialogue { other.new.dialogue ≡ other.old.dialogue }
-    ensures sent { IfOk result (λ s. s ≡ handed (sent (sender_of A.meaning own.old) (sender_of B.meaning other.old) (segment_in segment.now)) (ends_session (sender_of A.meaning own.old) (segment_in segment.now))) }
+    ensures sent { IfOk result (λ s. s
+        ≡ handed
+        (sent (sender_of A.meaning own.old) (sender_of B.meaning other.old)
+        (segment_in segment.now))
+        (ends_session (sender_of A.meaning own.old) (segment_in segment.now))) }
 {
     let flags = flags_of(segment.flags());
     let limit = limit_of(other.mss(), segment.options());
@@ -243,7 +304,15 @@ fn bare(
     ends: bool,
 ) -> Sent
     requires ecn { flags.ecn ≤ 3 }
-    ensures { result ≡ record { sequence = sequence; acknowledgement = acknowledgement; flags = flags_octet flags; limit = limit; octets = []; ends = ends } }
+    ensures { result
+        ≡ record {
+          sequence = sequence;
+          acknowledgement = acknowledgement;
+          flags = flags_octet flags;
+          limit = limit;
+          octets = [];
+          ends = ends;
+        } }
 {
     Sent {
         sequence,
@@ -264,8 +333,14 @@ fn sent_reset<A: Dialogue, B: Dialogue>(
     limit: usize,
 ) -> Sent
     requires reset { (flags_of segment.now.flags).reset ≡ true }
-    requires limit { limit ≡ limit_of (sender_of B.meaning other.now) (segment_in segment.now) }
-    ensures { result ≡ handed (reset_sent (sender_of A.meaning own.now) (sender_of B.meaning other.now) (segment_in segment.now) (limit_of (sender_of B.meaning other.now) (segment_in segment.now))) (ends_session (sender_of A.meaning own.now) (segment_in segment.now)) }
+    requires limit { limit
+        ≡ limit_of (sender_of B.meaning other.now) (segment_in segment.now) }
+    ensures { result
+        ≡ handed
+        (reset_sent (sender_of A.meaning own.now) (sender_of B.meaning other.now)
+        (segment_in segment.now)
+        (limit_of (sender_of B.meaning other.now) (segment_in segment.now)))
+        (ends_session (sender_of A.meaning own.now) (segment_in segment.now)) }
 {
     let flags = flags_of(segment.flags());
     let start = start_at(own.extent(), arrival_of(segment));
@@ -293,7 +368,10 @@ fn ends_at<A: Dialogue>(own: &WholeStream<A>, start: Offset) -> bool
 
 fn reset_number<A: Dialogue>(own: &WholeStream<A>, sequence: u32, start: Offset) -> u32
     requires { start.after < 2 ^ 31 }
-    ensures { result ≡ cond (is_some own.now.heard.initial) (number_after (known own.now.heard.initial) (bare_offset (sender_of A.meaning own.now) start)) sequence }
+    ensures { result
+        ≡ cond (is_some own.now.heard.initial)
+        (number_after (known own.now.heard.initial)
+        (bare_offset (sender_of A.meaning own.now) start)) sequence }
 {
     if own.initial().is_some() {
         return own.number(own.bare_offset(start));
@@ -306,7 +384,9 @@ fn reset_acknowledgement<B: Dialogue>(
     acknowledgement: u32,
     ack: bool,
 ) -> u32
-    ensures { result ≡ cond (ack && is_some other.now.heard.initial) (acknowledgement_to (sender_of B.meaning other.now)) acknowledgement }
+    ensures { result
+        ≡ cond (ack && is_some other.now.heard.initial)
+        (acknowledgement_to (sender_of B.meaning other.now)) acknowledgement }
 {
     if ack && other.initial().is_some() {
         return other.acknowledgement();
@@ -323,12 +403,24 @@ fn sent_data<A: Dialogue, B: Dialogue>(
     limit: usize,
 ) -> Result<Sent, OutOfMemory>
     requires can { CanTake (sender_of A.meaning own.old) (segment_in segment.now) }
-    requires limit { limit ≡ limit_of (sender_of B.meaning other.old) (segment_in segment.now) }
-    ensures own { OnOk result (sender_of A.meaning own.new ≡ taken (sender_of A.meaning own.old) (segment_in segment.now)) }
-    ensures other { OnOk result (sender_of B.meaning other.new ≡ acknowledged (sender_of B.meaning other.old) (segment_in segment.now)) }
+    requires limit { limit
+        ≡ limit_of (sender_of B.meaning other.old) (segment_in segment.now) }
+    ensures own { OnOk result (sender_of A.meaning own.new
+        ≡ taken (sender_of A.meaning own.old) (segment_in segment.now)) }
+    ensures other { OnOk result (sender_of B.meaning other.new
+        ≡ acknowledged (sender_of B.meaning other.old) (segment_in segment.now)) }
     ensures own_dialogue { own.new.dialogue ≡ own.old.dialogue }
     ensures other_dialogue { other.new.dialogue ≡ other.old.dialogue }
-    ensures sent { IfOk result (λ s. s ≡ handed (other_sent (sender_of A.meaning own.old) (taken (sender_of A.meaning own.old) (segment_in segment.now)) (segment_in segment.now) (start_of (sender_of A.meaning own.old) (segment_in segment.now)) (acknowledgement_to (acknowledged (sender_of B.meaning other.old) (segment_in segment.now))) (limit_of (sender_of B.meaning other.old) (segment_in segment.now))) false) }
+    ensures sent { IfOk result (λ s. s
+        ≡ handed
+        (other_sent (sender_of A.meaning own.old)
+        (taken (sender_of A.meaning own.old) (segment_in segment.now))
+        (segment_in segment.now)
+        (start_of (sender_of A.meaning own.old) (segment_in segment.now))
+        (acknowledgement_to (acknowledged (sender_of B.meaning other.old)
+        (segment_in segment.now)))
+        (limit_of (sender_of B.meaning other.old) (segment_in segment.now)))
+        false) }
 {
     let arrival = arrival_of(segment);
     let extent = own.extent();
@@ -358,7 +450,10 @@ fn send<A: Dialogue>(
     limit: usize,
 ) -> Result<Sent, OutOfMemory>
     requires { before.start.after < 2 ^ 31 }
-    ensures { IfOk result (λ s. s ≡ handed (sent_by before.extent before.start (sender_of A.meaning own.now) (segment_in segment.now) acknowledgement limit) false) }
+    ensures { IfOk result (λ s. s
+        ≡ handed
+        (sent_by before.extent before.start (sender_of A.meaning own.now)
+        (segment_in segment.now) acknowledgement limit) false) }
 {
     let flags = flags_of(segment.flags());
     let fin = flags.fin && own.acked() <= own.image_len();
@@ -398,7 +493,11 @@ fn send<A: Dialogue>(
 // The first image place that goes out.
 fn first_place<A: Dialogue>(own: &WholeStream<A>, before: Before) -> u64
     requires { before.start.after < 2 ^ 31 }
-    ensures { let a = sender_of A.meaning own.now in result ≡ min before.extent.due (fore a.meaning a.ended a.octets (max (before.extent.octets + before.start.after - before.start.before) (back a.meaning a.ended a.octets a.acked))) }
+    ensures { let a = sender_of A.meaning own.now in
+        result
+        ≡ min before.extent.due (fore a.meaning a.ended a.octets (max
+        (before.extent.octets + before.start.after - before.start.before)
+        (back a.meaning a.ended a.octets a.acked))) }
 {
     let Before { extent, start } = before;
     let place = (u64::from(extent.octets) + start.after).saturating_sub(start.before);
@@ -410,8 +509,15 @@ fn first_place<A: Dialogue>(own: &WholeStream<A>, before: Before) -> u64
 fn past_place<A: Dialogue>(own: &WholeStream<A>, before: Before, count: u64, fin: bool) -> u64
     requires after { before.start.after < 2 ^ 31 }
     requires few { count ≤ 65535 }
-    ensures within { result ≤ length (image (A.meaning own.now.dialogue) own.now.heard.octets) }
-    ensures is { let a = sender_of A.meaning own.now in result ≡ cond ((nat_lt before.extent.octets (length a.octets) || (a.ended && not before.extent.ended)) || fin) (length (due_in a)) (rear a.meaning a.ended a.octets (before.extent.octets + before.start.after + count - before.start.before)) }
+    ensures within { result
+        ≤ length (image (A.meaning own.now.dialogue) own.now.heard.octets) }
+    ensures is { let a = sender_of A.meaning own.now in
+        result
+        ≡ cond
+        ((nat_lt before.extent.octets (length a.octets)
+        || (a.ended && not before.extent.ended)) || fin)
+        (length (due_in a)) (rear a.meaning a.ended a.octets (before.extent.octets
+        + before.start.after + count - before.start.before)) }
 {
     let Before { extent, start } = before;
     let grows = u64::from(extent.octets) < own.count() || (own.has_ended() && !extent.ended);

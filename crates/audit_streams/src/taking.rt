@@ -19,7 +19,8 @@ pub(crate) fn take_octets<D: Dialogue>(
 ) -> Result<(), OutOfMemory>
     requires of { IsOf (D.meaning dialogue.now) transcript.old released.old }
     requires few { length transcript.old.octets + length octets.now < 2 ^ 30 }
-    ensures taken { OnOk result (transcript.new.octets ≡ transcript.old.octets ++ octets.now) }
+    ensures taken { OnOk result
+        (transcript.new.octets ≡ transcript.old.octets ++ octets.now) }
     ensures of { IsOf (D.meaning dialogue.now) transcript.new released.new }
 {
     for octet in octets {
@@ -38,7 +39,8 @@ fn take_octet<D: Dialogue>(
 ) -> Result<(), OutOfMemory>
     requires of { IsOf (D.meaning dialogue.now) transcript.old released.old }
     requires few { length transcript.old.octets + 1 < 2 ^ 30 }
-    ensures taken { OnOk result (transcript.new.octets ≡ transcript.old.octets ++ octet ∷ []) }
+    ensures taken { OnOk result
+        (transcript.new.octets ≡ transcript.old.octets ++ octet ∷ []) }
     ensures of { IsOf (D.meaning dialogue.now) transcript.new released.new }
 {
     transcript.push(octet)?;
@@ -57,7 +59,9 @@ fn take_octet<D: Dialogue>(
 // Whether octets, of which all but the last are a rest, are a unit. One that ends a released rest is told by its last octet.
 fn ends_unit<D: Dialogue>(dialogue: &D, octets: &[u8], released: bool) -> bool
     requires some { 1 ≤ length octets.now }
-    requires free { released ≡ true → IsReleased (D.meaning dialogue.now) (take (length octets.now - 1) octets.now) }
+    requires free { released ≡ true
+        → IsReleased (D.meaning dialogue.now)
+        (take (length octets.now - 1) octets.now) }
     ensures { result ≡ is_some ((D.meaning dialogue.now).first_end octets.now) }
 {
     if released {
@@ -73,8 +77,11 @@ fn end_unit<D: Dialogue>(
     transcript: &mut Transcript,
 ) -> Result<(), OutOfMemory>
     requires unit { IsUnit (D.meaning dialogue.now) (rest_of transcript.old) }
-    requires short { rest_at transcript.old + length ((D.meaning dialogue.now).image (rest_of transcript.old)) < 2 ^ 31 }
-    ensures ok { OnOk result (transcript.new ≡ ended (D.meaning dialogue.now) transcript.old) }
+    requires short { rest_at transcript.old
+        + length ((D.meaning dialogue.now).image (rest_of transcript.old))
+        < 2 ^ 31 }
+    ensures ok { OnOk result
+        (transcript.new ≡ ended (D.meaning dialogue.now) transcript.old) }
     ensures err { OnErr result (transcript.new ≡ transcript.old) }
 {
     match other_image(alloc, dialogue, transcript.rest())? {
@@ -93,8 +100,10 @@ fn other_image<D: Dialogue>(
     unit: &[u8],
 ) -> Result<Option<Vec<u8>>, OutOfMemory>
     requires { IsUnit (D.meaning dialogue.now) unit.now }
-    ensures other { IfOk result (λ answer. IfSome answer (λ image. IsOther (D.meaning dialogue.now) unit.now image.items)) }
-    ensures same { IfOk result (λ answer. IfNone answer (bytes_eq ((D.meaning dialogue.now).image unit.now) unit.now ≡ true)) }
+    ensures other { IfOk result (λ answer. IfSome answer
+        (λ image. IsOther (D.meaning dialogue.now) unit.now image.items)) }
+    ensures same { IfOk result (λ answer. IfNone answer
+        (bytes_eq ((D.meaning dialogue.now).image unit.now) unit.now ≡ true)) }
 {
     if !dialogue.bears(unit) {
         return Ok(None);

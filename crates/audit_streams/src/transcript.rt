@@ -39,7 +39,8 @@ impl Model for Transcript {
 impl Transcript {
     /// No octets.
     pub(crate) fn new(alloc: Global) -> Transcript
-        ensures { result ≡ record { octets = []; image = []; places = []; ends = []; rest = 0 } }
+        ensures { result
+            ≡ record { octets = []; image = []; places = []; ends = []; rest = 0 } }
     {
         Transcript {
             octets: Vec::new(alloc),
@@ -105,7 +106,8 @@ impl Transcript {
 
     // One more than the greatest image place of an octet, at most `due`.
     fn past(&self, place: u64, due: u64) -> u64
-        ensures past { result ≡ rear_at due (slice_get (map span_of self.now.places) place) }
+        ensures past { result
+            ≡ rear_at due (slice_get (map span_of self.now.places) place) }
         ensures few { result ≤ due }
     {
         match self.places.get(place as usize) {

@@ -65,7 +65,6 @@ among_is earlier address (Some place) e = let at = position-Some (is_address add
 -- ## An address more
 
 module _ (needs : Addr → Bool) (earlier : List Addr) (address : Addr) (seen_addresses : Table ℕ) (are : AreFirsts needs earlier seen_addresses) where
-
   abbrev noted : Row ℕ
   noted = record { key = address.0; end = Some 0; value = length earlier }
 

@@ -42,7 +42,8 @@ impl Aliases {
     /// The pool of a realm, none of whose addresses stands for a host. The error is that there is too little memory.
     pub fn new(alloc: Global, side: &SideSettings) -> Result<Aliases, OutOfMemory>
         requires { is_bad_pool side.now ≡ false }
-        ensures { IfOk result (λ aliases. aliases ≡ steps.no_hosts side.now.first side.now.last) }
+        ensures { IfOk result
+            (λ aliases. aliases ≡ steps.no_hosts side.now.first side.now.last) }
     {
         let size = (side.last.0 - side.first.0) as usize + 1;
         Ok(Aliases {
@@ -69,7 +70,8 @@ impl Aliases {
     /// The host for which an address of the pool stands.
     pub fn host(&self, alias: Addr) -> Option<Addr>
         requires { is_in alias self.now.pool.range ≡ true }
-        ensures { result ≡ slice_index_or self.now.hosts (place_of alias self.now.pool) None }
+        ensures { result
+            ≡ slice_index_or self.now.hosts (place_of alias self.now.pool) None }
     {
         address_at(&self.hosts, (alias.0 - self.first) as usize)
     }

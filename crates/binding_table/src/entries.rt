@@ -33,12 +33,7 @@ impl Model for Entries {
 
 impl Entries {
     /// No bindings, and room for so many fixed ones and so many others; the error is that there is too little memory.
-    pub fn new(
-        alloc: Global,
-        fixed: usize,
-        most: usize,
-        seed: Seed,
-    ) -> Result<Entries, OutOfMemory>
+    pub fn new(alloc: Global, fixed: usize, most: usize, seed: Seed) -> Result<Entries, OutOfMemory>
         requires some { 0 < most }
         requires few { 2 * most < 2 ^ 32 }
         ensures { IfOk result (λ entries. entries ≡ no_rows most) }
@@ -52,7 +47,8 @@ impl Entries {
     /// The binding with a number.
     #[inline(always)]
     pub fn find(&self, number: u128) -> Option<&Binding>
-        ensures { option_map (λ found. found.now) result ≡ option_map (λ row. row.value) (row_of number self.now.rows) }
+        ensures { option_map (λ found. found.now) result
+            ≡ option_map (λ row. row.value) (row_of number self.now.rows) }
     {
         match self.moving.find(number) {
             Some(row) => Some(&row.value),
@@ -63,7 +59,8 @@ impl Entries {
     /// The row with a number unless it is that of a fixed binding, and the place at which it is kept, by which `set_at` finds it at once.
     #[inline(always)]
     pub fn locate(&self, number: u128) -> Option<(usize, Row<Binding>)>
-        ensures { option_map (λ found. found.1) result ≡ option_and_then ending (row_of number self.now.rows) }
+        ensures { option_map (λ found. found.1) result
+            ≡ option_and_then ending (row_of number self.now.rows) }
     {
         match self.moving.locate(number) {
             Some((place, row)) => Some((place, *row)),
@@ -74,7 +71,8 @@ impl Entries {
     /// The same, if it is kept at a place: any will do.
     #[inline(always)]
     pub fn row_at(&self, place: usize, number: u128) -> Option<Row<Binding>>
-        ensures { IfSome result (λ row. option_and_then ending (row_of number self.now.rows) ≡ Some row) }
+        ensures { IfSome result
+            (λ row. option_and_then ending (row_of number self.now.rows) ≡ Some row) }
     {
         self.moving.row_at(place, number).copied()
     }
@@ -92,7 +90,8 @@ impl Entries {
         requires early { All (λ row. row.end ≡ None) self.old.rows }
         requires new { row_of (filed binding).key self.old.rows ≡ None }
         requires fixed { binding.fixed ≡ true }
-        ensures ok { OnOk result (self.new ≡ record self.old { rows = self.old.rows ++ filed binding ∷ [] }) }
+        ensures ok { OnOk result (self.new
+            ≡ record self.old { rows = self.old.rows ++ filed binding ∷ [] }) }
         ensures err { OnErr result (self.new ≡ self.old) }
     {
         self.fixed
@@ -113,7 +112,8 @@ impl Entries {
     /// Puts a row in the place of the one with its number, which is there; neither is that of a fixed binding. It is looked for at a
     /// place first, that at which it was located.
     pub fn set_at(&mut self, place: usize, row: Row<Binding>)
-        requires there { IsSomeAnd (row_of row.key self.old.rows) (λ found. IsSome found.end) }
+        requires there { IsSomeAnd (row_of row.key self.old.rows)
+            (λ found. IsSome found.end) }
         requires end { IsSome row.end }
         ensures { self.new ≡ record self.old { rows = with_row row self.old.rows } }
     {

@@ -4,12 +4,12 @@
 mod aliases;
 mod binding;
 mod entries;
-mod seen_addresses;
 mod laws;
 mod plan;
+mod seen_addresses;
 mod table;
 
 pub use binding::Crossing;
-pub use seen_addresses::SeenAddresses;
 pub use laws::{crosses_back, keeps_apart, keeps_known, keeps_others, sees_used};
+pub use seen_addresses::SeenAddresses;
 pub use table::Table;

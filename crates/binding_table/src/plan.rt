@@ -8,8 +8,8 @@ ghost use Rattle.binding_table.specs.Steps.{AreFirsts, EndsAtOnce, needing, next
 
 use crate::aliases::address_at;
 use crate::binding::Crossing;
-use crate::seen_addresses::{SeenAddresses, first_place, forget};
 use crate::laws::keeps_apart;
+use crate::seen_addresses::{SeenAddresses, first_place, forget};
 use crate::table::Table;
 use expiring_table::Rows;
 use gate_base::{Addr, Side};
@@ -35,9 +35,16 @@ impl Table {
         seen_addresses: &mut SeenAddresses,
     ) -> bool
         requires lengths { length images.old ≡ length addresses.now }
-        requires bound { All (λ address. tables.cross self.now side address ≢ Crossing.Unbound) addresses.now }
-        ensures room { result ≡ not (nat_lt (tables.free self.now (other side)) (plans.needed self.now side addresses.now)) }
-        ensures images { result ≡ true → (uses : List plans.Use) → plans.AreUsesOf side addresses.now uses → images.new ≡ plans.images_after self.now uses }
+        requires bound { All
+            (λ address. tables.cross self.now side address ≢ Crossing.Unbound)
+            addresses.now }
+        ensures room { result
+            ≡ not (nat_lt (tables.free self.now (other side))
+            (plans.needed self.now side addresses.now)) }
+        ensures images { result ≡ true
+            → (uses : List plans.Use)
+            → plans.AreUsesOf side addresses.now uses
+            → images.new ≡ plans.images_after self.now uses }
     {
         let needed = self.write_images(side, addresses, images, &mut seen_addresses.rows);
         forget(&mut seen_addresses.rows);
@@ -54,9 +61,15 @@ impl Table {
     ) -> u32
         requires empty { seen_addresses.old ≡ no_rows 8192 }
         requires lengths { length images.old ≡ length addresses.now }
-        requires bound { All (λ address. tables.cross self.now side address ≢ Crossing.Unbound) addresses.now }
+        requires bound { All
+            (λ address. tables.cross self.now side address ≢ Crossing.Unbound)
+            addresses.now }
         ensures count { result ≡ plans.needed self.now side addresses.now }
-        ensures images { plans.needed self.now side addresses.now ≤ tables.free self.now (other side) → (uses : List plans.Use) → plans.AreUsesOf side addresses.now uses → images.new ≡ plans.images_after self.now uses }
+        ensures images { plans.needed self.now side addresses.now
+            ≤ tables.free self.now (other side)
+            → (uses : List plans.Use)
+            → plans.AreUsesOf side addresses.now uses
+            → images.new ≡ plans.images_after self.now uses }
         ensures most { seen_addresses.new.most ≡ 8192 }
         ensures ends { All EndsAtOnce seen_addresses.new.rows }
     {
@@ -64,7 +77,14 @@ impl Table {
         let mut given = None;
         let mut count = 0;
         for (place, address) in addresses.iter().enumerate() {
-            let planned = self.image(side, &addresses[..place], images, given, *address, seen_addresses);
+            let planned = self.image(
+                side,
+                &addresses[..place],
+                images,
+                given,
+                *address,
+                seen_addresses,
+            );
             images[place] = planned.image;
             given = planned.given;
             count += u32::from(planned.fresh);
@@ -84,10 +104,15 @@ impl Table {
     ) -> Planned
         requires lengths { length earlier.now ≤ length images.now }
         requires bound { tables.cross self.now side address ≢ Crossing.Unbound }
-        requires seen_addresses { AreFirsts (needing self.now side) earlier.now seen_addresses.old }
-        ensures value { (result.image, result.given) ≡ planned_by (tables.pool_of self.now (other side)) earlier.now images.now given address (tables.cross self.now side address) }
-        ensures fresh { result.fresh ≡ plans.is_fresh self.now side earlier.now address }
-        ensures seen_addresses { AreFirsts (needing self.now side) (earlier.now ++ address ∷ []) seen_addresses.new }
+        requires seen_addresses { AreFirsts (needing self.now side) earlier.now
+            seen_addresses.old }
+        ensures value { (result.image, result.given)
+            ≡ planned_by (tables.pool_of self.now (other side)) earlier.now images.now
+            given address (tables.cross self.now side address) }
+        ensures fresh { result.fresh
+            ≡ plans.is_fresh self.now side earlier.now address }
+        ensures seen_addresses { AreFirsts (needing self.now side)
+            (earlier.now ++ address ∷ []) seen_addresses.new }
     {
         match self.cross(side, address) {
             Crossing::Same => Planned {

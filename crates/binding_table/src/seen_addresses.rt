@@ -47,10 +47,20 @@ impl SeenAddresses {
 
 /// The place at which an address that needs a binding stands first among earlier ones, and None where it is the first, which is then
 /// noted.
-pub fn first_place(seen_addresses: &mut Rows<usize>, earlier: &[Addr], address: Addr) -> Option<usize>
+pub fn first_place(
+    seen_addresses: &mut Rows<usize>,
+    earlier: &[Addr],
+    address: Addr,
+) -> Option<usize>
     requires { seen_addresses.old.most ≡ 8192 }
-    ensures place { (needs : Addr → Bool) → AreFirsts needs earlier.now seen_addresses.old → needs address ≡ true → result ≡ position (is_address address) earlier.now }
-    ensures seen_addresses { (needs : Addr → Bool) → AreFirsts needs earlier.now seen_addresses.old → needs address ≡ true → AreFirsts needs (earlier.now ++ address ∷ []) seen_addresses.new }
+    ensures place { (needs : Addr → Bool)
+        → AreFirsts needs earlier.now seen_addresses.old
+        → needs address ≡ true
+        → result ≡ position (is_address address) earlier.now }
+    ensures seen_addresses { (needs : Addr → Bool)
+        → AreFirsts needs earlier.now seen_addresses.old
+        → needs address ≡ true
+        → AreFirsts needs (earlier.now ++ address ∷ []) seen_addresses.new }
 {
     let key = u128::from(address.0);
     match seen_addresses.find(key).copied() {

@@ -17,8 +17,8 @@ use crate::binding::{Binding, Crossing, number_of};
 use crate::entries::Entries;
 use expiring_table::{Row, Seed};
 use gate_base::{Addr, Moment, OutOfMemory, Side, is_unicast};
-use oid_rules::SortedRules;
 use gate_settings::{SameRanges, Settings};
+use oid_rules::SortedRules;
 use realm_pools::Pool;
 use std::alloc::Global;
 use std::marker::Model;
@@ -80,7 +80,8 @@ impl Table {
     ) -> Result<Table, OutOfMemory>
         requires sound { IsSound settings.now }
         requires forms { HasForms settings.now }
-        ensures { IfOk result (λ table. table ≡ tables.without_bindings settings.now) }
+        ensures { IfOk result
+            (λ table. table ≡ tables.without_bindings settings.now) }
     {
         let left = Aliases::new(alloc, &settings.left)?;
         let right = Aliases::new(alloc, &settings.right)?;
@@ -159,7 +160,8 @@ impl Table {
     // The binding of a host of the realm.
     #[inline(always)]
     fn binding_of(&self, side: Side, host: Addr) -> Option<&Binding>
-        ensures { option_map (λ found. found.now) result ≡ find (tables.is_of_host side host.0) self.now.entries }
+        ensures { option_map (λ found. found.now) result
+            ≡ find (tables.is_of_host side host.0) self.now.entries }
     {
         self.bindings.find(number_of(side, host))
     }
@@ -167,7 +169,10 @@ impl Table {
     // The number of a host of the realm whose binding isn't fixed, and where its row is kept.
     #[inline(always)]
     fn moving_of(&self, side: Side, host: Addr) -> Option<(usize, u128)>
-        ensures { option_and_then (λ found. moving_row found.1 self.now.entries) result ≡ option_map filed (option_and_then unless_fixed (find (tables.is_of_host side host.0) self.now.entries)) }
+        ensures { option_and_then (λ found. moving_row found.1 self.now.entries)
+            result
+            ≡ option_map filed (option_and_then unless_fixed
+            (find (tables.is_of_host side host.0) self.now.entries)) }
     {
         let number = number_of(side, host);
         match self.bindings.locate(number) {
@@ -179,7 +184,11 @@ impl Table {
     // The number of the host through whose binding an address of the realm crosses unless that is fixed, and where its row is kept.
     #[inline(always)]
     fn moving_through(&self, side: Side, address: Addr) -> Option<(usize, u128)>
-        ensures value { option_and_then (λ found. moving_row found.1 self.now.entries) result ≡ option_map filed (option_and_then unless_fixed (find (tables.is_through (tables.in_pool self.now side address) side address) self.now.entries)) }
+        ensures value { option_and_then (λ found. moving_row found.1 self.now.entries)
+            result
+            ≡ option_map filed (option_and_then unless_fixed (find
+            (tables.is_through (tables.in_pool self.now side address) side
+            address) self.now.entries)) }
         ensures lawful { IsLawful self.now }
     {
         if self.pool(side).contains(address) {
@@ -281,7 +290,8 @@ impl Table {
     /// Uses a host of the realm that has a binding which isn't fixed: this lasts at least until a moment. False says that there is none.
     #[inline(always)]
     pub fn use_moving(&mut self, side: Side, host: Addr, until: Moment) -> bool
-        ensures used { OnTrue result (self.new ≡ used self.old (record { side = side; address = host; until = until })) }
+        ensures used { OnTrue result (self.new
+            ≡ used self.old (record { side = side; address = host; until = until })) }
         ensures kept { OnFalse result (self.new ≡ self.old) }
     {
         let number = number_of(side, host);
@@ -298,7 +308,11 @@ impl Table {
     #[inline(never)]
     fn extend_numbered(&mut self, near: usize, number: u128, until: Moment)
         requires { IsLawful self.old }
-        ensures { self.new ≡ record self.old { entries = extended_by (moving_row number self.old.entries) until self.old.entries } }
+        ensures { self.new
+            ≡ record self.old {
+              entries = extended_by (moving_row number self.old.entries) until
+                  self.old.entries;
+            } }
     {
         let at_once = self.bindings.row_at(near, number);
         if let Some(row) = at_once {
@@ -315,10 +329,14 @@ impl Table {
     #[inline(always)]
     fn extend_row(&mut self, near: usize, row: Row<Binding>, until: Moment)
         requires lawful { IsLawful self.old }
-        requires there { find (tables.is_of_host row.value.side row.value.host.0) self.old.entries ≡ Some row.value }
+        requires there { find (tables.is_of_host row.value.side row.value.host.0)
+            self.old.entries ≡ Some row.value }
         requires filed { row ≡ filed row.value }
         requires moving { row.value.fixed ≡ false }
-        ensures { self.new ≡ record self.old { entries = extended_by (Some row) until self.old.entries } }
+        ensures { self.new
+            ≡ record self.old {
+              entries = extended_by (Some row) until self.old.entries;
+            } }
     {
         if row.value.lasts(until) {
             return;
@@ -358,10 +376,14 @@ impl Table {
 }
 
 fn take_alias(left: &mut Aliases, right: &mut Aliases, binding: &Binding)
-    requires left { binding.now.side ≡ Side.Right → IsTrue (is_free binding.now.alias left.old.pool) }
-    requires right { binding.now.side ≡ Side.Left → IsTrue (is_free binding.now.alias right.old.pool) }
-    ensures left { left.new ≡ changed Side.Left binding.now (Some binding.now.host) left.old }
-    ensures right { right.new ≡ changed Side.Right binding.now (Some binding.now.host) right.old }
+    requires left { binding.now.side ≡ Side.Right
+        → IsTrue (is_free binding.now.alias left.old.pool) }
+    requires right { binding.now.side ≡ Side.Left
+        → IsTrue (is_free binding.now.alias right.old.pool) }
+    ensures left { left.new
+        ≡ changed Side.Left binding.now (Some binding.now.host) left.old }
+    ensures right { right.new
+        ≡ changed Side.Right binding.now (Some binding.now.host) right.old }
 {
     match binding.side {
         Side::Left => right.take(binding.alias, binding.host),
@@ -370,8 +392,10 @@ fn take_alias(left: &mut Aliases, right: &mut Aliases, binding: &Binding)
 }
 
 fn give_back_alias(left: &mut Aliases, right: &mut Aliases, binding: &Binding)
-    requires left { binding.now.side ≡ Side.Right → IsTrue (is_taken binding.now.alias left.old.pool) }
-    requires right { binding.now.side ≡ Side.Left → IsTrue (is_taken binding.now.alias right.old.pool) }
+    requires left { binding.now.side ≡ Side.Right
+        → IsTrue (is_taken binding.now.alias left.old.pool) }
+    requires right { binding.now.side ≡ Side.Left
+        → IsTrue (is_taken binding.now.alias right.old.pool) }
     ensures left { left.new ≡ changed Side.Left binding.now None left.old }
     ensures right { right.new ≡ changed Side.Right binding.now None right.old }
 {
@@ -385,9 +409,17 @@ fn give_back_alias(left: &mut Aliases, right: &mut Aliases, binding: &Binding)
 #[inline(always)]
 fn drop_ended(bindings: &mut Entries, left: &mut Aliases, right: &mut Aliases, now: Moment)
     requires { AreKept left.old right.old bindings.old.rows }
-    ensures rows { bindings.new ≡ record bindings.old { rows = map filed (filter (tables.is_live now) (entries_in bindings.old.rows)) } }
-    ensures left { left.new ≡ aliases_with left.old.pool.range Side.Left (filter (tables.is_live now) (entries_in bindings.old.rows)) }
-    ensures right { right.new ≡ aliases_with right.old.pool.range Side.Right (filter (tables.is_live now) (entries_in bindings.old.rows)) }
+    ensures rows { bindings.new
+        ≡ record bindings.old {
+          rows = map filed
+              (filter (tables.is_live now) (entries_in bindings.old.rows));
+        } }
+    ensures left { left.new
+        ≡ aliases_with left.old.pool.range Side.Left
+        (filter (tables.is_live now) (entries_in bindings.old.rows)) }
+    ensures right { right.new
+        ≡ aliases_with right.old.pool.range Side.Right
+        (filter (tables.is_live now) (entries_in bindings.old.rows)) }
 {
     while let Some(row) = bindings.next_ended(now.0) {
         give_back_alias(left, right, &row.value);

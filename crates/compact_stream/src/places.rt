@@ -11,7 +11,14 @@ use shift_ledger::Ledger;
 /// more than all of them where their end is acknowledged too. So many octets are held.
 pub fn back_acknowledged(ledger: &Ledger, held: u32, acknowledged: u64) -> u64
     requires { ledger.now.octets_in + held < 2 ^ 32 }
-    ensures { (m : Meaning) (h : CompactSender) (a : Sender) → IsLawful m → InRange m h → KeepsSender m h a → h.ledger ≡ ledger.now → length h.rest ≡ held → h.acked ≡ acknowledged → result ≡ back m a.ended a.octets a.acked }
+    ensures { (m : Meaning) (h : CompactSender) (a : Sender)
+        → IsLawful m
+        → InRange m h
+        → KeepsSender m h a
+        → h.ledger ≡ ledger.now
+        → length h.rest ≡ held
+        → h.acked ≡ acknowledged
+        → result ≡ back m a.ended a.octets a.acked }
 {
     if acknowledged <= ledger.octets_out() {
         return ledger.back(acknowledged);

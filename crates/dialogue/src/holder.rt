@@ -3,8 +3,8 @@ ghost use Rattle.std.specs.Prelude.{◌≡◌, ℕ, List, ◌≤◌, ◌<◌, �
 ghost use Rattle.dialogue.specs.Meaning.{IsRest, HoldsAtMost};
 ghost use Rattle.dialogue.specs.Taking.{IsWaiting, TakesOctets, IsReleasedAt, NoneReleased, EndsAt, NoneEnds};
 
-use arrayvec::ArrayVec;
 use crate::Dialogue;
+use arrayvec::ArrayVec;
 use std::marker::Model;
 
 /// A held rest: at most N - 1 octets. It is seen as the list of them.
@@ -60,7 +60,8 @@ impl<const N: usize> Holder<N> {
     pub fn take<D: Dialogue>(&mut self, dialogue: &D, octets: &[u8]) -> usize
         requires bounded { HoldsAtMost (D.meaning dialogue.now) (N - 1) }
         requires waiting { IsWaiting (D.meaning dialogue.now) self.old }
-        ensures takes { TakesOctets (D.meaning dialogue.now) self.old octets.now result self.new }
+        ensures takes { TakesOctets (D.meaning dialogue.now) self.old octets.now
+            result self.new }
         ensures waiting { IsWaiting (D.meaning dialogue.now) self.new }
     {
         let held = self.octets.len();
@@ -102,7 +103,8 @@ pub trait HoldsRest {
     fn take<D: Dialogue>(&mut self, dialogue: &D, octets: &[u8]) -> usize
         requires bounded { HoldsAtMost (D.meaning dialogue.now) (room - 1) }
         requires waiting { IsWaiting (D.meaning dialogue.now) (held self.old) }
-        ensures takes { TakesOctets (D.meaning dialogue.now) (held self.old) octets.now result (held self.new) }
+        ensures takes { TakesOctets (D.meaning dialogue.now) (held self.old)
+            octets.now result (held self.new) }
         ensures waiting { IsWaiting (D.meaning dialogue.now) (held self.new) };
 }
 
@@ -128,7 +130,8 @@ impl<const N: usize> HoldsRest for Holder<N> {
 fn end_of<D: Dialogue>(dialogue: &D, octets: &[u8], held: usize) -> Option<usize>
     requires within { held ≤ length octets.now }
     requires waiting { IsWaiting (D.meaning dialogue.now) (take held octets.now) }
-    ensures some { IfSome result (λ end. EndsAt (D.meaning dialogue.now) held octets.now end) }
+    ensures some { IfSome result
+        (λ end. EndsAt (D.meaning dialogue.now) held octets.now end) }
     ensures none { IfNone result (NoneEnds (D.meaning dialogue.now) held octets.now) }
 {
     match dialogue.first_end(octets) {
@@ -143,8 +146,10 @@ fn end_of<D: Dialogue>(dialogue: &D, octets: &[u8], held: usize) -> Option<usize
 // The least number of octets, more than are held, that are a rest that isn't held.
 fn released<D: Dialogue>(dialogue: &D, rest: &[u8], held: usize) -> Option<usize>
     requires { IsRest (D.meaning dialogue.now) rest.now }
-    ensures some { IfSome result (λ place. IsReleasedAt (D.meaning dialogue.now) held rest.now place) }
-    ensures none { IfNone result (NoneReleased (D.meaning dialogue.now) held rest.now) }
+    ensures some { IfSome result
+        (λ place. IsReleasedAt (D.meaning dialogue.now) held rest.now place) }
+    ensures none { IfNone result
+        (NoneReleased (D.meaning dialogue.now) held rest.now) }
 {
     if rest.len() <= held || dialogue.holds(rest) {
         return None;

@@ -18,7 +18,9 @@ pub fn address_in(content: &Content) -> Option<Addr>
 }
 
 fn add(addresses: &mut Vec<Addr>, address: Option<Addr>) -> Result<(), OutOfMemory>
-    ensures { OnOk result (map (λ a. a.0) addresses.new.items ≡ map (λ a. a.0) addresses.old.items ++ at_most_one (option_map (λ a. a.0) address)) }
+    ensures { OnOk result (map (λ a. a.0) addresses.new.items
+        ≡ map (λ a. a.0) addresses.old.items
+        ++ at_most_one (option_map (λ a. a.0) address)) }
 {
     if let Some(address) = address {
         addresses.push(address)?;
@@ -27,7 +29,8 @@ fn add(addresses: &mut Vec<Addr>, address: Option<Addr>) -> Result<(), OutOfMemo
 }
 
 fn add_question(addresses: &mut Vec<Addr>, question: &Option<Question>) -> Result<(), OutOfMemory>
-    ensures { OnOk result (map (λ a. a.0) addresses.new.items ≡ map (λ a. a.0) addresses.old.items ++ question_addresses question.now) }
+    ensures { OnOk result (map (λ a. a.0) addresses.new.items
+        ≡ map (λ a. a.0) addresses.old.items ++ question_addresses question.now) }
 {
     match question {
         None => Ok(()),
@@ -36,7 +39,8 @@ fn add_question(addresses: &mut Vec<Addr>, question: &Option<Question>) -> Resul
 }
 
 fn add_resource(addresses: &mut Vec<Addr>, resource: &Resource) -> Result<(), OutOfMemory>
-    ensures { OnOk result (map (λ a. a.0) addresses.new.items ≡ map (λ a. a.0) addresses.old.items ++ resource_addresses resource.now) }
+    ensures { OnOk result (map (λ a. a.0) addresses.new.items
+        ≡ map (λ a. a.0) addresses.old.items ++ resource_addresses resource.now) }
 {
     add(addresses, address_of(&resource.name))?;
     add(addresses, address_in(&resource.content))?;
@@ -45,7 +49,8 @@ fn add_resource(addresses: &mut Vec<Addr>, resource: &Resource) -> Result<(), Ou
 
 #[inline(always)]
 fn add_resources(addresses: &mut Vec<Addr>, resources: &[Resource]) -> Result<(), OutOfMemory>
-    ensures { OnOk result (map (λ a. a.0) addresses.new.items ≡ map (λ a. a.0) addresses.old.items ++ resources_addresses resources.now) }
+    ensures { OnOk result (map (λ a. a.0) addresses.new.items
+        ≡ map (λ a. a.0) addresses.old.items ++ resources_addresses resources.now) }
 {
     for resource in resources {
         add_resource(addresses, resource)?;
@@ -57,7 +62,8 @@ fn add_resources(addresses: &mut Vec<Addr>, resources: &[Resource]) -> Result<()
 /// name is the question's or the owner's of a record, and the data of records of type 1 in class 1. The data follow the owner's.
 #[inline(always)]
 pub fn addresses_of(alloc: Global, message: &Message) -> Result<Vec<Addr>, OutOfMemory>
-    ensures { IfOk result (λ addresses. map (λ a. a.0) addresses.items ≡ message_addresses message.now) }
+    ensures { IfOk result (λ addresses. map (λ a. a.0) addresses.items
+        ≡ message_addresses message.now) }
 {
     let mut addresses = Vec::new(alloc);
     add_question(&mut addresses, &message.question)?;

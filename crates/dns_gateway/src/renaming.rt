@@ -48,8 +48,10 @@ fn rename_resource(
     place: usize,
 ) -> Result<usize, OutOfMemory>
     requires { place + length (resource_addresses resource.old) ≤ length images.now }
-    ensures renamed { OnOk result (resource.new ≡ resource_renamed images.now place resource.old) }
-    ensures after { IfOk result (λ x. x ≡ place + length (resource_addresses resource.old)) }
+    ensures renamed { OnOk result
+        (resource.new ≡ resource_renamed images.now place resource.old) }
+    ensures after { IfOk result
+        (λ x. x ≡ place + length (resource_addresses resource.old)) }
 {
     let owner = address_of(&resource.name);
     let value = address_in(&resource.content);
@@ -76,9 +78,12 @@ fn rename_resources(
     images: &[Option<Addr>],
     start: usize,
 ) -> Result<usize, OutOfMemory>
-    requires { start + length (resources_addresses resources.old) ≤ length images.now }
-    ensures renamed { OnOk result (resources.new ≡ resources_renamed images.now start resources.old) }
-    ensures after { IfOk result (λ x. x ≡ start + length (resources_addresses resources.old)) }
+    requires { start + length (resources_addresses resources.old)
+        ≤ length images.now }
+    ensures renamed { OnOk result
+        (resources.new ≡ resources_renamed images.now start resources.old) }
+    ensures after { IfOk result
+        (λ x. x ≡ start + length (resources_addresses resources.old)) }
 {
     let mut place = start;
     for resource in resources.iter_mut() {
@@ -95,8 +100,10 @@ fn rename_list(
     start: usize,
 ) -> Result<usize, OutOfMemory>
     requires { start + length (resources_addresses list.old) ≤ length images.now }
-    ensures renamed { OnOk result (list.new ≡ resources_renamed images.now start list.old) }
-    ensures after { IfOk result (λ x. x ≡ start + length (resources_addresses list.old)) }
+    ensures renamed { OnOk result
+        (list.new ≡ resources_renamed images.now start list.old) }
+    ensures after { IfOk result
+        (λ x. x ≡ start + length (resources_addresses list.old)) }
 {
     let Some(mut items) = replace(list, Resources::none()).into_items() else {
         return Ok(start);
@@ -112,7 +119,8 @@ fn rename_question(
     question: &mut Option<Question>,
     images: &[Option<Addr>],
 ) -> Result<usize, OutOfMemory>
-    ensures renamed { OnOk result (question.new ≡ question_renamed images.now question.old) }
+    ensures renamed { OnOk result
+        (question.new ≡ question_renamed images.now question.old) }
     ensures after { IfOk result (λ x. x ≡ length (question_addresses question.old)) }
 {
     let Some(question) = question else {
@@ -133,9 +141,11 @@ pub fn rename(
     images: &[Option<Addr>],
 ) -> Result<(), OutOfMemory>
     requires { length images.now ≡ length (message_addresses message.old) }
-    ensures renamed { OnOk result (message.new ≡ message_renamed images.now message.old) }
+    ensures renamed { OnOk result
+        (message.new ≡ message_renamed images.now message.old) }
     // It keeps the form that a message needs to be written.
-    ensures suits { MessageSuits message.old → OnOk result (MessageSuits message.new) }
+    ensures suits { MessageSuits message.old
+        → OnOk result (MessageSuits message.new) }
 {
     let place = rename_question(alloc, &mut message.question, images)?;
     let place = rename_list(alloc, &mut message.answers, images, place)?;

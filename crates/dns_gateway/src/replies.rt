@@ -26,7 +26,8 @@ fn question_of(alloc: Global, question: &Option<Question>) -> Result<Option<Ques
 /// The header with the flag TC set and the counts of records 0, and the question.
 fn cut(alloc: Global, message: &Message) -> Result<Message, OutOfMemory>
     ensures is { IfOk result (λ short. short ≡ cut message.now) }
-    ensures name { IfOk result (λ _. IfSome message.now.question (λ q. IsName q.name)) }
+    ensures name { IfOk result
+        (λ _. IfSome message.now.question (λ q. IsName q.name)) }
 {
     Ok(Message {
         id: message.id,
@@ -54,7 +55,8 @@ fn put_cut(alloc: Global, message: &Message) -> Result<Vec<u8>, OutOfMemory>
 /// message. The data of each record must be what its type and class hold.
 pub fn reply(alloc: Global, message: &Message, incoming: usize) -> Result<Vec<u8>, OutOfMemory>
     requires { MessageSuits message.now }
-    ensures is { IfOk result (λ octets. octets.items ≡ reply_of message.now incoming) }
+    ensures is { IfOk result
+        (λ octets. octets.items ≡ reply_of message.now incoming) }
     ensures short { IfOk result (λ octets. length octets.items ≤ max 512 incoming) }
 {
     match write_message(alloc, message) {

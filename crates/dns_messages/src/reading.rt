@@ -39,7 +39,8 @@ fn octets_of(
     place: usize,
     count: usize,
 ) -> Result<(Vec<u8>, usize), NameStop>
-    ensures { ReturnsRead (λ x. (x.0.items, x.1)) result (octets_at reader.now place count) }
+    ensures { ReturnsRead (λ x. (x.0.items, x.1)) result
+        (octets_at reader.now place count) }
 {
     let message = reader.message();
     if place > message.len() || message.len() - place < count {
@@ -58,7 +59,8 @@ fn one_of(
     place: usize,
     end: usize,
 ) -> Result<Content, NameStop>
-    ensures reads { ReturnsRead (λ x. x) result (content_by Form.One reader.old place end) }
+    ensures reads { ReturnsRead (λ x. x) result
+        (content_by Form.One reader.old place end) }
     ensures stays { reader.new ≡ reader.old }
 {
     let (name, after) = reader.read(alloc, place)?;
@@ -70,7 +72,8 @@ fn one_of(
 
 #[tactic(auto, unfolding(crate::specs::Reading::content_by))]
 fn one_address(reader: &NameReader<'_>, place: usize, end: usize) -> Result<Content, NameStop>
-    ensures { ReturnsRead (λ x. x) result (content_by Form.Address reader.now place end) }
+    ensures { ReturnsRead (λ x. x) result
+        (content_by Form.Address reader.now place end) }
 {
     let (address, after) = u32_at(reader, place)?;
     if after != end {
@@ -86,7 +89,8 @@ fn soa_of(
     place: usize,
     end: usize,
 ) -> Result<Content, NameStop>
-    ensures reads { ReturnsRead (λ x. x) result (content_by Form.Soa reader.old place end) }
+    ensures reads { ReturnsRead (λ x. x) result
+        (content_by Form.Soa reader.old place end) }
     ensures stays { reader.new ≡ reader.old }
 {
     let (first, place) = reader.read(alloc, place)?;
@@ -105,7 +109,8 @@ fn two_of(
     place: usize,
     end: usize,
 ) -> Result<Content, NameStop>
-    ensures reads { ReturnsRead (λ x. x) result (content_by Form.Two reader.old place end) }
+    ensures reads { ReturnsRead (λ x. x) result
+        (content_by Form.Two reader.old place end) }
     ensures stays { reader.new ≡ reader.old }
 {
     let (first, place) = reader.read(alloc, place)?;
@@ -123,7 +128,8 @@ fn mx_of(
     place: usize,
     end: usize,
 ) -> Result<Content, NameStop>
-    ensures reads { ReturnsRead (λ x. x) result (content_by Form.Mx reader.old place end) }
+    ensures reads { ReturnsRead (λ x. x) result
+        (content_by Form.Mx reader.old place end) }
     ensures stays { reader.new ≡ reader.old }
 {
     let (preference, place) = u16_at(reader, place)?;
@@ -142,7 +148,8 @@ fn rest_of(
     end: usize,
 ) -> Result<Content, NameStop>
     requires { place ≤ end }
-    ensures { ReturnsRead (λ x. x) result (content_by Form.Octets reader.now place end) }
+    ensures { ReturnsRead (λ x. x) result
+        (content_by Form.Octets reader.now place end) }
 {
     let (octets, after) = octets_of(alloc, reader, place, end - place)?;
     if after != end {
@@ -159,7 +166,8 @@ fn content_of(
     end: usize,
 ) -> Result<Content, NameStop>
     requires { place ≤ end }
-    ensures reads { ReturnsRead (λ x. x) result (content_by form reader.old place end) }
+    ensures reads { ReturnsRead (λ x. x) result
+        (content_by form reader.old place end) }
     ensures stays { reader.new ≡ reader.old }
 {
     match form {
@@ -174,7 +182,8 @@ fn content_of(
 
 /// The place after so many octets, where they are there.
 fn skip(reader: &NameReader<'_>, place: usize, count: usize) -> Result<usize, NameStop>
-    ensures { ReturnsRead (λ after. (take count (drop place reader.now), after)) result (octets_at reader.now place count) }
+    ensures { ReturnsRead (λ after. (take count (drop place reader.now), after))
+        result (octets_at reader.now place count) }
 {
     let message = reader.message();
     if place > message.len() || message.len() - place < count {
@@ -189,7 +198,8 @@ fn resource_of(
     reader: &mut NameReader<'_>,
     place: usize,
 ) -> Result<(Resource, usize), NameStop>
-    ensures reads { ReturnsRead (λ x. (x.0, x.1)) result (resource_at reader.old place) }
+    ensures reads { ReturnsRead (λ x. (x.0, x.1)) result
+        (resource_at reader.old place) }
     ensures stays { reader.new ≡ reader.old }
 {
     let (name, place) = reader.read(alloc, place)?;
@@ -218,7 +228,8 @@ fn resources_of(
     reader: &mut NameReader<'_>,
     place: usize,
 ) -> Result<(Vec<Resource>, usize), NameStop>
-    ensures reads { ReturnsRead (λ x. (x.0.items, x.1)) result (resources_at count reader.old place) }
+    ensures reads { ReturnsRead (λ x. (x.0.items, x.1)) result
+        (resources_at count reader.old place) }
     ensures stays { reader.new ≡ reader.old }
 {
     let mut resources = Vec::new(alloc);
@@ -238,7 +249,8 @@ fn list_of(
     reader: &mut NameReader<'_>,
     place: usize,
 ) -> Result<(Resources, usize), NameStop>
-    ensures reads { ReturnsRead (λ x. (x.0, x.1)) result (resources_at count reader.old place) }
+    ensures reads { ReturnsRead (λ x. (x.0, x.1)) result
+        (resources_at count reader.old place) }
     ensures stays { reader.new ≡ reader.old }
 {
     if count == 0 {
@@ -254,7 +266,8 @@ fn question_of(
     reader: &mut NameReader<'_>,
     place: usize,
 ) -> Result<(Question, usize), NameStop>
-    ensures reads { ReturnsRead (λ x. (x.0, x.1)) result (question_at reader.old place) }
+    ensures reads { ReturnsRead (λ x. (x.0, x.1)) result
+        (question_at reader.old place) }
     ensures stays { reader.new ≡ reader.old }
 {
     let (name, place) = reader.read(alloc, place)?;
@@ -270,7 +283,8 @@ fn questions_of(
     reader: &mut NameReader<'_>,
     place: usize,
 ) -> Result<(Option<Question>, usize), NameStop>
-    ensures reads { ReturnsRead (λ x. (x.0, x.1)) result (questions_at count reader.old place) }
+    ensures reads { ReturnsRead (λ x. (x.0, x.1)) result
+        (questions_at count reader.old place) }
     ensures stays { reader.new ≡ reader.old }
 {
     if count == 0 {
@@ -315,7 +329,10 @@ fn message_of(alloc: Global, reader: &mut NameReader<'_>) -> Result<Message, Nam
 /// octets behind the last record, or a place with no name. Or data don't end where their length says.
 pub fn read_message(alloc: Global, octets: &[u8]) -> Result<Message, NameStop>
     ensures found { IfOk result (λ m. IsMessage octets.now m) }
-    ensures none { result ≡ Err NameStop.BadDns → (m : Message) → IsMessage octets.now m → ⊥ }
+    ensures none { result ≡ Err NameStop.BadDns
+        → (m : Message)
+        → IsMessage octets.now m
+        → ⊥ }
     ensures exact { ReturnsRead (λ m. m) result (message_at octets.now) }
     // It has the form that a message needs to be written.
     ensures suits { IfOk result MessageSuits }

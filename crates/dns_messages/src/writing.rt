@@ -38,7 +38,8 @@ fn put_two<'a>(
     first: &'a Name,
     second: &'a Name,
 ) -> Result<(), OutOfMemory>
-    ensures text { OnOk result (writer.new ≡ wrote writer.old (name first.now ⨟ name second.now)) }
+    ensures text { OnOk result
+        (writer.new ≡ wrote writer.old (name first.now ⨟ name second.now)) }
     ensures names { OnOk result (IsName first.now × IsName second.now) }
 {
     writer.put_name(first)?;
@@ -52,7 +53,8 @@ fn put_soa<'a>(
     second: &'a Name,
     octets: &[u8],
 ) -> Result<(), OutOfMemory>
-    ensures text { OnOk result (writer.new ≡ wrote writer.old (name first.now ⨟ name second.now ⨟ put octets.now)) }
+    ensures text { OnOk result (writer.new
+        ≡ wrote writer.old (name first.now ⨟ name second.now ⨟ put octets.now)) }
     ensures names { OnOk result (IsName first.now × IsName second.now) }
 {
     writer.put_name(first)?;
@@ -66,7 +68,8 @@ fn put_mx<'a>(
     preference: u16,
     exchange: &'a Name,
 ) -> Result<(), OutOfMemory>
-    ensures text { OnOk result (writer.new ≡ wrote writer.old (put (big_bytes 2 preference) ⨟ name exchange.now)) }
+    ensures text { OnOk result (writer.new
+        ≡ wrote writer.old (put (big_bytes 2 preference) ⨟ name exchange.now)) }
     ensures names { OnOk result (IsName exchange.now) }
 {
     put_u16(writer, preference)?;
@@ -75,7 +78,8 @@ fn put_mx<'a>(
 }
 
 fn put_content<'a>(writer: &mut NameWriter<'a>, content: &'a Content) -> Result<(), OutOfMemory>
-    ensures text { OnOk result (writer.new ≡ wrote writer.old (content_written content.now)) }
+    ensures text { OnOk result
+        (writer.new ≡ wrote writer.old (content_written content.now)) }
     ensures fits { OnOk result (ContentFits content.now) }
 {
     match content {
@@ -90,7 +94,8 @@ fn put_content<'a>(writer: &mut NameWriter<'a>, content: &'a Content) -> Result<
 
 /// The content behind its length.
 fn put_sized<'a>(writer: &mut NameWriter<'a>, content: &'a Content) -> Result<(), WriteStop>
-    ensures text { Writes result writer.old writer.new (sized (content_written content.now)) }
+    ensures text { Writes result writer.old writer.new
+        (sized (content_written content.now)) }
     ensures fits { OnOk result (ContentFits content.now) }
     ensures short { OnOk result (length writer.new.octets < 2 ^ 16) }
 {
@@ -106,7 +111,8 @@ fn put_sized<'a>(writer: &mut NameWriter<'a>, content: &'a Content) -> Result<()
 }
 
 fn put_head<'a>(writer: &mut NameWriter<'a>, resource: &'a Resource) -> Result<(), OutOfMemory>
-    ensures text { OnOk result (writer.new ≡ wrote writer.old (head_written resource.now)) }
+    ensures text { OnOk result
+        (writer.new ≡ wrote writer.old (head_written resource.now)) }
     ensures name { OnOk result (IsName resource.now.name) }
     ensures kind { resource.now.kind < 2 ^ 16 }
     ensures class { resource.now.class < 2 ^ 16 }
@@ -121,7 +127,8 @@ fn put_head<'a>(writer: &mut NameWriter<'a>, resource: &'a Resource) -> Result<(
 }
 
 fn put_resource<'a>(writer: &mut NameWriter<'a>, resource: &'a Resource) -> Result<(), WriteStop>
-    ensures text { Writes result writer.old writer.new (resource_written resource.now) }
+    ensures text { Writes result writer.old writer.new
+        (resource_written resource.now) }
     ensures fits { OnOk result (ResourceFits resource.now) }
 {
     put_head(writer, resource)?;
@@ -133,7 +140,8 @@ fn put_resources<'a>(
     writer: &mut NameWriter<'a>,
     resources: &'a [Resource],
 ) -> Result<(), WriteStop>
-    ensures text { Writes result writer.old writer.new (resources_written resources.now) }
+    ensures text { Writes result writer.old writer.new
+        (resources_written resources.now) }
     ensures fits { OnOk result (AllByRecursion ResourceFits resources.now) }
 {
     for resource in resources {
@@ -146,7 +154,10 @@ fn put_one_question<'a>(
     writer: &mut NameWriter<'a>,
     question: &'a Question,
 ) -> Result<(), OutOfMemory>
-    ensures text { OnOk result (writer.new ≡ wrote writer.old (name question.now.name ⨟ put (big_bytes 2 question.now.kind) ⨟ put (big_bytes 2 question.now.class))) }
+    ensures text { OnOk result (writer.new
+        ≡ wrote writer.old (name question.now.name
+        ⨟ put (big_bytes 2 question.now.kind)
+        ⨟ put (big_bytes 2 question.now.class))) }
     ensures name { OnOk result (IsName question.now.name) }
     ensures kind { question.now.kind < 2 ^ 16 }
     ensures class { question.now.class < 2 ^ 16 }
@@ -162,7 +173,8 @@ fn put_question<'a>(
     writer: &mut NameWriter<'a>,
     question: &'a Option<Question>,
 ) -> Result<(), OutOfMemory>
-    ensures text { OnOk result (writer.new ≡ wrote writer.old (questions_written question.now)) }
+    ensures text { OnOk result
+        (writer.new ≡ wrote writer.old (questions_written question.now)) }
     ensures fits { OnOk result (IfSome question.now QuestionFits) }
 {
     match question {
@@ -182,8 +194,14 @@ fn asked(question: &Option<Question>) -> u16
 
 /// Whether the records of each part can be counted in 16 bits.
 fn can_be_counted(message: &Message) -> bool
-    ensures few { result ≡ true → (length message.now.answers < 2 ^ 16) × (length message.now.authority < 2 ^ 16) × (length message.now.additional < 2 ^ 16) }
-    ensures many { result ≡ false → 2 ^ 16 ≤ length message.now.answers + length message.now.authority + length message.now.additional }
+    ensures few { result ≡ true
+        → (length message.now.answers < 2 ^ 16)
+        × (length message.now.authority < 2 ^ 16)
+        × (length message.now.additional < 2 ^ 16) }
+    ensures many { result ≡ false
+        → 2 ^ 16
+        ≤ length message.now.answers + length message.now.authority
+        + length message.now.additional }
 {
     message.answers.items().len() <= 65_535
         && message.authority.items().len() <= 65_535
@@ -194,7 +212,8 @@ fn put_header(writer: &mut NameWriter, message: &Message) -> Result<(), OutOfMem
     requires answers { length message.now.answers < 2 ^ 16 }
     requires authority { length message.now.authority < 2 ^ 16 }
     requires additional { length message.now.additional < 2 ^ 16 }
-    ensures text { OnOk result (writer.new ≡ wrote writer.old (header_written message.now)) }
+    ensures text { OnOk result
+        (writer.new ≡ wrote writer.old (header_written message.now)) }
     ensures id { message.now.id < 2 ^ 16 }
     ensures flags { message.now.flags < 2 ^ 16 }
 {
@@ -271,7 +290,8 @@ pub fn write_message(alloc: Global, message: &Message) -> Result<Vec<u8>, WriteS
     requires { MessageSuits message.now }
     ensures written { IfOk result (λ octets. octets.items ≡ spelling message.now) }
     ensures short { IfOk result (λ octets. length octets.items < 2 ^ 16) }
-    ensures long { result ≡ Err WriteStop.TooLong → 2 ^ 16 ≤ length (spelling message.now) }
+    ensures long { result ≡ Err WriteStop.TooLong
+        → 2 ^ 16 ≤ length (spelling message.now) }
     // It reads back as the message.
     ensures again { IfOk result (λ octets. IsMessage octets.items message.now) }
 {

@@ -25,7 +25,9 @@ pub(crate) const UNKNOWN: Known = Known {
 
 /// What is known at a place.
 pub(crate) fn known_at(known: &[Known], place: usize) -> Option<Known>
-    ensures known { (message kept : List ℕ) → AreKnown message kept known.now → IfSome result (λ k. Knows message kept place k) }
+    ensures known { (message kept : List ℕ)
+        → AreKnown message kept known.now
+        → IfSome result (λ k. Knows message kept place k) }
     ensures place { IfSome result (λ _. place < length known.now) }
 {
     if place >= known.len() {
@@ -37,7 +39,10 @@ pub(crate) fn known_at(known: &[Known], place: usize) -> Option<Known>
 
 /// Puts down what is known at a place.
 pub(crate) fn put(known: &mut Vec<Known>, place: usize, one: Known)
-    ensures known { (message kept : List ℕ) → Knows message kept place one → AreKnown message kept known.old.items → AreKnown message kept known.new.items }
+    ensures known { (message kept : List ℕ)
+        → Knows message kept place one
+        → AreKnown message kept known.old.items
+        → AreKnown message kept known.new.items }
     ensures len { length known.new.items ≡ length known.old.items }
 {
     if place < known.len() {
@@ -48,9 +53,13 @@ pub(crate) fn put(known: &mut Vec<Known>, place: usize, one: Known)
 /// What is known at the place of a label or a pointer, by what is known behind it, where the kept octets of both end there.
 pub(crate) fn before(message: &[u8], place: usize, behind: Known, end: usize) -> Known
     requires few { length message.now ≤ 65535 }
-    requires fits { (label : List ℕ) → piece_at message.now place ≡ Label label → behind.count + 1 + length label ≤ 254 }
+    requires fits { (label : List ℕ)
+        → piece_at message.now place ≡ Label label
+        → behind.count + 1 + length label ≤ 254 }
     requires below { (to : ℕ) → piece_at message.now place ≡ Pointer to → to < place }
-    requires room { (label : List ℕ) → piece_at message.now place ≡ Label label → behind.count + 1 + length label ≤ end }
+    requires room { (label : List ℕ)
+        → piece_at message.now place ≡ Label label
+        → behind.count + 1 + length label ≤ end }
     ensures { result ≡ known_by (piece_at message.now place) place end behind }
 {
     match piece_at(message, place) {

@@ -5,7 +5,10 @@ ghost use Rattle.dns_names.specs.Texts.{NamesReadBack, FoundIsLowest};
 
 /// A place has at most one name.
 pub fn one_name()
-    ensures { (message : List ℕ) (place : ℕ) (ls ks : List (List ℕ)) (after past : ℕ) → NameAt message place ls after → NameAt message place ks past → (ls ≡ ks) × (after ≡ past) }
+    ensures { (message : List ℕ) (place : ℕ) (ls ks : List (List ℕ)) (after past : ℕ)
+        → NameAt message place ls after
+        → NameAt message place ks past
+        → (ls ≡ ks) × (after ≡ past) }
 {}
 
 /// A name that was spelled reads back, whatever was written before it and whatever follows it.

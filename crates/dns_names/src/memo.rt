@@ -51,7 +51,10 @@ fn keep_end(
     end: Known,
 ) -> Result<(), AllocError>
     requires { end.from + end.count ≤ length kept.old.items }
-    ensures items { OnOk result (kept.new.items ≡ kept.old.items ++ (if nat_lt base (length kept.old.items) then octets_of kept.old.items end else [])) }
+    ensures items { OnOk result (kept.new.items
+        ≡ kept.old.items
+        ++ (if nat_lt base (length kept.old.items) then octets_of kept.old.items
+        end else [])) }
     ensures more { (more : List ℕ) × (kept.new.items ≡ kept.old.items ++ more) }
 {
     if base < kept.len() {
@@ -67,7 +70,10 @@ fn find(message: &[u8], memo: &mut Memo, place: usize) -> Result<Known, NameStop
     requires { IsMemo message.now memo.old }
     ensures memo { IsMemo message.now memo.new }
     ensures found { IfOk result (λ k. Here message.now memo.new.kept.items place k) }
-    ensures none { result ≡ Err NameStop.BadDns → (labels : List (List ℕ)) (after : ℕ) → NameAt message.now place labels after → ⊥ }
+    ensures none { result ≡ Err NameStop.BadDns
+        → (labels : List (List ℕ)) (after : ℕ)
+        → NameAt message.now place labels after
+        → ⊥ }
 {
     let base = memo.kept.len();
     let mut known = walk(message, &memo.known, &mut memo.path, &mut memo.kept, place)?;
@@ -90,7 +96,10 @@ pub(crate) fn read_on(
     requires { IsMemo message.now memo.old }
     ensures memo { IsMemo message.now memo.new }
     ensures found { IfOk result (λ x. NameAt message.now place x.0 x.1) }
-    ensures none { result ≡ Err NameStop.BadDns → (labels : List (List ℕ)) (after : ℕ) → NameAt message.now place labels after → ⊥ }
+    ensures none { result ≡ Err NameStop.BadDns
+        → (labels : List (List ℕ)) (after : ℕ)
+        → NameAt message.now place labels after
+        → ⊥ }
 {
     let known = find(message, memo, place)?;
     let end = known.from + known.count as usize;

@@ -59,7 +59,10 @@ pub(crate) fn name_of(
     place: usize,
 ) -> Result<(Name, usize), NameStop>
     ensures found { IfOk result (λ x. NameAt message.now place x.0 x.1) }
-    ensures none { result ≡ Err NameStop.BadDns → (labels : List (List ℕ)) (after : ℕ) → NameAt message.now place labels after → ⊥ }
+    ensures none { result ≡ Err NameStop.BadDns
+        → (labels : List (List ℕ)) (after : ℕ)
+        → NameAt message.now place labels after
+        → ⊥ }
 {
     let mut octets = Vec::with_capacity(alloc, ROOM)?;
     let mut start = place;
@@ -101,7 +104,10 @@ pub(crate) fn name_of(
 /// more than 255 octets when written out.
 pub fn read_name(alloc: Global, message: &[u8], place: usize) -> Result<(Name, usize), NameStop>
     ensures found { IfOk result (λ x. NameAt message.now place x.0 x.1) }
-    ensures none { result ≡ Err NameStop.BadDns → (labels : List (List ℕ)) (after : ℕ) → NameAt message.now place labels after → ⊥ }
+    ensures none { result ≡ Err NameStop.BadDns
+        → (labels : List (List ℕ)) (after : ℕ)
+        → NameAt message.now place labels after
+        → ⊥ }
     ensures exact { ReturnsRead (λ x. (x.0, x.1)) result (name_at message.now place) }
 {
     name_of(alloc, message, place)

@@ -51,8 +51,12 @@ impl<'a> NameReader<'a> {
     pub fn read(&mut self, alloc: Global, place: usize) -> Result<(Name, usize), NameStop>
         ensures stays { self.new ≡ self.old }
         ensures found { IfOk result (λ x. NameAt self.old place x.0 x.1) }
-        ensures none { result ≡ Err NameStop.BadDns → (labels : List (List ℕ)) (after : ℕ) → NameAt self.old place labels after → ⊥ }
-        ensures exact { ReturnsRead (λ x. (x.0, x.1)) result (name_at self.old place) }
+        ensures none { result ≡ Err NameStop.BadDns
+            → (labels : List (List ℕ)) (after : ℕ)
+            → NameAt self.old place labels after
+            → ⊥ }
+        ensures exact { ReturnsRead (λ x. (x.0, x.1)) result
+            (name_at self.old place) }
     {
         match &mut self.memo {
             Some(memo) => read_on(alloc, self.message, memo, place),

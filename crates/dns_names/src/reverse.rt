@@ -28,7 +28,8 @@ fn is_zone(zone: &[u8], top: &[u8]) -> bool
 
 #[tactic(auto, unfolding(crate::specs::Reverse::full_reverse))]
 fn address_by(d: &[u8], c: &[u8], b: &[u8], a: &[u8], zone: &[u8], top: &[u8]) -> Option<Addr>
-    ensures { option_map (λ address. address.0) result ≡ full_reverse (d.now ∷ c.now ∷ b.now ∷ a.now ∷ zone.now ∷ top.now ∷ []) }
+    ensures { option_map (λ address. address.0) result
+        ≡ full_reverse (d.now ∷ c.now ∷ b.now ∷ a.now ∷ zone.now ∷ top.now ∷ []) }
 {
     let d = read_number(d)?;
     let c = read_number(c)?;
@@ -86,7 +87,8 @@ fn behind_label(octets: &[u8]) -> &[u8]
 
 /// Writes a number as a label.
 fn put_number(octets: &mut Vec<u8>, number: u8) -> Result<(), AllocError>
-    ensures { OnOk result (octets.new.items ≡ octets.old.items ++ (length (decimal number) ∷ decimal number)) }
+    ensures { OnOk result (octets.new.items
+        ≡ octets.old.items ++ (length (decimal number) ∷ decimal number)) }
 {
     let mut digits = Buffer::new();
     let label = digits.format(number).as_bytes();
@@ -97,7 +99,8 @@ fn put_number(octets: &mut Vec<u8>, number: u8) -> Result<(), AllocError>
 
 /// Writes the four numbers of an address, the low octet first.
 fn put_numbers(octets: &mut Vec<u8>, address: u32) -> Result<(), AllocError>
-    ensures { OnOk result (octets.new.items ≡ octets.old.items ++ spelled (numbers address)) }
+    ensures { OnOk result
+        (octets.new.items ≡ octets.old.items ++ spelled (numbers address)) }
 {
     put_number(octets, (address % 256) as u8)?;
     put_number(octets, (address / 256 % 256) as u8)?;

@@ -13,7 +13,8 @@ fn may_end(found: Known, start: usize, count: usize) -> bool
     requires { count ≤ 254 }
     ensures low { result ≡ true → found.start ≤ start }
     ensures short { result ≡ true → count + found.count ≤ 254 }
-    ensures no { result ≡ false → (start < found.start) ⊎ (254 < count + found.count) }
+    ensures no { result ≡ false
+        → (start < found.start) ⊎ (254 < count + found.count) }
 {
     found.start as usize <= start && count + found.count as usize <= 254
 }
@@ -23,7 +24,8 @@ fn may_end(found: Known, start: usize, count: usize) -> bool
 fn keep(kept: &mut Vec<u8>, message: &[u8], from: usize, at: usize) -> Result<(), AllocError>
     requires order { from ≤ at }
     requires inside { at ≤ length message.now }
-    ensures items { OnOk result (kept.new.items ≡ kept.old.items ++ take (at - from) (drop from message.now)) }
+    ensures items { OnOk result (kept.new.items
+        ≡ kept.old.items ++ take (at - from) (drop from message.now)) }
     ensures more { (more : List ℕ) × (kept.new.items ≡ kept.old.items ++ more) }
 {
     if from < at {
@@ -44,8 +46,12 @@ pub(crate) fn walk(
     requires few { length message.now ≤ 65535 }
     requires places { length known.now ≤ length message.now }
     requires known { AreKnown message.now kept.old.items known.now }
-    ensures found { IfOk result (λ k. Joins message.now kept.old.items kept.new.items place path.new.items k) }
-    ensures none { result ≡ Err NameStop.BadDns → (labels : List (List ℕ)) (after : ℕ) → NameAt message.now place labels after → ⊥ }
+    ensures found { IfOk result (λ k. Joins message.now kept.old.items kept.new.items
+        place path.new.items k) }
+    ensures none { result ≡ Err NameStop.BadDns
+        → (labels : List (List ℕ)) (after : ℕ)
+        → NameAt message.now place labels after
+        → ⊥ }
     ensures more { (more : List ℕ) × (kept.new.items ≡ kept.old.items ++ more) }
 {
     path.clear();

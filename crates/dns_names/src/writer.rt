@@ -25,8 +25,10 @@ fn remember<'a>(
 ) -> Result<(), AllocError>
     requires absent { place_in places.old.entries octets.now ≡ None }
     requires index { IsIndex places.old.entries place }
-    ensures starts { OnOk result (starts_in places.new.entries ≡ starts_in places.old.entries ++ with_start place octets.now []) }
-    ensures kept { OnErr result (starts_in places.new.entries ≡ starts_in places.old.entries) }
+    ensures starts { OnOk result (starts_in places.new.entries
+        ≡ starts_in places.old.entries ++ with_start place octets.now []) }
+    ensures kept { OnErr result
+        (starts_in places.new.entries ≡ starts_in places.old.entries) }
     ensures index { IsIndex places.new.entries (place + 1) }
 {
     if place < 16_384 {
@@ -55,9 +57,16 @@ fn put_labels<'a>(
 ) -> Result<(), AllocError>
     requires spelled { IsSpelled name.now (labels_in name.now) }
     requires index { IsIndex places.old.entries (length out.old.items) }
-    ensures octets { OnOk result (out.new.items ≡ out.old.items ++ (spell (starts_in places.old.entries) (length out.old.items) (labels_in name.now)).octets) }
-    ensures starts { OnOk result (starts_in places.new.entries ≡ starts_in places.old.entries ++ (spell (starts_in places.old.entries) (length out.old.items) (labels_in name.now)).starts) }
-    ensures behind { GrewBy (starts_in places.old.entries) out.old.items (starts_in places.new.entries) out.new.items }
+    ensures octets { OnOk result (out.new.items
+        ≡ out.old.items
+        ++ (spell (starts_in places.old.entries) (length out.old.items)
+        (labels_in name.now)).octets) }
+    ensures starts { OnOk result (starts_in places.new.entries
+        ≡ starts_in places.old.entries
+        ++ (spell (starts_in places.old.entries) (length out.old.items)
+        (labels_in name.now)).starts) }
+    ensures behind { GrewBy (starts_in places.old.entries) out.old.items
+        (starts_in places.new.entries) out.new.items }
     ensures index { IsIndex places.new.entries (length out.new.items) }
 {
     let mut rest = name;
@@ -125,7 +134,8 @@ impl<'a> NameWriter<'a> {
 
     /// Writes octets that are no name, or nothing where memory runs out.
     pub fn put_octets(&mut self, octets: &[u8]) -> Result<(), OutOfMemory>
-        ensures text { OnOk result (self.new ≡ spelling.put_octets self.old octets.now) }
+        ensures text { OnOk result
+            (self.new ≡ spelling.put_octets self.old octets.now) }
         ensures kept { OnErr result (self.new ≡ self.old) }
     {
         self.octets.extend_from_slice(octets)?;

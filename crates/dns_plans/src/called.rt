@@ -18,7 +18,8 @@ fn all_addresses(
     endpoints: &Endpoints,
     named: &[Addr],
 ) -> Result<Vec<Addr>, OutOfMemory>
-    ensures { IfOk result (λ addresses. addresses.items ≡ all_addresses endpoints.now named.now) }
+    ensures { IfOk result
+        (λ addresses. addresses.items ≡ all_addresses endpoints.now named.now) }
 {
     let mut addresses = Vec::with_capacity(alloc, named.len() + 2)?;
     addresses.push(endpoints.source)?;
@@ -30,8 +31,11 @@ fn all_addresses(
 /// Addresses beside their images.
 fn beside(alloc: Global, named: &[Addr], images: &[Option<Addr>]) -> Result<Vec<Entry>, OutOfMemory>
     requires { length images.now ≡ length named.now }
-    ensures named { IfOk result (λ entries. map (λ (entry : Entry). entry.0) entries.items ≡ named.now) }
-    ensures images { (called : Addr → Option Addr) → images.now ≡ map called named.now → IfOk result (λ entries. entries.items ≡ beside called named.now) }
+    ensures named { IfOk result
+        (λ entries. map (λ (entry : Entry). entry.0) entries.items ≡ named.now) }
+    ensures images { (called : Addr → Option Addr)
+        → images.now ≡ map called named.now
+        → IfOk result (λ entries. entries.items ≡ beside called named.now) }
 {
     let mut entries = Vec::with_capacity(alloc, named.len())?;
     for (place, address) in named.iter().enumerate() {
@@ -49,10 +53,18 @@ pub fn called_beside(
     endpoints: &Endpoints,
     named: &[Addr],
 ) -> Result<(Vec<Entry>, bool), OutOfMemory>
-    requires bound { AreBound table.now endpoints.now.side (all_addresses endpoints.now named.now) }
-    ensures room { IfOk result (λ called. called.1 ≡ not (nat_lt (free table.now (other endpoints.now.side)) (needed table.now endpoints.now.side (all_addresses endpoints.now named.now)))) }
-    ensures named { IfOk result (λ called. map (λ (entry : Entry). entry.0) called.0.items ≡ named.now) }
-    ensures images { (uses : List Use) → AreUsesOf endpoints.now.side (all_addresses endpoints.now named.now) uses → IfOk result (λ called. called.1 ≡ true → called.0.items ≡ beside (called_after table.now uses endpoints.now.side) named.now) }
+    requires bound { AreBound table.now endpoints.now.side
+        (all_addresses endpoints.now named.now) }
+    ensures room { IfOk result (λ called. called.1
+        ≡ not (nat_lt (free table.now (other endpoints.now.side)) (needed table.now
+        endpoints.now.side (all_addresses endpoints.now named.now)))) }
+    ensures named { IfOk result
+        (λ called. map (λ (entry : Entry). entry.0) called.0.items ≡ named.now) }
+    ensures images { (uses : List Use)
+        → AreUsesOf endpoints.now.side (all_addresses endpoints.now named.now) uses
+        → IfOk result (λ called. called.1 ≡ true
+        → called.0.items
+        ≡ beside (called_after table.now uses endpoints.now.side) named.now) }
 {
     let addresses = all_addresses(alloc, endpoints, named)?;
     let mut images = vec![in alloc; None; addresses.len()]?;

@@ -38,8 +38,10 @@ pub fn entered_all(
     entries: &[Entry],
     named: &[Entry],
 ) -> Result<Option<Vec<Entry>>, OutOfMemory>
-    ensures few { IfOk result (λ after. is_none after ≡ nat_lt most_entries (length (entered_all entries.now named.now))) }
-    ensures list { IfOk result (λ after. IfSome after (λ list. list.items ≡ entered_all entries.now named.now)) }
+    ensures few { IfOk result (λ after. is_none after
+        ≡ nat_lt most_entries (length (entered_all entries.now named.now))) }
+    ensures list { IfOk result (λ after. IfSome after
+        (λ list. list.items ≡ entered_all entries.now named.now)) }
 {
     let mut list = Vec::from_slice(alloc, entries)?;
     for one in named {
@@ -68,7 +70,8 @@ fn is_new_unbound(table: &Table, side: Side, entries: &[Entry], address: Addr) -
 
 /// One of the addresses isn't listed, is of the realm's pool and stands for no host.
 pub fn has_new_unbound(table: &Table, side: Side, entries: &[Entry], named: &[Addr]) -> bool
-    ensures { result ≡ list_any (is_new_unbound table.now side entries.now) named.now }
+    ensures { result
+        ≡ list_any (is_new_unbound table.now side entries.now) named.now }
 {
     named
         .iter()

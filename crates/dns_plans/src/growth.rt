@@ -11,7 +11,8 @@ use std::alloc::Global;
 
 /// One has grown too much already, or a unit would.
 fn grows_or(alloc: Global, entries: &[Entry], grows: bool, unit: &[u8]) -> Result<bool, OutOfMemory>
-    ensures { IfOk result (λ more. more ≡ (grows || grows_too_much entries.now unit.now)) }
+    ensures { IfOk result
+        (λ more. more ≡ (grows || grows_too_much entries.now unit.now)) }
 {
     if grows {
         return Ok(true);
@@ -21,7 +22,8 @@ fn grows_or(alloc: Global, entries: &[Entry], grows: bool, unit: &[u8]) -> Resul
 
 /// Whether one of the whole units of octets would have more than one and a half times its octets by a list.
 pub fn one_grows(alloc: Global, entries: &[Entry], octets: &[u8]) -> Result<bool, OutOfMemory>
-    ensures { IfOk result (λ grows. grows ≡ list_any (grows_too_much entries.now) (whole_units octets.now)) }
+    ensures { IfOk result (λ grows. grows
+        ≡ list_any (grows_too_much entries.now) (whole_units octets.now)) }
 {
     let mut grows = false;
     let mut at = 0;

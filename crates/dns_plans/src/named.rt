@@ -18,7 +18,8 @@ fn append(named: &mut Vec<Addr>, more: &[Addr]) -> Result<(), OutOfMemory>
 
 /// Appends the addresses of a unit.
 fn add_unit(alloc: Global, named: &mut Vec<Addr>, unit: &[u8]) -> Result<(), UnitStop>
-    ensures named { IfOk result (λ _. named.new.items ≡ named.old.items ++ addresses_in (unit.now ∷ [])) }
+    ensures named { IfOk result
+        (λ _. named.new.items ≡ named.old.items ++ addresses_in (unit.now ∷ [])) }
     ensures good { IfOk result (λ _. is_bad unit.now ≡ false) }
     ensures bad { result ≡ Err UnitStop.BadUnit → is_bad unit.now ≡ true }
 {
@@ -31,8 +32,10 @@ fn add_unit(alloc: Global, named: &mut Vec<Addr>, unit: &[u8]) -> Result<(), Uni
 /// one of the units names too much or holds no message.
 pub fn named_in_units(alloc: Global, octets: &[u8]) -> Result<Vec<Addr>, UnitStop>
     ensures named { IfOk result (λ named. named.items ≡ names_in octets.now) }
-    ensures good { IfOk result (λ _. list_any is_bad (whole_units octets.now) ≡ false) }
-    ensures bad { result ≡ Err UnitStop.BadUnit → list_any is_bad (whole_units octets.now) ≡ true }
+    ensures good { IfOk result
+        (λ _. list_any is_bad (whole_units octets.now) ≡ false) }
+    ensures bad { result ≡ Err UnitStop.BadUnit
+        → list_any is_bad (whole_units octets.now) ≡ true }
 {
     let mut named = Vec::new(alloc);
     let mut at = 0;

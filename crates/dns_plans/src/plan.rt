@@ -44,13 +44,30 @@ pub fn plan_units(
     entries: &[Entry],
     octets: &[u8],
 ) -> Result<UnitPlan, PlanStop>
-    requires header { AreBound table.now endpoints.now.side (endpoints.now.source ∷ endpoints.now.destination ∷ []) }
+    requires header { AreBound table.now endpoints.now.side
+        (endpoints.now.source ∷ endpoints.now.destination ∷ []) }
     requires listed { IsListBound table.now endpoints.now.side entries.now }
-    ensures refused { (uses : List Use) → AreUsesOf endpoints.now.side (all_addresses endpoints.now (names_in octets.now)) uses → IfErr result (TellsFirst (first_that_holds (plan_tests table.now (called_after table.now uses endpoints.now.side) endpoints.now entries.now octets.now))) }
-    ensures passes { (uses : List Use) → AreUsesOf endpoints.now.side (all_addresses endpoints.now (names_in octets.now)) uses → IfOk result (λ _. first_that_holds (plan_tests table.now (called_after table.now uses endpoints.now.side) endpoints.now entries.now octets.now) ≡ None) }
+    ensures refused { (uses : List Use)
+        → AreUsesOf endpoints.now.side
+        (all_addresses endpoints.now (names_in octets.now)) uses
+        → IfErr result (TellsFirst (first_that_holds (plan_tests table.now
+        (called_after table.now uses endpoints.now.side) endpoints.now entries.now
+        octets.now))) }
+    ensures passes { (uses : List Use)
+        → AreUsesOf endpoints.now.side
+        (all_addresses endpoints.now (names_in octets.now)) uses
+        → IfOk result (λ _. first_that_holds (plan_tests table.now
+        (called_after table.now uses endpoints.now.side) endpoints.now
+        entries.now octets.now) ≡ None) }
     ensures named { IfOk result (λ plan. plan.named.items ≡ names_in octets.now) }
-    ensures entries { (uses : List Use) → AreUsesOf endpoints.now.side (all_addresses endpoints.now (names_in octets.now)) uses → IfOk result (λ plan. plan.entries.items ≡ beside (called_after table.now uses endpoints.now.side) (names_in octets.now)) }
-    ensures memory { result ≡ Err PlanStop.OutOfMemory → 1 ≤ length (whole_units octets.now) }
+    ensures entries { (uses : List Use)
+        → AreUsesOf endpoints.now.side
+        (all_addresses endpoints.now (names_in octets.now)) uses
+        → IfOk result (λ plan. plan.entries.items
+        ≡ beside (called_after table.now uses endpoints.now.side)
+        (names_in octets.now)) }
+    ensures memory { result ≡ Err PlanStop.OutOfMemory
+        → 1 ≤ length (whole_units octets.now) }
 {
     if unit_end(octets).is_none() {
         return plan_none(alloc, table, seen_addresses, endpoints, entries);
@@ -66,9 +83,12 @@ fn plan_none(
     endpoints: &Endpoints,
     entries: &[Entry],
 ) -> Result<UnitPlan, PlanStop>
-    requires header { AreBound table.now endpoints.now.side (endpoints.now.source ∷ endpoints.now.destination ∷ []) }
-    ensures refused { IfErr result (TellsFirst (first_that_holds (none_tests table.now endpoints.now entries.now))) }
-    ensures passes { IfOk result (λ _. first_that_holds (none_tests table.now endpoints.now entries.now) ≡ None) }
+    requires header { AreBound table.now endpoints.now.side
+        (endpoints.now.source ∷ endpoints.now.destination ∷ []) }
+    ensures refused { IfErr result (TellsFirst
+        (first_that_holds (none_tests table.now endpoints.now entries.now))) }
+    ensures passes { IfOk result (λ _. first_that_holds
+        (none_tests table.now endpoints.now entries.now) ≡ None) }
     ensures named { IfOk result (λ plan. plan.named.items ≡ []) }
     ensures entries { IfOk result (λ plan. plan.entries.items ≡ []) }
     ensures memory { result ≢ Err PlanStop.OutOfMemory }
@@ -95,12 +115,28 @@ fn plan_some(
     entries: &[Entry],
     octets: &[u8],
 ) -> Result<UnitPlan, PlanStop>
-    requires header { AreBound table.now endpoints.now.side (endpoints.now.source ∷ endpoints.now.destination ∷ []) }
+    requires header { AreBound table.now endpoints.now.side
+        (endpoints.now.source ∷ endpoints.now.destination ∷ []) }
     requires listed { IsListBound table.now endpoints.now.side entries.now }
-    ensures refused { (uses : List Use) → AreUsesOf endpoints.now.side (all_addresses endpoints.now (names_in octets.now)) uses → IfErr result (TellsFirst (first_that_holds (plan_tests table.now (called_after table.now uses endpoints.now.side) endpoints.now entries.now octets.now))) }
-    ensures passes { (uses : List Use) → AreUsesOf endpoints.now.side (all_addresses endpoints.now (names_in octets.now)) uses → IfOk result (λ _. first_that_holds (plan_tests table.now (called_after table.now uses endpoints.now.side) endpoints.now entries.now octets.now) ≡ None) }
+    ensures refused { (uses : List Use)
+        → AreUsesOf endpoints.now.side
+        (all_addresses endpoints.now (names_in octets.now)) uses
+        → IfErr result (TellsFirst (first_that_holds (plan_tests table.now
+        (called_after table.now uses endpoints.now.side) endpoints.now entries.now
+        octets.now))) }
+    ensures passes { (uses : List Use)
+        → AreUsesOf endpoints.now.side
+        (all_addresses endpoints.now (names_in octets.now)) uses
+        → IfOk result (λ _. first_that_holds (plan_tests table.now
+        (called_after table.now uses endpoints.now.side) endpoints.now
+        entries.now octets.now) ≡ None) }
     ensures named { IfOk result (λ plan. plan.named.items ≡ names_in octets.now) }
-    ensures entries { (uses : List Use) → AreUsesOf endpoints.now.side (all_addresses endpoints.now (names_in octets.now)) uses → IfOk result (λ plan. plan.entries.items ≡ beside (called_after table.now uses endpoints.now.side) (names_in octets.now)) }
+    ensures entries { (uses : List Use)
+        → AreUsesOf endpoints.now.side
+        (all_addresses endpoints.now (names_in octets.now)) uses
+        → IfOk result (λ plan. plan.entries.items
+        ≡ beside (called_after table.now uses endpoints.now.side)
+        (names_in octets.now)) }
 {
     let named = match named_in_units(alloc, octets) {
         Ok(named) => named,

@@ -19,7 +19,8 @@ pub trait Session {
 
     /// Why a segment of the client, or else of the server, is refused; None where it passes.
     fn refusal(&self, from_client: bool, segment: &TcpView<'_>) -> Option<Refusal>
-        ensures { result ≡ rules.refusal from_client self.now (segment_in segment.now) };
+        ensures { result
+            ≡ rules.refusal from_client self.now (segment_in segment.now) };
 
     /// What the sequence number of a datagram that an ICMP error brings back was at the client, or else the server, that sent it.
     fn inner(&self, from_client: bool, sequence: u32) -> Option<u32>
@@ -37,13 +38,16 @@ pub trait Session {
 
     /// A copy of that list.
     fn entries(&self, alloc: Global, client: bool) -> Result<Vec<Entry>, OutOfMemory>
-        ensures { IfOk result (λ entries. entries.items ≡ rules.listed client self.now) };
+        ensures { IfOk result
+            (λ entries. entries.items ≡ rules.listed client self.now) };
 
     /// Puts the octets whose whole units a segment of the client, or else of the server, completes: a held rest and what goes on behind
     /// it, in a session of DNS. The segment must pass.
     fn put_octets(&self, from_client: bool, segment: &TcpView<'_>, octets: &mut UnitOctets)
-        requires passes { rules.refusal from_client self.now (segment_in segment.now) ≡ None }
-        ensures { whole_units octets.new ≡ rules.units from_client self.now (segment_in segment.now) };
+        requires passes { rules.refusal from_client self.now (segment_in segment.now)
+            ≡ None }
+        ensures { whole_units octets.new
+            ≡ rules.units from_client self.now (segment_in segment.now) };
 }
 
 /// A session that is tracked: its client's realm, the pair of its hosts, and the session itself.

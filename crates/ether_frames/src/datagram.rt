@@ -10,7 +10,8 @@ use gate_base::{Event, Link};
 /// The octets in which the datagram of an event's frame stands. An Ethernet frame that carries anything but IPv4, or has fewer
 /// than 14 octets, has none.
 pub fn octets_in<'a>(event: &Event<'a>) -> &'a [u8]
-    ensures { result.now ≡ octets_in (event_of event.now).link (event_of event.now).octets }
+    ensures { result.now
+        ≡ octets_in (event_of event.now).link (event_of event.now).octets }
 {
     match event.link {
         Link::Raw => event.octets,

@@ -9,7 +9,8 @@ pub(crate) const IPV4: u16 = 0x0800;
 /// Writes the head of a frame that carries IPv4 into the first 14 octets of a target, and leaves the rest.
 pub fn put_head(destination: &[u8; 6], source: &[u8; 6], target: &mut [u8])
     requires { 14 ≤ length target.old }
-    ensures { target.new ≡ ipv4_head destination.now source.now ++ drop 14 target.old }
+    ensures { target.new
+        ≡ ipv4_head destination.now source.now ++ drop 14 target.old }
 {
     let head = &mut target[..14];
     head[..6].copy_from_slice(destination);
@@ -19,5 +20,6 @@ pub fn put_head(destination: &[u8; 6], source: &[u8; 6], target: &mut [u8])
 
 /// A frame with the head that `put_head` writes is read with the type of IPv4 and with what follows that head.
 pub fn reads_back(destination: &[u8; 6], source: &[u8; 6], payload: &[u8])
-    ensures { read_frame (ipv4_head destination.now source.now ++ payload.now) ≡ Some (record { kind = ipv4_type; payload = payload.now }) }
+    ensures { read_frame (ipv4_head destination.now source.now ++ payload.now)
+        ≡ Some (record { kind = ipv4_type; payload = payload.now }) }
 {}

@@ -7,12 +7,12 @@ ghost use Rattle.event_steps.specs.Segments.{IsSegmentOf, AreCalled, Enters};
 ghost use Rattle.event_engine.specs.Engines.{Gives, IsStepped, IsUnstepped};
 
 use crate::stepped::Stepped;
+use dns_plans::{Entry, Session, Tracked};
 use gate_base::{OutOfMemory, Pair, Refusal};
 use gate_outbox::{Outbox, Scratch, Segment};
 use gate_payloads::Way;
 use std::alloc::Global;
 use tcp_segments::TcpView;
-use dns_plans::{Entry, Session, Tracked};
 
 /// The sessions of an engine: the gate's, which put datagrams, or the auditor's, which tell what is sent before it is cut.
 pub trait Engine: Session + Drop {
@@ -34,12 +34,16 @@ pub trait Engine: Session + Drop {
         initial: u32,
         mss: u16,
     ) -> Result<Self, OutOfMemory>
-        ensures { IfOk result (λ session. session ≡ Self.rules.made port pair initial mss) };
+        ensures { IfOk result
+            (λ session. session ≡ Self.rules.made port pair initial mss) };
 
     /// Why the first segment of a client is refused by the session that it makes; None where it passes.
     fn opening_refusal(alloc: Global, pair: Pair, segment: &TcpView<'_>) -> Option<Refusal>
         requires { length segment.now.payload ≤ 65535 }
-        ensures { result ≡ Self.rules.refusal true (Self.rules.made segment.now.destination_port pair segment.now.sequence segment.now.mss) (segment_in segment.now) };
+        ensures { result
+            ≡ Self.rules.refusal true
+            (Self.rules.made segment.now.destination_port pair
+            segment.now.sequence segment.now.mss) (segment_in segment.now) };
 
     /// A session takes a segment, whose units name addresses that are called so.
     fn take(
@@ -51,10 +55,23 @@ pub trait Engine: Session + Drop {
         entries: &[Entry],
         outbox: &mut Outbox,
     ) -> Result<Stepped<Self::Sent>, OutOfMemory>
-        requires enters { Enters Self.rules way.now.side segment.now.datagram.now tracked.old entries.now }
+        requires enters { Enters Self.rules way.now.side segment.now.datagram.now
+            tracked.old entries.now }
         requires empty { outbox.old ≡ [] }
-        requires whole { IsSegmentOf segment.now.octets.now segment.now.datagram.now segment.now.tcp.now }
-        ensures next { (image : Addr → Option Addr) → AreCalled Self.rules image way.now.side segment.now.datagram.now tracked.old entries.now → OnOk result (tracked.new ≡ streams.stepped Self.rules image way.now.side segment.now.datagram.now tracked.old) }
-        ensures stepped { (image : Addr → Option Addr) → AreCalled Self.rules image way.now.side segment.now.datagram.now tracked.old entries.now → IfOk result (λ s. IsStepped Self.rules gives image way.now segment.now.datagram.now tracked.old s outbox.new) }
-        ensures lost { OnErr result (IsUnstepped gives way.now.side segment.now.datagram.now tracked.old tracked.old tracked.new outbox.new) };
+        requires whole { IsSegmentOf segment.now.octets.now segment.now.datagram.now
+            segment.now.tcp.now }
+        ensures next { (image : Addr → Option Addr)
+            → AreCalled Self.rules image way.now.side segment.now.datagram.now
+            tracked.old entries.now
+            → OnOk result (tracked.new
+            ≡ streams.stepped Self.rules image way.now.side
+            segment.now.datagram.now tracked.old) }
+        ensures stepped { (image : Addr → Option Addr)
+            → AreCalled Self.rules image way.now.side segment.now.datagram.now
+            tracked.old entries.now
+            → IfOk result (λ s. IsStepped Self.rules gives image way.now
+            segment.now.datagram.now tracked.old s outbox.new) }
+        ensures lost { OnErr result (IsUnstepped gives way.now.side
+            segment.now.datagram.now tracked.old tracked.old tracked.new
+            outbox.new) };
 }

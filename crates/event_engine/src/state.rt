@@ -21,17 +21,17 @@ ghost use Rattle.gate_model.specs.Verdict.{tests, world_tests, address_tests};
 use crate::engine::Engine;
 use crate::taken::{Taken, whole, whole_of};
 use binding_table::Table;
+use dns_plans::Tracked;
+use event_steps::{Workspace, take_error, take_udp};
 use expiring_table::Seed;
 use gate_base::{Event, Moment, OutOfMemory, Refusal, Side};
 use gate_frames::{Content, Judged, judge};
 use gate_outbox::{Outbox, Segment};
 use gate_payloads::{ICMP_TIMEOUT, UdpDatagram, Way, address_refusal, take_plain};
 use gate_settings::Settings;
-use event_steps::{Workspace, take_error, take_udp};
-use tcp_tracker::SessionTable;
 use std::alloc::Global;
+use tcp_tracker::SessionTable;
 use udp_icmp::IcmpView;
-use dns_plans::Tracked;
 
 /// What is known: the clock, the bindings, the connections with their sessions, and the greatest number of changed lines or units
 /// that ever waited. With it are the rooms to work with.
@@ -102,7 +102,12 @@ impl<S: Engine> State<S> {
         requires clock { self.old.clock ≡ event.now.moment }
         requires moment { IsMoment event.now.moment.0 }
         requires empty { outbox.old ≡ [] }
-        ensures { IsDone S.rules S.gives (first_that_holds (tests S.rules (world_in self.old) (event_of event.now))) (first_that_holds (early_tests (world_in self.old) (event_of event.now))) (world_in self.old) event.now.side (datagram_in (event_of event.now)) result (world_in self.new) outbox.new }
+        ensures { IsDone S.rules S.gives
+            (first_that_holds
+            (tests S.rules (world_in self.old) (event_of event.now)))
+            (first_that_holds (early_tests (world_in self.old) (event_of event.now)))
+            (world_in self.old) event.now.side (datagram_in (event_of event.now))
+            result (world_in self.new) outbox.new }
     {
         match judge(event) {
             Ok(frame) => self.take(event.side, &frame, outbox),
@@ -119,10 +124,16 @@ impl<S: Engine> State<S> {
     ) -> Result<Taken<S::Sent>, OutOfMemory>
         requires laws { HasLaws S.rules }
         requires listed { KeepsListed S.rules (world_in self.old) }
-        requires judged { IsJudged frame.now.octets.now frame.now.datagram frame.now.content }
+        requires judged { IsJudged frame.now.octets.now frame.now.datagram
+            frame.now.content }
         requires moment { IsMoment self.old.clock.0 }
         requires empty { outbox.old ≡ [] }
-        ensures { IsDone S.rules S.gives (first_that_holds (world_tests S.rules (world_in self.old) side self.old.clock.0 frame.now.datagram (kind_of frame.now.datagram))) (first_that_holds (address_tests self.old.table side frame.now.datagram)) (world_in self.old) side frame.now.datagram result (world_in self.new) outbox.new }
+        ensures { IsDone S.rules S.gives
+            (first_that_holds (world_tests S.rules (world_in self.old) side
+            self.old.clock.0 frame.now.datagram (kind_of frame.now.datagram)))
+            (first_that_holds (address_tests self.old.table side frame.now.datagram))
+            (world_in self.old) side frame.now.datagram result (world_in self.new)
+            outbox.new }
     {
         let datagram = &frame.datagram;
         let way = Way::of(
@@ -168,7 +179,8 @@ impl<S: Engine> State<S> {
         view: &IcmpView<'_>,
         outbox: &mut Outbox,
     ) -> Option<Refusal>
-        requires way { IsWayOf (world_in self.old) way.now.side (datagram_of octets.now) way.now }
+        requires way { IsWayOf (world_in self.old) way.now.side
+            (datagram_of octets.now) way.now }
         requires moment { IsMoment way.now.moment.0 }
         requires empty { outbox.old ≡ [] }
         requires few { length octets.now ≤ 65535 }
@@ -177,7 +189,9 @@ impl<S: Engine> State<S> {
         requires other { ((datagram_of octets.now).protocol == 17) ≡ false }
         requires neither { ((datagram_of octets.now).protocol == 6) ≡ false }
         ensures rest { self.new ≡ record self.old { table = self.new.table } }
-        ensures taken { IsTaken S.rules (world_in self.old) way.now.side (datagram_of octets.now) (kinds.icmp_kind (datagram_of octets.now)) result self.new.table outbox.new }
+        ensures taken { IsTaken S.rules (world_in self.old) way.now.side
+            (datagram_of octets.now) (kinds.icmp_kind (datagram_of octets.now)) result
+            self.new.table outbox.new }
     {
         if view.is_error() {
             return take_error(

@@ -19,18 +19,17 @@ use crate::engine::Engine;
 use crate::state::State;
 use crate::stepped::Stepped;
 use crate::taken::{Taken, whole};
+use dns_plans::{Entry, Tracked};
+use event_steps::{
+    SegmentFate, SegmentPlan, is_first, is_full, is_late, key_in, look_up, take_untracked,
+    timeout_of, use_segment,
+};
 use gate_base::{OutOfMemory, Pair, Refusal};
 use gate_outbox::{Outbox, Scratch, Segment};
 use gate_payloads::{Way, lacks_alias};
-use event_steps::{
-    SegmentFate, SegmentPlan, timeout_of, is_first, is_full, is_late, key_in, look_up, take_untracked,
-    use_segment,
-};
-use tcp_tracker::SessionTable;
 use std::alloc::Global;
 use tcp_segments::TcpView;
-use tcp_tracker::{ConnKey, SHORT_TIMEOUT};
-use dns_plans::{Entry, Tracked};
+use tcp_tracker::{ConnKey, SHORT_TIMEOUT, SessionTable};
 
 impl<S: Engine> State<S> {
     /// Takes a segment.
@@ -42,11 +41,14 @@ impl<S: Engine> State<S> {
     ) -> Result<Taken<S::Sent>, OutOfMemory>
         requires laws { HasLaws S.rules }
         requires listed { KeepsListed S.rules (world_in self.old) }
-        requires way { IsWayOf (world_in self.old) way.now.side segment.now.datagram.now way.now }
+        requires way { IsWayOf (world_in self.old) way.now.side
+            segment.now.datagram.now way.now }
         requires moment { IsMoment way.now.moment.0 }
         requires empty { outbox.old ≡ [] }
-        requires whole { IsSegmentOf segment.now.octets.now segment.now.datagram.now segment.now.tcp.now }
-        ensures { IsSegmentDone S.rules S.gives (world_in self.old) way.now.side segment.now.datagram.now result (world_in self.new) outbox.new }
+        requires whole { IsSegmentOf segment.now.octets.now segment.now.datagram.now
+            segment.now.tcp.now }
+        ensures { IsSegmentDone S.rules S.gives (world_in self.old) way.now.side
+            segment.now.datagram.now result (world_in self.new) outbox.new }
     {
         let key = key_in(way, segment.tcp.ports());
         self.take_on_connection(way, &key, segment, outbox)
@@ -62,12 +64,16 @@ impl<S: Engine> State<S> {
     ) -> Result<Taken<S::Sent>, OutOfMemory>
         requires laws { HasLaws S.rules }
         requires listed { KeepsListed S.rules (world_in self.old) }
-        requires way { IsWayOf (world_in self.old) way.now.side segment.now.datagram.now way.now }
-        requires key { key.now ≡ streams.key_in self.old.table way.now.side segment.now.datagram.now }
+        requires way { IsWayOf (world_in self.old) way.now.side
+            segment.now.datagram.now way.now }
+        requires key { key.now
+            ≡ streams.key_in self.old.table way.now.side segment.now.datagram.now }
         requires moment { IsMoment way.now.moment.0 }
         requires empty { outbox.old ≡ [] }
-        requires whole { IsSegmentOf segment.now.octets.now segment.now.datagram.now segment.now.tcp.now }
-        ensures { IsSegmentDone S.rules S.gives (world_in self.old) way.now.side segment.now.datagram.now result (world_in self.new) outbox.new }
+        requires whole { IsSegmentOf segment.now.octets.now segment.now.datagram.now
+            segment.now.tcp.now }
+        ensures { IsSegmentDone S.rules S.gives (world_in self.old) way.now.side
+            segment.now.datagram.now result (world_in self.new) outbox.new }
     {
         let found = look_up(
             &mut self.workspace,
@@ -102,13 +108,17 @@ impl<S: Engine> State<S> {
         outbox: &mut Outbox,
     ) -> Result<Taken<S::Sent>, OutOfMemory>
         requires laws { HasLaws S.rules }
-        requires way { IsWayOf (world_in self.old) way.now.side segment.now.datagram.now way.now }
-        requires key { key.now ≡ streams.key_in self.old.table way.now.side segment.now.datagram.now }
+        requires way { IsWayOf (world_in self.old) way.now.side
+            segment.now.datagram.now way.now }
+        requires key { key.now
+            ≡ streams.key_in self.old.table way.now.side segment.now.datagram.now }
         requires absent { connection_of key.now self.old.connections ≡ None }
         requires moment { IsMoment way.now.moment.0 }
         requires empty { outbox.old ≡ [] }
-        requires whole { IsSegmentOf segment.now.octets.now segment.now.datagram.now segment.now.tcp.now }
-        ensures { IsSegmentDone S.rules S.gives (world_in self.old) way.now.side segment.now.datagram.now result (world_in self.new) outbox.new }
+        requires whole { IsSegmentOf segment.now.octets.now segment.now.datagram.now
+            segment.now.tcp.now }
+        ensures { IsSegmentDone S.rules S.gives (world_in self.old) way.now.side
+            segment.now.datagram.now result (world_in self.new) outbox.new }
     {
         if is_late(segment.tcp) {
             return Ok(Taken::Refused(Refusal::NoSession));
@@ -137,13 +147,19 @@ impl<S: Engine> State<S> {
     ) -> Result<Taken<S::Sent>, OutOfMemory>
         requires laws { HasLaws S.rules }
         requires listed { KeepsListed S.rules (world_in self.old) }
-        requires way { IsWayOf (world_in self.old) way.now.side segment.now.datagram.now way.now }
-        requires key { key.now ≡ streams.key_in self.old.table way.now.side segment.now.datagram.now }
-        requires plan { (t : worlds.Tracked S) × IsPlanOf S.rules (world_in self.old) way.now.side segment.now.datagram.now t plan.now }
+        requires way { IsWayOf (world_in self.old) way.now.side
+            segment.now.datagram.now way.now }
+        requires key { key.now
+            ≡ streams.key_in self.old.table way.now.side segment.now.datagram.now }
+        requires plan { (t : worlds.Tracked S)
+            × IsPlanOf S.rules (world_in self.old) way.now.side
+            segment.now.datagram.now t plan.now }
         requires moment { IsMoment way.now.moment.0 }
         requires empty { outbox.old ≡ [] }
-        requires whole { IsSegmentOf segment.now.octets.now segment.now.datagram.now segment.now.tcp.now }
-        ensures { IsSegmentDone S.rules S.gives (world_in self.old) way.now.side segment.now.datagram.now result (world_in self.new) outbox.new }
+        requires whole { IsSegmentOf segment.now.octets.now segment.now.datagram.now
+            segment.now.tcp.now }
+        ensures { IsSegmentDone S.rules S.gives (world_in self.old) way.now.side
+            segment.now.datagram.now result (world_in self.new) outbox.new }
     {
         let flags = segment.tcp.flags();
         let timeout = timeout_of(&self.connections, way, key, flags);
@@ -190,14 +206,20 @@ impl<S: Engine> State<S> {
         outbox: &mut Outbox,
     ) -> Result<Taken<S::Sent>, OutOfMemory>
         requires laws { HasLaws S.rules }
-        requires way { IsWayOf (world_in self.old) way.now.side segment.now.datagram.now way.now }
-        requires key { key.now ≡ streams.key_in self.old.table way.now.side segment.now.datagram.now }
+        requires way { IsWayOf (world_in self.old) way.now.side
+            segment.now.datagram.now way.now }
+        requires key { key.now
+            ≡ streams.key_in self.old.table way.now.side segment.now.datagram.now }
         requires absent { connection_of key.now self.old.connections ≡ None }
-        requires first { (streams.is_opening segment.now.tcp.now.flags && kinds.is_tracked_port segment.now.tcp.now.destination_port) ≡ true }
+        requires first { (streams.is_opening segment.now.tcp.now.flags
+            && kinds.is_tracked_port segment.now.tcp.now.destination_port)
+            ≡ true }
         requires moment { IsMoment way.now.moment.0 }
         requires empty { outbox.old ≡ [] }
-        requires whole { IsSegmentOf segment.now.octets.now segment.now.datagram.now segment.now.tcp.now }
-        ensures { IsSegmentDone S.rules S.gives (world_in self.old) way.now.side segment.now.datagram.now result (world_in self.new) outbox.new }
+        requires whole { IsSegmentOf segment.now.octets.now segment.now.datagram.now
+            segment.now.tcp.now }
+        ensures { IsSegmentDone S.rules S.gives (world_in self.old) way.now.side
+            segment.now.datagram.now result (world_in self.new) outbox.new }
     {
         let pair = pair_on(way);
         if let Some(refusal) = S::opening_refusal(self.workspace.alloc, pair, segment.tcp) {
@@ -240,12 +262,27 @@ fn step_session<S: Engine>(
     entries: &[Entry],
     outbox: &mut Outbox,
 ) -> Result<Stepped<S::Sent>, OutOfMemory>
-    requires enters { (t : worlds.Tracked S) → streams.session_in (connection_of key.now connections.old) ≡ Some t → Enters S.rules way.now.side segment.now.datagram.now t entries.now }
+    requires enters { (t : worlds.Tracked S)
+        → streams.session_in (connection_of key.now connections.old) ≡ Some t
+        → Enters S.rules way.now.side segment.now.datagram.now t entries.now }
     requires empty { outbox.old ≡ [] }
-    requires whole { IsSegmentOf segment.now.octets.now segment.now.datagram.now segment.now.tcp.now }
-    ensures next { (image : Addr → Option Addr) (t : worlds.Tracked S) → streams.session_in (connection_of key.now connections.old) ≡ Some t → AreCalled S.rules image way.now.side segment.now.datagram.now t entries.now → OnOk result (connections.new ≡ replaced connections.old key.now (streams.stepped S.rules image way.now.side segment.now.datagram.now t)) }
-    ensures stepped { (image : Addr → Option Addr) (t : worlds.Tracked S) → streams.session_in (connection_of key.now connections.old) ≡ Some t → AreCalled S.rules image way.now.side segment.now.datagram.now t entries.now → IfOk result (λ s. IsStepped S.rules S.gives image way.now segment.now.datagram.now t s outbox.new) }
-    ensures lost { (t : worlds.Tracked S) → streams.session_in (connection_of key.now connections.old) ≡ Some t → OnErr result (IsUnstepped S.gives way.now.side segment.now.datagram.now t connections.old connections.new outbox.new) }
+    requires whole { IsSegmentOf segment.now.octets.now segment.now.datagram.now
+        segment.now.tcp.now }
+    ensures next { (image : Addr → Option Addr) (t : worlds.Tracked S)
+        → streams.session_in (connection_of key.now connections.old) ≡ Some t
+        → AreCalled S.rules image way.now.side segment.now.datagram.now t entries.now
+        → OnOk result (connections.new
+        ≡ replaced connections.old key.now (streams.stepped S.rules image
+        way.now.side segment.now.datagram.now t)) }
+    ensures stepped { (image : Addr → Option Addr) (t : worlds.Tracked S)
+        → streams.session_in (connection_of key.now connections.old) ≡ Some t
+        → AreCalled S.rules image way.now.side segment.now.datagram.now t entries.now
+        → IfOk result (λ s. IsStepped S.rules S.gives image way.now
+        segment.now.datagram.now t s outbox.new) }
+    ensures lost { (t : worlds.Tracked S)
+        → streams.session_in (connection_of key.now connections.old) ≡ Some t
+        → OnErr result (IsUnstepped S.gives way.now.side segment.now.datagram.now t
+        connections.old connections.new outbox.new) }
 {
     match connections.session_mut(key) {
         Some(tracked) => S::take(tracked, alloc, scratch, way, segment, entries, outbox),

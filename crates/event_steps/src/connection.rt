@@ -12,13 +12,12 @@ ghost use Rattle.event_steps.specs.SegmentFate.{IsOn, IsUnitPlan, IsStopped, IsF
 use crate::found::{SegmentFate, SegmentPlan, no_units};
 use crate::workspace::Workspace;
 use binding_table::Table;
+use dns_plans::{Endpoints, PlanStop, Session, Tracked, UnitPlan, plan_units};
 use dns_stream::unit_end;
 use gate_base::Refusal;
 use gate_outbox::Segment;
 use gate_payloads::Way;
-use tcp_tracker::SessionTable;
-use tcp_tracker::ConnKey;
-use dns_plans::{Endpoints, PlanStop, Session, Tracked, UnitPlan, plan_units};
+use tcp_tracker::{ConnKey, SessionTable};
 
 /// Why a session refuses a segment, if it does.
 fn session_refusal<S: Session>(
@@ -27,7 +26,9 @@ fn session_refusal<S: Session>(
     segment: &Segment<'_>,
 ) -> Option<Refusal>
     requires { segment.now.tcp.now ≡ streams.tcp_of segment.now.datagram.now }
-    ensures { result ≡ streams.session_refusal S.rules way.now.side segment.now.datagram.now (Some tracked.now) }
+    ensures { result
+        ≡ streams.session_refusal S.rules way.now.side segment.now.datagram.now
+        (Some tracked.now) }
 {
     tracked
         .session
@@ -44,12 +45,24 @@ fn plan_session<S: Session>(
     segment: &Segment<'_>,
 ) -> Result<UnitPlan, PlanStop>
     requires segment { segment.now.tcp.now ≡ streams.tcp_of segment.now.datagram.now }
-    requires passes { streams.session_refusal S.rules way.now.side segment.now.datagram.now (Some tracked.now) ≡ None }
-    requires header { AreBound table.now way.now.side (way.now.source ∷ way.now.destination ∷ []) }
-    requires listed { IsListBound table.now way.now.side (S.rules.listed (is_client way.now.side tracked.now) tracked.now.session) }
-    requires few { (client : Bool) → length (S.rules.listed client tracked.now.session) ≤ 256 }
-    ensures planned { (live : World S) → live.table ≡ table.now → IsOn S.rules live way.now.side segment.now.datagram.now way.now tracked.now → IfOk result (IsUnitPlan S.rules live way.now.side segment.now.datagram.now tracked.now) }
-    ensures stopped { (live : World S) → live.table ≡ table.now → IsOn S.rules live way.now.side segment.now.datagram.now way.now tracked.now → IfErr result (IsStopped S.rules live way.now.side segment.now.datagram.now) }
+    requires passes { streams.session_refusal S.rules way.now.side
+        segment.now.datagram.now (Some tracked.now) ≡ None }
+    requires header { AreBound table.now way.now.side
+        (way.now.source ∷ way.now.destination ∷ []) }
+    requires listed { IsListBound table.now way.now.side
+        (S.rules.listed (is_client way.now.side tracked.now) tracked.now.session) }
+    requires few { (client : Bool)
+        → length (S.rules.listed client tracked.now.session) ≤ 256 }
+    ensures planned { (live : World S)
+        → live.table ≡ table.now
+        → IsOn S.rules live way.now.side segment.now.datagram.now way.now tracked.now
+        → IfOk result (IsUnitPlan S.rules live way.now.side segment.now.datagram.now
+        tracked.now) }
+    ensures stopped { (live : World S)
+        → live.table ≡ table.now
+        → IsOn S.rules live way.now.side segment.now.datagram.now way.now tracked.now
+        → IfErr result
+        (IsStopped S.rules live way.now.side segment.now.datagram.now) }
 {
     let from_client = tracked.is_client(way.side);
     tracked
@@ -83,9 +96,18 @@ fn judge_session<S: Session>(
     segment: &Segment<'_>,
 ) -> SegmentFate
     requires segment { segment.now.tcp.now ≡ streams.tcp_of segment.now.datagram.now }
-    requires header { AreBound table.now way.now.side (way.now.source ∷ way.now.destination ∷ []) }
-    requires listed { IsListBound table.now way.now.side (S.rules.listed (is_client way.now.side tracked.now) tracked.now.session) }
-    ensures { (live : World S) → live.table ≡ table.now → IsLawful live.table → IsWayOf live way.now.side segment.now.datagram.now way.now → streams.session_in (streams.found_in live way.now.side segment.now.datagram.now) ≡ Some tracked.now → IsFound S.rules live way.now.side segment.now.datagram.now result }
+    requires header { AreBound table.now way.now.side
+        (way.now.source ∷ way.now.destination ∷ []) }
+    requires listed { IsListBound table.now way.now.side
+        (S.rules.listed (is_client way.now.side tracked.now) tracked.now.session) }
+    ensures { (live : World S)
+        → live.table ≡ table.now
+        → IsLawful live.table
+        → IsWayOf live way.now.side segment.now.datagram.now way.now
+        → streams.session_in
+        (streams.found_in live way.now.side segment.now.datagram.now)
+        ≡ Some tracked.now
+        → IsFound S.rules live way.now.side segment.now.datagram.now result }
 {
     if let Some(refusal) = session_refusal(tracked, way, segment) {
         return SegmentFate::Refused(refusal);
@@ -113,9 +135,19 @@ pub fn look_up<S: Session>(
     segment: &Segment<'_>,
 ) -> SegmentFate
     requires segment { segment.now.tcp.now ≡ streams.tcp_of segment.now.datagram.now }
-    requires header { AreBound table.now way.now.side (way.now.source ∷ way.now.destination ∷ []) }
-    requires listed { (t : worlds.Tracked S) → streams.session_in (connection_of key.now connections.now) ≡ Some t → IsListBound table.now way.now.side (S.rules.listed (is_client way.now.side t) t.session) }
-    ensures { (live : World S) → live.table ≡ table.now → live.connections ≡ connections.now → IsLawful live.table → key.now ≡ streams.key_in live.table way.now.side segment.now.datagram.now → IsWayOf live way.now.side segment.now.datagram.now way.now → IsFound S.rules live way.now.side segment.now.datagram.now result }
+    requires header { AreBound table.now way.now.side
+        (way.now.source ∷ way.now.destination ∷ []) }
+    requires listed { (t : worlds.Tracked S)
+        → streams.session_in (connection_of key.now connections.now) ≡ Some t
+        → IsListBound table.now way.now.side
+        (S.rules.listed (is_client way.now.side t) t.session) }
+    ensures { (live : World S)
+        → live.table ≡ table.now
+        → live.connections ≡ connections.now
+        → IsLawful live.table
+        → key.now ≡ streams.key_in live.table way.now.side segment.now.datagram.now
+        → IsWayOf live way.now.side segment.now.datagram.now way.now
+        → IsFound S.rules live way.now.side segment.now.datagram.now result }
 {
     match connections.find(key) {
         Some(Some(tracked)) => judge_session(workspace, table, tracked, way, segment),

@@ -5,13 +5,14 @@ ghost use Rattle.gate_model.specs.Lists.{renamed_in};
 ghost use Rattle.gate_model.specs.Units.{uses_until};
 
 use binding_table::Table;
+use dns_plans::Entry;
 use gate_base::{Moment, Side};
 use gate_payloads::use_address;
-use dns_plans::Entry;
 
 /// Uses the address of an entry, unless it is kept.
 pub fn use_entry(table: &mut Table, side: Side, entry: Entry, until: Moment)
-    ensures { table.new ≡ after_uses table.old (uses_until side until.0 (renamed_in (entry ∷ []))) }
+    ensures { table.new
+        ≡ after_uses table.old (uses_until side until.0 (renamed_in (entry ∷ []))) }
 {
     if entry.1.is_some() {
         use_address(table, side, entry.0, until);

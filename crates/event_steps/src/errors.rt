@@ -10,12 +10,12 @@ ghost use Rattle.gate_payloads.specs.Ways.{IsWay};
 ghost use Rattle.gate_payloads.specs.Taken.{IsTaken, IsWayOf};
 
 use binding_table::Table;
+use dns_plans::{Session, Tracked};
 use gate_base::{Addr, Refusal, Side, TCP};
 use gate_outbox::Outbox;
 use gate_payloads::{ICMP_TIMEOUT, Way, key_of, lacks_alias};
 use icmp_errors::{Inner, inner_of};
 use tcp_tracker::SessionTable;
-use dns_plans::{Session, Tracked};
 
 /// The number that the sender of the datagram inside gave it, where a session tells; None inside that where the session sent
 /// no such number.
@@ -25,7 +25,10 @@ fn inner_number<S: Session>(
     inner: &Inner,
     source: Addr,
 ) -> Option<Option<u32>>
-    ensures { (live : World S) → live.connections ≡ connections.now → called live.table side inner.now.source ≡ source → result ≡ inner_number S.rules live side inner.now }
+    ensures { (live : World S)
+        → live.connections ≡ connections.now
+        → called live.table side inner.now.source ≡ source
+        → result ≡ inner_number S.rules live side inner.now }
 {
     if inner.protocol != TCP {
         return None;
@@ -66,7 +69,12 @@ pub fn take_error<S: Session>(
     requires inside { inside.now ≡ drop 8 (datagram_of octets.now).payload }
     requires protocol { ((datagram_of octets.now).protocol == 17) ≡ false }
     requires stream { ((datagram_of octets.now).protocol == 6) ≡ false }
-    ensures taken { (live : World S) → live.table ≡ table.old → live.connections ≡ connections.now → IsWayOf live way.now.side (datagram_of octets.now) way.now → IsTaken S.rules live way.now.side (datagram_of octets.now) (kinds.Error) result table.new outbox.new }
+    ensures taken { (live : World S)
+        → live.table ≡ table.old
+        → live.connections ≡ connections.now
+        → IsWayOf live way.now.side (datagram_of octets.now) way.now
+        → IsTaken S.rules live way.now.side (datagram_of octets.now) (kinds.Error)
+        result table.new outbox.new }
 {
     let Ok(inner) = inner_of(inside) else {
         return Some(Refusal::BadInner);

@@ -4,10 +4,10 @@ ghost use Rattle.gate_payloads.specs.Ways.{is_empty};
 ghost use Rattle.gate_base.specs.declared.refusal.Refusal.TheVariants as refusals;
 ghost use Rattle.dns_plans.specs.declared.stop.PlanStop.TheVariants as stops;
 
+use dns_plans::{PlanStop, UnitPlan};
 use gate_base::Refusal;
 use gate_payloads::{Way, lacks_alias};
 use std::alloc::Global;
-use dns_plans::{PlanStop, UnitPlan};
 
 /// What the units do that a segment completes, and how many entries the lists of its session have before it: the client's, and the
 /// server's.
@@ -35,8 +35,10 @@ pub enum SegmentFate {
 
 /// What no units do.
 pub fn no_units(alloc: Global, way: &Way) -> Result<UnitPlan, PlanStop>
-    ensures planned { IfOk result (λ plan. (is_empty way.now.of_source ≡ false) × ((plan.named.items ≡ []) × (plan.entries.items ≡ []))) }
-    ensures stopped { IfErr result (λ stop. (is_empty way.now.of_source ≡ true) × (stop ≡ stops.Refused refusals.PoolEmpty)) }
+    ensures planned { IfOk result (λ plan. (is_empty way.now.of_source ≡ false)
+        × ((plan.named.items ≡ []) × (plan.entries.items ≡ []))) }
+    ensures stopped { IfErr result (λ stop. (is_empty way.now.of_source ≡ true)
+        × (stop ≡ stops.Refused refusals.PoolEmpty)) }
 {
     if lacks_alias(way) {
         return Err(PlanStop::Refused(Refusal::PoolEmpty));

@@ -26,7 +26,10 @@ fn is_tracked_port(port: u16) -> bool
 
 /// Whether one of its ports is such a port, and it is no SYN without ACK.
 pub fn is_late(tcp: &TcpView<'_>) -> bool
-    ensures { result ≡ ((kinds.is_tracked_port tcp.now.source_port || kinds.is_tracked_port tcp.now.destination_port) && not (streams.is_opening tcp.now.flags)) }
+    ensures { result
+        ≡ ((kinds.is_tracked_port tcp.now.source_port
+        || kinds.is_tracked_port tcp.now.destination_port)
+        && not (streams.is_opening tcp.now.flags)) }
 {
     let ports = tcp.ports();
     (is_tracked_port(ports.0) || is_tracked_port(ports.1)) && !is_opening(tcp.flags())
@@ -34,14 +37,18 @@ pub fn is_late(tcp: &TcpView<'_>) -> bool
 
 /// Whether it is a SYN without ACK to such a port.
 pub fn is_first(tcp: &TcpView<'_>) -> bool
-    ensures { result ≡ (streams.is_opening tcp.now.flags && kinds.is_tracked_port tcp.now.destination_port) }
+    ensures { result
+        ≡ (streams.is_opening tcp.now.flags
+        && kinds.is_tracked_port tcp.now.destination_port) }
 {
     is_opening(tcp.flags()) && is_tracked_port(tcp.ports().1)
 }
 
 /// The name of the connection of a segment with these ports.
 pub fn key_in(way: &Way, ports: (u16, u16)) -> ConnKey
-    ensures { result ≡ streams.key_of way.now.side way.now.source ports.0 (image_by way.now.of_destination way.now.destination) ports.1 }
+    ensures { result
+        ≡ streams.key_of way.now.side way.now.source ports.0
+        (image_by way.now.of_destination way.now.destination) ports.1 }
 {
     key_of(
         way.side,

@@ -25,18 +25,32 @@ pub fn take_udp(
     view: &UdpView<'_>,
     outbox: &mut Outbox,
 ) -> Result<Option<Refusal>, OutOfMemory>
-    requires way { IsWayOf (plain_world way.now.moment.0 table.old) way.now.side (datagram_of datagram.now.octets.now) way.now }
+    requires way { IsWayOf (plain_world way.now.moment.0 table.old) way.now.side
+        (datagram_of datagram.now.octets.now) way.now }
     requires moment { IsMoment way.now.moment.0 }
     requires empty { outbox.old ≡ [] }
     requires whole { IsUdpOf datagram.now.octets.now datagram.now.payload.now }
-    requires view { view.now ≡ udp_fields_of (datagram_of datagram.now.octets.now).payload }
-    ensures taken { IfOk result (λ r. IsTaken plain_rules (plain_world way.now.moment.0 table.old) way.now.side (datagram_of datagram.now.octets.now) (kinds.udp_kind (datagram_of datagram.now.octets.now)) r table.new outbox.new) }
+    requires view { view.now
+        ≡ udp_fields_of (datagram_of datagram.now.octets.now).payload }
+    ensures taken { IfOk result (λ r. IsTaken plain_rules
+        (plain_world way.now.moment.0 table.old) way.now.side
+        (datagram_of datagram.now.octets.now)
+        (kinds.udp_kind (datagram_of datagram.now.octets.now)) r table.new
+        outbox.new) }
     ensures memory { OnErr result ((table.new ≡ table.old) × (outbox.new ≡ [])) }
-    ensures wants { OnErr result (kinds.udp_kind (datagram_of datagram.now.octets.now) ≡ kinds.Dns) }
+    ensures wants { OnErr result
+        (kinds.udp_kind (datagram_of datagram.now.octets.now) ≡ kinds.Dns) }
 {
     let ports = view.ports();
     if has_port(ports, DNS_PORT) {
-        return take_dns(workspace.alloc, table, &mut workspace.seen_addresses, way, datagram, outbox);
+        return take_dns(
+            workspace.alloc,
+            table,
+            &mut workspace.seen_addresses,
+            way,
+            datagram,
+            outbox,
+        );
     }
     if has_port(ports, SNMP_PORT) || has_port(ports, TRAP_PORT) {
         return Ok(take_snmp(table, way, datagram, &mut workspace.scratch, outbox));

@@ -16,9 +16,8 @@ use binding_table::Table;
 use gate_base::Refusal;
 use gate_outbox::{Outbox, Segment};
 use gate_payloads::{Way, lacks_alias, pass_plain};
-use tcp_tracker::SessionTable;
 use tcp_segments::flags_of;
-use tcp_tracker::{ConnKey, SHORT_TIMEOUT};
+use tcp_tracker::{ConnKey, SHORT_TIMEOUT, SessionTable};
 
 /// The most connections that live at once.
 const CONNECTIONS: usize = 65_536;
@@ -42,10 +41,23 @@ pub fn take_untracked<X>(
     requires empty { outbox.old ≡ [] }
     requires few { length segment.now.octets.now ≤ 65535 }
     requires can { CanGoOn segment.now.octets.now }
-    ensures refusal { result ≡ first_that_holds (room_tests (lacks_place connections.old (connection_of key.now connections.old) segment.now.tcp.now.flags) (is_empty way.now.of_source)) }
-    ensures table { table.new ≡ unless_refused result (after_uses table.old (header_uses way.now (timeout_of connections.old key.now way.now.side segment.now.tcp.now.flags))) table.old }
-    ensures connections { connections.new ≡ unless_refused result (noted connections.old key.now way.now.side segment.now.tcp.now.flags None way.now.moment) connections.old }
-    ensures out { outbox.new ≡ unless_refused result (renamed (datagram_of segment.now.octets.now) (image_by way.now.of_source way.now.source).0 (image_by way.now.of_destination way.now.destination).0 ∷ []) [] }
+    ensures refusal { result
+        ≡ first_that_holds (room_tests
+        (lacks_place connections.old (connection_of key.now connections.old)
+        segment.now.tcp.now.flags) (is_empty way.now.of_source)) }
+    ensures table { table.new
+        ≡ unless_refused result
+        (after_uses table.old (header_uses way.now (timeout_of connections.old
+        key.now way.now.side segment.now.tcp.now.flags))) table.old }
+    ensures connections { connections.new
+        ≡ unless_refused result
+        (noted connections.old key.now way.now.side segment.now.tcp.now.flags None
+        way.now.moment) connections.old }
+    ensures out { outbox.new
+        ≡ unless_refused result
+        (renamed (datagram_of segment.now.octets.now)
+        (image_by way.now.of_source way.now.source).0
+        (image_by way.now.of_destination way.now.destination).0 ∷ []) [] }
 {
     let flags = segment.tcp.flags();
     if lacks_place(connections, key, flags) {
@@ -62,9 +74,11 @@ pub fn take_untracked<X>(
 /// A segment passed that no session takes. An RST makes no connection. It answers how long the addresses are held.
 #[inline(always)]
 fn note_untracked<X>(connections: &mut SessionTable<X>, way: &Way, key: &ConnKey, flags: u8) -> u64
-    requires place { lacks_place connections.old (connection_of key.now connections.old) flags ≡ false }
+    requires place { lacks_place connections.old
+        (connection_of key.now connections.old) flags ≡ false }
     requires moment { IsMoment way.now.moment.0 }
-    ensures noted { connections.new ≡ noted connections.old key.now way.now.side flags None way.now.moment }
+    ensures noted { connections.new
+        ≡ noted connections.old key.now way.now.side flags None way.now.moment }
     ensures timeout { result ≡ timeout_of connections.old key.now way.now.side flags }
     ensures small { IsTimeout result }
 {
@@ -76,21 +90,26 @@ fn note_untracked<X>(connections: &mut SessionTable<X>, way: &Way, key: &ConnKey
 
 /// An RST of a connection that doesn't live.
 fn is_stray_reset<X>(connections: &SessionTable<X>, key: &ConnKey, flags: u8) -> bool
-    ensures { result ≡ (is_none (connection_of key.now connections.now) && (flags_of flags).reset) }
+    ensures { result
+        ≡ (is_none (connection_of key.now connections.now)
+        && (flags_of flags).reset) }
 {
     flags_of(flags).reset && !connections.contains(key)
 }
 
 /// A segment that no session takes would make a connection, and the most of them live.
 fn lacks_place<X>(connections: &SessionTable<X>, key: &ConnKey, flags: u8) -> bool
-    ensures { result ≡ lacks_place connections.now (connection_of key.now connections.now) flags }
+    ensures { result
+        ≡ lacks_place connections.now (connection_of key.now connections.now) flags }
 {
     CONNECTIONS <= connections.len() && !flags_of(flags).reset && !connections.contains(key)
 }
 
 /// The most connections live, or the most sessions.
 pub fn is_full<X>(connections: &SessionTable<X>) -> bool
-    ensures { result ≡ (nat_le most_connections (length connections.now) || nat_le most_sessions (count_by is_tracked connections.now)) }
+    ensures { result
+        ≡ (nat_le most_connections (length connections.now)
+        || nat_le most_sessions (count_by is_tracked connections.now)) }
 {
     CONNECTIONS <= connections.len() || SESSIONS <= connections.sessions()
 }

@@ -15,11 +15,10 @@ ghost use Rattle.event_steps.specs.SegmentFate.{uses_planned};
 use crate::entries::use_entry;
 use crate::found::SegmentPlan;
 use binding_table::Table;
+use dns_plans::{Session, Tracked};
 use gate_base::{Moment, Side};
 use gate_payloads::{Way, use_all};
-use tcp_tracker::SessionTable;
-use tcp_tracker::ConnKey;
-use dns_plans::{Session, Tracked};
+use tcp_tracker::{ConnKey, SessionTable};
 
 /// Uses the addresses of the first entries of the client's list, or else of the server's, from the realm of its sender.
 fn use_list<S: Session>(
@@ -31,7 +30,9 @@ fn use_list<S: Session>(
     until: Moment,
 )
     requires { count ≤ length (S.rules.listed client session.now) }
-    ensures { table.new ≡ after_uses table.old (uses_until side until.0 (renamed_in (take count (S.rules.listed client session.now)))) }
+    ensures { table.new
+        ≡ after_uses table.old (uses_until side until.0
+        (renamed_in (take count (S.rules.listed client session.now)))) }
 {
     for place in 0..count {
         use_entry(table, side, session.entry(client, place), until);
@@ -40,9 +41,15 @@ fn use_list<S: Session>(
 
 /// Uses the addresses that the lists of a session rename, as long as they were before the segment: the client's list first.
 fn use_lists<S: Session>(table: &mut Table, tracked: &Tracked<S>, plan: &SegmentPlan, until: Moment)
-    requires client { plan.now.client ≤ length (S.rules.listed true tracked.now.session) }
-    requires server { plan.now.server ≤ length (S.rules.listed false tracked.now.session) }
-    ensures { table.new ≡ after_uses table.old (uses_until tracked.now.client until.0 (renamed_in (take plan.now.client (S.rules.listed true tracked.now.session))) ++ uses_until (other tracked.now.client) until.0 (renamed_in (take plan.now.server (S.rules.listed false tracked.now.session)))) }
+    requires client { plan.now.client
+        ≤ length (S.rules.listed true tracked.now.session) }
+    requires server { plan.now.server
+        ≤ length (S.rules.listed false tracked.now.session) }
+    ensures { table.new
+        ≡ after_uses table.old (uses_until tracked.now.client until.0 (renamed_in
+        (take plan.now.client (S.rules.listed true tracked.now.session)))
+        ++ uses_until (other tracked.now.client) until.0 (renamed_in
+        (take plan.now.server (S.rules.listed false tracked.now.session)))) }
 {
     let client = tracked.client;
     use_list(table, &tracked.session, true, plan.client, client, until);
@@ -71,9 +78,16 @@ pub fn use_segment<S: Session>(
     requires settled { is_settled way.now.of_destination ≡ true }
     requires moment { IsMoment way.now.moment.0 }
     requires timeout { IsTimeout timeout }
-    requires client { (t : worlds.Tracked S) → streams.session_in (connection_of key.now connections.now) ≡ Some t → plan.now.client ≤ length (S.rules.listed true t.session) }
-    requires server { (t : worlds.Tracked S) → streams.session_in (connection_of key.now connections.now) ≡ Some t → plan.now.server ≤ length (S.rules.listed false t.session) }
-    ensures { (t : worlds.Tracked S) → streams.session_in (connection_of key.now connections.now) ≡ Some t → table.new ≡ after_uses table.old (uses_planned S.rules way.now plan.now timeout t) }
+    requires client { (t : worlds.Tracked S)
+        → streams.session_in (connection_of key.now connections.now) ≡ Some t
+        → plan.now.client ≤ length (S.rules.listed true t.session) }
+    requires server { (t : worlds.Tracked S)
+        → streams.session_in (connection_of key.now connections.now) ≡ Some t
+        → plan.now.server ≤ length (S.rules.listed false t.session) }
+    ensures { (t : worlds.Tracked S)
+        → streams.session_in (connection_of key.now connections.now) ≡ Some t
+        → table.new
+        ≡ after_uses table.old (uses_planned S.rules way.now plan.now timeout t) }
 {
     let until = Moment(way.moment.0 + timeout);
     way.use_both(table, timeout);

@@ -1,10 +1,10 @@
 // The memory and the rooms to work with.
 use binding_table::SeenAddresses;
+use dns_plans::UnitOctets;
 use expiring_table::Seed;
 use gate_base::OutOfMemory;
 use gate_outbox::Scratch;
 use std::alloc::Global;
-use dns_plans::UnitOctets;
 
 /// The memory and the rooms to work with.
 pub struct Workspace {

@@ -77,7 +77,8 @@ impl Chains {
     pub fn before(&self, place: usize) -> Option<usize>
         requires place { place < length self.now.buckets }
         requires there { slice_index self.now.buckets place < self.now.width }
-        ensures { IsLast (slice_index self.now.buckets place) self.now.buckets place result }
+        ensures { IsLast (slice_index self.now.buckets place) self.now.buckets place
+            result }
     {
         self.previous[place].place()
     }
@@ -116,7 +117,8 @@ impl Chains {
     fn next_of(&self, place: usize) -> Option<usize>
         requires place { place < length self.now.buckets }
         requires there { slice_index self.now.buckets place < self.now.width }
-        ensures { IsNext (slice_index self.now.buckets place) self.now.buckets place result }
+        ensures { IsNext (slice_index self.now.buckets place) self.now.buckets place
+            result }
     {
         let mut next = None;
         let mut at = self.last(self.buckets[place] as usize);

@@ -50,7 +50,8 @@ impl<T: Copy> Rows<T> {
     /// The row with a key, and the place at which it is kept, by which `set_at` finds it at once.
     #[inline(always)]
     pub fn locate(&self, key: u128) -> Option<(usize, &Row<T>)>
-        ensures { option_map (λ found. found.1.now) result ≡ row_of key self.now.rows }
+        ensures { option_map (λ found. found.1.now) result
+            ≡ row_of key self.now.rows }
     {
         let place = self.store.place_of(key)?;
         let row = self.store.cells[place].as_ref()?;

@@ -120,9 +120,12 @@ impl<T: Copy> Store<T> {
         ensures most { self.new.most ≡ self.old.most }
         ensures cells { self.new.cells ≡ self.old.cells }
         ensures count { self.new.count ≡ self.old.count }
-        ensures moments { self.new.moments.items ≡ self.old.moments.items ++ first_moment end ∷ [] }
-        ensures chains { self.new.chains ≡ with_place (bucket_of self.old.chains key) self.old.chains }
-        ensures alarms { HasAlarm end (length self.old.moments.items) self.old.alarms.alarms self.new.alarms.alarms }
+        ensures moments { self.new.moments.items
+            ≡ self.old.moments.items ++ first_moment end ∷ [] }
+        ensures chains { self.new.chains
+            ≡ with_place (bucket_of self.old.chains key) self.old.chains }
+        ensures alarms { HasAlarm end (length self.old.moments.items)
+            self.old.alarms.alarms self.new.alarms.alarms }
     {
         let place = self.moments.len();
         self.moments.push_reserved(first_moment(end));
@@ -139,7 +142,8 @@ impl<T: Copy> Store<T> {
         requires few { self.old.count < self.old.most }
         requires new { IsPlaceOf row.key self.old.cells.items None }
         ensures whole { IsWhole self.new }
-        ensures table { table_of self.new ≡ record (table_of self.old) { rows = rows_in self.old.cells.items ++ row ∷ [] } }
+        ensures table { table_of self.new
+            ≡ record (table_of self.old) { rows = rows_in self.old.cells.items ++ row ∷ [] } }
     {
         self.list_row(row.key, row.end);
         self.cells.push_reserved(Some(row));
@@ -152,7 +156,8 @@ impl<T: Copy> Store<T> {
         requires room { CanAppend self.old }
         requires place { IsPlaceOf row.key self.old.cells.items (Some place) }
         ensures whole { IsWhole self.new }
-        ensures table { table_of self.new ≡ record (table_of self.old) { rows = with_row row (rows_in self.old.cells.items) } }
+        ensures table { table_of self.new
+            ≡ record (table_of self.old) { rows = with_row row (rows_in self.old.cells.items) } }
     {
         let was = self.cells[place];
         self.cells[place] = Some(row);
@@ -171,7 +176,9 @@ impl<T: Copy> Store<T> {
     pub(crate) fn replace_watched(&mut self, near: usize, row: Row<T>) -> bool
         requires { IsWhole self.old }
         ensures whole { IsWhole self.new }
-        ensures done { result ≡ true → table_of self.new ≡ record (table_of self.old) { rows = with_row row (rows_in self.old.cells.items) } }
+        ensures done { result ≡ true
+            → table_of self.new
+            ≡ record (table_of self.old) { rows = with_row row (rows_in self.old.cells.items) } }
         ensures kept { result ≡ false → table_of self.new ≡ table_of self.old }
     {
         let Some(end) = row.end else {
@@ -196,7 +203,8 @@ impl<T: Copy> Store<T> {
         requires whole { IsWhole self.old }
         requires place { IsPlaceOf key self.old.cells.items (Some place) }
         ensures whole { IsWhole self.new }
-        ensures table { table_of self.new ≡ record (table_of self.old) { rows = without key (rows_in self.old.cells.items) } }
+        ensures table { table_of self.new
+            ≡ record (table_of self.old) { rows = without key (rows_in self.old.cells.items) } }
     {
         self.chains.remove(place);
         self.cells[place] = None;
@@ -208,9 +216,11 @@ impl<T: Copy> Store<T> {
     pub(crate) fn next_ended(&mut self, now: u64) -> Option<Row<T>>
         requires { IsWhole self.old }
         ensures whole { IsWhole self.new }
-        ensures some { IfSome result (IsTakenOut now (table_of self.old) (table_of self.new)) }
+        ensures some { IfSome result
+            (IsTakenOut now (table_of self.old) (table_of self.new)) }
         ensures none { IfNone result (table_of self.new ≡ table_of self.old) }
-        ensures live { IfNone result (living now (rows_in self.new.cells.items) ≡ rows_in self.new.cells.items) }
+        ensures live { IfNone result (living now (rows_in self.new.cells.items)
+            ≡ rows_in self.new.cells.items) }
     {
         while let Some((moment, place)) = self.alarms.pop_due(now) {
             if let Some(row) = self.review(moment, place as usize, now) {
@@ -225,9 +235,11 @@ impl<T: Copy> Store<T> {
         requires open { IsOpen moment place self.old }
         requires due { moment ≤ now }
         ensures whole { IsWhole self.new }
-        ensures some { IfSome result (IsTakenOut now (table_of self.old) (table_of self.new)) }
+        ensures some { IfSome result
+            (IsTakenOut now (table_of self.old) (table_of self.new)) }
         ensures none { IfNone result (table_of self.new ≡ table_of self.old) }
-        ensures due { IfNone result (count_due now self.new.alarms.alarms ≡ count_due now self.old.alarms.alarms) }
+        ensures due { IfNone result (count_due now self.new.alarms.alarms
+            ≡ count_due now self.old.alarms.alarms) }
     {
         let row = self.row_at(place)?;
         let end = row.end?;

@@ -41,10 +41,14 @@ impl Ahead {
     /// Reads as many octets as there is room for, or all that are left. The error is that a read failed.
     pub fn fill<D: Desk>(&mut self, desk: &mut D) -> Result<(), Failed>
         requires { CanRead (D.outside desk.old) ReportGiven }
-        ensures ok { OnOk result (Fills self.old self.new (D.outside desk.old) (D.outside desk.new)) }
-        ensures err { OnErr result (TakesFewer ReportGiven 256 (D.outside desk.old) (D.outside desk.new)) }
-        ensures cause { OnErr result (HasFailed ReportGiven (D.outside desk.old) (D.outside desk.new)) }
-        ensures leaves { OnOk result ((D.outside desk.new).faults ≡ (D.outside desk.old).faults) }
+        ensures ok { OnOk result
+            (Fills self.old self.new (D.outside desk.old) (D.outside desk.new)) }
+        ensures err { OnErr result
+            (TakesFewer ReportGiven 256 (D.outside desk.old) (D.outside desk.new)) }
+        ensures cause { OnErr result
+            (HasFailed ReportGiven (D.outside desk.old) (D.outside desk.new)) }
+        ensures leaves { OnOk result
+            ((D.outside desk.new).faults ≡ (D.outside desk.old).faults) }
     {
         let n = read_full(desk, Slot::ReportGiven, &mut self.room[self.count..])?;
         self.count += n;

@@ -58,7 +58,10 @@ pub fn take_event<D: Desk>(
     requires few { totals.events < 2 ^ 42 }
     requires moment { IsMoment head.moment.0 }
     requires fits { Fits totals given.old }
-    ensures answer { (s : State) (x : Arrival) → IsExpecting head totals auditor.old s x → FindsAt result s x given.old given.new auditor.old auditor.new (D.outside desk.old) (D.outside desk.new) }
+    ensures answer { (s : State) (x : Arrival)
+        → IsExpecting head totals auditor.old s x
+        → FindsAt result s x given.old given.new auditor.old auditor.new
+        (D.outside desk.old) (D.outside desk.new) }
     ensures reads { ReadsGiven (D.outside desk.old) (D.outside desk.new) }
     ensures leaves { LeavesFaults result (D.outside desk.old) (D.outside desk.new) }
 {
@@ -97,7 +100,9 @@ pub fn take_rest<D: Desk>(
     requires kept { auditor.now.lost ≡ false }
     requires few { totals.events < 2 ^ 42 }
     requires fits { Fits totals given.old }
-    ensures answer { FindsLast result auditor.now.settings (state_of auditor.now totals) given.old (D.outside desk.old) (D.outside desk.new) }
+    ensures answer { FindsLast result auditor.now.settings
+        (state_of auditor.now totals) given.old (D.outside desk.old)
+        (D.outside desk.new) }
     ensures reads { ReadsGiven (D.outside desk.old) (D.outside desk.new) }
     ensures leaves { LeavesFaults result (D.outside desk.old) (D.outside desk.new) }
 {

@@ -45,7 +45,8 @@ pub fn audit_events<D: Desk>(
     requires opening { IsOpening auditor.old.settings auditor.old }
     requires running { IsRunning given.old }
     requires fits { Fits nothing_counted given.old }
-    ensures answer { Finds result auditor.old.settings merge.old given.old (D.outside desk.old) (D.outside desk.new) }
+    ensures answer { Finds result auditor.old.settings merge.old given.old
+        (D.outside desk.old) (D.outside desk.new) }
     ensures taken { TookFew merge.old (D.outside desk.old) (D.outside desk.new) }
     ensures left_end { OnOk result (IsAtEnd (D.outside desk.new) LeftIn) }
     ensures right_end { OnOk result (IsAtEnd (D.outside desk.new) RightIn) }

@@ -19,7 +19,8 @@ fn expect_event(
 ) -> Result<LineHead, OutOfMemory>
     requires kept { auditor.old.lost ≡ false }
     requires early { IsMoment event.moment.0 }
-    ensures { Expected result number auditor.old auditor.new (Reaches (event_of event.entry)) }
+    ensures { Expected result number auditor.old auditor.new
+        (Reaches (event_of event.entry)) }
 {
     match auditor.expect(&event) {
         Ok(verdict) => Ok(LineHead {
@@ -40,7 +41,8 @@ fn expect_nothing(
     verdict: Verdict,
 ) -> Result<LineHead, OutOfMemory>
     requires kept { auditor.old.lost ≡ false }
-    ensures { Expected result number auditor.old auditor.new (Stopped (event_of event.entry) verdict) }
+    ensures { Expected result number auditor.old auditor.new
+        (Stopped (event_of event.entry) verdict) }
 {
     auditor.expect_nothing(event.side, event.moment);
     Ok(LineHead {
@@ -61,8 +63,10 @@ pub fn expect(
 ) -> Result<LineHead, OutOfMemory>
     requires kept { auditor.old.lost ≡ false }
     requires early { IsMoment event.moment.0 }
-    ensures answer { Expected result number auditor.old auditor.new (arrival by_known joiner.old (event_of event.entry)) }
-    ensures joiner { joiner.new ≡ joiner_after by_known joiner.old (event_of event.entry) }
+    ensures answer { Expected result number auditor.old auditor.new
+        (arrival by_known joiner.old (event_of event.entry)) }
+    ensures joiner { joiner.new
+        ≡ joiner_after by_known joiner.old (event_of event.entry) }
 {
     match ask(joiner, &event) {
         Taken::Plain => expect_event(auditor, number, event),

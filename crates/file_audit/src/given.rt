@@ -45,7 +45,8 @@ fn begin_capture<D: Desk>(
     link: Link,
 ) -> Result<CaptureReader, AuditStop>
     requires { CanRead (D.outside desk.old) slot }
-    ensures begins { BeginsCapture result slot link (D.outside desk.old) (D.outside desk.new) }
+    ensures begins { BeginsCapture result slot link (D.outside desk.old)
+        (D.outside desk.new) }
     ensures leaves { LeavesFaults result (D.outside desk.old) (D.outside desk.new) }
 {
     match CaptureReader::begin(alloc, desk, slot) {
@@ -71,9 +72,11 @@ impl GivenFiles {
     ) -> Result<GivenFiles, AuditStop>
         requires left { CanRead (D.outside desk.old) LeftGiven }
         requires right { CanRead (D.outside desk.old) RightGiven }
-        ensures answer { BeginsGiven result settings.now (D.outside desk.old) (D.outside desk.new) }
+        ensures answer { BeginsGiven result settings.now (D.outside desk.old)
+            (D.outside desk.new) }
         ensures reads { ReadsGiven (D.outside desk.old) (D.outside desk.new) }
-        ensures leaves { LeavesCounts result (D.outside desk.old) (D.outside desk.new) }
+        ensures leaves { LeavesCounts result (D.outside desk.old)
+            (D.outside desk.new) }
     {
         let left = match begin_capture(alloc, desk, Slot::LeftGiven, settings.left.link) {
             Ok(left) => left,
@@ -105,7 +108,8 @@ pub fn take_next<D: Desk>(
     requires running { IsRunning given.old }
     requires kept { auditor.old.lost ≡ false }
     requires begun { auditor.old.expecting.so_far ≡ begun }
-    ensures answer { TakesNext result frames from given.old given.new auditor.old auditor.new (D.outside desk.old) (D.outside desk.new) }
+    ensures answer { TakesNext result frames from given.old given.new auditor.old
+        auditor.new (D.outside desk.old) (D.outside desk.new) }
     ensures reads { ReadsGiven (D.outside desk.old) (D.outside desk.new) }
     ensures leaves { LeavesFaults result (D.outside desk.old) (D.outside desk.new) }
 {

@@ -81,7 +81,8 @@ fn agreement(line: &[u8], octets: &[u8]) -> Extent
 
 /// Compares octets with a line, as JSON or as text. As text it takes no memory.
 fn compare(alloc: Global, json: bool, line: &Line, octets: &[u8]) -> Result<Extent, OutOfMemory>
-    ensures is { IfOk result (λ found. found ≡ agreement (octets_of json line.now) octets.now) }
+    ensures is { IfOk result
+        (λ found. found ≡ agreement (octets_of json line.now) octets.now) }
     ensures bound { IfOk result (λ found. found.count ≤ length octets.now) }
     ensures memory { OnErr result (json ≡ true) }
 {
@@ -174,7 +175,8 @@ pub fn take_line<D: Desk>(
     requires can { CanRead (D.outside desk.old) ReportGiven }
     requires number { head.number < 2 ^ 64 }
     requires moment { IsMoment head.moment.0 }
-    ensures takes { TakesLine result json head report.old report.new (D.outside desk.old) (D.outside desk.new) }
+    ensures takes { TakesLine result json head report.old report.new
+        (D.outside desk.old) (D.outside desk.new) }
     ensures leaves { LeavesFaults result (D.outside desk.old) (D.outside desk.new) }
 {
     match report.fill(desk) {
@@ -201,7 +203,8 @@ pub fn take_last<D: Desk>(
 ) -> Result<bool, AuditStop>
     requires can { CanRead (D.outside desk.old) ReportGiven }
     requires short { length (octets_of json line.now) < 256 }
-    ensures takes { TakesLast result json line.now report.old report.new (D.outside desk.old) (D.outside desk.new) }
+    ensures takes { TakesLast result json line.now report.old report.new
+        (D.outside desk.old) (D.outside desk.new) }
     ensures leaves { LeavesFaults result (D.outside desk.old) (D.outside desk.new) }
 {
     match report.fill(desk) {

@@ -18,9 +18,12 @@ fn take_record<D: Desk>(
     requires running { reader.old.stop ≡ None }
     requires kept { auditor.old.lost ≡ false }
     requires count { auditor.old.expecting.so_far.count < 2 ^ 32 }
-    requires carried { auditor.old.expecting.so_far.carried ≤ 262144 * auditor.old.expecting.so_far.count }
-    ensures takes { TakesRecord result reader.old reader.new auditor.old auditor.new (D.outside desk.old) (D.outside desk.new) }
-    ensures leaves { OnOk result ((D.outside desk.new).faults ≡ (D.outside desk.old).faults) }
+    requires carried { auditor.old.expecting.so_far.carried
+        ≤ 262144 * auditor.old.expecting.so_far.count }
+    ensures takes { TakesRecord result reader.old reader.new auditor.old auditor.new
+        (D.outside desk.old) (D.outside desk.new) }
+    ensures leaves { OnOk result
+        ((D.outside desk.new).faults ≡ (D.outside desk.old).faults) }
 {
     match reader.advance(desk) {
         Ok(more) => {
@@ -47,8 +50,10 @@ pub fn take_records<D: Desk>(
     requires running { reader.old.stop ≡ None }
     requires kept { auditor.old.lost ≡ false }
     requires begun { auditor.old.expecting.so_far ≡ begun }
-    ensures takes { TakesRecords result frames reader.old reader.new auditor.old auditor.new (D.outside desk.old) (D.outside desk.new) }
-    ensures leaves { OnOk result ((D.outside desk.new).faults ≡ (D.outside desk.old).faults) }
+    ensures takes { TakesRecords result frames reader.old reader.new auditor.old
+        auditor.new (D.outside desk.old) (D.outside desk.new) }
+    ensures leaves { OnOk result
+        ((D.outside desk.new).faults ≡ (D.outside desk.old).faults) }
 {
     let mut taken = 0;
     while taken < frames {
@@ -64,8 +69,10 @@ pub fn take_records<D: Desk>(
 pub fn is_at_end<D: Desk>(desk: &mut D, reader: &mut CaptureReader) -> Result<bool, Failed>
     requires can { CanRead (D.outside desk.old) reader.old.slot }
     requires running { reader.old.stop ≡ None }
-    ensures finds { FindsEnd result reader.old (D.outside desk.old) (D.outside desk.new) }
-    ensures leaves { OnOk result ((D.outside desk.new).faults ≡ (D.outside desk.old).faults) }
+    ensures finds { FindsEnd result reader.old (D.outside desk.old)
+        (D.outside desk.new) }
+    ensures leaves { OnOk result
+        ((D.outside desk.new).faults ≡ (D.outside desk.old).faults) }
 {
     match reader.advance(desk) {
         Ok(more) => {

@@ -3,7 +3,7 @@ ghost use Rattle.std.specs.Prelude.{◌≤◌, OnOk};
 ghost use Rattle.gate_desk.specs.Outside.{CanRead, CanWrite};
 
 use gate_base::{Link, Moment};
-use gate_desk::{Desk, Failed, Slot, Access};
+use gate_desk::{Access, Desk, Failed, Slot};
 use memory_desks::MemoryDesk;
 use pcap_files::{CaptureFault, CaptureReader, ReadStop, write_head, write_packet};
 use std::alloc::Global;

@@ -3,7 +3,7 @@ ghost use Rattle.std.specs.Prelude.{◌≡◌, OnOk};
 ghost use Rattle.gate_desk.specs.Outside.{CanRead};
 
 use gate_base::Side;
-use gate_desk::{Desk, Failed, Slot, Access};
+use gate_desk::{Access, Desk, Failed, Slot};
 use memory_desks::MemoryDesk;
 use pcap_merge::{Merge, MergeStop};
 use std::alloc::{AllocError, Global};
@@ -46,7 +46,8 @@ fn start<D: Desk>(desk: &mut D) -> Result<(), Failed>
 fn next<D: Desk>(merge: &mut Merge, desk: &mut D) -> Result<Option<(Side, u64)>, MergeStop>
     requires left { CanRead (D.outside desk.old) Slot.LeftIn }
     requires right { CanRead (D.outside desk.old) Slot.RightIn }
-    ensures { OnOk result ((D.outside desk.new).starts ≡ (D.outside desk.old).starts) }
+    ensures { OnOk result
+        ((D.outside desk.new).starts ≡ (D.outside desk.old).starts) }
 {
     match merge.advance(desk) {
         Ok(true) => {

@@ -243,8 +243,10 @@ fn take(
 ) -> Result<bool, Fail>
     requires count { expected.old.so_far.count ≤ 3 }
     requires carried { expected.old.so_far.carried ≤ expected.old.so_far.count * 512 }
-    ensures count { OnOk result (expected.new.so_far.count ≤ expected.old.so_far.count + 1) }
-    ensures carried { OnOk result (expected.new.so_far.carried ≤ expected.new.so_far.count * 512) }
+    ensures count { OnOk result
+        (expected.new.so_far.count ≤ expected.old.so_far.count + 1) }
+    ensures carried { OnOk result
+        (expected.new.so_far.carried ≤ expected.new.so_far.count * 512) }
 {
     let (text, late, torn) = marks_of(record);
     let frame = frame_of(alloc, to, text)?;

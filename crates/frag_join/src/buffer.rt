@@ -141,7 +141,11 @@ impl Buffer {
     // How many places a fragment covers that aren't held.
     fn fresh(&self, fragment: &FragmentView<'_>) -> usize
         ensures few { result ≤ end_of fragment.now }
-        ensures value { result ≡ count_below (λ place. covers fragment.now place && not (is_some (known.octet_of self.now place))) (end_of fragment.now) }
+        ensures value { result
+            ≡ count_below
+            (λ place. covers fragment.now place
+            && not (is_some (known.octet_of self.now place)))
+            (end_of fragment.now) }
     {
         let mut count = 0;
         for place in fragment.start()..fragment.end() {
@@ -187,7 +191,9 @@ fn differ(held: Option<u8>, octet: u8) -> bool
 // Writes octets from a place on.
 fn write(target: &mut Vec<u8>, place: usize, octets: &[u8])
     requires { place + length octets.now ≤ length target.old.items }
-    ensures { target.new.items ≡ take place target.old.items ++ (octets.now ++ drop (place + length octets.now) target.old.items) }
+    ensures { target.new.items
+        ≡ take place target.old.items
+        ++ (octets.now ++ drop (place + length octets.now) target.old.items) }
 {
     target[place..place + octets.len()].copy_from_slice(octets);
 }
@@ -195,7 +201,9 @@ fn write(target: &mut Vec<u8>, place: usize, octets: &[u8])
 // Holds the header of a fragment that starts its datagram, unless one is held. Answers whether one is then held.
 fn put_header(octets: &mut Vec<u8>, headed: bool, fragment: &FragmentView<'_>) -> bool
     requires { 20 ≤ length octets.old.items }
-    ensures header { header_held result octets.new.items ≡ option_or (header_held headed octets.old.items) (known.header_told fragment.now) }
+    ensures header { header_held result octets.new.items
+        ≡ option_or (header_held headed octets.old.items)
+        (known.header_told fragment.now) }
     ensures first { fragment.now.start ≡ 0 → result ≡ true }
     ensures still { headed ≡ true → result ≡ true }
     ensures rest { drop 20 octets.new.items ≡ drop 20 octets.old.items }
@@ -218,7 +226,9 @@ fn is_either(one: bool, other: bool) -> bool
 fn mark(held: &mut Vec<bool>, from: usize, to: usize, value: bool)
     requires ordered { from ≤ to }
     requires within { to ≤ length held.old.items }
-    ensures { held.new.items ≡ take from held.old.items ++ (replicate (to - from) value ++ drop to held.old.items) }
+    ensures { held.new.items
+        ≡ take from held.old.items
+        ++ (replicate (to - from) value ++ drop to held.old.items) }
 {
     held[from..to].fill(value);
 }
@@ -226,7 +236,8 @@ fn mark(held: &mut Vec<bool>, from: usize, to: usize, value: bool)
 // Makes the 20 octets at the front the header of a whole datagram of this total length.
 fn seal_head(octets: &mut Vec<u8>, total: u16)
     requires { 20 ≤ length octets.old.items }
-    ensures header { take 20 octets.new.items ≡ known.whole_head (take 20 octets.old.items) total }
+    ensures header { take 20 octets.new.items
+        ≡ known.whole_head (take 20 octets.old.items) total }
     ensures rest { drop 20 octets.new.items ≡ drop 20 octets.old.items }
     ensures count { length octets.new.items ≡ length octets.old.items }
 {

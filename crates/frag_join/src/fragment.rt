@@ -101,7 +101,8 @@ impl<'a> FragmentView<'a> {
 /// The octets of the datagram of which a frame carries a fragment: those of a frame whose first fault is that it does.
 pub fn fragment_octets<'a>(event: &Event<'a>) -> Option<&'a [u8]>
     ensures is { is_some result ≡ fragments.is_fragment (event_of event.now) }
-    ensures octets { IfSome result (λ octets. octets.now ≡ fragments.octets_of (event_of event.now)) }
+    ensures octets { IfSome result
+        (λ octets. octets.now ≡ fragments.octets_of (event_of event.now)) }
     ensures header { IfSome result (λ octets. has_bad_header octets.now ≡ false) }
 {
     let octets = octets_in(event);

@@ -24,7 +24,8 @@ pub fn open_joiner(alloc: Global, join: bool) -> Result<Option<Joiner>, OutOfMem
 #[inline(always)]
 pub fn ask(joiner: &mut Option<Joiner>, event: &Event<'_>) -> Taken
     ensures answer { result ≡ taken_by by_known joiner.old (event_of event.now) }
-    ensures state { joiner.new ≡ joiner_after by_known joiner.old (event_of event.now) }
+    ensures state { joiner.new
+        ≡ joiner_after by_known joiner.old (event_of event.now) }
     ensures joined { result ≡ Joined → IsSome (joined_in joiner.new) }
 {
     match joiner {

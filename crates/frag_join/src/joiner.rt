@@ -82,8 +82,10 @@ impl Joiner {
     /// fragment that isn't refused is held in its place of its datagram, and a datagram that it completes is joined
     /// (RFC 791, 3.2). One that is refused changes nothing else.
     pub fn take(&mut self, event: &Event<'_>) -> Taken
-        ensures answer { result ≡ (joining.step joining.by_known self.old (event_of event.now)).answer }
-        ensures state { self.new ≡ (joining.step joining.by_known self.old (event_of event.now)).state }
+        ensures answer { result
+            ≡ (joining.step joining.by_known self.old (event_of event.now)).answer }
+        ensures state { self.new
+            ≡ (joining.step joining.by_known self.old (event_of event.now)).state }
         ensures joined { result ≡ Taken.Joined → IsSome self.new.joined }
     {
         self.give_back();
@@ -122,8 +124,12 @@ impl Joiner {
         requires joined { self.old.joined ≡ None }
         requires header { has_bad_header octets.now ≡ false }
         requires octets { octets.now ≡ fragments.octets_of (event_of event.now) }
-        ensures answer { result ≡ (joining.fragment_step joining.by_known self.old.parts (event_of event.now)).answer }
-        ensures state { self.new ≡ (joining.fragment_step joining.by_known self.old.parts (event_of event.now)).state }
+        ensures answer { result
+            ≡ (joining.fragment_step joining.by_known self.old.parts
+            (event_of event.now)).answer }
+        ensures state { self.new
+            ≡ (joining.fragment_step joining.by_known self.old.parts
+            (event_of event.now)).state }
     {
         if has_options(octets) {
             return Taken::Refused(Refusal::IpOptions);
@@ -159,10 +165,18 @@ impl Joiner {
     fn put(&mut self, place: usize, event: &Event<'_>, fragment: &FragmentView<'_>) -> Taken
         requires within { place < length self.old.parts }
         requires joined { self.old.joined ≡ None }
-        requires fragment { fragment.now ≡ fragments.fragment_in (event_of event.now) }
-        requires good { known.is_bad (known_at self.old.parts (Some place)) fragment.now ≡ false }
-        ensures answer { (part : Part Coverage) → slice_get self.old.parts place ≡ Some part → result ≡ (put_at self.old.parts place (event_of event.now) part).answer }
-        ensures state { (part : Part Coverage) → slice_get self.old.parts place ≡ Some part → self.new ≡ (put_at self.old.parts place (event_of event.now) part).state }
+        requires fragment { fragment.now
+            ≡ fragments.fragment_in (event_of event.now) }
+        requires good { known.is_bad (known_at self.old.parts (Some place))
+            fragment.now ≡ false }
+        ensures answer { (part : Part Coverage)
+            → slice_get self.old.parts place ≡ Some part
+            → result
+            ≡ (put_at self.old.parts place (event_of event.now) part).answer }
+        ensures state { (part : Part Coverage)
+            → slice_get self.old.parts place ≡ Some part
+            → self.new
+            ≡ (put_at self.old.parts place (event_of event.now) part).state }
     {
         let part = &mut self.parts[place];
         part.kept.put(fragment);
@@ -179,7 +193,8 @@ impl Joiner {
         requires few { length self.old.parts < 64 }
         requires joined { self.old.joined ≡ None }
         ensures place { result ≡ length self.old.parts }
-        ensures state { self.new ≡ record self.old { parts = self.old.parts ++ new_part name since ∷ [] } }
+        ensures state { self.new
+            ≡ record self.old { parts = self.old.parts ++ new_part name since ∷ [] } }
     {
         let place = self.parts.len();
         match self.spare.pop() {
@@ -196,9 +211,11 @@ impl Joiner {
 
 // Drops the datagrams whose first fragment came 30 seconds ago or earlier.
 fn drop_ended(parts: &mut Vec<Part<Buffer>>, spare: &mut Vec<Buffer>, now: Moment)
-    requires { length parts.old.items + length spare.old.items ≤ vec_capacity spare.old }
+    requires { length parts.old.items + length spare.old.items
+        ≤ vec_capacity spare.old }
     ensures parts { parts.new.items ≡ joining.live now.0 parts.old.items }
-    ensures buffers { length parts.new.items + length spare.new.items ≡ length parts.old.items + length spare.old.items }
+    ensures buffers { length parts.new.items + length spare.new.items
+        ≡ length parts.old.items + length spare.old.items }
     ensures room { vec_capacity parts.new ≡ vec_capacity parts.old }
     ensures spare { vec_capacity spare.new ≡ vec_capacity spare.old }
 {
@@ -210,7 +227,8 @@ fn drop_ended(parts: &mut Vec<Part<Buffer>>, spare: &mut Vec<Buffer>, now: Momen
 
 // The place of a datagram whose first fragment came too long ago.
 fn ended_place(parts: &[Part<Buffer>], now: Moment) -> Option<usize>
-    ensures place { result ≡ position (λ part. not (joining.is_live now.0 part)) parts.now }
+    ensures place { result
+        ≡ position (λ part. not (joining.is_live now.0 part)) parts.now }
     ensures within { IfSome result (λ place. place < length parts.now) }
 {
     parts.iter().position(|part| !part.is_live(now))

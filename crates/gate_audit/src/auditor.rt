@@ -17,12 +17,12 @@ ghost use Rattle.event_engine.specs.Given.{given_by, refusal_of};
 ghost use Rattle.audit_sessions.specs.Gives.{heard_gives};
 
 use audit_records::{Expected, Pieces};
+use audit_sessions::AuditedSession;
+use event_engine::{State, Taken};
 use expiring_table::Seed;
 use gate_base::{Event, Moment, OutOfMemory, Side, Verdict};
-use event_engine::{State, Taken};
 use gate_outbox::Outbox;
 use gate_settings::Settings;
-use audit_sessions::AuditedSession;
 use pcap_files::Packet;
 use std::alloc::Global;
 use std::marker::Model;
@@ -93,9 +93,12 @@ impl Auditor {
     pub fn expect(&mut self, event: &Event<'_>) -> Result<Verdict, OutOfMemory>
         requires moment { IsMoment event.now.moment.0 }
         requires kept { self.old.lost ≡ false }
-        ensures verdict { IfOk result (λ v. v ≡ verdict whole_rules (whole_world self.old) (event_of event.now)) }
+        ensures verdict { IfOk result (λ v. v
+            ≡ verdict whole_rules (whole_world self.old) (event_of event.now)) }
         ensures next { OnOk result (Expects self.old self.new (event_of event.now)) }
-        ensures wants { OnErr result (MayWant (at_moment (whole_world self.old) event.now.moment.0) (event_of event.now)) }
+        ensures wants { OnErr result (MayWant
+            (at_moment (whole_world self.old) event.now.moment.0)
+            (event_of event.now)) }
     {
         are_octets(event.octets);
         self.lost = true;
@@ -116,7 +119,15 @@ impl Auditor {
     /// A frame that stays before the gate, a fragment that is held or refused: nothing is wanted of it, and nothing that is known changes.
     pub fn expect_nothing(&mut self, side: Side, moment: Moment)
         requires kept { self.old.lost ≡ false }
-        ensures { self.new ≡ record self.old { expecting = record { side = side; moment = moment.0; wanted = Exactly []; so_far = begun } } }
+        ensures { self.new
+            ≡ record self.old {
+              expecting = record {
+                side = side;
+                moment = moment.0;
+                wanted = Exactly [];
+                so_far = begun;
+              };
+            } }
     {
         self.expected.want_nothing(side, moment);
     }
@@ -126,7 +137,18 @@ impl Auditor {
         requires kept { self.old.lost ≡ false }
         requires count { self.old.expecting.so_far.count < 2 ^ 32 }
         requires carried { self.old.expecting.so_far.carried < 2 ^ 62 }
-        ensures next { self.new ≡ record self.old { expecting = record self.old.expecting { so_far = behind self.old.settings (other self.old.expecting.side) self.old.expecting.moment self.old.expecting.wanted self.old.expecting.so_far (record { stamp = packet.now.stamp; whole = packet.now.whole; octets = packet.now.octets.now }) } } }
+        ensures next { self.new
+            ≡ record self.old {
+              expecting = record self.old.expecting {
+                so_far = behind self.old.settings (other self.old.expecting.side)
+                    self.old.expecting.moment self.old.expecting.wanted
+                    self.old.expecting.so_far (record {
+                      stamp = packet.now.stamp;
+                      whole = packet.now.whole;
+                      octets = packet.now.octets.now;
+                    });
+              };
+            } }
         ensures answer { result ≡ self.new.expecting.so_far.right }
     {
         self.expected.frame(&self.settings, packet)
@@ -135,7 +157,8 @@ impl Auditor {
     /// Whether the records that came are those of a lawful list, all of them.
     pub fn closed(&self) -> bool
         requires kept { self.now.lost ≡ false }
-        ensures { result ≡ is_closed self.now.expecting.wanted self.now.expecting.so_far }
+        ensures { result
+            ≡ is_closed self.now.expecting.wanted self.now.expecting.so_far }
     {
         self.expected.closed()
     }
@@ -163,7 +186,13 @@ fn want(
     outbox: &Outbox,
 ) -> Verdict
     requires { IsWhole taken outbox.now }
-    ensures wanted { expected.new ≡ record { side = side; moment = moment.0; wanted = given_by heard_gives taken outbox.now; so_far = begun } }
+    ensures wanted { expected.new
+        ≡ record {
+          side = side;
+          moment = moment.0;
+          wanted = given_by heard_gives taken outbox.now;
+          so_far = begun;
+        } }
     ensures verdict { result ≡ verdict_of (refusal_of taken) }
 {
     match taken {

@@ -7,14 +7,15 @@ ghost use Rattle.gate_command.specs.Answers.{Answers, AnswersRun, AnswersMake, A
 ghost use Rattle.run_setup.specs.AuditNames.{names_of as audit_names_of};
 
 use gate_desk::Desk;
-use run_setup::{AuditNames, Command, FileNames, Status, read_words, write_error_line, tell_usage};
 use gateway::{make, run};
 use gateway_audit::audit;
+use run_setup::{AuditNames, Command, FileNames, Status, read_words, tell_usage, write_error_line};
 use std::alloc::Global;
 
 /// A run, and the line about what went wrong.
 fn told_run<D: Desk>(alloc: Global, desk: &mut D, names: FileNames<'_>) -> Status
-    ensures { AnswersRun result (names_of names.entry) (D.outside desk.old) (D.outside desk.new) }
+    ensures { AnswersRun result (names_of names.entry) (D.outside desk.old)
+        (D.outside desk.new) }
 {
     match run(alloc, desk, names) {
         Ok(_) => Status::Done,
@@ -25,7 +26,8 @@ fn told_run<D: Desk>(alloc: Global, desk: &mut D, names: FileNames<'_>) -> Statu
 /// A make, and the line about what went wrong.
 fn told_make<D: Desk>(alloc: Global, desk: &mut D, number: u32, count: u32, report: &str) -> Status
     requires { count ≤ 100000 }
-    ensures { AnswersMake result number count report.now (D.outside desk.old) (D.outside desk.new) }
+    ensures { AnswersMake result number count report.now (D.outside desk.old)
+        (D.outside desk.new) }
 {
     match make(alloc, desk, number, count, report) {
         Status::Done => Status::Done,
@@ -35,7 +37,8 @@ fn told_make<D: Desk>(alloc: Global, desk: &mut D, number: u32, count: u32, repo
 
 /// An audit, and the line about what went wrong where it gives no verdict.
 fn told_audit<D: Desk>(alloc: Global, desk: &mut D, names: AuditNames<'_>) -> Status
-    ensures { AnswersAudit result (audit_names_of names.entry) (D.outside desk.old) (D.outside desk.new) }
+    ensures { AnswersAudit result (audit_names_of names.entry) (D.outside desk.old)
+        (D.outside desk.new) }
 {
     match audit(alloc, desk, names) {
         Status::Done => Status::Done,
@@ -59,7 +62,8 @@ fn told_audit<D: Desk>(alloc: Global, desk: &mut D, names: AuditNames<'_>) -> St
 /// whole message renamed by the session's lists. Acknowledgements cover only octets whose images were acknowledged. Every other
 /// forwarded frame is its renaming.
 pub fn realm_gate<D: Desk>(alloc: Global, words: &[String], desk: &mut D) -> Status
-    ensures { Answers result (command_of (map string_bytes words.now)) (D.outside desk.old) (D.outside desk.new) }
+    ensures { Answers result (command_of (map string_bytes words.now))
+        (D.outside desk.old) (D.outside desk.new) }
 {
     match read_words(words) {
         Command::Run(names) => told_run(alloc, desk, names),

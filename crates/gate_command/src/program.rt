@@ -32,7 +32,8 @@ fn words(rt: &HostRuntime) -> Result<Vec<String>, AllocError> {
 
 /// Carries out the command of these words over a desk, and answers the exit status.
 fn exit_status<D: Desk>(alloc: Global, words: &[String], desk: &mut D) -> u8
-    ensures { IsExit result (command_of (map string_bytes words.now)) (D.outside desk.old) (D.outside desk.new) }
+    ensures { IsExit result (command_of (map string_bytes words.now))
+        (D.outside desk.old) (D.outside desk.new) }
 {
     realm_gate(alloc, words, desk).code()
 }
@@ -79,7 +80,8 @@ fn finish<R: Runtime>(desk: &mut FileDesk<R>, code: u8) -> u8
 
 /// Carries out the command of these words over real files, and answers the exit status.
 pub fn carry_out<R: Runtime>(alloc: Global, words: &[String], desk: &mut FileDesk<R>) -> u8
-    ensures exit { IsFinished result (command_of (map string_bytes words.now)) desk.old desk.new }
+    ensures exit { IsFinished result (command_of (map string_bytes words.now))
+        desk.old desk.new }
     ensures code { IsCode result }
 {
     let code = exit_status(alloc, words, desk);

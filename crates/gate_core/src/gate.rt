@@ -12,9 +12,9 @@ ghost use Rattle.gate_model.specs.Verdict.{verdict, verdict_of};
 ghost use Rattle.event_engine.specs.Given.{refusal_of};
 
 use crate::salt::salt_of;
+use event_engine::{State, Taken};
 use expiring_table::Seed;
 use gate_base::{Event, Moment, OutOfMemory, Verdict};
-use event_engine::{State, Taken};
 use gate_outbox::Outbox;
 use gate_sessions::AnySession;
 use gate_settings::Settings;
@@ -58,7 +58,8 @@ impl Gate {
     pub fn new(alloc: Global, settings: Settings, seed: u64) -> Result<Gate, OutOfMemory>
         requires sound { IsSound settings }
         requires forms { HasForms settings }
-        ensures { IfOk result (λ gate. gate ≡ record { settings = settings; world = opening_world settings }) }
+        ensures { IfOk result (λ gate. gate
+            ≡ record { settings = settings; world = opening_world settings }) }
     {
         let salt = salt_of(&settings) ^ seed;
         Ok(Gate {
@@ -91,11 +92,21 @@ impl Gate {
     /// bears an address. The third is one that completes a unit of a session of DNS, which doesn't refuse it.
     pub fn step(&mut self, event: &Event<'_>, outbox: &mut Outbox) -> Result<Verdict, OutOfMemory>
         requires moment { IsMoment event.now.moment.0 }
-        ensures verdict { IfOk result (λ v. v ≡ verdict compact_rules self.old.world (event_of event.now)) }
-        ensures next { OnOk result (self.new ≡ record self.old { world = next compact_rules self.old.world (event_of event.now) }) }
-        ensures out { OnOk result (outbox.new ≡ out compact_rules self.old.world (event_of event.now)) }
-        ensures memory { OnErr result ((self.new ≡ record self.old { world = at_moment self.old.world event.now.moment.0 }) × (outbox.new ≡ [])) }
-        ensures wants { OnErr result (MayWant (at_moment self.old.world event.now.moment.0) (event_of event.now)) }
+        ensures verdict { IfOk result
+            (λ v. v ≡ verdict compact_rules self.old.world (event_of event.now)) }
+        ensures next { OnOk result (self.new
+            ≡ record self.old {
+              world = next compact_rules self.old.world (event_of event.now);
+            }) }
+        ensures out { OnOk result
+            (outbox.new ≡ out compact_rules self.old.world (event_of event.now)) }
+        ensures memory { OnErr result ((self.new
+            ≡ record self.old {
+              world = at_moment self.old.world event.now.moment.0;
+            })
+            × (outbox.new ≡ [])) }
+        ensures wants { OnErr result (MayWant
+            (at_moment self.old.world event.now.moment.0) (event_of event.now)) }
     {
         self.spread_keys(event.moment);
         self.state.expire(event.moment);

@@ -3,7 +3,7 @@ ghost use Rattle.std.specs.Prelude.{◌≡◌, ◌<◌, ◌≤◌, ◌++◌, ℕ
 ghost use Rattle.gate_desk.specs.declared.slot.Slot.{Slot};
 ghost use Rattle.gate_desk.specs.Outside.{Outside, Starts, FailsToStart, Takes, AreNext, IsAtEnd, Writes, WritesPart, HasFailed, CanRead, CanWrite};
 
-use crate::{Slot, Access};
+use crate::{Access, Slot};
 
 /// A start, a read or a write failed, and the desk counted it.
 #[derive(Clone, Copy, Debug, PartialEq, Eq)]
@@ -20,21 +20,30 @@ pub trait Desk {
 
     /// Prepares a slot under a name. It fails only where the slot's count of failed starts rose, and changes no contents.
     fn start(&mut self, slot: Slot, name: &str, access: Access) -> Result<(), Failed>
-        ensures ok { OnOk result (Starts slot name.now access (outside self.old) (outside self.new)) }
-        ensures err { OnErr result (FailsToStart slot (outside self.old) (outside self.new)) }
-        ensures leaves { OnOk result ((outside self.new).start_faults ≡ (outside self.old).start_faults) };
+        ensures ok { OnOk result
+            (Starts slot name.now access (outside self.old) (outside self.new)) }
+        ensures err { OnErr result
+            (FailsToStart slot (outside self.old) (outside self.new)) }
+        ensures leaves { OnOk result
+            ((outside self.new).start_faults ≡ (outside self.old).start_faults) };
 
     /// Takes octets from the front of a slot whose last start is for reading, and answers how many. None come, for a buffer
     /// with room, only at the slot's end. It fails only where the slot's count of faults rose, and then takes nothing.
     fn read(&mut self, slot: Slot, buffer: &mut [u8]) -> Result<usize, Failed>
         requires { CanRead (outside self.old) slot }
         ensures fits { IfOk result (λ n. n ≤ length buffer.new) }
-        ensures ok { IfOk result (λ n. Takes slot n (outside self.old) (outside self.new)) }
-        ensures octets { IfOk result (λ n. AreNext (take n buffer.new) (outside self.old) slot) }
-        ensures end { IfOk result (λ n. n ≡ 0 → 0 < length buffer.old → IsAtEnd (outside self.old) slot) }
-        ensures err { OnErr result (Takes slot 0 (outside self.old) (outside self.new)) }
-        ensures cause { OnErr result (HasFailed slot (outside self.old) (outside self.new)) }
-        ensures leaves { OnOk result ((outside self.new).faults ≡ (outside self.old).faults) };
+        ensures ok { IfOk result
+            (λ n. Takes slot n (outside self.old) (outside self.new)) }
+        ensures octets { IfOk result
+            (λ n. AreNext (take n buffer.new) (outside self.old) slot) }
+        ensures end { IfOk result
+            (λ n. n ≡ 0 → 0 < length buffer.old → IsAtEnd (outside self.old) slot) }
+        ensures err { OnErr result
+            (Takes slot 0 (outside self.old) (outside self.new)) }
+        ensures cause { OnErr result
+            (HasFailed slot (outside self.old) (outside self.new)) }
+        ensures leaves { OnOk result
+            ((outside self.new).faults ≡ (outside self.old).faults) };
 
     /// Appends the first octets of a piece to a slot whose last start is for writing, and answers how many: of a piece that
     /// isn't empty at least one. It fails only where the slot's count of faults rose, and then writes nothing.
@@ -42,10 +51,14 @@ pub trait Desk {
         requires { CanWrite (outside self.old) slot }
         ensures fits { IfOk result (λ n. n ≤ length piece.now) }
         ensures some { IfOk result (λ n. 0 < length piece.now → 0 < n) }
-        ensures ok { IfOk result (λ n. Writes slot (take n piece.now) (outside self.old) (outside self.new)) }
-        ensures err { OnErr result (Writes slot [] (outside self.old) (outside self.new)) }
-        ensures cause { OnErr result (HasFailed slot (outside self.old) (outside self.new)) }
-        ensures leaves { OnOk result ((outside self.new).faults ≡ (outside self.old).faults) };
+        ensures ok { IfOk result (λ n. Writes slot (take n piece.now)
+            (outside self.old) (outside self.new)) }
+        ensures err { OnErr result
+            (Writes slot [] (outside self.old) (outside self.new)) }
+        ensures cause { OnErr result
+            (HasFailed slot (outside self.old) (outside self.new)) }
+        ensures leaves { OnOk result
+            ((outside self.new).faults ≡ (outside self.old).faults) };
 
     /// The next octets of a slot that stand ready. There may be none though more are to come.
     fn ahead(&self, slot: Slot) -> &[u8]
@@ -68,8 +81,12 @@ pub trait Desk {
     /// both was written then.
     fn write_both(&mut self, slot: Slot, first: &[u8], second: &[u8]) -> Result<(), Failed>
         requires { CanWrite (outside self.old) slot }
-        ensures ok { OnOk result (Writes slot (first.now ++ second.now) (outside self.old) (outside self.new)) }
-        ensures err { OnErr result (WritesPart slot (first.now ++ second.now) (outside self.old) (outside self.new)) }
-        ensures cause { OnErr result (HasFailed slot (outside self.old) (outside self.new)) }
-        ensures leaves { OnOk result ((outside self.new).faults ≡ (outside self.old).faults) };
+        ensures ok { OnOk result (Writes slot (first.now ++ second.now)
+            (outside self.old) (outside self.new)) }
+        ensures err { OnErr result (WritesPart slot (first.now ++ second.now)
+            (outside self.old) (outside self.new)) }
+        ensures cause { OnErr result
+            (HasFailed slot (outside self.old) (outside self.new)) }
+        ensures leaves { OnOk result
+            ((outside self.new).faults ≡ (outside self.old).faults) };
 }

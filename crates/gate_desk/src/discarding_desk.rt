@@ -4,7 +4,7 @@ ghost use Rattle.gate_desk.specs.Discarded.{told_by};
 ghost use Rattle.gate_desk.specs.Outside.{Starts, FailsToStart, Takes, AreNext, IsAtEnd, Writes, WritesPart, HasFailed};
 ghost use Rattle.gate_desk.specs.Slots.{at, put, inputs};
 
-use crate::{Desk, Failed, PerSlot, Slot, Source, Access};
+use crate::{Access, Desk, Failed, PerSlot, Slot, Source};
 use std::alloc::Global;
 use std::marker::Model;
 
@@ -41,9 +41,12 @@ impl Desk for DiscardingDesk {
     ghost ready = { λ left slot. length (at left slot) };
 
     fn start(&mut self, _slot: Slot, _name: &str, _access: Access) -> Result<(), Failed>
-        ensures ok { OnOk result (Starts _slot _name.now _access (told_by self.old) (told_by self.new)) }
-        ensures err { OnErr result (FailsToStart _slot (told_by self.old) (told_by self.new)) }
-        ensures leaves { OnOk result ((told_by self.new).start_faults ≡ (told_by self.old).start_faults) }
+        ensures ok { OnOk result
+            (Starts _slot _name.now _access (told_by self.old) (told_by self.new)) }
+        ensures err { OnErr result
+            (FailsToStart _slot (told_by self.old) (told_by self.new)) }
+        ensures leaves { OnOk result
+            ((told_by self.new).start_faults ≡ (told_by self.old).start_faults) }
         ensures exact { IsOk result }
     {
         Ok(())
@@ -51,12 +54,18 @@ impl Desk for DiscardingDesk {
 
     fn read(&mut self, slot: Slot, buffer: &mut [u8]) -> Result<usize, Failed>
         ensures fits { IfOk result (λ n. n ≤ length buffer.new) }
-        ensures ok { IfOk result (λ n. Takes slot n (told_by self.old) (told_by self.new)) }
-        ensures octets { IfOk result (λ n. AreNext (take n buffer.new) (told_by self.old) slot) }
-        ensures end { IfOk result (λ n. n ≡ 0 → 0 < length buffer.old → IsAtEnd (told_by self.old) slot) }
-        ensures err { OnErr result (Takes slot 0 (told_by self.old) (told_by self.new)) }
-        ensures cause { OnErr result (HasFailed slot (told_by self.old) (told_by self.new)) }
-        ensures leaves { OnOk result ((told_by self.new).faults ≡ (told_by self.old).faults) }
+        ensures ok { IfOk result
+            (λ n. Takes slot n (told_by self.old) (told_by self.new)) }
+        ensures octets { IfOk result
+            (λ n. AreNext (take n buffer.new) (told_by self.old) slot) }
+        ensures end { IfOk result
+            (λ n. n ≡ 0 → 0 < length buffer.old → IsAtEnd (told_by self.old) slot) }
+        ensures err { OnErr result
+            (Takes slot 0 (told_by self.old) (told_by self.new)) }
+        ensures cause { OnErr result
+            (HasFailed slot (told_by self.old) (told_by self.new)) }
+        ensures leaves { OnOk result
+            ((told_by self.new).faults ≡ (told_by self.old).faults) }
         ensures exact { IsOk result }
     {
         Ok(self.left.at_mut(slot).take(buffer))
@@ -65,10 +74,14 @@ impl Desk for DiscardingDesk {
     fn write(&mut self, slot: Slot, piece: &[u8]) -> Result<usize, Failed>
         ensures fits { IfOk result (λ n. n ≤ length piece.now) }
         ensures some { IfOk result (λ n. 0 < length piece.now → 0 < n) }
-        ensures ok { IfOk result (λ n. Writes slot (take n piece.now) (told_by self.old) (told_by self.new)) }
-        ensures err { OnErr result (Writes slot [] (told_by self.old) (told_by self.new)) }
-        ensures cause { OnErr result (HasFailed slot (told_by self.old) (told_by self.new)) }
-        ensures leaves { OnOk result ((told_by self.new).faults ≡ (told_by self.old).faults) }
+        ensures ok { IfOk result (λ n. Writes slot (take n piece.now)
+            (told_by self.old) (told_by self.new)) }
+        ensures err { OnErr result
+            (Writes slot [] (told_by self.old) (told_by self.new)) }
+        ensures cause { OnErr result
+            (HasFailed slot (told_by self.old) (told_by self.new)) }
+        ensures leaves { OnOk result
+            ((told_by self.new).faults ≡ (told_by self.old).faults) }
         ensures exact { IsOk result }
     {
         Ok(piece.len())
@@ -92,10 +105,14 @@ impl Desk for DiscardingDesk {
     }
 
     fn write_both(&mut self, _slot: Slot, _first: &[u8], _second: &[u8]) -> Result<(), Failed>
-        ensures ok { OnOk result (Writes _slot (_first.now ++ _second.now) (told_by self.old) (told_by self.new)) }
-        ensures err { OnErr result (WritesPart _slot (_first.now ++ _second.now) (told_by self.old) (told_by self.new)) }
-        ensures cause { OnErr result (HasFailed _slot (told_by self.old) (told_by self.new)) }
-        ensures leaves { OnOk result ((told_by self.new).faults ≡ (told_by self.old).faults) }
+        ensures ok { OnOk result (Writes _slot (_first.now ++ _second.now)
+            (told_by self.old) (told_by self.new)) }
+        ensures err { OnErr result (WritesPart _slot (_first.now ++ _second.now)
+            (told_by self.old) (told_by self.new)) }
+        ensures cause { OnErr result
+            (HasFailed _slot (told_by self.old) (told_by self.new)) }
+        ensures leaves { OnOk result
+            ((told_by self.new).faults ≡ (told_by self.old).faults) }
         ensures exact { IsOk result }
     {
         Ok(())

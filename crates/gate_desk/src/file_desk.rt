@@ -7,7 +7,7 @@ ghost use Rattle.gate_desk.specs.Slots.{at, put, each};
 
 use crate::gathered::Gathering;
 use crate::place::{Place, open_place, write_out};
-use crate::{Desk, Failed, PerSlot, Slot, Access};
+use crate::{Access, Desk, Failed, PerSlot, Slot};
 use std::alloc::Allocator;
 use std::io::Read;
 use std::marker::Model;
@@ -48,7 +48,8 @@ impl<R: Runtime> Model for FileDesk<R> {
 
 fn nowhere<F: Read + Drop, A: Allocator>() -> PerSlot<Place<F, A>>
     ensures waiting { waiting_in result ≡ each [] }
-    ensures got { (contents : F → Option (List ℕ)) → got_in contents result ≡ each None }
+    ensures got { (contents : F → Option (List ℕ))
+        → got_in contents result ≡ each None }
     ensures accesses { accesses_in result ≡ each None }
     ensures ahead { ahead_in result ≡ each [] }
     ensures unread { unread_in F.remaining result ≡ each None }
@@ -71,10 +72,13 @@ fn nowhere<F: Read + Drop, A: Allocator>() -> PerSlot<Place<F, A>>
 fn write_out_all<R: Runtime>(rt: &R, places: &mut PerSlot<Place<R::File, R::A>>) -> Result<(), Slot>
     ensures accesses { accesses_in places.new ≡ accesses_in places.old }
     ensures ahead { ahead_in places.new ≡ ahead_in places.old }
-    ensures unread { unread_in R.File.remaining places.new ≡ unread_in R.File.remaining places.old }
+    ensures unread { unread_in R.File.remaining places.new
+        ≡ unread_in R.File.remaining places.old }
     ensures none { OnOk result (waiting_in places.new ≡ each []) }
-    ensures files { OnOk result (HandsOut (got_in R.File.contents places.old) (waiting_in places.old) (got_in R.File.contents places.new)) }
-    ensures stays { IfErr result (λ slot. StaysWaiting slot (waiting_in places.old) (waiting_in places.new)) }
+    ensures files { OnOk result (HandsOut (got_in R.File.contents places.old)
+        (waiting_in places.old) (got_in R.File.contents places.new)) }
+    ensures stays { IfErr result
+        (λ slot. StaysWaiting slot (waiting_in places.old) (waiting_in places.new)) }
 {
     write_out(rt, Slot::Settings, &mut places.settings)?;
     write_out(rt, Slot::LeftIn, &mut places.left_in)?;
@@ -97,13 +101,17 @@ fn hand_out<R: Runtime>(
 ) -> Result<(), Failed>
     ensures accesses { accesses_in places.new ≡ accesses_in places.old }
     ensures ahead { ahead_in places.new ≡ ahead_in places.old }
-    ensures unread { unread_in R.File.remaining places.new ≡ unread_in R.File.remaining places.old }
+    ensures unread { unread_in R.File.remaining places.new
+        ≡ unread_in R.File.remaining places.old }
     ensures all { OnOk result (waiting_in places.new ≡ each []) }
-    ensures files { OnOk result (HandsOut (got_in R.File.contents places.old) (waiting_in places.old) (got_in R.File.contents places.new)) }
+    ensures files { OnOk result (HandsOut (got_in R.File.contents places.old)
+        (waiting_in places.old) (got_in R.File.contents places.new)) }
     ensures none { OnOk result (refused.new ≡ None) }
     ensures err { OnErr result (IsSome refused.new) }
     ensures kept { IsSome refused.old → refused.new ≡ refused.old }
-    ensures stays { RefusedWaits refused.old (waiting_in places.old) → IfSome refused.new (λ slot. StaysWaiting slot (waiting_in places.old) (waiting_in places.new)) }
+    ensures stays { RefusedWaits refused.old (waiting_in places.old)
+        → IfSome refused.new (λ slot. StaysWaiting slot (waiting_in places.old)
+        (waiting_in places.new)) }
 {
     if refused.is_some() {
         return Err(Failed);
@@ -128,12 +136,19 @@ fn start_slot<R: Runtime>(
     access: Access,
 ) -> Result<(), Failed>
     ensures refused { IsSome refused.old → IsErr result }
-    ensures accesses { accesses_in places.new ≡ accesses_after result slot access (accesses_in places.old) }
-    ensures takes { OnOk result (TakesNothingElse slot (got_in R.File.contents places.old) (waiting_in places.old) (got_in R.File.contents places.new) (waiting_in places.new)) }
+    ensures accesses { accesses_in places.new
+        ≡ accesses_after result slot access (accesses_in places.old) }
+    ensures takes { OnOk result (TakesNothingElse slot
+        (got_in R.File.contents places.old) (waiting_in places.old)
+        (got_in R.File.contents places.new) (waiting_in places.new)) }
     ensures none { OnOk result (at (waiting_in places.new) slot ≡ []) }
-    ensures ahead { ahead_in places.new ≡ ahead_after result slot (ahead_in places.old) }
-    ensures unread { unread_in R.File.remaining places.new ≡ unread_after result slot (unread_in R.File.remaining places.old) (unread_in R.File.remaining places.new) }
-    ensures still { RefusedWaits refused.old (waiting_in places.old) → RefusedWaits refused.new (waiting_in places.new) }
+    ensures ahead { ahead_in places.new
+        ≡ ahead_after result slot (ahead_in places.old) }
+    ensures unread { unread_in R.File.remaining places.new
+        ≡ unread_after result slot (unread_in R.File.remaining places.old)
+        (unread_in R.File.remaining places.new) }
+    ensures still { RefusedWaits refused.old (waiting_in places.old)
+        → RefusedWaits refused.new (waiting_in places.new) }
 {
     hand_out(rt, places, refused)?;
     match open_place(rt, places, slot, name, access) {
@@ -156,12 +171,21 @@ fn read_slot<R: Runtime>(
     ensures fits { IfOk result (λ n. n ≤ length buffer.new) }
     ensures refused { IsSome refused.old → IsErr result }
     ensures accesses { accesses_in places.new ≡ accesses_in places.old }
-    ensures ahead { IfOk result (λ n. 0 < length (at (ahead_in places.old) slot) → TakesAhead n buffer.new (at (ahead_in places.old) slot) (at (ahead_in places.new) slot)) }
-    ensures others { ahead_in places.new ≡ put (ahead_in places.old) slot (at (ahead_in places.new) slot) }
-    ensures unread { ReadConsumes (at (unread_in R.File.remaining places.old) slot) (at (unread_in R.File.remaining places.new) slot) result buffer.new }
-    ensures unread_others { unread_in R.File.remaining places.new ≡ put (unread_in R.File.remaining places.old) slot (at (unread_in R.File.remaining places.new) slot) }
-    ensures takes { OnOk result (TakesNothing (got_in R.File.contents places.old) (waiting_in places.old) (got_in R.File.contents places.new) (waiting_in places.new)) }
-    ensures still { RefusedWaits refused.old (waiting_in places.old) → RefusedWaits refused.new (waiting_in places.new) }
+    ensures ahead { IfOk result (λ n. 0 < length (at (ahead_in places.old) slot)
+        → TakesAhead n buffer.new (at (ahead_in places.old) slot)
+        (at (ahead_in places.new) slot)) }
+    ensures others { ahead_in places.new
+        ≡ put (ahead_in places.old) slot (at (ahead_in places.new) slot) }
+    ensures unread { ReadConsumes (at (unread_in R.File.remaining places.old) slot)
+        (at (unread_in R.File.remaining places.new) slot) result buffer.new }
+    ensures unread_others { unread_in R.File.remaining places.new
+        ≡ put (unread_in R.File.remaining places.old) slot
+        (at (unread_in R.File.remaining places.new) slot) }
+    ensures takes { OnOk result (TakesNothing (got_in R.File.contents places.old)
+        (waiting_in places.old) (got_in R.File.contents places.new)
+        (waiting_in places.new)) }
+    ensures still { RefusedWaits refused.old (waiting_in places.old)
+        → RefusedWaits refused.new (waiting_in places.new) }
 {
     if refused.is_some() {
         return Err(Failed);
@@ -187,11 +211,16 @@ fn write_slot<R: Runtime>(
 ) -> Result<(), Failed>
     ensures accesses { accesses_in places.new ≡ accesses_in places.old }
     ensures ahead { ahead_in places.new ≡ ahead_in places.old }
-    ensures unread { unread_in R.File.remaining places.new ≡ unread_in R.File.remaining places.old }
-    ensures waits { OnOk result (Waits slot (first.now ++ second.now) (waiting_in places.old) (waiting_in places.new)) }
-    ensures takes { OnOk result (TakesPiece slot (first.now ++ second.now) (got_in R.File.contents places.old) (waiting_in places.old) (got_in R.File.contents places.new) (waiting_in places.new)) }
+    ensures unread { unread_in R.File.remaining places.new
+        ≡ unread_in R.File.remaining places.old }
+    ensures waits { OnOk result (Waits slot (first.now ++ second.now)
+        (waiting_in places.old) (waiting_in places.new)) }
+    ensures takes { OnOk result (TakesPiece slot (first.now ++ second.now)
+        (got_in R.File.contents places.old) (waiting_in places.old)
+        (got_in R.File.contents places.new) (waiting_in places.new)) }
     ensures refused { IsSome refused.old → IsErr result }
-    ensures still { RefusedWaits refused.old (waiting_in places.old) → RefusedWaits refused.new (waiting_in places.new) }
+    ensures still { RefusedWaits refused.old (waiting_in places.old)
+        → RefusedWaits refused.new (waiting_in places.new) }
 {
     if slot == Slot::Errors {
         return write_errors(rt, places, refused, first, second);
@@ -218,10 +247,15 @@ fn gather_alone<R: Runtime>(
 ) -> Result<(), Failed>
     ensures accesses { accesses_in places.new ≡ accesses_in places.old }
     ensures ahead { ahead_in places.new ≡ ahead_in places.old }
-    ensures unread { unread_in R.File.remaining places.new ≡ unread_in R.File.remaining places.old }
-    ensures waits { OnOk result (Waits slot (first.now ++ second.now) (waiting_in places.old) (waiting_in places.new)) }
-    ensures takes { OnOk result (TakesPiece slot (first.now ++ second.now) (got_in R.File.contents places.old) (waiting_in places.old) (got_in R.File.contents places.new) (waiting_in places.new)) }
-    ensures still { RefusedWaits refused.old (waiting_in places.old) → RefusedWaits refused.new (waiting_in places.new) }
+    ensures unread { unread_in R.File.remaining places.new
+        ≡ unread_in R.File.remaining places.old }
+    ensures waits { OnOk result (Waits slot (first.now ++ second.now)
+        (waiting_in places.old) (waiting_in places.new)) }
+    ensures takes { OnOk result (TakesPiece slot (first.now ++ second.now)
+        (got_in R.File.contents places.old) (waiting_in places.old)
+        (got_in R.File.contents places.new) (waiting_in places.new)) }
+    ensures still { RefusedWaits refused.old (waiting_in places.old)
+        → RefusedWaits refused.new (waiting_in places.new) }
 {
     hand_out(rt, places, refused)?;
     match places.at_mut(slot).gather(first, second) {
@@ -241,10 +275,14 @@ fn write_errors<R: Runtime>(
 ) -> Result<(), Failed>
     ensures accesses { accesses_in places.new ≡ accesses_in places.old }
     ensures ahead { ahead_in places.new ≡ ahead_in places.old }
-    ensures unread { unread_in R.File.remaining places.new ≡ unread_in R.File.remaining places.old }
-    ensures takes { OnOk result (TakesPiece Slot.Errors (first.now ++ second.now) (got_in R.File.contents places.old) (waiting_in places.old) (got_in R.File.contents places.new) (waiting_in places.new)) }
+    ensures unread { unread_in R.File.remaining places.new
+        ≡ unread_in R.File.remaining places.old }
+    ensures takes { OnOk result (TakesPiece Slot.Errors (first.now ++ second.now)
+        (got_in R.File.contents places.old) (waiting_in places.old)
+        (got_in R.File.contents places.new) (waiting_in places.new)) }
     ensures refused { IsSome refused.old → IsErr result }
-    ensures still { RefusedWaits refused.old (waiting_in places.old) → RefusedWaits refused.new (waiting_in places.new) }
+    ensures still { RefusedWaits refused.old (waiting_in places.old)
+        → RefusedWaits refused.new (waiting_in places.new) }
 {
     hand_out(rt, places, refused)?;
     print(rt, first)?;
@@ -273,7 +311,17 @@ impl<R: Runtime> FileDesk<R> {
     /// A desk none of whose slots is started. It keeps the runtime, through which it reaches files and the standard streams, and a
     /// number by which tables may spread their keys.
     pub fn new(rt: R, seed: u64) -> FileDesk<R>
-        ensures { result ≡ record { accesses = each None; ahead = each []; unread = each None; got = each None; waiting = each []; refused = None; faults = each 0; start_faults = each 0 } }
+        ensures { result
+            ≡ record {
+              accesses = each None;
+              ahead = each [];
+              unread = each None;
+              got = each None;
+              waiting = each [];
+              refused = None;
+              faults = each 0;
+              start_faults = each 0;
+            } }
     {
         FileDesk {
             rt,
@@ -292,9 +340,11 @@ impl<R: Runtime> FileDesk<R> {
         ensures ok { OnOk result (HandsOutAll self.old self.new) }
         ensures none { OnOk result (self.old.refused ≡ None) }
         ensures err { IfErr result (λ slot. self.new ≡ all_dropped slot self.old) }
-        ensures cause { IfErr result (λ slot. HasFailed slot (told_by self.old) (told_by self.new)) }
+        ensures cause { IfErr result
+            (λ slot. HasFailed slot (told_by self.old) (told_by self.new)) }
         ensures named { IfSome self.old.refused (λ slot. IsErrOf result slot) }
-        ensures waited { IfErr result (λ slot. 0 < length (at self.old.waiting slot)) }
+        ensures waited { IfErr result
+            (λ slot. 0 < length (at self.old.waiting slot)) }
     {
         let _ = hand_out(&self.rt, &mut self.places, &mut self.refused);
         match self.refused {
@@ -318,15 +368,22 @@ impl<R: Runtime> Desk for FileDesk<R> {
     ghost ready = { λ d slot. length (ready d slot) };
 
     fn start(&mut self, slot: Slot, name: &str, access: Access) -> Result<(), Failed>
-        ensures ok { OnOk result (Starts slot name.now access (told_by self.old) (told_by self.new)) }
-        ensures err { OnErr result (FailsToStart slot (told_by self.old) (told_by self.new)) }
-        ensures leaves { OnOk result ((told_by self.new).start_faults ≡ (told_by self.old).start_faults) }
-        ensures counts { self.new.start_faults ≡ counts_after result slot self.old.start_faults }
-        ensures accesses { self.new.accesses ≡ accesses_after result slot access self.old.accesses }
+        ensures ok { OnOk result
+            (Starts slot name.now access (told_by self.old) (told_by self.new)) }
+        ensures err { OnErr result
+            (FailsToStart slot (told_by self.old) (told_by self.new)) }
+        ensures leaves { OnOk result
+            ((told_by self.new).start_faults ≡ (told_by self.old).start_faults) }
+        ensures counts { self.new.start_faults
+            ≡ counts_after result slot self.old.start_faults }
+        ensures accesses { self.new.accesses
+            ≡ accesses_after result slot access self.old.accesses }
         ensures none { OnOk result (at self.new.waiting slot ≡ []) }
         ensures ahead { self.new.ahead ≡ ahead_after result slot self.old.ahead }
-        ensures unread { self.new.unread ≡ unread_after result slot self.old.unread self.new.unread }
-        ensures takes { OnOk result (TakesNothingElse slot self.old.got self.old.waiting self.new.got self.new.waiting) }
+        ensures unread { self.new.unread
+            ≡ unread_after result slot self.old.unread self.new.unread }
+        ensures takes { OnOk result (TakesNothingElse slot self.old.got
+            self.old.waiting self.new.got self.new.waiting) }
         ensures refused { IsSome self.old.refused → IsErr result }
     {
         let started = start_slot(
@@ -348,19 +405,31 @@ impl<R: Runtime> Desk for FileDesk<R> {
 
     fn read(&mut self, slot: Slot, buffer: &mut [u8]) -> Result<usize, Failed>
         ensures fits { IfOk result (λ n. n ≤ length buffer.new) }
-        ensures ok { IfOk result (λ n. Takes slot n (told_by self.old) (told_by self.new)) }
-        ensures octets { IfOk result (λ n. AreNext (take n buffer.new) (told_by self.old) slot) }
-        ensures end { IfOk result (λ n. n ≡ 0 → 0 < length buffer.old → IsAtEnd (told_by self.old) slot) }
-        ensures err { OnErr result (Takes slot 0 (told_by self.old) (told_by self.new)) }
-        ensures cause { OnErr result (HasFailed slot (told_by self.old) (told_by self.new)) }
-        ensures leaves { OnOk result ((told_by self.new).faults ≡ (told_by self.old).faults) }
+        ensures ok { IfOk result
+            (λ n. Takes slot n (told_by self.old) (told_by self.new)) }
+        ensures octets { IfOk result
+            (λ n. AreNext (take n buffer.new) (told_by self.old) slot) }
+        ensures end { IfOk result
+            (λ n. n ≡ 0 → 0 < length buffer.old → IsAtEnd (told_by self.old) slot) }
+        ensures err { OnErr result
+            (Takes slot 0 (told_by self.old) (told_by self.new)) }
+        ensures cause { OnErr result
+            (HasFailed slot (told_by self.old) (told_by self.new)) }
+        ensures leaves { OnOk result
+            ((told_by self.new).faults ≡ (told_by self.old).faults) }
         ensures counts { self.new.faults ≡ counts_after result slot self.old.faults }
         ensures accesses { self.new.accesses ≡ self.old.accesses }
-        ensures ahead { IfOk result (λ n. 0 < length (at self.old.ahead slot) → TakesAhead n buffer.new (at self.old.ahead slot) (at self.new.ahead slot)) }
-        ensures others { self.new.ahead ≡ put self.old.ahead slot (at self.new.ahead slot) }
-        ensures unread { ReadConsumes (at self.old.unread slot) (at self.new.unread slot) result buffer.new }
-        ensures unread_others { self.new.unread ≡ put self.old.unread slot (at self.new.unread slot) }
-        ensures takes { OnOk result (TakesNothing self.old.got self.old.waiting self.new.got self.new.waiting) }
+        ensures ahead { IfOk result (λ n. 0 < length (at self.old.ahead slot)
+            → TakesAhead n buffer.new (at self.old.ahead slot)
+            (at self.new.ahead slot)) }
+        ensures others { self.new.ahead
+            ≡ put self.old.ahead slot (at self.new.ahead slot) }
+        ensures unread { ReadConsumes (at self.old.unread slot)
+            (at self.new.unread slot) result buffer.new }
+        ensures unread_others { self.new.unread
+            ≡ put self.old.unread slot (at self.new.unread slot) }
+        ensures takes { OnOk result (TakesNothing self.old.got self.old.waiting
+            self.new.got self.new.waiting) }
         ensures refused { IsSome self.old.refused → IsErr result }
     {
         match read_slot(&self.rt, &mut self.places, &mut self.refused, slot, buffer) {
@@ -376,17 +445,23 @@ impl<R: Runtime> Desk for FileDesk<R> {
     fn write(&mut self, slot: Slot, piece: &[u8]) -> Result<usize, Failed>
         ensures fits { IfOk result (λ n. n ≤ length piece.now) }
         ensures some { IfOk result (λ n. 0 < length piece.now → 0 < n) }
-        ensures ok { IfOk result (λ n. Writes slot (take n piece.now) (told_by self.old) (told_by self.new)) }
-        ensures err { OnErr result (Writes slot [] (told_by self.old) (told_by self.new)) }
-        ensures cause { OnErr result (HasFailed slot (told_by self.old) (told_by self.new)) }
-        ensures leaves { OnOk result ((told_by self.new).faults ≡ (told_by self.old).faults) }
+        ensures ok { IfOk result (λ n. Writes slot (take n piece.now)
+            (told_by self.old) (told_by self.new)) }
+        ensures err { OnErr result
+            (Writes slot [] (told_by self.old) (told_by self.new)) }
+        ensures cause { OnErr result
+            (HasFailed slot (told_by self.old) (told_by self.new)) }
+        ensures leaves { OnOk result
+            ((told_by self.new).faults ≡ (told_by self.old).faults) }
         ensures counts { self.new.faults ≡ counts_after result slot self.old.faults }
         ensures accesses { self.new.accesses ≡ self.old.accesses }
         ensures ahead { self.new.ahead ≡ self.old.ahead }
         ensures unread { self.new.unread ≡ self.old.unread }
         ensures whole { IfOk result (λ n. n ≡ length piece.now) }
-        ensures waits { OnOk result (Waits slot piece.now self.old.waiting self.new.waiting) }
-        ensures takes { OnOk result (TakesPiece slot piece.now self.old.got self.old.waiting self.new.got self.new.waiting) }
+        ensures waits { OnOk result
+            (Waits slot piece.now self.old.waiting self.new.waiting) }
+        ensures takes { OnOk result (TakesPiece slot piece.now self.old.got
+            self.old.waiting self.new.got self.new.waiting) }
         ensures refused { IsSome self.old.refused → IsErr result }
     {
         self.write_both(slot, piece, &[])?;
@@ -421,16 +496,22 @@ impl<R: Runtime> Desk for FileDesk<R> {
 
     #[inline(always)]
     fn write_both(&mut self, slot: Slot, first: &[u8], second: &[u8]) -> Result<(), Failed>
-        ensures ok { OnOk result (Writes slot (first.now ++ second.now) (told_by self.old) (told_by self.new)) }
-        ensures err { OnErr result (WritesPart slot (first.now ++ second.now) (told_by self.old) (told_by self.new)) }
-        ensures cause { OnErr result (HasFailed slot (told_by self.old) (told_by self.new)) }
-        ensures leaves { OnOk result ((told_by self.new).faults ≡ (told_by self.old).faults) }
+        ensures ok { OnOk result (Writes slot (first.now ++ second.now)
+            (told_by self.old) (told_by self.new)) }
+        ensures err { OnErr result (WritesPart slot (first.now ++ second.now)
+            (told_by self.old) (told_by self.new)) }
+        ensures cause { OnErr result
+            (HasFailed slot (told_by self.old) (told_by self.new)) }
+        ensures leaves { OnOk result
+            ((told_by self.new).faults ≡ (told_by self.old).faults) }
         ensures counts { self.new.faults ≡ counts_after result slot self.old.faults }
         ensures accesses { self.new.accesses ≡ self.old.accesses }
         ensures ahead { self.new.ahead ≡ self.old.ahead }
         ensures unread { self.new.unread ≡ self.old.unread }
-        ensures waits { OnOk result (Waits slot (first.now ++ second.now) self.old.waiting self.new.waiting) }
-        ensures takes { OnOk result (TakesPiece slot (first.now ++ second.now) self.old.got self.old.waiting self.new.got self.new.waiting) }
+        ensures waits { OnOk result
+            (Waits slot (first.now ++ second.now) self.old.waiting self.new.waiting) }
+        ensures takes { OnOk result (TakesPiece slot (first.now ++ second.now)
+            self.old.got self.old.waiting self.new.got self.new.waiting) }
         ensures refused { IsSome self.old.refused → IsErr result }
     {
         let written = write_slot(

@@ -65,7 +65,8 @@ impl<A: Allocator> Gathered<A> {
     /// nothing else is gathered.
     #[inline(always)]
     pub fn take(&mut self, first: &[u8], second: &[u8]) -> Gathering
-        ensures { self.new ≡ gathered_after result (first.now ++ second.now) self.old }
+        ensures { self.new
+            ≡ gathered_after result (first.now ++ second.now) self.old }
     {
         let room = self.octets.len() - self.count;
         if room < first.len() || room - first.len() < second.len() {
@@ -79,7 +80,8 @@ impl<A: Allocator> Gathered<A> {
     // The same of pieces for which there is no room behind what is gathered.
     #[inline(never)]
     fn take_alone(&mut self, first: &[u8], second: &[u8]) -> Gathering
-        ensures { self.new ≡ gathered_after result (first.now ++ second.now) self.old }
+        ensures { self.new
+            ≡ gathered_after result (first.now ++ second.now) self.old }
     {
         if self.count > 0 {
             return Gathering::NoRoom;
@@ -97,7 +99,8 @@ impl<A: Allocator> Gathered<A> {
 
     /// Writes all of them to a file. It fails only where there are some; they stay then, though the file may have got some.
     pub fn write_out<W: Write>(&mut self, file: &mut W) -> Result<(), Failed>
-        ensures written { OnOk result (Appends (W.contents file.old) (W.contents file.new) self.old) }
+        ensures written { OnOk result
+            (Appends (W.contents file.old) (W.contents file.new) self.old) }
         ensures none { OnOk result (self.new ≡ []) }
         ensures err { OnErr result (self.new ≡ self.old) }
         ensures some { OnErr result (0 < length self.old) }

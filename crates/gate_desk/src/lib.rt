@@ -14,6 +14,6 @@ mod whole;
 pub use desk::{Desk, Failed};
 pub use discarding_desk::DiscardingDesk;
 pub use file_desk::FileDesk;
-pub use slot::{PerSlot, Slot, Access};
+pub use slot::{Access, PerSlot, Slot};
 pub use source::Source;
 pub use whole::{TakeStop, read_full, read_up_to, write_whole};

@@ -4,7 +4,7 @@ ghost use Rattle.std.specs.Io.KnownBytes.{Appends, ReadConsumes};
 ghost use Rattle.gate_desk.specs.Gathering.{waiting, got, access_of, ahead, unread, gathered_after, TakesAhead};
 
 use crate::gathered::{Gathered, Gathering};
-use crate::{Failed, PerSlot, Slot, Access};
+use crate::{Access, Failed, PerSlot, Slot};
 use std::alloc::Allocator;
 use std::fs::{self, Metadata, OpenFile};
 use std::io::{self, BufRead, BufReader, ErrorKind, Read, Write};
@@ -92,11 +92,14 @@ impl<F: Read + Drop, A: Allocator> Place<F, A> {
     /// Takes octets that were read ahead, where there are some, so that the system isn't asked.
     pub fn take_ahead(&mut self, buffer: &mut [u8]) -> Option<usize>
         ensures fits { IfSome result (λ n. n ≤ length buffer.new) }
-        ensures ahead { MatchOption result (ahead self.old ≡ []) (λ n. TakesAhead n buffer.new (ahead self.old) (ahead self.new)) }
+        ensures ahead { MatchOption result (ahead self.old ≡ [])
+            (λ n. TakesAhead n buffer.new (ahead self.old) (ahead self.new)) }
         ensures some { IfSome result (λ n. 0 < length (ahead self.old)) }
-        ensures unread { unread F.remaining self.new ≡ option_map (drop (unwrap_or result 0)) (unread F.remaining self.old) }
+        ensures unread { unread F.remaining self.new
+            ≡ option_map (drop (unwrap_or result 0)) (unread F.remaining self.old) }
         ensures waiting { waiting self.new ≡ waiting self.old }
-        ensures got { (contents : F → Option (List ℕ)) → got contents self.new ≡ got contents self.old }
+        ensures got { (contents : F → Option (List ℕ))
+            → got contents self.new ≡ got contents self.old }
         ensures access { access_of self.new ≡ access_of self.old }
     {
         match self {
@@ -129,9 +132,12 @@ impl<F: Read + Drop, A: Allocator> Place<F, A> {
     #[inline(always)]
     pub fn skip(&mut self, count: usize)
         ensures ahead { ahead self.new ≡ drop count (ahead self.old) }
-        ensures unread { unread F.remaining self.new ≡ option_map (drop (min count (length (ahead self.old)))) (unread F.remaining self.old) }
+        ensures unread { unread F.remaining self.new
+            ≡ option_map (drop (min count (length (ahead self.old))))
+            (unread F.remaining self.old) }
         ensures waiting { waiting self.new ≡ waiting self.old }
-        ensures got { (contents : F → Option (List ℕ)) → got contents self.new ≡ got contents self.old }
+        ensures got { (contents : F → Option (List ℕ))
+            → got contents self.new ≡ got contents self.old }
         ensures access { access_of self.new ≡ access_of self.old }
     {
         match self {
@@ -144,9 +150,11 @@ impl<F: Read + Drop, A: Allocator> Place<F, A> {
     #[inline(never)]
     pub fn read(&mut self, buffer: &mut [u8]) -> Result<usize, Failed>
         ensures fits { IfOk result (λ n. n ≤ length buffer.new) }
-        ensures unread { ReadConsumes (unread F.remaining self.old) (unread F.remaining self.new) result buffer.new }
+        ensures unread { ReadConsumes (unread F.remaining self.old)
+            (unread F.remaining self.new) result buffer.new }
         ensures waiting { waiting self.new ≡ waiting self.old }
-        ensures got { (contents : F → Option (List ℕ)) → got contents self.new ≡ got contents self.old }
+        ensures got { (contents : F → Option (List ℕ))
+            → got contents self.new ≡ got contents self.old }
         ensures access { access_of self.new ≡ access_of self.old }
     {
         match self {
@@ -158,8 +166,10 @@ impl<F: Read + Drop, A: Allocator> Place<F, A> {
     /// Gathers two whole pieces, the one behind the other, or nothing of them.
     #[inline(always)]
     pub fn gather(&mut self, first: &[u8], second: &[u8]) -> Gathering
-        ensures waits { waiting self.new ≡ gathered_after result (first.now ++ second.now) (waiting self.old) }
-        ensures got { (contents : F → Option (List ℕ)) → got contents self.new ≡ got contents self.old }
+        ensures waits { waiting self.new
+            ≡ gathered_after result (first.now ++ second.now) (waiting self.old) }
+        ensures got { (contents : F → Option (List ℕ))
+            → got contents self.new ≡ got contents self.old }
         ensures access { access_of self.new ≡ access_of self.old }
         ensures ahead { ahead self.new ≡ ahead self.old }
         ensures unread { unread F.remaining self.new ≡ unread F.remaining self.old }
@@ -198,10 +208,13 @@ pub fn write_out<R: Runtime>(
     ensures none { OnOk result (waiting place.new ≡ []) }
     ensures access { access_of place.new ≡ access_of place.old }
     ensures ahead { ahead place.new ≡ ahead place.old }
-    ensures unread { unread R.File.remaining place.new ≡ unread R.File.remaining place.old }
-    ensures written { OnOk result (Appends (got R.File.contents place.old) (got R.File.contents place.new) (waiting place.old)) }
+    ensures unread { unread R.File.remaining place.new
+        ≡ unread R.File.remaining place.old }
+    ensures written { OnOk result (Appends (got R.File.contents place.old)
+        (got R.File.contents place.new) (waiting place.old)) }
     ensures named { IfErr result (λ refused. refused ≡ slot) }
-    ensures refuses { OnErr result ((0 < length (waiting place.old)) × (waiting place.new ≡ waiting place.old)) }
+    ensures refuses { OnErr result
+        ((0 < length (waiting place.old)) × (waiting place.new ≡ waiting place.old)) }
 {
     match place {
         Place::Output(file, gathered) => gathered.write_out(file).map_err(|_: Failed| slot),

@@ -17,10 +17,14 @@ pub enum TakeStop {
 #[inline(always)]
 pub fn write_whole<D: Desk>(desk: &mut D, slot: Slot, piece: &[u8]) -> Result<(), Failed>
     requires { CanWrite (D.outside desk.old) slot }
-    ensures ok { OnOk result (Writes slot piece.now (D.outside desk.old) (D.outside desk.new)) }
-    ensures err { OnErr result (WritesPart slot piece.now (D.outside desk.old) (D.outside desk.new)) }
-    ensures cause { OnErr result (HasFailed slot (D.outside desk.old) (D.outside desk.new)) }
-    ensures leaves { OnOk result ((D.outside desk.new).faults ≡ (D.outside desk.old).faults) }
+    ensures ok { OnOk result
+        (Writes slot piece.now (D.outside desk.old) (D.outside desk.new)) }
+    ensures err { OnErr result
+        (WritesPart slot piece.now (D.outside desk.old) (D.outside desk.new)) }
+    ensures cause { OnErr result
+        (HasFailed slot (D.outside desk.old) (D.outside desk.new)) }
+    ensures leaves { OnOk result
+        ((D.outside desk.new).faults ≡ (D.outside desk.old).faults) }
 {
     if piece.is_empty() {
         return Ok(());
@@ -36,10 +40,14 @@ pub fn write_whole<D: Desk>(desk: &mut D, slot: Slot, piece: &[u8]) -> Result<()
 #[inline(never)]
 fn write_rest<D: Desk>(desk: &mut D, slot: Slot, piece: &[u8]) -> Result<(), Failed>
     requires { CanWrite (D.outside desk.old) slot }
-    ensures ok { OnOk result (Writes slot piece.now (D.outside desk.old) (D.outside desk.new)) }
-    ensures err { OnErr result (WritesPart slot piece.now (D.outside desk.old) (D.outside desk.new)) }
-    ensures cause { OnErr result (HasFailed slot (D.outside desk.old) (D.outside desk.new)) }
-    ensures leaves { OnOk result ((D.outside desk.new).faults ≡ (D.outside desk.old).faults) }
+    ensures ok { OnOk result
+        (Writes slot piece.now (D.outside desk.old) (D.outside desk.new)) }
+    ensures err { OnErr result
+        (WritesPart slot piece.now (D.outside desk.old) (D.outside desk.new)) }
+    ensures cause { OnErr result
+        (HasFailed slot (D.outside desk.old) (D.outside desk.new)) }
+    ensures leaves { OnOk result
+        ((D.outside desk.new).faults ≡ (D.outside desk.old).faults) }
 {
     let mut done = 0;
     while done < piece.len() {
@@ -53,11 +61,16 @@ fn write_rest<D: Desk>(desk: &mut D, slot: Slot, piece: &[u8]) -> Result<(), Fai
 pub fn read_full<D: Desk>(desk: &mut D, slot: Slot, buffer: &mut [u8]) -> Result<usize, Failed>
     requires { CanRead (D.outside desk.old) slot }
     ensures fits { IfOk result (λ n. n ≤ length buffer.old) }
-    ensures ok { IfOk result (λ n. Takes slot n (D.outside desk.old) (D.outside desk.new)) }
-    ensures octets { IfOk result (λ n. AreUpTo (length buffer.old) (take n buffer.new) (D.outside desk.old) slot) }
-    ensures err { OnErr result (TakesFewer slot (length buffer.old) (D.outside desk.old) (D.outside desk.new)) }
-    ensures cause { OnErr result (HasFailed slot (D.outside desk.old) (D.outside desk.new)) }
-    ensures leaves { OnOk result ((D.outside desk.new).faults ≡ (D.outside desk.old).faults) }
+    ensures ok { IfOk result
+        (λ n. Takes slot n (D.outside desk.old) (D.outside desk.new)) }
+    ensures octets { IfOk result (λ n. AreUpTo (length buffer.old) (take n buffer.new)
+        (D.outside desk.old) slot) }
+    ensures err { OnErr result (TakesFewer slot (length buffer.old)
+        (D.outside desk.old) (D.outside desk.new)) }
+    ensures cause { OnErr result
+        (HasFailed slot (D.outside desk.old) (D.outside desk.new)) }
+    ensures leaves { OnOk result
+        ((D.outside desk.new).faults ≡ (D.outside desk.old).faults) }
 {
     let mut filled = 0;
     while filled < buffer.len() {
@@ -79,11 +92,16 @@ pub fn read_up_to<D: Desk>(
 ) -> Result<Vec<u8>, TakeStop>
     requires start { CanRead (D.outside desk.old) slot }
     requires room { limit + 1 < 2 ^ 64 }
-    ensures ok { IfOk result (λ v. Takes slot (length v.items) (D.outside desk.old) (D.outside desk.new)) }
-    ensures octets { IfOk result (λ v. AreUpTo (limit + 1) v.items (D.outside desk.old) slot) }
-    ensures err { OnErr result (TakesFewer slot (limit + 1) (D.outside desk.old) (D.outside desk.new)) }
-    ensures cause { IfErr result (λ e. HasStopped e slot (D.outside desk.old) (D.outside desk.new)) }
-    ensures leaves { OnOk result ((D.outside desk.new).faults ≡ (D.outside desk.old).faults) }
+    ensures ok { IfOk result
+        (λ v. Takes slot (length v.items) (D.outside desk.old) (D.outside desk.new)) }
+    ensures octets { IfOk result
+        (λ v. AreUpTo (limit + 1) v.items (D.outside desk.old) slot) }
+    ensures err { OnErr result
+        (TakesFewer slot (limit + 1) (D.outside desk.old) (D.outside desk.new)) }
+    ensures cause { IfErr result
+        (λ e. HasStopped e slot (D.outside desk.old) (D.outside desk.new)) }
+    ensures leaves { OnOk result
+        ((D.outside desk.new).faults ≡ (D.outside desk.old).faults) }
 {
     let mut octets = vec![in alloc; 0; limit + 1].map_err(|_: AllocError| TakeStop::OutOfMemory)?;
     let n = read_full(desk, slot, &mut octets).map_err(|_: Failed| TakeStop::Desk(slot))?;

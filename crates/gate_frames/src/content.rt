@@ -44,8 +44,11 @@ fn transport_refusal(fault: TransportFault) -> Refusal
 /// The datagram of a frame, or why its header is refused.
 #[inline(always)]
 pub fn datagram_in<'a>(event: &Event<'a>, octets: &'a [u8]) -> Result<IpView<'a>, Refusal>
-    requires { octets.now ≡ octets_in (event_of event.now).link (event_of event.now).octets }
-    ensures judged { result ≡ judged (first_that_holds (frame.header_tests (event_of event.now))) (frame.datagram_in (event_of event.now)) }
+    requires { octets.now
+        ≡ octets_in (event_of event.now).link (event_of event.now).octets }
+    ensures judged { result
+        ≡ judged (first_that_holds (frame.header_tests (event_of event.now)))
+        (frame.datagram_in (event_of event.now)) }
     ensures read { IfOk result (λ d. read_datagram octets.now ≡ Ok d) }
 {
     if !event.whole {

@@ -38,34 +38,68 @@ ghost use Rattle.gate_model.specs.Promise.{Promised, RoundsEnd, remembered_after
 
 /// A frame that is refused gives no datagram, and moves the clock alone.
 pub fn refused_moves_clock<S>()
-    ensures next { (rules : SessionRules S) (w : World S) (e : Event) (r : Refusal) → verdict rules w e ≡ Refused r → next rules w e ≡ at_moment w e.moment }
-    ensures out { (rules : SessionRules S) (w : World S) (e : Event) (r : Refusal) → verdict rules w e ≡ Refused r → out rules w e ≡ [] }
+    ensures next { (rules : SessionRules S) (w : World S) (e : Event) (r : Refusal)
+        → verdict rules w e ≡ Refused r
+        → next rules w e ≡ at_moment w e.moment }
+    ensures out { (rules : SessionRules S) (w : World S) (e : Event) (r : Refusal)
+        → verdict rules w e ≡ Refused r
+        → out rules w e ≡ [] }
 {}
 
 /// A frame that passes gives at least one datagram, where sessions send something for each segment; those over whole lists do.
 pub fn passed_goes_on<S>()
-    ensures any { (rules : SessionRules S) → Answers rules → (w : World S) (e : Event) → verdict rules w e ≡ Pass → 1 ≤ length (out rules w e) }
-    ensures whole { (w : World WholeSession) (e : Event) → verdict whole_rules w e ≡ Pass → 1 ≤ length (out whole_rules w e) }
+    ensures any { (rules : SessionRules S)
+        → Answers rules
+        → (w : World S) (e : Event)
+        → verdict rules w e ≡ Pass
+        → 1 ≤ length (out rules w e) }
+    ensures whole { (w : World WholeSession) (e : Event)
+        → verdict whole_rules w e ≡ Pass
+        → 1 ≤ length (out whole_rules w e) }
 {}
 
 /// Where sessions by one kind of rules, read as others, are sessions by other rules, so are their worlds. Each event has the same
 /// verdict, gives the same datagrams, and leaves the one world read as the other.
 pub fn worlds_read_alike<S, T>()
-    ensures verdict { (h : S → T) (a : SessionRules S) (b : SessionRules T) → Reads h a b → (w : World S) (e : Event) → verdict b (world_as h w) e ≡ verdict a w e }
-    ensures out { (h : S → T) (a : SessionRules S) (b : SessionRules T) → Reads h a b → (w : World S) (e : Event) → out b (world_as h w) e ≡ out a w e }
-    ensures next { (h : S → T) (a : SessionRules S) (b : SessionRules T) → Reads h a b → (w : World S) (e : Event) → next b (world_as h w) e ≡ world_as h (next a w e) }
-    ensures run { (h : S → T) (a : SessionRules S) (b : SessionRules T) → Reads h a b → (w : World S) (events : List Event) → fold (next b) (world_as h w) events ≡ world_as h (fold (next a) w events) }
+    ensures verdict { (h : S → T) (a : SessionRules S) (b : SessionRules T)
+        → Reads h a b
+        → (w : World S) (e : Event)
+        → verdict b (world_as h w) e ≡ verdict a w e }
+    ensures out { (h : S → T) (a : SessionRules S) (b : SessionRules T)
+        → Reads h a b
+        → (w : World S) (e : Event)
+        → out b (world_as h w) e ≡ out a w e }
+    ensures next { (h : S → T) (a : SessionRules S) (b : SessionRules T)
+        → Reads h a b
+        → (w : World S) (e : Event)
+        → next b (world_as h w) e ≡ world_as h (next a w e) }
+    ensures run { (h : S → T) (a : SessionRules S) (b : SessionRules T)
+        → Reads h a b
+        → (w : World S) (events : List Event)
+        → fold (next b) (world_as h w) events ≡ world_as h (fold (next a) w events) }
 {}
 
 /// Whatever events come, in each session that is tracked the octets that were sent to a host are a prefix of the peer's stream.
 /// Its address lines, or its messages, are renamed, each at its place and none left out. Acknowledgements cover only octets whose
 /// images were acknowledged. The sessions that remember what passed and what went out are those of the world.
 pub fn streams_are_renamed()
-    ensures streams { (settings : Settings) (events : List Event) (client : Bool) → EachTracked (StreamIs client) (fold (next remembering_rules) (opening_world settings) events).connections }
-    ensures facts { (settings : Settings) (events : List Event) (client : Bool) → EachTracked (λ t. Facts (own client t.session.session.session)) (fold (next remembering_rules) (opening_world settings) events).connections }
-    ensures world { (settings : Settings) (events : List Event) → world_as (λ (t : RememberedSession). t.session) (fold (next remembering_rules) (opening_world settings) events) ≡ fold (next whole_rules) (opening_world settings) events }
-    ensures sent { (w : World RememberedSession) (e : Event) → out remembering_rules w e ≡ out whole_rules (world_as (λ (t : RememberedSession). t.session) w) e }
-    ensures verdict { (w : World RememberedSession) (e : Event) → verdict remembering_rules w e ≡ verdict whole_rules (world_as (λ (t : RememberedSession). t.session) w) e }
+    ensures streams { (settings : Settings) (events : List Event) (client : Bool)
+        → EachTracked (StreamIs client) (fold (next remembering_rules)
+        (opening_world settings) events).connections }
+    ensures facts { (settings : Settings) (events : List Event) (client : Bool)
+        → EachTracked (λ t. Facts (own client t.session.session.session)) (fold
+        (next remembering_rules) (opening_world settings) events).connections }
+    ensures world { (settings : Settings) (events : List Event)
+        → world_as (λ (t : RememberedSession). t.session)
+        (fold (next remembering_rules) (opening_world settings) events)
+        ≡ fold (next whole_rules) (opening_world settings) events }
+    ensures sent { (w : World RememberedSession) (e : Event)
+        → out remembering_rules w e
+        ≡ out whole_rules (world_as (λ (t : RememberedSession). t.session) w) e }
+    ensures verdict { (w : World RememberedSession) (e : Event)
+        → verdict remembering_rules w e
+        ≡ verdict whole_rules (world_as (λ (t : RememberedSession). t.session) w)
+        e }
 {}
 
 /// Whatever events come, sessions of FTP and of DNS go on. Of each stream nothing waits but a held rest, a line or a message that
@@ -74,52 +108,129 @@ pub fn streams_are_renamed()
 /// Where a host sends again what it has no acknowledgement of, and the other one acknowledges what it has, such rounds come to an
 /// end.
 pub fn sessions_go_on()
-    ensures waits { (settings : Settings) (events : List Event) → EachTracked (λ t. OnlyRestsWait (streams_of t)) (remembered_after settings events).connections }
-    ensures takes { (settings : Settings) (events : List Event) (e : Event) (t : Tracked RememberedSession) → let w = remembered_after settings events in TakesSegment remembering_rules w e t → HasDataSegment e → GoesOnBy w e t }
-    ensures through { (w : World RememberedSession) (e : Event) → EachTracked (ComesThrough w e) (next remembering_rules w e).connections }
-    ensures rounds { (settings : Settings) (events : List Event) (client : Bool) (t : Tracked RememberedSession) (knows had : ℕ) (rounds : List FrameRound) → RoundsEnd settings events client t knows had rounds }
+    ensures waits { (settings : Settings) (events : List Event)
+        → EachTracked (λ t. OnlyRestsWait (streams_of t))
+        (remembered_after settings events).connections }
+    ensures takes { (settings : Settings) (events : List Event) (e : Event)
+        (t : Tracked RememberedSession)
+        → let w = remembered_after settings events in
+        TakesSegment remembering_rules w e t
+        → HasDataSegment e
+        → GoesOnBy w e t }
+    ensures through { (w : World RememberedSession) (e : Event)
+        → EachTracked (ComesThrough w e) (next remembering_rules w e).connections }
+    ensures rounds { (settings : Settings) (events : List Event) (client : Bool)
+        (t : Tracked RememberedSession) (knows had : ℕ) (rounds : List FrameRound)
+        → RoundsEnd settings events client t knows had rounds }
 {}
 
 /// Whatever events come, both hosts of a connection are bound for as long as it lives, and a session's pair is what crossing
 /// gives for its client's address and its server's alias.
 pub fn connections_keep_aliases<S>()
-    ensures hosts { (rules : SessionRules S) (settings : Settings) (events : List Event) → IsSound settings → HasForms settings → let w = fold (next rules) (opening_world settings) events in All (KeepsHosts w.table) w.connections }
-    ensures pairs { (rules : SessionRules S) (settings : Settings) (events : List Event) → IsSound settings → HasForms settings → let w = fold (next rules) (opening_world settings) events in EachTracked (PairCrosses w.table) w.connections }
-    ensures stays { (rules : SessionRules S) (w : World S) (e : Event) (side : Side) (host alias until : ℕ) → e.moment < until → IsKnownAs w.table side host alias until → IsKnownAs (next rules w e).table side host alias until }
+    ensures hosts { (rules : SessionRules S) (settings : Settings)
+        (events : List Event)
+        → IsSound settings
+        → HasForms settings
+        → let w = fold (next rules) (opening_world settings) events in
+        All (KeepsHosts w.table) w.connections }
+    ensures pairs { (rules : SessionRules S) (settings : Settings)
+        (events : List Event)
+        → IsSound settings
+        → HasForms settings
+        → let w = fold (next rules) (opening_world settings) events in
+        EachTracked (PairCrosses w.table) w.connections }
+    ensures stays { (rules : SessionRules S) (w : World S) (e : Event) (side : Side)
+        (host alias until : ℕ)
+        → e.moment < until
+        → IsKnownAs w.table side host alias until
+        → IsKnownAs (next rules w e).table side host alias until }
 {}
 
 /// Whatever events come, each address that a session's list renames crosses to its listed image, from the realm of its list's
 /// sender. The binding is for good or ends no earlier than the connection. One that is kept crosses unchanged. Lists only grow at
 /// their ends, and never beyond the most entries, so an address has one image for the session's life.
 pub fn lists_stay_bound<S>()
-    ensures bound { (rules : SessionRules S) (settings : Settings) (events : List Event) → HasLists rules → IsSound settings → HasForms settings → let w = fold (next rules) (opening_world settings) events in All (KeepsLists rules w.table) w.connections }
-    ensures step { (rules : SessionRules S) (w : World S) (e : Event) → HasLists rules → KeepsListed rules w → KeepsListed rules (next rules w e) }
-    ensures crosses { (rules : SessionRules S) (w : World S) → KeepsListed rules w → EachTracked (ListsCross rules w.table) w.connections }
-    ensures grow { (rules : SessionRules S) → HasLists rules → (image : Addr → Option Addr) (from_client : Bool) (s : S) (g : Segment) (client : Bool) → (more : List Entry) × (rules.listed client (rules.next image from_client s g) ≡ rules.listed client s ++ more) }
-    ensures image { (rules : SessionRules S) → HasLists rules → (image : Addr → Option Addr) (from_client : Bool) (s : S) (g : Segment) (client : Bool) (number : ℕ) → is_listed (rules.listed client s) number ≡ true → listed_image (rules.listed client (rules.next image from_client s g)) number ≡ listed_image (rules.listed client s) number }
-    ensures few { (rules : SessionRules S) (settings : Settings) (events : List Event) → HasLists rules → EachTracked (ListsAreFew rules) (fold (next rules) (opening_world settings) events).connections }
+    ensures bound { (rules : SessionRules S) (settings : Settings)
+        (events : List Event)
+        → HasLists rules
+        → IsSound settings
+        → HasForms settings
+        → let w = fold (next rules) (opening_world settings) events in
+        All (KeepsLists rules w.table) w.connections }
+    ensures step { (rules : SessionRules S) (w : World S) (e : Event)
+        → HasLists rules
+        → KeepsListed rules w
+        → KeepsListed rules (next rules w e) }
+    ensures crosses { (rules : SessionRules S) (w : World S)
+        → KeepsListed rules w
+        → EachTracked (ListsCross rules w.table) w.connections }
+    ensures grow { (rules : SessionRules S)
+        → HasLists rules
+        → (image : Addr → Option Addr) (from_client : Bool) (s : S) (g : Segment)
+        (client : Bool)
+        → (more : List Entry)
+        × (rules.listed client (rules.next image from_client s g)
+        ≡ rules.listed client s ++ more) }
+    ensures image { (rules : SessionRules S)
+        → HasLists rules
+        → (image : Addr → Option Addr) (from_client : Bool) (s : S) (g : Segment)
+        (client : Bool) (number : ℕ)
+        → is_listed (rules.listed client s) number ≡ true
+        → listed_image (rules.listed client (rules.next image from_client s g)) number
+        ≡ listed_image (rules.listed client s) number }
+    ensures few { (rules : SessionRules S) (settings : Settings) (events : List Event)
+        → HasLists rules
+        → EachTracked (ListsAreFew rules)
+        (fold (next rules) (opening_world settings) events).connections }
     ensures whole { HasLists whole_rules }
 {}
 
 /// A list after a segment has what was there and then each new address where it stands first, with what it is called; what was
 /// listed before keeps its image.
 pub fn lists_are_entered()
-    ensures new { (image : Addr → Option Addr) (entries : List Entry) (addresses : List Addr) → entered image entries addresses ≡ entries ++ map (λ a. (a, image a)) (unlisted entries addresses) }
-    ensures count { (image : Addr → Option Addr) (entries : List Entry) (addresses : List Addr) → length (entered image entries addresses) ≡ length entries + length (unlisted entries addresses) }
-    ensures image { (image : Addr → Option Addr) (entries : List Entry) (addresses : List Addr) (number : ℕ) → is_listed (entered image entries addresses) number ≡ true → listed_image (entered image entries addresses) number ≡ (if is_listed entries number then listed_image entries number else image (record { 0 = number })) }
+    ensures new { (image : Addr → Option Addr) (entries : List Entry)
+        (addresses : List Addr)
+        → entered image entries addresses
+        ≡ entries ++ map (λ a. (a, image a)) (unlisted entries addresses) }
+    ensures count { (image : Addr → Option Addr) (entries : List Entry)
+        (addresses : List Addr)
+        → length (entered image entries addresses)
+        ≡ length entries + length (unlisted entries addresses) }
+    ensures image { (image : Addr → Option Addr) (entries : List Entry)
+        (addresses : List Addr) (number : ℕ)
+        → is_listed (entered image entries addresses) number ≡ true
+        → listed_image (entered image entries addresses) number
+        ≡ (if is_listed entries number then listed_image entries number else image
+        (record { 0 = number })) }
 {}
 
 /// There are never more connections, or sessions, than the most.
 pub fn connections_in_range<S>()
-    ensures step { (rules : SessionRules S) (w : World S) (e : Event) → InRange w → InRange (next rules w e) }
-    ensures run { (rules : SessionRules S) (settings : Settings) (events : List Event) → InRange (fold (next rules) (opening_world settings) events) }
+    ensures step { (rules : SessionRules S) (w : World S) (e : Event)
+        → InRange w
+        → InRange (next rules w e) }
+    ensures run { (rules : SessionRules S) (settings : Settings) (events : List Event)
+        → InRange (fold (next rules) (opening_world settings) events) }
 {}
 
 /// For a segment that a session takes exactly what the session says goes out, and the connection of that name, if one is left,
 /// has the session after the segment.
 pub fn session_takes_segment<S>()
-    ensures out { (rules : SessionRules S) (w : World S) (e : Event) (t : Tracked S) → TakesSegment rules w e t → out rules w e ≡ said rules w e t }
-    ensures next { (rules : SessionRules S) (w : World S) (e : Event) (t : Tracked S) (c : Connection (Tracked S)) → TakesSegment rules w e t → let live = at_moment w e.moment in let d = datagram_in e in connection_after rules (image_in rules live e.side e.moment d) live e.side e.moment d (taker_in rules live e.side e.moment d) ≡ Some c → (connection_of (key_in live.table e.side d) (next rules w e).connections ≡ Some c) × (c.session ≡ Some (stepped rules (image_in rules live e.side e.moment d) e.side d t)) }
+    ensures out { (rules : SessionRules S) (w : World S) (e : Event) (t : Tracked S)
+        → TakesSegment rules w e t
+        → out rules w e ≡ said rules w e t }
+    ensures next { (rules : SessionRules S) (w : World S) (e : Event) (t : Tracked S)
+        (c : Connection (Tracked S))
+        → TakesSegment rules w e t
+        → let live = at_moment w e.moment in
+        let d = datagram_in e in
+        connection_after rules (image_in rules live e.side e.moment d) live e.side
+        e.moment d (taker_in rules live e.side e.moment d) ≡ Some c
+        → (connection_of (key_in live.table e.side d) (next rules w e).connections
+        ≡ Some c)
+        × (c.session
+        ≡ Some (stepped rules (image_in rules live e.side e.moment d) e.side d
+        t)) }
 {}
 
 /// The whole promise, for every list of events, and for settings that fit one another and have their forms, as accepted ones do.
@@ -128,5 +239,8 @@ pub fn session_takes_segment<S>()
 /// lists, which give each address one image for the session's life. Acknowledgements cover only octets whose images were
 /// acknowledged. Every other frame that is forwarded is its renaming.
 pub fn frames_are_as_promised()
-    ensures { (settings : Settings) (events : List Event) → IsSound settings → HasForms settings → Promised settings events }
+    ensures { (settings : Settings) (events : List Event)
+        → IsSound settings
+        → HasForms settings
+        → Promised settings events }
 {}

@@ -26,7 +26,15 @@ impl Way {
     /// The way between two addresses by a table.
     #[inline(always)]
     pub fn of(table: &Table, side: Side, moment: Moment, source: Addr, destination: Addr) -> Way
-        ensures { result ≡ record { side = side; moment = moment; source = source; destination = destination; of_source = cross table.now side source; of_destination = cross table.now side destination } }
+        ensures { result
+            ≡ record {
+              side = side;
+              moment = moment;
+              source = source;
+              destination = destination;
+              of_source = cross table.now side source;
+              of_destination = cross table.now side destination;
+            } }
     {
         Way {
             side,
@@ -85,7 +93,8 @@ fn image_by(crossing: Crossing, address: Addr) -> Addr
 #[inline(always)]
 fn use_by(crossing: Crossing, table: &mut Table, side: Side, address: Addr, until: Moment)
     requires { crossing ≡ cross table.old side address }
-    ensures { table.new ≡ used table.old (record { side = side; address = address; until = until }) }
+    ensures { table.new
+        ≡ used table.old (record { side = side; address = address; until = until }) }
 {
     match crossing {
         Crossing::Bound(_) => table.extend(side, address, until),
@@ -96,7 +105,8 @@ fn use_by(crossing: Crossing, table: &mut Table, side: Side, address: Addr, unti
 
 /// Uses an address: a binding that is there lasts at least until a moment, and a new host is bound.
 pub fn use_address(table: &mut Table, side: Side, address: Addr, until: Moment)
-    ensures { table.new ≡ used table.old (record { side = side; address = address; until = until }) }
+    ensures { table.new
+        ≡ used table.old (record { side = side; address = address; until = until }) }
 {
     if table.use_moving(side, address, until) {
         return;
@@ -111,7 +121,8 @@ fn is_seen(crossing: Crossing) -> bool
 }
 
 fn is_reachable(table: &Table, way: &Way) -> bool
-    requires { way.now.of_destination ≡ cross table.now way.now.side way.now.destination }
+    requires { way.now.of_destination
+        ≡ cross table.now way.now.side way.now.destination }
     ensures { result ≡ is_reachable table.now way.now.side way.now.destination }
 {
     table.in_same(way.destination)

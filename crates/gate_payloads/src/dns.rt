@@ -68,7 +68,8 @@ fn has_unbound(table: &Table, side: Side, addresses: &[Addr]) -> bool
 
 /// The addresses of the header, and then those of the message.
 fn all_addresses(alloc: Global, way: &Way, named: &[Addr]) -> Result<Vec<Addr>, OutOfMemory>
-    ensures { IfOk result (λ addresses. addresses.items ≡ way.now.source ∷ way.now.destination ∷ named.now) }
+    ensures { IfOk result (λ addresses. addresses.items
+        ≡ way.now.source ∷ way.now.destination ∷ named.now) }
 {
     let mut addresses = Vec::with_capacity(alloc, named.len() + 2)?;
     addresses.push(way.source)?;
@@ -94,8 +95,11 @@ fn reply_by(
     requires images { length images.now ≡ 2 + length (message_addresses message.old) }
     requires suits { MessageSuits message.old }
     requires few { length payload.now ≤ 65507 }
-    ensures is { IfOk result (λ reply. unwrap_or (option_map (λ v. v.items) reply) payload.now ≡ reply_by (drop 2 images.now) payload.now (Some message.old)) }
-    ensures fits { IfOk result (λ reply. IfSome reply (λ v. 28 + length v.items ≤ 65535)) }
+    ensures is { IfOk result (λ reply. unwrap_or (option_map (λ v. v.items) reply)
+        payload.now
+        ≡ reply_by (drop 2 images.now) payload.now (Some message.old)) }
+    ensures fits { IfOk result
+        (λ reply. IfSome reply (λ v. 28 + length v.items ≤ 65535)) }
 {
     let images = &images[2..];
     if !has_image(images) {
@@ -113,10 +117,17 @@ fn planned_images(
     addresses: &[Addr],
     seen_addresses: &mut SeenAddresses,
 ) -> Result<Option<Vec<Option<Addr>>>, OutOfMemory>
-    requires bound { All (λ address. cross table.now side address ≢ Crossing.Unbound) addresses.now }
-    ensures none { IfOk result (λ images. is_none images ≡ nat_lt (free table.now (other side)) (needed table.now side addresses.now)) }
-    ensures images { (uses : List Use) → AreUsesOf side addresses.now uses → IfOk result (λ images. IfSome images (λ v. v.items ≡ images_after table.now uses)) }
-    ensures count { IfOk result (λ images. IfSome images (λ v. length v.items ≡ length addresses.now)) }
+    requires bound { All (λ address. cross table.now side address ≢ Crossing.Unbound)
+        addresses.now }
+    ensures none { IfOk result (λ images. is_none images
+        ≡ nat_lt (free table.now (other side))
+        (needed table.now side addresses.now)) }
+    ensures images { (uses : List Use)
+        → AreUsesOf side addresses.now uses
+        → IfOk result
+        (λ images. IfSome images (λ v. v.items ≡ images_after table.now uses)) }
+    ensures count { IfOk result
+        (λ images. IfSome images (λ v. length v.items ≡ length addresses.now)) }
 {
     let mut images = vec![in alloc; None; addresses.len()]?;
     if table.plan(side, addresses, &mut images, seen_addresses) {
@@ -128,7 +139,8 @@ fn planned_images(
 
 /// Uses addresses in their order.
 pub fn use_all(table: &mut Table, side: Side, addresses: &[Addr], until: Moment)
-    ensures { table.new ≡ after_uses table.old (uses_until side until.0 addresses.now) }
+    ensures { table.new
+        ≡ after_uses table.old (uses_until side until.0 addresses.now) }
 {
     for address in addresses {
         use_address(table, side, *address, until);
@@ -148,7 +160,10 @@ fn put_reply(
     requires can { CanGoOn octets.now }
     requires protocol { (datagram_of octets.now).protocol ≡ 17 }
     requires fits { IfSome reply.now (λ v. 28 + length v.items ≤ 65535) }
-    ensures { outbox.new ≡ rebuilt (datagram_of octets.now) source.0 destination.0 (unwrap_or (option_map (λ v. v.items) reply.now) (carried (datagram_of octets.now))) ∷ [] }
+    ensures { outbox.new
+        ≡ rebuilt (datagram_of octets.now) source.0 destination.0 (unwrap_or
+        (option_map (λ v. v.items) reply.now)
+        (carried (datagram_of octets.now))) ∷ [] }
 {
     match reply {
         Some(reply) => outbox.put_rebuilt(octets, source, destination, reply),
@@ -173,8 +188,15 @@ fn pass_names(
     requires can { CanGoOn octets.now }
     requires protocol { (datagram_of octets.now).protocol ≡ 17 }
     requires fits { IfSome reply.now (λ v. 28 + length v.items ≤ 65535) }
-    ensures table { table.new ≡ after_uses table.old (named_uses way.now.side way.now.moment.0 way.now.source way.now.destination named.now) }
-    ensures out { outbox.new ≡ rebuilt (datagram_of octets.now) (image_by way.now.of_source way.now.source).0 (image_by way.now.of_destination way.now.destination).0 (unwrap_or (option_map (λ v. v.items) reply.now) (carried (datagram_of octets.now))) ∷ [] }
+    ensures table { table.new
+        ≡ after_uses table.old (named_uses way.now.side way.now.moment.0
+        way.now.source way.now.destination named.now) }
+    ensures out { outbox.new
+        ≡ rebuilt (datagram_of octets.now)
+        (image_by way.now.of_source way.now.source).0
+        (image_by way.now.of_destination way.now.destination).0 (unwrap_or
+        (option_map (λ v. v.items) reply.now)
+        (carried (datagram_of octets.now))) ∷ [] }
 {
     way.use_both(table, UDP_TIMEOUT);
     use_all(table, way.side, named, Moment(way.moment.0 + NAMED_TIMEOUT));
@@ -191,7 +213,13 @@ fn take_unnamed(table: &mut Table, way: &Way, octets: &[u8], outbox: &mut Outbox
     requires few { length octets.now ≤ 65535 }
     requires can { CanGoOn octets.now }
     requires protocol { (datagram_of octets.now).protocol ≡ 17 }
-    ensures taken { (live : World PlainSession) → live.table ≡ table.old → IsWayOf live way.now.side (datagram_of octets.now) way.now → is_none (message_in (datagram_of octets.now)) ≡ false → named_in (message_in (datagram_of octets.now)) ≡ [] → IsTaken plain_rules live way.now.side (datagram_of octets.now) (kinds.Dns) result table.new outbox.new }
+    ensures taken { (live : World PlainSession)
+        → live.table ≡ table.old
+        → IsWayOf live way.now.side (datagram_of octets.now) way.now
+        → is_none (message_in (datagram_of octets.now)) ≡ false
+        → named_in (message_in (datagram_of octets.now)) ≡ []
+        → IsTaken plain_rules live way.now.side (datagram_of octets.now) (kinds.Dns)
+        result table.new outbox.new }
 {
     take_plain(table, way, UDP_TIMEOUT, octets, outbox)
 }
@@ -214,7 +242,12 @@ fn take_message(
     requires whole { IsUdpOf datagram.now.octets.now datagram.now.payload.now }
     requires message { message_at datagram.now.payload.now ≡ Some message.old }
     requires suits { MessageSuits message.old }
-    ensures taken { (live : World PlainSession) → live.table ≡ table.old → IsWayOf live way.now.side (datagram_of datagram.now.octets.now) way.now → IfOk result (λ r. IsTaken plain_rules live way.now.side (datagram_of datagram.now.octets.now) (kinds.Dns) r table.new outbox.new) }
+    ensures taken { (live : World PlainSession)
+        → live.table ≡ table.old
+        → IsWayOf live way.now.side (datagram_of datagram.now.octets.now) way.now
+        → IfOk result (λ r. IsTaken plain_rules live way.now.side
+        (datagram_of datagram.now.octets.now) (kinds.Dns) r table.new
+        outbox.new) }
     ensures memory { OnErr result ((table.new ≡ table.old) × (outbox.new ≡ [])) }
 {
     let named = named_in(alloc, message)?;
@@ -249,13 +282,26 @@ pub fn take_dns(
     requires moment { IsMoment way.now.moment.0 }
     requires empty { outbox.old ≡ [] }
     requires whole { IsUdpOf datagram.now.octets.now datagram.now.payload.now }
-    ensures taken { (live : World PlainSession) → live.table ≡ table.old → IsWayOf live way.now.side (datagram_of datagram.now.octets.now) way.now → IfOk result (λ r. IsTaken plain_rules live way.now.side (datagram_of datagram.now.octets.now) (kinds.Dns) r table.new outbox.new) }
+    ensures taken { (live : World PlainSession)
+        → live.table ≡ table.old
+        → IsWayOf live way.now.side (datagram_of datagram.now.octets.now) way.now
+        → IfOk result (λ r. IsTaken plain_rules live way.now.side
+        (datagram_of datagram.now.octets.now) (kinds.Dns) r table.new
+        outbox.new) }
     ensures memory { OnErr result ((table.new ≡ table.old) × (outbox.new ≡ [])) }
 {
     match message_in(alloc, datagram.payload)? {
         None => Ok(Some(Refusal::BadDns)),
         Some(mut message) => {
-            take_message(alloc, &mut message, table, seen_addresses, way, datagram, outbox)
+            take_message(
+                alloc,
+                &mut message,
+                table,
+                seen_addresses,
+                way,
+                datagram,
+                outbox,
+            )
         }
     }
 }

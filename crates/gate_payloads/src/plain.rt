@@ -30,7 +30,10 @@ pub fn pass_plain(table: &mut Table, way: &Way, timeout: u64, octets: &[u8], out
     requires few { length octets.now ≤ 65535 }
     requires can { CanGoOn octets.now }
     ensures table { table.new ≡ after_uses table.old (header_uses way.now timeout) }
-    ensures out { outbox.new ≡ renamed (datagram_of octets.now) (image_by way.now.of_source way.now.source).0 (image_by way.now.of_destination way.now.destination).0 ∷ [] }
+    ensures out { outbox.new
+        ≡ renamed (datagram_of octets.now)
+        (image_by way.now.of_source way.now.source).0
+        (image_by way.now.of_destination way.now.destination).0 ∷ [] }
 {
     way.use_both(table, timeout);
     outbox.put_renamed(octets, way.source_image(), way.destination_image());
@@ -51,9 +54,16 @@ pub fn take_plain(
     requires empty { outbox.old ≡ [] }
     requires few { length octets.now ≤ 65535 }
     requires can { CanGoOn octets.now }
-    ensures refusal { result ≡ first_that_holds ((is_empty way.now.of_source, PoolEmpty) ∷ []) }
-    ensures table { table.new ≡ unless_refused result (after_uses table.old (header_uses way.now timeout)) table.old }
-    ensures out { outbox.new ≡ unless_refused result (renamed (datagram_of octets.now) (image_by way.now.of_source way.now.source).0 (image_by way.now.of_destination way.now.destination).0 ∷ []) [] }
+    ensures refusal { result
+        ≡ first_that_holds ((is_empty way.now.of_source, PoolEmpty) ∷ []) }
+    ensures table { table.new
+        ≡ unless_refused result (after_uses table.old (header_uses way.now timeout))
+        table.old }
+    ensures out { outbox.new
+        ≡ unless_refused result
+        (renamed (datagram_of octets.now)
+        (image_by way.now.of_source way.now.source).0
+        (image_by way.now.of_destination way.now.destination).0 ∷ []) [] }
 {
     if lacks_alias(way) {
         return Some(Refusal::PoolEmpty);

@@ -73,8 +73,14 @@ fn pass_basic(table: &mut Table, way: &Way, datagram: &UdpDatagram<'_>, outbox: 
     requires empty { outbox.old ≡ [] }
     requires whole { IsUdpOf datagram.now.octets.now datagram.now.payload.now }
     requires message { IsSome (message datagram.now.payload.now) }
-    ensures table { table.new ≡ after_uses table.old (header_uses way.now udp_timeout) }
-    ensures out { outbox.new ≡ rebuilt (datagram_of datagram.now.octets.now) (image_by way.now.of_source way.now.source).0 (image_by way.now.of_destination way.now.destination).0 (oid_renamed (number_seen table.new way.now.side) [] datagram.now.payload.now) ∷ [] }
+    ensures table { table.new
+        ≡ after_uses table.old (header_uses way.now udp_timeout) }
+    ensures out { outbox.new
+        ≡ rebuilt (datagram_of datagram.now.octets.now)
+        (image_by way.now.of_source way.now.source).0
+        (image_by way.now.of_destination way.now.destination).0 (oid_renamed
+        (number_seen table.new way.now.side) [] datagram.now.payload.now)
+        ∷ [] }
 {
     way.use_both(table, UDP_TIMEOUT);
     let seen = Seen {
@@ -103,9 +109,22 @@ fn pass_by_rules(
     requires empty { outbox.old ≡ [] }
     requires whole { IsUdpOf datagram.now.octets.now datagram.now.payload.now }
     requires message { IsSome (message datagram.now.payload.now) }
-    ensures refusal { result ≡ first_that_holds ((nat_lt 65507 (length (oid_renamed (number_planned table.old way.now) table.old.oids datagram.now.payload.now)), SnmpTooLong) ∷ []) }
-    ensures table { table.new ≡ unless_refused result (after_uses table.old (header_uses way.now udp_timeout)) table.old }
-    ensures out { outbox.new ≡ unless_refused result (rebuilt (datagram_of datagram.now.octets.now) (image_by way.now.of_source way.now.source).0 (image_by way.now.of_destination way.now.destination).0 (oid_renamed (number_planned table.old way.now) table.old.oids datagram.now.payload.now) ∷ []) [] }
+    ensures refusal { result
+        ≡ first_that_holds ((
+          nat_lt 65507
+              (length (oid_renamed (number_planned table.old way.now) table.old.oids datagram.now.payload.now)),
+          SnmpTooLong,
+        ) ∷ []) }
+    ensures table { table.new
+        ≡ unless_refused result
+        (after_uses table.old (header_uses way.now udp_timeout)) table.old }
+    ensures out { outbox.new
+        ≡ unless_refused result
+        (rebuilt (datagram_of datagram.now.octets.now)
+        (image_by way.now.of_source way.now.source).0
+        (image_by way.now.of_destination way.now.destination).0
+        (oid_renamed (number_planned table.old way.now) table.old.oids
+        datagram.now.payload.now) ∷ []) [] }
 {
     let fits = outbox.put_snmp_by_rules(
         datagram.octets,
@@ -136,7 +155,11 @@ pub fn take_snmp(
     requires moment { IsMoment way.now.moment.0 }
     requires empty { outbox.old ≡ [] }
     requires whole { IsUdpOf datagram.now.octets.now datagram.now.payload.now }
-    ensures taken { (live : World PlainSession) → live.table ≡ table.old → IsWayOf live way.now.side (datagram_of datagram.now.octets.now) way.now → IsTaken plain_rules live way.now.side (datagram_of datagram.now.octets.now) (kinds.Snmp) result table.new outbox.new }
+    ensures taken { (live : World PlainSession)
+        → live.table ≡ table.old
+        → IsWayOf live way.now.side (datagram_of datagram.now.octets.now) way.now
+        → IsTaken plain_rules live way.now.side (datagram_of datagram.now.octets.now)
+        (kinds.Snmp) result table.new outbox.new }
 {
     if check(datagram.payload).is_none() {
         return Some(Refusal::BadSnmp);

@@ -57,7 +57,8 @@ fn send_event<S: Serializer>(
     verdict: Verdict,
     frames: u32,
 ) -> Result<(), S::Error>
-    ensures { OnOk result (SendsValue (event_value number side moment verdict frames) (S.written out.old) (S.written out.new)) }
+    ensures { OnOk result (SendsValue (event_value number side moment verdict frames)
+        (S.written out.old) (S.written out.new)) }
 {
     out.begin_map(Some(5))?;
     out.key("event")?;
@@ -83,7 +84,9 @@ fn send_done<S: Serializer>(
     to_right: u64,
     pending: u64,
 ) -> Result<(), S::Error>
-    ensures { OnOk result (SendsValue (done_value events passed refused to_left to_right pending) (S.written out.old) (S.written out.new)) }
+    ensures { OnOk result (SendsValue
+        (done_value events passed refused to_left to_right pending)
+        (S.written out.old) (S.written out.new)) }
 {
     out.begin_map(Some(7))?;
     out.key("done")?;

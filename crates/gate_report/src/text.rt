@@ -48,7 +48,8 @@ fn put_event(
 ) -> usize
     requires { length room.old ≡ LINE }
     ensures begin { result ≤ LINE }
-    ensures line { drop result room.new ≡ event_text number side moment verdict frames }
+    ensures line { drop result room.new
+        ≡ event_text number side moment verdict frames }
 {
     let end = put_word_before(room, LINE, "\n");
     let end = put_number_before(room, end, u64::from(frames));
@@ -67,7 +68,8 @@ fn put_event(
 fn put_verdict_before(room: &mut [u8], end: usize, verdict: Verdict) -> usize
     requires { (length (verdict_name verdict) ≤ end) × (end ≤ length room.old) }
     ensures begin { result + length (verdict_name verdict) ≡ end }
-    ensures octets { drop result room.new ≡ verdict_name verdict ++ drop end room.old }
+    ensures octets { drop result room.new
+        ≡ verdict_name verdict ++ drop end room.old }
 {
     match verdict {
         Verdict::Pass => put_word_before(room, end, "pass"),
@@ -120,7 +122,8 @@ fn put_done(
 ) -> usize
     requires { length room.old ≡ LINE }
     ensures begin { result ≤ LINE }
-    ensures line { drop result room.new ≡ done_text events passed refused to_left to_right pending }
+    ensures line { drop result room.new
+        ≡ done_text events passed refused to_left to_right pending }
 {
     let end = put_word_before(room, LINE, "\n");
     let end = put_field_before(room, end, " pending=", pending);
@@ -135,7 +138,8 @@ fn put_done(
 fn put_field_before(room: &mut [u8], end: usize, label: &str, value: u64) -> usize
     requires { (length label.now + 20 ≤ end) × (end ≤ length room.old) }
     ensures begin { (end ≤ result + length label.now + 20) × (result ≤ end) }
-    ensures octets { drop result room.new ≡ label.now ++ (decimal value ++ drop end room.old) }
+    ensures octets { drop result room.new
+        ≡ label.now ++ (decimal value ++ drop end room.old) }
 {
     let begin = put_number_before(room, end, value);
     put_word_before(room, begin, label)

@@ -4,13 +4,13 @@ ghost use Rattle.gate_sessions.specs.Compact.{compact_rules};
 
 use crate::kinds::FtpSession;
 use crate::session::{AnySession, Passing};
-use gate_base::{OutOfMemory, Pair, Refusal};
+use dns_plans::{Entry, Tracked};
 use event_engine::{Engine, Stepped};
+use gate_base::{OutOfMemory, Pair, Refusal};
 use gate_outbox::{Outbox, Scratch, Segment};
 use gate_payloads::Way;
 use std::alloc::Global;
 use tcp_segments::TcpView;
-use dns_plans::{Entry, Tracked};
 
 impl Engine for AnySession {
     ghost use Rattle.std.specs.Prelude.{ℕ, List};
@@ -59,7 +59,8 @@ impl Engine for AnySession {
 
 /// How many changed lines or units wait in a session; None where it is over.
 fn waiting(session: &AnySession, over: bool) -> Option<u64>
-    ensures { result ≡ (if over then None else Some (compact_rules.pending session.now)) }
+    ensures { result
+        ≡ (if over then None else Some (compact_rules.pending session.now)) }
 {
     if over {
         return None;

@@ -19,15 +19,43 @@ ghost use Rattle.gate_model.specs.Remembered.{EachTracked};
 /// whole lists do.
 pub fn compact_worlds_answer()
     ensures agree { Agree StandsFor whole_rules compact_rules }
-    ensures verdict { (settings : Settings) (events : List Event) (e : Event) → verdict compact_rules (fold (next compact_rules) (opening_world settings) events) e ≡ verdict whole_rules (fold (next whole_rules) (opening_world settings) events) e }
-    ensures out { (settings : Settings) (events : List Event) (e : Event) → out compact_rules (fold (next compact_rules) (opening_world settings) events) e ≡ out whole_rules (fold (next whole_rules) (opening_world settings) events) e }
-    ensures pending { (settings : Settings) (events : List Event) → (fold (next compact_rules) (opening_world settings) events).pending ≡ (fold (next whole_rules) (opening_world settings) events).pending }
-    ensures related { (settings : Settings) (events : List Event) → AreRelated StandsFor (fold (next whole_rules) (opening_world settings) events) (fold (next compact_rules) (opening_world settings) events) }
+    ensures verdict { (settings : Settings) (events : List Event) (e : Event)
+        → verdict compact_rules
+        (fold (next compact_rules) (opening_world settings) events) e
+        ≡ verdict whole_rules
+        (fold (next whole_rules) (opening_world settings) events) e }
+    ensures out { (settings : Settings) (events : List Event) (e : Event)
+        → out compact_rules
+        (fold (next compact_rules) (opening_world settings) events) e
+        ≡ out whole_rules
+        (fold (next whole_rules) (opening_world settings) events) e }
+    ensures pending { (settings : Settings) (events : List Event)
+        → (fold (next compact_rules) (opening_world settings) events).pending
+        ≡ (fold (next whole_rules) (opening_world settings) events).pending }
+    ensures related { (settings : Settings) (events : List Event)
+        → AreRelated StandsFor
+        (fold (next whole_rules) (opening_world settings) events)
+        (fold (next compact_rules) (opening_world settings) events) }
     ensures lists { HasLists compact_rules }
-    ensures some { (settings : Settings) (events : List Event) → EachTracked (λ t. IsOfSome t.session) (fold (next compact_rules) (opening_world settings) events).connections }
-    ensures step_some { (w : World CompactSession) (e : Event) → EachTracked (λ t. IsOfSome t.session) w.connections → EachTracked (λ t. IsOfSome t.session) (next compact_rules w e).connections }
-    ensures listed { (k : CompactSession) (client : Bool) → IsOfSome k → IfSome k.lists (λ l. IsListedStream (list_of client l) (sender_kept client k.kept)) }
-    ensures step_verdict { (w : World WholeSession) (v : World CompactSession) (e : Event) → AreRelated StandsFor w v → verdict compact_rules v e ≡ verdict whole_rules w e }
-    ensures step_out { (w : World WholeSession) (v : World CompactSession) (e : Event) → AreRelated StandsFor w v → out compact_rules v e ≡ out whole_rules w e }
-    ensures step_next { (w : World WholeSession) (v : World CompactSession) (e : Event) → AreRelated StandsFor w v → AreRelated StandsFor (next whole_rules w e) (next compact_rules v e) }
+    ensures some { (settings : Settings) (events : List Event)
+        → EachTracked (λ t. IsOfSome t.session)
+        (fold (next compact_rules) (opening_world settings) events).connections }
+    ensures step_some { (w : World CompactSession) (e : Event)
+        → EachTracked (λ t. IsOfSome t.session) w.connections
+        → EachTracked (λ t. IsOfSome t.session) (next compact_rules w e).connections }
+    ensures listed { (k : CompactSession) (client : Bool)
+        → IsOfSome k
+        → IfSome k.lists
+        (λ l. IsListedStream (list_of client l) (sender_kept client k.kept)) }
+    ensures step_verdict { (w : World WholeSession) (v : World CompactSession)
+        (e : Event)
+        → AreRelated StandsFor w v
+        → verdict compact_rules v e ≡ verdict whole_rules w e }
+    ensures step_out { (w : World WholeSession) (v : World CompactSession) (e : Event)
+        → AreRelated StandsFor w v
+        → out compact_rules v e ≡ out whole_rules w e }
+    ensures step_next { (w : World WholeSession) (v : World CompactSession)
+        (e : Event)
+        → AreRelated StandsFor w v
+        → AreRelated StandsFor (next whole_rules w e) (next compact_rules v e) }
 {}

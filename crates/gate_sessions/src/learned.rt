@@ -10,16 +10,19 @@ ghost use Rattle.gate_sessions.specs.Directions.{listed_of, IsListedSide, with_e
 use crate::kinds::DnsSession;
 use crate::segments::put_segments;
 use crate::session::Passing;
+use dns_plans::Entry;
 use gate_base::OutOfMemory;
 use gate_outbox::{Outbox, Scratch};
-use dns_plans::Entry;
 
 /// Enters an address into the client's list, or else the server's, unless it is listed.
 fn learn_one(session: &mut DnsSession, from_client: bool, one: Entry)
-    requires few { is_listed (listed_of from_client session.old) one.0.0 ≡ false → length (listed_of from_client session.old) < 256 }
+    requires few { is_listed (listed_of from_client session.old) one.0.0 ≡ false
+        → length (listed_of from_client session.old) < 256 }
     requires stream { IsListedSide from_client session.old }
-    ensures list { listed_of from_client session.new ≡ enter_one (listed_of from_client session.old) one }
-    ensures other { listed_of (not from_client) session.new ≡ listed_of (not from_client) session.old }
+    ensures list { listed_of from_client session.new
+        ≡ enter_one (listed_of from_client session.old) one }
+    ensures other { listed_of (not from_client) session.new
+        ≡ listed_of (not from_client) session.old }
     ensures kept { session.new.kept ≡ session.old.kept }
     ensures stream { IsListedSide from_client session.new }
 {
@@ -31,10 +34,13 @@ fn learn_one(session: &mut DnsSession, from_client: bool, one: Entry)
 
 /// Enters addresses into the client's list, or else the server's, one after the other.
 fn learn_all(session: &mut DnsSession, from_client: bool, named: &[Entry])
-    requires few { length (entered_all (listed_of from_client session.old) named.now) ≤ 256 }
+    requires few { length (entered_all (listed_of from_client session.old) named.now)
+        ≤ 256 }
     requires stream { IsListedSide from_client session.old }
-    ensures list { listed_of from_client session.new ≡ entered_all (listed_of from_client session.old) named.now }
-    ensures other { listed_of (not from_client) session.new ≡ listed_of (not from_client) session.old }
+    ensures list { listed_of from_client session.new
+        ≡ entered_all (listed_of from_client session.old) named.now }
+    ensures other { listed_of (not from_client) session.new
+        ≡ listed_of (not from_client) session.old }
     ensures kept { session.new.kept ≡ session.old.kept }
 {
     for one in named {
@@ -51,16 +57,32 @@ pub fn step_units(
     outbox: &mut Outbox,
     scratch: &mut Scratch,
 ) -> Result<bool, OutOfMemory>
-    requires few { length (entered_all (listed_of passing.now.from_client session.old) named.now) ≤ 256 }
+    requires few { length
+        (entered_all (listed_of passing.now.from_client session.old) named.now)
+        ≤ 256 }
     requires stream { IsListedSide passing.now.from_client session.old }
     requires empty { outbox.old ≡ [] }
-    requires segment { passing.now.segment.now.tcp.now ≡ tcp_of passing.now.segment.now.datagram.now }
+    requires segment { passing.now.segment.now.tcp.now
+        ≡ tcp_of passing.now.segment.now.datagram.now }
     requires alive { 1 ≤ passing.now.segment.now.datagram.now.lifetime }
-    requires passes { kept_verdict passing.now.from_client session.old.kept (segment_of passing.now.segment.now.datagram.now) ≡ None }
-    ensures next { OnOk result (session.new ≡ dns_next passing.now.from_client (with_entered passing.now.from_client named.now session.old) (segment_of passing.now.segment.now.datagram.now)) }
-    ensures out { OnOk result (outbox.new ≡ map (sent_as passing.now.segment.now.datagram.now passing.now.source.0 passing.now.destination.0) (dns_out passing.now.from_client (with_entered passing.now.from_client named.now session.old) (segment_of passing.now.segment.now.datagram.now))) }
-    ensures over { IfOk result (λ b. b ≡ kept_ends passing.now.from_client session.old.kept (segment_of passing.now.segment.now.datagram.now)) }
-    ensures memory { OnErr result (DnsCompletes passing.now.from_client (with_entered passing.now.from_client named.now session.old) (segment_of passing.now.segment.now.datagram.now)) }
+    requires passes { kept_verdict passing.now.from_client session.old.kept
+        (segment_of passing.now.segment.now.datagram.now) ≡ None }
+    ensures next { OnOk result (session.new
+        ≡ dns_next passing.now.from_client
+        (with_entered passing.now.from_client named.now session.old)
+        (segment_of passing.now.segment.now.datagram.now)) }
+    ensures out { OnOk result (outbox.new
+        ≡ map
+        (sent_as passing.now.segment.now.datagram.now passing.now.source.0
+        passing.now.destination.0) (dns_out passing.now.from_client
+        (with_entered passing.now.from_client named.now session.old)
+        (segment_of passing.now.segment.now.datagram.now))) }
+    ensures over { IfOk result (λ b. b
+        ≡ kept_ends passing.now.from_client session.old.kept
+        (segment_of passing.now.segment.now.datagram.now)) }
+    ensures memory { OnErr result (DnsCompletes passing.now.from_client
+        (with_entered passing.now.from_client named.now session.old)
+        (segment_of passing.now.segment.now.datagram.now)) }
     ensures same { OnErr result (session.new ≡ session.old) }
     ensures nothing { OnErr result (outbox.new ≡ []) }
 {

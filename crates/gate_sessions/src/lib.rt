@@ -4,10 +4,10 @@
 
 mod engine;
 mod kinds;
+mod laws;
 mod learned;
 mod segments;
 mod session;
-mod laws;
 
-pub use session::{AnySession, Passing};
 pub use laws::compact_worlds_answer;
+pub use session::{AnySession, Passing};

@@ -20,13 +20,32 @@ pub fn put_segments<C: Dialogue, S: Dialogue, const N: usize>(
     scratch: &mut Scratch,
 ) -> Result<bool, OutOfMemory>
     requires empty { outbox.old ≡ [] }
-    requires segment { passing.now.segment.now.tcp.now ≡ tcp_of passing.now.segment.now.datagram.now }
+    requires segment { passing.now.segment.now.tcp.now
+        ≡ tcp_of passing.now.segment.now.datagram.now }
     requires alive { 1 ≤ passing.now.segment.now.datagram.now.lifetime }
-    requires passes { kept_verdict passing.now.from_client session.old.kept (segment_of passing.now.segment.now.datagram.now) ≡ None }
-    ensures next { OnOk result (session.new ≡ record session.old { kept = kept_next (C.meaning session.old.client_dialogue) (S.meaning session.old.server_dialogue) passing.now.from_client session.old.kept (segment_of passing.now.segment.now.datagram.now) }) }
-    ensures out { OnOk result (outbox.new ≡ map (sent_as passing.now.segment.now.datagram.now passing.now.source.0 passing.now.destination.0) (kept_out (C.meaning session.old.client_dialogue) (S.meaning session.old.server_dialogue) passing.now.from_client session.old.kept (segment_of passing.now.segment.now.datagram.now))) }
-    ensures over { IfOk result (λ b. b ≡ kept_ends passing.now.from_client session.old.kept (segment_of passing.now.segment.now.datagram.now)) }
-    ensures memory { OnErr result (KeptCompletes (C.meaning session.old.client_dialogue) (S.meaning session.old.server_dialogue) passing.now.from_client session.old.kept (segment_of passing.now.segment.now.datagram.now)) }
+    requires passes { kept_verdict passing.now.from_client session.old.kept
+        (segment_of passing.now.segment.now.datagram.now) ≡ None }
+    ensures next { OnOk result (session.new
+        ≡ record session.old {
+          kept = kept_next (C.meaning session.old.client_dialogue)
+              (S.meaning session.old.server_dialogue) passing.now.from_client
+              session.old.kept
+              (segment_of passing.now.segment.now.datagram.now);
+        }) }
+    ensures out { OnOk result (outbox.new
+        ≡ map
+        (sent_as passing.now.segment.now.datagram.now passing.now.source.0
+        passing.now.destination.0) (kept_out
+        (C.meaning session.old.client_dialogue)
+        (S.meaning session.old.server_dialogue) passing.now.from_client
+        session.old.kept (segment_of passing.now.segment.now.datagram.now))) }
+    ensures over { IfOk result (λ b. b
+        ≡ kept_ends passing.now.from_client session.old.kept
+        (segment_of passing.now.segment.now.datagram.now)) }
+    ensures memory { OnErr result (KeptCompletes
+        (C.meaning session.old.client_dialogue)
+        (S.meaning session.old.server_dialogue) passing.now.from_client
+        session.old.kept (segment_of passing.now.segment.now.datagram.now)) }
     ensures same { OnErr result (session.new ≡ session.old) }
     ensures nothing { OnErr result (outbox.new ≡ []) }
 {

@@ -12,9 +12,10 @@ ghost use Rattle.dns_plans.specs.Plans.{whole_units, beside};
 ghost use Rattle.dns_plans.specs.Steps.{entered_all};
 ghost use Rattle.gate_sessions.specs.Sessions.{MayWantIn};
 
-use crate::kinds::{SessionKind, DnsSession, FtpSession};
+use crate::kinds::{DnsSession, FtpSession, SessionKind};
 use crate::learned::step_units;
 use crate::segments::put_segments;
+use dns_plans::{Entry, Session, UnitOctets};
 use dns_stream::DnsUnits;
 use ftp_lines::{ClientLines, ServerLines};
 use gate_base::{Addr, DNS_PORT, OutOfMemory, Pair, Refusal};
@@ -25,7 +26,6 @@ use std::boxed::Box;
 use std::marker::Model;
 use stream_gate::StreamGate;
 use tcp_segments::{TcpView, flags_of};
-use dns_plans::{Entry, Session, UnitOctets};
 
 /// A segment that passes: whether the client sends it, and the addresses between which it goes on.
 #[derive(Clone, Copy)]
@@ -56,7 +56,12 @@ impl Model for AnySession {
 }
 
 fn ftp_session(alloc: Global, pair: Pair, initial: u32, mss: u16) -> Result<FtpSession, OutOfMemory>
-    ensures { IfOk result (λ session. session ≡ record { client_dialogue = record { pair = pair }; server_dialogue = record { pair = pair }; kept = kept_made initial mss nothing_pushed nothing_pushed }) }
+    ensures { IfOk result (λ session. session
+        ≡ record {
+          client_dialogue = record { pair = pair };
+          server_dialogue = record { pair = pair };
+          kept = kept_made initial mss nothing_pushed nothing_pushed;
+        }) }
 {
     let from_client = Recent::new(alloc)?;
     let from_server = Recent::new(alloc)?;
@@ -72,7 +77,12 @@ fn ftp_session(alloc: Global, pair: Pair, initial: u32, mss: u16) -> Result<FtpS
 }
 
 fn dns_session(alloc: Global, initial: u32, mss: u16) -> Result<DnsSession, OutOfMemory>
-    ensures { IfOk result (λ session. session ≡ record { client_dialogue = []; server_dialogue = []; kept = kept_made initial mss nothing_pushed nothing_pushed }) }
+    ensures { IfOk result (λ session. session
+        ≡ record {
+          client_dialogue = [];
+          server_dialogue = [];
+          kept = kept_made initial mss nothing_pushed nothing_pushed;
+        }) }
 {
     let client = DnsUnits::new(alloc)?;
     let server = DnsUnits::new(alloc)?;
@@ -152,7 +162,8 @@ impl AnySession {
         initial: u32,
         mss: u16,
     ) -> Result<AnySession, OutOfMemory>
-        ensures { IfOk result (λ session. session ≡ compact_rules.made port pair initial mss) }
+        ensures { IfOk result
+            (λ session. session ≡ compact_rules.made port pair initial mss) }
     {
         if port == DNS_PORT {
             let session = dns_session(alloc, initial, mss)?;
@@ -187,16 +198,44 @@ impl AnySession {
         outbox: &mut Outbox,
         scratch: &mut Scratch,
     ) -> Result<bool, OutOfMemory>
-        requires few { length (entered_all (compact_rules.listed passing.now.from_client self.old) entries.now) ≤ 256 }
-        requires named { (image : Addr → Option Addr) × (entries.now ≡ beside image (addresses_in (compact_rules.units passing.now.from_client self.old (segment_of passing.now.segment.now.datagram.now)))) }
+        requires few { length (entered_all
+            (compact_rules.listed passing.now.from_client self.old) entries.now)
+            ≤ 256 }
+        requires named { (image : Addr → Option Addr)
+            × (entries.now
+            ≡ beside image (addresses_in (compact_rules.units
+            passing.now.from_client self.old
+            (segment_of passing.now.segment.now.datagram.now)))) }
         requires empty { outbox.old ≡ [] }
-        requires segment { passing.now.segment.now.tcp.now ≡ tcp_of passing.now.segment.now.datagram.now }
+        requires segment { passing.now.segment.now.tcp.now
+            ≡ tcp_of passing.now.segment.now.datagram.now }
         requires alive { 1 ≤ passing.now.segment.now.datagram.now.lifetime }
-        requires passes { compact_rules.refusal passing.now.from_client self.old (segment_of passing.now.segment.now.datagram.now) ≡ None }
-        ensures next { (image : Addr → Option Addr) → entries.now ≡ beside image (addresses_in (compact_rules.units passing.now.from_client self.old (segment_of passing.now.segment.now.datagram.now))) → OnOk result (self.new ≡ compact_rules.next image passing.now.from_client self.old (segment_of passing.now.segment.now.datagram.now)) }
-        ensures out { (image : Addr → Option Addr) → entries.now ≡ beside image (addresses_in (compact_rules.units passing.now.from_client self.old (segment_of passing.now.segment.now.datagram.now))) → OnOk result (outbox.new ≡ map (sent_as passing.now.segment.now.datagram.now passing.now.source.0 passing.now.destination.0) (compact_rules.out image passing.now.from_client self.old (segment_of passing.now.segment.now.datagram.now))) }
-        ensures over { IfOk result (λ b. b ≡ compact_rules.ends passing.now.from_client self.old (segment_of passing.now.segment.now.datagram.now)) }
-        ensures memory { OnErr result (MayWantIn passing.now.from_client self.old (segment_of passing.now.segment.now.datagram.now)) }
+        requires passes { compact_rules.refusal passing.now.from_client self.old
+            (segment_of passing.now.segment.now.datagram.now) ≡ None }
+        ensures next { (image : Addr → Option Addr)
+            → entries.now
+            ≡ beside image (addresses_in (compact_rules.units
+            passing.now.from_client self.old
+            (segment_of passing.now.segment.now.datagram.now)))
+            → OnOk result (self.new
+            ≡ compact_rules.next image passing.now.from_client self.old
+            (segment_of passing.now.segment.now.datagram.now)) }
+        ensures out { (image : Addr → Option Addr)
+            → entries.now
+            ≡ beside image (addresses_in (compact_rules.units
+            passing.now.from_client self.old
+            (segment_of passing.now.segment.now.datagram.now)))
+            → OnOk result (outbox.new
+            ≡ map
+            (sent_as passing.now.segment.now.datagram.now passing.now.source.0
+            passing.now.destination.0) (compact_rules.out image
+            passing.now.from_client self.old
+            (segment_of passing.now.segment.now.datagram.now))) }
+        ensures over { IfOk result (λ b. b
+            ≡ compact_rules.ends passing.now.from_client self.old
+            (segment_of passing.now.segment.now.datagram.now)) }
+        ensures memory { OnErr result (MayWantIn passing.now.from_client self.old
+            (segment_of passing.now.segment.now.datagram.now)) }
         ensures same { OnErr result (self.new ≡ self.old) }
         ensures nothing { OnErr result (outbox.new ≡ []) }
     {

@@ -40,7 +40,9 @@ fn ip_model(protocol: u8) -> [u8; 20]
 /// Writes an IPv4 header, which fills its target, for a datagram of this total length.
 fn put_ip_head(head: &mut [u8], protocol: u8, total: u16, flow: &Flow)
     requires { length head.old ≡ 20 }
-    ensures { head.new ≡ spelled_head (ip_model protocol) total 64 flow.now.source.0 flow.now.destination.0 }
+    ensures { head.new
+        ≡ spelled_head (ip_model protocol) total 64 flow.now.source.0
+        flow.now.destination.0 }
 {
     put_head(
         head,
@@ -56,7 +58,8 @@ fn put_ip_head(head: &mut [u8], protocol: u8, total: u16, flow: &Flow)
 fn put_udp_parts(segment: &mut [u8], flow: &Flow, payload: &[u8])
     requires room { length segment.old ≡ 8 + length payload.now }
     requires short { length segment.old ≤ 65535 }
-    ensures { segment.new ≡ udp_header flow.now (8 + length payload.now) ++ payload.now }
+    ensures { segment.new
+        ≡ udp_header flow.now (8 + length payload.now) ++ payload.now }
 {
     let len = segment.len() as u16;
     let (head, rest) = segment.split_at_mut(UDP_HEAD);
@@ -73,7 +76,8 @@ fn put_udp_sum(segment: &mut [u8], flow: &Flow)
     requires long { 8 ≤ length segment.old }
     requires short { length segment.old ≤ 65535 }
     requires unknown { u16_at 6 segment.old ≡ 65535 }
-    ensures { segment.new ≡ sealed_udp flow.now.source.0 flow.now.destination.0 segment.old }
+    ensures { segment.new
+        ≡ sealed_udp flow.now.source.0 flow.now.destination.0 segment.old }
 {
     put_u16(segment, 6, 0);
     let checksum = pseudo_sum(flow.source, flow.destination, UDP, segment);
@@ -108,7 +112,8 @@ pub(crate) fn append_udp(
 ) -> Result<(), OutOfMemory>
     requires early { frame < 2 ^ 40 }
     requires short { length payload.now ≤ 1000 }
-    ensures { OnOk result (capture.new.items ≡ capture.old.items ++ record_of frame (udp_datagram flow.now payload.now)) }
+    ensures { OnOk result (capture.new.items
+        ≡ capture.old.items ++ record_of frame (udp_datagram flow.now payload.now)) }
 {
     let len = IP_HEAD + UDP_HEAD + payload.len();
     let start = begin_record(capture, frame, len)?;
@@ -126,7 +131,11 @@ pub(crate) fn append_segment(
     requires early { frame < 2 ^ 40 }
     requires options { AreShortOptions segment.now.options.now }
     requires short { length segment.now.octets.now ≤ 1000 }
-    ensures { let s = segment.now in OnOk result (capture.new.items ≡ capture.old.items ++ record_of frame (tcp_datagram s.flow s.options.now s.sequence s.acknowledgement s.flags s.octets.now)) }
+    ensures { let s = segment.now in
+        OnOk result (capture.new.items
+        ≡ capture.old.items
+        ++ record_of frame (tcp_datagram s.flow s.options.now s.sequence
+        s.acknowledgement s.flags s.octets.now)) }
 {
     let len = IP_HEAD + TCP_HEAD + segment.options.len() + segment.octets.len();
     let start = begin_record(capture, frame, len)?;
@@ -140,7 +149,8 @@ fn begin_record(capture: &mut Vec<u8>, frame: u64, len: usize) -> Result<usize, 
     requires short { len ≤ 65535 }
     ensures place { IfOk result (λ start. start ≡ length capture.old.items + 16) }
     ensures room { IfOk result (λ start. length capture.new.items ≡ start + len) }
-    ensures head { IfOk result (λ start. take start capture.new.items ≡ capture.old.items ++ record_head frame len) }
+    ensures head { IfOk result (λ start. take start capture.new.items
+        ≡ capture.old.items ++ record_head frame len) }
 {
     capture.reserve(RECORD_HEAD + len)?;
     capture.extend_from_slice(&record_head(frame, len as u32))?;
@@ -169,9 +179,13 @@ fn put_tcp_model(model: &mut [u8], flow: &Flow, options: &[u8])
 #[tactic(auto, unfolding(crate::specs::Datagrams::tcp_datagram))]
 fn put_tcp(target: &mut [u8], segment: &Segment<'_>)
     requires options { AreShortOptions segment.now.options.now }
-    requires room { length target.old ≡ 40 + (length segment.now.options.now + length segment.now.octets.now) }
+    requires room { length target.old
+        ≡ 40 + (length segment.now.options.now + length segment.now.octets.now) }
     requires short { length target.old ≤ 65535 }
-    ensures { let s = segment.now in target.new ≡ tcp_datagram s.flow s.options.now s.sequence s.acknowledgement s.flags s.octets.now }
+    ensures { let s = segment.now in
+        target.new
+        ≡ tcp_datagram s.flow s.options.now s.sequence s.acknowledgement s.flags
+        s.octets.now }
 {
     let mut model = [0; TCP_HEAD + MOST_OPTIONS];
     let model = &mut model[..TCP_HEAD + segment.options.len()];
@@ -213,5 +227,11 @@ pub fn udp_reads_back(
     payload: &[u8],
 )
     requires { length payload.now ≤ 1000 }
-    ensures { ReadsBack (record { source = record { 0 = source }; source_port = source_port; destination = record { 0 = destination }; destination_port = destination_port }) payload.now }
+    ensures { ReadsBack
+        (record {
+          source = record { 0 = source };
+          source_port = source_port;
+          destination = record { 0 = destination };
+          destination_port = destination_port;
+        }) payload.now }
 {}

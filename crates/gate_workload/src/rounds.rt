@@ -105,7 +105,8 @@ impl Making {
     fn left_udp(&mut self, flow: &Flow, payload: &[u8]) -> Result<(), OutOfMemory>
         requires early { self.old.frames < 2 ^ 40 }
         requires short { length payload.now ≤ 1000 }
-        ensures { OnOk result (self.new ≡ spec.on_left (udp_datagram flow.now payload.now) self.old) }
+        ensures { OnOk result
+            (self.new ≡ spec.on_left (udp_datagram flow.now payload.now) self.old) }
     {
         append_udp(&mut self.left, self.frames, flow, payload)?;
         self.frames += 1;
@@ -115,7 +116,8 @@ impl Making {
     fn right_udp(&mut self, flow: &Flow, payload: &[u8]) -> Result<(), OutOfMemory>
         requires early { self.old.frames < 2 ^ 40 }
         requires short { length payload.now ≤ 1000 }
-        ensures { OnOk result (self.new ≡ spec.on_right (udp_datagram flow.now payload.now) self.old) }
+        ensures { OnOk result
+            (self.new ≡ spec.on_right (udp_datagram flow.now payload.now) self.old) }
     {
         append_udp(&mut self.right, self.frames, flow, payload)?;
         self.frames += 1;
@@ -126,7 +128,11 @@ impl Making {
         requires early { self.old.frames < 2 ^ 40 }
         requires options { AreShortOptions segment.now.options.now }
         requires short { length segment.now.octets.now ≤ 1000 }
-        ensures { let s = segment.now in OnOk result (self.new ≡ spec.on_left (tcp_datagram s.flow s.options.now s.sequence s.acknowledgement s.flags s.octets.now) self.old) }
+        ensures { let s = segment.now in
+            OnOk result (self.new
+            ≡ spec.on_left
+            (tcp_datagram s.flow s.options.now s.sequence s.acknowledgement
+            s.flags s.octets.now) self.old) }
     {
         append_segment(&mut self.left, self.frames, segment)?;
         self.frames += 1;
@@ -137,7 +143,11 @@ impl Making {
         requires early { self.old.frames < 2 ^ 40 }
         requires options { AreShortOptions segment.now.options.now }
         requires short { length segment.now.octets.now ≤ 1000 }
-        ensures { let s = segment.now in OnOk result (self.new ≡ spec.on_right (tcp_datagram s.flow s.options.now s.sequence s.acknowledgement s.flags s.octets.now) self.old) }
+        ensures { let s = segment.now in
+            OnOk result (self.new
+            ≡ spec.on_right
+            (tcp_datagram s.flow s.options.now s.sequence s.acknowledgement
+            s.flags s.octets.now) self.old) }
     {
         append_segment(&mut self.right, self.frames, segment)?;
         self.frames += 1;

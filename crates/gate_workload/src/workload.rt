@@ -44,6 +44,10 @@ pub fn make(alloc: Global, number: u32, count: u32) -> Result<Workload, OutOfMem
 
 /// Both captures of a workload of at most 100,000 rounds are read to their ends without a fault.
 pub fn captures_are_whole()
-    ensures left { (number count : ℕ) → count ≤ 100000 → IsWhole (workload number count).left }
-    ensures right { (number count : ℕ) → count ≤ 100000 → IsWhole (workload number count).right }
+    ensures left { (number count : ℕ)
+        → count ≤ 100000
+        → IsWhole (workload number count).left }
+    ensures right { (number count : ℕ)
+        → count ≤ 100000
+        → IsWhole (workload number count).right }
 {}

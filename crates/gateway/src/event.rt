@@ -17,10 +17,10 @@ use frag_join::{Joiner, Taken, ask, joined};
 use gate_base::{Event, Link, Moment, Side, Verdict};
 use gate_core::{Gate, Outbox};
 use gate_desk::{Desk, Slot};
-use run_setup::Status;
 use gate_report::Line;
 use gate_settings::{Settings, SideSettings};
 use pcap_files::write_packet;
+use run_setup::Status;
 use std::alloc::Global;
 
 /// The octets of an Ethernet head.
@@ -49,7 +49,9 @@ fn write_frame<D: Desk>(
     requires early { IsMoment moment.0 }
     requires head { length head.now ≤ HEAD }
     requires short { length datagram.now ≤ 65535 }
-    ensures { WritesPieces result (frame_piece side moment.0 (head.now ++ datagram.now) ∷ []) (D.outside desk.old) (D.outside desk.new) }
+    ensures { WritesPieces result
+        (frame_piece side moment.0 (head.now ++ datagram.now) ∷ [])
+        (D.outside desk.old) (D.outside desk.new) }
 {
     let slot = out_slot(side);
     match write_packet(desk, slot, moment, head, datagram) {
@@ -79,7 +81,9 @@ fn send<D: Desk>(
     requires right { CanWrite (D.outside desk.old) RightOut }
     requires early { IsMoment moment.0 }
     requires short { length datagram.now ≤ 65535 }
-    ensures { WritesPieces result (sent settings.now side moment.0 (datagram.now ∷ [])) (D.outside desk.old) (D.outside desk.new) }
+    ensures { WritesPieces result
+        (sent settings.now side moment.0 (datagram.now ∷ [])) (D.outside desk.old)
+        (D.outside desk.new) }
 {
     let realm = settings.side(side);
     match realm.link {
@@ -100,7 +104,8 @@ fn send_all<D: Desk>(
     requires left { CanWrite (D.outside desk.old) LeftOut }
     requires right { CanWrite (D.outside desk.old) RightOut }
     requires early { IsMoment moment.0 }
-    ensures { WritesPieces result (sent settings.now side moment.0 outbox.now) (D.outside desk.old) (D.outside desk.new) }
+    ensures { WritesPieces result (sent settings.now side moment.0 outbox.now)
+        (D.outside desk.old) (D.outside desk.new) }
 {
     for place in 0..outbox.len() {
         send(desk, settings, side, moment, outbox.datagram(place))?;
@@ -125,9 +130,13 @@ fn handle<D: Desk>(
     requires few { reporter.old.totals.events < 2 ^ 42 }
     requires passed { reporter.old.totals.passed ≤ reporter.old.totals.events }
     requires refused { reporter.old.totals.refused ≤ reporter.old.totals.events }
-    requires to_left { reporter.old.totals.to_left ≤ 4096 * reporter.old.totals.events }
-    requires to_right { reporter.old.totals.to_right ≤ 4096 * reporter.old.totals.events }
-    ensures { Handles (counting reporter.new.totals result) gate.old gate.new reporter.old.totals (Reaches (event_of event.entry)) (D.outside desk.old) (D.outside desk.new) }
+    requires to_left { reporter.old.totals.to_left
+        ≤ 4096 * reporter.old.totals.events }
+    requires to_right { reporter.old.totals.to_right
+        ≤ 4096 * reporter.old.totals.events }
+    ensures { Handles (counting reporter.new.totals result) gate.old gate.new
+        reporter.old.totals (Reaches (event_of event.entry)) (D.outside desk.old)
+        (D.outside desk.new) }
 {
     let verdict = gate.step(&event, outbox)?;
     let frames = outbox.len() as u32;
@@ -159,9 +168,13 @@ fn leave<D: Desk>(
     requires few { reporter.old.totals.events < 2 ^ 42 }
     requires passed { reporter.old.totals.passed ≤ reporter.old.totals.events }
     requires refused { reporter.old.totals.refused ≤ reporter.old.totals.events }
-    requires to_left { reporter.old.totals.to_left ≤ 4096 * reporter.old.totals.events }
-    requires to_right { reporter.old.totals.to_right ≤ 4096 * reporter.old.totals.events }
-    ensures { Handles (counting reporter.new.totals result) gate.now gate.now reporter.old.totals (Stopped (event_of event.entry) verdict) (D.outside desk.old) (D.outside desk.new) }
+    requires to_left { reporter.old.totals.to_left
+        ≤ 4096 * reporter.old.totals.events }
+    requires to_right { reporter.old.totals.to_right
+        ≤ 4096 * reporter.old.totals.events }
+    ensures { Handles (counting reporter.new.totals result) gate.now gate.now
+        reporter.old.totals (Stopped (event_of event.entry) verdict)
+        (D.outside desk.old) (D.outside desk.new) }
 {
     let line = Line::Event {
         number: reporter.totals.events + 1,
@@ -193,9 +206,13 @@ fn handle_joined<D: Desk>(
     requires few { reporter.old.totals.events < 2 ^ 42 }
     requires passed { reporter.old.totals.passed ≤ reporter.old.totals.events }
     requires refused { reporter.old.totals.refused ≤ reporter.old.totals.events }
-    requires to_left { reporter.old.totals.to_left ≤ 4096 * reporter.old.totals.events }
-    requires to_right { reporter.old.totals.to_right ≤ 4096 * reporter.old.totals.events }
-    ensures { IfSome (joined_in joiner.now) (λ e. Handles (counting reporter.new.totals result) gate.old gate.new reporter.old.totals (Reaches e) (D.outside desk.old) (D.outside desk.new)) }
+    requires to_left { reporter.old.totals.to_left
+        ≤ 4096 * reporter.old.totals.events }
+    requires to_right { reporter.old.totals.to_right
+        ≤ 4096 * reporter.old.totals.events }
+    ensures { IfSome (joined_in joiner.now) (λ e. Handles
+        (counting reporter.new.totals result) gate.old gate.new reporter.old.totals
+        (Reaches e) (D.outside desk.old) (D.outside desk.new)) }
 {
     handle(alloc, desk, gate, outbox, reporter, joined(joiner))
 }
@@ -217,10 +234,15 @@ pub fn take<D: Desk>(
     requires few { reporter.old.totals.events < 2 ^ 42 }
     requires passed { reporter.old.totals.passed ≤ reporter.old.totals.events }
     requires refused { reporter.old.totals.refused ≤ reporter.old.totals.events }
-    requires to_left { reporter.old.totals.to_left ≤ 4096 * reporter.old.totals.events }
-    requires to_right { reporter.old.totals.to_right ≤ 4096 * reporter.old.totals.events }
-    ensures answer { Handles (counting reporter.new.totals result) gate.old gate.new reporter.old.totals (arrival by_known joiner.old (event_of event.entry)) (D.outside desk.old) (D.outside desk.new) }
-    ensures joiner { joiner.new ≡ joiner_after by_known joiner.old (event_of event.entry) }
+    requires to_left { reporter.old.totals.to_left
+        ≤ 4096 * reporter.old.totals.events }
+    requires to_right { reporter.old.totals.to_right
+        ≤ 4096 * reporter.old.totals.events }
+    ensures answer { Handles (counting reporter.new.totals result) gate.old gate.new
+        reporter.old.totals (arrival by_known joiner.old (event_of event.entry))
+        (D.outside desk.old) (D.outside desk.new) }
+    ensures joiner { joiner.new
+        ≡ joiner_after by_known joiner.old (event_of event.entry) }
 {
     match ask(joiner, &event) {
         Taken::Plain => handle(alloc, desk, gate, outbox, reporter, event),

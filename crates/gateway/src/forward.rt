@@ -12,9 +12,9 @@ use crate::report::{Reporter, put_line};
 use frag_join::Joiner;
 use gate_core::{Gate, Outbox};
 use gate_desk::Desk;
-use run_setup::Status;
 use gate_report::{LINE, Line, Totals};
 use pcap_merge::Merge;
+use run_setup::Status;
 use std::alloc::Global;
 
 /// Writes the last line of the report, and answers it.
@@ -27,7 +27,8 @@ fn finish<D: Desk>(
 ) -> Result<Line, Status>
     requires can { CanWrite (D.outside desk.old) Report }
     requires room { length room.old ≡ LINE }
-    ensures { WritesLastLine result json line (D.outside desk.old) (D.outside desk.new) }
+    ensures { WritesLastLine result json line (D.outside desk.old)
+        (D.outside desk.new) }
 {
     put_line(alloc, desk, room, json, &line)?;
     Ok(line)
@@ -54,8 +55,10 @@ pub fn forward<D: Desk>(
     requires ends { AtEnds merge.old (D.outside desk.old) }
     requires joiner { joiner.old ≡ opened gate.old.settings.join }
     requires world { gate.old.world ≡ opening_world gate.old.settings }
-    ensures answer { Forwards result gate.old.settings merge.old (D.outside desk.old) (D.outside desk.new) }
-    ensures taken { TookFew gate.old.settings merge.old (D.outside desk.old) (D.outside desk.new) }
+    ensures answer { Forwards result gate.old.settings merge.old (D.outside desk.old)
+        (D.outside desk.new) }
+    ensures taken { TookFew gate.old.settings merge.old (D.outside desk.old)
+        (D.outside desk.new) }
     ensures starts { (D.outside desk.new).starts ≡ (D.outside desk.old).starts }
     ensures counts { Grows (D.outside desk.old) (D.outside desk.new) }
 {

@@ -20,8 +20,27 @@ ghost use Rattle.gateway.specs.Making.{IsMake};
 /// first fault of the settings, and of accepted settings the fault that the merge of both captures meets. It is done where both
 /// captures end. A make is done.
 pub fn captures_decide()
-    ensures settings { (all : PerSlot (List ℕ)) (status : Status) (names : Names) (old new : Outside) (fault : SettingsFault) → IsRunOf all status names old new → settings_of all.settings ≡ Err fault → IsUnlessMemory (SettingsRefused fault) status }
-    ensures ended { (all : PerSlot (List ℕ)) (status : Status) (names : Names) (old new : Outside) (settings : GateSettings) → IsRunOf all status names old new → IsAccepted settings all → (events_in all).ending ≡ BothEnded → IsUnlessMemory Done status }
-    ensures refused { (all : PerSlot (List ℕ)) (status : Status) (names : Names) (old new : Outside) (settings : GateSettings) (side : Side) (fault : CaptureFault) (place : ℕ) → IsRunOf all status names old new → IsAccepted settings all → (events_in all).ending ≡ EndsFaulty side fault place → IsUnlessMemory (CaptureRefused side fault place) status }
-    ensures make { (status : Status) (number count : ℕ) (report : List ℕ) (old new : Outside) → IsMake status number count report old new → NoneRose old new → IsUnlessMemory Done status }
+    ensures settings { (all : PerSlot (List ℕ)) (status : Status) (names : Names)
+        (old new : Outside) (fault : SettingsFault)
+        → IsRunOf all status names old new
+        → settings_of all.settings ≡ Err fault
+        → IsUnlessMemory (SettingsRefused fault) status }
+    ensures ended { (all : PerSlot (List ℕ)) (status : Status) (names : Names)
+        (old new : Outside) (settings : GateSettings)
+        → IsRunOf all status names old new
+        → IsAccepted settings all
+        → (events_in all).ending ≡ BothEnded
+        → IsUnlessMemory Done status }
+    ensures refused { (all : PerSlot (List ℕ)) (status : Status) (names : Names)
+        (old new : Outside) (settings : GateSettings) (side : Side)
+        (fault : CaptureFault) (place : ℕ)
+        → IsRunOf all status names old new
+        → IsAccepted settings all
+        → (events_in all).ending ≡ EndsFaulty side fault place
+        → IsUnlessMemory (CaptureRefused side fault place) status }
+    ensures make { (status : Status) (number count : ℕ) (report : List ℕ)
+        (old new : Outside)
+        → IsMake status number count report old new
+        → NoneRose old new
+        → IsUnlessMemory Done status }
 {}

@@ -4,10 +4,10 @@ ghost use Rattle.gateway.specs.Making.{IsMake, IsLineOf};
 
 use crate::report::put_text;
 use crate::running::run;
-use gate_desk::{Desk, DiscardingDesk, Slot, Access};
-use run_setup::{FileNames, Status};
+use gate_desk::{Access, Desk, DiscardingDesk, Slot};
 use gate_report::{LINE, Line};
 use gate_workload::Workload;
+use run_setup::{FileNames, Status};
 use std::alloc::Global;
 
 /// The names of the slots of a run in memory, which mean nothing.
@@ -24,7 +24,8 @@ const NAMES: FileNames<'static> = FileNames {
 /// Nothing but memory can be wanting.
 fn rehearse(alloc: Global, number: u32, count: u32) -> Result<Line, Status>
     requires { count ≤ 100000 }
-    ensures { MatchResult result (λ line. IsLineOf line number count) (λ status. status ≡ Status.OutOfMemory) }
+    ensures { MatchResult result (λ line. IsLineOf line number count)
+        (λ status. status ≡ Status.OutOfMemory) }
 {
     let workload = gate_workload::make(alloc, number, count)?;
     let Workload {
@@ -44,7 +45,8 @@ fn rehearse(alloc: Global, number: u32, count: u32) -> Result<Line, Status>
 /// Runs over the workload of a number with so many rounds, and writes the last line of its report as text.
 pub fn make<D: Desk>(alloc: Global, desk: &mut D, number: u32, count: u32, report: &str) -> Status
     requires { count ≤ 100000 }
-    ensures { IsMake result number count report.now (D.outside desk.old) (D.outside desk.new) }
+    ensures { IsMake result number count report.now (D.outside desk.old)
+        (D.outside desk.new) }
 {
     match desk.start(Slot::Report, report, Access::Write) {
         Ok(()) => {}

@@ -10,14 +10,15 @@ use crate::ready::ready;
 use frag_join::open_joiner;
 use gate_core::{Gate, Outbox};
 use gate_desk::Desk;
-use run_setup::{FileNames, Status};
 use gate_report::Line;
 use pcap_merge::Merge;
+use run_setup::{FileNames, Status};
 use std::alloc::Global;
 
 /// A run over these files. It answers the last line of its report.
 pub fn run<D: Desk>(alloc: Global, desk: &mut D, names: FileNames<'_>) -> Result<Line, Status>
-    ensures answer { Runs result (names_of names.entry) (D.outside desk.old) (D.outside desk.new) }
+    ensures answer { Runs result (names_of names.entry) (D.outside desk.old)
+        (D.outside desk.new) }
     ensures taken { TookForWritten (D.outside desk.old) (D.outside desk.new) }
 {
     let (mut merge, mut gate) = prepare(alloc, desk, names)?;
@@ -33,8 +34,14 @@ fn run_prepared<D: Desk>(
     gate: &mut Gate,
 ) -> Result<Line, Status>
     requires { IsPrepared gate.old merge.old (names_of names) (D.outside desk.old) }
-    ensures answer { (since : Outside) → Prepared gate.old merge.old (first_starts (names_of names.entry)) since (D.outside desk.old) → Runs result (names_of names.entry) since (D.outside desk.new) }
-    ensures taken { (since : Outside) → Prepared gate.old merge.old (first_starts (names_of names.entry)) since (D.outside desk.old) → TookForWritten since (D.outside desk.new) }
+    ensures answer { (since : Outside)
+        → Prepared gate.old merge.old (first_starts (names_of names.entry)) since
+        (D.outside desk.old)
+        → Runs result (names_of names.entry) since (D.outside desk.new) }
+    ensures taken { (since : Outside)
+        → Prepared gate.old merge.old (first_starts (names_of names.entry)) since
+        (D.outside desk.old)
+        → TookForWritten since (D.outside desk.new) }
 {
     let mut outbox = Outbox::new(alloc)?;
     let mut joiner = open_joiner(alloc, gate.settings().join)?;

@@ -8,9 +8,9 @@ ghost use Rattle.gateway_audit.specs.Phases.{Says};
 use crate::verdict::AuditVerdict;
 use arrayvec::ArrayString;
 use gate_desk::{Desk, Failed, Slot, write_whole};
-use run_setup::Status;
 use itoa::Buffer;
 use lawful_files::AuditReason;
+use run_setup::Status;
 
 /// The most octets of the line.
 const LINE: usize = 64;

@@ -10,9 +10,9 @@ use file_audit::{GivenFiles, audit_events};
 use frag_join::open_joiner;
 use gate_audit::Auditor;
 use gate_desk::Desk;
-use run_setup::Status;
 use gate_settings::Settings;
 use pcap_merge::Merge;
+use run_setup::Status;
 use std::alloc::Global;
 
 /// Takes the events of both incoming captures, and judges what the given files have for each.
@@ -24,7 +24,8 @@ pub fn audit_all<D: Desk>(
     given: &mut GivenFiles,
 ) -> Result<AuditVerdict, Status>
     requires { AreToWalk settings merge.old given.old (D.outside desk.old) }
-    ensures answer { Walks result settings merge.old given.old (D.outside desk.old) (D.outside desk.new) }
+    ensures answer { Walks result settings merge.old given.old (D.outside desk.old)
+        (D.outside desk.new) }
     ensures taken { TookFew merge.old (D.outside desk.old) (D.outside desk.new) }
     ensures starts { (D.outside desk.new).starts ≡ (D.outside desk.old).starts }
     ensures written { (D.outside desk.new).written ≡ (D.outside desk.old).written }

@@ -11,7 +11,8 @@ use std::alloc::Global;
 /// Audits given files: the report says for how many events they are lawful for the incoming captures, or which event is the
 /// first for which they aren't, and why.
 pub fn audit<D: Desk>(alloc: Global, desk: &mut D, names: AuditNames<'_>) -> Status
-    ensures answer { IsAudit result (names_of names.entry) (D.outside desk.old) (D.outside desk.new) }
+    ensures answer { IsAudit result (names_of names.entry) (D.outside desk.old)
+        (D.outside desk.new) }
     ensures taken { TookForEvents (D.outside desk.old) (D.outside desk.new) }
 {
     match judge(alloc, desk, names) {

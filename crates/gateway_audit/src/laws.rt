@@ -21,8 +21,32 @@ ghost use Rattle.gateway_audit.specs.Decided.{IsAuditOf};
 /// captures end and the given files are lawful, and unlawful exactly with the first reason. It refuses exactly the first fault of
 /// the settings, and that of a capture behind lawful events.
 pub fn files_decide()
-    ensures settings { (all : PerSlot (List ℕ)) (status : Status) (names : Names) (old new : Outside) (fault : SettingsFault) → IsAuditOf all status names old new → settings_of all.settings ≡ Err fault → IsUnlessMemory (SettingsRefused fault) status }
-    ensures lawful { (all : PerSlot (List ℕ)) (status : Status) (names : Names) (old new : Outside) (settings : Settings) → IsAuditOf all status names old new → IsAccepted settings all → (events_in all).ending ≡ BothEnded → AreLawful settings all → IsUnlessMemory Done status }
-    ensures unlawful { (all : PerSlot (List ℕ)) (status : Status) (names : Names) (old new : Outside) (settings : Settings) (number : ℕ) (reason : AuditReason) → IsAuditOf all status names old new → IsAccepted settings all → have_good_heads all.left_in all.right_in ≡ true → IsFirstReason settings all number reason → IsUnlessMemory (Unlawful number reason) status }
-    ensures refused { (all : PerSlot (List ℕ)) (status : Status) (names : Names) (old new : Outside) (settings : Settings) (side : Side) (fault : CaptureFault) (place : ℕ) → IsAuditOf all status names old new → IsAccepted settings all → (events_in all).ending ≡ EndsFaulty side fault place → (have_good_heads all.left_in all.right_in ≡ true → AreLawful settings all) → IsUnlessMemory (CaptureRefused side fault place) status }
+    ensures settings { (all : PerSlot (List ℕ)) (status : Status) (names : Names)
+        (old new : Outside) (fault : SettingsFault)
+        → IsAuditOf all status names old new
+        → settings_of all.settings ≡ Err fault
+        → IsUnlessMemory (SettingsRefused fault) status }
+    ensures lawful { (all : PerSlot (List ℕ)) (status : Status) (names : Names)
+        (old new : Outside) (settings : Settings)
+        → IsAuditOf all status names old new
+        → IsAccepted settings all
+        → (events_in all).ending ≡ BothEnded
+        → AreLawful settings all
+        → IsUnlessMemory Done status }
+    ensures unlawful { (all : PerSlot (List ℕ)) (status : Status) (names : Names)
+        (old new : Outside) (settings : Settings) (number : ℕ)
+        (reason : AuditReason)
+        → IsAuditOf all status names old new
+        → IsAccepted settings all
+        → have_good_heads all.left_in all.right_in ≡ true
+        → IsFirstReason settings all number reason
+        → IsUnlessMemory (Unlawful number reason) status }
+    ensures refused { (all : PerSlot (List ℕ)) (status : Status) (names : Names)
+        (old new : Outside) (settings : Settings) (side : Side)
+        (fault : CaptureFault) (place : ℕ)
+        → IsAuditOf all status names old new
+        → IsAccepted settings all
+        → (events_in all).ending ≡ EndsFaulty side fault place
+        → (have_good_heads all.left_in all.right_in ≡ true → AreLawful settings all)
+        → IsUnlessMemory (CaptureRefused side fault place) status }
 {}

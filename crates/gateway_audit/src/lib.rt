@@ -2,6 +2,7 @@
 #![tactic(auto)]
 
 mod answer;
+mod audit_all;
 mod call;
 mod judge;
 mod laws;
@@ -10,7 +11,6 @@ mod prepare;
 mod ready;
 mod stops;
 mod verdict;
-mod audit_all;
 
 pub use call::audit;
 pub use laws::files_decide;

@@ -7,9 +7,9 @@ ghost use Rattle.run_setup.specs.AuditNames.{names_of};
 ghost use Rattle.gateway_audit.specs.Phases.{Prepared};
 
 use gate_desk::Desk;
-use run_setup::{AuditNames, Status, begin, read_settings_file};
 use gate_settings::Settings;
 use pcap_merge::Merge;
+use run_setup::{AuditNames, Status, begin, read_settings_file};
 use std::alloc::Global;
 
 /// Reads the settings and the heads of both incoming captures.
@@ -19,9 +19,11 @@ pub fn prepare<D: Desk>(
     names: AuditNames<'_>,
 ) -> Result<(Settings, Merge), Status>
     ensures answer { MatchResult result
-        (λ p. Prepared p.0 p.1 (names_of names.entry) (D.outside desk.old) (D.outside desk.new))
-        (λ status. IsAudit status (names_of names.entry) (D.outside desk.old) (D.outside desk.new)) }
-    ensures taken { OnErr result (TakenFor [] (D.outside desk.old) (D.outside desk.new)) }
+        (λ p. Prepared p.0 p.1 (names_of names.entry) (D.outside desk.old)
+        (D.outside desk.new)) (λ status. IsAudit status (names_of names.entry)
+        (D.outside desk.old) (D.outside desk.new)) }
+    ensures taken { OnErr result
+        (TakenFor [] (D.outside desk.old) (D.outside desk.new)) }
     ensures inputs { TookInputs (D.outside desk.old) (D.outside desk.new) }
 {
     let settings = read_settings_file(alloc, desk, names.settings)?;

@@ -8,9 +8,9 @@ ghost use Rattle.gateway_audit.specs.Phases.{Begins, LeavesIncoming, Readies};
 use crate::open::open_given;
 use crate::stops::status_of;
 use file_audit::{AuditStop, GivenFiles};
-use gate_desk::{Desk, Slot, Access};
-use run_setup::{AuditNames, Status, start_slot};
+use gate_desk::{Access, Desk, Slot};
 use gate_settings::Settings;
+use run_setup::{AuditNames, Status, start_slot};
 use std::alloc::Global;
 
 /// Reads the heads of both given captures: None where one has no head with the settings' link.
@@ -21,7 +21,8 @@ fn begin_given<D: Desk>(
 ) -> Result<Option<GivenFiles>, Status>
     requires left { CanRead (D.outside desk.old) LeftGiven }
     requires right { CanRead (D.outside desk.old) RightGiven }
-    ensures answer { Begins result settings.now (D.outside desk.old) (D.outside desk.new) }
+    ensures answer { Begins result settings.now (D.outside desk.old)
+        (D.outside desk.new) }
     ensures reads { ReadsGiven (D.outside desk.old) (D.outside desk.new) }
 {
     match GivenFiles::begin(alloc, desk, settings) {
@@ -38,7 +39,8 @@ pub fn ready<D: Desk>(
     names: AuditNames<'_>,
     settings: &Settings,
 ) -> Result<Option<GivenFiles>, Status>
-    ensures answer { Readies result settings.now (names_of names.entry) (D.outside desk.old) (D.outside desk.new) }
+    ensures answer { Readies result settings.now (names_of names.entry)
+        (D.outside desk.old) (D.outside desk.new) }
     ensures incoming { LeavesIncoming (D.outside desk.old) (D.outside desk.new) }
     ensures files { TookFiles (D.outside desk.old) (D.outside desk.new) }
 {

@@ -1,8 +1,8 @@
 // What an audit finds.
 ghost use Rattle.std.specs.Prelude.{◌≡◌};
 
-use run_setup::Status;
 use lawful_files::AuditReason;
+use run_setup::Status;
 
 /// What an audit finds of given files.
 #[derive(Clone, Copy)]

@@ -80,6 +80,8 @@ fn put_sequence(inner: &mut [u8], sequence: Option<u32>)
 pub fn inner_reads_back(inner: &[u8], source: u32, destination: u32, sequence: Option<u32>)
     requires inner { IsTrue (is_inner inner.now) }
     requires number { IfSome sequence (λ n. n < 2 ^ 32) }
-    ensures read { read_inner (inner_with inner.now source destination sequence) ≡ Ok (fields_with (inner_fields inner.now) source destination sequence) }
-    ensures right { IsRight (take 20 (inner_with inner.now source destination sequence)) }
+    ensures read { read_inner (inner_with inner.now source destination sequence)
+        ≡ Ok (fields_with (inner_fields inner.now) source destination sequence) }
+    ensures right { IsRight
+        (take 20 (inner_with inner.now source destination sequence)) }
 {}

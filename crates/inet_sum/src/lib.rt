@@ -25,8 +25,12 @@ pub fn sum(octets: &[u8]) -> u16
 #[inline(always)]
 pub fn pseudo_sum(source: Addr, destination: Addr, protocol: u8, octets: &[u8]) -> u16
     requires { length octets.now ≤ 65535 }
-    ensures value { result ≡ checksum (pseudo_header source.0 destination.0 protocol (length octets.now) ++ octets.now) }
-    ensures right { (result == 0) ≡ is_right (pseudo_header source.0 destination.0 protocol (length octets.now) ++ octets.now) }
+    ensures value { result
+        ≡ checksum (pseudo_header source.0 destination.0 protocol (length octets.now)
+        ++ octets.now) }
+    ensures right { (result == 0)
+        ≡ is_right (pseudo_header source.0 destination.0 protocol (length octets.now)
+        ++ octets.now) }
 {
     let addresses = halves(source.0) + halves(destination.0);
     let header = addresses + u64::from(protocol) + octets.len() as u64;
@@ -45,8 +49,11 @@ pub fn moved_sum(
     requires even { place % 2 ≡ 0 }
     requires within { place + 2 ≤ length segment.now }
     requires short { length segment.now ≤ 65535 }
-    requires right { IsRight (pseudo_header from.0.0 from.1.0 protocol (length segment.now) ++ segment.now) }
-    ensures { let empty = with_u16 place 0 segment.now in result ≡ checksum (pseudo_header to.0.0 to.1.0 protocol (length empty) ++ empty) }
+    requires right { IsRight (pseudo_header from.0.0 from.1.0 protocol
+        (length segment.now) ++ segment.now) }
+    ensures { let empty = with_u16 place 0 segment.now in
+        result
+        ≡ checksum (pseudo_header to.0.0 to.1.0 protocol (length empty) ++ empty) }
 {
     let field = u64::from(get_u16(segment, place));
     let old = halves(from.0.0) + halves(from.1.0);

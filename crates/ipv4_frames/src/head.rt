@@ -16,7 +16,9 @@ pub fn put_head(
 )
     requires room { 20 ≤ length target.old }
     requires head { length model.now ≡ 20 }
-    ensures { target.new ≡ spelled_head model.now total lifetime source.0 destination.0 ++ drop 20 target.old }
+    ensures { target.new
+        ≡ spelled_head model.now total lifetime source.0 destination.0
+        ++ drop 20 target.old }
 {
     let head = &mut target[..20];
     head.copy_from_slice(model);
@@ -43,9 +45,18 @@ pub fn reads_back(model: &[u8], payload: &[u8], lifetime: u8, source: u32, desti
     requires head { length model.now ≡ 20 }
     requires plain { IsPlainHead model.now }
     requires fits { 20 + length payload.now < 2 ^ 16 }
-    ensures written { length (spelled_head model.now (20 + length payload.now) lifetime source destination) ≡ 20 }
-    ensures read { let head = spelled_head model.now (20 + length payload.now) lifetime source destination in
+    ensures written { length (spelled_head model.now (20 + length payload.now)
+        lifetime source destination) ≡ 20 }
+    ensures read { let head = spelled_head model.now (20 + length payload.now)
+        lifetime source destination in
         let protocol = slice_index model.now 9 in
         read_datagram (head ++ payload.now)
-        ≡ Ok (record { source = source; destination = destination; protocol = protocol; lifetime = lifetime; header = head; payload = payload.now }) }
+        ≡ Ok (record {
+          source = source;
+          destination = destination;
+          protocol = protocol;
+          lifetime = lifetime;
+          header = head;
+          payload = payload.now;
+        }) }
 {}

@@ -7,7 +7,7 @@ ghost use Rattle.memory_desks.specs.Counted.{IsListed, FailsToWrite, counted, co
 ghost use Rattle.gate_desk.specs.Outside.{names_size, Starts, FailsToStart, Takes, AreNext, IsAtEnd, Writes, WritesPart, HasFailed};
 
 use crate::MemoryDesk;
-use gate_desk::{Desk, Failed, Slot, Access};
+use gate_desk::{Access, Desk, Failed, Slot};
 use std::marker::Model;
 
 /// A desk in memory, of which the listed calls fail. Starts, reads and writes are counted together, from 1.
@@ -35,7 +35,8 @@ fn is_listed(failing: &[u64], call: u64) -> bool
 impl CountedDesk {
     /// The desk as it is, of which these calls are to fail.
     pub fn new(inner: MemoryDesk, failing: Vec<u64>) -> CountedDesk
-        ensures { result ≡ record { inner = inner; failing = failing.items; calls = 0 } }
+        ensures { result
+            ≡ record { inner = inner; failing = failing.items; calls = 0 } }
     {
         CountedDesk {
             inner,
@@ -65,14 +66,20 @@ impl CountedDesk {
 
     // Writes a piece, by one call where it isn't empty.
     fn write_piece(&mut self, slot: Slot, piece: &[u8]) -> Result<(), Failed>
-        ensures ok { OnOk result (Writes slot piece.now (told_by self.old) (told_by self.new)) }
-        ensures err { OnErr result (Writes slot [] (told_by self.old) (told_by self.new)) }
-        ensures cause { OnErr result (HasFailed slot (told_by self.old) (told_by self.new)) }
-        ensures leaves { OnOk result ((told_by self.new).faults ≡ (told_by self.old).faults) }
-        ensures exact { IsErr result ↔ FailsToWrite piece.now (total self.old.inner.written) self.old }
+        ensures ok { OnOk result
+            (Writes slot piece.now (told_by self.old) (told_by self.new)) }
+        ensures err { OnErr result
+            (Writes slot [] (told_by self.old) (told_by self.new)) }
+        ensures cause { OnErr result
+            (HasFailed slot (told_by self.old) (told_by self.new)) }
+        ensures leaves { OnOk result
+            ((told_by self.new).faults ≡ (told_by self.old).faults) }
+        ensures exact { IsErr result ↔ FailsToWrite piece.now
+            (total self.old.inner.written) self.old }
         ensures calls { self.new.calls ≡ (counted_with piece.now self.old).calls }
         ensures list { self.new.failing ≡ self.old.failing }
-        ensures counts { self.new.inner.faults ≡ counts_after result slot self.old.inner.faults }
+        ensures counts { self.new.inner.faults
+            ≡ counts_after result slot self.old.inner.faults }
     {
         if piece.is_empty() {
             return Ok(());
@@ -89,13 +96,18 @@ impl Desk for CountedDesk {
 
     /// Fails exactly where the call is listed or the names would be more than 64 KiB.
     fn start(&mut self, slot: Slot, name: &str, access: Access) -> Result<(), Failed>
-        ensures ok { OnOk result (Starts slot name.now access (told_by self.old) (told_by self.new)) }
-        ensures err { OnErr result (FailsToStart slot (told_by self.old) (told_by self.new)) }
-        ensures leaves { OnOk result ((told_by self.new).start_faults ≡ (told_by self.old).start_faults) }
-        ensures exact { IsErr result ↔ (IsListed self.old ⊎ (2 ^ 16 < names_size self.old.inner.starts + length name.now + 3)) }
+        ensures ok { OnOk result
+            (Starts slot name.now access (told_by self.old) (told_by self.new)) }
+        ensures err { OnErr result
+            (FailsToStart slot (told_by self.old) (told_by self.new)) }
+        ensures leaves { OnOk result
+            ((told_by self.new).start_faults ≡ (told_by self.old).start_faults) }
+        ensures exact { IsErr result ↔ (IsListed self.old
+            ⊎ (2 ^ 16 < names_size self.old.inner.starts + length name.now + 3)) }
         ensures calls { self.new.calls ≡ (counted self.old).calls }
         ensures list { self.new.failing ≡ self.old.failing }
-        ensures counts { self.new.inner.start_faults ≡ counts_after result slot self.old.inner.start_faults }
+        ensures counts { self.new.inner.start_faults
+            ≡ counts_after result slot self.old.inner.start_faults }
     {
         if self.next_call() {
             self.inner.fail_start(slot);
@@ -107,16 +119,23 @@ impl Desk for CountedDesk {
     /// Fails exactly where the call is listed.
     fn read(&mut self, slot: Slot, buffer: &mut [u8]) -> Result<usize, Failed>
         ensures fits { IfOk result (λ n. n ≤ length buffer.new) }
-        ensures ok { IfOk result (λ n. Takes slot n (told_by self.old) (told_by self.new)) }
-        ensures octets { IfOk result (λ n. AreNext (take n buffer.new) (told_by self.old) slot) }
-        ensures end { IfOk result (λ n. n ≡ 0 → 0 < length buffer.old → IsAtEnd (told_by self.old) slot) }
-        ensures err { OnErr result (Takes slot 0 (told_by self.old) (told_by self.new)) }
-        ensures cause { OnErr result (HasFailed slot (told_by self.old) (told_by self.new)) }
-        ensures leaves { OnOk result ((told_by self.new).faults ≡ (told_by self.old).faults) }
+        ensures ok { IfOk result
+            (λ n. Takes slot n (told_by self.old) (told_by self.new)) }
+        ensures octets { IfOk result
+            (λ n. AreNext (take n buffer.new) (told_by self.old) slot) }
+        ensures end { IfOk result
+            (λ n. n ≡ 0 → 0 < length buffer.old → IsAtEnd (told_by self.old) slot) }
+        ensures err { OnErr result
+            (Takes slot 0 (told_by self.old) (told_by self.new)) }
+        ensures cause { OnErr result
+            (HasFailed slot (told_by self.old) (told_by self.new)) }
+        ensures leaves { OnOk result
+            ((told_by self.new).faults ≡ (told_by self.old).faults) }
         ensures exact { IsErr result ↔ IsListed self.old }
         ensures calls { self.new.calls ≡ (counted self.old).calls }
         ensures list { self.new.failing ≡ self.old.failing }
-        ensures counts { self.new.inner.faults ≡ counts_after result slot self.old.inner.faults }
+        ensures counts { self.new.inner.faults
+            ≡ counts_after result slot self.old.inner.faults }
     {
         if self.next_call() {
             self.inner.fail_call(slot);
@@ -130,14 +149,20 @@ impl Desk for CountedDesk {
         ensures fits { IfOk result (λ n. n ≤ length piece.now) }
         ensures some { IfOk result (λ n. 0 < length piece.now → 0 < n) }
         ensures whole { IfOk result (λ n. n ≡ length piece.now) }
-        ensures ok { IfOk result (λ n. Writes slot (take n piece.now) (told_by self.old) (told_by self.new)) }
-        ensures err { OnErr result (Writes slot [] (told_by self.old) (told_by self.new)) }
-        ensures cause { OnErr result (HasFailed slot (told_by self.old) (told_by self.new)) }
-        ensures leaves { OnOk result ((told_by self.new).faults ≡ (told_by self.old).faults) }
-        ensures exact { IsErr result ↔ (IsListed self.old ⊎ (2 ^ 26 < total self.old.inner.written + length piece.now)) }
+        ensures ok { IfOk result (λ n. Writes slot (take n piece.now)
+            (told_by self.old) (told_by self.new)) }
+        ensures err { OnErr result
+            (Writes slot [] (told_by self.old) (told_by self.new)) }
+        ensures cause { OnErr result
+            (HasFailed slot (told_by self.old) (told_by self.new)) }
+        ensures leaves { OnOk result
+            ((told_by self.new).faults ≡ (told_by self.old).faults) }
+        ensures exact { IsErr result ↔ (IsListed self.old
+            ⊎ (2 ^ 26 < total self.old.inner.written + length piece.now)) }
         ensures calls { self.new.calls ≡ (counted self.old).calls }
         ensures list { self.new.failing ≡ self.old.failing }
-        ensures counts { self.new.inner.faults ≡ counts_after result slot self.old.inner.faults }
+        ensures counts { self.new.inner.faults
+            ≡ counts_after result slot self.old.inner.faults }
     {
         if self.next_call() {
             self.inner.fail_call(slot);
@@ -163,15 +188,28 @@ impl Desk for CountedDesk {
 
     /// Writes the one piece and then the other, each by a call that is counted, and none for an empty one.
     fn write_both(&mut self, slot: Slot, first: &[u8], second: &[u8]) -> Result<(), Failed>
-        ensures ok { OnOk result (Writes slot (first.now ++ second.now) (told_by self.old) (told_by self.new)) }
-        ensures err { OnErr result (WritesPart slot (first.now ++ second.now) (told_by self.old) (told_by self.new)) }
-        ensures cause { OnErr result (HasFailed slot (told_by self.old) (told_by self.new)) }
-        ensures leaves { OnOk result ((told_by self.new).faults ≡ (told_by self.old).faults) }
-        ensures exact { IsErr result ↔ (FailsToWrite first.now (total self.old.inner.written) self.old ⊎ FailsToWrite second.now (total self.old.inner.written + length first.now) (counted_with first.now self.old)) }
-        ensures stops { FailsToWrite first.now (total self.old.inner.written) self.old → self.new.calls ≡ (counted_with first.now self.old).calls }
-        ensures goes_on { ¬ FailsToWrite first.now (total self.old.inner.written) self.old → self.new.calls ≡ (counted_with second.now (counted_with first.now self.old)).calls }
+        ensures ok { OnOk result (Writes slot (first.now ++ second.now)
+            (told_by self.old) (told_by self.new)) }
+        ensures err { OnErr result (WritesPart slot (first.now ++ second.now)
+            (told_by self.old) (told_by self.new)) }
+        ensures cause { OnErr result
+            (HasFailed slot (told_by self.old) (told_by self.new)) }
+        ensures leaves { OnOk result
+            ((told_by self.new).faults ≡ (told_by self.old).faults) }
+        ensures exact { IsErr result ↔ (FailsToWrite first.now
+            (total self.old.inner.written) self.old
+            ⊎ FailsToWrite second.now
+            (total self.old.inner.written + length first.now)
+            (counted_with first.now self.old)) }
+        ensures stops { FailsToWrite first.now (total self.old.inner.written) self.old
+            → self.new.calls ≡ (counted_with first.now self.old).calls }
+        ensures goes_on { ¬ FailsToWrite first.now (total self.old.inner.written)
+            self.old
+            → self.new.calls
+            ≡ (counted_with second.now (counted_with first.now self.old)).calls }
         ensures list { self.new.failing ≡ self.old.failing }
-        ensures counts { self.new.inner.faults ≡ counts_after result slot self.old.inner.faults }
+        ensures counts { self.new.inner.faults
+            ≡ counts_after result slot self.old.inner.faults }
     {
         self.write_piece(slot, first)?;
         self.write_piece(slot, second)

@@ -2,7 +2,7 @@
 ghost use Rattle.std.specs.Prelude.{◌≡◌, ◌+◌, ◌≤◌, ◌++◌, [], ◌∷◌, length, IfOk};
 ghost use Rattle.gate_desk.specs.Outside.{names_size};
 
-use gate_desk::{Slot, Access};
+use gate_desk::{Access, Slot};
 use std::alloc::{AllocError, Global};
 use std::marker::Model;
 
@@ -51,7 +51,9 @@ impl StartLog {
 
     pub fn push(&mut self, slot: Slot, name: &[u8], access: Access)
         requires { names_size self.old + length name.now + 3 ≤ 65536 }
-        ensures { self.new ≡ self.old ++ (record { slot = slot; name = name.now; access = access }) ∷ [] }
+        ensures { self.new
+            ≡ self.old ++ (record { slot = slot; name = name.now; access = access })
+            ∷ [] }
     {
         let entry = Entry {
             slot,

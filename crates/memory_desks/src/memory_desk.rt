@@ -8,7 +8,7 @@ ghost use Rattle.gate_desk.specs.Outside.{names_size, Starts, FailsToStart, Take
 use crate::log::StartLog;
 use crate::sink::{Sink, total_of};
 use gate_base::OutOfMemory;
-use gate_desk::{Desk, Failed, PerSlot, Slot, Source, Access};
+use gate_desk::{Access, Desk, Failed, PerSlot, Slot, Source};
 use std::alloc::Global;
 use std::marker::Model;
 
@@ -38,7 +38,8 @@ impl Model for MemoryDesk {
 
 // Three slots on which nothing is written, with their room.
 fn three_sinks(alloc: Global) -> Result<(Sink, Sink, Sink), OutOfMemory>
-    ensures { IfOk result (λ three. (three.0 ≡ []) × (three.1 ≡ []) × (three.2 ≡ [])) }
+    ensures { IfOk result
+        (λ three. (three.0 ≡ []) × (three.1 ≡ []) × (three.2 ≡ [])) }
 {
     Ok((Sink::new(alloc)?, Sink::new(alloc)?, Sink::new(alloc)?))
 }
@@ -53,7 +54,8 @@ impl MemoryDesk {
         left: Vec<u8>,
         right: Vec<u8>,
     ) -> Result<MemoryDesk, OutOfMemory>
-        ensures { IfOk result (λ d. d ≡ opening settings.items left.items right.items) }
+        ensures { IfOk result
+            (λ d. d ≡ opening settings.items left.items right.items) }
     {
         MemoryDesk::over(alloc, PerSlot::inputs(alloc, settings, left, right))
     }
@@ -68,7 +70,9 @@ impl MemoryDesk {
         right_given: Vec<u8>,
         report_given: Vec<u8>,
     ) -> Result<MemoryDesk, OutOfMemory>
-        ensures { IfOk result (λ d. d ≡ opening_of (audit_inputs settings.items left.items right.items left_given.items right_given.items report_given.items)) }
+        ensures { IfOk result (λ d. d
+            ≡ opening_of (audit_inputs settings.items left.items right.items
+            left_given.items right_given.items report_given.items)) }
     {
         let mut sources = PerSlot::inputs(alloc, settings, left, right);
         sources.left_given = Source::new(left_given);
@@ -113,13 +117,21 @@ impl MemoryDesk {
     }
 
     pub(crate) fn fail_start(&mut self, slot: Slot)
-        ensures { self.new ≡ record self.old { start_faults = put self.old.start_faults slot (raised (at self.old.start_faults slot)) } }
+        ensures { self.new
+            ≡ record self.old {
+              start_faults = put self.old.start_faults slot
+                  (raised (at self.old.start_faults slot));
+            } }
     {
         self.start_faults.raise(slot);
     }
 
     pub(crate) fn fail_call(&mut self, slot: Slot)
-        ensures { self.new ≡ record self.old { faults = put self.old.faults slot (raised (at self.old.faults slot)) } }
+        ensures { self.new
+            ≡ record self.old {
+              faults = put self.old.faults slot
+                  (raised (at self.old.faults slot));
+            } }
     {
         self.faults.raise(slot);
     }
@@ -132,11 +144,16 @@ impl Desk for MemoryDesk {
 
     /// Fails exactly where the names would be more than 64 KiB.
     fn start(&mut self, slot: Slot, name: &str, access: Access) -> Result<(), Failed>
-        ensures ok { OnOk result (Starts slot name.now access (told_of self.old) (told_of self.new)) }
-        ensures err { OnErr result (FailsToStart slot (told_of self.old) (told_of self.new)) }
-        ensures leaves { OnOk result ((told_of self.new).start_faults ≡ (told_of self.old).start_faults) }
-        ensures exact { IsErr result ↔ (2 ^ 16 < names_size self.old.starts + length name.now + 3) }
-        ensures counts { self.new.start_faults ≡ counts_after result slot self.old.start_faults }
+        ensures ok { OnOk result
+            (Starts slot name.now access (told_of self.old) (told_of self.new)) }
+        ensures err { OnErr result
+            (FailsToStart slot (told_of self.old) (told_of self.new)) }
+        ensures leaves { OnOk result
+            ((told_of self.new).start_faults ≡ (told_of self.old).start_faults) }
+        ensures exact { IsErr result ↔
+            (2 ^ 16 < names_size self.old.starts + length name.now + 3) }
+        ensures counts { self.new.start_faults
+            ≡ counts_after result slot self.old.start_faults }
     {
         if name.len() > NAMES_LIMIT || self.log.size() + name.len() + 3 > NAMES_LIMIT {
             self.start_faults.raise(slot);
@@ -149,12 +166,18 @@ impl Desk for MemoryDesk {
     /// Never fails.
     fn read(&mut self, slot: Slot, buffer: &mut [u8]) -> Result<usize, Failed>
         ensures fits { IfOk result (λ n. n ≤ length buffer.new) }
-        ensures ok { IfOk result (λ n. Takes slot n (told_of self.old) (told_of self.new)) }
-        ensures octets { IfOk result (λ n. AreNext (take n buffer.new) (told_of self.old) slot) }
-        ensures end { IfOk result (λ n. n ≡ 0 → 0 < length buffer.old → IsAtEnd (told_of self.old) slot) }
-        ensures err { OnErr result (Takes slot 0 (told_of self.old) (told_of self.new)) }
-        ensures cause { OnErr result (HasFailed slot (told_of self.old) (told_of self.new)) }
-        ensures leaves { OnOk result ((told_of self.new).faults ≡ (told_of self.old).faults) }
+        ensures ok { IfOk result
+            (λ n. Takes slot n (told_of self.old) (told_of self.new)) }
+        ensures octets { IfOk result
+            (λ n. AreNext (take n buffer.new) (told_of self.old) slot) }
+        ensures end { IfOk result
+            (λ n. n ≡ 0 → 0 < length buffer.old → IsAtEnd (told_of self.old) slot) }
+        ensures err { OnErr result
+            (Takes slot 0 (told_of self.old) (told_of self.new)) }
+        ensures cause { OnErr result
+            (HasFailed slot (told_of self.old) (told_of self.new)) }
+        ensures leaves { OnOk result
+            ((told_of self.new).faults ≡ (told_of self.old).faults) }
         ensures exact { IsOk result }
         ensures counts { self.new.faults ≡ self.old.faults }
     {
@@ -166,11 +189,16 @@ impl Desk for MemoryDesk {
         ensures fits { IfOk result (λ n. n ≤ length piece.now) }
         ensures some { IfOk result (λ n. 0 < length piece.now → 0 < n) }
         ensures whole { IfOk result (λ n. n ≡ length piece.now) }
-        ensures ok { IfOk result (λ n. Writes slot (take n piece.now) (told_of self.old) (told_of self.new)) }
-        ensures err { OnErr result (Writes slot [] (told_of self.old) (told_of self.new)) }
-        ensures cause { OnErr result (HasFailed slot (told_of self.old) (told_of self.new)) }
-        ensures leaves { OnOk result ((told_of self.new).faults ≡ (told_of self.old).faults) }
-        ensures exact { IsErr result ↔ (2 ^ 26 < total self.old.written + length piece.now) }
+        ensures ok { IfOk result (λ n. Writes slot (take n piece.now)
+            (told_of self.old) (told_of self.new)) }
+        ensures err { OnErr result
+            (Writes slot [] (told_of self.old) (told_of self.new)) }
+        ensures cause { OnErr result
+            (HasFailed slot (told_of self.old) (told_of self.new)) }
+        ensures leaves { OnOk result
+            ((told_of self.new).faults ≡ (told_of self.old).faults) }
+        ensures exact { IsErr result ↔
+            (2 ^ 26 < total self.old.written + length piece.now) }
         ensures counts { self.new.faults ≡ counts_after result slot self.old.faults }
     {
         if piece.len() > WRITTEN_LIMIT || total_of(&self.written) + piece.len() > WRITTEN_LIMIT {
@@ -194,18 +222,26 @@ impl Desk for MemoryDesk {
         requires { count ≤ length (at self.old.left slot) }
         ensures takes { Takes slot count (told_of self.old) (told_of self.new) }
         ensures leaves { (told_of self.new).faults ≡ (told_of self.old).faults }
-        ensures exact { self.new ≡ record self.old { left = put self.old.left slot (drop count (at self.old.left slot)) } }
+        ensures exact { self.new
+            ≡ record self.old {
+              left = put self.old.left slot (drop count (at self.old.left slot));
+            } }
     {
         self.left.at_mut(slot).skip(count);
     }
 
     /// Fails exactly where the octets of all slots would be more than 64 MiB, and then writes nothing.
     fn write_both(&mut self, slot: Slot, first: &[u8], second: &[u8]) -> Result<(), Failed>
-        ensures ok { OnOk result (Writes slot (first.now ++ second.now) (told_of self.old) (told_of self.new)) }
-        ensures err { OnErr result (WritesPart slot (first.now ++ second.now) (told_of self.old) (told_of self.new)) }
-        ensures cause { OnErr result (HasFailed slot (told_of self.old) (told_of self.new)) }
-        ensures leaves { OnOk result ((told_of self.new).faults ≡ (told_of self.old).faults) }
-        ensures exact { IsErr result ↔ (2 ^ 26 < total self.old.written + (length first.now + length second.now)) }
+        ensures ok { OnOk result (Writes slot (first.now ++ second.now)
+            (told_of self.old) (told_of self.new)) }
+        ensures err { OnErr result (WritesPart slot (first.now ++ second.now)
+            (told_of self.old) (told_of self.new)) }
+        ensures cause { OnErr result
+            (HasFailed slot (told_of self.old) (told_of self.new)) }
+        ensures leaves { OnOk result
+            ((told_of self.new).faults ≡ (told_of self.old).faults) }
+        ensures exact { IsErr result ↔ (2 ^ 26
+            < total self.old.written + (length first.now + length second.now)) }
         ensures counts { self.new.faults ≡ counts_after result slot self.old.faults }
     {
         if first.len() > WRITTEN_LIMIT

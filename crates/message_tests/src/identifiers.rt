@@ -119,7 +119,8 @@ const ROWS: [(&[u8], &[u8]); 17] = [
 
 /// The rule with these arcs.
 fn rule(alloc: Global, prefix: &[u32], skip: u32) -> Result<OidRule, AllocError>
-    ensures { IfOk result (λ rule. rule ≡ record { prefix = prefix.now; skip = skip }) }
+    ensures { IfOk result
+        (λ rule. rule ≡ record { prefix = prefix.now; skip = skip }) }
 {
     Ok(OidRule {
         prefix: Arcs::of(Vec::from_slice(alloc, prefix)?),

@@ -3,9 +3,7 @@ ghost use Rattle.std.specs.Prelude.{◌≡◌, ◌<◌, ◌≤◌, ◌==◌, ℕ
 ghost use Rattle.gate_base.specs.Rules.{is_rule, AreRules};
 ghost use Rattle.oid_rules.specs.Sorted.{compared, numbered, rule_at, first_begun, order_of, AllRules, AreOuter, AreSorted, BeginsAt, Halves, InOrder, IsEarly, IsFound, IsLast};
 
-use gate_base::Addr;
-use gate_base::OutOfMemory;
-use gate_base::OidRule;
+use gate_base::{Addr, OidRule, OutOfMemory};
 use std::alloc::Global;
 use std::marker::Model;
 
@@ -31,7 +29,9 @@ pub trait Identifier {
     /// Where its arcs, if it has any, stand to those of a rule.
     fn compare(&self, rule: &OidRule) -> Compared
         requires { IsTrue (is_rule rule.now) }
-        ensures { (arcs : List ℕ) → arcs_of self.now ≡ Some arcs → result ≡ compared arcs rule.now.prefix };
+        ensures { (arcs : List ℕ)
+            → arcs_of self.now ≡ Some arcs
+            → result ≡ compared arcs rule.now.prefix };
 
     /// The address that a rule names whose arcs it begins with.
     fn address(&self, rule: &OidRule) -> Option<Addr>
@@ -92,8 +92,12 @@ impl SortedRules {
 
     /// The first rule with whose arcs an identifier begins and that names an address in it, and that address.
     pub fn first<I: Identifier>(&self, identifier: &I) -> Option<(&OidRule, Addr)>
-        ensures first { (arcs : List ℕ) → I.arcs_of identifier.now ≡ Some arcs → option_map (λ p. (p.0.now, p.1.0)) result ≡ first_begun (I.address_by identifier.now) arcs self.now }
-        ensures names { IfSome result (λ p. I.address_by identifier.now p.0.now ≡ Some p.1.0) }
+        ensures first { (arcs : List ℕ)
+            → I.arcs_of identifier.now ≡ Some arcs
+            → option_map (λ p. (p.0.now, p.1.0)) result
+            ≡ first_begun (I.address_by identifier.now) arcs self.now }
+        ensures names { IfSome result
+            (λ p. I.address_by identifier.now p.0.now ≡ Some p.1.0) }
     {
         first_of(&self.sorted, &self.outer, identifier)
     }
@@ -191,7 +195,9 @@ fn halved<I: Identifier>(sorted: &[Numbered], count: usize, identifier: &I) -> (
     requires rules { AllRules sorted.now }
     requires within { count ≤ length sorted.now }
     ensures within { result.0 ≤ count }
-    ensures halved { (arcs : List ℕ) → I.arcs_of identifier.now ≡ Some arcs → Halves count result.0 result.0 sorted.now arcs result.1 }
+    ensures halved { (arcs : List ℕ)
+        → I.arcs_of identifier.now ≡ Some arcs
+        → Halves count result.0 result.0 sorted.now arcs result.1 }
 {
     let mut low = 0;
     let mut high = count;
@@ -224,7 +230,9 @@ fn last_begun<I: Identifier>(
     requires outer { AreOuter sorted.now outer.now }
     requires within { length outer.now ≤ length sorted.now }
     ensures within { IfSome result (λ place. place < length outer.now) }
-    ensures last { (arcs : List ℕ) → I.arcs_of identifier.now ≡ Some arcs → IsLast (length outer.now) sorted.now arcs result }
+    ensures last { (arcs : List ℕ)
+        → I.arcs_of identifier.now ≡ Some arcs
+        → IsLast (length outer.now) sorted.now arcs result }
 {
     let (count, begins) = halved(sorted, outer.len(), identifier);
     let last = count.checked_sub(1)?;
@@ -250,8 +258,13 @@ fn first_of<'a, I: Identifier>(
     requires rules { AllRules sorted.now }
     requires outer { AreOuter sorted.now outer.now }
     requires all { length outer.now ≡ length sorted.now }
-    ensures first { (rules : List OidRule) (arcs : List ℕ) → AreSorted rules sorted.now → I.arcs_of identifier.now ≡ Some arcs → option_map (λ p. (p.0.now, p.1.0)) result ≡ first_begun (I.address_by identifier.now) arcs rules }
-    ensures names { IfSome result (λ p. I.address_by identifier.now p.0.now ≡ Some p.1.0) }
+    ensures first { (rules : List OidRule) (arcs : List ℕ)
+        → AreSorted rules sorted.now
+        → I.arcs_of identifier.now ≡ Some arcs
+        → option_map (λ p. (p.0.now, p.1.0)) result
+        ≡ first_begun (I.address_by identifier.now) arcs rules }
+    ensures names { IfSome result
+        (λ p. I.address_by identifier.now p.0.now ≡ Some p.1.0) }
 {
     let mut place = last_begun(sorted, outer, identifier);
     let mut found = None;
@@ -276,9 +289,15 @@ fn earlier<I: Identifier>(
     requires within { at < length sorted.now }
     requires found { IsFound (I.address_by identifier.now) sorted.now found }
     ensures found { IsFound (I.address_by identifier.now) sorted.now result }
-    ensures begun { (arcs : List ℕ) → IfSome found (λ p. BeginsAt sorted.now arcs p.0) → BeginsAt sorted.now arcs at → IfSome result (λ p. BeginsAt sorted.now arcs p.0) }
-    ensures before { (number : ℕ) → IsEarly sorted.now found number → IsEarly sorted.now result number }
-    ensures at { IsSome (I.address_by identifier.now (rule_at sorted.now at).rule) → IsEarly sorted.now result (rule_at sorted.now at).number }
+    ensures begun { (arcs : List ℕ)
+        → IfSome found (λ p. BeginsAt sorted.now arcs p.0)
+        → BeginsAt sorted.now arcs at
+        → IfSome result (λ p. BeginsAt sorted.now arcs p.0) }
+    ensures before { (number : ℕ)
+        → IsEarly sorted.now found number
+        → IsEarly sorted.now result number }
+    ensures at { IsSome (I.address_by identifier.now (rule_at sorted.now at).rule)
+        → IsEarly sorted.now result (rule_at sorted.now at).number }
 {
     if let Some((best, _)) = found
         && sorted[best].number < sorted[at].number

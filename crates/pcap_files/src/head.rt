@@ -67,7 +67,8 @@ fn form(head: &[u8]) -> Result<Form, CaptureFault>
 /// Reads the head of a capture.
 pub fn read_capture_head<D: Desk>(desk: &mut D, slot: Slot) -> Result<Form, ReadStop>
     requires { CanRead (D.outside desk.old) slot }
-    ensures takes { TakesCaptureHead result slot (D.outside desk.old) (D.outside desk.new) }
+    ensures takes { TakesCaptureHead result slot (D.outside desk.old)
+        (D.outside desk.new) }
     ensures leaves { LeavesCounts result (D.outside desk.old) (D.outside desk.new) }
 {
     let mut head = [0u8; HEAD];

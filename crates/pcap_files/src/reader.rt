@@ -60,8 +60,10 @@ impl CaptureReader {
         slot: Slot,
     ) -> Result<CaptureReader, ReadStop>
         requires { CanRead (D.outside desk.old) slot }
-        ensures begins { Begins result slot (D.outside desk.old) (D.outside desk.new) }
-        ensures leaves { LeavesCounts result (D.outside desk.old) (D.outside desk.new) }
+        ensures begins { Begins result slot (D.outside desk.old)
+            (D.outside desk.new) }
+        ensures leaves { LeavesCounts result (D.outside desk.old)
+            (D.outside desk.new) }
     {
         let form = match read_capture_head(desk, slot) {
             Ok(form) => form,
@@ -91,9 +93,13 @@ impl CaptureReader {
     #[inline(always)]
     pub fn advance<D: Desk>(&mut self, desk: &mut D) -> Result<bool, ReadStop>
         requires { CanRead (D.outside desk.old) self.old.slot }
-        ensures first { self.old.stop ≡ None → Advances result self.old self.new (D.outside desk.old) (D.outside desk.new) }
-        ensures leaves { LeavesCounts result (D.outside desk.old) (D.outside desk.new) }
-        ensures again { IfSome self.old.stop (λ stop. (result ≡ Err stop) × (self.new ≡ self.old) × (D.outside desk.new ≡ D.outside desk.old)) }
+        ensures first { self.old.stop ≡ None
+            → Advances result self.old self.new (D.outside desk.old)
+            (D.outside desk.new) }
+        ensures leaves { LeavesCounts result (D.outside desk.old)
+            (D.outside desk.new) }
+        ensures again { IfSome self.old.stop (λ stop. (result ≡ Err stop)
+            × (self.new ≡ self.old) × (D.outside desk.new ≡ D.outside desk.old)) }
     {
         if let Some(stop) = self.stopped {
             return Err(stop);

@@ -68,7 +68,8 @@ fn read_head<D: Desk>(
 ) -> Result<Option<RecordHead>, ReadStop>
     requires start { CanRead (D.outside desk.old) slot }
     requires small { place ≤ 2 ^ 40 }
-    ensures takes { TakesHead result form place slot (D.outside desk.old) (D.outside desk.new) }
+    ensures takes { TakesHead result form place slot (D.outside desk.old)
+        (D.outside desk.new) }
     ensures leaves { LeavesCounts result (D.outside desk.old) (D.outside desk.new) }
 {
     let mut head = [0u8; RECORD_HEAD];
@@ -121,7 +122,8 @@ pub fn read_record<D: Desk>(
     requires start { CanRead (D.outside desk.old) slot }
     requires small { place ≤ 2 ^ 40 }
     requires room { length buffer.old ≡ 262144 }
-    ensures takes { TakesRecord result form place slot buffer.new (D.outside desk.old) (D.outside desk.new) }
+    ensures takes { TakesRecord result form place slot buffer.new (D.outside desk.old)
+        (D.outside desk.new) }
     ensures leaves { LeavesCounts result (D.outside desk.old) (D.outside desk.new) }
 {
     if let Some(fields) = copy_record(form, place, desk.ahead(slot), buffer) {
@@ -143,7 +145,8 @@ fn read_in_parts<D: Desk>(
     requires start { CanRead (D.outside desk.old) slot }
     requires small { place ≤ 2 ^ 40 }
     requires room { length buffer.old ≡ 262144 }
-    ensures takes { TakesRecord result form place slot buffer.new (D.outside desk.old) (D.outside desk.new) }
+    ensures takes { TakesRecord result form place slot buffer.new (D.outside desk.old)
+        (D.outside desk.new) }
     ensures leaves { LeavesCounts result (D.outside desk.old) (D.outside desk.new) }
 {
     let Some(fields) = read_head(desk, slot, form, place)? else {

@@ -31,10 +31,14 @@ fn head_of_capture(link: Link) -> [u8; 24]
 /// Writes the head of a capture. Failed comes only where the count of the slot rose; a prefix of the head was written then.
 pub fn write_head<D: Desk>(desk: &mut D, slot: Slot, link: Link) -> Result<(), Failed>
     requires { CanWrite (D.outside desk.old) slot }
-    ensures ok { OnOk result (Writes slot (head_octets link) (D.outside desk.old) (D.outside desk.new)) }
-    ensures err { OnErr result (WritesPart slot (head_octets link) (D.outside desk.old) (D.outside desk.new)) }
-    ensures cause { OnErr result (HasFailed slot (D.outside desk.old) (D.outside desk.new)) }
-    ensures leaves { OnOk result ((D.outside desk.new).faults ≡ (D.outside desk.old).faults) }
+    ensures ok { OnOk result
+        (Writes slot (head_octets link) (D.outside desk.old) (D.outside desk.new)) }
+    ensures err { OnErr result (WritesPart slot (head_octets link)
+        (D.outside desk.old) (D.outside desk.new)) }
+    ensures cause { OnErr result
+        (HasFailed slot (D.outside desk.old) (D.outside desk.new)) }
+    ensures leaves { OnOk result
+        ((D.outside desk.new).faults ≡ (D.outside desk.old).faults) }
 {
     write_whole(desk, slot, &head_of_capture(link))
 }
@@ -64,10 +68,16 @@ pub fn write_packet<D: Desk>(
     requires can { CanWrite (D.outside desk.old) slot }
     requires early { IsMoment moment.0 }
     requires short { length head.now + length octets.now ≤ 262144 }
-    ensures ok { OnOk result (Writes slot (record_octets moment.0 (head.now ++ octets.now)) (D.outside desk.old) (D.outside desk.new)) }
-    ensures err { OnErr result (WritesPart slot (record_octets moment.0 (head.now ++ octets.now)) (D.outside desk.old) (D.outside desk.new)) }
-    ensures cause { OnErr result (HasFailed slot (D.outside desk.old) (D.outside desk.new)) }
-    ensures leaves { OnOk result ((D.outside desk.new).faults ≡ (D.outside desk.old).faults) }
+    ensures ok { OnOk result (Writes slot
+        (record_octets moment.0 (head.now ++ octets.now)) (D.outside desk.old)
+        (D.outside desk.new)) }
+    ensures err { OnErr result (WritesPart slot
+        (record_octets moment.0 (head.now ++ octets.now)) (D.outside desk.old)
+        (D.outside desk.new)) }
+    ensures cause { OnErr result
+        (HasFailed slot (D.outside desk.old) (D.outside desk.new)) }
+    ensures leaves { OnOk result
+        ((D.outside desk.new).faults ≡ (D.outside desk.old).faults) }
 {
     let front = head_of_record(moment, (head.len() + octets.len()) as u32);
     if head.is_empty() {
@@ -86,10 +96,14 @@ fn write_behind<D: Desk>(
     octets: &[u8],
 ) -> Result<(), Failed>
     requires { CanWrite (D.outside desk.old) slot }
-    ensures ok { OnOk result (Writes slot (front.now ++ head.now ++ octets.now) (D.outside desk.old) (D.outside desk.new)) }
-    ensures err { OnErr result (WritesPart slot (front.now ++ head.now ++ octets.now) (D.outside desk.old) (D.outside desk.new)) }
-    ensures cause { OnErr result (HasFailed slot (D.outside desk.old) (D.outside desk.new)) }
-    ensures leaves { OnOk result ((D.outside desk.new).faults ≡ (D.outside desk.old).faults) }
+    ensures ok { OnOk result (Writes slot (front.now ++ head.now ++ octets.now)
+        (D.outside desk.old) (D.outside desk.new)) }
+    ensures err { OnErr result (WritesPart slot (front.now ++ head.now ++ octets.now)
+        (D.outside desk.old) (D.outside desk.new)) }
+    ensures cause { OnErr result
+        (HasFailed slot (D.outside desk.old) (D.outside desk.new)) }
+    ensures leaves { OnOk result
+        ((D.outside desk.new).faults ≡ (D.outside desk.old).faults) }
 {
     desk.write_both(slot, front, head)?;
     write_whole(desk, slot, octets)

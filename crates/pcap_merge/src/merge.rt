@@ -53,7 +53,8 @@ impl Merge {
         requires left { CanRead (D.outside desk.old) Slot.LeftIn }
         requires right { CanRead (D.outside desk.old) Slot.RightIn }
         ensures begins { Begins result (D.outside desk.old) (D.outside desk.new) }
-        ensures leaves { LeavesCounts result (D.outside desk.old) (D.outside desk.new) }
+        ensures leaves { LeavesCounts result (D.outside desk.old)
+            (D.outside desk.new) }
     {
         let left = match CaptureReader::begin(alloc, desk, Slot::LeftIn) {
             Ok(left) => left,
@@ -77,9 +78,13 @@ impl Merge {
     pub fn advance<D: Desk>(&mut self, desk: &mut D) -> Result<bool, MergeStop>
         requires left { CanRead (D.outside desk.old) Slot.LeftIn }
         requires right { CanRead (D.outside desk.old) Slot.RightIn }
-        ensures first { self.old.stop ≡ None → Advances result self.old self.new (D.outside desk.old) (D.outside desk.new) }
-        ensures leaves { LeavesCounts result (D.outside desk.old) (D.outside desk.new) }
-        ensures again { IfSome self.old.stop (λ stop. (result ≡ Err stop) × (self.new ≡ self.old) × (D.outside desk.new ≡ D.outside desk.old)) }
+        ensures first { self.old.stop ≡ None
+            → Advances result self.old self.new (D.outside desk.old)
+            (D.outside desk.new) }
+        ensures leaves { LeavesCounts result (D.outside desk.old)
+            (D.outside desk.new) }
+        ensures again { IfSome self.old.stop (λ stop. (result ≡ Err stop)
+            × (self.new ≡ self.old) × (D.outside desk.new ≡ D.outside desk.old)) }
     {
         if let Some(stop) = self.stopped {
             return Err(stop);

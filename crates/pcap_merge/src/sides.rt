@@ -22,7 +22,8 @@ fn read_side<D: Desk>(
     requires start { CanRead (D.outside desk.old) reader.old.slot }
     requires slot { reader.old.slot ≡ slot_of side }
     requires running { reader.old.stop ≡ None }
-    ensures reads { ReadsSide result side unread reader.old reader.new (D.outside desk.old) (D.outside desk.new) }
+    ensures reads { ReadsSide result side unread reader.old reader.new
+        (D.outside desk.old) (D.outside desk.new) }
     ensures leaves { LeavesCounts result (D.outside desk.old) (D.outside desk.new) }
 {
     if !unread {
@@ -48,7 +49,8 @@ pub fn read_sides<D: Desk>(
     requires slot_right { right.old.slot ≡ slot_of Side.Right }
     requires running_left { left.old.stop ≡ None }
     requires running_right { right.old.stop ≡ None }
-    ensures reads { ReadsSides result last left.old left.new right.old right.new (D.outside desk.old) (D.outside desk.new) }
+    ensures reads { ReadsSides result last left.old left.new right.old right.new
+        (D.outside desk.old) (D.outside desk.new) }
     ensures leaves { LeavesCounts result (D.outside desk.old) (D.outside desk.new) }
 {
     match read_side(desk, Side::Left, is_unread(Side::Left, last), left) {

@@ -35,7 +35,8 @@ impl Places {
     pub fn new(alloc: Global, size: usize) -> Result<Places, OutOfMemory>
         requires { size ≤ 65536 }
         ensures long { IfOk result (λ places. size < 64 * length places) }
-        ensures all { IfOk result (λ places. (place : ℕ) → bit_of places place ≡ one_if (nat_lt place size)) }
+        ensures all { IfOk result (λ places. (place : ℕ)
+            → bit_of places place ≡ one_if (nat_lt place size)) }
     {
         let mut places = Places::none(alloc, size)?;
         for place in 0..size {

@@ -114,7 +114,8 @@ impl Pool {
     fn free_from(&self, place: usize) -> Option<Addr>
         requires { place ≤ length self.now.taken }
         ensures value { result ≡ addresses.free_from place self.now }
-        ensures range { self.now.range.first + length self.now.taken ≡ self.now.range.last + 1 }
+        ensures range { self.now.range.first + length self.now.taken
+            ≡ self.now.range.last + 1 }
     {
         match self.places.first_from(place) {
             Some(found) => Some(Addr(self.first + found as u32)),

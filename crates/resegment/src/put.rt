@@ -41,13 +41,24 @@ pub fn put_pieces(
     requires ip { length model.now.ip.now ≡ 20 }
     requires tcp { IsTcpHeader model.now.tcp.now }
     requires ecn { model.now.flags.ecn ≤ 3 }
-    requires room { length outbox.old.items + room_for model.now (length octets.now) limit ≤ vec_capacity outbox.old }
-    requires below { length outbox.old.items + room_for model.now (length octets.now) limit < 2 ^ 32 }
-    requires ends { length ends.old.items + piece_count (length octets.now) limit ≤ vec_capacity ends.old }
-    ensures octets { outbox.new.items ≡ outbox.old.items ++ flat_map (λ datagram. datagram) (datagrams model.now octets.now limit) }
-    ensures ends { ends.new.items ≡ ends.old.items ++ ends_from (length outbox.old.items) (datagrams model.now octets.now limit) }
-    ensures count { length ends.new.items ≡ length ends.old.items + piece_count (length octets.now) limit }
-    ensures few { length outbox.new.items ≤ length outbox.old.items + room_for model.now (length octets.now) limit }
+    requires room { length outbox.old.items
+        + room_for model.now (length octets.now) limit ≤ vec_capacity outbox.old }
+    requires below { length outbox.old.items
+        + room_for model.now (length octets.now) limit < 2 ^ 32 }
+    requires ends { length ends.old.items + piece_count (length octets.now) limit
+        ≤ vec_capacity ends.old }
+    ensures octets { outbox.new.items
+        ≡ outbox.old.items
+        ++ flat_map (λ datagram. datagram)
+        (datagrams model.now octets.now limit) }
+    ensures ends { ends.new.items
+        ≡ ends.old.items
+        ++ ends_from (length outbox.old.items)
+        (datagrams model.now octets.now limit) }
+    ensures count { length ends.new.items
+        ≡ length ends.old.items + piece_count (length octets.now) limit }
+    ensures few { length outbox.new.items
+        ≤ length outbox.old.items + room_for model.now (length octets.now) limit }
     ensures room { vec_capacity outbox.old ≤ vec_capacity outbox.new }
     ensures more { vec_capacity ends.old ≤ vec_capacity ends.new }
 {
@@ -67,12 +78,20 @@ pub fn put_empty(outbox: &mut Vec<u8>, ends: &mut Vec<u32>, model: &SegmentModel
     requires tcp { IsTcpHeader model.now.tcp.now }
     requires ecn { model.now.flags.ecn ≤ 3 }
     requires fits { 20 + length model.now.tcp.now ≤ 65535 }
-    requires room { length outbox.old.items + (20 + length model.now.tcp.now) ≤ vec_capacity outbox.old }
-    requires below { length outbox.old.items + (20 + length model.now.tcp.now) < 2 ^ 32 }
+    requires room { length outbox.old.items + (20 + length model.now.tcp.now)
+        ≤ vec_capacity outbox.old }
+    requires below { length outbox.old.items + (20 + length model.now.tcp.now)
+        < 2 ^ 32 }
     requires ends { length ends.old.items + 1 ≤ vec_capacity ends.old }
-    ensures octets { let m = model.now in outbox.new.items ≡ outbox.old.items ++ datagram_of m.ip.now m.source.0 m.destination.0 m.lifetime (spelled_segment m.tcp.now m.source.0 m.destination.0 m.sequence m.acknowledgement (flags_octet m.flags) []) }
+    ensures octets { let m = model.now in
+        outbox.new.items
+        ≡ outbox.old.items
+        ++ datagram_of m.ip.now m.source.0 m.destination.0 m.lifetime
+        (spelled_segment m.tcp.now m.source.0 m.destination.0 m.sequence
+        m.acknowledgement (flags_octet m.flags) []) }
     ensures ends { ends.new.items ≡ ends.old.items ++ length outbox.new.items ∷ [] }
-    ensures len { length outbox.new.items ≡ length outbox.old.items + (20 + length model.now.tcp.now) }
+    ensures len { length outbox.new.items
+        ≡ length outbox.old.items + (20 + length model.now.tcp.now) }
     ensures room { vec_capacity outbox.old ≤ vec_capacity outbox.new }
     ensures more { vec_capacity ends.old ≤ vec_capacity ends.new }
 {
@@ -101,10 +120,18 @@ fn put_datagram(
     requires tcp { IsTcpHeader model.now.tcp.now }
     requires ecn { flags.ecn ≤ 3 }
     requires fits { 20 + (length model.now.tcp.now + length octets.now) ≤ 65535 }
-    requires room { length outbox.old.items + (20 + (length model.now.tcp.now + length octets.now)) ≤ vec_capacity outbox.old }
-    ensures octets { let m = model.now in let segment = spelled_segment m.tcp.now m.source.0 m.destination.0 sequence m.acknowledgement (flags_octet flags) octets.now in
-        outbox.new.items ≡ outbox.old.items ++ datagram_of m.ip.now m.source.0 m.destination.0 m.lifetime segment }
-    ensures len { length outbox.new.items ≡ length outbox.old.items + (20 + (length model.now.tcp.now + length octets.now)) }
+    requires room { length outbox.old.items
+        + (20 + (length model.now.tcp.now + length octets.now))
+        ≤ vec_capacity outbox.old }
+    ensures octets { let m = model.now in
+        let segment = spelled_segment m.tcp.now m.source.0 m.destination.0 sequence
+        m.acknowledgement (flags_octet flags) octets.now in
+        outbox.new.items
+        ≡ outbox.old.items
+        ++ datagram_of m.ip.now m.source.0 m.destination.0 m.lifetime segment }
+    ensures len { length outbox.new.items
+        ≡ length outbox.old.items
+        + (20 + (length model.now.tcp.now + length octets.now)) }
     ensures room { vec_capacity outbox.old ≤ vec_capacity outbox.new }
 {
     let start = outbox.len();

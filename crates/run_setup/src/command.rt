@@ -221,7 +221,8 @@ fn audit_in(operands: &[String]) -> Command<'_>
 
 /// What these words behind a verb ask for.
 fn command_by<'a>(verb: &str, operands: &'a [String]) -> Command<'a>
-    ensures asked { asked result ≡ command_by verb.now (map string_bytes operands.now) }
+    ensures asked { asked result
+        ≡ command_by verb.now (map string_bytes operands.now) }
     ensures rounds { HasFewRounds result }
 {
     if is_run(verb) {

@@ -46,7 +46,8 @@ fn fault_name(fault: CaptureFault) -> &'static str
 #[tactic(auto, using(crate::proofs::Lines::slot_short))]
 fn put_slot(text: &mut Text, label: &str, slot: Slot)
     requires { length text.old.bytes + length label.now + 13 ≤ LINE }
-    ensures { text.new.bytes ≡ text.old.bytes ++ label.now ++ name_of slot ++ codes "\n" }
+    ensures { text.new.bytes
+        ≡ text.old.bytes ++ label.now ++ name_of slot ++ codes "\n" }
 {
     text.push_str(label);
     text.push_str(slot.name());
@@ -57,7 +58,9 @@ fn put_slot(text: &mut Text, label: &str, slot: Slot)
 #[tactic(auto, using(crate::proofs::Lines::side_short))]
 fn put_capture(text: &mut Text, side: Side, fault: CaptureFault, place: u64)
     requires { length text.old.bytes + 60 ≤ LINE }
-    ensures { text.new.bytes ≡ text.old.bytes ++ codes "capture " ++ side_name side ++ codes ": " ++ fault_name fault ++ codes " at " ++ decimal place ++ codes "\n" }
+    ensures { text.new.bytes
+        ≡ text.old.bytes ++ codes "capture " ++ side_name side ++ codes ": "
+        ++ fault_name fault ++ codes " at " ++ decimal place ++ codes "\n" }
 {
     let mut digits = Buffer::new();
     text.push_str("capture ");
@@ -73,7 +76,8 @@ fn put_capture(text: &mut Text, side: Side, fault: CaptureFault, place: u64)
 fn put_number(text: &mut Text, label: &str, number: u32)
     requires { length text.old.bytes + length label.now + 40 ≤ LINE }
     ensures text { text.new.bytes ≡ text.old.bytes ++ (label.now ++ decimal number) }
-    ensures short { length text.new.bytes ≤ length text.old.bytes + length label.now + 40 }
+    ensures short { length text.new.bytes
+        ≤ length text.old.bytes + length label.now + 40 }
 {
     let mut digits = Buffer::new();
     text.push_str(label);
@@ -125,7 +129,8 @@ fn put_key(text: &mut Text, key: Key)
 fn put_key_of(text: &mut Text, label: &str, key: Key)
     requires { length text.old.bytes + length label.now + 60 ≤ LINE }
     ensures text { text.new.bytes ≡ text.old.bytes ++ (label.now ++ key_text key) }
-    ensures short { length text.new.bytes ≤ length text.old.bytes + length label.now + 60 }
+    ensures short { length text.new.bytes
+        ≤ length text.old.bytes + length label.now + 60 }
 {
     text.push_str(label);
     put_key(text, key);
@@ -136,7 +141,8 @@ fn put_key_of(text: &mut Text, label: &str, key: Key)
 fn put_side(text: &mut Text, label: &str, side: Side)
     requires { length text.old.bytes + length label.now + 5 ≤ LINE }
     ensures text { text.new.bytes ≡ text.old.bytes ++ (label.now ++ side_name side) }
-    ensures short { length text.new.bytes ≤ length text.old.bytes + length label.now + 5 }
+    ensures short { length text.new.bytes
+        ≤ length text.old.bytes + length label.now + 5 }
 {
     text.push_str(label);
     text.push_str(side.name());
@@ -169,7 +175,8 @@ fn put_fault(text: &mut Text, fault: SettingsFault)
 /// Puts the line of a fault of the settings behind what the text holds.
 fn put_settings(text: &mut Text, fault: SettingsFault)
     requires { length text.old.bytes + 90 ≤ LINE }
-    ensures { text.new.bytes ≡ text.old.bytes ++ codes "settings: " ++ text_of fault ++ codes "\n" }
+    ensures { text.new.bytes
+        ≡ text.old.bytes ++ codes "settings: " ++ text_of fault ++ codes "\n" }
 {
     text.push_str("settings: ");
     put_fault(text, fault);

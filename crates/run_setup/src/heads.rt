@@ -6,7 +6,7 @@ ghost use Rattle.run_setup.specs.Beginning.{Settles, Merges, TookCaptures, TookS
 
 use crate::Status;
 use crate::open::start_slot;
-use gate_desk::{Desk, Slot, Access, read_up_to};
+use gate_desk::{Access, Desk, Slot, read_up_to};
 use gate_settings::Settings;
 use pcap_merge::Merge;
 use settings_file::read_settings;
@@ -16,9 +16,15 @@ use std::alloc::Global;
 const SETTINGS_LIMIT: usize = 1_048_576;
 
 /// Starts and reads the settings of a name.
-pub fn read_settings_file<D: Desk>(alloc: Global, desk: &mut D, name: &str) -> Result<Settings, Status>
-    ensures answer { Settles result (settings_start name.now) (D.outside desk.old) (D.outside desk.new) }
-    ensures taken { OnErr result (TakenFor [] (D.outside desk.old) (D.outside desk.new)) }
+pub fn read_settings_file<D: Desk>(
+    alloc: Global,
+    desk: &mut D,
+    name: &str,
+) -> Result<Settings, Status>
+    ensures answer { Settles result (settings_start name.now) (D.outside desk.old)
+        (D.outside desk.new) }
+    ensures taken { OnErr result
+        (TakenFor [] (D.outside desk.old) (D.outside desk.new)) }
     ensures settings { TookSettings (D.outside desk.old) (D.outside desk.new) }
 {
     start_slot(desk, Slot::Settings, name, Access::Read)?;
@@ -29,7 +35,8 @@ pub fn read_settings_file<D: Desk>(alloc: Global, desk: &mut D, name: &str) -> R
 
 /// Starts both captures that are read, the left one first.
 fn open_inputs<D: Desk>(desk: &mut D, left: &str, right: &str) -> Result<(), Status>
-    ensures answer { Opens result (inputs_start left.now right.now) (D.outside desk.old) (D.outside desk.new) }
+    ensures answer { Opens result (inputs_start left.now right.now)
+        (D.outside desk.old) (D.outside desk.new) }
     ensures left { (D.outside desk.new).left ≡ (D.outside desk.old).left }
 {
     start_slot(desk, Slot::LeftIn, left, Access::Read)?;
@@ -38,8 +45,10 @@ fn open_inputs<D: Desk>(desk: &mut D, left: &str, right: &str) -> Result<(), Sta
 
 /// Starts the captures of both names, the left one first, and reads their heads.
 pub fn begin<D: Desk>(alloc: Global, desk: &mut D, left: &str, right: &str) -> Result<Merge, Status>
-    ensures answer { Merges result (inputs_start left.now right.now) (D.outside desk.old) (D.outside desk.new) }
-    ensures taken { OnErr result (TakenFor [] (D.outside desk.old) (D.outside desk.new)) }
+    ensures answer { Merges result (inputs_start left.now right.now)
+        (D.outside desk.old) (D.outside desk.new) }
+    ensures taken { OnErr result
+        (TakenFor [] (D.outside desk.old) (D.outside desk.new)) }
     ensures captures { TookCaptures (D.outside desk.old) (D.outside desk.new) }
 {
     open_inputs(desk, left, right)?;

@@ -17,7 +17,21 @@ ghost use Rattle.runs_are_lawful.specs.Outputs.{octets_to, IsOctets, OutputsFit}
 /// outgoing capture has more octets than a capture may have. Where a capture is faulty behind good heads, they are lawful as
 /// far as the events go. What stands written on a slot is what stood there, and the octets of the slot's pieces.
 pub fn own_files_are_lawful()
-    ensures done { (all : PerSlot (List ℕ)) (settings : Settings) → IsAccepted settings all → IsOctets all → (events_in all).ending ≡ Done → let pieces = outputs_of settings all in OutputsFit pieces → LawfulFor settings (events_in all) (octets_to LeftOut pieces) (octets_to RightOut pieces) (octets_to Report pieces) }
-    ensures faulty { (all : PerSlot (List ℕ)) (settings : Settings) → IsAccepted settings all → IsOctets all → have_good_heads all.left_in all.right_in ≡ true → let pieces = outputs_of settings all in OutputsFit pieces → LawfulFor settings (events_in all) (octets_to LeftOut pieces) (octets_to RightOut pieces) (octets_to Report pieces) }
-    ensures written { (pieces : List Piece) (told : PerSlot (List ℕ)) (slot : Slot) → told_at (wrote_pieces pieces (Some told)) slot ≡ Some (at told slot ++ octets_to slot pieces) }
+    ensures done { (all : PerSlot (List ℕ)) (settings : Settings)
+        → IsAccepted settings all
+        → IsOctets all
+        → (events_in all).ending ≡ Done
+        → let pieces = outputs_of settings all in OutputsFit pieces
+        → LawfulFor settings (events_in all) (octets_to LeftOut pieces)
+        (octets_to RightOut pieces) (octets_to Report pieces) }
+    ensures faulty { (all : PerSlot (List ℕ)) (settings : Settings)
+        → IsAccepted settings all
+        → IsOctets all
+        → have_good_heads all.left_in all.right_in ≡ true
+        → let pieces = outputs_of settings all in OutputsFit pieces
+        → LawfulFor settings (events_in all) (octets_to LeftOut pieces)
+        (octets_to RightOut pieces) (octets_to Report pieces) }
+    ensures written { (pieces : List Piece) (told : PerSlot (List ℕ)) (slot : Slot)
+        → told_at (wrote_pieces pieces (Some told)) slot
+        ≡ Some (at told slot ++ octets_to slot pieces) }
 {}

@@ -1,10 +1,9 @@
 ghost use Rattle.std.specs.Prelude.{◌≡◌};
 ghost use Rattle.dialogue.specs.Meaning.{HoldsAtMost};
 
-use dialogue::Dialogue;
+use dialogue::{Dialogue, Holder};
 use ftp_lines::{ClientLines, ServerLines, rests_are_short};
 use gate_base::{Addr, Pair};
-use dialogue::Holder;
 use std::alloc::{AllocError, Global};
 use std::test::Fail;
 

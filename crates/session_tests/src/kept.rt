@@ -1,6 +1,6 @@
+use compact_stream::back_acknowledged;
 use shift_ledger::Ledger;
 use std::test::Fail;
-use compact_stream::back_acknowledged;
 
 #[test]
 fn acknowledged_octets(rt: HostRuntime) -> Result<(), Fail> {

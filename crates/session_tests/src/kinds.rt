@@ -1,10 +1,10 @@
 // Sessions before their first segment.
+use dns_plans::{Session, UnitOctets};
 use gate_base::{Addr, OutOfMemory, Pair, Refusal};
 use gate_sessions::AnySession;
 use std::alloc::Global;
 use std::test::Fail;
 use tcp_segments::TcpView;
-use dns_plans::{Session, UnitOctets};
 
 const CLIENT: Addr = Addr(0x0a00_0005);
 

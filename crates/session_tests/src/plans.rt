@@ -5,12 +5,12 @@ ghost use Rattle.binding_table.specs.Bindings.{cross};
 ghost use Rattle.gate_model.specs.Names.{is_unbound};
 
 use binding_table::{Crossing, SeenAddresses, Table};
+use dns_plans::{Endpoints, Entry, PlanStop, UnitPlan, plan_units};
 use expiring_table::Seed;
 use gate_base::{Addr, OutOfMemory, Refusal, Side};
 use settings_file::read_settings;
 use std::alloc::Global;
 use std::test::Fail;
-use dns_plans::{Endpoints, Entry, PlanStop, UnitPlan, plan_units};
 
 /// The other realm's pool has ten addresses.
 const SETTINGS: &[u8] = b"left.pool_first = \"192.168.200.1\"
@@ -56,7 +56,9 @@ fn is_bound(table: &Table, address: Addr) -> bool
 }
 
 fn all_bound(table: &Table, entries: &[Entry]) -> bool
-    ensures { result ≡ list_all (λ entry. not (is_unbound (cross table.now sides.Left entry.0))) entries.now }
+    ensures { result
+        ≡ list_all (λ entry. not (is_unbound (cross table.now sides.Left entry.0)))
+        entries.now }
 {
     entries.iter().all(|entry| is_bound(table, entry.0))
 }
@@ -125,44 +127,98 @@ fn answered(
     wanted: &Result<&[Entry], Refusal>,
 ) -> Result<bool, OutOfMemory> {
     let octets = answers(alloc, addresses, behind)?;
-    Ok(tells(&planned(alloc, table, seen_addresses, entries, &octets), wanted))
+    Ok(tells(
+        &planned(alloc, table, seen_addresses, entries, &octets),
+        wanted,
+    ))
 }
 
 /// Whether units that pass are planned.
-fn passes(alloc: Global, table: &Table, seen_addresses: &mut SeenAddresses) -> Result<bool, OutOfMemory> {
+fn passes(
+    alloc: Global,
+    table: &Table,
+    seen_addresses: &mut SeenAddresses,
+) -> Result<bool, OutOfMemory> {
     let kept = [(NEW.0, None)];
     let rest = answered(alloc, table, seen_addresses, &[], (&[], b"\0-"), &Ok(&[]))?;
     let question = answered(alloc, table, seen_addresses, &[], (&[], QUESTION), &Ok(&[]))?;
-    let answer = answered(alloc, table, seen_addresses, &[], (&[NEW.0], b""), &Ok(&[NEW]))?;
+    let answer = answered(
+        alloc,
+        table,
+        seen_addresses,
+        &[],
+        (&[NEW.0], b""),
+        &Ok(&[NEW]),
+    )?;
     let twice = (&[NEW.0, NEW.0] as &[Addr], b"\0" as &[u8]);
     let listed = answered(alloc, table, seen_addresses, &kept, twice, &Ok(&[NEW, NEW]))?;
     Ok(rest && question && answer && listed)
 }
 
 /// Whether units are refused for what they name.
-fn refuses(alloc: Global, table: &Table, seen_addresses: &mut SeenAddresses) -> Result<bool, OutOfMemory> {
+fn refuses(
+    alloc: Global,
+    table: &Table,
+    seen_addresses: &mut SeenAddresses,
+) -> Result<bool, OutOfMemory> {
     let bad = Err(Refusal::BadUnit);
     let unbound = Err(Refusal::UnitUnbound);
     let empty = Err(Refusal::PoolEmpty);
-    let first = answered(alloc, table, seen_addresses, &[], (&[UNBOUND], b"\0\0"), &bad)?;
-    let second = answered(alloc, table, seen_addresses, &[], (&[UNBOUND], b""), &unbound)?;
+    let first = answered(
+        alloc,
+        table,
+        seen_addresses,
+        &[],
+        (&[UNBOUND], b"\0\0"),
+        &bad,
+    )?;
+    let second = answered(
+        alloc,
+        table,
+        seen_addresses,
+        &[],
+        (&[UNBOUND], b""),
+        &unbound,
+    )?;
     let third = answered(alloc, table, seen_addresses, &[], (&[NEW.0], NINE), &empty)?;
     Ok(first && second && third)
 }
 
 /// Whether a list has at most 256 entries.
-fn fills(alloc: Global, table: &Table, seen_addresses: &mut SeenAddresses) -> Result<bool, OutOfMemory> {
+fn fills(
+    alloc: Global,
+    table: &Table,
+    seen_addresses: &mut SeenAddresses,
+) -> Result<bool, OutOfMemory> {
     let fewer = hosts(alloc, 0x0a01_0000, 255, 0, 0)?;
     let most = hosts(alloc, 0x0a01_0000, 256, 0, 0)?;
     let full = Err(Refusal::RenamesFull);
-    let first = answered(alloc, table, seen_addresses, &fewer, (&[NEW.0], b""), &Ok(&[NEW]))?;
+    let first = answered(
+        alloc,
+        table,
+        seen_addresses,
+        &fewer,
+        (&[NEW.0], b""),
+        &Ok(&[NEW]),
+    )?;
     let second = answered(alloc, table, seen_addresses, &most, (&[NEW.0], b""), &full)?;
-    let third = answered(alloc, table, seen_addresses, &most, (&[], QUESTION), &Ok(&[]))?;
+    let third = answered(
+        alloc,
+        table,
+        seen_addresses,
+        &most,
+        (&[], QUESTION),
+        &Ok(&[]),
+    )?;
     Ok(first && second && third)
 }
 
 /// Whether nine names grow too much exactly where their images, by the list, share nothing.
-fn grows(alloc: Global, table: &Table, seen_addresses: &mut SeenAddresses) -> Result<bool, OutOfMemory> {
+fn grows(
+    alloc: Global,
+    table: &Table,
+    seen_addresses: &mut SeenAddresses,
+) -> Result<bool, OutOfMemory> {
     let near = hosts(alloc, 0x0a00_0001, 9, 0xac10_0902, 1)?;
     let far = hosts(alloc, 0x0a00_0001, 9, 0xc0a8_c865, 0x0100_0000)?;
     let first = answered(alloc, table, seen_addresses, &[], (&[], NINE), &Ok(&near))?;

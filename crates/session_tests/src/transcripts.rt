@@ -323,7 +323,8 @@ fn begin_lines(alloc: Global) -> Lines {
 }
 
 fn begin_names(alloc: Global) -> Result<Names, Fail>
-    ensures client { IfOk result (λ session. session.client ≡ unheard (Some 1000) 1460) }
+    ensures client { IfOk result
+        (λ session. session.client ≡ unheard (Some 1000) 1460) }
     ensures server { IfOk result (λ session. session.server ≡ unheard None 536) }
 {
     Ok(WholeStreams::new(

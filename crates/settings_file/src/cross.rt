@@ -81,7 +81,8 @@ fn same_in_pool(settings: &Settings) -> Option<SettingsFault>
 }
 
 fn first_taken(settings: &Settings, same: &SameRanges, statics: &[Fixed]) -> Option<usize>
-    ensures value { result ≡ position (keys.host_is_taken settings.now same.now) statics.now }
+    ensures value { result
+        ≡ position (keys.host_is_taken settings.now same.now) statics.now }
     ensures within { IfSome result (λ place. place < length statics.now) }
 {
     statics
@@ -90,7 +91,8 @@ fn first_taken(settings: &Settings, same: &SameRanges, statics: &[Fixed]) -> Opt
 }
 
 fn first_outside(settings: &Settings, statics: &[Fixed]) -> Option<usize>
-    ensures value { result ≡ position (cross.alias_is_outside settings.now) statics.now }
+    ensures value { result
+        ≡ position (cross.alias_is_outside settings.now) statics.now }
     ensures within { IfSome result (λ place. place < length statics.now) }
 {
     statics

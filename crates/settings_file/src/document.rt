@@ -19,7 +19,8 @@ use toml::Table;
 const LIMIT: usize = 1_048_576;
 
 fn read_document(alloc: Global, octets: &[u8]) -> Result<Table, ReadSettings>
-    ensures { ReturnsFoundBy table_view result (ok_or (document_of octets.now) NotToml) }
+    ensures { ReturnsFoundBy table_view result
+        (ok_or (document_of octets.now) NotToml) }
 {
     match toml::table_from_slice(alloc, octets) {
         Ok(table) => Ok(table),

@@ -47,13 +47,15 @@ fn needed_side(table: &Table, key: Key) -> Result<Side, SettingsFault>
 }
 
 fn needed_table(table: &Table, key: Key) -> Result<&Table, SettingsFault>
-    ensures { Sees (λ t. table_view t.now) result (document.needed document.table key (table_view table.now)) }
+    ensures { Sees (λ t. table_view t.now) result
+        (document.needed document.table key (table_view table.now)) }
 {
     values::table(key, need(table, key)?)
 }
 
 fn optional_mac(table: &Table, key: Key) -> Result<Option<[u8; 6]>, SettingsFault>
-    ensures { result ≡ document.optional document.given_mac None key (table_view table.now) }
+    ensures { result
+        ≡ document.optional document.given_mac None key (table_view table.now) }
 {
     match find(table, key) {
         Some(value) => Ok(Some(values::mac(key, value)?)),
@@ -135,7 +137,8 @@ fn are_tables(values: &[Value]) -> bool
 }
 
 fn blocks_of(alloc: Global, values: &[Value]) -> Result<Vec<Block>, ReadSettings>
-    ensures { ReturnsFoundBy (λ v. v.items) result (document.each (λ n value. document.block Key.Same value) 1 (items_view values.now)) }
+    ensures { ReturnsFoundBy (λ v. v.items) result (document.each
+        (λ n value. document.block Key.Same value) 1 (items_view values.now)) }
 {
     let mut blocks = Vec::new(alloc);
     for value in values {
@@ -147,7 +150,8 @@ fn blocks_of(alloc: Global, values: &[Value]) -> Result<Vec<Block>, ReadSettings
 
 fn statics_of(alloc: Global, values: &[Value]) -> Result<Vec<Fixed>, ReadSettings>
     requires { length values.now < 2 ^ 32 }
-    ensures value { ReturnsFoundBy (λ v. v.items) result (document.each document.static_entry 1 (items_view values.now)) }
+    ensures value { ReturnsFoundBy (λ v. v.items) result
+        (document.each document.static_entry 1 (items_view values.now)) }
     ensures few { IfOk result (λ v. length v.items < 2 ^ 32) }
 {
     let mut statics = Vec::new(alloc);
@@ -186,7 +190,8 @@ fn statics(alloc: Global, key: Key, value: &Value) -> Result<Statics, ReadSettin
 }
 
 fn report_key(top: &Table) -> Result<bool, SettingsFault>
-    ensures { result ≡ document.optional document.json false Key.Report (table_view top.now) }
+    ensures { result
+        ≡ document.optional document.json false Key.Report (table_view top.now) }
 {
     match find(top, Key::Report) {
         Some(value) => values::json(Key::Report, value),
@@ -195,7 +200,8 @@ fn report_key(top: &Table) -> Result<bool, SettingsFault>
 }
 
 fn fragments_key(top: &Table) -> Result<bool, SettingsFault>
-    ensures { result ≡ document.optional document.join false Key.Fragments (table_view top.now) }
+    ensures { result
+        ≡ document.optional document.join false Key.Fragments (table_view top.now) }
 {
     match find(top, Key::Fragments) {
         Some(value) => values::join(Key::Fragments, value),
@@ -204,7 +210,8 @@ fn fragments_key(top: &Table) -> Result<bool, SettingsFault>
 }
 
 fn same_key(alloc: Global, top: &Table) -> Result<Blocks, ReadSettings>
-    ensures { ReturnsFound result (document.optional document.blocks [] Key.Same (table_view top.now)) }
+    ensures { ReturnsFound result
+        (document.optional document.blocks [] Key.Same (table_view top.now)) }
 {
     match find(top, Key::Same) {
         Some(value) => blocks(alloc, Key::Same, value),
@@ -213,7 +220,8 @@ fn same_key(alloc: Global, top: &Table) -> Result<Blocks, ReadSettings>
 }
 
 fn static_key(alloc: Global, top: &Table) -> Result<Statics, ReadSettings>
-    ensures value { ReturnsFound result (document.optional document.statics [] Key.Statics (table_view top.now)) }
+    ensures value { ReturnsFound result
+        (document.optional document.statics [] Key.Statics (table_view top.now)) }
     ensures few { IfOk result (λ v. length v < 2 ^ 32) }
 {
     match find(top, Key::Statics) {
@@ -243,7 +251,8 @@ fn oid_entry(alloc: Global, number: u32, value: &Value) -> Result<OidRule, ReadS
 
 fn oids_of(alloc: Global, values: &[Value]) -> Result<Vec<OidRule>, ReadSettings>
     requires { length values.now < 2 ^ 32 }
-    ensures { ReturnsFoundBy (λ v. v.items) result (document.each document.oid_entry 1 (items_view values.now)) }
+    ensures { ReturnsFoundBy (λ v. v.items) result
+        (document.each document.oid_entry 1 (items_view values.now)) }
 {
     let mut oids = Vec::new(alloc);
     for (index, value) in values.iter().enumerate() {
@@ -269,7 +278,8 @@ fn oids(alloc: Global, key: Key, value: &Value) -> Result<OidRules, ReadSettings
 }
 
 fn oid_key(alloc: Global, top: &Table) -> Result<OidRules, ReadSettings>
-    ensures { ReturnsFound result (document.optional document.oids [] Key.Oids (table_view top.now)) }
+    ensures { ReturnsFound result
+        (document.optional document.oids [] Key.Oids (table_view top.now)) }
 {
     match find(top, Key::Oids) {
         Some(value) => oids(alloc, Key::Oids, value),

@@ -7,6 +7,10 @@ ghost use Rattle.gate_settings.specs.declared.settings.Settings.{Settings};
 
 /// Settings that octets give fit one another, and their blocks, addresses and rules have their forms.
 pub fn accepted_settings()
-    ensures sound { (octets : List ℕ) (settings : Settings) → settings_of octets ≡ Ok settings → IsSound settings }
-    ensures forms { (octets : List ℕ) (settings : Settings) → settings_of octets ≡ Ok settings → HasForms settings }
+    ensures sound { (octets : List ℕ) (settings : Settings)
+        → settings_of octets ≡ Ok settings
+        → IsSound settings }
+    ensures forms { (octets : List ℕ) (settings : Settings)
+        → settings_of octets ≡ Ok settings
+        → HasForms settings }
 {}

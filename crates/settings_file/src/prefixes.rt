@@ -40,7 +40,8 @@ fn read_arc(text: &[u8]) -> Option<u32>
 
 /// The arcs with the one that a text writes behind them.
 fn with_arc(arcs: Vec<u32>, text: &[u8]) -> Result<Option<Vec<u32>>, OutOfMemory>
-    ensures { IfOk result (λ longer. option_map (λ v. v.items) longer ≡ option_map (λ arc. arcs.items ++ arc ∷ []) (arc_text text.now)) }
+    ensures { IfOk result (λ longer. option_map (λ v. v.items) longer
+        ≡ option_map (λ arc. arcs.items ++ arc ∷ []) (arc_text text.now)) }
 {
     let Some(arc) = read_arc(text) else {
         return Ok(None);
@@ -52,7 +53,8 @@ fn with_arc(arcs: Vec<u32>, text: &[u8]) -> Result<Option<Vec<u32>>, OutOfMemory
 
 /// The arcs that a text writes, joined by dots, if there are at most 64.
 fn read_arcs(alloc: Global, text: &[u8]) -> Result<Option<Vec<u32>>, OutOfMemory>
-    ensures { IfOk result (λ arcs. option_map (λ v. v.items) arcs ≡ arcs_text 64 text.now) }
+    ensures { IfOk result
+        (λ arcs. option_map (λ v. v.items) arcs ≡ arcs_text 64 text.now) }
 {
     let mut arcs = Vec::new(alloc);
     let mut rest = text;
@@ -71,7 +73,9 @@ fn read_arcs(alloc: Global, text: &[u8]) -> Result<Option<Vec<u32>>, OutOfMemory
 
 /// Whether two arcs can stand in one sub-identifier, the first of an identifier (X.690, 8.19.4).
 fn can_begin(first: u32, second: u32) -> bool
-    ensures { result ≡ ((nat_le first 1 && nat_le second 39) || (first == 2 && nat_le second 4_294_967_215)) }
+    ensures { result
+        ≡ ((nat_le first 1 && nat_le second 39)
+        || (first == 2 && nat_le second 4_294_967_215)) }
 {
     (first <= 1 && second <= 39) || (first == 2 && second <= 4_294_967_215)
 }

@@ -18,21 +18,24 @@ use toml::value::Array;
 use toml::{Table, Value};
 
 fn at<'a>(table: &'a Table, name: &str) -> Option<&'a Value>
-    ensures { option_map (λ v. view v.now) result ≡ get_member name.now (table_view table.now) }
+    ensures { option_map (λ v. view v.now) result
+        ≡ get_member name.now (table_view table.now) }
 {
     table.get(name)
 }
 
 /// The value at a key.
 pub fn find(table: &Table, key: Key) -> Option<&Value>
-    ensures { option_map (λ v. view v.now) result ≡ get_member (name_of key) (table_view table.now) }
+    ensures { option_map (λ v. view v.now) result
+        ≡ get_member (name_of key) (table_view table.now) }
 {
     at(table, key.name())
 }
 
 /// The value at a key that has to be there.
 pub fn need(table: &Table, key: Key) -> Result<&Value, SettingsFault>
-    ensures { Sees (λ v. view v.now) result (ok_or (get_member (name_of key) (table_view table.now)) (Missing key)) }
+    ensures { Sees (λ v. view v.now) result
+        (ok_or (get_member (name_of key) (table_view table.now)) (Missing key)) }
 {
     match find(table, key) {
         Some(value) => Ok(value),
@@ -52,7 +55,8 @@ pub fn text(key: Key, value: &Value) -> Result<&str, SettingsFault>
 
 /// A table.
 pub fn table(key: Key, value: &Value) -> Result<&Table, SettingsFault>
-    ensures { Sees (λ t. table_view t.now) result (document.table key (view value.now)) }
+    ensures { Sees (λ t. table_view t.now) result
+        (document.table key (view value.now)) }
 {
     match value.as_table() {
         Some(table) => Ok(table),
@@ -62,7 +66,8 @@ pub fn table(key: Key, value: &Value) -> Result<&Table, SettingsFault>
 
 /// An array.
 pub fn array(key: Key, value: &Value) -> Result<&Array, SettingsFault>
-    ensures { Sees (λ a. array_view a.now) result (document.array key (view value.now)) }
+    ensures { Sees (λ a. array_view a.now) result
+        (document.array key (view value.now)) }
 {
     match value.as_array() {
         Some(array) => Ok(array),

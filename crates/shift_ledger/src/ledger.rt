@@ -65,7 +65,9 @@ impl Ledger {
     pub fn push_plain(&mut self, count: u64)
         requires room_in { self.old.octets_in + count < 2 ^ 31 }
         requires room_out { self.old.octets_out + count < 2 ^ 31 }
-        ensures stands { (pushes : List Push) (acknowledged : ℕ) → StandsFor self.old pushes acknowledged → StandsFor self.new (pushes ++ places.Plain count ∷ []) acknowledged }
+        ensures stands { (pushes : List Push) (acknowledged : ℕ)
+            → StandsFor self.old pushes acknowledged
+            → StandsFor self.new (pushes ++ places.Plain count ∷ []) acknowledged }
         ensures exact { self.new ≡ pushed self.old (places.Plain count) }
     {
         self.octets_in += count;
@@ -90,8 +92,12 @@ impl Ledger {
         requires some_image { 1 ≤ length image.items }
         requires room_in { self.old.octets_in + unit < 2 ^ 31 }
         requires room_out { self.old.octets_out + length image.items < 2 ^ 31 }
-        ensures stands { OnOk result ((pushes : List Push) (acknowledged : ℕ) → StandsFor self.old pushes acknowledged → StandsFor self.new (pushes ++ places.Changed unit image.items ∷ []) acknowledged) }
-        ensures exact { OnOk result (IsButForSpare (pushed self.old (places.Changed unit image.items)) self.new) }
+        ensures stands { OnOk result ((pushes : List Push) (acknowledged : ℕ)
+            → StandsFor self.old pushes acknowledged
+            → StandsFor self.new (pushes ++ places.Changed unit image.items ∷ [])
+            acknowledged) }
+        ensures exact { OnOk result (IsButForSpare
+            (pushed self.old (places.Changed unit image.items)) self.new) }
         ensures refused { OnErr result (IsButForSpare self.old self.new) }
         ensures reserved { OnErr result (self.old.spare ≡ 0) }
         ensures spare { self.old.spare ≤ self.new.spare + 1 }
@@ -124,7 +130,9 @@ impl Ledger {
 
     /// How many changed units are kept: those whose image isn't wholly acknowledged.
     pub fn len(&self) -> usize
-        ensures stands { (pushes : List Push) (acknowledged : ℕ) → StandsFor self.now pushes acknowledged → result ≡ open_in pushes acknowledged }
+        ensures stands { (pushes : List Push) (acknowledged : ℕ)
+            → StandsFor self.now pushes acknowledged
+            → result ≡ open_in pushes acknowledged }
         ensures exact { result ≡ length self.now.changed }
     {
         self.changed.len()
@@ -134,7 +142,10 @@ impl Ledger {
     /// the whole image is acknowledged.
     pub fn fore(&self, p: u64) -> u64
         ensures exact { result ≡ fore_by self.now p }
-        ensures stands { (pushes : List Push) (acknowledged : ℕ) → StandsFor self.now pushes acknowledged → back_of pushes acknowledged ≤ p → result ≡ fore_of pushes p }
+        ensures stands { (pushes : List Push) (acknowledged : ℕ)
+            → StandsFor self.now pushes acknowledged
+            → back_of pushes acknowledged ≤ p
+            → result ≡ fore_of pushes p }
     {
         match self.changed.get(self.ended_at(p)) {
             Some(unit) => place_before(unit.at, unit.start, p),
@@ -146,7 +157,10 @@ impl Ledger {
     /// octet. `e` is at or behind the first octet of which not the whole image is acknowledged.
     pub fn rear(&self, e: u64) -> u64
         ensures exact { result ≡ rear_by self.now e }
-        ensures stands { (pushes : List Push) (acknowledged : ℕ) → StandsFor self.now pushes acknowledged → back_of pushes acknowledged ≤ e → result ≡ rear_of pushes e }
+        ensures stands { (pushes : List Push) (acknowledged : ℕ)
+            → StandsFor self.now pushes acknowledged
+            → back_of pushes acknowledged ≤ e
+            → result ≡ rear_of pushes e }
     {
         match self.changed.get(self.ended_before(e)) {
             Some(unit) if unit.start < e => unit.at + unit.image.len() as u64,
@@ -159,7 +173,11 @@ impl Ledger {
     /// the image's end.
     pub fn back(&self, q: u64) -> u64
         ensures exact { result ≡ back_by self.now q }
-        ensures stands { (pushes : List Push) (acknowledged : ℕ) → StandsFor self.now pushes acknowledged → acknowledged ≤ q → q ≤ self.now.octets_out → result ≡ back_of pushes q }
+        ensures stands { (pushes : List Push) (acknowledged : ℕ)
+            → StandsFor self.now pushes acknowledged
+            → acknowledged ≤ q
+            → q ≤ self.now.octets_out
+            → result ≡ back_of pushes q }
     {
         match self.changed.get(self.whole_below(q)) {
             Some(unit) => place_before(unit.start, unit.at, q),
@@ -170,7 +188,9 @@ impl Ledger {
     /// Notes that the image's places below `q`, which is at most the image's end, are acknowledged.
     pub fn acknowledge(&mut self, q: u64)
         requires { q ≤ self.old.octets_out }
-        ensures stands { (pushes : List Push) (acknowledged : ℕ) → StandsFor self.old pushes acknowledged → StandsFor self.new pushes (max acknowledged q) }
+        ensures stands { (pushes : List Push) (acknowledged : ℕ)
+            → StandsFor self.old pushes acknowledged
+            → StandsFor self.new pushes (max acknowledged q) }
         ensures exact { IsButForSpare (pruned self.old q) self.new }
         ensures spare { self.old.spare ≤ self.new.spare }
     {
@@ -184,8 +204,14 @@ impl Ledger {
     pub fn copy(&self, lo: u64, hi: u64, start: u64, octets: &[u8], target: &mut Vec<u8>)
         requires order { lo ≤ hi }
         requires within { hi ≤ self.now.octets_out }
-        requires room { length target.old.items + (hi - lo) ≤ vec_capacity target.old }
-        ensures image { (pushes : List Push) (acknowledged : ℕ) → StandsFor self.now pushes acknowledged → fore_of pushes (back_of pushes acknowledged) ≤ lo → NeedsOnly pushes lo hi start (start + length octets.now) → target.new.items ≡ target.old.items ++ copied pushes lo hi start octets.now }
+        requires room { length target.old.items + (hi - lo)
+            ≤ vec_capacity target.old }
+        ensures image { (pushes : List Push) (acknowledged : ℕ)
+            → StandsFor self.now pushes acknowledged
+            → fore_of pushes (back_of pushes acknowledged) ≤ lo
+            → NeedsOnly pushes lo hi start (start + length octets.now)
+            → target.new.items
+            ≡ target.old.items ++ copied pushes lo hi start octets.now }
         ensures room { vec_capacity target.old ≤ vec_capacity target.new }
     {
         let mut at = lo;
@@ -208,7 +234,8 @@ impl Ledger {
 
     /// How many of the kept units have no octet from `p` on.
     fn ended_at(&self, p: u64) -> usize
-        ensures { drop result self.now.changed ≡ filter (λ u. nat_lt p (u.start + u.unit)) self.now.changed }
+        ensures { drop result self.now.changed
+            ≡ filter (λ u. nat_lt p (u.start + u.unit)) self.now.changed }
     {
         self.changed
             .partition_point(|unit| unit.start + unit.unit <= p)
@@ -216,7 +243,8 @@ impl Ledger {
 
     /// How many of the kept units have no octet from the one before `e` on.
     fn ended_before(&self, e: u64) -> usize
-        ensures { drop result self.now.changed ≡ filter (λ u. nat_le e (u.start + u.unit)) self.now.changed }
+        ensures { drop result self.now.changed
+            ≡ filter (λ u. nat_le e (u.start + u.unit)) self.now.changed }
     {
         self.changed
             .partition_point(|unit| unit.start + unit.unit < e)
@@ -252,7 +280,8 @@ fn place_before(mark: u64, other: u64, place: u64) -> u64
 /// Appends so many octets from an index on, where there are so many.
 fn append_part(octets: &[u8], index: u64, count: u64, target: &mut Vec<u8>)
     requires { length target.old.items + count ≤ vec_capacity target.old }
-    ensures part { count ≡ 0 ⊎ index + count ≤ length octets.now → target.new.items ≡ target.old.items ++ take count (drop index octets.now) }
+    ensures part { count ≡ 0 ⊎ index + count ≤ length octets.now
+        → target.new.items ≡ target.old.items ++ take count (drop index octets.now) }
     ensures few { length target.new.items ≤ length target.old.items + count }
     ensures room { vec_capacity target.old ≤ vec_capacity target.new }
 {

@@ -47,7 +47,9 @@ pub fn addresses(octets: &[u8], places: &mut Vec<u32>) -> Result<SnmpKind, SnmpS
     ensures kind { IfOk result (λ kind. kind_of octets.now ≡ Some kind) }
     ensures bad { IsErrOf result SnmpStop.BadSnmp ↔ IsNone (kind_of octets.now) }
     ensures apart { AreApart 0 (places_of octets.now) (length octets.now) }
-    ensures places { places.new.items ≡ (if is_ok result then places.old.items ++ places_of octets.now else places.old.items) }
+    ensures places { places.new.items
+        ≡ (if is_ok result then places.old.items
+        ++ places_of octets.now else places.old.items) }
 {
     let Some(kind) = check(octets) else {
         return Err(SnmpStop::BadSnmp);
@@ -66,7 +68,8 @@ pub fn addresses(octets: &[u8], places: &mut Vec<u32>) -> Result<SnmpKind, SnmpS
 fn list(octets: &[u8], places: &mut Vec<u32>) -> Result<(), OutOfMemory>
     requires message { IsSome (kind_of octets.now) }
     requires short { length octets.now < 2 ^ 32 }
-    ensures all { OnOk result (places.new.items ≡ places.old.items ++ places_of octets.now) }
+    ensures all { OnOk result
+        (places.new.items ≡ places.old.items ++ places_of octets.now) }
     ensures kept { take (vec_len places.old) places.new.items ≡ places.old.items }
 {
     let Some(mut ahead) = outline_of(octets) else {

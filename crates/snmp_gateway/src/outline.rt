@@ -25,11 +25,15 @@ impl Outline {
     /// The place of the next address, which is then behind; None where there are no more, or what is ahead are no bindings.
     pub(crate) fn next_place(&mut self, octets: &[u8]) -> Option<usize>
         requires stands { StandsIn (length octets.now) self.old }
-        ensures ahead { places_ahead octets.now self.old ≡ option_map (λ more. option_to_list result ++ more) (places_ahead octets.now self.new) }
+        ensures ahead { places_ahead octets.now self.old
+            ≡ option_map (λ more. option_to_list result ++ more)
+            (places_ahead octets.now self.new) }
         ensures passes { ForSome result (λ place. Passes self.old place self.new) }
         ensures stands { StandsIn (length octets.now) self.new }
         ensures kind { self.new.kind ≡ self.old.kind }
-        ensures stops { IsNone result → places_ahead octets.now self.new ≡ (if is_at_end self.new then Some [] else None) }
+        ensures stops { IsNone result
+            → places_ahead octets.now self.new
+            ≡ (if is_at_end self.new then Some [] else None) }
     {
         if let Some(place) = self.agent.take() {
             return Some(place);

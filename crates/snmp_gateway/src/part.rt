@@ -70,8 +70,10 @@ fn has_right_size(tag: u8, count: usize) -> bool
 
 // The octets of a part, where the message has them.
 fn octets_in(octets: &[u8], part: Part) -> Option<&[u8]>
-    ensures value { option_map (λ within. within.now) result ≡ octets_in octets.now part }
-    ensures size { IfSome result (λ within. (length within.now + part.start ≡ part.end) × (part.end ≤ length octets.now)) }
+    ensures value { option_map (λ within. within.now) result
+        ≡ octets_in octets.now part }
+    ensures size { IfSome result (λ within. (length within.now + part.start
+        ≡ part.end) × (part.end ≤ length octets.now)) }
 {
     if part.start <= part.end && part.end <= octets.len() {
         Some(&octets[part.start..part.end])

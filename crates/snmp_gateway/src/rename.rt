@@ -19,7 +19,8 @@ pub trait Lookup {
 /// message is read once. The result is a message of the same kind with its addresses at the same places.
 pub fn rename_in_place<L: Lookup>(octets: &mut [u8], lookup: &L)
     requires { IsSome (message octets.old) }
-    ensures renamed { octets.new ≡ renamed (L.image_of lookup.now) (places_of octets.old) octets.old }
+    ensures renamed { octets.new
+        ≡ renamed (L.image_of lookup.now) (places_of octets.old) octets.old }
     ensures same { message octets.new ≡ message octets.old }
 {
     let Some(mut ahead) = outline_of(octets) else {

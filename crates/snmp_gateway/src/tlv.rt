@@ -25,8 +25,10 @@ impl<'a> Tlv<'a> {
     /// form.
     #[tactic(auto, unfolding(crate::specs::Element::element_at))]
     pub fn of(octets: &'a [u8]) -> Option<(Tlv<'a>, &'a [u8])>
-        ensures value { option_map (λ p. (p.0, p.1.now)) result ≡ element_at octets.now }
-        ensures size { IfSome result (λ p. length p.0.content + length p.1.now + 2 ≤ length octets.now) }
+        ensures value { option_map (λ p. (p.0, p.1.now)) result
+            ≡ element_at octets.now }
+        ensures size { IfSome result
+            (λ p. length p.0.content + length p.1.now + 2 ≤ length octets.now) }
     {
         let (tag, more) = octets.split_first()?;
         let (count, behind) = length_at(more)?;

@@ -21,8 +21,10 @@ fn joined(so_far: u32, octet: u8) -> Option<u32>
 
 // The number of the sub-identifier that octets begin with, and the octets behind it.
 fn next_number(octets: &[u8]) -> Option<(u32, &[u8])>
-    ensures found { IfSome result (λ p. numbers_of octets.now ≡ option_map (λ numbers. p.0 ∷ numbers) (numbers_of p.1.now)) }
-    ensures none { IfNone result (IsSome (numbers_of octets.now) → numbers_of octets.now ≡ Some []) }
+    ensures found { IfSome result (λ p. numbers_of octets.now
+        ≡ option_map (λ numbers. p.0 ∷ numbers) (numbers_of p.1.now)) }
+    ensures none { IfNone result
+        (IsSome (numbers_of octets.now) → numbers_of octets.now ≡ Some []) }
 {
     if let Some((octet, rest)) = octets.split_first()
         && *octet < 128
@@ -69,7 +71,8 @@ fn first_two(number: u32) -> (u32, u32)
 /// Where the arcs of content, if it has any, stand to a prefix of at least two arcs.
 pub(crate) fn compare_content(content: &[u8], prefix: &[u32]) -> Compared
     requires { 2 ≤ length prefix.now }
-    ensures { IsSome (arcs_of content.now) → result ≡ compared (arcs_in content.now) prefix.now }
+    ensures { IsSome (arcs_of content.now)
+        → result ≡ compared (arcs_in content.now) prefix.now }
 {
     let Some((number, rest)) = next_number(content) else {
         return Compared::Before;
@@ -86,7 +89,8 @@ pub(crate) fn compare_content(content: &[u8], prefix: &[u32]) -> Compared
 
 // Where the numbers of the sub-identifiers that fill octets, if any do, stand to these.
 fn compare_numbers(octets: &[u8], numbers: &[u32]) -> Compared
-    ensures { IsSome (numbers_of octets.now) → result ≡ compared (numbers_in octets.now) numbers.now }
+    ensures { IsSome (numbers_of octets.now)
+        → result ≡ compared (numbers_in octets.now) numbers.now }
 {
     let mut rest = octets;
     for number in numbers {
@@ -104,7 +108,8 @@ fn compare_numbers(octets: &[u8], numbers: &[u32]) -> Compared
 // The number of the sub-identifier that octets begin with, if it is at most 255, and the octets behind it.
 fn next_small(octets: &[u8]) -> Option<(u8, &[u8])>
     requires { IsSome (numbers_of octets.now) }
-    ensures value { option_map (λ p. (p.0, numbers_in p.1.now)) result ≡ small_first (numbers_in octets.now) }
+    ensures value { option_map (λ p. (p.0, numbers_in p.1.now)) result
+        ≡ small_first (numbers_in octets.now) }
     ensures rest { IfSome result (λ p. IsSome (numbers_of p.1.now)) }
 {
     let (number, rest) = next_number(octets)?;

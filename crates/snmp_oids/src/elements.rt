@@ -10,8 +10,7 @@ use crate::identifier::put_identifier;
 use crate::put::put;
 use gate_base::{Addr, get_u32, put_u32};
 use oid_rules::SortedRules;
-use snmp_gateway::Tlv;
-use snmp_gateway::Lookup;
+use snmp_gateway::{Lookup, Tlv};
 
 // The tags of X.690, 8.19, and of RFC 1155, 6.
 const OBJECT_IDENTIFIER: u8 = 0x06;
@@ -21,7 +20,8 @@ const IP_ADDRESS: u8 = 0x40;
 // The element that octets begin with, and the octets behind it.
 fn next_element(octets: &[u8]) -> Option<(Tlv<'_>, &[u8])>
     ensures value { option_map (λ p. (p.0, p.1.now)) result ≡ element_at octets.now }
-    ensures size { IfSome result (λ p. length p.0.content + length p.1.now + 2 ≤ length octets.now) }
+    ensures size { IfSome result
+        (λ p. length p.0.content + length p.1.now + 2 ≤ length octets.now) }
     ensures small { IfSome result (λ p. length p.0.content < 2 ^ 32) }
 {
     Tlv::of(octets)
@@ -37,8 +37,11 @@ fn is_constructed(tag: u8) -> bool
 // Writes the content of an IpAddress with its image in its place. The result is the place behind it.
 fn put_ip_address<L: Lookup>(content: &[u8], lookup: &L, target: &mut [u8], place: usize) -> usize
     requires { place + length content.now ≤ length target.old }
-    ensures written { target.new ≡ with_octets place (address_renamed (L.image_of lookup.now) content.now) target.old }
-    ensures end { result ≡ place + length (address_renamed (L.image_of lookup.now) content.now) }
+    ensures written { target.new
+        ≡ with_octets place (address_renamed (L.image_of lookup.now) content.now)
+        target.old }
+    ensures end { result
+        ≡ place + length (address_renamed (L.image_of lookup.now) content.now) }
     ensures within { result ≤ place + length content.now }
 {
     if content.len() == 4 {
@@ -61,8 +64,14 @@ fn put_primitive<L: Lookup>(
 ) -> usize
     requires rules { AreRules rules.now }
     requires room { place + 4 * length content.now ≤ length target.old }
-    ensures written { target.new ≡ with_octets place (primitive_renamed (L.image_of lookup.now) rules.now tag content.now) target.old }
-    ensures end { result ≡ place + length (primitive_renamed (L.image_of lookup.now) rules.now tag content.now) }
+    ensures written { target.new
+        ≡ with_octets place
+        (primitive_renamed (L.image_of lookup.now) rules.now tag content.now)
+        target.old }
+    ensures end { result
+        ≡ place
+        + length (primitive_renamed (L.image_of lookup.now) rules.now tag
+        content.now) }
     ensures within { result ≤ place + 4 * length content.now }
 {
     match tag {
@@ -83,8 +92,13 @@ fn put_content<L: Lookup>(
 ) -> usize
     requires rules { AreRules rules.now }
     requires room { place + 4 * length element.now.content ≤ length target.old }
-    ensures written { target.new ≡ with_octets place (content_renamed (L.image_of lookup.now) rules.now element.now) target.old }
-    ensures end { result ≡ place + length (content_renamed (L.image_of lookup.now) rules.now element.now) }
+    ensures written { target.new
+        ≡ with_octets place
+        (content_renamed (L.image_of lookup.now) rules.now element.now)
+        target.old }
+    ensures end { result
+        ≡ place
+        + length (content_renamed (L.image_of lookup.now) rules.now element.now) }
     ensures within { result ≤ place + 4 * length element.now.content }
 {
     if is_constructed(element.tag()) {
@@ -112,8 +126,13 @@ pub(crate) fn put_elements<L: Lookup>(
 ) -> usize
     requires rules { AreRules rules.now }
     requires room { place + 4 * length octets.now ≤ length target.old }
-    ensures written { target.new ≡ with_octets place (elements_renamed (L.image_of lookup.now) rules.now octets.now) target.old }
-    ensures end { result ≡ place + length (elements_renamed (L.image_of lookup.now) rules.now octets.now) }
+    ensures written { target.new
+        ≡ with_octets place
+        (elements_renamed (L.image_of lookup.now) rules.now octets.now)
+        target.old }
+    ensures end { result
+        ≡ place
+        + length (elements_renamed (L.image_of lookup.now) rules.now octets.now) }
     ensures within { result ≤ place + 4 * length octets.now }
 {
     let mut end = place;

@@ -67,7 +67,8 @@ fn put_head(head: &[u8], old: usize, new: usize, target: &mut [u8], place: usize
     requires head { 2 ≤ length head.now }
     requires fits { new < 2 ^ 40 }
     requires room { place + length (head_for head.now old new) ≤ length target.old }
-    ensures written { target.new ≡ with_octets place (head_for head.now old new) target.old }
+    ensures written { target.new
+        ≡ with_octets place (head_for head.now old new) target.old }
     ensures end { result ≡ place + length (head_for head.now old new) }
 {
     if new == old {
@@ -81,7 +82,8 @@ fn put_head(head: &[u8], old: usize, new: usize, target: &mut [u8], place: usize
 fn move_up(target: &mut [u8], from: usize, count: usize, to: usize)
     requires up { from ≤ to }
     requires room { to + count ≤ length target.old }
-    ensures { target.new ≡ with_octets to (take count (drop from target.old)) target.old }
+    ensures { target.new
+        ≡ with_octets to (take count (drop from target.old)) target.old }
 {
     if from < to {
         target.copy_within(from..from + count, to);
@@ -99,8 +101,12 @@ pub(crate) fn put_before(
 ) -> usize
     requires head { 2 ≤ length head.now }
     requires fits { new < 2 ^ 40 }
-    requires room { place + length (head_for head.now old new) + new ≤ length target.old }
-    ensures written { target.new ≡ with_octets place (head_for head.now old new ++ take new (drop (place + 2) target.old)) target.old }
+    requires room { place + length (head_for head.now old new) + new
+        ≤ length target.old }
+    ensures written { target.new
+        ≡ with_octets place
+        (head_for head.now old new ++ take new (drop (place + 2) target.old))
+        target.old }
     ensures end { result ≡ place + length (head_for head.now old new) + new }
 {
     let size = head_size(head, old, new);

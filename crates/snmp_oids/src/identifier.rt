@@ -29,7 +29,8 @@ pub(crate) struct Change {
 /// begins with 0x80, or one is above 4,294,967,295.
 pub fn address_in(content: &[u8], rules: &SortedRules) -> Option<Addr>
     requires { AreRules rules.now }
-    ensures { option_map (λ a. a.0) result ≡ option_map (λ found. found.1) (named_in rules.now content.now) }
+    ensures { option_map (λ a. a.0) result
+        ≡ option_map (λ found. found.1) (named_in rules.now content.now) }
 {
     let (_, address) = named_in(content, rules)?;
     Some(address)
@@ -38,7 +39,8 @@ pub fn address_in(content: &[u8], rules: &SortedRules) -> Option<Addr>
 // How many arcs stand before the address that the rules name, and that address.
 fn named_in(content: &[u8], rules: &SortedRules) -> Option<(usize, Addr)>
     requires { AreRules rules.now }
-    ensures value { option_map (λ p. (p.0, p.1.0)) result ≡ named_in rules.now content.now }
+    ensures value { option_map (λ p. (p.0, p.1.0)) result
+        ≡ named_in rules.now content.now }
 {
     let (rule, address) = rules.first(&Content { octets: content })?;
     Some((rule.prefix.items().len() + rule.skip as usize, address))
@@ -70,7 +72,9 @@ impl<'a> Identifier for Content<'a> {
 // The address that four arcs make behind so many arcs of content, if it has any.
 fn address_behind(content: &[u8], before: usize) -> Option<Addr>
     requires { 2 ≤ before }
-    ensures { option_map (λ a. a.0) result ≡ option_and_then (λ arcs. address_of (drop before arcs)) (arcs_of content.now) }
+    ensures { option_map (λ a. a.0) result
+        ≡ option_and_then (λ arcs. address_of (drop before arcs))
+        (arcs_of content.now) }
 {
     if !has_arcs(content) {
         return None;
@@ -100,7 +104,8 @@ fn place_behind(count: usize, octets: &[u8]) -> usize
 fn change_of<L: Lookup>(content: &[u8], rules: &SortedRules, lookup: &L) -> Option<Change>
     requires { AreRules rules.now }
     ensures value { result ≡ change_of (L.image_of lookup.now) rules.now content.now }
-    ensures within { IfSome result (λ change. change.start + 4 ≤ change.end × change.end ≤ length content.now) }
+    ensures within { IfSome result
+        (λ change. change.start + 4 ≤ change.end × change.end ≤ length content.now) }
 {
     let (before, address) = named_in(content, rules)?;
     let address = lookup.image(address)?;
@@ -130,7 +135,8 @@ fn put_arc(arc: u8, target: &mut [u8], place: usize) -> usize
 // Writes the four arcs of an address at a place. The result is the place behind them.
 fn put_address(address: Addr, target: &mut [u8], place: usize) -> usize
     requires { place + length (address_octets address.0) ≤ length target.old }
-    ensures written { target.new ≡ with_octets place (address_octets address.0) target.old }
+    ensures written { target.new
+        ≡ with_octets place (address_octets address.0) target.old }
     ensures end { result ≡ place + length (address_octets address.0) }
     ensures within { result ≤ place + 8 }
 {
@@ -151,8 +157,14 @@ pub(crate) fn put_identifier<L: Lookup>(
 ) -> usize
     requires rules { AreRules rules.now }
     requires room { place + 4 * length content.now ≤ length target.old }
-    ensures written { target.new ≡ with_octets place (identifier_renamed (L.image_of lookup.now) rules.now content.now) target.old }
-    ensures end { result ≡ place + length (identifier_renamed (L.image_of lookup.now) rules.now content.now) }
+    ensures written { target.new
+        ≡ with_octets place
+        (identifier_renamed (L.image_of lookup.now) rules.now content.now)
+        target.old }
+    ensures end { result
+        ≡ place
+        + length
+        (identifier_renamed (L.image_of lookup.now) rules.now content.now) }
     ensures within { result ≤ place + 4 * length content.now }
 {
     match change_of(content, rules, lookup) {
@@ -166,7 +178,8 @@ fn put_changed(content: &[u8], change: Change, target: &mut [u8], place: usize) 
     requires order { change.start ≤ change.end }
     requires end { change.end ≤ length content.now }
     requires room { place + length (changed content.now change) ≤ length target.old }
-    ensures written { target.new ≡ with_octets place (changed content.now change) target.old }
+    ensures written { target.new
+        ≡ with_octets place (changed content.now change) target.old }
     ensures end { result ≡ place + length (changed content.now change) }
 {
     let place = put(&content[..change.start], target, place);

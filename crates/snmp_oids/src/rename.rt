@@ -26,8 +26,11 @@ pub fn rename_into<L: Lookup>(
     requires message { IsSome (kind_of octets.now) }
     requires rules { AreRules rules.now }
     requires room { 4 * length octets.now ≤ length target.old }
-    ensures size { result ≡ length (oid_renamed (L.image_of lookup.now) rules.now octets.now) }
-    ensures written { target.new ≡ oid_renamed (L.image_of lookup.now) rules.now octets.now ++ drop result target.old }
+    ensures size { result
+        ≡ length (oid_renamed (L.image_of lookup.now) rules.now octets.now) }
+    ensures written { target.new
+        ≡ oid_renamed (L.image_of lookup.now) rules.now octets.now
+        ++ drop result target.old }
 {
     if check(octets) == Some(SnmpKind::V3) {
         put(octets, target, 0)

@@ -8,12 +8,12 @@ ghost use Rattle.slab.specs.Slab.{get, slab_len, Updates};
 ghost use Rattle.tcp_segments.specs.Flags.{flags_of};
 ghost use Rattle.tcp_tracker.specs.Connections.{connection_of, place_of, timeout_of, noted, without, live, is_tracked};
 
+use crate::{ConnKey, Tracker};
 use expiring_table::Seed;
 use gate_base::{Moment, OutOfMemory, Side};
 use slab::Slab;
 use std::alloc::Global;
 use std::marker::Model;
-use crate::{ConnKey, Tracker};
 
 /// The connections between the two realms, each with its session, if it is tracked.
 pub struct SessionTable<X> {
@@ -68,7 +68,8 @@ impl<X> SessionTable<X> {
 
     /// The session of the connection with this name, if there is such a connection, and it has one.
     pub fn find(&self, key: &ConnKey) -> Option<Option<&X>>
-        ensures { option_map option_copied result ≡ option_map (λ c. c.session) (connection_of key.now self.now) }
+        ensures { option_map option_copied result
+            ≡ option_map (λ c. c.session) (connection_of key.now self.now) }
     {
         match self.tracker.find(key) {
             Some(connection) => Some(session_in(&self.sessions, connection.session)),
@@ -78,7 +79,8 @@ impl<X> SessionTable<X> {
 
     /// The session of the connection with this name.
     pub fn session(&self, key: &ConnKey) -> Option<&X>
-        ensures { option_copied result ≡ option_and_then (λ c. c.session) (connection_of key.now self.now) }
+        ensures { option_copied result
+            ≡ option_and_then (λ c. c.session) (connection_of key.now self.now) }
     {
         session_in(&self.sessions, slot_of(&self.tracker, key))
     }
@@ -100,7 +102,8 @@ impl<X> SessionTable<X> {
     /// The session of the connection with this name, to be changed.
     pub fn session_mut(&mut self, key: &ConnKey) -> Option<&mut X>
         ensures* writes_back { sem 𝓛 (lends_session X.row self.entry key.now result) }
-        ensures value { option_copied_mut result ≡ option_and_then (λ c. c.session) (connection_of key.now self.old) }
+        ensures value { option_copied_mut result
+            ≡ option_and_then (λ c. c.session) (connection_of key.now self.old) }
     {
         match slot_of(&self.tracker, key) {
             Some(slot) => self.sessions.get_mut(slot),
@@ -202,7 +205,8 @@ fn session_in<X>(sessions: &Slab<X>, slot: Option<usize>) -> Option<&X>
 
 // The slot of the session of the connection with this name.
 fn slot_of(tracker: &Tracker, key: &ConnKey) -> Option<usize>
-    ensures { result ≡ option_and_then (λ c. c.session) (connection_of key.now tracker.now) }
+    ensures { result
+        ≡ option_and_then (λ c. c.session) (connection_of key.now tracker.now) }
 {
     match tracker.find(key) {
         Some(connection) => connection.session,

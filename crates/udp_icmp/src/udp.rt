@@ -66,7 +66,8 @@ impl<'a> UdpView<'a> {
 
 fn has_bad_length(segment: &[u8]) -> bool
     ensures value { result ≡ has_bad_length segment.now }
-    ensures right { OnFalse result ((8 ≤ length segment.now) × (length segment.now ≤ 65535)) }
+    ensures right { OnFalse result
+        ((8 ≤ length segment.now) × (length segment.now ≤ 65535)) }
 {
     segment.len() < 8 || usize::from(get_u16(segment, 4)) != segment.len()
 }
@@ -83,5 +84,6 @@ fn has_bad_sum(segment: &[u8], source: Addr, destination: Addr) -> bool
 /// A segment with its checksum made right for these addresses is read with the ports and the payload that it had.
 pub fn sealed_udp_is_right(segment: &[u8], source: u32, destination: u32)
     requires { has_bad_length segment.now ≡ false }
-    ensures { read_udp (sealed_udp source destination segment.now) source destination ≡ Ok (udp_fields_of segment.now) }
+    ensures { read_udp (sealed_udp source destination segment.now) source destination
+        ≡ Ok (udp_fields_of segment.now) }
 {}

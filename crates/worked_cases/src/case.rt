@@ -1,8 +1,8 @@
 // A worked case: files that a run is given, and files that say what it must answer and write.
 use gate_command::realm_gate;
 use gate_desk::{Desk, Slot};
-use run_setup::Status;
 use memory_desks::{CountedDesk, MemoryDesk};
+use run_setup::Status;
 use std::alloc::{AllocError, Global};
 use std::{fs, io};
 
@@ -120,9 +120,5 @@ fn run_in_front(
 /// of what the whole run writes.
 pub(crate) fn run_failing(rt: &HostRuntime, name: &str, call: u64) -> io::Result<(Status, bool)> {
     let failing = vec![in rt.alloc(); call]?;
-    run_in_front(
-        rt,
-        name,
-        &mut CountedDesk::new(desk_of(rt, name)?, failing),
-    )
+    run_in_front(rt, name, &mut CountedDesk::new(desk_of(rt, name)?, failing))
 }

@@ -1,8 +1,8 @@
 // Checks beside the worked cases.
 use crate::case::{run_failing, run_gate, words_of};
 use gate_desk::{Desk, Slot};
-use run_setup::Status;
 use memory_desks::MemoryDesk;
+use run_setup::Status;
 use std::alloc::{AllocError, Global};
 use std::io;
 
