@@ -148,7 +148,8 @@ pub fn connections_keep_aliases<S>()
 
 /// Whatever events come, each address that a session's list renames crosses to its listed image, from the realm of its list's
 /// sender. The binding is for good or ends no earlier than the connection. One that is kept crosses unchanged. Lists only grow at
-/// their ends, and never beyond the most entries, so an address has one image for the session's life.
+/// their ends, and never beyond the most entries. So an address that one host names has one image for the session's life. What the
+/// other host names is in a list of its own.
 pub fn lists_stay_bound<S>()
     ensures bound { (rules : SessionRules S) (settings : Settings)
         (events : List Event)
@@ -235,8 +236,8 @@ pub fn session_takes_segment<S>()
 
 /// The whole promise, for every list of events, and for settings that fit one another and have their forms, as accepted ones do.
 /// Each frame is forwarded at its own event unless exactly its named refusal holds. In each session the octets sent to a host are
-/// a prefix of the peer's stream. Its address lines are renamed by the session's one pair, or its messages by the session's
-/// lists, which give each address one image for the session's life. Acknowledgements cover only octets whose images were
+/// a prefix of the peer's stream. Its address lines are renamed by the session's one pair, or its messages by their sender's
+/// list, which gives each address one image for the session's life. Acknowledgements cover only octets whose images were
 /// acknowledged. Every other frame that is forwarded is its renaming.
 pub fn frames_are_as_promised()
     ensures { (settings : Settings) (events : List Event)
