@@ -184,6 +184,8 @@ fn read_slot<R: Runtime>(
     ensures takes { OnOk result (TakesNothing (got_in R.File.contents places.old)
         (waiting_in places.old) (got_in R.File.contents places.new)
         (waiting_in places.new)) }
+    ensures hands_out { OnOk result (at (ahead_in places.old) slot ≡ []
+        → waiting_in places.new ≡ each []) }
     ensures still { RefusedWaits refused.old (waiting_in places.old)
         → RefusedWaits refused.new (waiting_in places.new) }
 {
@@ -430,6 +432,8 @@ impl<R: Runtime> Desk for FileDesk<R> {
             ≡ put self.old.unread slot (at self.new.unread slot) }
         ensures takes { OnOk result (TakesNothing self.old.got self.old.waiting
             self.new.got self.new.waiting) }
+        ensures hands_out { OnOk result (at self.old.ahead slot ≡ []
+            → self.new.waiting ≡ each []) }
         ensures refused { IsSome self.old.refused → IsErr result }
     {
         match read_slot(&self.rt, &mut self.places, &mut self.refused, slot, buffer) {

@@ -84,3 +84,12 @@ returns-in_ok-hand_out-in-None-clause-unread_others g c =
     let remaining = g.R.File.Read.remaining in
     put_behind (unread_in remaining c.args.places.now) (unread_in remaining c.hand_out.new.places) (unread_in remaining (put c.hand_out.new.places c.args.slot c.read.new.self)) c.args.slot
     (c.hand_out.ensures.unread ∙ mapped-same (unread g.R.File.Read.remaining) c.args.places.now c.args.slot c.take_ahead.new.self (c.in-None.ensures.unread ∙ none_dropped (unread g.R.File.Read.remaining c.at_mut.result.now) ∙ ap (unread g.R.File.Read.remaining) c.at_mut.ensures.value)) (mapped-put_only (unread remaining) c.hand_out.new.places c.args.slot c.read.new.self)
+
+pub returns-in-Some-clause-hands_out : goal.returns-in-Some-clause-hands_out
+returns-in-Some-clause-hands_out g c none =
+    let there : ahead c.at_mut.result.now ≡ [] = ap ahead c.at_mut.ensures.value ∙ sym (at-mapped ahead c.args.places.now c.args.slot) ∙ none in
+    absurd (omega (arith, c.in-Some.ensures.some, ap (λ (xs : List ℕ). length xs) there))
+
+pub returns-in_ok-hand_out-in-None-clause-hands_out : goal.returns-in_ok-hand_out-in-None-clause-hands_out
+returns-in_ok-hand_out-in-None-clause-hands_out g c =
+    always (λ none. mapped-same waiting c.hand_out.new.places c.args.slot c.read.new.self (c.read.ensures.waiting ∙ ap waiting c.at_mut-in-None.ensures.value) ∙ c.in_ok-hand_out-in-None.ensures.all) c.read.result

@@ -19,3 +19,6 @@ returns-in-Ok-clause-takes g c = rw (← c.self.view_is) c.in-Ok.ensures.takes
 
 pub returns-in-Ok-clause-ahead : goal.returns-in-Ok-clause-ahead
 returns-in-Ok-clause-ahead g c = rw (← c.self.view_is) c.in-Ok.ensures.ahead
+
+pub returns-in-Ok-clause-hands_out : goal.returns-in-Ok-clause-hands_out
+returns-in-Ok-clause-hands_out g c = rw (← c.self.view_is) c.in-Ok.ensures.hands_out
