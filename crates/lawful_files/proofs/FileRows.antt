@@ -94,6 +94,8 @@ one_rows =
     ∷ row head (head ++ one_record) (codes "1 left 1000000000 held 1\n" ++ one_last) (Some (1, Line))
     ∷ row head (head ++ one_record) (codes "1 left 1000000000 pass 01\n" ++ one_last) (Some (1, Line))
     ∷ row head (head ++ one_record) (codes "1 left 1000000000 pass 4294967296\n" ++ one_last) (Some (1, Line))
+    -- the greatest number of 32 bits is a number of frames
+    ∷ row head (head ++ one_record) (codes "1 left 1000000000 pass 4294967295\n" ++ one_last) (Some (1, Missing))
     -- the record is torn, or stands in the other capture
     ∷ row head (head ++ take 40 one_record) (one_line ++ one_last) (Some (1, Missing))
     ∷ row (head ++ one_record) head (one_line ++ one_last) (Some (1, Missing))
