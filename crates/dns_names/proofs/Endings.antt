@@ -1,5 +1,5 @@
 -- Octets, compared by how many they are, and then from the last to the first.
-use Rattle.std.proofs.Common.{◌≡◌, ◌<◌, ◌≤◌, ◌+◌, ◌*◌, ◌⊎◌, ℕ, suc, slice_index_or, true, false, List, [], ◌∷◌, ◌++◌, length, reverse, refl, sym, ap, ◌∙◌, arith, inl, inr}
+use Rattle.std.proofs.Common.{◌≡◌, ◌<◌, ◌≤◌, ◌+◌, ◌*◌, ◌⊎◌, ℕ, suc, slice_index_or, true, false, List, [], ◌∷◌, ◌++◌, length, reverse, take, drop, refl, sym, ap, ◌∙◌, arith, inl, inr}
 use Rattle.std.specs.Prelude.{nat_lt}
 use Rattle.std.specs.Str.{bytes_eq}
 use Rattle.std.specs.Int.{w64, from_le_bytes}
@@ -9,10 +9,10 @@ use Rattle.std.specs.declared.cmp.Ordering.{Ordering}
 use Rattle.std.specs.declared.cmp.Ordering.TheVariants.{Less, Equal, Greater}
 use Rattle.std.specs.Cmp.Lexicographic.{slice_cmp}
 use Rattle.std.proofs.lemmas.Bool.{cases_Bool, ltb-true, ltb-false}
-use Rattle.std.proofs.lemmas.List.{reverse-append, reverse-reverse, length-reverse}
+use Rattle.std.proofs.lemmas.List.{reverse-append, reverse-reverse, length-reverse, length-drop, take_at, drop_at, take_all, drop_all, take-append-drop}
 use Rattle.std.proofs.lemmas.Map.Text.{is_eq-slice_cmp}
 use Rattle.std.proofs.lemmas.Slice.Eq.{bytes_eq-Decides}
-use Rattle.dns_names.specs.Ends.{key_of, end_cmp, worth}
+use Rattle.dns_names.specs.Ends.{turned, key_of, end_cmp, worth}
 
 then-then : (a b c : Ordering) → ordering_then a (ordering_then b c) ≡ ordering_then (ordering_then a b) c
 then-then Less b c = refl
@@ -127,6 +127,22 @@ worth-one (x ∷ xs) (y ∷ ys) n p q e =
     let size : length xs ≡ length ys = omega (arith, n) in
     ap (λ (z : ℕ). z ∷ xs) first ∙ ap (λ (z : List ℕ). y ∷ z) (worth-one xs ys size (λ i. p (suc i)) (λ i. q (suc i)) rest)
 
+-- the last octets are the same, or else decide
+
+both : (s t r q x y : List ℕ) → s ≡ r ++ x → t ≡ q ++ y → slice_cmp nat_cmp (reverse s) (reverse t) ≡ slice_cmp nat_cmp (reverse (r ++ x)) (reverse (q ++ y))
+both s t r q x y e f = ap (λ (z : List ℕ). slice_cmp nat_cmp (reverse z) (reverse t)) e ∙ ap (λ (z : List ℕ). slice_cmp nat_cmp (reverse (r ++ x)) (reverse z)) f
+
+pub goes-on : (s t r q x y : List ℕ) → s ≡ r ++ x → t ≡ q ++ y → length x ≡ length y → ((i : ℕ) → slice_index_or x i 0 < 256) → ((i : ℕ) → slice_index_or y i 0 < 256) → worth x ≡ worth y
+    → slice_cmp nat_cmp (reverse s) (reverse t) ≡ slice_cmp nat_cmp (reverse r) (reverse q)
+goes-on s t r q x y e f size p g same =
+    let is : y ≡ x = sym (worth-one x y size p g same) in
+    both s t r q x x e (f ∙ ap (λ (z : List ℕ). q ++ z) is) ∙ same-last r q x
+
+pub ends : (s t r q x y : List ℕ) → s ≡ r ++ x → t ≡ q ++ y → length x ≡ length y → ((i : ℕ) → slice_index_or x i 0 < 256) → ((i : ℕ) → slice_index_or y i 0 < 256) → (worth x ≡ worth y → ⊥)
+    → nat_cmp (worth x) (worth y) ≡ slice_cmp nat_cmp (reverse s) (reverse t)
+ends s t r q x y e f size p g off =
+    cmp-worth x y size p g ∙ sym (both s t r q x y e f ∙ other-last r q x y size (λ is. off (ap (λ (z : List ℕ). worth z) is)))
+
 pub is-worth : (os : List ℕ) → length os ≡ 8 → from_le_bytes w64 os ≡ worth os
 is-worth (a ∷ b ∷ c ∷ d ∷ e ∷ f ∷ g ∷ h ∷ []) n = omega arith
 is-worth (a ∷ b ∷ c ∷ d ∷ e ∷ f ∷ g ∷ h ∷ i ∷ os) n = absurd (omega arith)
@@ -139,6 +155,16 @@ is-worth (a ∷ b ∷ []) n = absurd (omega arith)
 is-worth (a ∷ []) n = absurd (omega arith)
 is-worth [] n = absurd (omega arith)
 
+-- ---- octets that were turned
+
+turned-same : (xs ys : List ℕ) → length xs ≡ length ys → turned xs ≡ turned ys → xs ≡ ys
+turned-same xs ys size e =
+    let long : length (drop 8 xs) ≡ length (drop 8 ys) = omega (arith, length-drop 8 xs, length-drop 8 ys, size) in
+    let n = length (drop 8 xs) in
+    let back : drop 8 xs ≡ drop 8 ys = sym (take_at (drop 8 xs) (take 8 xs) n refl) ∙ ap (take n) e ∙ take_at (drop 8 ys) (take 8 ys) n (sym long) in
+    let front : take 8 xs ≡ take 8 ys = sym (drop_at (drop 8 xs) (take 8 xs) n refl) ∙ ap (drop n) e ∙ drop_at (drop 8 ys) (take 8 ys) n (sym long) in
+    sym (take-append-drop 8 xs) ∙ ap (λ (z : List ℕ). z ++ drop 8 xs) front ∙ ap (λ (z : List ℕ). take 8 ys ++ z) back ∙ take-append-drop 8 ys
+
 -- the order tells apart what differs
 pub is_eq-end_cmp : (xs ys : List ℕ) → is_eq (end_cmp xs ys) ≡ bytes_eq xs ys
 is_eq-end_cmp xs ys =
@@ -148,9 +174,10 @@ is_eq-end_cmp xs ys =
       | inr f ↦
           elim (cases_Bool (bytes_eq (key_of xs) (key_of ys))) [
             | inl t ↦
-                let keys : length xs ∷ reverse xs ≡ length ys ∷ reverse ys = (bytes_eq-Decides (key_of xs) (key_of ys)).0 t in
-                let back : reverse xs ≡ reverse ys = cc in
-                absurd (let y : bytes_eq xs ys ≡ true = (bytes_eq-Decides xs ys).1 (same_reversed xs ys back) in cc)
+                let keys : length xs ∷ reverse (turned xs) ≡ length ys ∷ reverse (turned ys) = (bytes_eq-Decides (key_of xs) (key_of ys)).0 t in
+                let size : length xs ≡ length ys = cc in
+                let back : reverse (turned xs) ≡ reverse (turned ys) = cc in
+                absurd (let y : bytes_eq xs ys ≡ true = (bytes_eq-Decides xs ys).1 (turned-same xs ys size (same_reversed (turned xs) (turned ys) back)) in cc)
             | inr g ↦ g ∙ sym f
           ]
     ]

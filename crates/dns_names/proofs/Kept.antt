@@ -1,6 +1,6 @@
 -- The label starts that a writer's map holds.
 use Rattle.std.proofs.Common.{◌≡◌, ℕ, ◌+◌, ◌<◌, ◌≤◌, Bool, true, false, cond, List, [], ◌∷◌, ◌++◌, Option, Some, None, refl, sym, ap, subst, ◌∙◌, arith, inl, inr}
-use Rattle.std.specs.Prelude.{nat_lt}
+use Rattle.std.specs.Prelude.{nat_lt, IfSome}
 use Rattle.std.specs.Str.{bytes_eq}
 use Rattle.std.specs.Ordering.{is_eq, match_ordering}
 use Rattle.std.specs.declared.cmp.Ordering.{Ordering}
@@ -18,6 +18,7 @@ use Rattle.dns_names.specs.Ends.{key_of, end_cmp}
 use Rattle.dns_names.proofs.Walking.{chosen}
 use Rattle.dns_names.proofs.Endings.{is_eq-end_cmp}
 use Rattle.dns_names.specs.Spelling.{Start, found, with_start}
+use Rattle.dns_names.specs.Longest.{EndsAt}
 use Rattle.dns_names.specs.Writers.{put_start, starts_in, place_in, IsNear, IsIndex}
 
 -- ---- a map by octets after an insertion, at other octets
@@ -93,7 +94,7 @@ starts_in-insert (e ∷ es) key place absent all =
 
 -- ---- one start more
 
-found-push : (starts : List Start) (s : Start) (octets : List ℕ) → found starts s.octets ≡ None → found (starts ++ s ∷ []) octets ≡ cond (bytes_eq s.octets octets) (Some s.place) (found starts octets)
+pub found-push : (starts : List Start) (s : Start) (octets : List ℕ) → found starts s.octets ≡ None → found (starts ++ s ∷ []) octets ≡ cond (bytes_eq s.octets octets) (Some s.place) (found starts octets)
 found-push [] s octets absent = refl
 found-push (t ∷ ts) s octets absent =
     elim (cases_Bool (bytes_eq t.octets s.octets)) [
@@ -169,10 +170,14 @@ remembers-far entries place octets index far = record {
 }
 
 -- what is found can be pointed to
-pub found-near : (limit : ℕ) (starts : List Start) (octets : List ℕ) (place : ℕ) → AllByRecursion (IsNear limit) starts → found starts octets ≡ Some place → place < 16384
+found-near : (limit : ℕ) (starts : List Start) (octets : List ℕ) (place : ℕ) → AllByRecursion (IsNear limit) starts → found starts octets ≡ Some place → place < 16384
 found-near limit [] octets place all e = absurd cc
 found-near limit (s ∷ starts) octets place all e =
     elim (chosen (bytes_eq s.octets octets) (Some s.place) (found starts octets) (Some place) e) [
       | inl t ↦ let q : s.place ≡ place = (let h : Some s.place ≡ Some place = t.1 in cc) in omega (arith, all.0.1)
       | inr f ↦ found-near limit starts octets place all.1 f.1
     ]
+
+pub ends-near : (limit : ℕ) (starts : List Start) (octets : List ℕ) (place : Option ℕ) → AllByRecursion (IsNear limit) starts → EndsAt starts octets place → IfSome place (λ to. to < 16384)
+ends-near limit starts octets None all e = tt
+ends-near limit starts octets (Some to) all e = found-near limit starts octets to all e.1

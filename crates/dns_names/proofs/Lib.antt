@@ -4,6 +4,7 @@ pub mod Walking
 pub mod Writing
 pub mod Endings
 pub mod Kept
+pub mod Longest
 pub mod Putting
 pub mod Reversing
 pub mod Items

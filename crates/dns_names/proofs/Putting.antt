@@ -1,5 +1,5 @@
 -- Writing a name label by label.
-use Rattle.std.proofs.Common.{◌≡◌, ℕ, suc, ◌+◌, ◌≤◌, ◌<◌, false, List, [], ◌∷◌, ◌++◌, length, take, drop, Some, None, refl, sym, ap, subst, ◌∙◌, append_assoc, arith, inl, inr, slice_index_or}
+use Rattle.std.proofs.Common.{◌≡◌, ℕ, suc, ◌+◌, ◌≤◌, ◌<◌, false, List, [], ◌∷◌, ◌++◌, length, take, drop, Option, Some, None, refl, sym, ap, subst, ◌∙◌, append_assoc, arith, inl, inr, slice_index_or}
 use Rattle.std.specs.Prelude.{nat_lt}
 use Rattle.std.specs.List.{AllByRecursion}
 use Rattle.std.proofs.lemmas.Bool.{cases_Bool}
@@ -8,8 +8,10 @@ use Rattle.std.specs.Str.{bytes_eq}
 use Rattle.std.proofs.lemmas.Slice.Eq.{bytes_eq-Decides}
 use Rattle.dns_names.proofs.Kept.{found-with_start}
 use Rattle.dns_names.specs.Names.{spelled, IsLabel}
-use Rattle.dns_names.specs.Spelling.{Start, found, pointer, Added, with_start, spell, put_name}
+use Rattle.dns_names.specs.Spelling.{Start, found, pointer, Added, with_start, Text, spell, put_name, BeginsWith}
 use Rattle.dns_names.specs.Writers.{GrewBy}
+use Rattle.dns_names.specs.Longest.{Ends, EndsAt, ending}
+use Rattle.dns_names.proofs.Longest.{ends-at}
 
 -- Part of a name was written; its other labels are left.
 pub record Puts (known : List Start) (labels : List (List ℕ)) (out0 : List ℕ) (left out : List ℕ) (now : List Start) : Type 0 where
@@ -114,26 +116,32 @@ module _ (known : List Start) (labels : List (List ℕ)) (out0 : List ℕ) where
 
   -- the same of a list that is not empty
 
-  pub Left-end : (left out : List ℕ) (now : List Start) → length left < 1 → Puts known labels out0 left out now
-      → (out ++ 0 ∷ [] ≡ out0 ++ Added.octets (spell known (length out0) labels)) × (now ≡ known ++ Added.starts (spell known (length out0) labels))
-  Left-end [] out now lt p = Puts-end out now p
-  Left-end (x ∷ left) out now lt p = absurd (omega arith)
+  pub Left-ends : (left out : List ℕ) (now : List Start) (place : Option ℕ) → Puts known labels out0 left out now → EndsAt known left place
+      → (out ++ ending place ≡ out0 ++ Added.octets (spell known (length out0) labels)) × (now ≡ known ++ Added.starts (spell known (length out0) labels))
+  Left-ends left out now None p e = Puts-end out now (subst (λ (x : List ℕ). Puts known labels out0 x out now) e p)
+  Left-ends [] out now (Some to) p e = absurd (omega (arith, e.0))
+  Left-ends (count ∷ more) out now (Some to) p e = Puts-pointer count more out now to p e.1
 
-  pub Left-pointer : (left out : List ℕ) (now : List Start) (to : ℕ) → 1 ≤ length left → Puts known labels out0 left out now → Some to ≡ found now left
-      → (out ++ pointer to ≡ out0 ++ Added.octets (spell known (length out0) labels)) × (now ≡ known ++ Added.starts (spell known (length out0) labels))
-  Left-pointer [] out now to le p e = absurd (omega arith)
-  Left-pointer (count ∷ more) out now to le p e = Puts-pointer count more out now to p (sym (p.fresh (count ∷ more) (omega arith)) ∙ sym e)
+  pub Left-closed : (left out : List ℕ) (now : List Start) (place : Option ℕ) → Puts known labels out0 left out now → EndsAt known left place → Ends now left
+  Left-closed left out now place p e =
+      elim (ends-at known left place e) [
+        | inl none ↦ inl none
+        | inr kept ↦ inr (kept.0, p.fresh left (omega arith) ∙ kept.1)
+      ]
+
+  pub Left-new : (left out : List ℕ) (now : List Start) → Puts known labels out0 left out now → found known left ≡ None → found now left ≡ None
+  Left-new left out now p e = p.fresh left (omega arith) ∙ e
 
   pub Left-within : (left out : List ℕ) (now : List Start) → 1 ≤ length left → Puts known labels out0 left out now → 1 + slice_index_or left 0 0 ≤ length left
   Left-within [] out now le p = absurd (omega arith)
   Left-within (count ∷ more) out now le p = omega (arith, Puts-within count more out now p)
 
-  pub Left-label : (left out : List ℕ) (now : List Start) → 1 ≤ length left → Puts known labels out0 left out now → None ≡ found now left
+  pub Left-label : (left out : List ℕ) (now : List Start) → 1 ≤ length left → Puts known labels out0 left out now → found known left ≡ None
       → Puts known labels out0 (drop (1 + slice_index_or left 0 0) left) (out ++ take (1 + slice_index_or left 0 0) left) (now ++ with_start (length out) left [])
   Left-label [] out now le p e = absurd (omega arith)
   Left-label (count ∷ more) out now le p e =
       let n : 1 + count ≡ suc count = omega arith in
-      rw n (Puts-label count more out now p (sym e))
+      rw n (Puts-label count more out now p (Left-new (count ∷ more) out now p e))
 
 pub put_name-is : (o0 o1 : List ℕ) (s0 s1 : List Start) (ls : List (List ℕ)) → o1 ≡ o0 ++ Added.octets (spell s0 (length o0) ls) → s1 ≡ s0 ++ Added.starts (spell s0 (length o0) ls)
     → record { octets = o1; starts = s1 } ≡ put_name (record { octets = o0; starts = s0 }) ls
@@ -154,3 +162,6 @@ grew_more known old starts out later new more grew octets_are starts_are =
 pub grew_octets : (known : List Start) (old : List ℕ) (starts : List Start) (out : List ℕ) (later : List Start) (new more : List ℕ) → GrewBy known old starts out → new ≡ out ++ more → later ≡ starts → GrewBy known old later new
 grew_octets known old starts out later new more grew octets_are same =
     grew_more known old starts out later new (record { octets = more; starts = [] }) grew octets_are (same ∙ sym (append-nil starts))
+
+pub begins-with-itself : (text : Text) → BeginsWith text text
+begins-with-itself text = (record { octets = []; starts = [] }, rw (append-nil text.octets, append-nil text.starts) refl)

@@ -6,6 +6,7 @@ pub mod Stops
 pub mod Ends
 pub mod Spelling
 pub mod Writers
+pub mod Longest
 pub mod Texts
 pub mod Reverse
 pub mod Octets

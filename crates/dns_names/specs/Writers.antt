@@ -29,7 +29,11 @@ GrewBy known old starts new = (more : Added) × (new ≡ old ++ more.octets) × 
 abbrev pub IsNear : ℕ → Start → Type 0
 IsNear limit s = (s.place < limit) × (s.place < 16384)
 
--- the map finds what its starts find, and they lie below an end
+-- the map finds what its starts find
+abbrev pub Finds : List (Suffix × ℕ) → Type 0
+Finds entries = (octets : List ℕ) → place_in entries octets ≡ found (starts_in entries) octets
+
+-- the same, and they lie below an end
 pub record IsIndex (entries : List (Suffix × ℕ)) (limit : ℕ) : Type 0 where
-  pub finds : (octets : List ℕ) → place_in entries octets ≡ found (starts_in entries) octets
+  pub finds : Finds entries
   pub near : AllByRecursion (IsNear limit) (starts_in entries)

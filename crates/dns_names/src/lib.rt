@@ -2,6 +2,7 @@
 //! the reverse names of addresses.
 #![tactic(auto)]
 
+mod ending;
 mod known;
 mod laws;
 mod memo;

@@ -69,7 +69,8 @@ pub fn address_of(name: &Name) -> Option<Addr>
     address_in(name.octets())
 }
 
-fn behind_label(octets: &[u8]) -> &[u8]
+/// What stands behind the first label.
+pub(crate) fn behind_label(octets: &[u8]) -> &[u8]
     ensures { result.now ≡ behind octets.now }
 {
     match octets {

@@ -5,12 +5,12 @@ ghost use Rattle.std.specs.Cmp.{eq_by_cmp_equiv, partial_equiv_from_equiv, parti
 ghost use Rattle.std.specs.Cmp.Lexicographic.{slice_cmp, on_texts};
 ghost use Rattle.std.specs.Cmp.Rules.{comparing};
 ghost use Rattle.std.proofs.Common.{rules};
-ghost use Rattle.dns_names.specs.Ends.{key_of, end_cmp, worth};
+ghost use Rattle.dns_names.specs.Ends.{turned, key_of, end_cmp, worth};
 
 use std::cmp::Ordering;
 
-/// The octets of the last labels of a name. They are ordered by how many they are, and then from the last to the first, since
-/// names with the same first labels may be many.
+/// The octets of the last labels of a name. They are ordered by their number, then from the eighth octet to the first, and then from
+/// the last to the ninth. Many names may share their first labels, or their last ones.
 #[derive(Clone, Copy)]
 pub struct Suffix<'a> {
     pub(crate) octets: &'a [u8],
@@ -62,13 +62,39 @@ fn compare_back(a: &[u8], b: &[u8]) -> Ordering
     compare_octets(front, other)
 }
 
+/// Compares octets, as many of each: the first eight, and then the others from the last on. It isn't inlined,
+/// since the lengths alone decide most comparisons.
+#[inline(never)]
+fn compare_turned(a: &[u8], b: &[u8]) -> Ordering
+    requires { length a.now ≡ length b.now }
+    ensures { result ≡ slice_cmp nat_cmp (reverse (turned a.now)) (reverse (turned b.now)) }
+{
+    // with the same length known, both are checked at once
+    let b = &b[..a.len()];
+    let (Some((x, front_rest)), Some((y, other_rest))) = (
+        a.split_first_chunk::<8>(),
+        b.split_first_chunk::<8>(),
+    ) else {
+        return compare_octets(a, b);
+    };
+    let x = number_of(x);
+    let y = number_of(y);
+    if x != y {
+        return x.cmp(&y);
+    }
+    compare_back(front_rest, other_rest)
+}
+
 fn compare(a: &[u8], b: &[u8]) -> Ordering
     ensures { result ≡ end_cmp a.now b.now }
 {
-    match a.len().cmp(&b.len()) {
-        Ordering::Equal => compare_back(a, b),
-        other => other,
+    if a.len() < b.len() {
+        return Ordering::Less;
     }
+    if a.len() > b.len() {
+        return Ordering::Greater;
+    }
+    compare_turned(a, b)
 }
 
 impl<'a> PartialEq for Suffix<'a> {

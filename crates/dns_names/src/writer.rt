@@ -1,21 +1,17 @@
 // Names one behind the other, each as short as it can be (RFC 1035, 4.1.4).
-ghost use Rattle.std.specs.Prelude.{◌≡◌, ◌+◌, ◌<◌, ◌≤◌, ◌++◌, ℕ, List, [], length, OnOk, OnErr, None};
+ghost use Rattle.std.specs.Prelude.{◌≡◌, ◌+◌, ◌<◌, ◌≤◌, ◌++◌, ℕ, List, [], length, IfOk, IfSome, OnOk, OnErr, None};
 ghost use Rattle.dns_names.specs.Names.{labels_in, IsSpelled};
 ghost use Rattle.dns_names.specs.Spelling.{pointer, with_start, spell};
+ghost use Rattle.dns_names.specs.Longest.{IsClosed, edge_by, ending};
 ghost use Rattle.dns_names.specs.Writers.{starts_in, place_in, GrewBy, IsIndex};
 
+use crate::ending::longest;
 use crate::name::Name;
 use crate::suffix::Suffix;
 use gate_base::{OutOfMemory, put_u16};
 use std::alloc::AllocError;
 use std::collections::BTreeMap;
 use std::marker::Model;
-
-fn place_of<'a>(places: &BTreeMap<Suffix<'a>, u16>, octets: &'a [u8]) -> Option<u16>
-    ensures { result ≡ place_in places.now.entries octets.now }
-{
-    places.get(&Suffix { octets }).copied()
-}
 
 /// Keeps the place of a label start, if a pointer can lead there.
 fn remember<'a>(
@@ -37,6 +33,17 @@ fn remember<'a>(
     Ok(())
 }
 
+/// The edge once the label that begins `octets` was written from `place` to `end`.
+fn edge_after<'a>(edge: &'a [u8], octets: &'a [u8], place: usize, end: usize) -> &'a [u8]
+    ensures { result.now ≡ edge_by edge.now octets.now place end }
+{
+    if place < 16_384 && end >= 16_384 {
+        octets
+    } else {
+        edge
+    }
+}
+
 fn put_pointer(out: &mut Vec<u8>, place: u16) -> Result<(), AllocError>
     requires { place < 16384 }
     ensures octets { OnOk result (out.new.items ≡ out.old.items ++ pointer place) }
@@ -48,15 +55,34 @@ fn put_pointer(out: &mut Vec<u8>, place: u16) -> Result<(), AllocError>
     Ok(())
 }
 
-/// Writes a name, and keeps its label starts.
+/// Ends a name by a pointer to a place, or by the root octet.
+fn put_end(out: &mut Vec<u8>, place: Option<u16>) -> Result<(), AllocError>
+    requires { IfSome place (λ to. to < 16384) }
+    ensures octets { OnOk result (out.new.items ≡ out.old.items ++ ending place) }
+    ensures behind { (more : List ℕ) × (out.new.items ≡ out.old.items ++ more) }
+    ensures longer { length out.old.items ≤ length out.new.items }
+{
+    match place {
+        Some(place) => put_pointer(out, place),
+        None => {
+            out.push(0)?;
+            Ok(())
+        }
+    }
+}
+
+/// Writes a name, and keeps its label starts. The answer is the new edge.
 #[tactic(auto, using(crate::proofs::Putting::grew_none, crate::proofs::Putting::grew_octets))]
 fn put_labels<'a>(
     places: &mut BTreeMap<Suffix<'a>, u16>,
+    edge: &'a [u8],
     name: &'a [u8],
     out: &mut Vec<u8>,
-) -> Result<(), AllocError>
+) -> Result<&'a [u8], AllocError>
     requires spelled { IsSpelled name.now (labels_in name.now) }
     requires index { IsIndex places.old.entries (length out.old.items) }
+    requires closed { IsClosed (starts_in places.old.entries) edge.now
+        (length out.old.items) }
     ensures octets { OnOk result (out.new.items
         ≡ out.old.items
         ++ (spell (starts_in places.old.entries) (length out.old.items)
@@ -68,22 +94,24 @@ fn put_labels<'a>(
     ensures behind { GrewBy (starts_in places.old.entries) out.old.items
         (starts_in places.new.entries) out.new.items }
     ensures index { IsIndex places.new.entries (length out.new.items) }
+    ensures closed { IfOk result (λ edge. IsClosed (starts_in places.new.entries) edge.now
+        (length out.new.items)) }
 {
+    let (count, end) = longest(places, edge, name);
+    let mut edge = edge;
     let mut rest = name;
-    'labels: while let [count, ..] = rest {
-        let count = *count as usize;
-        match place_of(places, rest) {
-            Some(place) => return put_pointer(out, place),
-            None => {}
-        }
+    let mut left = count;
+    'labels: while left > 0 && !rest.is_empty() {
+        left -= 1;
         let place = out.len();
-        let (label, after) = rest.split_at(1 + count);
+        let (label, after) = rest.split_at(1 + rest[0] as usize);
         out.extend_from_slice(label)?;
         remember(places, rest, place)?;
+        edge = edge_after(edge, rest, place, out.len());
         rest = after;
     }
-    out.push(0)?;
-    Ok(())
+    put_end(out, end)?;
+    Ok(edge)
 }
 
 /// Octets and names, one behind the other. Contracts see the octets, and the label starts below 16,384 in them with what
@@ -92,19 +120,24 @@ fn put_labels<'a>(
 pub struct NameWriter<'a> {
     octets: Vec<u8>,
     places: BTreeMap<Suffix<'a>, u16>,
+    // the suffix behind whose first label the rest may not stand in `places` (`IsClosed`); None after a name that failed
+    edge: Option<&'a [u8]>,
 }
 
 impl<'a> Model for NameWriter<'a> {
-    ghost use Rattle.std.specs.Prelude.{length};
+    ghost use Rattle.std.specs.Prelude.{length, IfSome};
     ghost use Rattle.dns_names.specs.Spelling.{Text};
 
     ghost Value = { Text };
 
     ghost use Rattle.dns_names.specs.Writers.{starts_in, IsIndex};
+    ghost use Rattle.dns_names.specs.Longest.{IsClosed};
 
     ghost view = { λ w. record { octets = w.octets.items; starts = starts_in w.places.entries } };
 
-    ghost invariant = { λ w. IsIndex w.places.entries (length w.octets.items) };
+    ghost invariant = { λ w. IsIndex w.places.entries (length w.octets.items)
+        × IfSome w.edge (λ edge. IsClosed (starts_in w.places.entries) edge.now
+        (length w.octets.items)) };
 }
 
 impl<'a> NameWriter<'a> {
@@ -122,6 +155,7 @@ impl<'a> NameWriter<'a> {
         Ok(NameWriter {
             octets: target,
             places,
+            edge: Some(&[]),
         })
     }
 
@@ -143,13 +177,18 @@ impl<'a> NameWriter<'a> {
     }
 
     /// Writes a name label by label, until a suffix of it stands already. Then a pointer to its lowest place ends the name.
-    /// Where memory runs out, what was written before stands, and perhaps a part of the name behind it.
+    /// Where memory runs out, what was written before stands, and perhaps a part of the name behind it. After that, every `put_name` fails.
     pub fn put_name(&mut self, name: &'a Name) -> Result<(), OutOfMemory>
         ensures text { OnOk result (self.new ≡ spelling.put_name self.old name.now) }
         ensures kept { spelling.BeginsWith self.old self.new }
         ensures name { IsName name.now }
     {
-        put_labels(&mut self.places, name.octets(), &mut self.octets)?;
+        let octets = name.octets();
+        let Some(edge) = self.edge.take() else {
+            return Err(OutOfMemory);
+        };
+        let edge = put_labels(&mut self.places, edge, octets, &mut self.octets)?;
+        self.edge = Some(edge);
         Ok(())
     }
 

@@ -1,28 +1,13 @@
-use Rattle.std.proofs.Common.{◌≡◌, ◌<◌, ℕ, slice_index_or, List, length, reverse, take, drop, ◌++◌, sym, ap, ◌∙◌, arith}
+use Rattle.std.proofs.Common.{◌≡◌, ℕ, List, length, take, drop, ◌++◌, sym, ap, ◌∙◌, arith}
 use Rattle.std.specs.Ordering.{nat_cmp}
-use Rattle.std.specs.Cmp.Lexicographic.{slice_cmp}
 use Rattle.std.proofs.lemmas.List.{take-append-drop, length-append}
 use Rattle.dns_names.specs.Ends.{worth}
-use Rattle.dns_names.proofs.Endings.{same-last, other-last, cmp-worth, worth-one}
+use Rattle.dns_names.proofs.Endings.{goes-on, ends}
 use Rattle.dns_names.proofs.suffix.compare_back.Goals as goal
 
 -- octets as the first ones and the last ones
 parts : (s r x : List ℕ) (n : ℕ) → r ≡ take n s → x ≡ drop n s → s ≡ r ++ x
 parts s r x n e f = sym (take-append-drop n s) ∙ ap (λ (z : List ℕ). z ++ drop n s) (sym e) ∙ ap (λ (z : List ℕ). r ++ z) (sym f)
-
-both : (s t r q x y : List ℕ) → s ≡ r ++ x → t ≡ q ++ y → slice_cmp nat_cmp (reverse s) (reverse t) ≡ slice_cmp nat_cmp (reverse (r ++ x)) (reverse (q ++ y))
-both s t r q x y e f = ap (λ (z : List ℕ). slice_cmp nat_cmp (reverse z) (reverse t)) e ∙ ap (λ (z : List ℕ). slice_cmp nat_cmp (reverse (r ++ x)) (reverse z)) f
-
-goes-on : (s t r q x y : List ℕ) → s ≡ r ++ x → t ≡ q ++ y → length x ≡ length y → ((i : ℕ) → slice_index_or x i 0 < 256) → ((i : ℕ) → slice_index_or y i 0 < 256) → worth x ≡ worth y
-    → slice_cmp nat_cmp (reverse s) (reverse t) ≡ slice_cmp nat_cmp (reverse r) (reverse q)
-goes-on s t r q x y e f size p g same =
-    let is : y ≡ x = sym (worth-one x y size p g same) in
-    both s t r q x x e (f ∙ ap (λ (z : List ℕ). q ++ z) is) ∙ same-last r q x
-
-ends : (s t r q x y : List ℕ) → s ≡ r ++ x → t ≡ q ++ y → length x ≡ length y → ((i : ℕ) → slice_index_or x i 0 < 256) → ((i : ℕ) → slice_index_or y i 0 < 256) → (worth x ≡ worth y → ⊥)
-    → nat_cmp (worth x) (worth y) ≡ slice_cmp nat_cmp (reverse s) (reverse t)
-ends s t r q x y e f size p g off =
-    cmp-worth x y size p g ∙ sym (both s t r q x y e f ∙ other-last r q x y size (λ is. off (ap (λ (z : List ℕ). worth z) is)))
 
 pub returns-then-x-y : goal.returns-then-x-y
 returns-then-x-y c =

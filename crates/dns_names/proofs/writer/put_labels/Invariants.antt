@@ -1,11 +1,13 @@
 use Rattle.std.proofs.Common.{length}
 use Rattle.dns_names.specs.Names.{labels_in}
+use Rattle.dns_names.specs.Longest.{IsLongest}
 use Rattle.dns_names.specs.Writers.{starts_in, GrewBy, IsIndex}
+use Rattle.dns_names.proofs.Longest.{Closing}
 use Rattle.dns_names.proofs.Putting.{Puts}
 use Rattle.dns_names.proofs.writer.put_labels.Given as goal
 
 abbrev pub invariant-labels : goal.invariant-labels
-invariant-labels l = Puts (starts_in l.fn.places.entries) (labels_in l.name) l.fn.out.items l.rest l.out.items (starts_in l.places.entries) × IsIndex l.places.entries (length l.out.items) × GrewBy (starts_in l.fn.places.entries) l.fn.out.items (starts_in l.places.entries) l.out.items
+invariant-labels l = Puts (starts_in l.fn.places.entries) (labels_in l.name) l.fn.out.items l.rest l.out.items (starts_in l.places.entries) × IsIndex l.places.entries (length l.out.items) × GrewBy (starts_in l.fn.places.entries) l.fn.out.items (starts_in l.places.entries) l.out.items × IsLongest (starts_in l.fn.places.entries) l.rest l.left l.end × Closing (starts_in l.places.entries) l.edge l.rest (length l.out.items)
 
 abbrev pub decreases-labels : goal.decreases-labels
 decreases-labels l = length l.rest

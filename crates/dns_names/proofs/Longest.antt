@@ -1,0 +1,279 @@
+-- The longest end of a name that stands already.
+use Rattle.std.proofs.Common.{◌≡◌, ◌⊎◌, ℕ, zero, suc, ◌+◌, ◌-◌, ◌≤◌, ◌<◌, true, List, [], ◌∷◌, ◌++◌, length, drop, Option, Some, None, refl, sym, ap, subst, ◌∙◌, arith, inl, inr, slice_index_or}
+use Rattle.std.specs.Prelude.{nat_lt}
+use Rattle.std.specs.Str.{bytes_eq}
+use Rattle.std.proofs.lemmas.Bool.{cases_Bool, ltb-true, ltb-false}
+use Rattle.std.proofs.lemmas.List.{append-nil, length-drop}
+use Rattle.std.proofs.lemmas.Slice.Eq.{bytes_eq-Decides}
+use Rattle.dns_names.specs.declared.suffix.Suffix.{Suffix}
+use Rattle.dns_names.specs.Octets.{behind}
+use Rattle.dns_names.specs.Spelling.{Start, found, with_start}
+use Rattle.dns_names.specs.Longest.{skipped, IsKept, Ends, EndsAt, IsClosed, IsBound, IsLongest, edge_by}
+use Rattle.dns_names.proofs.Walking.{chosen}
+use Rattle.dns_names.proofs.Kept.{found-push}
+
+-- ---- labels that are skipped
+
+skipped-suc : (n : ℕ) (octets : List ℕ) → skipped (suc n) octets ≡ behind (skipped n octets)
+skipped-suc zero octets = refl
+skipped-suc (suc n) octets = skipped-suc n (behind octets)
+
+pub skipped-more : (n : ℕ) (octets : List ℕ) → skipped (n + 1) octets ≡ behind (skipped n octets)
+skipped-more n octets =
+    let more : n + 1 ≡ suc n = omega arith in
+    ap (λ (m : ℕ). skipped m octets) more ∙ skipped-suc n octets
+
+pub skipped-add : (n k : ℕ) (octets : List ℕ) → skipped k (skipped n octets) ≡ skipped (n + k) octets
+skipped-add zero k octets =
+    let same : k ≡ 0 + k = omega arith in
+    ap (λ (m : ℕ). skipped m octets) same
+skipped-add (suc n) k octets =
+    let more : suc (n + k) ≡ suc n + k = omega arith in
+    skipped-add n k (behind octets) ∙ ap (λ (m : ℕ). skipped m octets) more
+
+pub empty : (octets : List ℕ) → length octets < 1 → octets ≡ []
+empty [] few = refl
+empty (x ∷ octets) few = absurd (omega (arith, few))
+
+pub behind-shorter : (octets : List ℕ) → 1 ≤ length octets → length (behind octets) < length octets
+behind-shorter [] some = absurd (omega arith)
+behind-shorter (count ∷ rest) some = omega (arith, length-drop count rest)
+
+skipped-none : (n : ℕ) → skipped n [] ≡ []
+skipped-none zero = refl
+skipped-none (suc n) = skipped-none n
+
+pub skipped-nil : (n k : ℕ) (octets : List ℕ) → n ≤ k → skipped n octets ≡ [] → skipped k octets ≡ []
+skipped-nil n k octets le e =
+    let whole : n + (k - n) ≡ k = omega (arith, le) in
+    sym (ap (λ (m : ℕ). skipped m octets) whole) ∙ sym (skipped-add n (k - n) octets) ∙ ap (skipped (k - n)) e ∙ skipped-none (k - n)
+
+pub skipped-all : (n : ℕ) (octets : List ℕ) → length octets ≤ n → skipped n octets ≡ []
+skipped-all zero [] le = refl
+skipped-all zero (x ∷ octets) le = absurd (omega (arith, le))
+skipped-all (suc n) [] le = skipped-all n [] (omega arith)
+skipped-all (suc n) (count ∷ rest) le = skipped-all n (drop count rest) (omega (arith, le, length-drop count rest))
+
+skipped-shorter : (n : ℕ) (octets : List ℕ) → length (skipped n octets) ≤ length octets
+skipped-shorter zero octets = omega arith
+skipped-shorter (suc n) [] = skipped-shorter n []
+skipped-shorter (suc n) (count ∷ rest) = omega (arith, skipped-shorter n (drop count rest), length-drop count rest)
+
+no-end-in : (rest edge : List ℕ) → length rest ≤ length edge → (rest ≡ edge → ⊥) → (n : ℕ) → skipped n rest ≡ edge → ⊥
+no-end-in rest edge le off zero e = off e
+no-end-in [] edge le off (suc n) e = off (sym (skipped-none (suc n)) ∙ e)
+no-end-in (count ∷ rest) edge le off (suc n) e = omega (arith, le, ap length e, skipped-shorter n (drop count rest), length-drop count rest)
+
+-- no end over more labels is the edge either, where none over fewer is as short
+pub no-end : (name edge rest : List ℕ) (count : ℕ) → rest ≡ skipped count name → length rest ≤ length edge → (rest ≡ edge → ⊥) → ((n : ℕ) → n < count → length edge < length (skipped n name)) → (n : ℕ) → skipped n name ≡ edge → ⊥
+no-end name edge rest count is le off long n e =
+    elim (cases_Bool (nat_lt n count)) [
+      | inl t ↦ omega (arith, long n (ltb-true _ _ t), ap length e)
+      | inr f ↦
+          let past : count ≤ n = ltb-false _ _ f in
+          let whole : count + (n - count) ≡ n = omega (arith, past) in
+          no-end-in rest edge le off (n - count) (ap (skipped (n - count)) is ∙ skipped-add count (n - count) name ∙ ap (λ (m : ℕ). skipped m name) whole ∙ e)
+    ]
+
+pub no-entries : (entries : List (Suffix × ℕ)) → length entries ≡ 0 → entries ≡ []
+no-entries [] none = refl
+no-entries (e ∷ entries) none = absurd (omega (arith, none))
+
+-- ---- what stands before an end that isn't kept isn't kept either
+
+module _ (starts : List Start) (edge name : List ℕ) (limit total : ℕ) (end : Option ℕ) (closed : IsClosed starts edge limit) (bound : IsBound starts edge name total end) where
+  new-before : (k n : ℕ) → n + k < total → (skipped (n + k) name ≡ [] → ⊥) → found starts (skipped (n + k) name) ≡ None → found starts (skipped n name) ≡ None
+  new-before zero n lt some none =
+      let same : n + 0 ≡ n = omega arith in
+      subst (λ (m : ℕ). found starts (skipped m name) ≡ None) same none
+  new-before (suc k) n lt some none =
+      let same : n + suc k ≡ n + 1 + k = omega arith in
+      let next = new-before k (n + 1) (omega (arith, lt)) (subst (λ (m : ℕ). skipped m name ≡ [] → ⊥) same some) (subst (λ (m : ℕ). found starts (skipped m name) ≡ None) same none) in
+      by_found (found starts (skipped n name)) refl next
+    where
+      by_found : (o : Option ℕ) → found starts (skipped n name) ≡ o → found starts (skipped (n + 1) name) ≡ None → found starts (skipped n name) ≡ None
+      by_found None e next = e
+      by_found (Some place) e next =
+          absurd (
+          elim (closed.closed (skipped n name) (place, e)) [
+            | inl same ↦ some (skipped-nil n (n + suc k) name (omega arith) (same ∙ bound.off n (omega (arith, lt)) same))
+            | inr ends ↦
+                elim ends [
+                  | inl end ↦ some (skipped-nil (n + 1) (n + suc k) name (omega arith) (skipped-more n name ∙ end))
+                  | inr kept ↦
+                      let q : Some kept.0 ≡ None = sym kept.1 ∙ ap (found starts) (sym (skipped-more n name)) ∙ next in
+                      cc
+                ]
+          ]
+          )
+
+  pub longest-is : (passed count : ℕ) (place : Option ℕ) → passed + count ≤ total → count ≤ 1 → 1 ≤ count → (skipped passed name ≡ [] → ⊥) → found starts (skipped passed name) ≡ None → EndsAt starts (skipped (passed + count) name) place → IsLongest starts name (passed + count) place
+  longest-is passed count place within one first some none ends = record {
+    new = λ n lt.
+        let back : passed ≡ n + (passed - n) = omega (arith, lt, one) in
+        inr (new-before (passed - n) n (omega (arith, back, within, first)) (subst (λ (m : ℕ). skipped m name ≡ [] → ⊥) back some) (subst (λ (m : ℕ). found starts (skipped m name) ≡ None) back none));
+    some = λ n lt e. absurd (some (skipped-nil n passed name (omega (arith, lt, one)) e));
+    ends = ends;
+  }
+
+-- ---- a name is gone through, label by label
+
+pub longest-step : (starts : List Start) (name : List ℕ) (count : ℕ) (place : Option ℕ) → IsLongest starts name (suc count) place → IsLongest starts (behind name) count place
+longest-step starts name count place is = record {
+  new = λ n lt. is.new (suc n) (omega (arith, lt));
+  some = λ n lt e. is.some (suc n) (omega (arith, lt)) e;
+  ends = is.ends;
+}
+
+pub longest-new : (starts : List Start) (name : List ℕ) (count : ℕ) (place : Option ℕ) → IsLongest starts name count place → 1 ≤ count → 1 ≤ length name → found starts name ≡ None
+longest-new starts name count place is some long =
+    elim (is.new 0 some) [
+      | inl e ↦ absurd (omega (arith, long, ap length e))
+      | inr none ↦ none
+    ]
+
+pub longest-ends : (starts : List Start) (name : List ℕ) (count : ℕ) (place : Option ℕ) → IsLongest starts name count place → (count < 1) ⊎ (length name < 1) → EndsAt starts name place
+longest-ends starts name zero place is way = is.ends
+longest-ends starts [] (suc count) place is way = subst (λ (o : Option ℕ). EndsAt starts [] o) (sym (is.some 0 (omega arith) refl)) refl
+longest-ends starts (x ∷ name) (suc count) place is (inl lt) = absurd (omega (arith, lt))
+longest-ends starts (x ∷ name) (suc count) place is (inr lt) = absurd (omega (arith, lt))
+
+-- nothing is to be written, nothing is kept yet, or all is kept
+
+pub longest-root : (starts : List Start) (name : List ℕ) → name ≡ [] → IsLongest starts name 0 None
+longest-root starts name e = record { new = λ n lt. absurd (omega (arith, lt)); some = λ n lt. absurd (omega (arith, lt)); ends = e }
+
+pub longest-none : (starts : List Start) (name : List ℕ) → starts ≡ [] → IsLongest starts name (length name) None
+longest-none starts name e = record {
+  new = λ n lt. inr (ap (λ (x : List Start). found x (skipped n name)) e);
+  some = λ n lt e. refl;
+  ends = skipped-all (length name) name (omega arith);
+}
+
+-- what is written ends with what is kept, or with nothing
+pub ends-at : (starts : List Start) (octets : List ℕ) (place : Option ℕ) → EndsAt starts octets place → Ends starts octets
+ends-at starts octets None e = inl e
+ends-at starts octets (Some place) e = inr (place, e.1)
+
+-- ---- a label more is kept
+
+found-more : (starts more : List Start) (octets : List ℕ) (place : ℕ) → found starts octets ≡ Some place → found (starts ++ more) octets ≡ Some place
+found-more [] more octets place e = absurd cc
+found-more (s ∷ starts) more octets place e =
+    elim (cases_Bool (bytes_eq s.octets octets)) [
+      | inl t ↦ rw t (rw t at e)
+      | inr f ↦ rw f (found-more starts more octets place (rw f at e))
+    ]
+
+kept-more : (starts more : List Start) (octets : List ℕ) → IsKept starts octets → IsKept (starts ++ more) octets
+kept-more starts more octets kept = (kept.0, found-more starts more octets kept.0 kept.1)
+
+ends-more : (starts more : List Start) (octets : List ℕ) → Ends starts octets → Ends (starts ++ more) octets
+ends-more starts more octets (inl e) = inl e
+ends-more starts more octets (inr kept) = inr (kept-more starts more octets kept)
+
+kept-push : (starts : List Start) (s : Start) (octets : List ℕ) → found starts s.octets ≡ None → IsKept (starts ++ s ∷ []) octets → (octets ≡ s.octets) ⊎ IsKept starts octets
+kept-push starts s octets absent kept =
+    elim (chosen (bytes_eq s.octets octets) (Some s.place) (found starts octets) (Some kept.0) (sym (found-push starts s octets absent) ∙ kept.1)) [
+      | inl t ↦ inl (sym ((bytes_eq-Decides s.octets octets).0 t.0))
+      | inr f ↦ inr (kept.0, f.1)
+    ]
+
+kept-new : (starts : List Start) (s : Start) → found starts s.octets ≡ None → IsKept (starts ++ s ∷ []) s.octets
+kept-new starts s absent =
+    let same : bytes_eq s.octets s.octets ≡ true = (bytes_eq-Decides s.octets s.octets).1 refl in
+    (s.place, found-push starts s s.octets absent ∙ rw same refl)
+
+-- While a name is written, what was kept last is closed by what is left of the name.
+pub record Closing (starts : List Start) (edge left : List ℕ) (limit : ℕ) : Type 0 where
+  pub closed : (octets : List ℕ) → IsKept starts octets → (octets ≡ edge) ⊎ (Ends starts (behind octets) ⊎ ((behind octets ≡ left) × (limit < 16384)))
+  pub kept : Ends starts edge
+  pub near : limit < 16384 → edge ≡ []
+
+pub closing-ends : (starts : List Start) (edge left : List ℕ) (limit later : ℕ) → Closing starts edge left limit → Ends starts left → limit ≤ later → IsClosed starts edge later
+closing-ends starts edge left limit later is end le = record {
+  closed = λ o kept.
+      elim (is.closed o kept) [
+        | inl same ↦ inl same
+        | inr more ↦
+            elim more [
+              | inl ends ↦ inr ends
+              | inr last ↦ inr (subst (λ (x : List ℕ). Ends starts x) (sym last.0) end)
+            ]
+      ];
+  kept = is.kept;
+  near = λ lt. is.near (omega (arith, lt, le));
+}
+
+-- a label start that can be pointed to, where the name goes on before or behind the last such place
+closing-near : (starts : List Start) (edge left later : List ℕ) (limit end : ℕ) → Closing starts edge left limit → found starts left ≡ None → limit < 16384 → ((later ≡ edge) × (end < 16384)) ⊎ ((later ≡ left) × (16384 ≤ end))
+    → Closing (starts ++ record { place = limit; octets = left } ∷ []) later (behind left) end
+closing-near starts edge left later limit end is absent near way =
+    let s : Start = record { place = limit; octets = left } in
+    let none : edge ≡ [] = is.near near in
+    let new = kept-new starts s absent in
+    record {
+      closed = λ o kept.
+          elim (kept-push starts s o absent kept) [
+            | inl same ↦
+                elim way [
+                  | inl on ↦ inr (inr (ap behind same, on.1))
+                  | inr over ↦ inl (same ∙ sym over.0)
+                ]
+            | inr old ↦
+                elim (is.closed o old) [
+                  | inl at_edge ↦ inr (inl (inl (ap behind (at_edge ∙ none))))
+                  | inr more ↦
+                      elim more [
+                        | inl ends ↦ inr (inl (ends-more starts (s ∷ []) (behind o) ends))
+                        | inr last ↦ inr (inl (inr (subst (λ (x : List ℕ). IsKept (starts ++ s ∷ []) x) (sym last.0) new)))
+                      ]
+                ]
+          ];
+      kept = elim way [
+        | inl on ↦ inl (on.0 ∙ none)
+        | inr over ↦ inr (subst (λ (x : List ℕ). IsKept (starts ++ s ∷ []) x) (sym over.0) new)
+      ];
+      near = λ lt.
+          elim way [
+            | inl on ↦ on.0 ∙ none
+            | inr over ↦ absurd (omega (arith, lt, over.1))
+          ];
+    }
+
+pub closing-step : (starts : List Start) (edge left : List ℕ) (limit end : ℕ) → Closing starts edge left limit → found starts left ≡ None → limit < end → Closing (starts ++ with_start limit left []) (edge_by edge left limit end) (behind left) end
+closing-step starts edge left limit end is absent lt =
+    elim (cases_Bool (nat_lt limit 16384)) [
+      | inl t ↦
+          elim (cases_Bool (nat_lt end 16384)) [
+            | inl u ↦ rw (t, u) (closing-near starts edge left edge limit end is absent (ltb-true _ _ t) (inl (refl, ltb-true _ _ u)))
+            | inr g ↦ rw (t, g) (closing-near starts edge left left limit end is absent (ltb-true _ _ t) (inr (refl, ltb-false _ _ g)))
+          ]
+      | inr f ↦
+          let far : 16384 ≤ limit = ltb-false _ _ f in
+          rw f (record {
+            closed = λ o kept.
+                elim (is.closed o (subst (λ (x : List Start). IsKept x o) (append-nil starts) kept)) [
+                  | inl same ↦ inl same
+                  | inr more ↦
+                      elim more [
+                        | inl ends ↦ inr (inl (ends-more starts [] (behind o) ends))
+                        | inr last ↦ absurd (omega (arith, last.1, far))
+                      ]
+                ];
+            kept = ends-more starts [] edge is.kept;
+            near = λ near. absurd (omega (arith, near, far, lt));
+          })
+    ]
+
+-- the same, where what was written is known by equations
+pub closing-put : (starts new : List Start) (edge later left rest : List ℕ) (limit place end length_now : ℕ) → Closing starts edge left limit → found starts left ≡ None → place ≡ limit → limit < end → end ≡ length_now → new ≡ starts ++ with_start place left [] → later ≡ edge_by edge left place end → rest ≡ behind left → Closing new later rest length_now
+closing-put starts new edge later left rest limit place end length_now is absent at lt len starts_are edge_is rest_is =
+    rw (starts_are, edge_is, rest_is, at, ← len) (closing-step starts edge left limit end is absent lt)
+
+-- behind the first label, by its count
+pub behind-is : (octets : List ℕ) → 1 ≤ length octets → behind octets ≡ drop (1 + slice_index_or octets 0 0) octets
+behind-is [] some = absurd (omega (arith, some))
+behind-is (count ∷ rest) some =
+    let n : suc count ≡ 1 + count = omega arith in
+    ap (λ (m : ℕ). drop m (count ∷ rest)) n
