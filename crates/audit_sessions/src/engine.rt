@@ -4,10 +4,11 @@ ghost use Rattle.audit_sessions.specs.Heard.{heard_rules};
 
 use crate::session::{AuditedSession, ftp_session};
 use audit_records::Pieces;
-use dns_plans::{Entry, Tracked};
+use dns_plans::{Completed, Tracked};
 use event_engine::{Engine, Stepped};
+use event_steps::Workspace;
 use gate_base::{OutOfMemory, Pair, Refusal};
-use gate_outbox::{Outbox, Scratch, Segment};
+use gate_outbox::{Outbox, Segment};
 use gate_payloads::Way;
 use std::alloc::Global;
 use tcp_segments::TcpView;
@@ -40,20 +41,19 @@ impl Engine for AuditedSession {
 
     fn take(
         tracked: &mut Tracked<AuditedSession>,
-        alloc: Global,
-        _scratch: &mut Scratch,
+        workspace: &mut Workspace,
         way: &Way,
         segment: &Segment<'_>,
-        entries: &[Entry],
+        completed: Completed<'_>,
         _outbox: &mut Outbox,
     ) -> Result<Stepped<Pieces>, OutOfMemory> {
         let from_client = tracked.is_client(way.side);
         // No header of a segment has more than 60 octets: its options leave room for a piece.
         let _header = segment.tcp.header();
-        let sent = tracked.session.step(from_client, segment.tcp, entries)?;
+        let sent = tracked.session.step(from_client, segment.tcp, completed)?;
         let waiting = waiting(&tracked.session, sent.ends);
         let pieces = Pieces::of(
-            alloc,
+            workspace.alloc,
             segment.datagram,
             segment.tcp,
             way.source_image(),

@@ -12,7 +12,7 @@ ghost use Rattle.audit_sessions.specs.Heard.{HeardSession, session_in, heard_rul
 
 /// What was heard of both hosts answers, sends and goes on as the session over whole lists does. All addresses that were heard of
 /// are listed in each session that is made, and stay so while segments pass.
-pub fn heard_sessions_are_whole()
+pub fn audited_sessions_are_whole()
     ensures reads { Reads session_in heard_rules whole_rules }
     ensures sent { SendAlike session_in heard_rules heard_sent }
     ensures lists { HasLists heard_rules }

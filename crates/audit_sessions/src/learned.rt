@@ -1,6 +1,7 @@
 // A connection of DNS that learns what its units name.
 ghost use Rattle.std.specs.Prelude.{◌≡◌, ◌≤◌, ◌<◌, ◌∷◌, [], false, length, None, IfOk, OnOk};
-ghost use Rattle.dialogue.specs.Learning.{is_listed};
+ghost use Rattle.dialogue.specs.Learning.{is_listed, AreImages};
+ghost use Rattle.dns_stream.specs.Images.{dns_units};
 ghost use Rattle.stream_model.specs.Refusals.{segment_refusal};
 ghost use Rattle.stream_model.specs.Steps.{session_ends};
 ghost use Rattle.stream_model.specs.Cuts.{session_sent};
@@ -11,9 +12,16 @@ ghost use Rattle.audit_sessions.specs.Sessions.{listed_of, streams_of, IsListedS
 
 use crate::kinds::DnsSession;
 use audit_streams::Sent;
-use dns_plans::Entry;
-use gate_base::OutOfMemory;
+use dns_plans::{Completed, Entry};
+use gate_base::{Addr, OutOfMemory};
 use tcp_segments::TcpView;
+
+/// Whether the client's list, or else the server's, has an entry of an address.
+fn knows(session: &DnsSession, from_client: bool, address: Addr) -> bool
+    ensures { result ≡ is_listed (listed_of from_client session.now) address.0 }
+{
+    session.image_of(from_client, address).is_some()
+}
 
 /// Enters an address into the client's list, or else the server's, unless it is listed.
 fn learn_one(session: &mut DnsSession, from_client: bool, one: Entry)
@@ -22,7 +30,7 @@ fn learn_one(session: &mut DnsSession, from_client: bool, one: Entry)
     requires listed { IsListedSide from_client session.old }
     ensures { session.new ≡ with_entered from_client (one ∷ []) session.old }
 {
-    if session.knows(from_client, one.0) {
+    if knows(session, from_client, one.0) {
         return;
     }
     session.learn(from_client, one.0, one.1);
@@ -46,22 +54,28 @@ pub fn step_units(
     session: &mut DnsSession,
     from_client: bool,
     segment: &TcpView<'_>,
-    named: &[Entry],
+    completed: Completed<'_>,
 ) -> Result<Sent, OutOfMemory>
-    requires few { length (entered_all (listed_of from_client session.old) named.now)
+    requires few { length (entered_all (listed_of from_client session.old) completed.entries.now)
         ≤ 256 }
+    requires images { AreImages
+        (dns_units
+        (entered_all (listed_of from_client session.old) completed.entries.now))
+        completed.images.items }
     requires listed { IsListedSide from_client session.old }
     requires passes { segment_refusal from_client (streams_of session.old)
         (segment_in segment.now) ≡ None }
     ensures next { OnOk result (HasPassed from_client
-        (with_entered from_client named.now session.old) session.new
+        (with_entered from_client completed.entry.entries.now session.old) session.new
         (segment_in segment.now)) }
     ensures sent { let learned = streams_of
-        (with_entered from_client named.now session.old) in
+        (with_entered from_client completed.entry.entries.now session.old) in
         IfOk result (λ s. s
         ≡ handed (session_sent from_client learned (segment_in segment.now))
         (session_ends from_client learned (segment_in segment.now))) }
 {
-    learn_all(session, from_client, named);
+    let Completed { entries, images } = completed;
+    learn_all(session, from_client, entries);
+    session.expect(from_client, images);
     session.step(from_client, segment)
 }

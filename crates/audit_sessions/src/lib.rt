@@ -8,5 +8,5 @@ mod laws;
 mod learned;
 mod session;
 
-pub use laws::heard_sessions_are_whole;
+pub use laws::audited_sessions_are_whole;
 pub use session::AuditedSession;

@@ -1,6 +1,8 @@
 // A session of one of two kinds, over its whole lists.
 ghost use Rattle.std.specs.Prelude.{◌≡◌, ◌≤◌, ◌<◌, [], Option, length, slice_get, Some, None, IfOk, OnOk};
 ghost use Rattle.gate_base.specs.declared.address.Addr.{Addr};
+ghost use Rattle.dialogue.specs.Learning.{AreImages};
+ghost use Rattle.dns_stream.specs.Images.{dns_units};
 ghost use Rattle.stream_model.specs.Session.{own, arrival, segment_in};
 ghost use Rattle.stream_model.specs.Refusals.{is_data, segment_refusal};
 ghost use Rattle.audit_streams.specs.Hosts.{unheard};
@@ -15,10 +17,10 @@ ghost use Rattle.audit_sessions.specs.Sessions.{streams_of};
 use crate::kinds::{DnsSession, FtpSession, SessionKind};
 use crate::learned::step_units;
 use audit_streams::{Sent, WholeStreams};
-use dns_plans::{Entry, Session, UnitOctets};
+use dns_plans::{Completed, Entry, Session, UnitOctets};
 use dns_stream::DnsUnits;
 use ftp_lines::{ClientLines, ServerLines};
-use gate_base::{DNS_PORT, OutOfMemory, Pair, Refusal};
+use gate_base::{Addr, DNS_PORT, OutOfMemory, Pair, Refusal};
 use std::alloc::Global;
 use std::marker::Model;
 use tcp_segments::{TcpView, flags_of};
@@ -109,13 +111,11 @@ impl Session for AuditedSession {
         }
     }
 
-    fn entries(&self, alloc: Global, client: bool) -> Result<Vec<Entry>, OutOfMemory> {
-        let count = self.listed(client);
-        let mut entries = Vec::with_capacity(alloc, count)?;
-        for place in 0..count {
-            entries.push(self.entry(client, place))?;
+    fn image_of(&self, client: bool, address: Addr) -> Option<Option<Addr>> {
+        match &self.kind {
+            SessionKind::Lines(_) => None,
+            SessionKind::Units(session) => session.image_of(client, address),
         }
-        Ok(entries)
     }
 
     fn put_octets(&self, from_client: bool, segment: &TcpView<'_>, octets: &mut UnitOctets) {
@@ -164,32 +164,36 @@ impl AuditedSession {
     }
 
     /// Passes a segment: enters what its units name into the list of its sender, and tells what is sent for it, or OutOfMemory. The
-    /// segment must pass, the entries must be the addresses in its units beside what they are called, and the list must get no longer
-    /// than 256 entries. After OutOfMemory the session is forgotten: it must not be used again.
+    /// segment must pass. The entries must be the addresses in its units beside what they are called. The list must not get longer
+    /// than 256 entries, and each image must be that of its unit by the list with these entries. After OutOfMemory the session must
+    /// not be used again.
     pub fn step(
         &mut self,
         from_client: bool,
         segment: &TcpView<'_>,
-        entries: &[Entry],
+        completed: Completed<'_>,
     ) -> Result<Sent, OutOfMemory>
         requires few { length
-            (entered_all (heard_rules.listed from_client self.old) entries.now)
-            ≤ 256 }
+            (entered_all (heard_rules.listed from_client self.old)
+            completed.entries.now) ≤ 256 }
+        requires images { AreImages
+            (dns_units (entered_all (heard_rules.listed from_client self.old)
+            completed.entries.now)) completed.images.items }
         requires named { (image : Addr → Option Addr)
-            × (entries.now
+            × (completed.entries.now
             ≡ beside image (addresses_in (heard_rules.units from_client self.old
             (segment_in segment.now)))) }
         requires passes { heard_rules.refusal from_client self.old
             (segment_in segment.now) ≡ None }
         ensures next { (image : Addr → Option Addr)
-            → entries.now
+            → completed.entry.entries.now
             ≡ beside image (addresses_in
             (heard_rules.units from_client self.old (segment_in segment.now)))
             → OnOk result (self.new
             ≡ heard_rules.next image from_client self.old
             (segment_in segment.now)) }
         ensures sent { (image : Addr → Option Addr)
-            → entries.now
+            → completed.entry.entries.now
             ≡ beside image (addresses_in
             (heard_rules.units from_client self.old (segment_in segment.now)))
             → IfOk result (λ s. s
@@ -201,7 +205,7 @@ impl AuditedSession {
         match &mut self.kind {
             SessionKind::Lines(session) => return session.step(from_client, segment),
             SessionKind::Units(session) => {
-                match step_units(session, from_client, segment, entries) {
+                match step_units(session, from_client, segment, completed) {
                     Ok(sent) => return Ok(sent),
                     Err(error) => {
                         self.kind = SessionKind::Lines(ftp_session(self.alloc, self.pair, 0, 536));

@@ -1,23 +1,20 @@
 -- What the lists tell of a host.
-use Rattle.std.proofs.Common.{◌≡◌, ◌≤◌, ◌<◌, ◌+◌, ◌-◌, ◌*◌, ◌%◌, ℕ, Bool, true, false, List, [], ◌∷◌, ◌++◌, length, refl, sym, ◌∙◌, ap, subst, arith, inl, inr}
-use Rattle.std.specs.Prelude.{◌^◌, ◌||◌, cond, map, None}
+use Rattle.std.proofs.Common.{◌≡◌, ◌≤◌, ◌+◌, ◌-◌, ◌*◌, ℕ, Bool, true, false, List, [], ◌∷◌, ◌++◌, length, refl, sym, ◌∙◌, ap, arith, inl, inr}
+use Rattle.std.specs.Prelude.{◌||◌, cond, None}
 use Rattle.std.specs.List.{flat_map}
 use Rattle.std.proofs.lemmas.List.{length-append, length-drop}
-use Rattle.std.proofs.lemmas.Bool.{cases_Bool, cases_lt, lt-ltb, le-ltb, leb-false, or_parts}
+use Rattle.std.proofs.lemmas.Bool.{cases_Bool, leb-false, or_parts}
 use Rattle.dialogue.specs.Meaning.{Meaning, IsLawful, is_held, is_released}
 use Rattle.dialogue.specs.Places.{changed_ends}
 use Rattle.dialogue.specs.Stream.{cut, image, due, due_rest, spans, pushes_of}
 use Rattle.stream_model.proofs.FactLemmas.{image_small}
-use Rattle.stream_model.specs.Numbers.{number_at, place_near, near_by}
 use Rattle.stream_model.specs.Session.{Sender, Segment, extent, arrival, repeats_unlike}
 use Rattle.stream_model.specs.Refusals.{is_data, refusal_of, segment_refusal}
 use Rattle.stream_model.proofs.PassLemmas.{Passes, passes, second_false, data_is}
-use Rattle.audit_streams.specs.declared.transcript.Place.{Place}
-use Rattle.audit_streams.specs.Transcripts.{Transcribed, rest_of, span_of, IsOf, PlacesRise, EndsRise}
+use Rattle.audit_streams.specs.Transcripts.{Transcribed, rest_of, IsOf}
 use Rattle.audit_streams.specs.Hosts.{HeardStreams, session_of}
 use Rattle.audit_streams.specs.Sending.{CanTake}
 use Rattle.audit_streams.proofs.TranscriptLemmas.{rest_of_transcript}
-use Rattle.audit_streams.proofs.Rising.{spans_of_places, spans_rise, ends_rise}
 
 -- how much is due of a stream
 due_by : (m : Meaning) (ended : Bool) (us : List (List ℕ)) (r : List ℕ) → length (flat_map m.image us ++ due_rest m ended r) ≡ cond (ended || is_released m r) (length (flat_map m.image us ++ r)) (length (flat_map m.image us ++ r) - length r)
@@ -52,8 +49,8 @@ held_is m ended released l is =
 pub image_is : (m : Meaning) (released : Bool) (l : Transcribed) → IsOf m l released → l.image ≡ image m l.octets
 image_is m released l is = ap (λ (k : Transcribed). k.image) is.lists
 
-pub spans_are : (m : Meaning) (released : Bool) (l : Transcribed) → IsOf m l released → map span_of l.places ≡ spans m l.octets
-spans_are m released l is = ap (λ (k : Transcribed). map span_of k.places) is.lists ∙ spans_of_places (spans m l.octets)
+pub spans_are : (m : Meaning) (released : Bool) (l : Transcribed) → IsOf m l released → l.places ≡ spans m l.octets
+spans_are m released l is = ap (λ (k : Transcribed). k.places) is.lists
 
 pub image_few : (m : Meaning) → IsLawful m → (released : Bool) (l : Transcribed) → IsOf m l released → 2 * length l.image ≤ 3 * length l.octets
 image_few m law released l is = omega (arith, image_small m law l.octets, ap length (image_is m released l is))
@@ -64,12 +61,6 @@ due_open m ended released l is e r =
 
 pub rest_open : (m : Meaning) (ended released : Bool) (l : Transcribed) → IsOf m l released → ended ≡ false → released ≡ false → rest_of l ≡ cond ended [] (cond (is_held m (cut m l.octets).rest) (cut m l.octets).rest [])
 rest_open m ended released l is e r = sym (held_is m ended released l is ∙ ap (λ b. cond (b || released) [] (rest_of l)) e ∙ ap (λ b. cond b [] (rest_of l)) r)
-
-pub places_rise_here : (m : Meaning) (released : Bool) (l : Transcribed) → IsOf m l released → PlacesRise l.places
-places_rise_here m released l is = subst (λ (ps : List Place). PlacesRise ps) (sym (ap (λ (k : Transcribed). k.places) is.lists)) (spans_rise m l.octets)
-
-pub ends_rise_here : (m : Meaning) (released : Bool) (l : Transcribed) → IsOf m l released → EndsRise l.ends
-ends_rise_here m released l is = subst (λ (es : List ℕ). EndsRise es) (sym (ap (λ (k : Transcribed). k.ends) is.lists)) (let c = cut m l.octets in ends_rise (pushes_of m c c.rest) 0 0 (omega arith))
 
 pub ends_are : (m : Meaning) (released : Bool) (l : Transcribed) → IsOf m l released → l.ends ≡ (let c = cut m l.octets in changed_ends 0 (pushes_of m c c.rest))
 ends_are m released l is = ap (λ (k : Transcribed). k.ends) is.lists

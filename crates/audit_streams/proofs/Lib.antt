@@ -1,5 +1,6 @@
 pub mod TranscriptLemmas
 pub mod Rising
-pub mod OctetTaken
+pub mod Places
+pub mod PieceTaken
 pub mod HostLists
 pub mod Longer

@@ -1,13 +1,13 @@
 -- Streams whose dialogue learns one more entry.
 use Rattle.std.proofs.Common.{◌≡◌, ℕ, Bool, List, [], ◌∷◌, ◌++◌, length, refl, sym, ◌∙◌, ap, subst}
-use Rattle.std.specs.Prelude.{map, not, ◌&&◌}
+use Rattle.std.specs.Prelude.{not, ◌&&◌}
 use Rattle.std.specs.List.{flat_map}
 use Rattle.dialogue.specs.Meaning.{Meaning, is_empty, is_released}
 use Rattle.dialogue.specs.Places.{Plain, Push, changed_ends}
 use Rattle.dialogue.specs.Stream.{Cut, cut, pushes_of}
 use Rattle.dialogue.specs.Learning.{Entry, IsLearning, ReadAlike, AllUnitsListed}
 use Rattle.dialogue.proofs.Alike.{cut_alike, image_alike, spans_alike, pushes_alike, learned_alike}
-use Rattle.audit_streams.specs.Transcripts.{Transcribed, transcript_of, place_of, IsOf}
+use Rattle.audit_streams.specs.Transcripts.{Transcribed, transcript_of, IsOf}
 use Rattle.audit_streams.proofs.TranscriptLemmas.{made_is}
 
 -- with more entries a stream reads alike whose addresses are listed
@@ -31,7 +31,7 @@ transcripts_alike m n s a =
     made_is _ _ _ _ _ _ _ _ _ _
     refl
     (image_alike m n s a)
-    (ap (map place_of) (spans_alike m n s a))
+    (spans_alike m n s a)
     (ends_alike m n s a)
     (ap (λ (c : Cut). length (flat_map (λ u. u) c.units)) (cut_alike m n s a))
 

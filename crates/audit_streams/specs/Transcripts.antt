@@ -1,42 +1,56 @@
 -- One host's stream, written out as whole lists: its octets, their image, the image places of each octet, and where the images of changed units end.
-use Rattle.std.specs.Prelude.{◌≡◌, ◌≤◌, ◌<◌, ◌+◌, ◌-◌, ◌^◌, ℕ, Bool, true, false, not, ◌&&◌, List, [], ◌∷◌, ◌++◌, length, map, take, drop, replicate}
+use Rattle.std.specs.Prelude.{◌≡◌, ◌≤◌, ◌<◌, ◌+◌, ◌-◌, ◌^◌, ℕ, Bool, true, false, List, [], ◌∷◌, ◌++◌, length, take, drop, replicate}
 use Rattle.std.specs.List.{flat_map}
 use Rattle.std.specs.Str.{bytes_eq}
-use Rattle.dialogue.specs.Meaning.{Meaning, is_held, is_released}
-use Rattle.dialogue.specs.Places.{Span, changed_ends}
+use Rattle.dialogue.specs.Meaning.{Meaning, is_released}
+use Rattle.dialogue.specs.Places.{Span, plain_spans, changed_ends}
 use Rattle.dialogue.specs.Stream.{cut, image, spans, pushes_of}
-use Rattle.audit_streams.specs.declared.transcript.Place.{Place}
+use Rattle.audit_streams.specs.declared.transcript.Places.{Places}
+use Rattle.audit_streams.specs.declared.transcript.ChangedUnit.{ChangedUnit}
 
 -- these lists, and where the rest after the last whole unit begins
 pub record Transcribed : Type 0 where
   pub octets : List ℕ
   pub image : List ℕ
-  pub places : List Place
+  pub places : List Span
   pub ends : List ℕ
   pub rest : ℕ
 
--- the image places of an octet as a span, and back
-abbrev pub span_of : Place → Span
+-- the image places of an octet
+abbrev pub span_of : Places → Span
 span_of p = record { first = p.first; past = p.past }
 
-abbrev pub place_of : Span → Place
-place_of s = record { first = s.first; past = s.past }
+-- The image places of the octets from `octet` to before `past`, where the image of the first begins at `place`. An octet of a changed unit has all places of the unit's image. Each other octet has one place, behind those of the octet before.
+abbrev pub places_from : ℕ → ℕ → List ChangedUnit → ℕ → List Span
+places_from octet place [] past = plain_spans place (past - octet)
+places_from octet place (u ∷ us) past = plain_spans place (u.first - octet) ++ (replicate (u.past - u.first) (record { first = u.at; past = u.end }) ++ places_from u.past u.end us past)
+
+-- this number of the last unit, or `least` if there is none
+abbrev pub last_by : (ChangedUnit → ℕ) → ℕ → List ChangedUnit → ℕ
+last_by number least [] = least
+last_by number least (u ∷ us) = last_by number (number u) us
+
+-- units follow one another from this octet on, whose image begins at this place
+abbrev pub InOrder : ℕ → ℕ → List ChangedUnit → Type 0
+InOrder octet place [] = Unit {0}
+InOrder octet place (u ∷ us) = (octet ≤ u.first) × (u.first < u.past) × (u.at + octet ≡ place + u.first) × (u.at ≤ u.end) × InOrder u.past u.end us
 
 -- the lists of these octets
 abbrev pub transcript_of : Meaning → List ℕ → Transcribed
 transcript_of m s = let c = cut m s in record {
   octets = s;
   image = image m s;
-  places = map place_of (spans m s);
+  places = spans m s;
   ends = changed_ends 0 (pushes_of m c c.rest);
   rest = length (flat_map (λ u. u) c.units);
 }
 
--- each octet has its places, the rest is the last part of the octets and of the image, and neither is too long
-pub record IsTranscript (octets image : List ℕ) (places : List Place) (rest : ℕ) : Type 0 where
+-- the changed units are in order, all before the rest, what follows the last of them stands as it is, and neither list is too long
+pub record IsTranscript (octets image : List ℕ) (units : List ChangedUnit) (rest : ℕ) : Type 0 where
   pub within : rest ≤ length octets
-  pub placed : length places ≡ length octets
-  pub last : length octets ≤ length image + rest
+  pub order : InOrder 0 0 units
+  pub before : last_by (λ u. u.past) 0 units ≤ rest
+  pub behind : last_by (λ u. u.end) 0 units + length octets ≡ length image + last_by (λ u. u.past) 0 units
   pub few : length octets < 2 ^ 30
   pub short : length image < 2 ^ 31
 
@@ -44,22 +58,12 @@ pub record IsTranscript (octets image : List ℕ) (places : List Place) (rest : 
 abbrev pub rest_of : Transcribed → List ℕ
 rest_of l = drop l.rest l.octets
 
--- one octet more, which goes on as it is
-abbrev pub with_octet : Transcribed → ℕ → Transcribed
-with_octet l x = record {
-  octets = l.octets ++ x ∷ [];
-  image = l.image ++ x ∷ [];
-  places = l.places ++ (let p : Place = record { first = length l.image; past = length l.image + 1 } in p) ∷ [];
-  ends = l.ends;
-  rest = l.rest;
-}
-
--- without the last octet
-abbrev pub without_last : Transcribed → Transcribed
-without_last l = record {
-  octets = take (length l.octets - 1) l.octets;
-  image = take (length l.image - 1) l.image;
-  places = take (length l.places - 1) l.places;
+-- with octets that follow, which go on as they are
+abbrev pub with_octets : Transcribed → List ℕ → Transcribed
+with_octets l t = record {
+  octets = l.octets ++ t;
+  image = l.image ++ t;
+  places = l.places ++ plain_spans (length l.image) (length t);
   ends = l.ends;
   rest = l.rest;
 }
@@ -77,7 +81,7 @@ abbrev pub changed : Transcribed → List ℕ → Transcribed
 changed l image = record {
   octets = l.octets;
   image = take (rest_at l) l.image ++ image;
-  places = take l.rest l.places ++ replicate (length l.octets - l.rest) (let p : Place = record { first = rest_at l; past = rest_at l + length image } in p);
+  places = take l.rest l.places ++ replicate (length l.octets - l.rest) (record { first = rest_at l; past = rest_at l + length image });
   ends = l.ends ++ (rest_at l + length image) ∷ [];
   rest = length l.octets;
 }
@@ -100,16 +104,3 @@ ended_as false l image = changed l image
 -- the rest is a unit
 abbrev pub ended : Meaning → Transcribed → Transcribed
 ended m l = ended_as (bytes_eq (m.image (rest_of l)) (rest_of l)) l (m.image (rest_of l))
-
--- these numbers of the elements rise, from so much on
-abbrev pub RisesBy : {X : Type 0} → (X → ℕ) → ℕ → List X → Type 0
-RisesBy number least [] = Unit {0}
-RisesBy number least (x ∷ xs) = (least ≤ number x) × RisesBy number (number x) xs
-
--- the last places of octets rise
-abbrev pub PlacesRise : List Place → Type 0
-PlacesRise places = RisesBy (λ p. p.past) 0 places
-
--- the ends rise
-abbrev pub EndsRise : List ℕ → Type 0
-EndsRise ends = RisesBy (λ end. end) 0 ends

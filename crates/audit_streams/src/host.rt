@@ -1,18 +1,16 @@
 // One host of a session over whole lists.
-ghost use Rattle.std.specs.Prelude.{◌≡◌, ◌≤◌, ◌<◌, ◌+◌, ◌-◌, ◌^◌, ◌++◌, ◌∷◌, ◌||◌, ◌&&◌, ◌==◌, ℕ, false, cond, nat_lt, nat_le, List, [], length, map, max, count_by, slice_range, slice_get, Some, IfOk, OnOk};
+ghost use Rattle.std.specs.Prelude.{◌≡◌, ◌≤◌, ◌<◌, ◌+◌, ◌-◌, ◌^◌, ◌++◌, ◌∷◌, ◌||◌, ◌&&◌, ◌==◌, ℕ, false, cond, nat_le, List, [], length, max, slice_range, slice_get, Some, IfOk, OnOk};
 ghost use Rattle.dialogue.specs.Repeats.{is_unlike, differ};
-ghost use Rattle.dialogue.specs.Places.{back_in};
-ghost use Rattle.dialogue.specs.Learning.{is_listed, ReadAlike, AllUnitsListed};
+ghost use Rattle.dialogue.specs.Learning.{is_listed, listed_image, ReadAlike, AllUnitsListed, AreImages};
 ghost use Rattle.dialogue.specs.Stream.{image, fore, rear, back};
 ghost use Rattle.stream_model.specs.Numbers.{number_at, number_after, known};
 ghost use Rattle.stream_model.specs.Session.{due_in, recent, extent};
 ghost use Rattle.stream_model.specs.Steps.{acknowledgement_to, bare_offset, inner_by, open_of};
-ghost use Rattle.audit_streams.specs.Transcripts.{span_of, PlacesRise, EndsRise};
 ghost use Rattle.audit_streams.specs.Hosts.{sender_of, unheard, held_in};
 
 use crate::taking::take_octets;
-use crate::transcript::{Place, Transcript};
-use dialogue::{Dialogue, Learns};
+use crate::transcript::Transcript;
+use dialogue::{Dialogue, Learns, UnitImage};
 use gate_base::{Addr, OutOfMemory};
 use std::alloc::Global;
 use std::marker::Model;
@@ -177,7 +175,7 @@ impl<D: Dialogue> WholeStream<D> {
         if self.is_past_end(place) {
             return self.count() + 1;
         }
-        below(self.transcript.places(), place) as u64
+        self.transcript.below(place)
     }
 
     // It has ended, and the place is the one behind its end.
@@ -243,7 +241,7 @@ impl<D: Dialogue> WholeStream<D> {
     pub(crate) fn pending(&self) -> usize
         ensures { result ≡ open_of (sender_of D.meaning self.now) }
     {
-        above(self.transcript.ends(), self.acked)
+        self.transcript.above(self.acked)
     }
 
     /// A SYN brings the initial number and the maximum segment size.
@@ -272,7 +270,7 @@ impl<D: Dialogue> WholeStream<D> {
     {
         take_octets(
             alloc,
-            &self.dialogue,
+            &mut self.dialogue,
             &mut self.transcript,
             &mut self.released,
             fresh,
@@ -350,11 +348,12 @@ impl<D: Dialogue> WholeStream<D> {
 }
 
 impl<D: Learns> WholeStream<D> {
-    /// Whether its list has an entry of this address.
-    pub(crate) fn knows(&self, address: Addr) -> bool
-        ensures { result ≡ is_listed (D.entries self.now.dialogue) address.0 }
+    /// What its list has of this address: `Some(image)` for an entry with an image, `Some(None)` for an address that is kept, and
+    /// None without an entry.
+    pub(crate) fn image_of(&self, address: Addr) -> Option<Option<Addr>>
+        ensures { result ≡ listed_image (D.entries self.now.dialogue) address.0 }
     {
-        self.dialogue.knows(address)
+        self.dialogue.image_of(address)
     }
 
     /// The number of entries.
@@ -389,23 +388,14 @@ impl<D: Learns> WholeStream<D> {
     {
         self.dialogue.learn(address, image);
     }
-}
 
-// How many places, which rise, lie below one.
-fn below(places: &[Place], place: u64) -> usize
-    requires { PlacesRise places.now }
-    ensures back { result ≡ back_in (map span_of places.now) place }
-    ensures few { result ≤ length places.now }
-{
-    places.partition_point(|found| u64::from(found.past) <= place)
-}
-
-// How many of these, which rise, lie above a place.
-fn above(ends: &[u64], place: u64) -> usize
-    requires { EndsRise ends.now }
-    ensures { result ≡ count_by (λ end. nat_lt place end) ends.now }
-{
-    ends.len() - ends.partition_point(|end| *end <= place)
+    /// Takes the images of the units that come next, in their order.
+    pub(crate) fn expect(&mut self, images: Vec<UnitImage>)
+        requires { AreImages (D.meaning self.old.dialogue) images.items }
+        ensures { self.new ≡ self.old }
+    {
+        self.dialogue.expect(images);
+    }
 }
 
 /// Whether two lists of octets differ where both have octets.

@@ -1,7 +1,7 @@
 // A session over whole lists.
 ghost use Rattle.std.specs.Prelude.{◌≡◌, ◌≤◌, ◌<◌, ◌+◌, ◌-◌, ◌^◌, ◌++◌, ◌∷◌, ℕ, List, slice_get, false, not, ◌||◌, ◌&&◌, ◌==◌, true, cond, nat_lt, is_some, is_none, [], length, drop, min, max, None, Some, IfOk, OnOk};
 ghost use Rattle.dialogue.specs.Stream.{image, fore, rear, back};
-ghost use Rattle.dialogue.specs.Learning.{is_listed, ReadAlike, AllUnitsListed};
+ghost use Rattle.dialogue.specs.Learning.{is_listed, listed_image, ReadAlike, AllUnitsListed, AreImages};
 ghost use Rattle.tcp_segments.specs.Flags.{flags_of, flags_octet};
 ghost use Rattle.stream_model.specs.Numbers.{number_after, known};
 ghost use Rattle.stream_model.specs.Session.{own, due_in, arrival, extent, start_of, repeats_unlike, segment_in};
@@ -14,7 +14,7 @@ ghost use Rattle.stream_model.specs.Cuts.{session_sent, sent, reset_sent, other_
 
 use crate::host::WholeStream;
 use crate::sent::Sent;
-use dialogue::{Dialogue, Learns};
+use dialogue::{Dialogue, Learns, UnitImage};
 use gate_base::{Addr, OutOfMemory, Refusal};
 use std::alloc::Global;
 use std::marker::Model;
@@ -31,8 +31,8 @@ struct Before {
     start: Offset,
 }
 
-/// A session that keeps all octets of both hosts, what their octets become on the way, and the places of each octet. It takes some ten
-/// octets of memory for each one.
+/// A session that keeps all octets of both hosts, what their octets become on the way, and where units with another image stand. It
+/// takes some two octets of memory for each octet, and 16 for each such unit.
 #[derive(Drop)]
 pub struct WholeStreams<C: Dialogue, S: Dialogue> {
     alloc: Global,
@@ -78,7 +78,7 @@ impl<C: Dialogue, S: Dialogue> WholeStreams<C, S> {
         judge(false, &self.server, &self.client, segment)
     }
 
-    /// Passes a segment of the client, or else of the server: what is sent for it, or OutOfMemory. The verdict must be None. After
+    /// Passes a segment of the client, or else of the server: what is sent for it, or OutOfMemory. The segment must pass. After
     /// OutOfMemory the session must not be used again.
     pub fn step(&mut self, from_client: bool, segment: &TcpView) -> Result<Sent, OutOfMemory>
         requires passes { segment_refusal from_client
@@ -150,16 +150,17 @@ impl<C: Dialogue, S: Dialogue> WholeStreams<C, S> {
 }
 
 impl<C: Learns, S: Learns> WholeStreams<C, S> {
-    /// Whether the client's list, or else the server's, has an entry of an address.
-    pub fn knows(&self, from_client: bool, address: Addr) -> bool
+    /// What the client's list, or else the server's, has of this address: `Some(image)` for an entry with an image, `Some(None)`
+    /// for an address that is kept, and None without an entry.
+    pub fn image_of(&self, from_client: bool, address: Addr) -> Option<Option<Addr>>
         ensures { result
-            ≡ is_listed (entries_of C.entries S.entries from_client self.now)
+            ≡ listed_image (entries_of C.entries S.entries from_client self.now)
             address.0 }
     {
         if from_client {
-            return self.client.knows(address);
+            return self.client.image_of(address);
         }
-        self.server.knows(address)
+        self.server.image_of(address)
     }
 
     /// The number of entries of the client's list, or else of the server's.
@@ -227,6 +228,22 @@ impl<C: Learns, S: Learns> WholeStreams<C, S> {
             self.client.learn(address, image);
         } else {
             self.server.learn(address, image);
+        }
+    }
+
+    /// Takes the images of the units that come next of the client, or else of the server, in their order, so that they needn't be
+    /// made again. Learning drops them.
+    pub fn expect(&mut self, from_client: bool, images: Vec<UnitImage>)
+        requires client { from_client ≡ true
+            → AreImages (C.meaning self.old.client_dialogue) images.items }
+        requires server { from_client ≡ false
+            → AreImages (S.meaning self.old.server_dialogue) images.items }
+        ensures { self.new ≡ self.old }
+    {
+        if from_client {
+            self.client.expect(images);
+        } else {
+            self.server.expect(images);
         }
     }
 }

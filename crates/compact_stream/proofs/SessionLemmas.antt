@@ -13,7 +13,7 @@ use Rattle.stream_model.specs.declared.refusals.Arrival.{Arrival}
 use Rattle.stream_model.specs.declared.refusals.Extent.{Extent}
 use Rattle.stream_model.proofs.PassLemmas.{passes}
 use Rattle.compact_stream.specs.Kept.{CompactSender, sender_of, KeepsSender, extent_kept, unlike_kept, own_kept, other_kept}
-use Rattle.compact_stream.specs.Sessions.{CompactState, StandsForSession, kept_verdict, kept_next}
+use Rattle.compact_stream.specs.Sessions.{CompactState, StandsForSession, kept_refusal, kept_next}
 use Rattle.compact_stream.proofs.SenderLemmas.{extent_is}
 use Rattle.compact_stream.proofs.SenderSteps.{own_kept_keeps, other_kept_keeps}
 
@@ -51,7 +51,7 @@ unlike_is m h a g k =
 verdict_of : (f : Bool) (a b c d : Extent) (g : Arrival) (u v : Bool) → a ≡ c → b ≡ d → u ≡ v → refusal_of f a b g u ≡ refusal_of f c d g v
 verdict_of f a b c d g u v e h i = ap (λ (x : Extent). refusal_of f x b g u) e ∙ ap (λ (x : Extent). refusal_of f c x g u) h ∙ ap (refusal_of f c d g) i
 
-pub verdict_is : (m n : Meaning) (h : CompactState) (x : Session) (from_client : Bool) (g : Segment) → StandsForSession m n h x → kept_verdict from_client h g ≡ segment_refusal from_client x g
+pub verdict_is : (m n : Meaning) (h : CompactState) (x : Session) (from_client : Bool) (g : Segment) → StandsForSession m n h x → kept_refusal from_client h g ≡ segment_refusal from_client x g
 verdict_is m n h x true g k =
     verdict_of true (extent_kept h.client) (extent_kept h.server) (extent x.client) (extent x.server) (arrival g) (unlike_kept h.client g) (repeats_unlike x.client g) (extent_of_sender m h.client x.client k.client) (extent_of_sender n h.server x.server k.server) (unlike_is m h.client x.client g k.client)
 verdict_is m n h x false g k =

@@ -42,7 +42,7 @@ pub record KeepsSender (m : Meaning) (h : CompactSender) (a : Sender) : Type 0 w
   pub is : a ≡ sender_of m h a.octets
   pub keeps : Keeps m h a.octets
 
--- what a verdict needs to know of it
+-- what decides a refusal, of it
 abbrev pub extent_kept : CompactSender → Extent
 extent_kept h = record { initial = h.initial; octets = h.ledger.octets_in + length h.rest; due = h.ledger.octets_out; ended = h.ended; recent = length h.recent }
 

@@ -34,9 +34,9 @@ abbrev pub receiver_kept : Bool → CompactState → CompactSender
 receiver_kept true h = h.server
 receiver_kept false h = h.client
 
--- the verdict, by what is kept
-abbrev pub kept_verdict : Bool → CompactState → Segment → Option Refusal
-kept_verdict from_client h segment = refusal_of from_client (extent_kept (sender_kept from_client h)) (extent_kept (receiver_kept from_client h)) (arrival segment) (unlike_kept (sender_kept from_client h) segment)
+-- why a segment is refused, by what is kept
+abbrev pub kept_refusal : Bool → CompactState → Segment → Option Refusal
+kept_refusal from_client h segment = refusal_of from_client (extent_kept (sender_kept from_client h)) (extent_kept (receiver_kept from_client h)) (arrival segment) (unlike_kept (sender_kept from_client h) segment)
 
 -- what is kept after a segment of the client (true), or of the server
 abbrev pub kept_next : Meaning → Meaning → Bool → CompactState → Segment → CompactState

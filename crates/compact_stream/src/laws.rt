@@ -13,7 +13,7 @@ ghost use Rattle.stream_model.specs.declared.refusals.Extent.{Extent};
 ghost use Rattle.compact_stream.specs.Runs.{held_rest};
 ghost use Rattle.compact_stream.specs.Kept.{CompactSender, Keeps, KeepsSender, InRange, octets_kept, recent_start, sent_pushes, extent_kept, own_kept, other_kept};
 ghost use Rattle.compact_stream.specs.Outs.{recent_back};
-ghost use Rattle.compact_stream.specs.Sessions.{CompactState, StandsForSession, sender_kept, kept_made, kept_verdict, kept_next};
+ghost use Rattle.compact_stream.specs.Sessions.{CompactState, StandsForSession, sender_kept, kept_made, kept_refusal, kept_next};
 
 /// Of the session that a client's first SYN makes, what is kept is two ledgers of which nothing was pushed.
 pub fn kept_session_begins()
@@ -39,10 +39,10 @@ pub fn kept_session_judges()
     ensures open_units { (m : Meaning) (h : CompactSender) (a : Sender)
         → KeepsSender m h a
         → length h.ledger.changed ≡ open_of a }
-    ensures verdict { (m n : Meaning) (h : CompactState) (x : Session)
+    ensures refusal { (m n : Meaning) (h : CompactState) (x : Session)
         (from_client : Bool) (g : Segment)
         → StandsForSession m n h x
-        → kept_verdict from_client h g ≡ segment_refusal from_client x g }
+        → kept_refusal from_client h g ≡ segment_refusal from_client x g }
 {}
 
 /// What is kept after a segment that passes is determined by what was kept before it, and is that of the session after it.

@@ -1,9 +1,10 @@
 -- Lists into which addresses are entered.
 use Rattle.std.proofs.Common.{zero, suc, Some, ◌≡◌, ◌≤◌, ◌<◌, ◌+◌, ℕ, Bool, true, false, List, [], ◌∷◌, ◌++◌, length, take, drop, refl, sym, ◌∙◌, ap, subst, arith, inl, inr, append_assoc}
-use Rattle.std.specs.Prelude.{map, Option, ◌==◌, nat_lt}
+use Rattle.std.specs.Prelude.{map, Option, ◌==◌, ◌||◌, nat_lt}
 use Rattle.std.specs.List.{list_any, slice_get, slice_index_or}
 use Rattle.std.proofs.lemmas.Bool.{cases_Bool, lt-ltb}
 use Rattle.std.proofs.lemmas.List.{append-nil, length-append, length-map, map-append, take-append-drop}
+use Rattle.std.proofs.lemmas.List.Folds.{list_any-append}
 use Rattle.std.proofs.lemmas.List.Sums.{fold-append}
 use Rattle.std.proofs.lemmas.Option.{slice_get_within}
 use Rattle.gate_base.specs.declared.address.Addr.{Addr}
@@ -54,6 +55,13 @@ room_for es named rest one i at few new =
     ap (entered_all es) (sym (take-append-drop i named)) ∙ fold-append enter_one es (take i named) (drop i named) ∙ ap (λ (xs : List Entry). entered_all (entered_all es (take i named)) xs) at in
     omega (arith, few, ap length split, all-more (enter_one (entered_all es (take i named)) one) rest, new-more (entered_all es (take i named)) one new)
 
+-- an address is entered behind what is new, unless one of both lists has it
+pub enters_none : (es new : List Entry) (one : Entry) → (is_listed es one.0.0 || is_listed new one.0.0) ≡ true → enter_one (es ++ new) one ≡ es ++ new
+enters_none es new one e = let known : is_listed (es ++ new) one.0.0 ≡ true = list_any-append (is_of one.0.0) es new ∙ e in rw known refl
+
+pub enters_new : (es new : List Entry) (one : Entry) → (is_listed es one.0.0 || is_listed new one.0.0) ≡ false → enter_one (es ++ new) one ≡ es ++ (new ++ one ∷ [])
+enters_new es new one e = let known : is_listed (es ++ new) one.0.0 ≡ false = list_any-append (is_of one.0.0) es new ∙ e in rw known (append_assoc es new (one ∷ []))
+
 -- what stands from a place on, and up to one
 pub drop-next : {X : Type 0} (xs : List X) (i : ℕ) (d : X) → i < length xs → drop i xs ≡ slice_index_or xs i d ∷ drop (suc i) xs
 drop-next [] i d l = absurd (omega (arith, l))
@@ -68,11 +76,12 @@ take-next xs i x e = let same : i + 1 ≡ suc i = omega arith in ap (λ (n : ℕ
     go {X} {x} (y ∷ xs) zero e = let same : y ≡ x = (let f : Some y ≡ Some x = e in cc) in subst (λ (z : X). y ∷ [] ≡ z ∷ []) same refl
     go {X} {x} (y ∷ xs) (suc i) e = ap (λ (zs : List X). y ∷ zs) (go {x = x} xs i e)
 
--- a list that has too many entries once some are entered has too many once all are
-pub still_full : (es named : List Entry) (i : ℕ) → 256 < length (entered_all es (take i named)) → nat_lt 256 (length (entered_all es named)) ≡ true
-still_full es named i full =
-    let split : entered_all es named ≡ entered_all (entered_all es (take i named)) (drop i named) = ap (entered_all es) (sym (take-append-drop i named)) ∙ fold-append enter_one es (take i named) (drop i named) in
-    lt-ltb 256 (length (entered_all es named)) (omega (arith, full, ap length split, all-more (entered_all es (take i named)) (drop i named)))
+-- a list that has too many entries with one has too many with all
+pub full_with : (es named rest : List Entry) (one : Entry) (i : ℕ) → drop i named ≡ one ∷ rest → 256 < length (enter_one (entered_all es (take i named)) one) → nat_lt 256 (length (entered_all es named)) ≡ true
+full_with es named rest one i at full =
+    let split : entered_all es named ≡ entered_all (enter_one (entered_all es (take i named)) one) rest =
+    ap (entered_all es) (sym (take-append-drop i named)) ∙ fold-append enter_one es (take i named) (drop i named) ∙ ap (λ (xs : List Entry). entered_all (entered_all es (take i named)) xs) at in
+    lt-ltb 256 (length (entered_all es named)) (omega (arith, full, ap length split, all-more (enter_one (entered_all es (take i named)) one) rest))
 
 abbrev addresses_of : List Entry → List Addr
 addresses_of es = map (λ (entry : Entry). entry.0) es

@@ -1,4 +1,5 @@
 pub mod NamedLemmas
 pub mod EnteredLemmas
+pub mod ImageLemmas
 pub mod PlannedLemmas
 pub mod ToldLemmas

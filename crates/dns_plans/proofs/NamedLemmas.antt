@@ -9,9 +9,10 @@ use Rattle.dns_stream.specs.Images.{dns_units}
 use Rattle.dns_stream.specs.Lawful.{dns_units-lawful}
 use Rattle.dns_stream.specs.Units.{unit_end, unit_addresses}
 use Rattle.dialogue.proofs.FirstUnit.{cut-first, cut-rest}
-use Rattle.dialogue.specs.Learning.{Entry}
-use Rattle.gate_model.specs.Lists.{addresses_in, is_bad, grows_too_much}
+use Rattle.gate_model.specs.Lists.{addresses_in, is_bad}
 use Rattle.dns_plans.specs.Plans.{whole_units}
+use Rattle.dns_plans.specs.Steps.{AreRead, unit_of}
+use Rattle.dns_plans.specs.declared.named.ReadUnit.{ReadUnit}
 
 -- one of the units is bad
 abbrev has_bad : List (List ℕ) → Bool
@@ -77,31 +78,23 @@ pub one_bad : (octets : List ℕ) (at n : ℕ) (named : List Addr) → UnderWay 
 one_bad octets at n named w e bad =
     w.good ∙ ap has_bad (units-first (drop at octets) n e) ∙ ap (λ (b : Bool). b || has_bad (whole_units (drop n (drop at octets)))) bad
 
--- from the front to a place one unit grows too much, or none
-pub record Grows (entries : List Entry) (octets : List ℕ) (at : ℕ) (grows : Bool) : Type 0 where
-  pub within : at ≤ length octets
-  pub so_far : list_any (grows_too_much entries) (whole_units octets) ≡ (grows || list_any (grows_too_much entries) (whole_units (drop at octets)))
+-- from the front to a place the units are read
+pub record ReadSoFar (octets : List ℕ) (at : ℕ) (units : List ReadUnit) : Type 0 where
+  pub units_are : whole_units octets ≡ map unit_of units ++ whole_units (drop at octets)
+  pub each : AreRead units
 
-pub grows_on : (entries : List Entry) (octets : List ℕ) (at n : ℕ) (grows more : Bool) → Grows entries octets at grows → unit_end (drop at octets) ≡ Some n → n ≤ length (drop at octets) → more ≡ (grows || grows_too_much entries (take n (drop at octets))) → Grows entries octets (at + n) more
-grows_on entries octets at n grows more g e within is =
+pub reads_on : (octets : List ℕ) (at n : ℕ) (units more : List ReadUnit) → ReadSoFar octets at units → unit_end (drop at octets) ≡ Some n → map unit_of more ≡ map unit_of units ++ take n (drop at octets) ∷ [] → AreRead more → ReadSoFar octets (at + n) more
+reads_on octets at n units more w e are each =
     let next : drop n (drop at octets) ≡ drop (at + n) octets = drop-drop n at octets ∙ ap (λ (i : ℕ). drop i octets) (omega arith) in
     let both : whole_units (drop at octets) ≡ take n (drop at octets) ∷ whole_units (drop (at + n) octets) = units-first (drop at octets) n e ∙ ap (λ (s : List ℕ). take n (drop at octets) ∷ whole_units s) next in
     record {
-      within = omega (arith, within, length-drop at octets, g.within);
-      so_far =
-          g.so_far
-          ∙ ap (λ us. grows || list_any (grows_too_much entries) us) both
-          ∙ or_or grows (grows_too_much entries (take n (drop at octets))) (list_any (grows_too_much entries) (whole_units (drop (at + n) octets)))
-          ∙ ap (λ (b : Bool). b || list_any (grows_too_much entries) (whole_units (drop (at + n) octets))) (sym is);
+      units_are =
+          w.units_are
+          ∙ ap (λ (us : List (List ℕ)). map unit_of units ++ us) both
+          ∙ sym (append_assoc (map unit_of units) (take n (drop at octets) ∷ []) (whole_units (drop (at + n) octets)))
+          ∙ ap (λ (us : List (List ℕ)). us ++ whole_units (drop (at + n) octets)) (sym are);
+      each = each;
     }
-  where
-    or_or : (a b c : Bool) → (a || (b || c)) ≡ ((a || b) || c)
-    or_or true b c = refl
-    or_or false b c = refl
 
-pub grows_all : (entries : List Entry) (octets : List ℕ) (at : ℕ) (grows : Bool) → Grows entries octets at grows → unit_end (drop at octets) ≡ None → grows ≡ list_any (grows_too_much entries) (whole_units octets)
-grows_all entries octets at grows g e = sym (g.so_far ∙ ap (λ us. grows || list_any (grows_too_much entries) us) (units-none (drop at octets) e) ∙ or_false grows)
-  where
-    or_false : (a : Bool) → (a || false) ≡ a
-    or_false true = refl
-    or_false false = refl
+pub all_read : (octets : List ℕ) (at : ℕ) (units : List ReadUnit) → ReadSoFar octets at units → unit_end (drop at octets) ≡ None → map unit_of units ≡ whole_units octets
+all_read octets at units w e = sym (w.units_are ∙ ap (λ (us : List (List ℕ)). map unit_of units ++ us) (units-none (drop at octets) e) ∙ append-nil _)

@@ -7,8 +7,9 @@ ghost use Rattle.binding_table.specs.Plan.{Use, AreUsesOf, needed};
 ghost use Rattle.dialogue.specs.Learning.{Entry};
 ghost use Rattle.dns_plans.specs.Plans.{all_addresses, called_after, beside, AreBound};
 
-use crate::plan::{Endpoints, Entry};
+use crate::plan::Endpoints;
 use binding_table::{SeenAddresses, Table};
+use dns_stream::Entry;
 use gate_base::{Addr, OutOfMemory};
 use std::alloc::Global;
 

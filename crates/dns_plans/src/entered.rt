@@ -1,59 +1,70 @@
 // Addresses that are entered into a list.
-ghost use Rattle.std.specs.Prelude.{◌≡◌, is_none, nat_lt, length, IfOk, IfSome};
+ghost use Rattle.std.specs.Prelude.{◌≡◌, ◌≤◌, ◌++◌, true, not, is_none, nat_lt, length, IfOk, IfSome};
 ghost use Rattle.std.specs.List.{list_any};
-ghost use Rattle.dialogue.specs.Learning.{is_listed};
 ghost use Rattle.gate_model.specs.Lists.{most_entries};
 ghost use Rattle.gate_model.specs.Names.{is_unbound};
 ghost use Rattle.gate_model.specs.Units.{is_new_unbound};
 ghost use Rattle.dns_plans.specs.Steps.{enter_one, entered_all};
 
-use crate::plan::Entry;
+use crate::sender::Sender;
+use crate::session::Session;
 use binding_table::{Crossing, Table};
+use dns_stream::{Entry, RenameList};
 use gate_base::{Addr, OutOfMemory, Side};
 use std::alloc::Global;
 
 /// The most entries of a list.
-pub const MOST_ENTRIES: usize = 256;
+const MOST_ENTRIES: usize = 256;
 
-fn is_listed(entries: &[Entry], address: Addr) -> bool
-    ensures { result ≡ is_listed entries.now address.0 }
+/// Enters an address into `new`, unless the sender's list or `new` has it. False exactly where it would be the 257th entry.
+fn enter_one<S: Session>(sender: &Sender<'_, S>, new: &mut RenameList, one: Entry) -> bool
+    requires few { length
+        (S.rules.listed sender.now.is_client sender.now.session.now ++ new.old)
+        ≤ 256 }
+    ensures entered { result ≡ true
+        → S.rules.listed sender.now.is_client sender.now.session.now ++ new.new
+        ≡ enter_one
+        (S.rules.listed sender.now.is_client sender.now.session.now ++ new.old) one }
+    ensures room { result
+        ≡ not (nat_lt most_entries (length (enter_one
+        (S.rules.listed sender.now.is_client sender.now.session.now ++ new.old)
+        one))) }
 {
-    entries.iter().any(|entry| entry.0 == address)
-}
-
-/// Enters an address, unless it is listed.
-fn enter_one(entries: &mut Vec<Entry>, one: Entry) -> Result<(), OutOfMemory>
-    ensures { IfOk result (λ _. entries.new.items ≡ enter_one entries.old.items one) }
-{
-    if is_listed(entries, one.0) {
-        return Ok(());
+    if sender.knows(one.0) || new.image_of(one.0).is_some() {
+        return true;
     }
-    entries.push(one)?;
-    Ok(())
+    if sender.listed() + new.len() == MOST_ENTRIES {
+        return false;
+    }
+    new.learn(one.0, one.1);
+    true
 }
 
-/// The list with these entered, one after the other; None exactly where it would have more than 256 entries.
-pub fn entered_all(
+/// What is new to the sender's list once these are entered, one after the other. None exactly where the list would have more than 256
+/// entries with it.
+pub fn new_entries<S: Session>(
     alloc: Global,
-    entries: &[Entry],
+    sender: &Sender<'_, S>,
     named: &[Entry],
-) -> Result<Option<Vec<Entry>>, OutOfMemory>
-    ensures few { IfOk result (λ after. is_none after
-        ≡ nat_lt most_entries (length (entered_all entries.now named.now))) }
-    ensures list { IfOk result (λ after. IfSome after
-        (λ list. list.items ≡ entered_all entries.now named.now)) }
+) -> Result<Option<RenameList>, OutOfMemory>
+    ensures few { IfOk result (λ new. is_none new
+        ≡ nat_lt most_entries (length (entered_all
+        (S.rules.listed sender.now.is_client sender.now.session.now)
+        named.now))) }
+    ensures list { IfOk result (λ new. IfSome new (λ list.
+        S.rules.listed sender.now.is_client sender.now.session.now ++ list
+        ≡ entered_all (S.rules.listed sender.now.is_client sender.now.session.now)
+        named.now)) }
 {
-    let mut list = Vec::from_slice(alloc, entries)?;
+    let mut new = RenameList::new(alloc)?;
+    // The proof needs that the list has at most 256 entries.
+    let _few = sender.listed();
     for one in named {
-        if MOST_ENTRIES < list.len() {
+        if !enter_one(sender, &mut new, *one) {
             return Ok(None);
         }
-        enter_one(&mut list, *one)?;
     }
-    if MOST_ENTRIES < list.len() {
-        return Ok(None);
-    }
-    Ok(Some(list))
+    Ok(Some(new))
 }
 
 fn is_unbound(crossing: Crossing) -> bool
@@ -62,18 +73,31 @@ fn is_unbound(crossing: Crossing) -> bool
     matches!(crossing, Crossing::Unbound)
 }
 
-fn is_new_unbound(table: &Table, side: Side, entries: &[Entry], address: Addr) -> bool
-    ensures { result ≡ is_new_unbound table.now side entries.now address }
+fn is_new_unbound<S: Session>(
+    table: &Table,
+    side: Side,
+    sender: &Sender<'_, S>,
+    address: Addr,
+) -> bool
+    ensures { result
+        ≡ is_new_unbound table.now side
+        (S.rules.listed sender.now.is_client sender.now.session.now) address }
 {
-    !is_listed(entries, address) && is_unbound(table.cross(side, address))
+    !sender.knows(address) && is_unbound(table.cross(side, address))
 }
 
 /// One of the addresses isn't listed, is of the realm's pool and stands for no host.
-pub fn has_new_unbound(table: &Table, side: Side, entries: &[Entry], named: &[Addr]) -> bool
+pub fn has_new_unbound<S: Session>(
+    table: &Table,
+    side: Side,
+    sender: &Sender<'_, S>,
+    named: &[Addr],
+) -> bool
     ensures { result
-        ≡ list_any (is_new_unbound table.now side entries.now) named.now }
+        ≡ list_any (is_new_unbound table.now side
+        (S.rules.listed sender.now.is_client sender.now.session.now)) named.now }
 {
     named
         .iter()
-        .any(|address| is_new_unbound(table, side, entries, *address))
+        .any(|address| is_new_unbound(table, side, sender, *address))
 }

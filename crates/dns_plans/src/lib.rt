@@ -8,10 +8,13 @@ mod growth;
 mod named;
 mod octets;
 mod plan;
+mod sender;
 mod session;
 mod stop;
 
+pub use dns_stream::Entry;
 pub use octets::UnitOctets;
-pub use plan::{Endpoints, Entry, UnitPlan, plan_units};
+pub use plan::{Completed, Endpoints, UnitPlan, plan_units};
+pub use sender::Sender;
 pub use session::{Session, Tracked};
 pub use stop::PlanStop;

@@ -1,22 +1,24 @@
 // What units do.
-ghost use Rattle.std.specs.Prelude.{◌≡◌, ◌≢◌, ◌≤◌, List, ◌∷◌, [], None, Err, length, IfOk, IfErr};
+ghost use Rattle.std.specs.Prelude.{◌≡◌, ◌≢◌, ◌≤◌, List, ◌∷◌, [], None, Err, length, map, IfOk, IfErr};
+ghost use Rattle.dialogue.specs.Learning.{AreImages};
+ghost use Rattle.dns_stream.specs.Images.{dns_units};
 ghost use Rattle.gate_base.specs.Tests.{first_that_holds};
 ghost use Rattle.binding_table.specs.Plan.{Use, AreUsesOf};
-ghost use Rattle.dns_plans.specs.Steps.{none_tests};
+ghost use Rattle.dns_plans.specs.Steps.{entered_all, image_unit, none_tests};
 ghost use Rattle.dns_plans.specs.Plans.{whole_units, names_in, all_addresses, called_after, beside, AreBound, IsListBound, plan_tests, TellsFirst};
 
 use crate::called::called_beside;
-use crate::entered::{MOST_ENTRIES, entered_all, has_new_unbound};
-use crate::growth::one_grows;
-use crate::named::named_in_units;
+use crate::entered::{has_new_unbound, new_entries};
+use crate::growth::unit_images;
+use crate::named::{ReadUnits, read_units};
+use crate::sender::Sender;
+use crate::session::Session;
 use crate::stop::PlanStop;
 use binding_table::{SeenAddresses, Table};
-use dns_stream::{UnitStop, unit_end};
+use dialogue::UnitImage;
+use dns_stream::{Entry, UnitStop, unit_end};
 use gate_base::{Addr, Refusal, Side};
 use std::alloc::Global;
-
-/// An address with its image, or one that is kept.
-pub type Entry = (Addr, Option<Addr>);
 
 /// The realm that sends a segment, and both addresses of its header.
 #[derive(Clone, Copy)]
@@ -27,38 +29,66 @@ pub struct Endpoints {
 }
 
 /// What units do: the addresses to rename in them, in their order and as often as they stand there. Beside each is what it is
-/// called once all of them are used, and None where it is kept.
+/// called once all of them are used, and None where it is kept. The images are those of the units by the list of their sender once the
+/// entries are entered.
 #[derive(Drop)]
 pub struct UnitPlan {
     pub named: Vec<Addr>,
     pub entries: Vec<Entry>,
+    pub images: Vec<UnitImage>,
+}
+
+impl UnitPlan {
+    /// What no units do.
+    pub fn new(alloc: Global) -> UnitPlan
+        ensures named { result.named.items ≡ [] }
+        ensures entries { result.entries.items ≡ [] }
+        ensures images { result.images.items ≡ [] }
+    {
+        UnitPlan {
+            named: Vec::new(alloc),
+            entries: Vec::new(alloc),
+            images: Vec::new(alloc),
+        }
+    }
+}
+
+/// What the units of a segment bring to its session: the addresses in them, each beside what it is called, and the images of the units
+/// by the list with these entries.
+#[derive(Drop)]
+pub struct Completed<'a> {
+    pub entries: &'a [Entry],
+    pub images: Vec<UnitImage>,
 }
 
 /// What the whole units in octets do that follow a unit's end, by a table and the list of their sender, or the first reason to refuse
 /// the segment that completes them. Memory is taken only where there is a whole unit.
-pub fn plan_units(
+#[inline(never)]
+pub fn plan_units<S: Session>(
     alloc: Global,
     table: &Table,
     seen_addresses: &mut SeenAddresses,
     endpoints: &Endpoints,
-    entries: &[Entry],
+    sender: &Sender<'_, S>,
     octets: &[u8],
 ) -> Result<UnitPlan, PlanStop>
     requires header { AreBound table.now endpoints.now.side
         (endpoints.now.source ∷ endpoints.now.destination ∷ []) }
-    requires listed { IsListBound table.now endpoints.now.side entries.now }
+    requires listed { IsListBound table.now endpoints.now.side
+        (S.rules.listed sender.now.is_client sender.now.session.now) }
     ensures refused { (uses : List Use)
         → AreUsesOf endpoints.now.side
         (all_addresses endpoints.now (names_in octets.now)) uses
         → IfErr result (TellsFirst (first_that_holds (plan_tests table.now
-        (called_after table.now uses endpoints.now.side) endpoints.now entries.now
-        octets.now))) }
+        (called_after table.now uses endpoints.now.side) endpoints.now
+        (S.rules.listed sender.now.is_client sender.now.session.now) octets.now))) }
     ensures passes { (uses : List Use)
         → AreUsesOf endpoints.now.side
         (all_addresses endpoints.now (names_in octets.now)) uses
         → IfOk result (λ _. first_that_holds (plan_tests table.now
         (called_after table.now uses endpoints.now.side) endpoints.now
-        entries.now octets.now) ≡ None) }
+        (S.rules.listed sender.now.is_client sender.now.session.now)
+        octets.now) ≡ None) }
     ensures named { IfOk result (λ plan. plan.named.items ≡ names_in octets.now) }
     ensures entries { (uses : List Use)
         → AreUsesOf endpoints.now.side
@@ -66,70 +96,77 @@ pub fn plan_units(
         → IfOk result (λ plan. plan.entries.items
         ≡ beside (called_after table.now uses endpoints.now.side)
         (names_in octets.now)) }
+    ensures units { IfOk result
+        (λ plan. map image_unit plan.images.items ≡ whole_units octets.now) }
+    ensures images { IfOk result (λ plan. AreImages
+        (dns_units (entered_all
+        (S.rules.listed sender.now.is_client sender.now.session.now)
+        plan.entries.items)) plan.images.items) }
     ensures memory { result ≡ Err PlanStop.OutOfMemory
         → 1 ≤ length (whole_units octets.now) }
 {
     if unit_end(octets).is_none() {
-        return plan_none(alloc, table, seen_addresses, endpoints, entries);
+        return plan_none(alloc, table, seen_addresses, endpoints, sender);
     }
-    plan_some(alloc, table, seen_addresses, endpoints, entries, octets)
+    plan_some(alloc, table, seen_addresses, endpoints, sender, octets)
 }
 
 /// What no units do.
-fn plan_none(
+fn plan_none<S: Session>(
     alloc: Global,
     table: &Table,
     seen_addresses: &mut SeenAddresses,
     endpoints: &Endpoints,
-    entries: &[Entry],
+    sender: &Sender<'_, S>,
 ) -> Result<UnitPlan, PlanStop>
     requires header { AreBound table.now endpoints.now.side
         (endpoints.now.source ∷ endpoints.now.destination ∷ []) }
     ensures refused { IfErr result (TellsFirst
-        (first_that_holds (none_tests table.now endpoints.now entries.now))) }
+        (first_that_holds (none_tests table.now endpoints.now
+        (S.rules.listed sender.now.is_client sender.now.session.now)))) }
     ensures passes { IfOk result (λ _. first_that_holds
-        (none_tests table.now endpoints.now entries.now) ≡ None) }
+        (none_tests table.now endpoints.now
+        (S.rules.listed sender.now.is_client sender.now.session.now)) ≡ None) }
     ensures named { IfOk result (λ plan. plan.named.items ≡ []) }
     ensures entries { IfOk result (λ plan. plan.entries.items ≡ []) }
+    ensures images { IfOk result (λ plan. plan.images.items ≡ []) }
     ensures memory { result ≢ Err PlanStop.OutOfMemory }
 {
-    if MOST_ENTRIES < entries.len() {
-        return Err(PlanStop::Refused(Refusal::RenamesFull));
-    }
+    // The proof needs that the list has at most 256 entries.
+    let _few = sender.listed();
     let header = [endpoints.source, endpoints.destination];
     if !table.plan(endpoints.side, &header, &mut [None, None], seen_addresses) {
         return Err(PlanStop::Refused(Refusal::PoolEmpty));
     }
-    Ok(UnitPlan {
-        named: Vec::new(alloc),
-        entries: Vec::new(alloc),
-    })
+    Ok(UnitPlan::new(alloc))
 }
 
 /// What units do.
-fn plan_some(
+fn plan_some<S: Session>(
     alloc: Global,
     table: &Table,
     seen_addresses: &mut SeenAddresses,
     endpoints: &Endpoints,
-    entries: &[Entry],
+    sender: &Sender<'_, S>,
     octets: &[u8],
 ) -> Result<UnitPlan, PlanStop>
     requires header { AreBound table.now endpoints.now.side
         (endpoints.now.source ∷ endpoints.now.destination ∷ []) }
-    requires listed { IsListBound table.now endpoints.now.side entries.now }
+    requires listed { IsListBound table.now endpoints.now.side
+        (S.rules.listed sender.now.is_client sender.now.session.now) }
     ensures refused { (uses : List Use)
         → AreUsesOf endpoints.now.side
         (all_addresses endpoints.now (names_in octets.now)) uses
         → IfErr result (TellsFirst (first_that_holds (plan_tests table.now
-        (called_after table.now uses endpoints.now.side) endpoints.now entries.now
-        octets.now))) }
+        (called_after table.now uses endpoints.now.side) endpoints.now
+        (S.rules.listed sender.now.is_client sender.now.session.now) octets.now))) }
     ensures passes { (uses : List Use)
         → AreUsesOf endpoints.now.side
         (all_addresses endpoints.now (names_in octets.now)) uses
         → IfOk result (λ _. first_that_holds (plan_tests table.now
         (called_after table.now uses endpoints.now.side) endpoints.now
-        entries.now octets.now) ≡ None) }
+        (S.rules.listed sender.now.is_client sender.now.session.now)
+        octets.now) ≡ None) }
     ensures named { IfOk result (λ plan. plan.named.items ≡ names_in octets.now) }
     ensures entries { (uses : List Use)
         → AreUsesOf endpoints.now.side
@@ -137,27 +174,34 @@ fn plan_some(
         → IfOk result (λ plan. plan.entries.items
         ≡ beside (called_after table.now uses endpoints.now.side)
         (names_in octets.now)) }
+    ensures units { IfOk result
+        (λ plan. map image_unit plan.images.items ≡ whole_units octets.now) }
+    ensures images { IfOk result (λ plan. AreImages
+        (dns_units (entered_all
+        (S.rules.listed sender.now.is_client sender.now.session.now)
+        plan.entries.items)) plan.images.items) }
 {
-    let named = match named_in_units(alloc, octets) {
-        Ok(named) => named,
+    let ReadUnits { units, named } = match read_units(alloc, octets) {
+        Ok(read) => read,
         Err(UnitStop::BadUnit) => return Err(PlanStop::Refused(Refusal::BadUnit)),
         Err(UnitStop::OutOfMemory) => return Err(PlanStop::OutOfMemory),
     };
-    if has_new_unbound(table, endpoints.side, entries, &named) {
+    if has_new_unbound(table, endpoints.side, sender, &named) {
         return Err(PlanStop::Refused(Refusal::UnitUnbound));
     }
-    let (called, room) = called_beside(alloc, table, seen_addresses, endpoints, &named)?;
-    let Some(after) = entered_all(alloc, entries, &called)? else {
+    let (entries, room) = called_beside(alloc, table, seen_addresses, endpoints, &named)?;
+    let Some(new) = new_entries(alloc, sender, &entries)? else {
         return Err(PlanStop::Refused(Refusal::RenamesFull));
     };
     if !room {
         return Err(PlanStop::Refused(Refusal::PoolEmpty));
     }
-    if one_grows(alloc, &after, octets)? {
+    let Some(images) = unit_images(alloc, sender, &new, units)? else {
         return Err(PlanStop::Refused(Refusal::UnitGrows));
-    }
+    };
     Ok(UnitPlan {
         named,
-        entries: called,
+        entries,
+        images,
     })
 }

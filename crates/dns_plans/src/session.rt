@@ -1,14 +1,14 @@
 // Sessions that are tracked, whatever they keep.
-ghost use Rattle.std.specs.Prelude.{◌≡◌, ◌≤◌, ◌<◌, length, slice_get, None, Some, IfOk};
+ghost use Rattle.std.specs.Prelude.{◌≡◌, ◌≤◌, ◌<◌, length, slice_get, None, Some};
+ghost use Rattle.dialogue.specs.Learning.{listed_image};
 ghost use Rattle.stream_model.specs.Session.{segment_in};
 ghost use Rattle.dns_plans.specs.Plans.{whole_units};
 ghost use Rattle.gate_model.specs.Rules.{SessionRules};
 ghost use Rattle.gate_model.specs.World.{is_client};
 
 use crate::octets::UnitOctets;
-use crate::plan::Entry;
-use gate_base::{OutOfMemory, Pair, Refusal, Side};
-use std::alloc::Global;
+use dns_stream::Entry;
+use gate_base::{Addr, Pair, Refusal, Side};
 use std::marker::Model;
 use tcp_segments::TcpView;
 
@@ -36,10 +36,10 @@ pub trait Session {
         requires { place < length (rules.listed client self.now) }
         ensures { slice_get (rules.listed client self.now) place ≡ Some result };
 
-    /// A copy of that list.
-    fn entries(&self, alloc: Global, client: bool) -> Result<Vec<Entry>, OutOfMemory>
-        ensures { IfOk result
-            (λ entries. entries.items ≡ rules.listed client self.now) };
+    /// What the client's list, or else the server's, has of an address: `Some(image)` for an entry with an image, `Some(None)` for an
+    /// address that is kept, and None without an entry.
+    fn image_of(&self, client: bool, address: Addr) -> Option<Option<Addr>>
+        ensures { result ≡ listed_image (rules.listed client self.now) address.0 };
 
     /// Puts the octets whose whole units a segment of the client, or else of the server, completes: a held rest and what goes on behind
     /// it, in a session of DNS. The segment must pass.

@@ -7,9 +7,10 @@ ghost use Rattle.event_steps.specs.Segments.{IsSegmentOf, AreCalled, Enters};
 ghost use Rattle.event_engine.specs.Engines.{Gives, IsStepped, IsUnstepped};
 
 use crate::stepped::Stepped;
-use dns_plans::{Entry, Session, Tracked};
+use dns_plans::{Completed, Session, Tracked};
+use event_steps::Workspace;
 use gate_base::{OutOfMemory, Pair, Refusal};
-use gate_outbox::{Outbox, Scratch, Segment};
+use gate_outbox::{Outbox, Segment};
 use gate_payloads::Way;
 use std::alloc::Global;
 use tcp_segments::TcpView;
@@ -45,30 +46,29 @@ pub trait Engine: Session + Drop {
             (Self.rules.made segment.now.destination_port pair
             segment.now.sequence segment.now.mss) (segment_in segment.now) };
 
-    /// A session takes a segment, whose units name addresses that are called so.
+    /// A session takes a segment, whose units bring these entries and images.
     fn take(
         tracked: &mut Tracked<Self>,
-        alloc: Global,
-        scratch: &mut Scratch,
+        workspace: &mut Workspace,
         way: &Way,
         segment: &Segment<'_>,
-        entries: &[Entry],
+        completed: Completed<'_>,
         outbox: &mut Outbox,
     ) -> Result<Stepped<Self::Sent>, OutOfMemory>
         requires enters { Enters Self.rules way.now.side segment.now.datagram.now
-            tracked.old entries.now }
+            tracked.old completed.entries.now completed.images.items }
         requires empty { outbox.old ≡ [] }
         requires whole { IsSegmentOf segment.now.octets.now segment.now.datagram.now
             segment.now.tcp.now }
         ensures next { (image : Addr → Option Addr)
             → AreCalled Self.rules image way.now.side segment.now.datagram.now
-            tracked.old entries.now
+            tracked.old completed.entry.entries.now
             → OnOk result (tracked.new
             ≡ streams.stepped Self.rules image way.now.side
             segment.now.datagram.now tracked.old) }
         ensures stepped { (image : Addr → Option Addr)
             → AreCalled Self.rules image way.now.side segment.now.datagram.now
-            tracked.old entries.now
+            tracked.old completed.entry.entries.now
             → IfOk result (λ s. IsStepped Self.rules gives image way.now
             segment.now.datagram.now tracked.old s outbox.new) }
         ensures lost { OnErr result (IsUnstepped gives way.now.side

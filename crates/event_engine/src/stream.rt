@@ -19,15 +19,16 @@ use crate::engine::Engine;
 use crate::state::State;
 use crate::stepped::Stepped;
 use crate::taken::{Taken, whole};
-use dns_plans::{Entry, Tracked};
+use dns_plans::{Completed, Tracked};
 use event_steps::{
-    SegmentFate, SegmentPlan, is_first, is_full, is_late, key_in, look_up, take_untracked,
-    timeout_of, use_segment,
+    SegmentFate, SegmentPlan, Workspace, is_first, is_full, is_late, key_in, look_up,
+    take_untracked, timeout_of, use_segment,
 };
 use gate_base::{OutOfMemory, Pair, Refusal};
-use gate_outbox::{Outbox, Scratch, Segment};
+use gate_outbox::{Outbox, Segment};
 use gate_payloads::{Way, lacks_alias};
 use std::alloc::Global;
+use std::mem;
 use tcp_segments::TcpView;
 use tcp_tracker::{ConnKey, SHORT_TIMEOUT, SessionTable};
 
@@ -93,7 +94,7 @@ impl<S: Engine> State<S> {
                 segment,
                 outbox,
             ))),
-            SegmentFate::Tracked(plan) => self.take_by_session(way, key, segment, &plan, outbox),
+            SegmentFate::Tracked(plan) => self.take_by_session(way, key, segment, plan, outbox),
             SegmentFate::Refused(refusal) => Ok(Taken::Refused(refusal)),
             SegmentFate::Lost => Err(OutOfMemory),
         }
@@ -142,7 +143,7 @@ impl<S: Engine> State<S> {
         way: &Way,
         key: &ConnKey,
         segment: &Segment<'_>,
-        plan: &SegmentPlan,
+        mut plan: SegmentPlan,
         outbox: &mut Outbox,
     ) -> Result<Taken<S::Sent>, OutOfMemory>
         requires laws { HasLaws S.rules }
@@ -153,7 +154,7 @@ impl<S: Engine> State<S> {
             ≡ streams.key_in self.old.table way.now.side segment.now.datagram.now }
         requires plan { (t : worlds.Tracked S)
             × IsPlanOf S.rules (world_in self.old) way.now.side
-            segment.now.datagram.now t plan.now }
+            segment.now.datagram.now t plan }
         requires moment { IsMoment way.now.moment.0 }
         requires empty { outbox.old ≡ [] }
         requires whole { IsSegmentOf segment.now.octets.now segment.now.datagram.now
@@ -163,21 +164,24 @@ impl<S: Engine> State<S> {
     {
         let flags = segment.tcp.flags();
         let timeout = timeout_of(&self.connections, way, key, flags);
-        let entries = &plan.units.entries;
+        let alloc = self.workspace.alloc;
+        let completed = Completed {
+            images: mem::replace(&mut plan.units.images, Vec::new(alloc)),
+            entries: &plan.units.entries,
+        };
         let stepped = step_session(
             &mut self.connections,
-            self.workspace.alloc,
-            &mut self.workspace.scratch,
+            &mut self.workspace,
             way,
             key,
             segment,
-            entries,
+            completed,
             outbox,
         )?;
         match stepped.waiting {
             Some(waiting) => {
                 self.pending = self.pending.max(waiting);
-                use_segment(&mut self.table, &self.connections, way, key, plan, timeout);
+                use_segment(&mut self.table, &self.connections, way, key, &plan, timeout);
                 self.connections.note(*key, way.side, flags, way.moment);
                 Ok(Taken::Cut(stepped.sent))
             }
@@ -187,7 +191,7 @@ impl<S: Engine> State<S> {
                     &self.connections,
                     way,
                     key,
-                    plan,
+                    &plan,
                     SHORT_TIMEOUT,
                 );
                 self.connections.remove(key);
@@ -233,14 +237,18 @@ impl<S: Engine> State<S> {
         }
         let flags = segment.tcp.flags();
         let timeout = timeout_of(&self.connections, way, key, flags);
-        let mut tracked: Tracked<S> = made(self.workspace.alloc, way, pair, segment.tcp)?;
+        let alloc = self.workspace.alloc;
+        let mut tracked: Tracked<S> = made(alloc, way, pair, segment.tcp)?;
+        let none = Completed {
+            entries: &[],
+            images: Vec::new(alloc),
+        };
         let stepped = S::take(
             &mut tracked,
-            self.workspace.alloc,
-            &mut self.workspace.scratch,
+            &mut self.workspace,
             way,
             segment,
-            &[],
+            none,
             outbox,
         )?;
         self.pending = self.pending.max(stepped.waiting.unwrap_or(0));
@@ -251,32 +259,34 @@ impl<S: Engine> State<S> {
     }
 }
 
-/// The session of a connection takes a segment, whose units name addresses that are called so.
+/// The session of a connection takes a segment, whose units bring these entries and images.
 fn step_session<S: Engine>(
     connections: &mut SessionTable<Tracked<S>>,
-    alloc: Global,
-    scratch: &mut Scratch,
+    workspace: &mut Workspace,
     way: &Way,
     key: &ConnKey,
     segment: &Segment<'_>,
-    entries: &[Entry],
+    completed: Completed<'_>,
     outbox: &mut Outbox,
 ) -> Result<Stepped<S::Sent>, OutOfMemory>
     requires enters { (t : worlds.Tracked S)
         → streams.session_in (connection_of key.now connections.old) ≡ Some t
-        → Enters S.rules way.now.side segment.now.datagram.now t entries.now }
+        → Enters S.rules way.now.side segment.now.datagram.now t completed.entries.now
+        completed.images.items }
     requires empty { outbox.old ≡ [] }
     requires whole { IsSegmentOf segment.now.octets.now segment.now.datagram.now
         segment.now.tcp.now }
     ensures next { (image : Addr → Option Addr) (t : worlds.Tracked S)
         → streams.session_in (connection_of key.now connections.old) ≡ Some t
-        → AreCalled S.rules image way.now.side segment.now.datagram.now t entries.now
+        → AreCalled S.rules image way.now.side segment.now.datagram.now t
+        completed.entry.entries.now
         → OnOk result (connections.new
         ≡ replaced connections.old key.now (streams.stepped S.rules image
         way.now.side segment.now.datagram.now t)) }
     ensures stepped { (image : Addr → Option Addr) (t : worlds.Tracked S)
         → streams.session_in (connection_of key.now connections.old) ≡ Some t
-        → AreCalled S.rules image way.now.side segment.now.datagram.now t entries.now
+        → AreCalled S.rules image way.now.side segment.now.datagram.now t
+        completed.entry.entries.now
         → IfOk result (λ s. IsStepped S.rules S.gives image way.now
         segment.now.datagram.now t s outbox.new) }
     ensures lost { (t : worlds.Tracked S)
@@ -285,7 +295,7 @@ fn step_session<S: Engine>(
         connections.old connections.new outbox.new) }
 {
     match connections.session_mut(key) {
-        Some(tracked) => S::take(tracked, alloc, scratch, way, segment, entries, outbox),
+        Some(tracked) => S::take(tracked, workspace, way, segment, completed, outbox),
         None => Err(OutOfMemory),
     }
 }

@@ -3,6 +3,11 @@ use Rattle.std.proofs.Common.{◌≡◌, ℕ, Bool, true, false, not, ◌&&◌, 
 use Rattle.std.specs.Prelude.{if◌then◌else◌}
 use Rattle.std.specs.Option.{option_or}
 use Rattle.std.proofs.lemmas.Bool.{and_parts}
+use Rattle.std.proofs.lemmas.List.Elements.{All-nil}
+use Rattle.dialogue.specs.Meaning.{Meaning}
+use Rattle.dialogue.specs.Learning.{AreImages}
+use Rattle.dialogue.specs.declared.learns.UnitImage.{UnitImage}
+use Rattle.dns_stream.specs.Images.{dns_units}
 use Rattle.gate_base.specs.declared.refusal.Refusal.{Refusal}
 use Rattle.gate_base.specs.declared.refusal.Refusal.TheVariants.{NoSession, BadUnit, UnitUnbound, RenamesFull, SessionsFull, PoolEmpty, UnitGrows}
 use Rattle.gate_base.specs.declared.side.Side.{Side}
@@ -29,6 +34,7 @@ use Rattle.gate_base.specs.declared.address.Addr.{Addr}
 use Rattle.gate_model.specs.Lists.{addresses_in}
 use Rattle.gate_model.specs.Rules.{SessionRules}
 use Rattle.dns_plans.specs.Plans.{beside}
+use Rattle.dns_plans.specs.Steps.{entered_all}
 use Rattle.event_steps.specs.Segments.{stream_refusal, room_tests, lacks_place, AreCalled, Enters, made_on, pair_on}
 use Rattle.event_steps.proofs.NoUnits.{NamesNothing, none_names, made_names, syn_held, tests_none, growth_none, pool_is}
 
@@ -152,7 +158,11 @@ made_called rules lists way tcp d image is opens =
     let t = made_on rules way tcp in
     sym (ap (λ (us : List (List ℕ)). beside image (addresses_in us)) (lists.syn (is_client way.side t) t.session (segment_of d) (made_held tcp d is opens)))
 
-pub made_enters : {S : Type 0} (rules : SessionRules S) (lists : HasLists rules) (way : Way) (tcp : Tcp) (d : Datagram) (image : Addr → Option Addr) → tcp ≡ tcp_of d → is_opening tcp.flags ≡ true → session_refusal rules way.side d (Some (made_on rules way tcp)) ≡ None → Enters rules way.side d (made_on rules way tcp) []
+-- no image is wrong of none
+pub no_images : (m : Meaning) → AreImages m []
+no_images m = All-nil (λ (one : UnitImage). one.image.items ≡ m.image one.unit.items)
+
+pub made_enters : {S : Type 0} (rules : SessionRules S) (lists : HasLists rules) (way : Way) (tcp : Tcp) (d : Datagram) (image : Addr → Option Addr) → tcp ≡ tcp_of d → is_opening tcp.flags ≡ true → session_refusal rules way.side d (Some (made_on rules way tcp)) ≡ None → Enters rules way.side d (made_on rules way tcp) [] []
 made_enters rules lists way tcp d image is opens verdict =
     let t = made_on rules way tcp in
     let none : rules.listed (is_client way.side t) t.session ≡ [] = lists.made tcp.destination_port (pair_on way) tcp.sequence tcp.mss (is_client way.side t) in
@@ -161,6 +171,7 @@ made_enters rules lists way tcp d image is opens verdict =
       few = omega (arith, ap length none);
       image = image;
       called = made_called rules lists way tcp d image is opens;
+      right = no_images (dns_units (entered_all (rules.listed (is_client way.side t) t.session) []));
     }
 
 -- a first segment of a connection that doesn't live: the session that it makes takes it, with this verdict

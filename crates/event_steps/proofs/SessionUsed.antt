@@ -12,7 +12,9 @@ use Rattle.binding_table.specs.Bindings.{Bindings, cross, free}
 use Rattle.binding_table.specs.Lawful.{IsLawful}
 use Rattle.binding_table.specs.Plan.{Use, after_uses, needed}
 use Rattle.binding_table.specs.declared.binding.Crossing.TheVariants.{Unbound}
-use Rattle.dialogue.specs.Learning.{Entry}
+use Rattle.dialogue.specs.Learning.{Entry, AreImages}
+use Rattle.dialogue.specs.declared.learns.UnitImage.{UnitImage}
+use Rattle.dns_stream.specs.Images.{dns_units}
 use Rattle.ipv4_frames.specs.Ipv4.{Datagram}
 use Rattle.gate_model.specs.Held.{HasLists}
 use Rattle.gate_model.specs.Lists.{addresses_in, entered, renamed_in}
@@ -43,8 +45,8 @@ named_in_session rules side d t live plan p = ap (λ (v : Option Refusal). addre
 pub called_by : {S : Type 0} (rules : SessionRules S) (live : World S) (side : Side) (d : Datagram) (t : Tracked S) (plan : SegmentPlan) (entries : List Entry) → IsPlanOf rules live side d t plan → entries ≡ plan.units.entries.items → AreCalled rules (image_of rules live side d) side d t entries
 called_by rules live side d t plan entries p e = e ∙ p.units.entries ∙ ap (beside (image_of rules live side d)) (named_in_session rules side d t live plan p)
 
-pub enters_by : {S : Type 0} (rules : SessionRules S) (live : World S) (side : Side) (d : Datagram) (t : Tracked S) (plan : SegmentPlan) (entries : List Entry) → IsPlanOf rules live side d t plan → entries ≡ plan.units.entries.items → Enters rules side d t entries
-enters_by rules live side d t plan entries p e =
+pub enters_by : {S : Type 0} (rules : SessionRules S) (live : World S) (side : Side) (d : Datagram) (t : Tracked S) (plan : SegmentPlan) (entries : List Entry) (images : List UnitImage) → IsPlanOf rules live side d t plan → entries ≡ plan.units.entries.items → images ≡ plan.units.images.items → Enters rules side d t entries images
+enters_by rules live side d t plan entries images p e i =
     let es = rules.listed (is_client side t) t.session in
     let image = image_of rules live side d in
     let ns = names_in rules side d (Some t) in
@@ -54,6 +56,7 @@ enters_by rules live side d t plan entries p e =
       few = subst (λ (xs : List Entry). length xs ≤ 256) (sym same) p.units.few;
       image = image;
       called = called_by rules live side d t plan entries p e;
+      right = subst (λ (xs : List Entry). AreImages (dns_units xs) images) (sym same) (subst (AreImages (dns_units (entered image es ns))) (sym i) p.units.images);
     }
 
 -- ## What is used

@@ -1,7 +1,6 @@
 -- A segment of a session is refused by the plan of its units, and else by nothing.
 use Rattle.std.proofs.Common.{◌≡◌, ◌≢◌, ◌≤◌, ℕ, Bool, true, false, List, [], ◌∷◌, ◌++◌, length, nat_lt, Option, Some, None, is_some, Result, Ok, Err, refl, sym, ap, subst, ◌∙◌}
 use Rattle.std.specs.Prelude.{IfOk, IfErr}
-use Rattle.std.specs.Result.{IsErrAnd}
 use Rattle.std.specs.List.{All, AllByRecursion, list_any}
 use Rattle.std.proofs.lemmas.Bool.{ltb-false, le-ltb}
 use Rattle.gate_base.specs.Side.{other}
@@ -13,7 +12,8 @@ use Rattle.gate_base.specs.declared.side.Side.{Side}
 use Rattle.binding_table.specs.Bindings.{cross, free}
 use Rattle.binding_table.specs.Plan.{needed, image_after}
 use Rattle.binding_table.specs.declared.binding.Crossing.TheVariants.{Unbound}
-use Rattle.dialogue.specs.Learning.{Entry}
+use Rattle.dialogue.specs.Learning.{Entry, AreImages}
+use Rattle.dns_stream.specs.Images.{dns_units}
 use Rattle.ipv4_frames.specs.Ipv4.{Datagram}
 use Rattle.stream_model.specs.Session.{Segment}
 use Rattle.tcp_tracker.specs.declared.connection.Connection.{Connection}
@@ -21,7 +21,7 @@ use Rattle.gate_model.specs.Frame.{Stream, Udp}
 use Rattle.gate_model.specs.Lists.{most_entries, addresses_in, entered, is_bad, grows_too_much}
 use Rattle.gate_model.specs.Step.{taker_in}
 use Rattle.gate_model.specs.Stream.{segment_of, found_in, session_in, lacks_session, is_full, session_refusal}
-use Rattle.gate_model.specs.Units.{uses_until, is_new_unbound, units_in, names_in, entries_in, unit_tests, growth_tests}
+use Rattle.gate_model.specs.Units.{uses_until, is_new_unbound, units_in, names_in, entries_in, entries_after, unit_tests, growth_tests}
 use Rattle.gate_model.specs.Verdict.{refusal_tests, is_pool_empty, table_after}
 use Rattle.gate_model.specs.World.{Tracked, World, addresses_of, source_of, destination_of, is_client}
 use Rattle.gate_model.specs.Rules.{SessionRules}
@@ -34,10 +34,12 @@ use Rattle.dns_plans.specs.declared.plan.Endpoints.{Endpoints}
 use Rattle.dns_plans.specs.declared.plan.UnitPlan.{UnitPlan}
 use Rattle.dns_plans.specs.declared.stop.PlanStop.{PlanStop}
 use Rattle.dns_plans.specs.declared.stop.PlanStop.TheVariants as stops
+use Rattle.dns_plans.specs.Steps.{entered_all}
+use Rattle.dns_plans.proofs.EnteredLemmas.{entered-beside}
 use Rattle.dns_plans.proofs.PlannedLemmas.{used_bound}
 use Rattle.event_steps.specs.SegmentFate.{image_of, used_by, IsOn, IsUnitPlan, IsStopped, CompletesUnit}
 use Rattle.event_steps.specs.Segments.{stream_refusal}
-use Rattle.event_steps.proofs.SegmentTests.{tests_by, lacks_none, full_none, taker_found}
+use Rattle.event_steps.proofs.SegmentTests.{no_images, tests_by, lacks_none, full_none, taker_found}
 use Rattle.event_steps.proofs.UnitsPlanned.{five, plans_alike, none_told, beside_alike, entered_alike}
 use Rattle.event_steps.proofs.UnitsUsed.{until_of, names_called}
 
@@ -151,8 +153,8 @@ told_is rules live side d way t octets ends es r =
     ∙ sym (plans_alike live.table (called_so rules live side d ends octets) (image_of rules live side d) ends es octets (all_called rules live side d way t octets ends es r))
 
 pub some_planned : {S : Type 0} (rules : SessionRules S) (live : World S) (side : Side) (d : Datagram) (way : Way) (t : Tracked S) (octets : List ℕ) (ends : Endpoints) (es : List Entry) (plan : UnitPlan) → IsReady rules live side d way t octets ends es
-    → first_that_holds (plan_tests live.table (called_so rules live side d ends octets) ends es octets) ≡ None → plan.named.items ≡ addresses_in (whole_units octets) → plan.entries.items ≡ beside (called_so rules live side d ends octets) (addresses_in (whole_units octets)) → IsUnitPlan rules live side d t plan
-some_planned rules live side d way t octets ends es plan r none named entries =
+    → first_that_holds (plan_tests live.table (called_so rules live side d ends octets) ends es octets) ≡ None → plan.named.items ≡ addresses_in (whole_units octets) → plan.entries.items ≡ beside (called_so rules live side d ends octets) (addresses_in (whole_units octets)) → AreImages (dns_units (entered_all es plan.entries.items)) plan.images.items → IsUnitPlan rules live side d t plan
+some_planned rules live side d way t octets ends es plan r none named entries images =
     let ns = addresses_in (whole_units octets) in
     let image = image_of rules live side d in
     let told = none_told live.table (called_so rules live side d ends octets) ends es octets none in
@@ -160,20 +162,21 @@ some_planned rules live side d way t octets ends es plan r none named entries =
     let same = used_is rules live side d way t octets ends es r in
     let names = names_are rules live side d way t octets ends es r in
     let side_is : ends.side ≡ side = ap (λ (e : Endpoints). e.side) r.ends_are in
+    let after : entered (called_so rules live side d ends octets) es ns ≡ entered image (rules.listed (is_client side t) t.session) (names_in rules side d (Some t)) =
+    entered_alike (called_so rules live side d ends octets) image es ns alike ∙ ap (λ (xs : List Entry). entered image xs ns) r.entries_are ∙ ap (entered image (rules.listed (is_client side t) t.session)) names in
     record {
       passes = told_is rules live side d way t octets ends es r ∙ none;
       bound = subst (λ (ys : List Addr). All (λ address. cross live.table side address ≢ Unbound) ys) same (subst (λ (s : Side). AreBound live.table s (all_addresses ends ns)) side_is (used_bound live.table ends es ns r.header r.listed told.bound));
       room = subst (λ (ys : List Addr). needed live.table side ys ≤ free live.table (other side)) same (subst (λ (s : Side). needed live.table s (all_addresses ends ns) ≤ free live.table (other s)) side_is (ltb-false _ _ told.room));
-      few = subst (λ (xs : List Entry). length xs ≤ most_entries)
-          (entered_alike (called_so rules live side d ends octets) image es ns alike ∙ ap (λ (xs : List Entry). entered image xs ns) r.entries_are ∙ ap (entered image (rules.listed (is_client side t) t.session)) names)
-          told.few;
+      few = subst (λ (xs : List Entry). length xs ≤ most_entries) after told.few;
       named = named ∙ names;
       entries = entries ∙ beside_alike (called_so rules live side d ends octets) image ns alike ∙ ap (beside image) names;
+      images = subst (λ (xs : List Entry). AreImages (dns_units xs) plan.images.items) (ap (entered_all es) entries ∙ entered-beside (called_so rules live side d ends octets) es ns ∙ after) images;
     }
 
 pub none_planned : {S : Type 0} (rules : SessionRules S) (live : World S) (side : Side) (d : Datagram) (way : Way) (t : Tracked S) (octets : List ℕ) (ends : Endpoints) (es : List Entry) (plan : UnitPlan) → IsReady rules live side d way t octets ends es
-    → whole_units octets ≡ [] → is_empty way.of_source ≡ false → plan.named.items ≡ [] → plan.entries.items ≡ [] → IsUnitPlan rules live side d t plan
-none_planned rules live side d way t octets ends es plan r none room named entries =
+    → whole_units octets ≡ [] → is_empty way.of_source ≡ false → plan.named.items ≡ [] → plan.entries.items ≡ [] → plan.images.items ≡ [] → IsUnitPlan rules live side d t plan
+none_planned rules live side d way t octets ends es plan r none room named entries images =
     let image = image_of rules live side d in
     let listed = rules.listed (is_client side t) t.session in
     let names : names_in rules side d (Some t) ≡ [] = sym (names_are rules live side d way t octets ends es r) ∙ ap addresses_in none in
@@ -186,6 +189,7 @@ none_planned rules live side d way t octets ends es plan r none room named entri
       few = subst (λ (ns : List Addr). length (entered image listed ns) ≤ most_entries) (sym names) r.few;
       named = named ∙ sym names;
       entries = entries ∙ ap (beside image) (sym names);
+      images = subst (AreImages (dns_units (entries_after rules image side d (Some t)))) (sym images) (no_images (dns_units (entries_after rules image side d (Some t))));
     }
 
 -- ## Why there is none
@@ -224,14 +228,10 @@ pub by_ok : {A E : Type 0} {P Q : A → Type 0} (r : Result A E) → ((x : A) �
 by_ok (Ok x) f p = f x p
 by_ok (Err e) f p = tt
 
-pub by_three : {A E : Type 0} {P Q R S : A → Type 0} (r : Result A E) → ((x : A) → P x → Q x → R x → S x) → IfOk r P → IfOk r Q → IfOk r R → IfOk r S
-by_three (Ok x) f p q s = f x p q s
-by_three (Err e) f p q s = tt
+pub by_four : {A E : Type 0} {P Q R S T : A → Type 0} (r : Result A E) → ((x : A) → P x → Q x → R x → S x → T x) → IfOk r P → IfOk r Q → IfOk r R → IfOk r S → IfOk r T
+by_four (Ok x) f p q s t = f x p q s t
+by_four (Err e) f p q s t = tt
 
 pub by_err : {A E : Type 0} {P Q : E → Type 0} (r : Result A E) → ((x : E) → r ≡ Err x → P x → Q x) → IfErr r P → IfErr r Q
 by_err (Ok x) f p = tt
 by_err (Err e) f p = f e refl p
-
-pub by_err_and : {A E : Type 0} {P Q : E → Type 0} (r : Result A E) → ((x : E) → P x → Q x) → IsErrAnd r P → IfErr r Q
-by_err_and (Ok x) f p = tt
-by_err_and (Err e) f p = f e p

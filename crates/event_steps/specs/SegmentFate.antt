@@ -17,6 +17,8 @@ use Rattle.gate_model.specs.World.{Tracked, World, addresses_of}
 use Rattle.gate_model.specs.Rules.{SessionRules}
 use Rattle.gate_payloads.specs.Taken.{IsWayOf}
 use Rattle.gate_payloads.specs.declared.addresses.Way.{Way}
+use Rattle.dialogue.specs.Learning.{AreImages}
+use Rattle.dns_stream.specs.Images.{dns_units}
 use Rattle.dns_plans.specs.Plans.{beside}
 use Rattle.dns_plans.specs.declared.plan.UnitPlan.{UnitPlan}
 use Rattle.dns_plans.specs.declared.stop.PlanStop.{PlanStop}
@@ -41,7 +43,7 @@ pub record IsOn {S : Type 0} (rules : SessionRules S) (live : World S) (side : S
   pub found : session_in (found_in live side d) ≡ Some t
   pub refusal : session_refusal rules side d (Some t) ≡ None
 
--- no test refuses it; the plan has the addresses that its units name, and each beside what it is called
+-- no test refuses it; the plan has the addresses that its units name, each beside what it is called, and images of the units by the list afterwards
 pub record IsUnitPlan {S : Type 0} (rules : SessionRules S) (live : World S) (side : Side) (d : Datagram) (t : Tracked S) (plan : UnitPlan) : Type 0 where
   pub passes : stream_refusal rules live side d ≡ None
   pub bound : All (λ address. cross live.table side address ≢ Unbound) (used_by rules side d t)
@@ -49,6 +51,7 @@ pub record IsUnitPlan {S : Type 0} (rules : SessionRules S) (live : World S) (si
   pub few : length (entries_after rules (image_of rules live side d) side d (Some t)) ≤ most_entries
   pub named : plan.named.items ≡ names_in rules side d (Some t)
   pub entries : plan.entries.items ≡ beside (image_of rules live side d) (names_in rules side d (Some t))
+  pub images : AreImages (dns_units (entries_after rules (image_of rules live side d) side d (Some t))) plan.images.items
 
 -- it is of a session of DNS that doesn't refuse it, and completes a unit
 pub record CompletesUnit {S : Type 0} (rules : SessionRules S) (live : World S) (side : Side) (d : Datagram) : Type 0 where

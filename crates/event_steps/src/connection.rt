@@ -12,7 +12,7 @@ ghost use Rattle.event_steps.specs.SegmentFate.{IsOn, IsUnitPlan, IsStopped, IsF
 use crate::found::{SegmentFate, SegmentPlan, no_units};
 use crate::workspace::Workspace;
 use binding_table::Table;
-use dns_plans::{Endpoints, PlanStop, Session, Tracked, UnitPlan, plan_units};
+use dns_plans::{Endpoints, PlanStop, Sender, Session, Tracked, UnitPlan, plan_units};
 use dns_stream::unit_end;
 use gate_base::Refusal;
 use gate_outbox::Segment;
@@ -71,7 +71,10 @@ fn plan_session<S: Session>(
     if unit_end(workspace.octets.octets()).is_none() {
         return no_units(workspace.alloc, way);
     }
-    let entries = tracked.session.entries(workspace.alloc, from_client)?;
+    let sender = Sender {
+        session: &tracked.session,
+        is_client: from_client,
+    };
     let endpoints = Endpoints {
         side: way.side,
         source: way.source,
@@ -82,7 +85,7 @@ fn plan_session<S: Session>(
         table,
         &mut workspace.seen_addresses,
         &endpoints,
-        &entries,
+        &sender,
         workspace.octets.octets(),
     )
 }

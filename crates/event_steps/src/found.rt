@@ -36,15 +36,13 @@ pub enum SegmentFate {
 /// What no units do.
 pub fn no_units(alloc: Global, way: &Way) -> Result<UnitPlan, PlanStop>
     ensures planned { IfOk result (λ plan. (is_empty way.now.of_source ≡ false)
-        × ((plan.named.items ≡ []) × (plan.entries.items ≡ []))) }
+        × ((plan.named.items ≡ [])
+        × ((plan.entries.items ≡ []) × (plan.images.items ≡ [])))) }
     ensures stopped { IfErr result (λ stop. (is_empty way.now.of_source ≡ true)
         × (stop ≡ stops.Refused refusals.PoolEmpty)) }
 {
     if lacks_alias(way) {
         return Err(PlanStop::Refused(Refusal::PoolEmpty));
     }
-    Ok(UnitPlan {
-        named: Vec::new(alloc),
-        entries: Vec::new(alloc),
-    })
+    Ok(UnitPlan::new(alloc))
 }

@@ -71,7 +71,7 @@ pub fn take_untracked<X>(
     None
 }
 
-/// A segment passed that no session takes. An RST makes no connection. It answers how long the addresses are held.
+/// A segment passed that no session takes. An RST makes no connection. The answer is the timeout of the addresses.
 #[inline(always)]
 fn note_untracked<X>(connections: &mut SessionTable<X>, way: &Way, key: &ConnKey, flags: u8) -> u64
     requires place { lacks_place connections.old
@@ -114,7 +114,7 @@ pub fn is_full<X>(connections: &SessionTable<X>) -> bool
     CONNECTIONS <= connections.len() || SESSIONS <= connections.sessions()
 }
 
-/// How long the addresses of a segment are held: as its connection is.
+/// The timeout of a segment's addresses, which is that of its connection.
 pub fn timeout_of<X>(connections: &SessionTable<X>, way: &Way, key: &ConnKey, flags: u8) -> u64
     ensures is { result ≡ timeout_of connections.now key.now way.now.side flags }
     ensures small { IsTimeout result }

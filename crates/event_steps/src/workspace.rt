@@ -1,4 +1,4 @@
-// The memory and the rooms to work with.
+// What an event works with.
 use binding_table::SeenAddresses;
 use dns_plans::UnitOctets;
 use expiring_table::Seed;
@@ -6,7 +6,7 @@ use gate_base::OutOfMemory;
 use gate_outbox::Scratch;
 use std::alloc::Global;
 
-/// The memory and the rooms to work with.
+/// What an event works with: the memory, and buffers that each event uses again.
 pub struct Workspace {
     pub alloc: Global,
     pub scratch: Scratch,
@@ -27,7 +27,7 @@ impl Drop for Workspace {
 }
 
 impl Workspace {
-    /// The rooms; the seed spreads the addresses that are counted in one. The error is that there is too little memory.
+    /// Empty buffers. The seed spreads the keys of the addresses that an event counts. The error is that there is too little memory.
     pub fn new(alloc: Global, seed: Seed) -> Result<Workspace, OutOfMemory> {
         Ok(Workspace {
             alloc,

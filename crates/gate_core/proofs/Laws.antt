@@ -4,7 +4,7 @@ use Rattle.std.specs.Prelude.{◌==◌, is_none}
 use Rattle.tcp_segments.specs.Tcp.{Tcp}
 use Rattle.tcp_segments.specs.Flags.{flags_of}
 use Rattle.compact_stream.specs.Kept.{unlike_kept}
-use Rattle.compact_stream.specs.Sessions.{kept_made, kept_verdict, sender_kept}
+use Rattle.compact_stream.specs.Sessions.{kept_made, kept_refusal, sender_kept}
 use Rattle.compact_stream.specs.Outs.{start_kept}
 use Rattle.stream_gate.specs.Directions.{nothing_pushed}
 use Rattle.stream_gate.proofs.GateLemmas.{syn_alone}
@@ -16,7 +16,7 @@ use Rattle.event_steps.proofs.NoUnits.{syn_held}
 use Rattle.event_engine.specs.Engines.{HasLaws}
 
 -- a SYN that passes has no RST
-opens_plain : (tcp : Tcp) → is_opening tcp.flags ≡ true → kept_verdict true (kept_made tcp.sequence tcp.mss nothing_pushed nothing_pushed) (segment_in tcp) ≡ None → (flags_of tcp.flags).reset ≡ false
+opens_plain : (tcp : Tcp) → is_opening tcp.flags ≡ true → kept_refusal true (kept_made tcp.sequence tcp.mss nothing_pushed nothing_pushed) (segment_in tcp) ≡ None → (flags_of tcp.flags).reset ≡ false
 opens_plain tcp opens none =
     let h = kept_made tcp.sequence tcp.mss nothing_pushed nothing_pushed in
     syn_alone true h.client h.server (segment_in tcp) (unlike_kept h.client (segment_in tcp)) none (syn_held (flags_of tcp.flags).syn (flags_of tcp.flags).ack opens)

@@ -16,7 +16,7 @@ use Rattle.stream_model.specs.Refusals.{segment_refusal}
 use Rattle.stream_model.proofs.PassLemmas.{passes}
 use Rattle.compact_stream.specs.Kept.{InRange, extent_kept, unlike_kept}
 use Rattle.compact_stream.specs.Outs.{kept_out}
-use Rattle.compact_stream.specs.Sessions.{CompactState, StandsForSession, kept_verdict, kept_next}
+use Rattle.compact_stream.specs.Sessions.{CompactState, StandsForSession, kept_refusal, kept_next}
 use Rattle.compact_stream.proofs.Begins.{session_begins, ranges_begin}
 use Rattle.compact_stream.proofs.OpenLines.{open_is}
 use Rattle.compact_stream.proofs.RangeLemmas.{own_in_range, other_in_range}
@@ -90,14 +90,14 @@ fits_learned (Some l) pair false h s es more listed st = record {
 
 fits_next : (m n : Meaning) → IsLawful m → IsLawful n → (f : Bool) (h : CompactState) (s : Session) (g : Segment) → segment_refusal f s g ≡ None → Fits m n h s → Fits m n (kept_next m n f h g) (session_next f s g)
 fits_next m n law_m law_n true h s g v st =
-    let w : kept_verdict true h g ≡ None = verdict_is m n h s true g st.session ∙ v in
+    let w : kept_refusal true h g ≡ None = verdict_is m n h s true g st.session ∙ v in
     record {
       session = goes_on m n law_m law_n h s true g st.client.acked st.server.acked st.session v;
       client = own_in_range true m law_m h.client (extent_kept h.server) g (unlike_kept h.client g) st.client w;
       server = other_in_range true n h.server (extent_kept h.client) g (unlike_kept h.client g) st.server w;
     }
 fits_next m n law_m law_n false h s g v st =
-    let w : kept_verdict false h g ≡ None = verdict_is m n h s false g st.session ∙ v in
+    let w : kept_refusal false h g ≡ None = verdict_is m n h s false g st.session ∙ v in
     record {
       session = goes_on m n law_m law_n h s false g st.client.acked st.server.acked st.session v;
       client = other_in_range false m h.client (extent_kept h.server) g (unlike_kept h.server g) st.client w;

@@ -12,7 +12,7 @@ use Rattle.stream_model.specs.Session.{Segment, arrival, own}
 use Rattle.stream_model.specs.Refusals.{is_data}
 use Rattle.compact_stream.specs.Kept.{CompactSender, Keeps, InRange}
 use Rattle.compact_stream.specs.Outs.{start_kept, kept_out, kept_ends, inner_kept}
-use Rattle.compact_stream.specs.Sessions.{CompactState, StandsForSession, sender_kept, kept_made, kept_verdict, kept_next}
+use Rattle.compact_stream.specs.Sessions.{CompactState, StandsForSession, sender_kept, kept_made, kept_refusal, kept_next}
 use Rattle.stream_gate.specs.Directions.{nothing_pushed}
 use Rattle.gate_model.specs.Lists.{Lists, list_of, with_list, addresses_in, entered}
 use Rattle.gate_model.specs.Rules.{SessionRules}
@@ -44,7 +44,7 @@ kept_lists image from_client k segment = option_map (with_list from_client (ente
 abbrev pub compact_rules : SessionRules CompactSession
 compact_rules = record {
   made = λ port pair initial mss. record { pair = pair; lists = lists_at port; kept = kept_made initial mss nothing_pushed nothing_pushed };
-  refusal = λ from_client k g. kept_verdict from_client k.kept g;
+  refusal = λ from_client k g. kept_refusal from_client k.kept g;
   units = kept_units;
   listed = λ client k. entries_by k.lists client;
   next = λ image from_client k g. let lists = kept_lists image from_client k g in record { pair = k.pair; lists = lists; kept = kept_next (meaning_by lists k.pair true) (meaning_by lists k.pair false) from_client k.kept g };

@@ -4,10 +4,11 @@ ghost use Rattle.gate_sessions.specs.Compact.{compact_rules};
 
 use crate::kinds::FtpSession;
 use crate::session::{AnySession, Passing};
-use dns_plans::{Entry, Tracked};
+use dns_plans::{Completed, Tracked};
 use event_engine::{Engine, Stepped};
+use event_steps::Workspace;
 use gate_base::{OutOfMemory, Pair, Refusal};
-use gate_outbox::{Outbox, Scratch, Segment};
+use gate_outbox::{Outbox, Segment};
 use gate_payloads::Way;
 use std::alloc::Global;
 use tcp_segments::TcpView;
@@ -38,11 +39,10 @@ impl Engine for AnySession {
 
     fn take(
         tracked: &mut Tracked<AnySession>,
-        _alloc: Global,
-        scratch: &mut Scratch,
+        workspace: &mut Workspace,
         way: &Way,
         segment: &Segment<'_>,
-        entries: &[Entry],
+        completed: Completed<'_>,
         outbox: &mut Outbox,
     ) -> Result<Stepped<()>, OutOfMemory> {
         let passing = Passing {
@@ -51,7 +51,9 @@ impl Engine for AnySession {
             source: way.source_image(),
             destination: way.destination_image(),
         };
-        let over = tracked.session.step(&passing, entries, outbox, scratch)?;
+        let over = tracked
+            .session
+            .step(&passing, completed, outbox, &mut workspace.scratch)?;
         let waiting = waiting(&tracked.session, over);
         Ok(Stepped { sent: (), waiting })
     }

@@ -1,18 +1,26 @@
 // A connection of DNS that learns what its units name.
 ghost use Rattle.std.specs.Prelude.{◌≡◌, ◌≤◌, ◌<◌, [], not, false, length, map, None, IfOk, OnOk, OnErr};
-ghost use Rattle.dialogue.specs.Learning.{is_listed};
+ghost use Rattle.dialogue.specs.Learning.{is_listed, AreImages};
+ghost use Rattle.dns_stream.specs.Images.{dns_units};
 ghost use Rattle.gate_model.specs.Stream.{segment_of, sent_as, tcp_of};
 ghost use Rattle.compact_stream.specs.Outs.{kept_ends};
-ghost use Rattle.compact_stream.specs.Sessions.{kept_verdict};
+ghost use Rattle.compact_stream.specs.Sessions.{kept_refusal};
 ghost use Rattle.dns_plans.specs.Steps.{enter_one, entered_all};
 ghost use Rattle.gate_sessions.specs.Directions.{listed_of, IsListedSide, with_entered, dns_next, dns_out, DnsCompletes};
 
 use crate::kinds::DnsSession;
 use crate::segments::put_segments;
 use crate::session::Passing;
-use dns_plans::Entry;
-use gate_base::OutOfMemory;
+use dns_plans::{Completed, Entry};
+use gate_base::{Addr, OutOfMemory};
 use gate_outbox::{Outbox, Scratch};
+
+/// Whether the client's list, or else the server's, has an entry of an address.
+fn knows(session: &DnsSession, from_client: bool, address: Addr) -> bool
+    ensures { result ≡ is_listed (listed_of from_client session.now) address.0 }
+{
+    session.image_of(from_client, address).is_some()
+}
 
 /// Enters an address into the client's list, or else the server's, unless it is listed.
 fn learn_one(session: &mut DnsSession, from_client: bool, one: Entry)
@@ -26,7 +34,7 @@ fn learn_one(session: &mut DnsSession, from_client: bool, one: Entry)
     ensures kept { session.new.kept ≡ session.old.kept }
     ensures stream { IsListedSide from_client session.new }
 {
-    if session.knows(from_client, one.0) {
+    if knows(session, from_client, one.0) {
         return;
     }
     session.learn(from_client, one.0, one.1);
@@ -50,45 +58,51 @@ fn learn_all(session: &mut DnsSession, from_client: bool, named: &[Entry])
 
 /// Enters addresses into the list of a segment's sender, and passes the segment: puts what goes out into the outbox, and says whether the
 /// session ends. Where there is too little memory nothing has changed, the list neither.
+#[inline(never)]
 pub fn step_units(
     session: &mut DnsSession,
     passing: &Passing<'_>,
-    named: &[Entry],
+    completed: Completed<'_>,
     outbox: &mut Outbox,
     scratch: &mut Scratch,
 ) -> Result<bool, OutOfMemory>
     requires few { length
-        (entered_all (listed_of passing.now.from_client session.old) named.now)
+        (entered_all (listed_of passing.now.from_client session.old) completed.entries.now)
         ≤ 256 }
+    requires images { AreImages
+        (dns_units (entered_all (listed_of passing.now.from_client session.old)
+        completed.entries.now)) completed.images.items }
     requires stream { IsListedSide passing.now.from_client session.old }
     requires empty { outbox.old ≡ [] }
     requires segment { passing.now.segment.now.tcp.now
         ≡ tcp_of passing.now.segment.now.datagram.now }
     requires alive { 1 ≤ passing.now.segment.now.datagram.now.lifetime }
-    requires passes { kept_verdict passing.now.from_client session.old.kept
+    requires passes { kept_refusal passing.now.from_client session.old.kept
         (segment_of passing.now.segment.now.datagram.now) ≡ None }
     ensures next { OnOk result (session.new
         ≡ dns_next passing.now.from_client
-        (with_entered passing.now.from_client named.now session.old)
+        (with_entered passing.now.from_client completed.entry.entries.now session.old)
         (segment_of passing.now.segment.now.datagram.now)) }
     ensures out { OnOk result (outbox.new
         ≡ map
         (sent_as passing.now.segment.now.datagram.now passing.now.source.0
         passing.now.destination.0) (dns_out passing.now.from_client
-        (with_entered passing.now.from_client named.now session.old)
+        (with_entered passing.now.from_client completed.entry.entries.now session.old)
         (segment_of passing.now.segment.now.datagram.now))) }
     ensures over { IfOk result (λ b. b
         ≡ kept_ends passing.now.from_client session.old.kept
         (segment_of passing.now.segment.now.datagram.now)) }
     ensures memory { OnErr result (DnsCompletes passing.now.from_client
-        (with_entered passing.now.from_client named.now session.old)
+        (with_entered passing.now.from_client completed.entry.entries.now session.old)
         (segment_of passing.now.segment.now.datagram.now)) }
     ensures same { OnErr result (session.new ≡ session.old) }
     ensures nothing { OnErr result (outbox.new ≡ []) }
 {
     let from_client = passing.from_client;
     let listed = session.listed(from_client);
-    learn_all(session, from_client, named);
+    let Completed { entries, images } = completed;
+    learn_all(session, from_client, entries);
+    session.expect(from_client, images);
     match put_segments(session, passing, outbox, scratch) {
         Ok(over) => Ok(over),
         Err(error) => {

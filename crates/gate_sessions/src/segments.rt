@@ -1,7 +1,7 @@
 // What a session of either kind puts into the outbox.
 ghost use Rattle.std.specs.Prelude.{◌≡◌, ◌≤◌, [], map, None, IfOk, OnOk, OnErr};
 ghost use Rattle.compact_stream.specs.Outs.{kept_out, kept_ends};
-ghost use Rattle.compact_stream.specs.Sessions.{kept_verdict, kept_next};
+ghost use Rattle.compact_stream.specs.Sessions.{kept_refusal, kept_next};
 ghost use Rattle.stream_gate.specs.Memory.{KeptCompletes};
 ghost use Rattle.gate_model.specs.Stream.{tcp_of, segment_of, sent_as};
 
@@ -23,7 +23,7 @@ pub fn put_segments<C: Dialogue, S: Dialogue, const N: usize>(
     requires segment { passing.now.segment.now.tcp.now
         ≡ tcp_of passing.now.segment.now.datagram.now }
     requires alive { 1 ≤ passing.now.segment.now.datagram.now.lifetime }
-    requires passes { kept_verdict passing.now.from_client session.old.kept
+    requires passes { kept_refusal passing.now.from_client session.old.kept
         (segment_of passing.now.segment.now.datagram.now) ≡ None }
     ensures next { OnOk result (session.new
         ≡ record session.old {

@@ -1,6 +1,8 @@
 // A session of one of two kinds.
 ghost use Rattle.std.specs.Prelude.{◌≡◌, ◌≤◌, ◌<◌, ℕ, Option, true, [], length, map, slice_get, Some, None, IfOk, OnOk, OnErr};
 ghost use Rattle.gate_base.specs.declared.address.Addr.{Addr};
+ghost use Rattle.dialogue.specs.Learning.{AreImages};
+ghost use Rattle.dns_stream.specs.Images.{dns_units};
 ghost use Rattle.stream_model.specs.Session.{segment_in, arrival};
 ghost use Rattle.stream_gate.specs.Directions.{nothing_pushed};
 ghost use Rattle.compact_stream.specs.Sessions.{kept_made};
@@ -15,7 +17,7 @@ ghost use Rattle.gate_sessions.specs.Sessions.{MayWantIn};
 use crate::kinds::{DnsSession, FtpSession, SessionKind};
 use crate::learned::step_units;
 use crate::segments::put_segments;
-use dns_plans::{Entry, Session, UnitOctets};
+use dns_plans::{Completed, Entry, Session, UnitOctets};
 use dns_stream::DnsUnits;
 use ftp_lines::{ClientLines, ServerLines};
 use gate_base::{Addr, DNS_PORT, OutOfMemory, Pair, Refusal};
@@ -132,13 +134,11 @@ impl Session for AnySession {
         }
     }
 
-    fn entries(&self, alloc: Global, client: bool) -> Result<Vec<Entry>, OutOfMemory> {
-        let count = self.listed(client);
-        let mut entries = Vec::with_capacity(alloc, count)?;
-        for place in 0..count {
-            entries.push(self.entry(client, place))?;
+    fn image_of(&self, client: bool, address: Addr) -> Option<Option<Addr>> {
+        match &self.kind {
+            SessionKind::Lines(_) => None,
+            SessionKind::Units(session) => session.image_of(client, address),
         }
-        Ok(entries)
     }
 
     fn put_octets(&self, from_client: bool, segment: &TcpView<'_>, octets: &mut UnitOctets) {
@@ -189,20 +189,25 @@ impl AnySession {
     }
 
     /// Passes a segment: enters what its units name into the list of its sender, puts what goes out into the outbox, and says whether the
-    /// session ends. The entries must be the addresses in these units beside what they are called, and the list must get no longer than
-    /// 256 entries. Where there is too little memory nothing has changed.
+    /// session ends. The entries must be the addresses in these units beside what they are called. The list must not get longer than
+    /// 256 entries, and each image must be that of its unit by the list with these entries. Where there is too little memory nothing
+    /// has changed.
     pub fn step(
         &mut self,
         passing: &Passing<'_>,
-        entries: &[Entry],
+        completed: Completed<'_>,
         outbox: &mut Outbox,
         scratch: &mut Scratch,
     ) -> Result<bool, OutOfMemory>
         requires few { length (entered_all
-            (compact_rules.listed passing.now.from_client self.old) entries.now)
-            ≤ 256 }
+            (compact_rules.listed passing.now.from_client self.old)
+            completed.entries.now) ≤ 256 }
+        requires images { AreImages
+            (dns_units (entered_all
+            (compact_rules.listed passing.now.from_client self.old)
+            completed.entries.now)) completed.images.items }
         requires named { (image : Addr → Option Addr)
-            × (entries.now
+            × (completed.entries.now
             ≡ beside image (addresses_in (compact_rules.units
             passing.now.from_client self.old
             (segment_of passing.now.segment.now.datagram.now)))) }
@@ -213,7 +218,7 @@ impl AnySession {
         requires passes { compact_rules.refusal passing.now.from_client self.old
             (segment_of passing.now.segment.now.datagram.now) ≡ None }
         ensures next { (image : Addr → Option Addr)
-            → entries.now
+            → completed.entry.entries.now
             ≡ beside image (addresses_in (compact_rules.units
             passing.now.from_client self.old
             (segment_of passing.now.segment.now.datagram.now)))
@@ -221,7 +226,7 @@ impl AnySession {
             ≡ compact_rules.next image passing.now.from_client self.old
             (segment_of passing.now.segment.now.datagram.now)) }
         ensures out { (image : Addr → Option Addr)
-            → entries.now
+            → completed.entry.entries.now
             ≡ beside image (addresses_in (compact_rules.units
             passing.now.from_client self.old
             (segment_of passing.now.segment.now.datagram.now)))
@@ -242,7 +247,7 @@ impl AnySession {
         match &mut self.kind {
             SessionKind::Lines(session) => return put_segments(session, passing, outbox, scratch),
             SessionKind::Units(session) => {
-                return step_units(&mut **session, passing, entries, outbox, scratch);
+                return step_units(&mut **session, passing, completed, outbox, scratch);
             }
         }
     }

@@ -1,7 +1,9 @@
-use dialogue::{Dialogue, Learns};
-use dns_stream::{
-    DnsUnits, UnitStop, rests_are_short, unit_addresses, unit_end, unit_grows, unit_grows_by,
-};
+ghost use Rattle.std.specs.Prelude.{◌≡◌, IfOk};
+ghost use Rattle.dns_stream.specs.Images.{dns_units};
+
+use dialogue::{Dialogue, Learns, UnitImage};
+use dns_gateway::addresses_of;
+use dns_stream::{DnsUnits, UnitStop, rests_are_short, unit_end, unit_message, unit_renamed};
 use gate_base::{Addr, OutOfMemory};
 use std::alloc::Global;
 use std::test::Fail;
@@ -94,7 +96,7 @@ const FAR: [Option<Addr>; 9] = [
 /// Learns each address that isn't known.
 fn learn_all(units: &mut DnsUnits, addresses: &[Addr], images: &[Option<Addr>]) {
     for (address, image) in addresses.iter().zip(images) {
-        if !units.knows(*address) && units.len() < 256 {
+        if units.image_of(*address).is_none() && units.len() < 256 {
             units.learn(*address, *image);
         }
     }
@@ -110,7 +112,7 @@ fn units_with(alloc: Global, list: &[(Addr, Option<Addr>)]) -> Result<DnsUnits, 
 }
 
 /// What goes on for the first unit of octets; nothing where they are a rest.
-fn sent(alloc: Global, units: &DnsUnits, octets: &[u8]) -> Result<Vec<u8>, OutOfMemory> {
+fn sent(alloc: Global, units: &mut DnsUnits, octets: &[u8]) -> Result<Vec<u8>, OutOfMemory> {
     match units.first_end(octets).and_then(|end| octets.get(..end)) {
         Some(unit) => units.image(alloc, unit),
         None => Ok(Vec::new(alloc)),
@@ -120,7 +122,7 @@ fn sent(alloc: Global, units: &DnsUnits, octets: &[u8]) -> Result<Vec<u8>, OutOf
 /// The first case that goes on otherwise.
 fn first_wrong(
     alloc: Global,
-    units: &DnsUnits,
+    units: &mut DnsUnits,
     cases: &[(&[u8], &[u8])],
 ) -> Result<Option<usize>, OutOfMemory> {
     for (place, (octets, image)) in cases.iter().enumerate() {
@@ -131,44 +133,58 @@ fn first_wrong(
     Ok(None)
 }
 
-/// Addresses with their images.
-fn entries_of(
-    alloc: Global,
-    addresses: &[Addr],
-    images: &[Option<Addr>],
-) -> Result<Vec<(Addr, Option<Addr>)>, OutOfMemory> {
-    let mut entries = Vec::new(alloc);
-    for (address, image) in addresses.iter().zip(images) {
-        entries.push((*address, *image))?;
-    }
-    Ok(entries)
-}
-
-/// Whether the answer of nine names grows too much with these images, and by the list of them, and its length once they are learned.
-fn nine_with(alloc: Global, images: &[Option<Addr>]) -> Result<(bool, bool, usize), UnitStop> {
-    let addresses = unit_addresses(alloc, NINE)?;
-    let entries = entries_of(alloc, &addresses, images)?;
-    let mut units = DnsUnits::new(alloc)?;
-    learn_all(&mut units, &addresses, images);
-    let image = units.image(alloc, NINE)?;
+/// The length of the answer of nine names with these images, unless it grows too much, and its length once they are learned.
+fn nine_with(alloc: Global, images: &[Option<Addr>]) -> Result<(Option<usize>, usize), UnitStop> {
+    let message = unit_message(alloc, NINE)?;
+    let addresses = addresses_of(alloc, &message)?;
     if images.len() != addresses.len() {
         return Err(UnitStop::BadUnit);
     }
-    Ok((
-        unit_grows(alloc, NINE, images)?,
-        unit_grows_by(alloc, &entries, NINE)?,
-        image.len(),
-    ))
+    let mut units = DnsUnits::new(alloc)?;
+    learn_all(&mut units, &addresses, images);
+    let image = units.image(alloc, NINE)?;
+    let renamed = unit_renamed(alloc, NINE, message, images)?;
+    Ok((renamed.map(|unit| unit.len()), image.len()))
+}
+
+/// A unit with its image, which has room for 1,000 octets more.
+fn roomy(alloc: Global, units: &mut DnsUnits, unit: &[u8]) -> Result<UnitImage, OutOfMemory>
+    ensures image { IfOk result (λ one. one.image.items
+        ≡ (dns_units units.old).image one.unit.items) }
+    ensures same { units.new ≡ units.old }
+{
+    let mut image = units.image(alloc, unit)?;
+    image.reserve(1_000)?;
+    Ok(UnitImage {
+        unit: Vec::from_slice(alloc, unit)?,
+        image,
+    })
+}
+
+/// Whether a unit goes on as this image while `expected` is expected, and whether the expected image is handed out.
+fn expecting(
+    alloc: Global,
+    units: &mut DnsUnits,
+    expected: &[u8],
+    case: (&[u8], &[u8]),
+) -> Result<(bool, bool), OutOfMemory> {
+    let mut images = Vec::with_capacity(alloc, 1)?;
+    images.push_reserved(roomy(alloc, units, expected)?);
+    units.expect(images);
+    let image = units.image(alloc, case.0)?;
+    Ok((image.as_slice() == case.1, image.capacity() >= 1_000))
 }
 
 /// Whether the list has grown by the last of `LIST`, and loses it.
 fn forgets_last(units: &mut DnsUnits) -> bool {
     let last = Addr(0x0a00_0009);
-    let knew = units.len() == 4 && units.entry(3) == (last, None) && units.knows(last);
+    let knew = units.len() == 4
+        && units.entry(3) == (last, None)
+        && units.image_of(last) == Some(None);
     if units.len() == 4 {
         units.forget_from(3);
     }
-    knew && units.len() == 3 && !units.knows(last)
+    knew && units.len() == 3 && units.image_of(last).is_none()
 }
 
 #[test]
@@ -176,13 +192,21 @@ fn units_go_on(rt: HostRuntime) -> Result<(), Fail> {
     let alloc = rt.alloc();
     rests_are_short();
     let mut units = units_with(alloc, &LIST)?;
-    assert_eq!(rt; first_wrong(alloc, &units, &CASES)?, None);
+    assert_eq!(rt; first_wrong(alloc, &mut units, &CASES)?, None);
     assert!(rt; units.holds(b"\0") && units.bears(b"\0\x01\0") && !units.bears(b"\0\0"));
     assert!(rt; unit_end(NINE) == Some(NINE.len()));
-    assert!(rt; unit_addresses(alloc, b"\0\0").err() == Some(UnitStop::BadUnit));
-    assert!(rt; unit_addresses(alloc, b"\x20\x01").err() == Some(UnitStop::BadUnit));
-    assert!(rt; nine_with(alloc, &NEAR).ok() == Some((false, false, 168)));
-    assert!(rt; nine_with(alloc, &FAR).ok() == Some((true, true, 159)));
+    assert!(rt; unit_message(alloc, b"\0\0").err() == Some(UnitStop::BadUnit));
+    assert!(rt; unit_message(alloc, b"\x20\x01").err() == Some(UnitStop::BadUnit));
+    assert!(rt; nine_with(alloc, &NEAR).ok() == Some((Some(168), 168)));
+    assert!(rt; nine_with(alloc, &FAR).ok() == Some((None, 159)));
+    assert_eq!(rt;
+        expecting(alloc, &mut units, CASES[3].0, CASES[3])?,
+        (true, true)
+    );
+    assert_eq!(rt;
+        expecting(alloc, &mut units, NINE, CASES[3])?,
+        (true, false)
+    );
     assert!(rt; forgets_last(&mut units));
     Ok(())
 }

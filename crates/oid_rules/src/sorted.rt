@@ -7,18 +7,18 @@ use gate_base::{Addr, OidRule, OutOfMemory};
 use std::alloc::Global;
 use std::marker::Model;
 
-/// Where the arcs of an identifier stand to those of a rule.
+/// Where the arcs of an identifier stand in the order, beside those of a rule.
 #[derive(Clone, Copy)]
 pub enum Compared {
-    /// Before them: the first arc that differs is less, or they end before it.
+    /// Before them: the first arc that differs is less, or they end earlier.
     Before,
-    /// They begin with them.
+    /// They begin with the arcs of the rule.
     Begins,
     /// Behind them: the first arc that differs is greater.
     Behind,
 }
 
-/// What is asked of an identifier. Clauses cite its arcs, if it has any, as `arcs_of`, and what rules name in it as `address_by`.
+/// An identifier to which rules are applied. `arcs_of` is its arcs, if it has any. `address_by` is the address that a rule names in it.
 pub trait Identifier {
     ghost use Rattle.gate_base.specs.declared.rule.OidRule.{OidRule};
 
@@ -26,14 +26,14 @@ pub trait Identifier {
 
     ghost address_by: { Self → OidRule → Option ℕ };
 
-    /// Where its arcs, if it has any, stand to those of a rule.
+    /// Where its arcs, if it has any, stand in the order, beside those of a rule.
     fn compare(&self, rule: &OidRule) -> Compared
         requires { IsTrue (is_rule rule.now) }
         ensures { (arcs : List ℕ)
             → arcs_of self.now ≡ Some arcs
             → result ≡ compared arcs rule.now.prefix };
 
-    /// The address that a rule names whose arcs it begins with.
+    /// The address that a rule names in it, if it begins with the rule's arcs.
     fn address(&self, rule: &OidRule) -> Option<Addr>
         requires { IsTrue (is_rule rule.now) }
         ensures { option_map (λ a. a.0) result ≡ address_by self.now rule.now };
@@ -46,12 +46,12 @@ struct Numbered {
     rule: OidRule,
 }
 
-/// A list of rules, in which those are found by halving with whose arcs an identifier begins.
+/// A list of rules. The first one that names an address in an identifier is found by halving.
 #[derive(Drop)]
 pub struct SortedRules {
     items: Vec<OidRule>,
     sorted: Vec<Numbered>,
-    // for each of the sorted rules the last one before it with which its arcs begin
+    // for each sorted rule the last one before it with whose arcs it begins
     outer: Vec<Option<usize>>,
 }
 
@@ -189,7 +189,7 @@ fn outer_of(alloc: Global, sorted: &[Numbered]) -> Result<Vec<Option<usize>>, Ou
     Ok(outer)
 }
 
-// How many of the first rules an identifier doesn't come before, and whether it begins with the last of these.
+// Of the first rules, how many don't stand behind the identifier, and whether it begins with the last one of these.
 fn halved<I: Identifier>(sorted: &[Numbered], count: usize, identifier: &I) -> (usize, bool)
     requires order { InOrder sorted.now }
     requires rules { AllRules sorted.now }
@@ -278,7 +278,7 @@ fn first_of<'a, I: Identifier>(
     }
 }
 
-// What was found, or what the rule at a place names, if that stands before it in the list.
+// The earlier one in the list: what was found, or what the rule at a place names.
 fn earlier<I: Identifier>(
     sorted: &[Numbered],
     found: Option<(usize, Addr)>,

@@ -80,7 +80,7 @@ const SERVER_KEPT: &[(&[u8], bool)] = &[
 /// Whether the line is one, bears an address or not, and has this image.
 fn has_image<D: Dialogue>(
     alloc: Global,
-    lines: &D,
+    lines: &mut D,
     line: &[u8],
     bears: bool,
     image: &[u8],
@@ -98,7 +98,7 @@ fn has_image<D: Dialogue>(
 /// The first line that isn't as it has to be.
 fn first_wrong<'a, D: Dialogue>(
     alloc: Global,
-    lines: &D,
+    lines: &mut D,
     changed: &[(&'a [u8], &'a [u8])],
     kept: &[(&'a [u8], bool)],
 ) -> Option<&'a [u8]> {
@@ -139,21 +139,21 @@ fn passive_line(alloc: Global, letters: usize) -> Result<Vec<u8>, AllocError> {
 #[test]
 fn renames_and_holds(rt: HostRuntime) -> Result<(), Fail> {
     rests_are_short();
-    let client = ClientLines { pair: PAIR };
-    let server = ServerLines { pair: PAIR };
-    let short = ServerLines { pair: SHORT };
+    let mut client = ClientLines { pair: PAIR };
+    let mut server = ServerLines { pair: PAIR };
+    let mut short = ServerLines { pair: SHORT };
     assert_eq!(rt;
-        first_wrong(rt.alloc(), &client, CLIENT_CHANGED, CLIENT_KEPT),
+        first_wrong(rt.alloc(), &mut client, CLIENT_CHANGED, CLIENT_KEPT),
         None
     );
     assert_eq!(rt;
-        first_wrong(rt.alloc(), &server, SERVER_CHANGED, SERVER_KEPT),
+        first_wrong(rt.alloc(), &mut server, SERVER_CHANGED, SERVER_KEPT),
         None
     );
     assert!(rt;
         has_image(
             rt.alloc(),
-            &short,
+            &mut short,
             b"227 1,1,1,1,1,1\n",
             true,
             b"227 192,168,200,100,1,1\n"
@@ -163,7 +163,7 @@ fn renames_and_holds(rt: HostRuntime) -> Result<(), Fail> {
     assert!(rt; server.image(rt.alloc(), &long)?.len() == 517);
     assert!(rt; taken(&server, &long, 511) == (511, 1, 511));
     let longer = passive_line(rt.alloc(), 493)?;
-    assert!(rt; has_image(rt.alloc(), &server, &longer, false, &longer));
+    assert!(rt; has_image(rt.alloc(), &mut server, &longer, false, &longer));
     assert!(rt; taken(&server, &longer, 512) == (512, 1, 0));
     assert!(rt; taken(&client, b"PORT 10,0,0,5,4,1\r\n", 9) == (9, 10, 9));
     assert!(rt; taken(&client, b"QUPO", 2) == (1, 2, 2));

@@ -38,11 +38,10 @@ fn judged(
         None => session.put_octets(true, segment, &mut octets),
         Some(_) => {}
     }
-    let entries = session.entries(alloc, true)?;
     Ok((
         verdict,
         octets.octets().len(),
-        entries.len() + session.listed(false),
+        session.listed(true) + session.listed(false),
     ))
 }
 

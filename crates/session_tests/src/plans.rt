@@ -1,16 +1,20 @@
-ghost use Rattle.std.specs.Prelude.{◌≡◌, not};
+ghost use Rattle.std.specs.Prelude.{◌≡◌, true, not, IfOk};
 ghost use Rattle.std.specs.List.{list_all};
 ghost use Rattle.gate_base.specs.declared.side.Side.TheVariants as sides;
 ghost use Rattle.binding_table.specs.Bindings.{cross};
 ghost use Rattle.gate_model.specs.Names.{is_unbound};
 
 use binding_table::{Crossing, SeenAddresses, Table};
-use dns_plans::{Endpoints, Entry, PlanStop, UnitPlan, plan_units};
+use dialogue::UnitImage;
+use dns_plans::{Endpoints, Entry, PlanStop, Sender, Session, UnitOctets, UnitPlan, plan_units};
+use dns_stream::RenameList;
 use expiring_table::Seed;
 use gate_base::{Addr, OutOfMemory, Refusal, Side};
 use settings_file::read_settings;
 use std::alloc::Global;
+use std::marker::Model;
 use std::test::Fail;
+use tcp_segments::TcpView;
 
 /// The other realm's pool has ten addresses.
 const SETTINGS: &[u8] = b"left.pool_first = \"192.168.200.1\"
@@ -35,6 +39,10 @@ const QUESTION: &[u8] = b"\0\x1d\0\x01\x01\0\0\x01\0\0\0\0\0\0\x03ftp\x07example
 const ANSWER: &[u8] = b"\0-\0\x01\x81\x80\0\x01\0\x01\0\0\0\0\x03ftp\x07example\0\0\x01\0\x01\
     \xc0\x0c\0\x01\0\x01\0\0\x0e\x10\0\x04";
 
+/// The image of an answer that names 10.0.0.21, which is called 172.16.9.2.
+const IMAGE: &[u8] = b"\0-\0\x01\x81\x80\0\x01\0\x01\0\0\0\0\x03ftp\x07example\0\0\x01\0\x01\
+    \xc0\x0c\0\x01\0\x01\0\0\0\0\0\x04\xac\x10\x09\x02";
+
 /// An answer with records of nine reverse names, 1.0.0.10 to 9.0.0.10, which share their ends.
 const NINE: &[u8] =
     b"\0\x9d\0\x03\x81\x80\0\0\0\x09\0\0\0\0\x011\x010\x010\x0210\x07in-addr\x04arpa\0\0\x10\0\x01\0\0\0\0\0\0\
@@ -55,15 +63,84 @@ fn is_bound(table: &Table, address: Addr) -> bool
     !matches!(table.cross(Side::Left, address), Crossing::Unbound)
 }
 
-fn all_bound(table: &Table, entries: &[Entry]) -> bool
+fn all_bound(table: &Table, addresses: &[Addr]) -> bool
     ensures { result
-        ≡ list_all (λ entry. not (is_unbound (cross table.now sides.Left entry.0)))
-        entries.now }
+        ≡ list_all (λ address. not (is_unbound (cross table.now sides.Left address)))
+        addresses.now }
 {
-    entries.iter().all(|entry| is_bound(table, entry.0))
+    addresses.iter().all(|address| is_bound(table, *address))
 }
 
-/// A plan, where the addresses that it may not be asked for aren't unbound.
+/// A session both of whose hosts have named the addresses of one list.
+#[derive(Drop)]
+struct OneList {
+    list: RenameList,
+}
+
+impl Model for OneList {
+    ghost use Rattle.std.specs.Prelude.{List};
+    ghost use Rattle.dialogue.specs.Learning.{Entry};
+
+    ghost Value = { List Entry };
+
+    ghost view = { λ session. session.list };
+}
+
+impl Session for OneList {
+    ghost use Rattle.std.specs.Prelude.{[], None, false};
+
+    ghost rules = { record {
+      made = λ _ _ _ _. [];
+      refusal = λ _ _ _. None;
+      units = λ _ _ _. [];
+      listed = λ _ entries. entries;
+      next = λ _ _ entries _. entries;
+      out = λ _ _ _ _. [];
+      ends = λ _ _ _. false;
+      inner = λ _ _ _. None;
+      pending = λ _. 0;
+    } };
+
+    fn refusal(&self, _from_client: bool, _segment: &TcpView<'_>) -> Option<Refusal> {
+        None
+    }
+
+    fn inner(&self, _from_client: bool, _sequence: u32) -> Option<u32> {
+        None
+    }
+
+    fn listed(&self, _client: bool) -> usize {
+        self.list.len()
+    }
+
+    fn entry(&self, _client: bool, place: usize) -> Entry {
+        self.list.entry(place)
+    }
+
+    fn image_of(&self, _client: bool, address: Addr) -> Option<Option<Addr>> {
+        self.list.image_of(address)
+    }
+
+    fn put_octets(&self, _from_client: bool, _segment: &TcpView<'_>, octets: &mut UnitOctets) {
+        octets.clear();
+    }
+}
+
+/// A session whose list has these entries, except any whose address is unbound.
+fn session_with(alloc: Global, table: &Table, entries: &[Entry]) -> Result<OneList, OutOfMemory>
+    ensures { IfOk result (λ session. list_all (λ entry. not
+        (is_unbound (cross table.now sides.Left entry.0))) session ≡ true) }
+{
+    let mut list = RenameList::new(alloc)?;
+    for (address, image) in entries {
+        if is_bound(table, *address) && list.image_of(*address).is_none() && list.len() < 256 {
+            list.learn(*address, *image);
+        }
+    }
+    Ok(OneList { list })
+}
+
+/// A plan for octets of a host whose list has these entries, where neither address of the header is unbound.
 fn planned(
     alloc: Global,
     table: &Table,
@@ -71,11 +148,14 @@ fn planned(
     entries: &[Entry],
     octets: &[u8],
 ) -> Result<UnitPlan, PlanStop> {
-    let header = [(ENDPOINTS.source, None), (ENDPOINTS.destination, None)];
-    if !all_bound(table, &header) || !all_bound(table, entries) {
+    if !all_bound(table, &[ENDPOINTS.source, ENDPOINTS.destination]) {
         return Err(PlanStop::OutOfMemory);
     }
-    plan_units(alloc, table, seen_addresses, &ENDPOINTS, entries, octets)
+    let sender = Sender {
+        session: &session_with(alloc, table, entries)?,
+        is_client: true,
+    };
+    plan_units(alloc, table, seen_addresses, &ENDPOINTS, &sender, octets)
 }
 
 /// Whether a plan has these entries, or tells this refusal.
@@ -131,6 +211,26 @@ fn answered(
         &planned(alloc, table, seen_addresses, entries, &octets),
         wanted,
     ))
+}
+
+/// Whether these are the images of two answers that name only 10.0.0.21.
+fn are_images(images: &[UnitImage], answer: &[u8]) -> bool {
+    images.len() == 2
+        && images.iter().all(|one| one.unit.as_slice() == answer && one.image.as_slice() == IMAGE)
+}
+
+/// Whether two answers have their images.
+fn images(
+    alloc: Global,
+    table: &Table,
+    seen_addresses: &mut SeenAddresses,
+) -> Result<bool, OutOfMemory> {
+    let answer = answers(alloc, &[NEW.0], b"")?;
+    let octets = answers(alloc, &[NEW.0, NEW.0], b"\0")?;
+    match planned(alloc, table, seen_addresses, &[], &octets) {
+        Ok(plan) => Ok(are_images(&plan.images, &answer)),
+        Err(_) => Ok(false),
+    }
 }
 
 /// Whether units that pass are planned.
@@ -237,10 +337,11 @@ fn grows(
 fn plans(alloc: Global, table: &Table) -> Result<bool, OutOfMemory> {
     let mut seen_addresses = SeenAddresses::new(alloc, Seed::from_number(1))?;
     let passing = passes(alloc, table, &mut seen_addresses)?;
+    let imaged = images(alloc, table, &mut seen_addresses)?;
     let refused = refuses(alloc, table, &mut seen_addresses)?;
     let filled = fills(alloc, table, &mut seen_addresses)?;
     let growing = grows(alloc, table, &mut seen_addresses)?;
-    Ok(passing && refused && filled && growing)
+    Ok(passing && imaged && refused && filled && growing)
 }
 
 #[test]

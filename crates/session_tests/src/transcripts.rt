@@ -44,6 +44,12 @@ server 5001 1022 16 200 ok+CRLF = 0 5001 1020 16 1460 200 ok+CRLF
 client 1001 5009 16 PORT 10,0,0,6 = 13 1021 5009 16 1460 -
 client 1021 5009 16 NOOP+CRLF = 0 Gap
 
+the front of a line, which goes out at once; its end, a changed line and a held rest; and the end of that, with one more line
+ftp 1460
+client 1001 5001 24 NO = 0 1001 5001 24 1460 NO
+client 1003 5001 24 OP+CRLF+PORT 10,0,0,5,4,1+CRLF+PORT 1 = 0 1003 5001 24 1460 OP+CRLF+PORT 172,16,9,1,4,1+CRLF
+client 1032 5001 24 0,0,0,5,4,1+CRLF+QUIT+CRLF = 0 1028 5001 24 1460 PORT 172,16,9,1,4,1+CRLF+QUIT+CRLF
+
 a held rest that goes out with the end, and that end once more
 ftp 1460
 client 1001 5001 16 PORT 1 = 0 1001 5001 16 1460 -
@@ -343,7 +349,7 @@ fn learn_one(session: &mut Names, from_client: bool, entry: (Addr, Option<Addr>)
     ensures server { session.new.server ≡ unheard None 536 }
 {
     let (address, image) = entry;
-    if !session.knows(from_client, address) && session.listed(from_client) < 256 {
+    if session.image_of(from_client, address).is_none() && session.listed(from_client) < 256 {
         session.learn(from_client, address, image);
     }
 }
@@ -371,8 +377,8 @@ fn run_session(alloc: Global, session: &'static str) -> Result<(), Fail> {
 fn is_learned(session: &Names) -> bool {
     session.listed(true) == 1
         && session.listed(false) == 1
-        && session.knows(true, OF_CLIENT.0)
-        && !session.knows(false, OF_CLIENT.0)
+        && session.image_of(true, OF_CLIENT.0) == Some(OF_CLIENT.1)
+        && session.image_of(false, OF_CLIENT.0).is_none()
         && session.entry(false, 0) == OF_SERVER
 }
 

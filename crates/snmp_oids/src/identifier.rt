@@ -21,12 +21,12 @@ pub(crate) struct Change {
 
 /// The address in the content of an OBJECT IDENTIFIER (X.690, 8.19), by rules.
 ///
-/// Each rule has 2 to 64 arcs, the first at most 2, the second at most 39 after 0 or 1 and at most 4,294,967,215 after 2. It
-/// skips at most 127. A rule fits if its arcs begin those of the content, and at least four follow behind them and as many as it
-/// skips, the first four of these at most 255. The first rule in order that fits names the address of these four.
+/// Each rule has 2 to 64 arcs. The first is at most 2. The second is at most 39 if the first is 0 or 1, and at most 4,294,967,215 if
+/// it is 2. A rule skips at most 127 arcs. A rule fits if the content begins with its arcs, and if at least four more follow those
+/// that it skips, each of the first four at most 255. The first rule in order that fits names the address of these four.
 ///
-/// None exactly where no rule fits. So it is where the content has no arcs: its last octet has the high bit, a sub-identifier
-/// begins with 0x80, or one is above 4,294,967,295.
+/// None exactly where no rule fits. No rule fits content without arcs: its last octet has the high bit, or a sub-identifier begins
+/// with 0x80 or is above 4,294,967,295.
 pub fn address_in(content: &[u8], rules: &SortedRules) -> Option<Addr>
     requires { AreRules rules.now }
     ensures { option_map (λ a. a.0) result

@@ -82,7 +82,7 @@ tests from_client sender receiver segment unlike =
     ∷ (backlog sender segment, Backlog)
     ∷ []
 
--- the verdict, by what is known of both senders and of the segment
+-- why a segment is refused, by what is known of both senders and of the segment
 abbrev pub refusal_of : Bool → Extent → Extent → Arrival → Bool → Option Refusal
 refusal_of from_client sender receiver segment unlike = first_that_holds (tests from_client sender receiver segment unlike)
 

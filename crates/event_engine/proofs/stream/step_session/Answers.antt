@@ -18,7 +18,7 @@ returns-in-Some-clause-next g c = λ image t e called.
     let same : c.in-Some.tracked.now ≡ t = cc in
     let side = c.args.way.now.side in
     let d = c.args.segment.now.datagram.now in
-    on_ok_by c.take.result (λ n. ap (replaced c.args.connections.now c.args.key.now) (n ∙ ap (stepped g.S.Session.rules image side d) same)) (c.take.ensures.next image (subst (λ (x : Tracked g.row.S.Denot). AreCalled g.S.Session.rules image side d x c.args.entries.now) (sym same) called))
+    on_ok_by c.take.result (λ n. ap (replaced c.args.connections.now c.args.key.now) (n ∙ ap (stepped g.S.Session.rules image side d) same)) (c.take.ensures.next image (subst (λ (x : Tracked g.row.S.Denot). AreCalled g.S.Session.rules image side d x c.args.completed.entries.now) (sym same) called))
 
 pub returns-in-Some-clause-stepped : goal.returns-in-Some-clause-stepped
 returns-in-Some-clause-stepped g c = λ image t e called.
@@ -26,7 +26,7 @@ returns-in-Some-clause-stepped g c = λ image t e called.
     let same : c.in-Some.tracked.now ≡ t = cc in
     let way = c.args.way.now in
     let d = c.args.segment.now.datagram.now in
-    subst (λ (x : Tracked g.row.S.Denot). IfOk c.take.result (λ s. IsStepped g.S.Session.rules g.S.Engine.gives image way d x s c.take.new.outbox)) same (c.take.ensures.stepped image (subst (λ (x : Tracked g.row.S.Denot). AreCalled g.S.Session.rules image way.side d x c.args.entries.now) (sym same) called))
+    subst (λ (x : Tracked g.row.S.Denot). IfOk c.take.result (λ s. IsStepped g.S.Session.rules g.S.Engine.gives image way d x s c.take.new.outbox)) same (c.take.ensures.stepped image (subst (λ (x : Tracked g.row.S.Denot). AreCalled g.S.Session.rules image way.side d x c.args.completed.entries.now) (sym same) called))
 
 pub returns-in-Some-clause-lost : goal.returns-in-Some-clause-lost
 returns-in-Some-clause-lost g c = λ t e.

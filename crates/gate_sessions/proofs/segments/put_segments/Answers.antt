@@ -3,7 +3,7 @@ use Rattle.std.specs.Prelude.{None, Result, Ok, Err, IfOk, OnErr}
 use Rattle.tcp_segments.specs.Tcp.{Tcp}
 use Rattle.stream_model.specs.Session.{Segment, Outgoing, segment_in}
 use Rattle.compact_stream.specs.Outs.{kept_out, kept_ends}
-use Rattle.compact_stream.specs.Sessions.{kept_verdict}
+use Rattle.compact_stream.specs.Sessions.{kept_refusal}
 use Rattle.gate_outbox.specs.Outboxes.{datagrams_from}
 use Rattle.gate_outbox.proofs.Boxes.{no_ends, no_octets}
 use Rattle.gate_sessions.proofs.Sent.{way_by, heads_of, sent_short, sends, sent_box, sent_view, sent_same}
@@ -14,7 +14,7 @@ step-requires g c =
     let octets = c.outbox.inside.octets.items in
     let ends = c.outbox.inside.ends.items in
     let empty : _ ≡ [] = c.outbox.view_is ∙ c.requires.empty in
-    let passes : kept_verdict c.args.passing.now.from_client c.args.session.now.kept (segment_in c.args.passing.now.segment.now.tcp.now) ≡ None = subst (λ (t : Tcp). kept_verdict c.args.passing.now.from_client c.args.session.now.kept (segment_in t) ≡ None) (sym c.requires.segment) c.requires.passes in
+    let passes : kept_refusal c.args.passing.now.from_client c.args.session.now.kept (segment_in c.args.passing.now.segment.now.tcp.now) ≡ None = subst (λ (t : Tcp). kept_refusal c.args.passing.now.from_client c.args.session.now.kept (segment_in t) ≡ None) (sym c.requires.segment) c.requires.passes in
     (search rules, (passes, (c.header.ensures.count, (omega (arith, ap length (no_octets octets ends c.outbox.invariant.bounds empty)), (omega (arith, ap length (no_octets octets ends c.outbox.invariant.bounds empty), c.outbox.invariant.room), (omega (arith, ap length (no_ends octets ends empty), c.outbox.invariant.places), (c.scratch.invariant.0, c.scratch.invariant.1)))))))
 
 pub invariant_of-outbox : goal.invariant_of-outbox

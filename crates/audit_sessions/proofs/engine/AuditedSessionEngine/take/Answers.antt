@@ -1,6 +1,9 @@
-use Rattle.std.proofs.Common.{◌≡◌, Some, List, sym, ap, subst, ◌∙◌}
+use Rattle.std.proofs.Common.{◌≡◌, Bool, Some, List, sym, ap, subst, ◌∙◌}
 use Rattle.gate_base.specs.declared.address.Addr.{Addr}
-use Rattle.dialogue.specs.Learning.{Entry}
+use Rattle.dialogue.specs.Learning.{Entry, AreImages}
+use Rattle.dns_stream.specs.Images.{dns_units}
+use Rattle.dns_plans.specs.Steps.{entered_all}
+use Rattle.gate_model.specs.World.{Tracked}
 use Rattle.stream_model.specs.Session.{Segment, segment_in}
 use Rattle.audit_streams.specs.Sending.{Handed, handed}
 use Rattle.gate_model.specs.Lists.{addresses_in}
@@ -14,13 +17,21 @@ use Rattle.event_steps.proofs.Results.{on_err}
 use Rattle.audit_sessions.proofs.SteppedStreams.{sent_wanted, pieces_fit}
 use Rattle.audit_sessions.proofs.engine.AuditedSessionEngine.take.Goals as goal
 
+pub step-requires-clause-images : goal.step-requires-clause-images
+step-requires-clause-images c =
+    let t = c.args.tracked.now in
+    let f = c.is_client-from_client.result in
+    let seen : c.tracked.inside.session ≡ t.session = ap (λ (x : Tracked HeardSession). x.session) c.tracked.view_is in
+    subst (λ (xs : List Entry). AreImages (dns_units (entered_all xs c.args.completed.entries.now)) c.args.completed.images.items)
+    (ap (λ (b : Bool). heard_rules.listed b t.session) (sym c.is_client-from_client.ensures) ∙ ap (heard_rules.listed f) (sym seen)) c.requires.enters.right
+
 pub of-requires-clause-fits : goal.of-requires-clause-fits
 of-requires-clause-fits c =
     let side = c.args.way.now.side in
     let d = c.args.segment.now.datagram.now in
     let tcp = c.args.segment.now.tcp.now in
     let t = c.args.tracked.now in
-    let entries : List Entry = c.args.entries.now in
+    let entries : List Entry = c.args.completed.entries.now in
     let f = c.is_client-from_client.result in
     let session : HeardSession = c.tracked.inside.session in
     let image = c.requires.enters.image in
@@ -35,7 +46,7 @@ returns-clause-next c = λ image called.
     let d = c.args.segment.now.datagram.now in
     let tcp = c.args.segment.now.tcp.now in
     let t = c.args.tracked.now in
-    let entries : List Entry = c.args.entries.now in
+    let entries : List Entry = c.args.completed.entries.now in
     let f = c.is_client-from_client.result in
     let session : HeardSession = c.tracked.inside.session in
     let i : IsSeen heard_rules c.tracked.inside.client c.tracked.inside.pair session f side d t image entries = record { seen = c.tracked.view_is; sender = c.is_client-from_client.ensures; called = called } in
@@ -50,7 +61,7 @@ returns-clause-stepped c = λ image called.
     let d = c.args.segment.now.datagram.now in
     let tcp = c.args.segment.now.tcp.now in
     let t = c.args.tracked.now in
-    let entries : List Entry = c.args.entries.now in
+    let entries : List Entry = c.args.completed.entries.now in
     let f = c.is_client-from_client.result in
     let session : HeardSession = c.tracked.inside.session in
     let sent : Handed = c.in_ok-sent.sent in

@@ -1,12 +1,15 @@
-use Rattle.std.proofs.Common.{◌≡◌, ◌≤◌, length, ap, subst, sym, ◌∙◌}
+use Rattle.std.proofs.Common.{◌≡◌, ◌≤◌, Bool, true, false, List, length, refl, ap, subst, sym, ◌∙◌}
 use Rattle.std.specs.Prelude.{IfOk, Option}
 use Rattle.gate_base.specs.declared.address.Addr.{Addr}
+use Rattle.gate_base.specs.declared.event.Pair.{Pair}
+use Rattle.dialogue.specs.Learning.{Entry, AreImages}
+use Rattle.dns_stream.specs.Images.{dns_units}
 use Rattle.audit_streams.specs.Sending.{Handed, handed}
 use Rattle.stream_model.specs.Session.{segment_in, Session}
 use Rattle.stream_model.specs.Refusals.{segment_refusal}
 use Rattle.dns_plans.specs.Steps.{entered_all}
 use Rattle.audit_sessions.specs.Heard.{HeardSession, IsSession, heard_rules, heard_sent}
-use Rattle.audit_sessions.specs.Sessions.{session_by, dns_session, IsOfPair}
+use Rattle.audit_sessions.specs.Sessions.{DnsHeard, listed_of, session_by, dns_session, IsOfPair}
 use Rattle.audit_sessions.specs.declared.kinds.SessionKind.{SessionKind}
 use Rattle.audit_sessions.proofs.LearnedSessions.{AreNamed, next_units, sent_units, units_stay}
 use Rattle.audit_sessions.proofs.SeenSessions.{lines_seen, units_seen, ftp_session, next_seen, sent_seen, lines_hold, few_seen, side_in}
@@ -40,7 +43,18 @@ pub step_units-requires-clause-few : goal.step_units-requires-clause-few
 step_units-requires-clause-few c =
     let pair = c.self.inside.pair in
     let seen : dns_session pair c.in-Units.session ≡ c.args.self.now = ap (session_by pair) (sym c.in-Units.is) ∙ c.self.view_is in
-    few_seen pair c.in-Units.session c.args.self.now c.args.from_client c.args.entries.now seen c.requires.few
+    few_seen pair c.in-Units.session c.args.self.now c.args.from_client c.args.completed.entries.now seen c.requires.few
+
+pub step_units-requires-clause-images : goal.step_units-requires-clause-images
+step_units-requires-clause-images c =
+    let pair = c.self.inside.pair in
+    let f = c.args.from_client in
+    let seen : dns_session pair c.in-Units.session ≡ c.args.self.now = ap (session_by pair) (sym c.in-Units.is) ∙ c.self.view_is in
+    subst (λ (xs : List Entry). AreImages (dns_units (entered_all xs c.args.completed.entries.now)) c.args.completed.images.items) (ap (heard_rules.listed f) (sym seen) ∙ listed_in f pair c.in-Units.session) c.requires.images
+  where
+    listed_in : (f : Bool) (pair : Pair) (d : DnsHeard) → heard_rules.listed f (dns_session pair d) ≡ listed_of f d
+    listed_in true pair d = refl
+    listed_in false pair d = refl
 
 pub step_units-requires-clause-listed : goal.step_units-requires-clause-listed
 step_units-requires-clause-listed c = side_in c.self.inside.pair c.in-Units.session c.args.from_client (subst (λ (x : SessionKind). IsSession (session_by c.self.inside.pair x)) c.in-Units.is c.self.invariant.1)
@@ -55,7 +69,7 @@ invariant_of-self-in-Ok c =
     let pair = c.self.inside.pair in
     let f = c.args.from_client in
     let g = segment_in c.args.segment.now in
-    let entries = c.args.entries.now in
+    let entries = c.args.completed.entries.now in
     let seen : dns_session pair c.in-Units.session ≡ c.args.self.now = ap (session_by pair) (sym c.in-Units.is) ∙ c.self.view_is in
     let named = subst (λ (h : HeardSession). (image : Addr → Option Addr) × AreNamed image f h g entries) (sym seen) c.requires.named in
     let few = subst (λ (h : HeardSession). length (entered_all (heard_rules.listed f h) entries) ≤ 256) (sym seen) c.requires.few in
@@ -67,7 +81,7 @@ returns-in-Ok-clause-next c = λ image e.
     let f = c.args.from_client in
     let g = segment_in c.args.segment.now in
     let seen : dns_session pair c.in-Units.session ≡ c.args.self.now = ap (session_by pair) (sym c.in-Units.is) ∙ c.self.view_is in
-    next_units image pair c.in-Units.session c.step_units.new.session f g c.args.entries.now (subst (λ (h : HeardSession). AreNamed image f h g c.args.entries.now) (sym seen) e) c.in-Ok.ensures.next
+    next_units image pair c.in-Units.session c.step_units.new.session f g c.args.completed.entries.now (subst (λ (h : HeardSession). AreNamed image f h g c.args.completed.entries.now) (sym seen) e) c.in-Ok.ensures.next
     ∙ ap (λ (h : HeardSession). heard_rules.next image f h g) seen
 
 pub returns-in-Ok-clause-sent : goal.returns-in-Ok-clause-sent
@@ -77,5 +91,5 @@ returns-in-Ok-clause-sent c = λ image e.
     let g = segment_in c.args.segment.now in
     let seen : dns_session pair c.in-Units.session ≡ c.args.self.now = ap (session_by pair) (sym c.in-Units.is) ∙ c.self.view_is in
     c.in-Ok.ensures.sent
-    ∙ sent_units image pair c.in-Units.session f g c.args.entries.now (subst (λ (h : HeardSession). AreNamed image f h g c.args.entries.now) (sym seen) e)
+    ∙ sent_units image pair c.in-Units.session f g c.args.completed.entries.now (subst (λ (h : HeardSession). AreNamed image f h g c.args.completed.entries.now) (sym seen) e)
     ∙ ap (λ (h : HeardSession). handed (heard_sent image f h g) (heard_rules.ends f h g)) seen

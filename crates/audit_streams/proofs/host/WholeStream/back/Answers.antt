@@ -1,17 +1,9 @@
-use Rattle.std.proofs.Common.{◌≡◌, ◌+◌, List, length, sym, ◌∙◌, ap, subst}
-use Rattle.std.specs.Prelude.{map}
+use Rattle.std.proofs.Common.{◌≡◌, ◌+◌, length, sym, ◌∙◌, ap, subst}
 use Rattle.dialogue.specs.Places.{back_in}
 use Rattle.dialogue.specs.Stream.{spans, back_if}
-use Rattle.audit_streams.specs.declared.transcript.Place.{Place}
-use Rattle.audit_streams.specs.Transcripts.{span_of, PlacesRise}
 use Rattle.audit_streams.specs.Hosts.{HeardStream}
-use Rattle.audit_streams.proofs.HostLists.{spans_are, places_rise_here}
+use Rattle.audit_streams.proofs.HostLists.{spans_are}
 use Rattle.audit_streams.proofs.host.WholeStream.back.Goals as goal
-
-pub below-requires : goal.below-requires
-below-requires g c =
-    let a = c.self.inside in
-    subst (λ (ps : List Place). PlacesRise ps) (sym c.places.ensures.places) (places_rise_here (g.D.Dialogue.meaning a.dialogue) a.released a.transcript c.self.invariant)
 
 pub returns-clause-back : goal.returns-clause-back
 returns-clause-back g c =
@@ -19,7 +11,7 @@ returns-clause-back g c =
     let m = g.D.Dialogue.meaning c.args.self.now.dialogue in
     let octets = c.args.self.now.heard.octets in
     let here : c.below.result ≡ back_in (spans (g.D.Dialogue.meaning a.dialogue) a.transcript.octets) c.args.place =
-    c.below.ensures.back ∙ ap (λ ps. back_in (map span_of ps) c.args.place) c.places.ensures.places ∙ ap (λ ss. back_in ss c.args.place) (spans_are (g.D.Dialogue.meaning a.dialogue) a.released a.transcript c.self.invariant)
+    c.below.ensures.back ∙ ap (λ ss. back_in ss c.args.place) (spans_are (g.D.Dialogue.meaning a.dialogue) a.released a.transcript c.self.invariant)
     in
     subst (λ (h : HeardStream _). c.below.result ≡ back_in (spans (g.D.Dialogue.meaning h.dialogue) h.heard.octets) c.args.place) c.self.view_is here
     ∙ sym (ap (λ b. back_if b (length octets + 1) (back_in (spans m octets) c.args.place)) (sym c.is_past_end.ensures ∙ c.if-is_past_end.false))

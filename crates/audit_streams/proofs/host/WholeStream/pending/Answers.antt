@@ -1,18 +1,12 @@
-use Rattle.std.proofs.Common.{◌≡◌, List, ℕ, sym, ◌∙◌, ap, subst}
+use Rattle.std.proofs.Common.{◌≡◌, ◌∙◌, ap, subst}
 use Rattle.std.specs.Prelude.{count_by, nat_lt}
 use Rattle.stream_model.specs.Steps.{open_of}
-use Rattle.audit_streams.specs.Transcripts.{EndsRise}
 use Rattle.audit_streams.specs.Hosts.{HeardStream, sender_of}
-use Rattle.audit_streams.proofs.HostLists.{ends_are, ends_rise_here}
+use Rattle.audit_streams.proofs.HostLists.{ends_are}
 use Rattle.audit_streams.proofs.host.WholeStream.pending.Goals as goal
-
-pub above-requires : goal.above-requires
-above-requires g c =
-    let a = c.self.inside in
-    subst (λ (es : List ℕ). EndsRise es) (sym c.ends.ensures) (ends_rise_here (g.D.Dialogue.meaning a.dialogue) a.released a.transcript c.self.invariant)
 
 pub returns : goal.returns
 returns g c =
     let a = c.self.inside in
     subst (λ (h : HeardStream _). c.above.result ≡ open_of (sender_of g.D.Dialogue.meaning h)) c.self.view_is
-    (c.above.ensures ∙ ap (λ es. count_by (λ e. nat_lt a.acked e) es) c.ends.ensures ∙ ap (λ es. count_by (λ e. nat_lt a.acked e) es) (ends_are (g.D.Dialogue.meaning a.dialogue) a.released a.transcript c.self.invariant))
+    (c.above.ensures ∙ ap (λ es. count_by (λ e. nat_lt a.acked e) es) (ends_are (g.D.Dialogue.meaning a.dialogue) a.released a.transcript c.self.invariant))

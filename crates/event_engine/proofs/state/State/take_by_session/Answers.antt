@@ -28,7 +28,7 @@ step_session-requires-clause-enters g c = λ x e.
     let side = c.args.way.now.side in
     let d = c.args.segment.now.datagram.now in
     let found = ap (λ (k : ConnKey). session_in (connection_of k c.args.self.now.connections)) c.requires.key ∙ p.found in
-    subst (λ (y : Tracked g.row.S.Denot). Enters g.S.Session.rules side d y c.deref.result.now) (same_session t x (sym found ∙ e)) (enters_by g.S.Session.rules (world_in c.args.self.now) side d t c.args.plan.now c.deref.result.now p c.deref.ensures.value)
+    subst (λ (y : Tracked g.row.S.Denot). Enters g.S.Session.rules side d y c.deref.result.now c.replace.result.items) (same_session t x (sym found ∙ e)) (enters_by g.S.Session.rules (world_in c.args.self.now) side d t c.args.plan c.deref.result.now c.replace.result.items p c.deref.ensures.value (ap (λ v. v.items) c.replace.ensures.value))
 
 pub returns-in_err-stepped : goal.returns-in_err-stepped
 returns-in_err-stepped g c =
@@ -50,9 +50,9 @@ use_segment-requires-clause-client g c = λ x e.
     let live = world_in c.args.self.now in
     let found = ap (λ (k : ConnKey). session_in (connection_of k c.args.self.now.connections)) c.requires.key ∙ p.found in
     let s = stepped g.S.Session.rules (image_of g.S.Session.rules live side d) side d t in
-    let next = c.in_ok-stepped.ensures.next (image_of g.S.Session.rules live side d) t found (called_by g.S.Session.rules live side d t c.args.plan.now c.deref.result.now p c.deref.ensures.value) in
+    let next = c.in_ok-stepped.ensures.next (image_of g.S.Session.rules live side d) t found (called_by g.S.Session.rules live side d t c.args.plan c.deref.result.now p c.deref.ensures.value) in
     let is : Some x ≡ Some s = sym e ∙ ap (λ (all : List (Connection (Tracked g.row.S.Denot))). session_in (connection_of c.args.key.now all)) next ∙ session_replaced c.args.key.now c.args.self.now.connections t s found in
-    still_within g.S.Session.rules c.requires.laws.lists live side d t x true c.args.plan.now.client (same_session x s is) p.client
+    still_within g.S.Session.rules c.requires.laws.lists live side d t x true c.args.plan.client (same_session x s is) p.client
 
 pub use_segment-requires-clause-server : goal.use_segment-requires-clause-server
 use_segment-requires-clause-server g c = λ x e.
@@ -62,9 +62,9 @@ use_segment-requires-clause-server g c = λ x e.
     let live = world_in c.args.self.now in
     let found = ap (λ (k : ConnKey). session_in (connection_of k c.args.self.now.connections)) c.requires.key ∙ p.found in
     let s = stepped g.S.Session.rules (image_of g.S.Session.rules live side d) side d t in
-    let next = c.in_ok-stepped.ensures.next (image_of g.S.Session.rules live side d) t found (called_by g.S.Session.rules live side d t c.args.plan.now c.deref.result.now p c.deref.ensures.value) in
+    let next = c.in_ok-stepped.ensures.next (image_of g.S.Session.rules live side d) t found (called_by g.S.Session.rules live side d t c.args.plan c.deref.result.now p c.deref.ensures.value) in
     let is : Some x ≡ Some s = sym e ∙ ap (λ (all : List (Connection (Tracked g.row.S.Denot))). session_in (connection_of c.args.key.now all)) next ∙ session_replaced c.args.key.now c.args.self.now.connections t s found in
-    still_within g.S.Session.rules c.requires.laws.lists live side d t x false c.args.plan.now.server (same_session x s is) p.server
+    still_within g.S.Session.rules c.requires.laws.lists live side d t x false c.args.plan.server (same_session x s is) p.server
 
 pub note-requires-clause-room : goal.note-requires-clause-room
 note-requires-clause-room g c = λ h.
@@ -76,7 +76,7 @@ note-requires-clause-room g c = λ h.
     let found = ap (λ (k : ConnKey). session_in (connection_of k c.args.self.now.connections)) c.requires.key ∙ p.found in
     let image = image_of g.S.Session.rules live side d in
     let s = stepped g.S.Session.rules image side d t in
-    let called = called_by g.S.Session.rules live side d t c.args.plan.now c.deref.result.now p c.deref.ensures.value in
+    let called = called_by g.S.Session.rules live side d t c.args.plan c.deref.result.now p c.deref.ensures.value in
     let next = c.in_ok-stepped.ensures.next image t found called in
     let there : session_in (connection_of c.args.key.now c.step_session.new.connections) ≡ Some s = ap (λ (all : List (Connection (Tracked g.row.S.Denot))). session_in (connection_of c.args.key.now all)) next ∙ session_replaced c.args.key.now c.args.self.now.connections t s found in
     let a = at_place c.args.key.now c.args.self.now.connections t found in
@@ -91,9 +91,9 @@ use_segment-requires-in-None-clause-client g c = λ x e.
     let live = world_in c.args.self.now in
     let found = ap (λ (k : ConnKey). session_in (connection_of k c.args.self.now.connections)) c.requires.key ∙ p.found in
     let s = stepped g.S.Session.rules (image_of g.S.Session.rules live side d) side d t in
-    let next = c.in_ok-stepped.ensures.next (image_of g.S.Session.rules live side d) t found (called_by g.S.Session.rules live side d t c.args.plan.now c.deref.result.now p c.deref.ensures.value) in
+    let next = c.in_ok-stepped.ensures.next (image_of g.S.Session.rules live side d) t found (called_by g.S.Session.rules live side d t c.args.plan c.deref.result.now p c.deref.ensures.value) in
     let is : Some x ≡ Some s = sym e ∙ ap (λ (all : List (Connection (Tracked g.row.S.Denot))). session_in (connection_of c.args.key.now all)) next ∙ session_replaced c.args.key.now c.args.self.now.connections t s found in
-    still_within g.S.Session.rules c.requires.laws.lists live side d t x true c.args.plan.now.client (same_session x s is) p.client
+    still_within g.S.Session.rules c.requires.laws.lists live side d t x true c.args.plan.client (same_session x s is) p.client
 
 pub use_segment-requires-in-None-clause-server : goal.use_segment-requires-in-None-clause-server
 use_segment-requires-in-None-clause-server g c = λ x e.
@@ -103,9 +103,9 @@ use_segment-requires-in-None-clause-server g c = λ x e.
     let live = world_in c.args.self.now in
     let found = ap (λ (k : ConnKey). session_in (connection_of k c.args.self.now.connections)) c.requires.key ∙ p.found in
     let s = stepped g.S.Session.rules (image_of g.S.Session.rules live side d) side d t in
-    let next = c.in_ok-stepped.ensures.next (image_of g.S.Session.rules live side d) t found (called_by g.S.Session.rules live side d t c.args.plan.now c.deref.result.now p c.deref.ensures.value) in
+    let next = c.in_ok-stepped.ensures.next (image_of g.S.Session.rules live side d) t found (called_by g.S.Session.rules live side d t c.args.plan c.deref.result.now p c.deref.ensures.value) in
     let is : Some x ≡ Some s = sym e ∙ ap (λ (all : List (Connection (Tracked g.row.S.Denot))). session_in (connection_of c.args.key.now all)) next ∙ session_replaced c.args.key.now c.args.self.now.connections t s found in
-    still_within g.S.Session.rules c.requires.laws.lists live side d t x false c.args.plan.now.server (same_session x s is) p.server
+    still_within g.S.Session.rules c.requires.laws.lists live side d t x false c.args.plan.server (same_session x s is) p.server
 
 pub returns-in-Some : goal.returns-in-Some
 returns-in-Some g c =
@@ -117,7 +117,7 @@ returns-in-Some g c =
     let found = ap (λ (k : ConnKey). session_in (connection_of k c.args.self.now.connections)) c.requires.key ∙ p.found in
     let image = image_of g.S.Session.rules live side d in
     let s = stepped g.S.Session.rules image side d t in
-    let called = called_by g.S.Session.rules live side d t c.args.plan.now c.deref.result.now p c.deref.ensures.value in
+    let called = called_by g.S.Session.rules live side d t c.args.plan c.deref.result.now p c.deref.ensures.value in
     let next = c.in_ok-stepped.ensures.next image t found called in
     let did = c.in_ok-stepped.ensures.stepped image t found called in
     let there : session_in (connection_of c.args.key.now c.step_session.new.connections) ≡ Some s = ap (λ (all : List (Connection (Tracked g.row.S.Denot))). session_in (connection_of c.args.key.now all)) next ∙ session_replaced c.args.key.now c.args.self.now.connections t s found in
@@ -125,15 +125,15 @@ returns-in-Some g c =
     let timeout = c.timeout_of-timeout.ensures.is ∙ ap (λ (k : ConnKey). timeout_of c.args.self.now.connections k side c.flags-flags.result) c.requires.key ∙ ap (timeout_of c.args.self.now.connections (key_in c.args.self.now.table side d) side) flags in
     subst (λ (n : ℕ). IsGiven g.S.Session.rules g.S.Engine.gives (stream_refusal g.S.Session.rules live side d) Stream live side d (Cut c.in_ok-stepped.stepped.sent) (world_of c.args.self.now.clock.0 c.use_segment.new.table c.note.new.self n) c.step_session.new.outbox) (sym c.max-self.ensures)
     (session_goes_on g.S.Session.rules g.S.Engine.gives.tells live way d t c.in-Some.waiting c.use_segment.new.table c.note.new.self (given_by g.S.Engine.gives (Cut c.in_ok-stepped.stepped.sent) c.step_session.new.outbox) c.requires.way p.found (sym p.units.passes) (sym c.in-Some.is ∙ did.waits)
-    (λ h. planned_used g.S.Session.rules c.requires.laws.lists live way d t s c.args.plan.now c.timeout_of-timeout.result c.use_segment.new.table c.requires.listed.lawful c.requires.way p refl (h ∙ sym timeout) (c.use_segment.ensures s there))
+    (λ h. planned_used g.S.Session.rules c.requires.laws.lists live way d t s c.args.plan c.timeout_of-timeout.result c.use_segment.new.table c.requires.listed.lawful c.requires.way p refl (h ∙ sym timeout) (c.use_segment.ensures s there))
     (c.note.ensures.noted
     ∙ ap (λ (x : List (Connection (Tracked g.row.S.Denot))). noted x c.args.key.now side c.flags-flags.result None way.moment) next
     ∙ ap (λ (k : ConnKey). noted (replaced c.args.self.now.connections k s) k side c.flags-flags.result None way.moment) c.requires.key
     ∙ ap (λ (n : ℕ). noted (replaced c.args.self.now.connections (key_in c.args.self.now.table side d) s) (key_in c.args.self.now.table side d) side n None way.moment) flags)
     did.gone)
 
-pub returns-in-None : goal.returns-in-None
-returns-in-None g c =
+pub returns : goal.returns
+returns g c =
     let (t, p) = c.requires.plan in
     let way = c.args.way.now in
     let side = way.side in
@@ -142,12 +142,12 @@ returns-in-None g c =
     let found = ap (λ (k : ConnKey). session_in (connection_of k c.args.self.now.connections)) c.requires.key ∙ p.found in
     let image = image_of g.S.Session.rules live side d in
     let s = stepped g.S.Session.rules image side d t in
-    let called = called_by g.S.Session.rules live side d t c.args.plan.now c.deref.result.now p c.deref.ensures.value in
+    let called = called_by g.S.Session.rules live side d t c.args.plan c.deref.result.now p c.deref.ensures.value in
     let next = c.in_ok-stepped.ensures.next image t found called in
     let did = c.in_ok-stepped.ensures.stepped image t found called in
     let there : session_in (connection_of c.args.key.now c.step_session.new.connections) ≡ Some s = ap (λ (all : List (Connection (Tracked g.row.S.Denot))). session_in (connection_of c.args.key.now all)) next ∙ session_replaced c.args.key.now c.args.self.now.connections t s found in
     session_is_over g.S.Session.rules g.S.Engine.gives.tells live way d t c.use_segment-in-None.new.table c.remove.new.self (given_by g.S.Engine.gives (Cut c.in_ok-stepped.stepped.sent) c.step_session.new.outbox) c.requires.way p.found (sym p.units.passes) (sym c.in-None.is ∙ did.waits)
-    (λ h. planned_used g.S.Session.rules c.requires.laws.lists live way d t s c.args.plan.now short_timeout c.use_segment-in-None.new.table c.requires.listed.lawful c.requires.way p refl h (c.use_segment-in-None.ensures s there))
+    (λ h. planned_used g.S.Session.rules c.requires.laws.lists live way d t s c.args.plan short_timeout c.use_segment-in-None.new.table c.requires.listed.lawful c.requires.way p refl h (c.use_segment-in-None.ensures s there))
     (c.remove.ensures
     ∙ ap (λ (x : List (Connection (Tracked g.row.S.Denot))). without x c.args.key.now) next
     ∙ ap (λ (k : ConnKey). without (replaced c.args.self.now.connections k s) k) c.requires.key)

@@ -51,9 +51,10 @@ take-requires-clause-enters g c =
     let way = c.args.way.now in
     let d = c.args.segment.now.datagram.now in
     let tcp = c.args.segment.now.tcp.now in
-    subst (λ (t : Tracked g.row.S.Denot). Enters g.S.Session.rules way.side d t []) (sym c.in_ok-tracked.ensures)
+    subst (λ images. Enters g.S.Session.rules way.side d c.in_ok-tracked.tracked [] images) (sym c.new.ensures.items)
+    (subst (λ (t : Tracked g.row.S.Denot). Enters g.S.Session.rules way.side d t [] []) (sym c.in_ok-tracked.ensures)
     (made_enters g.S.Session.rules c.requires.laws.lists way tcp d (image_of g.S.Session.rules (world_in c.args.self.now) way.side d) c.requires.whole.tcp_is (and_parts (is_opening tcp.flags) (is_tracked_port tcp.destination_port) c.requires.first).0
-    (made_passes g.S.Session.rules c.requires.laws way c.pair_on-pair.result tcp d c.opening_refusal.result c.requires.whole.tcp_is c.opening_refusal.ensures c.in_default.is))
+    (made_passes g.S.Session.rules c.requires.laws way c.pair_on-pair.result tcp d c.opening_refusal.result c.requires.whole.tcp_is c.opening_refusal.ensures c.in_default.is)))
 
 pub open-requires-clause-flags : goal.open-requires-clause-flags
 open-requires-clause-flags g c =

@@ -1,5 +1,8 @@
-use Rattle.std.proofs.Common.{Bool, Some, ap, subst, ◌∙◌}
+use Rattle.std.proofs.Common.{◌≡◌, Bool, Some, List, sym, ap, subst, ◌∙◌}
 use Rattle.gate_base.specs.declared.address.Addr.{Addr}
+use Rattle.dialogue.specs.Learning.{Entry, AreImages}
+use Rattle.dns_stream.specs.Images.{dns_units}
+use Rattle.dns_plans.specs.Steps.{entered_all}
 use Rattle.gate_model.specs.Step.{stream_out}
 use Rattle.gate_model.specs.Stream.{segment_of}
 use Rattle.gate_model.specs.World.{Tracked}
@@ -11,12 +14,20 @@ use Rattle.gate_sessions.specs.Sessions.{MayWantIn}
 use Rattle.gate_sessions.proofs.Gone.{gone_is}
 use Rattle.gate_sessions.proofs.engine.AnySessionEngine.take.Goals as goal
 
+pub step-requires-clause-images : goal.step-requires-clause-images
+step-requires-clause-images c =
+    let t = c.args.tracked.now in
+    let f = c.is_client.result in
+    let seen : c.tracked.inside.session ≡ t.session = ap (λ (x : Tracked CompactSession). x.session) c.tracked.view_is in
+    subst (λ (xs : List Entry). AreImages (dns_units (entered_all xs c.args.completed.entries.now)) c.args.completed.images.items)
+    (ap (λ (b : Bool). compact_rules.listed b t.session) (sym c.is_client.ensures) ∙ ap (compact_rules.listed f) (sym seen)) c.requires.enters.right
+
 pub returns-clause-next : goal.returns-clause-next
 returns-clause-next c = λ image called.
     let side = c.args.way.now.side in
     let d = c.args.segment.now.datagram.now in
     let t = c.args.tracked.now in
-    let entries = c.args.entries.now in
+    let entries = c.args.completed.entries.now in
     let i : IsSeen compact_rules c.tracked.inside.client c.tracked.inside.pair c.tracked.inside.session c.is_client.result side d t image entries = record { seen = c.tracked.view_is; sender = c.is_client.ensures; called = called } in
     next_is compact_rules c.tracked.inside.client c.tracked.inside.pair c.tracked.inside.session c.step.new.self c.is_client.result side d t image entries i
     (c.in_ok-over.ensures.next image (called_is compact_rules c.tracked.inside.client c.tracked.inside.pair c.tracked.inside.session c.is_client.result side d t image entries i))
@@ -27,7 +38,7 @@ returns-clause-stepped c = λ image called.
     let side = way.side in
     let d = c.args.segment.now.datagram.now in
     let t = c.args.tracked.now in
-    let entries = c.args.entries.now in
+    let entries = c.args.completed.entries.now in
     let i : IsSeen compact_rules c.tracked.inside.client c.tracked.inside.pair c.tracked.inside.session c.is_client.result side d t image entries = record { seen = c.tracked.view_is; sender = c.is_client.ensures; called = called } in
     let named = called_is compact_rules c.tracked.inside.client c.tracked.inside.pair c.tracked.inside.session c.is_client.result side d t image entries i in
     record {

@@ -1,9 +1,0 @@
-use Rattle.std.specs.Prelude.{◌-◌, length}
-use Rattle.dns_plans.proofs.NamedLemmas.{UnderWay}
-use Rattle.dns_plans.proofs.named.named_in_units.Given as goal
-
-abbrev pub invariant-loop-end : goal.invariant-loop-end
-invariant-loop-end l = UnderWay l.octets l.at l.named.items
-
-abbrev pub decreases-loop-end : goal.decreases-loop-end
-decreases-loop-end l = length l.octets - l.at

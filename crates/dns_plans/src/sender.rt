@@ -1,0 +1,47 @@
+// The host of a session that sends a segment.
+ghost use Rattle.std.specs.Prelude.{◌≡◌, ◌≤◌, length};
+ghost use Rattle.dialogue.specs.Learning.{is_listed, listed_image};
+
+use crate::session::Session;
+use gate_base::Addr;
+
+/// The host that sends a segment, in its session. Its list has the addresses that its units named before, and what each is called.
+pub struct Sender<'a, S> {
+    pub session: &'a S,
+    pub is_client: bool,
+}
+
+impl<S> Drop for Sender<'_, S> {
+    fn drop(self) {
+        let Self { session, is_client } = self;
+    }
+}
+
+impl<S: Session> Sender<'_, S> {
+    /// How many entries its list has.
+    pub(crate) fn listed(&self) -> usize
+        ensures count { result
+            ≡ length (S.rules.listed self.now.is_client self.now.session.now) }
+        ensures few { result ≤ 256 }
+    {
+        self.session.listed(self.is_client)
+    }
+
+    /// The image of an address by its list, if that has an entry of it.
+    pub(crate) fn image_of(&self, address: Addr) -> Option<Option<Addr>>
+        ensures { result
+            ≡ listed_image (S.rules.listed self.now.is_client self.now.session.now)
+            address.0 }
+    {
+        self.session.image_of(self.is_client, address)
+    }
+
+    /// Whether its list has an entry of an address.
+    pub(crate) fn knows(&self, address: Addr) -> bool
+        ensures { result
+            ≡ is_listed (S.rules.listed self.now.is_client self.now.session.now)
+            address.0 }
+    {
+        self.image_of(address).is_some()
+    }
+}

@@ -1,0 +1,8 @@
+use Rattle.std.proofs.Common.{◌∙◌, ap}
+use Rattle.std.specs.Prelude.{is_some}
+use Rattle.dialogue.proofs.ListedImages.{image_of_listed}
+use Rattle.gate_sessions.specs.Directions.{listed_of}
+use Rattle.gate_sessions.proofs.learned.knows.Goals as goal
+
+pub returns : goal.returns
+returns c = c.is_some.ensures ∙ ap is_some c.image_of.ensures ∙ image_of_listed (listed_of c.args.from_client c.args.session.now) c.args.address.0
