@@ -1,34 +1,25 @@
 -- Octets that are a head and what stands behind it.
-use Rattle.std.proofs.Common.{◌≡◌, ◌≤◌, ◌<◌, ◌+◌, ℕ, Bool, true, false, ◌&&◌, List, ◌++◌, length, take, drop, refl, sym, ◌∙◌, ap, arith}
+use Rattle.std.proofs.Common.{◌≡◌, ◌≤◌, ◌<◌, ◌+◌, ℕ, Bool, true, ◌&&◌, List, ◌++◌, length, take, drop, sym, ◌∙◌, ap, arith}
 use Rattle.std.specs.Prelude.{nat_lt, nat_le}
 use Rattle.std.specs.Str.{bytes_eq}
-use Rattle.std.proofs.lemmas.Bool.Decides.{nat_tests}
+use Rattle.std.proofs.lemmas.Bool.Decides.{nat_tests, same_from_decides}
 use Rattle.std.proofs.Math.Seq.{take-append_seam, drop-append_seam}
-use Rattle.std.proofs.lemmas.Bool.{and_parts}
+use Rattle.std.proofs.lemmas.Bool.{and_parts, and_from}
 use Rattle.std.proofs.lemmas.List.{take-append-drop}
 use Rattle.std.proofs.lemmas.Slice.Eq.{bytes_eq-Decides}
 
-iff : (a b : Bool) → (a ≡ true → b ≡ true) → (b ≡ true → a ≡ true) → a ≡ b
-iff true true f g = refl
-iff true false f g = sym (f refl)
-iff false true f g = g refl
-iff false false f g = refl
-
-both : (a b : Bool) → a ≡ true → b ≡ true → (a && b) ≡ true
-both true b e f = f
-both false b e f = e
-
 pub front_is : (o h d : List ℕ) → (bytes_eq (take (length h) o) h && bytes_eq (drop (length h) o) d) ≡ bytes_eq o (h ++ d)
 front_is o h d =
-    iff (bytes_eq (take (length h) o) h && bytes_eq (drop (length h) o) d) (bytes_eq o (h ++ d))
-    (λ e.
-    let p = and_parts (bytes_eq (take (length h) o) h) (bytes_eq (drop (length h) o) d) e in
-    (bytes_eq-Decides o (h ++ d)).1 (sym (take-append-drop (length h) o) ∙ ap (λ (x : List ℕ). x ++ drop (length h) o) ((bytes_eq-Decides (take (length h) o) h).0 p.0) ∙ ap (λ (x : List ℕ). h ++ x) ((bytes_eq-Decides (drop (length h) o) d).0 p.1)))
-    (λ e.
-    let q = (bytes_eq-Decides o (h ++ d)).0 e in
-    both (bytes_eq (take (length h) o) h) (bytes_eq (drop (length h) o) d)
-    ((bytes_eq-Decides (take (length h) o) h).1 (ap (take (length h)) q ∙ take-append_seam h d))
-    ((bytes_eq-Decides (drop (length h) o) d).1 (ap (drop (length h)) q ∙ drop-append_seam h d)))
+    same_from_decides {P = (o ≡ h ++ d)} (bytes_eq (take (length h) o) h && bytes_eq (drop (length h) o) d) (bytes_eq o (h ++ d)) (
+      (λ e.
+          let p = and_parts (bytes_eq (take (length h) o) h) (bytes_eq (drop (length h) o) d) e in
+          sym (take-append-drop (length h) o) ∙ ap (λ (x : List ℕ). x ++ drop (length h) o) ((bytes_eq-Decides (take (length h) o) h).0 p.0) ∙ ap (λ (x : List ℕ). h ++ x) ((bytes_eq-Decides (drop (length h) o) d).0 p.1)),
+      (λ q.
+          and_from (bytes_eq (take (length h) o) h) (bytes_eq (drop (length h) o) d)
+          ((bytes_eq-Decides (take (length h) o) h).1 (ap (take (length h)) q ∙ take-append_seam h d))
+          ((bytes_eq-Decides (drop (length h) o) d).1 (ap (drop (length h)) q ∙ drop-append_seam h d))),
+    )
+    (bytes_eq-Decides o (h ++ d))
 
 -- by the parts
 pub front_by : (o h d f r : List ℕ) (a b res : Bool) → f ≡ take (length h) o → r ≡ drop (length h) o → a ≡ bytes_eq f h → b ≡ bytes_eq r d → res ≡ (a && b) → res ≡ bytes_eq o (h ++ d)

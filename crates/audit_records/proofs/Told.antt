@@ -1,5 +1,6 @@
 -- What is read off what a session hands on, and that each of its pieces fits a datagram.
 use Rattle.std.proofs.Common.{◌≡◌, ◌≤◌, ℕ, ◌+◌, ◌-◌, ◌*◌, ◌/◌, ◌%◌, ◌<◌, Bool, true, false, ◌==◌, refl, ap, ◌∙◌, arith, min, max, length}
+use Rattle.gate_base.specs.declared.host.Host.{Host}
 use Rattle.tcp_segments.specs.Flags.{flags_of, flags_octet, one_if}
 use Rattle.tcp_segments.specs.Tcp.{Tcp}
 use Rattle.tcp_segments.specs.declared.flags.Flags.{Flags}
@@ -50,9 +51,9 @@ below : (m options : ℕ) → options ≤ 65495 → min m 65495 - options + opti
 below m options e = omega (arith, e)
 
 -- limit and options of what a session hands on for a segment
-pub fits_is : (from_client : Bool) (s : Session) (tcp : Tcp) (ends : Bool) (sent : Handed) → sent ≡ handed (session_sent from_client s (segment_in tcp)) ends → length tcp.options ≡ length tcp.header - 20 → length tcp.header ≤ 60 → sent.limit + (length tcp.header - 20) ≤ 65495
-fits_is from_client s tcp ends sent is_sent same few =
-    let receiver = other from_client s in
-    let is : sent.limit ≡ min (max receiver.mss 88) 65495 - length tcp.options = ap (λ (x : Handed). x.limit) is_sent ∙ session_limit from_client s (segment_in tcp) in
+pub fits_is : (from : Host) (s : Session) (tcp : Tcp) (ends : Bool) (sent : Handed) → sent ≡ handed (session_sent from s (segment_in tcp)) ends → length tcp.options ≡ length tcp.header - 20 → length tcp.header ≤ 60 → sent.limit + (length tcp.header - 20) ≤ 65495
+fits_is from s tcp ends sent is_sent same few =
+    let receiver = other from s in
+    let is : sent.limit ≡ min (max receiver.mss 88) 65495 - length tcp.options = ap (λ (x : Handed). x.limit) is_sent ∙ session_limit from s (segment_in tcp) in
     let short : length tcp.options ≤ 65495 = omega (arith, same, few) in
     omega (arith, is, same, below (max receiver.mss 88) (length tcp.options) short)

@@ -10,7 +10,7 @@ use gate_base::{Addr, OutOfMemory};
 use ipv4_frames::IpView;
 use std::alloc::Global;
 use std::marker::Model;
-use tcp_segments::{Flags, TcpView, flags_octet, flags_of, put_segment};
+use tcp_segments::{Flags, SegmentFields, TcpView, flags_octet, flags_of, put_segment};
 
 /// What a session sends for a segment, whose octets may be cut into pieces (RFC 9293, 3.7.1). With it are the segment's datagram,
 /// by which theirs are made, and its addresses in the other realm.
@@ -124,18 +124,15 @@ impl Pieces {
               octets = octets.now;
             }) }
     {
-        put_segment(
-            target,
-            self.ip(),
-            self.tcp(),
-            self.source(),
-            self.destination(),
-            self.lifetime(),
+        let fields = SegmentFields {
+            source: self.source(),
+            destination: self.destination(),
+            lifetime: self.lifetime(),
             sequence,
-            self.acknowledgement(),
-            flags_octet(flags),
-            octets,
-        );
+            acknowledgement: self.acknowledgement(),
+            flags: flags_octet(flags),
+        };
+        put_segment(target, self.ip(), self.tcp(), fields, octets);
     }
 
     // The header of the datagram.

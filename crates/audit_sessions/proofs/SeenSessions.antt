@@ -1,18 +1,22 @@
 -- A session of either kind as it is seen.
-use Rattle.std.proofs.Common.{◌≡◌, ◌≤◌, ℕ, Bool, true, false, List, length, Option, None, refl, sym, ◌∙◌, ap, subst, arith}
-use Rattle.std.specs.Prelude.{Result, Ok, Err, OnOk}
+use Rattle.std.proofs.Common.{◌≡◌, ◌≤◌, ℕ, List, length, Option, None, sym, ◌∙◌, ap, subst, arith, refl}
+use Rattle.std.proofs.lemmas.Result.{on_ok_weaker}
+use Rattle.std.specs.Prelude.{Result, OnOk}
 use Rattle.gate_base.specs.declared.address.Addr.{Addr}
 use Rattle.gate_base.specs.declared.event.Pair.{Pair}
+use Rattle.gate_base.specs.declared.host.Host.{Host}
+use Rattle.gate_base.specs.declared.host.Host.TheVariants.{Client, Server}
 use Rattle.dialogue.specs.Learning.{Entry}
 use Rattle.ftp_lines.specs.Renaming.{client_lines, server_lines}
 use Rattle.ftp_lines.specs.declared.lines.ClientLines.{ClientLines}
 use Rattle.ftp_lines.specs.declared.lines.ServerLines.{ServerLines}
 use Rattle.stream_model.specs.Cuts.{session_sent}
-use Rattle.stream_model.specs.Session.{Session, Segment, own, other, session}
+use Rattle.stream_model.specs.Session.{Session, Segment, session}
 use Rattle.stream_model.specs.Steps.{session_next, session_ends}
 use Rattle.audit_streams.specs.Hosts.{HeardStreams, sender_by, session_of}
 use Rattle.audit_streams.specs.Sending.{handed}
 use Rattle.dns_plans.specs.Steps.{entered_all}
+use Rattle.gate_model.proofs.RememberedSessions.{same_session}
 use Rattle.audit_sessions.specs.Heard.{HeardSession, session_in, heard_in, heard_rules, heard_sent, IsSession}
 use Rattle.audit_sessions.specs.Sessions.{DnsHeard, listed_of, streams_of, IsListedSide, dns_session, session_by, IsOfPair}
 use Rattle.audit_sessions.specs.declared.kinds.SessionKind.{SessionKind}
@@ -42,16 +46,12 @@ units_seen pair x d h is seen = ap (λ (k : HeardSession). (session_in k).sessio
 
 -- ## Lines learn nothing
 
-same_session : (f : Bool) (s : Session) → s ≡ session f (own f s) (other f s)
-same_session true s = refl
-same_session false s = refl
-
-pub next_lines : (image : Addr → Option Addr) (pair : Pair) (d new : FtpHeard) (f : Bool) (g : Segment) → (d.client_dialogue.pair ≡ pair) × (d.server_dialogue.pair ≡ pair) → lines_of new ≡ session_next f (lines_of d) g → ftp_session pair new ≡ heard_rules.next image f (ftp_session pair d) g
+pub next_lines : (image : Addr → Option Addr) (pair : Pair) (d new : FtpHeard) (f : Host) (g : Segment) → (d.client_dialogue.pair ≡ pair) × (d.server_dialogue.pair ≡ pair) → lines_of new ≡ session_next f (lines_of d) g → ftp_session pair new ≡ heard_rules.next image f (ftp_session pair d) g
 next_lines image pair d new f g h n =
     let heard : Session → HeardSession = λ s. heard_in pair (record { lists = None; session = s }) in
     ap heard (n ∙ ap (λ (s : Session). session_next f s g) (lines_are pair d h ∙ same_session f (session_in (ftp_session pair d)).session))
 
-pub sent_lines : (image : Addr → Option Addr) (pair : Pair) (d : FtpHeard) (f : Bool) (g : Segment) → (d.client_dialogue.pair ≡ pair) × (d.server_dialogue.pair ≡ pair) → handed (session_sent f (lines_of d) g) (session_ends f (lines_of d) g) ≡ handed (heard_sent image f (ftp_session pair d) g) (heard_rules.ends f (ftp_session pair d) g)
+pub sent_lines : (image : Addr → Option Addr) (pair : Pair) (d : FtpHeard) (f : Host) (g : Segment) → (d.client_dialogue.pair ≡ pair) × (d.server_dialogue.pair ≡ pair) → handed (session_sent f (lines_of d) g) (session_ends f (lines_of d) g) ≡ handed (heard_sent image f (ftp_session pair d) g) (heard_rules.ends f (ftp_session pair d) g)
 sent_lines image pair d f g h =
     let s : Session = (session_in (ftp_session pair d)).session in
     ap (λ (x : Session). handed (session_sent f x g) (session_ends f x g)) (lines_are pair d h)
@@ -59,33 +59,29 @@ sent_lines image pair d f g h =
 
 -- nor is anything listed
 pub lines_hold : (pair : Pair) (d : FtpHeard) → IsSession (ftp_session pair d)
-lines_hold pair d = record { known = λ client. tt; few = λ client. omega arith }
+lines_hold pair d = record { known = λ host. tt; few = λ host. omega arith }
 
 -- no list is longer than the most
-pub few_in : (pair : Pair) (d : DnsHeard) (client : Bool) (n : ℕ) → IsSession (dns_session pair d) → n ≡ length (listed_of client d) → n ≤ 256
-few_in pair d true n h is = omega (arith, is, h.few true)
-few_in pair d false n h is = omega (arith, is, h.few false)
+pub few_in : (pair : Pair) (d : DnsHeard) (host : Host) (n : ℕ) → IsSession (dns_session pair d) → n ≡ length (listed_of host d) → n ≤ 256
+few_in pair d Client n h is = omega (arith, is, h.few Client)
+few_in pair d Server n h is = omega (arith, is, h.few Server)
 
 -- and each side is listed
-pub side_in : (pair : Pair) (d : DnsHeard) (client : Bool) → IsSession (dns_session pair d) → IsListedSide client d
-side_in pair d true h = h.known true
-side_in pair d false h = h.known false
+pub side_in : (pair : Pair) (d : DnsHeard) (host : Host) → IsSession (dns_session pair d) → IsListedSide host d
+side_in pair d Client h = h.known Client
+side_in pair d Server h = h.known Server
 
 -- ## Steps
 
-pub on_ok : {X E P Q : Type 0} (r : Result X E) → (P → Q) → OnOk r P → OnOk r Q
-on_ok (Ok x) f h = f h
-on_ok (Err e) f h = tt
+pub next_seen : {X E : Type 0} (r : Result X E) (image : Addr → Option Addr) (pair : Pair) (d new : FtpHeard) (h : HeardSession) (f : Host) (g : Segment) → ftp_session pair d ≡ h → (d.client_dialogue.pair ≡ pair) × (d.server_dialogue.pair ≡ pair) → OnOk r (lines_of new ≡ session_next f (lines_of d) g) → OnOk r (ftp_session pair new ≡ heard_rules.next image f h g)
+next_seen r image pair d new h f g seen pairs n = on_ok_weaker r (λ e. next_lines image pair d new f g pairs e ∙ ap (λ (k : HeardSession). heard_rules.next image f k g) seen) n
 
-pub next_seen : {X E : Type 0} (r : Result X E) (image : Addr → Option Addr) (pair : Pair) (d new : FtpHeard) (h : HeardSession) (f : Bool) (g : Segment) → ftp_session pair d ≡ h → (d.client_dialogue.pair ≡ pair) × (d.server_dialogue.pair ≡ pair) → OnOk r (lines_of new ≡ session_next f (lines_of d) g) → OnOk r (ftp_session pair new ≡ heard_rules.next image f h g)
-next_seen r image pair d new h f g seen pairs n = on_ok r (λ e. next_lines image pair d new f g pairs e ∙ ap (λ (k : HeardSession). heard_rules.next image f k g) seen) n
-
-pub sent_seen : (image : Addr → Option Addr) (pair : Pair) (d : FtpHeard) (h : HeardSession) (f : Bool) (g : Segment) → ftp_session pair d ≡ h → (d.client_dialogue.pair ≡ pair) × (d.server_dialogue.pair ≡ pair) → handed (session_sent f (lines_of d) g) (session_ends f (lines_of d) g) ≡ handed (heard_sent image f h g) (heard_rules.ends f h g)
+pub sent_seen : (image : Addr → Option Addr) (pair : Pair) (d : FtpHeard) (h : HeardSession) (f : Host) (g : Segment) → ftp_session pair d ≡ h → (d.client_dialogue.pair ≡ pair) × (d.server_dialogue.pair ≡ pair) → handed (session_sent f (lines_of d) g) (session_ends f (lines_of d) g) ≡ handed (heard_sent image f h g) (heard_rules.ends f h g)
 sent_seen image pair d h f g seen pairs = sent_lines image pair d f g pairs ∙ ap (λ (k : HeardSession). handed (heard_sent image f k g) (heard_rules.ends f k g)) seen
 
-pub few_seen : (pair : Pair) (d : DnsHeard) (h : HeardSession) (f : Bool) (entries : List Entry) → dns_session pair d ≡ h → length (entered_all (heard_rules.listed f h) entries) ≤ 256 → length (entered_all (listed_of f d) entries) ≤ 256
-few_seen pair d h f entries seen few = by_side f (subst (λ (k : HeardSession). length (entered_all (heard_rules.listed f k) entries) ≤ 256) (sym seen) few)
-  where
-    by_side : (b : Bool) → length (entered_all (heard_rules.listed b (dns_session pair d)) entries) ≤ 256 → length (entered_all (listed_of b d) entries) ≤ 256
-    by_side true l = l
-    by_side false l = l
+pub listed_in : (f : Host) (pair : Pair) (d : DnsHeard) → heard_rules.listed f (dns_session pair d) ≡ listed_of f d
+listed_in Client pair d = refl
+listed_in Server pair d = refl
+
+pub few_seen : (pair : Pair) (d : DnsHeard) (h : HeardSession) (f : Host) (entries : List Entry) → dns_session pair d ≡ h → length (entered_all (heard_rules.listed f h) entries) ≤ 256 → length (entered_all (listed_of f d) entries) ≤ 256
+few_seen pair d h f entries seen few = subst (λ (es : List Entry). length (entered_all es entries) ≤ 256) (ap (heard_rules.listed f) (sym seen) ∙ listed_in f pair d) few

@@ -1,6 +1,8 @@
 -- Sessions by all that was heard of both hosts: they answer as sessions over whole lists do.
-use Rattle.std.specs.Prelude.{◌≤◌, ℕ, Bool, true, false, List, Option, IfSome, length}
+use Rattle.std.specs.Prelude.{◌≤◌, ℕ, List, Option, IfSome, length}
 use Rattle.gate_base.specs.declared.event.Pair.{Pair}
+use Rattle.gate_base.specs.declared.host.Host.{Host}
+use Rattle.gate_base.specs.declared.host.Host.TheVariants.{Client, Server}
 use Rattle.dns_stream.specs.Units.{unit_addresses}
 use Rattle.dns_stream.specs.Images.{dns_units}
 use Rattle.stream_model.specs.Session.{Sender, own}
@@ -22,7 +24,7 @@ pub record HeardSession : Type 0 where
 abbrev pub session_in : HeardSession → WholeSession
 session_in h = record {
   lists = h.lists;
-  session = record { client = sender_by (meaning_by h.lists h.pair true) h.client; server = sender_by (meaning_by h.lists h.pair false) h.server };
+  session = record { client = sender_by (meaning_by h.lists h.pair Client) h.client; server = sender_by (meaning_by h.lists h.pair Server) h.server };
 }
 
 -- what was heard of a sender
@@ -37,25 +39,25 @@ heard_in pair x = record { pair = pair; lists = x.lists; client = heard_of x.ses
 abbrev pub heard_rules : SessionRules HeardSession
 heard_rules = record {
   made = λ port pair initial mss. heard_in pair (whole_rules.made port pair initial mss);
-  refusal = λ from_client h g. whole_rules.refusal from_client (session_in h) g;
-  units = λ from_client h g. whole_rules.units from_client (session_in h) g;
-  listed = λ client h. whole_rules.listed client (session_in h);
-  next = λ image from_client h g. heard_in h.pair (whole_rules.next image from_client (session_in h) g);
-  out = λ image from_client h g. whole_rules.out image from_client (session_in h) g;
-  ends = λ from_client h g. whole_rules.ends from_client (session_in h) g;
-  inner = λ from_client h number. whole_rules.inner from_client (session_in h) number;
+  refusal = λ from h g. whole_rules.refusal from (session_in h) g;
+  units = λ from h g. whole_rules.units from (session_in h) g;
+  listed = λ host h. whole_rules.listed host (session_in h);
+  next = λ image from h g. heard_in h.pair (whole_rules.next image from (session_in h) g);
+  out = λ image from h g. whole_rules.out image from (session_in h) g;
+  ends = λ from h g. whole_rules.ends from (session_in h) g;
+  inner = λ host h number. whole_rules.inner host (session_in h) number;
   pending = λ h. whole_rules.pending (session_in h);
 }
 
 -- what they send for a segment that passes, before it is cut
 abbrev pub heard_sent : Sends HeardSession
-heard_sent image from_client h g = whole_sent image from_client (session_in h) g
+heard_sent image from h g = whole_sent image from (session_in h) g
 
--- all addresses in the whole units of the client's octets (true), or of the server's, have an entry, where there are lists
-abbrev pub AreKnown : Option Lists → Bool → List ℕ → Type 0
-AreKnown lists client octets = IfSome lists (λ l. AllUnitsListed unit_addresses (dns_units (list_of client l)) (list_of client l) octets)
+-- all addresses in the whole units of a host's octets have an entry, where there are lists
+abbrev pub AreKnown : Option Lists → Host → List ℕ → Type 0
+AreKnown lists host octets = IfSome lists (λ l. AllUnitsListed unit_addresses (dns_units (list_of host l)) (list_of host l) octets)
 
 -- what holds of each session by itself: all addresses that were heard of are listed, and no list is longer than the most
 pub record IsSession (h : HeardSession) : Type 0 where
-  pub known : (client : Bool) → AreKnown h.lists client (own client (session_in h).session).octets
-  pub few : (client : Bool) → length (heard_rules.listed client h) ≤ most_entries
+  pub known : (host : Host) → AreKnown h.lists host (own host (session_in h).session).octets
+  pub few : (host : Host) → length (heard_rules.listed host h) ≤ most_entries

@@ -1,6 +1,8 @@
 -- Sessions of two kinds as code keeps them.
-use Rattle.std.specs.Prelude.{◌≡◌, Bool, true, false, Some, None, List}
+use Rattle.std.specs.Prelude.{◌≡◌, Some, None, List}
 use Rattle.gate_base.specs.declared.event.Pair.{Pair}
+use Rattle.gate_base.specs.declared.host.Host.{Host}
+use Rattle.gate_base.specs.declared.host.Host.TheVariants.{Client, Server}
 use Rattle.dialogue.specs.Learning.{Entry, AllUnitsListed}
 use Rattle.dns_stream.specs.Units.{unit_addresses}
 use Rattle.dns_stream.specs.Images.{dns_units}
@@ -17,28 +19,28 @@ use Rattle.audit_sessions.specs.declared.kinds.SessionKind.TheVariants.{Lines, U
 abbrev pub DnsHeard : Type 0
 DnsHeard = HeardStreams (List Entry) (List Entry)
 
--- the list of the client (true), or of the server
-abbrev pub listed_of : Bool → DnsHeard → List Entry
-listed_of client d = entries_of (λ entries. entries) (λ entries. entries) client d
+-- the list of a host
+abbrev pub listed_of : Host → DnsHeard → List Entry
+listed_of host d = entries_of (λ entries. entries) (λ entries. entries) host d
 
 -- the session over whole lists of both hosts
 abbrev pub streams_of : DnsHeard → Session
 streams_of d = session_of dns_units dns_units d
 
 -- all addresses in the whole units of that host have an entry
-abbrev pub IsListedSide : Bool → DnsHeard → Type 0
-IsListedSide client d = AllUnitsListed unit_addresses (dns_units (listed_of client d)) (listed_of client d) (own client (streams_of d)).octets
+abbrev pub IsListedSide : Host → DnsHeard → Type 0
+IsListedSide host d = AllUnitsListed unit_addresses (dns_units (listed_of host d)) (listed_of host d) (own host (streams_of d)).octets
 
--- with these entered into the list of the client (true), or of the server
-abbrev pub with_entered : Bool → List Entry → DnsHeard → DnsHeard
-with_entered true named d = record d { client_dialogue = entered_all d.client_dialogue named }
-with_entered false named d = record d { server_dialogue = entered_all d.server_dialogue named }
+-- with these entered into the list of a host
+abbrev pub with_entered : Host → List Entry → DnsHeard → DnsHeard
+with_entered Client named d = record d { client_dialogue = entered_all d.client_dialogue named }
+with_entered Server named d = record d { server_dialogue = entered_all d.server_dialogue named }
 
 -- it has passed a segment, by the lists as they are
-pub record HasPassed (from_client : Bool) (old new : DnsHeard) (segment : Segment) : Type 0 where
+pub record HasPassed (from : Host) (old new : DnsHeard) (segment : Segment) : Type 0 where
   pub client : new.client_dialogue ≡ old.client_dialogue
   pub server : new.server_dialogue ≡ old.server_dialogue
-  pub session : streams_of new ≡ session_next from_client (streams_of old) segment
+  pub session : streams_of new ≡ session_next from (streams_of old) segment
 
 -- what was heard of hosts of this pair
 abbrev pub dns_session : Pair → DnsHeard → HeardSession

@@ -7,7 +7,7 @@ use audit_records::Pieces;
 use dns_plans::{Completed, Tracked};
 use event_engine::{Engine, Stepped};
 use event_steps::Workspace;
-use gate_base::{OutOfMemory, Pair, Refusal};
+use gate_base::{Host, OutOfMemory, Pair, Refusal};
 use gate_outbox::{Outbox, Segment};
 use gate_payloads::Way;
 use std::alloc::Global;
@@ -36,7 +36,7 @@ impl Engine for AuditedSession {
     // By a session of FTP, which takes no memory: what a SYN is refused for is the same in both.
     fn opening_refusal(alloc: Global, pair: Pair, segment: &TcpView<'_>) -> Option<Refusal> {
         let session = ftp_session(alloc, pair, segment.sequence(), segment.mss());
-        session.refusal(true, segment)
+        session.refusal(Host::Client, segment)
     }
 
     fn take(
@@ -47,10 +47,10 @@ impl Engine for AuditedSession {
         completed: Completed<'_>,
         _outbox: &mut Outbox,
     ) -> Result<Stepped<Pieces>, OutOfMemory> {
-        let from_client = tracked.is_client(way.side);
+        let from = tracked.host_on(way.side);
         // No header of a segment has more than 60 octets: its options leave room for a piece.
         let _header = segment.tcp.header();
-        let sent = tracked.session.step(from_client, segment.tcp, completed)?;
+        let sent = tracked.session.step(from, segment.tcp, completed)?;
         let waiting = waiting(&tracked.session, sent.ends);
         let pieces = Pieces::of(
             workspace.alloc,

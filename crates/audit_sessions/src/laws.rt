@@ -1,7 +1,8 @@
 // The laws of sessions by what was heard. The function does nothing: its clauses are proved.
-ghost use Rattle.std.specs.Prelude.{◌≤◌, ℕ, Bool, Option, length};
+ghost use Rattle.std.specs.Prelude.{◌≤◌, ℕ, Option, length};
 ghost use Rattle.gate_base.specs.declared.address.Addr.{Addr};
 ghost use Rattle.gate_base.specs.declared.event.Pair.{Pair};
+ghost use Rattle.gate_base.specs.declared.host.Host.{Host};
 ghost use Rattle.stream_model.specs.Session.{Segment};
 ghost use Rattle.gate_model.specs.Held.{HasLists};
 ghost use Rattle.gate_model.specs.Lists.{addresses_in, entered, most_entries};
@@ -18,10 +19,10 @@ pub fn audited_sessions_are_whole()
     ensures lists { HasLists heard_rules }
     ensures made { (port : ℕ) (pair : Pair) (initial mss : ℕ)
         → IsSession (heard_rules.made port pair initial mss) }
-    ensures next { (image : Addr → Option Addr) (from_client : Bool)
-        (h : HeardSession) (g : Segment)
+    ensures next { (image : Addr → Option Addr) (from : Host) (h : HeardSession)
+        (g : Segment)
         → IsSession h
-        → length (entered image (heard_rules.listed from_client h)
-        (addresses_in (heard_rules.units from_client h g))) ≤ most_entries
-        → IsSession (heard_rules.next image from_client h g) }
+        → length (entered image (heard_rules.listed from h)
+        (addresses_in (heard_rules.units from h g))) ≤ most_entries
+        → IsSession (heard_rules.next image from h g) }
 {}

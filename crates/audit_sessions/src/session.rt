@@ -20,7 +20,7 @@ use audit_streams::{Sent, WholeStreams};
 use dns_plans::{Completed, Entry, Session, UnitOctets};
 use dns_stream::DnsUnits;
 use ftp_lines::{ClientLines, ServerLines};
-use gate_base::{Addr, DNS_PORT, OutOfMemory, Pair, Refusal};
+use gate_base::{Addr, DNS_PORT, Host, OutOfMemory, Pair, Refusal};
 use std::alloc::Global;
 use std::marker::Model;
 use tcp_segments::{TcpView, flags_of};
@@ -83,45 +83,45 @@ impl Session for AuditedSession {
 
     ghost rules = { heard_rules };
 
-    fn inner(&self, from_client: bool, sequence: u32) -> Option<u32> {
+    fn inner(&self, host: Host, sequence: u32) -> Option<u32> {
         match &self.kind {
-            SessionKind::Lines(session) => session.inner(from_client, sequence),
-            SessionKind::Units(session) => session.inner(from_client, sequence),
+            SessionKind::Lines(session) => session.inner(host, sequence),
+            SessionKind::Units(session) => session.inner(host, sequence),
         }
     }
 
-    fn refusal(&self, from_client: bool, segment: &TcpView<'_>) -> Option<Refusal> {
+    fn refusal(&self, from: Host, segment: &TcpView<'_>) -> Option<Refusal> {
         match &self.kind {
-            SessionKind::Lines(session) => session.refusal(from_client, segment),
-            SessionKind::Units(session) => session.refusal(from_client, segment),
+            SessionKind::Lines(session) => session.refusal(from, segment),
+            SessionKind::Units(session) => session.refusal(from, segment),
         }
     }
 
-    fn listed(&self, client: bool) -> usize {
+    fn listed(&self, host: Host) -> usize {
         match &self.kind {
             SessionKind::Lines(_) => 0,
-            SessionKind::Units(session) => session.listed(client),
+            SessionKind::Units(session) => session.listed(host),
         }
     }
 
-    fn entry(&self, client: bool, place: usize) -> Entry {
+    fn entry(&self, host: Host, place: usize) -> Entry {
         match &self.kind {
             SessionKind::Lines(_) => unreachable!(),
-            SessionKind::Units(session) => session.entry(client, place),
+            SessionKind::Units(session) => session.entry(host, place),
         }
     }
 
-    fn image_of(&self, client: bool, address: Addr) -> Option<Option<Addr>> {
+    fn image_of(&self, host: Host, address: Addr) -> Option<Option<Addr>> {
         match &self.kind {
             SessionKind::Lines(_) => None,
-            SessionKind::Units(session) => session.image_of(client, address),
+            SessionKind::Units(session) => session.image_of(host, address),
         }
     }
 
-    fn put_octets(&self, from_client: bool, segment: &TcpView<'_>, octets: &mut UnitOctets) {
+    fn put_octets(&self, from: Host, segment: &TcpView<'_>, octets: &mut UnitOctets) {
         octets.clear();
         if let SessionKind::Units(session) = &self.kind {
-            put_units(session, from_client, segment, octets);
+            put_units(session, from, segment, octets);
         }
     }
 }
@@ -169,43 +169,40 @@ impl AuditedSession {
     /// not be used again.
     pub fn step(
         &mut self,
-        from_client: bool,
+        from: Host,
         segment: &TcpView<'_>,
         completed: Completed<'_>,
     ) -> Result<Sent, OutOfMemory>
         requires few { length
-            (entered_all (heard_rules.listed from_client self.old)
-            completed.entries.now) ≤ 256 }
+            (entered_all (heard_rules.listed from self.old) completed.entries.now)
+            ≤ 256 }
         requires images { AreImages
-            (dns_units (entered_all (heard_rules.listed from_client self.old)
+            (dns_units (entered_all (heard_rules.listed from self.old)
             completed.entries.now)) completed.images.items }
         requires named { (image : Addr → Option Addr)
             × (completed.entries.now
-            ≡ beside image (addresses_in (heard_rules.units from_client self.old
-            (segment_in segment.now)))) }
-        requires passes { heard_rules.refusal from_client self.old
-            (segment_in segment.now) ≡ None }
+            ≡ beside image (addresses_in
+            (heard_rules.units from self.old (segment_in segment.now)))) }
+        requires passes { heard_rules.refusal from self.old (segment_in segment.now)
+            ≡ None }
         ensures next { (image : Addr → Option Addr)
             → completed.entry.entries.now
             ≡ beside image (addresses_in
-            (heard_rules.units from_client self.old (segment_in segment.now)))
+            (heard_rules.units from self.old (segment_in segment.now)))
             → OnOk result (self.new
-            ≡ heard_rules.next image from_client self.old
-            (segment_in segment.now)) }
+            ≡ heard_rules.next image from self.old (segment_in segment.now)) }
         ensures sent { (image : Addr → Option Addr)
             → completed.entry.entries.now
             ≡ beside image (addresses_in
-            (heard_rules.units from_client self.old (segment_in segment.now)))
+            (heard_rules.units from self.old (segment_in segment.now)))
             → IfOk result (λ s. s
-            ≡ handed
-            (heard_sent image from_client self.old (segment_in segment.now))
-            (heard_rules.ends from_client self.old
-            (segment_in segment.now))) }
+            ≡ handed (heard_sent image from self.old (segment_in segment.now))
+            (heard_rules.ends from self.old (segment_in segment.now))) }
     {
         match &mut self.kind {
-            SessionKind::Lines(session) => return session.step(from_client, segment),
+            SessionKind::Lines(session) => return session.step(from, segment),
             SessionKind::Units(session) => {
-                match step_units(session, from_client, segment, completed) {
+                match step_units(session, from, segment, completed) {
                     Ok(sent) => return Ok(sent),
                     Err(error) => {
                         self.kind = SessionKind::Lines(ftp_session(self.alloc, self.pair, 0, 536));
@@ -218,22 +215,16 @@ impl AuditedSession {
 }
 
 /// Puts the octets whose whole units a segment that passes completes.
-fn put_units(
-    session: &DnsSession,
-    from_client: bool,
-    segment: &TcpView<'_>,
-    octets: &mut UnitOctets,
-)
+fn put_units(session: &DnsSession, from: Host, segment: &TcpView<'_>, octets: &mut UnitOctets)
     requires empty { octets.old ≡ [] }
-    requires passes { segment_refusal from_client (streams_of session.now)
+    requires passes { segment_refusal from (streams_of session.now)
         (segment_in segment.now) ≡ None }
     ensures { whole_units octets.new
-        ≡ completed (own from_client (streams_of session.now))
-        (segment_in segment.now) }
+        ≡ completed (own from (streams_of session.now)) (segment_in segment.now) }
 {
     if is_data(segment) {
-        let repeated = session.repeated(from_client, segment);
-        octets.join(session.rest(from_client), &segment.payload()[repeated..]);
+        let repeated = session.repeated(from, segment);
+        octets.join(session.rest(from), &segment.payload()[repeated..]);
     }
 }
 

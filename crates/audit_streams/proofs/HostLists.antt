@@ -4,6 +4,7 @@ use Rattle.std.specs.Prelude.{◌||◌, cond, None}
 use Rattle.std.specs.List.{flat_map}
 use Rattle.std.proofs.lemmas.List.{length-append, length-drop}
 use Rattle.std.proofs.lemmas.Bool.{cases_Bool, leb-false, or_parts}
+use Rattle.gate_base.specs.declared.host.Host.{Host}
 use Rattle.dialogue.specs.Meaning.{Meaning, IsLawful, is_held, is_released}
 use Rattle.dialogue.specs.Places.{changed_ends}
 use Rattle.dialogue.specs.Stream.{cut, image, due, due_rest, spans, pushes_of}
@@ -66,17 +67,17 @@ pub ends_are : (m : Meaning) (released : Bool) (l : Transcribed) → IsOf m l re
 ends_are m released l is = ap (λ (k : Transcribed). k.ends) is.lists
 
 -- a segment that passes
-pub can_take : (f : Bool) (a b : Sender) (g : Segment) → refusal_of f (extent a) (extent b) (arrival g) (repeats_unlike a g) ≡ None → g.flags.syn ≡ false → g.flags.reset ≡ false → CanTake a g
+pub can_take : (f : Host) (a b : Sender) (g : Segment) → refusal_of f (extent a) (extent b) (arrival g) (repeats_unlike a g) ≡ None → g.flags.syn ≡ false → g.flags.reset ≡ false → CanTake a g
 can_take f a b g e syn reset =
     let p : Passes f a b g = passes f a b g e in
     record { limit = leb-false _ _ (second_false (is_data (arrival g)) _ p.stream_limit (data_is g (syn, reset))) }
 
-pub opens_alone : (f : Bool) (a b : Sender) (g : Segment) → refusal_of f (extent a) (extent b) (arrival g) (repeats_unlike a g) ≡ None → g.flags.syn ≡ true → g.flags.reset ≡ false
+pub opens_alone : (f : Host) (a b : Sender) (g : Segment) → refusal_of f (extent a) (extent b) (arrival g) (repeats_unlike a g) ≡ None → g.flags.syn ≡ true → g.flags.reset ≡ false
 opens_alone f a b g e syn =
     let p : Passes f a b g = passes f a b g e in
     (or_parts _ _ (second_false g.flags.syn _ p.syn_data syn)).1
 
 -- a verdict, by what the fields hold and by which host sends
-pub verdict_here : {C S : Type 0} (of_client : C → Meaning) (of_server : S → Meaning) (f sends : Bool) (inside w : HeardStreams C S) (g : Segment) → f ≡ sends → inside ≡ w → segment_refusal f (session_of of_client of_server w) g ≡ None → segment_refusal sends (session_of of_client of_server inside) g ≡ None
+pub verdict_here : {C S : Type 0} (of_client : C → Meaning) (of_server : S → Meaning) (f sends : Host) (inside w : HeardStreams C S) (g : Segment) → f ≡ sends → inside ≡ w → segment_refusal f (session_of of_client of_server w) g ≡ None → segment_refusal sends (session_of of_client of_server inside) g ≡ None
 verdict_here of_client of_server f sends inside w g e same v =
     ap (λ b. segment_refusal b (session_of of_client of_server inside) g) (sym e) ∙ ap (λ (x : HeardStreams _ _). segment_refusal f (session_of of_client of_server x) g) same ∙ v

@@ -8,7 +8,7 @@ use Rattle.std.proofs.lemmas.Bool.{cases_Bool, cases_lt, leb-true, leb-false, le
 use Rattle.std.proofs.lemmas.List.Sorted.{IsPartitionedBy-leb}
 use Rattle.std.proofs.lemmas.Option.{same_Some}
 use Rattle.dialogue.specs.Places.{Span, plain_spans, back_in}
-use Rattle.dialogue.proofs.PlaceLemmas.{length-plain_spans, plain_spans-add, back_in-plain, back_in-plain_part, back_in-replicate}
+use Rattle.dialogue.proofs.PlaceLemmas.{length-plain_spans, plain_spans-add, back_in-plain, back_in-plain_part, back_in-replicate, back_in-stops}
 use Rattle.audit_streams.specs.declared.transcript.ChangedUnit.{ChangedUnit}
 use Rattle.audit_streams.specs.Transcripts.{Transcribed, IsTranscript, places_from, last_by, InOrder, with_octets, changed}
 use Rattle.audit_streams.proofs.TranscriptLemmas.{made, made_is}
@@ -268,10 +268,6 @@ back_over (v ∷ vs) ws o p n q h l =
       back_over vs ws v.past v.end n q h.4 l,
     )
 
-back_stops : (n : ℕ) (s : Span) (ss : List Span) (q : ℕ) → 1 ≤ n → q < s.past → back_in (replicate n s ++ ss) q ≡ 0
-back_stops zero s ss q l h = absurd (omega arith)
-back_stops (suc n) s ss q l h = let e : nat_le s.past q ≡ false = lt-leb s.past q h in rw e refl
-
 -- where the next unit begins, or else this place
 abbrev pub until : ℕ → Option ChangedUnit → ℕ
 until n None = n
@@ -291,7 +287,7 @@ back_here (u ∷ ws) o p n q h l b =
     elim (cases_lt q (p + (u.first - o))) [
       | inl near ↦ back_in-plain_part (u.first - o) p rest q l near ∙ omega arith
       | inr far ↦
-          let none : back_in rest q ≡ 0 = back_stops (u.past - u.first) s (places_from u.past u.end ws n) q (omega (arith, h.1)) b in
+          let none : back_in rest q ≡ 0 = back_in-stops (u.past - u.first) s (places_from u.past u.end ws n) q (omega (arith, h.1)) b in
           back_in-plain (u.first - o) p rest q far ∙ omega (arith, none)
     ]
 

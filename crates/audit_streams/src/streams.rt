@@ -1,5 +1,6 @@
 // A session over whole lists.
 ghost use Rattle.std.specs.Prelude.{◌≡◌, ◌≤◌, ◌<◌, ◌+◌, ◌-◌, ◌^◌, ◌++◌, ◌∷◌, ℕ, List, slice_get, false, not, ◌||◌, ◌&&◌, ◌==◌, true, cond, nat_lt, is_some, is_none, [], length, drop, min, max, None, Some, IfOk, OnOk};
+ghost use Rattle.gate_base.specs.declared.host.Host.TheVariants.{Client, Server};
 ghost use Rattle.dialogue.specs.Stream.{image, fore, rear, back};
 ghost use Rattle.dialogue.specs.Learning.{is_listed, listed_image, ReadAlike, AllUnitsListed, AreImages};
 ghost use Rattle.tcp_segments.specs.Flags.{flags_of, flags_octet};
@@ -15,7 +16,7 @@ ghost use Rattle.stream_model.specs.Cuts.{session_sent, sent, reset_sent, other_
 use crate::host::WholeStream;
 use crate::sent::Sent;
 use dialogue::{Dialogue, Learns, UnitImage};
-use gate_base::{Addr, OutOfMemory, Refusal};
+use gate_base::{Addr, Host, OutOfMemory, Refusal};
 use std::alloc::Global;
 use std::marker::Model;
 use stream_model::{Arrival, Extent, Offset, place_acknowledged, refusal, start_at};
@@ -66,52 +67,50 @@ impl<C: Dialogue, S: Dialogue> WholeStreams<C, S> {
         }
     }
 
-    /// Why a segment of the client, or else of the server, is refused; None where it passes.
-    pub fn refusal(&self, from_client: bool, segment: &TcpView) -> Option<Refusal>
+    /// Why a segment of a host is refused; None where it passes.
+    pub fn refusal(&self, from: Host, segment: &TcpView) -> Option<Refusal>
         ensures { result
-            ≡ segment_refusal from_client (session_of C.meaning S.meaning self.now)
+            ≡ segment_refusal from (session_of C.meaning S.meaning self.now)
             (segment_in segment.now) }
     {
-        if from_client {
-            return judge(true, &self.client, &self.server, segment);
+        match from {
+            Host::Client => judge(Host::Client, &self.client, &self.server, segment),
+            Host::Server => judge(Host::Server, &self.server, &self.client, segment),
         }
-        judge(false, &self.server, &self.client, segment)
     }
 
-    /// Passes a segment of the client, or else of the server: what is sent for it, or OutOfMemory. The segment must pass. After
-    /// OutOfMemory the session must not be used again.
-    pub fn step(&mut self, from_client: bool, segment: &TcpView) -> Result<Sent, OutOfMemory>
-        requires passes { segment_refusal from_client
+    /// Passes a segment of a host: what is sent for it, or OutOfMemory. The segment must pass. After OutOfMemory the session
+    /// must not be used again.
+    pub fn step(&mut self, from: Host, segment: &TcpView) -> Result<Sent, OutOfMemory>
+        requires passes { segment_refusal from
             (session_of C.meaning S.meaning self.old) (segment_in segment.now)
             ≡ None }
         ensures next { OnOk result (session_of C.meaning S.meaning self.new
-            ≡ session_next from_client (session_of C.meaning S.meaning self.old)
+            ≡ session_next from (session_of C.meaning S.meaning self.old)
             (segment_in segment.now)) }
         ensures client { self.new.client_dialogue ≡ self.old.client_dialogue }
         ensures server { self.new.server_dialogue ≡ self.old.server_dialogue }
         ensures sent { IfOk result (λ s. s
             ≡ handed
-            (session_sent from_client (session_of C.meaning S.meaning self.old)
-            (segment_in segment.now)) (session_ends from_client
+            (session_sent from (session_of C.meaning S.meaning self.old)
+            (segment_in segment.now)) (session_ends from
             (session_of C.meaning S.meaning self.old) (segment_in segment.now))) }
     {
-        if from_client {
-            return pass(self.alloc, &mut self.client, &mut self.server, segment);
+        match from {
+            Host::Client => pass(self.alloc, &mut self.client, &mut self.server, segment),
+            Host::Server => pass(self.alloc, &mut self.server, &mut self.client, segment),
         }
-        pass(self.alloc, &mut self.server, &mut self.client, segment)
     }
 
-    /// What the sequence number of a datagram that an ICMP error brings back was at the client, or else the server, that
-    /// sent it.
-    pub fn inner(&self, from_client: bool, sequence: u32) -> Option<u32>
+    /// What the sequence number of a datagram that an ICMP error brings back was at the host that sent it.
+    pub fn inner(&self, host: Host, sequence: u32) -> Option<u32>
         ensures { result
-            ≡ session_inner from_client (session_of C.meaning S.meaning self.now)
-            sequence }
+            ≡ session_inner host (session_of C.meaning S.meaning self.now) sequence }
     {
-        if from_client {
-            return self.client.inner(sequence);
+        match host {
+            Host::Client => self.client.inner(sequence),
+            Host::Server => self.server.inner(sequence),
         }
-        self.server.inner(sequence)
     }
 
     /// How many changed units are not acknowledged whole: the greater number of both hosts.
@@ -121,28 +120,27 @@ impl<C: Dialogue, S: Dialogue> WholeStreams<C, S> {
         self.client.pending().max(self.server.pending())
     }
 
-    /// The held rest of the client, or else of the server.
-    pub fn rest(&self, from_client: bool) -> &[u8]
+    /// The held rest of a host.
+    pub fn rest(&self, host: Host) -> &[u8]
         ensures { result.now
-            ≡ held_in (own from_client (session_of C.meaning S.meaning self.now)) }
+            ≡ held_in (own host (session_of C.meaning S.meaning self.now)) }
     {
-        if from_client {
-            return self.client.rest();
+        match host {
+            Host::Client => self.client.rest(),
+            Host::Server => self.server.rest(),
         }
-        self.server.rest()
     }
 
     /// How many octets of a segment that passes its sender has sent before.
-    pub fn repeated(&self, from_client: bool, segment: &TcpView) -> usize
+    pub fn repeated(&self, from: Host, segment: &TcpView) -> usize
         ensures { result
             ≡ min (length segment.now.payload) (start_of
-            (own from_client (session_of C.meaning S.meaning self.now))
+            (own from (session_of C.meaning S.meaning self.now))
             (segment_in segment.now)).before }
     {
-        let sender = if from_client {
-            self.client.extent()
-        } else {
-            self.server.extent()
+        let sender = match from {
+            Host::Client => self.client.extent(),
+            Host::Server => self.server.extent(),
         };
         let start = start_at(sender, arrival_of(segment));
         segment.payload().len().min(start.before as usize)
@@ -150,112 +148,103 @@ impl<C: Dialogue, S: Dialogue> WholeStreams<C, S> {
 }
 
 impl<C: Learns, S: Learns> WholeStreams<C, S> {
-    /// What the client's list, or else the server's, has of this address: `Some(image)` for an entry with an image, `Some(None)`
-    /// for an address that is kept, and None without an entry.
-    pub fn image_of(&self, from_client: bool, address: Addr) -> Option<Option<Addr>>
+    /// What a host's list has of this address: `Some(image)` for an entry with an image, `Some(None)` for an address that is
+    /// kept, and None without an entry.
+    pub fn image_of(&self, host: Host, address: Addr) -> Option<Option<Addr>>
         ensures { result
-            ≡ listed_image (entries_of C.entries S.entries from_client self.now)
-            address.0 }
+            ≡ listed_image (entries_of C.entries S.entries host self.now) address.0 }
     {
-        if from_client {
-            return self.client.image_of(address);
+        match host {
+            Host::Client => self.client.image_of(address),
+            Host::Server => self.server.image_of(address),
         }
-        self.server.image_of(address)
     }
 
-    /// The number of entries of the client's list, or else of the server's.
-    pub fn listed(&self, from_client: bool) -> usize
-        ensures { result
-            ≡ length (entries_of C.entries S.entries from_client self.now) }
+    /// The number of entries of a host's list.
+    pub fn listed(&self, host: Host) -> usize
+        ensures { result ≡ length (entries_of C.entries S.entries host self.now) }
     {
-        if from_client {
-            return self.client.listed();
+        match host {
+            Host::Client => self.client.listed(),
+            Host::Server => self.server.listed(),
         }
-        self.server.listed()
     }
 
-    /// The entry at a place of the client's list, or else of the server's. The place must lie below `listed`.
-    pub fn entry(&self, from_client: bool, place: usize) -> (Addr, Option<Addr>)
-        requires { place
-            < length (entries_of C.entries S.entries from_client self.now) }
-        ensures { slice_get (entries_of C.entries S.entries from_client self.now)
-            place ≡ Some result }
+    /// The entry at a place of a host's list. The place must lie below `listed`.
+    pub fn entry(&self, host: Host, place: usize) -> (Addr, Option<Addr>)
+        requires { place < length (entries_of C.entries S.entries host self.now) }
+        ensures { slice_get (entries_of C.entries S.entries host self.now) place
+            ≡ Some result }
     {
-        if from_client {
-            return self.client.entry(place);
+        match host {
+            Host::Client => self.client.entry(place),
+            Host::Server => self.server.entry(place),
         }
-        self.server.entry(place)
     }
 
-    /// Appends an entry to the client's list, or else to the server's. The address must not be known, and there must be fewer than
-    /// 256 entries. All addresses in the whole units that were heard of that host so far must be listed already: its octets then
-    /// read as they did.
-    pub fn learn(&mut self, from_client: bool, address: Addr, image: Option<Addr>)
-        requires unknown { is_listed
-            (entries_of C.entries S.entries from_client self.old) address.0
-            ≡ false }
-        requires few { length (entries_of C.entries S.entries from_client self.old)
-            < 256 }
-        requires client_known { from_client ≡ true
+    /// Appends an entry to a host's list. The address must not be known, and there must be fewer than 256 entries. All addresses
+    /// in the whole units that were heard of that host so far must be listed already: its octets then read as they did.
+    pub fn learn(&mut self, host: Host, address: Addr, image: Option<Addr>)
+        requires unknown { is_listed (entries_of C.entries S.entries host self.old)
+            address.0 ≡ false }
+        requires few { length (entries_of C.entries S.entries host self.old) < 256 }
+        requires client_known { host ≡ Client
             → AllUnitsListed C.addresses (C.meaning self.old.client_dialogue)
             (C.entries self.old.client_dialogue) self.old.client.octets }
-        requires server_known { from_client ≡ false
+        requires server_known { host ≡ Server
             → AllUnitsListed S.addresses (S.meaning self.old.server_dialogue)
             (S.entries self.old.server_dialogue) self.old.server.octets }
-        ensures entries { entries_of C.entries S.entries from_client self.new
-            ≡ entries_of C.entries S.entries from_client self.old ++ (address, image)
-            ∷ [] }
+        ensures entries { entries_of C.entries S.entries host self.new
+            ≡ entries_of C.entries S.entries host self.old ++ (address, image) ∷ [] }
         ensures client_heard { self.new.client ≡ self.old.client }
         ensures server_heard { self.new.server ≡ self.old.server }
-        ensures server { from_client ≡ true
+        ensures server { host ≡ Client
             → self.new.server_dialogue ≡ self.old.server_dialogue }
-        ensures client { from_client ≡ false
+        ensures client { host ≡ Server
             → self.new.client_dialogue ≡ self.old.client_dialogue }
         ensures client_alike { (s : List ℕ)
-            → from_client ≡ true
+            → host ≡ Client
             → AllUnitsListed C.addresses (C.meaning self.old.client_dialogue)
             (C.entries self.old.client_dialogue) s
             → ReadAlike (C.meaning self.old.client_dialogue)
             (C.meaning self.new.client_dialogue) s }
         ensures server_alike { (s : List ℕ)
-            → from_client ≡ false
+            → host ≡ Server
             → AllUnitsListed S.addresses (S.meaning self.old.server_dialogue)
             (S.entries self.old.server_dialogue) s
             → ReadAlike (S.meaning self.old.server_dialogue)
             (S.meaning self.new.server_dialogue) s }
     {
-        if from_client {
-            self.client.learn(address, image);
-        } else {
-            self.server.learn(address, image);
+        match host {
+            Host::Client => self.client.learn(address, image),
+            Host::Server => self.server.learn(address, image),
         }
     }
 
-    /// Takes the images of the units that come next of the client, or else of the server, in their order, so that they needn't be
-    /// made again. Learning drops them.
-    pub fn expect(&mut self, from_client: bool, images: Vec<UnitImage>)
-        requires client { from_client ≡ true
+    /// Takes the images of the units that a host completes next, in their order, so that they needn't be made again. Learning
+    /// drops them.
+    pub fn expect(&mut self, host: Host, images: Vec<UnitImage>)
+        requires client { host ≡ Client
             → AreImages (C.meaning self.old.client_dialogue) images.items }
-        requires server { from_client ≡ false
+        requires server { host ≡ Server
             → AreImages (S.meaning self.old.server_dialogue) images.items }
         ensures { self.new ≡ self.old }
     {
-        if from_client {
-            self.client.expect(images);
-        } else {
-            self.server.expect(images);
+        match host {
+            Host::Client => self.client.expect(images),
+            Host::Server => self.server.expect(images),
         }
     }
 }
 
 fn judge<A: Dialogue, B: Dialogue>(
-    from_client: bool,
+    from: Host,
     own: &WholeStream<A>,
     other: &WholeStream<B>,
     segment: &TcpView,
 ) -> Option<Refusal>
     ensures { result
-        ≡ refusal_of from_client (extent (sender_of A.meaning own.now))
+        ≡ refusal_of from (extent (sender_of A.meaning own.now))
         (extent (sender_of B.meaning other.now))
         (arrival (segment_in segment.now))
         (repeats_unlike (sender_of A.meaning own.now) (segment_in segment.now)) }
@@ -263,7 +252,7 @@ fn judge<A: Dialogue, B: Dialogue>(
     let sender = own.extent();
     let arrival = arrival_of(segment);
     let unlike = own.is_unlike(start_at(sender, arrival).before, segment.payload());
-    refusal(from_client, sender, other.extent(), arrival, unlike)
+    refusal(from, sender, other.extent(), arrival, unlike)
 }
 
 fn pass<A: Dialogue, B: Dialogue>(

@@ -7,6 +7,7 @@ use Rattle.gate_base.specs.Side.{other, same_side}
 use Rattle.gate_base.specs.declared.address.Addr.{Addr}
 use Rattle.gate_base.specs.declared.event.Moment.{Moment}
 use Rattle.gate_base.specs.declared.side.Side.{Side}
+use Rattle.gate_base.proofs.Sides.{other_other}
 use Rattle.realm_pools.specs.Addresses.{Range, is_free, least_free, IsLeastFree}
 use Rattle.realm_pools.proofs.Free.{HasFlags, least_from}
 use Rattle.binding_table.specs.Steps.{CanHold}
@@ -16,7 +17,7 @@ use Rattle.binding_table.specs.declared.binding.Crossing.TheVariants.{Same, Boun
 use Rattle.binding_table.specs.Bindings.{pool_with, Bindings, is_same, is_of_host, is_of_alias, in_pool, range_of, pool_of, alias_of, host_of, new_or_empty, cross, IsNew, bound, bound_by, with_binding}
 use Rattle.binding_table.specs.Plan.{needs_binding}
 use Rattle.binding_table.specs.Lawful.{IsLawful}
-use Rattle.binding_table.proofs.Pools.{free_parts, other_other}
+use Rattle.binding_table.proofs.Pools.{free_parts}
 use Rattle.binding_table.proofs.Room.{length_taken}
 
 -- a host of the realm that has no binding

@@ -8,8 +8,10 @@ use Rattle.std.proofs.lemmas.List.Elements.{filter-append, All-filter, All-head,
 use Rattle.std.proofs.lemmas.List.Folds.{find-append}
 use Rattle.std.proofs.lemmas.Option.{same_Some}
 use Rattle.std.specs.Map.{lookup}
+use Rattle.gate_base.proofs.Options.{or_none}
 use Rattle.expiring_table.specs.declared.row.Row.{Row}
 use Rattle.expiring_table.specs.Rows.{IsTakenOut, Table, row_of, with_row, without, is_of, lives, living}
+use Rattle.expiring_table.proofs.Taken.{without_none, with_none}
 use Rattle.binding_table.specs.declared.binding.Binding.{Binding}
 use Rattle.binding_table.specs.EntriesInside.{fixed_row, all_rows, AreApart, HaveNoneOf}
 use Rattle.binding_table.specs.Steps.{ending, filed}
@@ -39,27 +41,7 @@ pub fixed_live : (now : ℕ) (entries : List (ℕ × Binding)) → living now (m
 fixed_live now [] = refl
 fixed_live now (entry ∷ rest) = ap (λ (rows : List (Row Binding)). fixed_row entry ∷ rows) (fixed_live now rest)
 
--- ## Rows without a number
-
-pub without_none : (key : ℕ) (rows : List (Row Binding)) → row_of key rows ≡ None → without key rows ≡ rows
-without_none key [] h = refl
-without_none key (row ∷ rest) h = elim (cases_Bool (row.key == key)) [
-  | inl same_key ↦ cc (rw same_key at h)
-  | inr other_key ↦ rw other_key (ap (λ (rows : List (Row Binding)). row ∷ rows) (without_none key rest (rw other_key at h)))
-]
-
-pub with_none : (new : Row Binding) (rows : List (Row Binding)) → row_of new.key rows ≡ None → with_row new rows ≡ rows
-with_none new [] h = refl
-with_none new (row ∷ rest) h = elim (cases_Bool (row.key == new.key)) [
-  | inl same_key ↦ cc (rw same_key at h)
-  | inr other_key ↦ rw other_key (ap (λ (rows : List (Row Binding)). row ∷ rows) (with_none new rest (rw other_key at h)))
-]
-
 -- ## Found in front or behind
-
-or_none : (o : Option (Row Binding)) → option_or o None ≡ o
-or_none None = refl
-or_none (Some row) = refl
 
 pub found_behind : (key : ℕ) (front rows : List (Row Binding)) → row_of key front ≡ None → row_of key (front ++ rows) ≡ row_of key rows
 found_behind key front rows none = find-append (is_of key) front rows ∙ ap (λ (o : Option (Row Binding)). option_or o (row_of key rows)) none

@@ -12,6 +12,7 @@ use Rattle.gate_base.specs.Side.{other, same_side}
 use Rattle.gate_base.specs.declared.address.Addr.{Addr}
 use Rattle.gate_base.specs.declared.event.Moment.{Moment}
 use Rattle.gate_base.specs.declared.side.Side.{Side}
+use Rattle.gate_base.proofs.Sides.{same_side-true, other_other}
 use Rattle.realm_pools.specs.Addresses.{Range, is_in, is_free, is_taken}
 use Rattle.binding_table.specs.Steps.{AreTaken, CanHold, aliases_of, aliases_with, changed, filed, lasts, plain_table}
 use Rattle.binding_table.proofs.Filed.{found_filed, others}
@@ -19,7 +20,7 @@ use Rattle.expiring_table.specs.Rows.{row_of}
 use Rattle.binding_table.specs.declared.binding.Binding.{Binding}
 use Rattle.binding_table.specs.Bindings.{Bindings, is_of_host, host_of, is_of_alias, is_used, is_live, in_pool, range_of, pool_with, pool_of, with_binding, expired, extend_through, is_through, lasting}
 use Rattle.binding_table.specs.Lawful.{IsLawful, IsInPlace, collides}
-use Rattle.binding_table.proofs.Pools.{IsLone, same_aliases, same_side-true, other_other, other_alias, collides-sym, changed_some, changed_none, used_alias, free_alias, taken_alias}
+use Rattle.binding_table.proofs.Pools.{IsLone, same_aliases, other_alias, collides-sym, changed_some, changed_none, used_alias, free_alias, taken_alias}
 
 -- where a binding has its place doesn't depend on the others
 pub in_place_too : (table : Bindings) (entries : List Binding) (binding : Binding) → IsInPlace table binding → IsInPlace (record table { entries = entries }) binding

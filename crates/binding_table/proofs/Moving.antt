@@ -5,6 +5,7 @@ use Rattle.std.proofs.lemmas.Bool.{and_parts}
 use Rattle.gate_base.specs.Side.{same_side}
 use Rattle.gate_base.specs.declared.address.Addr.{Addr}
 use Rattle.gate_base.specs.declared.side.Side.{Side}
+use Rattle.gate_base.proofs.Sides.{same_side-true}
 use Rattle.expiring_table.specs.declared.row.Row.{Row}
 use Rattle.binding_table.specs.declared.binding.Binding.{Binding}
 use Rattle.binding_table.specs.declared.binding.Crossing.TheVariants.{Bound}
@@ -14,7 +15,6 @@ use Rattle.binding_table.specs.Plan.{Use, used, used_by}
 use Rattle.binding_table.specs.Steps.{extended_by, filed, moving_row, number_of, unless_fixed}
 use Rattle.binding_table.proofs.Filed.{found_moving}
 use Rattle.binding_table.proofs.Once.{address_is, finds, through_moving}
-use Rattle.binding_table.proofs.Pools.{same_side-true}
 
 -- a host that has a binding is neither of a pool nor the same in both realms
 bound_place : (table : Bindings) (side : Side) (host : Addr) (binding : Binding) → IsLawful table → find (is_of_host side host.0) table.entries ≡ Some binding → (is_same table host ≡ false) × (in_pool table side host ≡ false)

@@ -7,6 +7,7 @@ use Rattle.gate_base.specs.Side.{other, same_side}
 use Rattle.gate_base.specs.declared.address.Addr.{Addr}
 use Rattle.gate_base.specs.declared.event.Moment.{Moment}
 use Rattle.gate_base.specs.declared.side.Side.{Side}
+use Rattle.gate_base.proofs.Sides.{same_side-true, same_side-itself}
 use Rattle.expiring_table.specs.declared.row.Row.{Row}
 use Rattle.expiring_table.specs.Rows.{row_of, with_row}
 use Rattle.binding_table.specs.declared.binding.Binding.{Binding}
@@ -15,7 +16,6 @@ use Rattle.binding_table.specs.Lawful.{IsLawful, collides}
 use Rattle.binding_table.specs.Steps.{extended_by, filed, lasts, number_of, unless_fixed}
 use Rattle.binding_table.proofs.Filed.{found_filed, replaced, with_filed}
 use Rattle.binding_table.proofs.Kept.{IsSamePair, lasting_pair, lasting_same}
-use Rattle.binding_table.proofs.Pools.{same_side-true, same_side-itself}
 
 -- ## What is found
 

@@ -14,6 +14,8 @@ use Rattle.gate_base.specs.declared.address.Addr.{Addr}
 use Rattle.gate_base.specs.declared.event.Moment.{Moment}
 use Rattle.gate_base.specs.declared.side.Side.{Side}
 use Rattle.gate_base.specs.declared.side.Side.TheVariants.{Left, Right}
+use Rattle.gate_base.proofs.Sides.{other_other, same_side-itself}
+use Rattle.gate_base.proofs.Options.{or_none}
 use Rattle.gate_settings.specs.Cross.{is_in_same}
 use Rattle.gate_settings.specs.declared.settings.Block.{Block}
 use Rattle.realm_pools.specs.Addresses.{Range, Addresses, is_in, least_free, free_from}
@@ -24,7 +26,7 @@ use Rattle.binding_table.specs.declared.binding.Crossing.{Crossing}
 use Rattle.binding_table.specs.declared.binding.Crossing.TheVariants.{Same, Bound, New, Unbound, Empty}
 use Rattle.binding_table.specs.Bindings.{is_settled, Bindings, is_same, is_of_host, is_of_alias, is_used, in_pool, range_of, pool_with, pool_of, alias_of, host_of, known_or, new_or_empty, cross, seen_by, with_binding, extended, extend_through}
 use Rattle.binding_table.specs.Plan.{images_after, Use, AreUsesOf, used, used_by, after_uses, unless_same, image_after, needs_binding, is_address, is_among, is_fresh, fresh_after}
-use Rattle.binding_table.proofs.Pools.{IsLone, numbers, other_other, same_side-itself, used_elsewhere, used_alias, free_parts, free_alias}
+use Rattle.binding_table.proofs.Pools.{IsLone, numbers, used_elsewhere, used_alias, free_parts, free_alias}
 use Rattle.binding_table.proofs.Kept.{used_map, IsSamePair, same_pair, same_aliasing, found_map, host_map, aliases_map}
 use Rattle.binding_table.proofs.Room.{free_in, free_less}
 use Rattle.binding_table.proofs.Bind.{HasNoBinding, least_parts, unbound_cross, fresh_is}
@@ -280,10 +282,6 @@ planned_extended table later side earlier rest given address until p =
     }
 
 -- ## The next address
-
-pub or_none : (found : Option Addr) → option_or found None ≡ found
-or_none None = refl
-or_none (Some one) = refl
 
 not_other_side : (side : Side) → same_side side (other side) ≡ false
 not_other_side Left = refl

@@ -10,6 +10,7 @@ use Rattle.gate_base.specs.Side.{other, same_side}
 use Rattle.gate_base.specs.declared.address.Addr.{Addr}
 use Rattle.gate_base.specs.declared.side.Side.{Side}
 use Rattle.gate_base.specs.declared.side.Side.TheVariants.{Left, Right}
+use Rattle.gate_base.proofs.Sides.{same_side-true, same_side-itself, same_side-sym, other_other}
 use Rattle.realm_pools.specs.Addresses.{Range, is_in, is_free, is_taken}
 use Rattle.binding_table.specs.Steps.{Aliases, aliases_with, changed, host_at, no_hosts, with_host}
 use Rattle.binding_table.specs.declared.binding.Binding.{Binding}
@@ -17,20 +18,6 @@ use Rattle.binding_table.specs.Bindings.{host_of, is_of_alias, is_used, pool_wit
 use Rattle.binding_table.specs.Lawful.{collides}
 
 -- ## Sides
-
-pub same_side-true : (one two : Side) → same_side one two ≡ true → one ≡ two
-same_side-true Left Left h = refl
-same_side-true Left Right h = cc
-same_side-true Right Left h = cc
-same_side-true Right Right h = refl
-
-pub same_side-itself : (side : Side) → same_side side side ≡ true
-same_side-itself Left = refl
-same_side-itself Right = refl
-
-pub other_other : (side : Side) → other (other side) ≡ side
-other_other Left = refl
-other_other Right = refl
 
 -- ## Aliases that no other binding has
 
@@ -46,12 +33,6 @@ apart_later Right Left two hosts first second h apart = cc
 -- the alias of a binding isn't that of one that it doesn't collide with
 pub other_alias : (side : Side) (binding earlier : Binding) → same_side binding.side (other side) ≡ true → collides binding earlier ≡ false → is_of_alias side binding.alias.0 earlier ≡ false
 other_alias side binding earlier h apart = apart_later (other side) binding.side earlier.side (earlier.host.0 == binding.host.0) binding.alias.0 earlier.alias.0 h apart
-
-same_side-sym : (one two : Side) → same_side one two ≡ same_side two one
-same_side-sym Left Left = refl
-same_side-sym Left Right = refl
-same_side-sym Right Left = refl
-same_side-sym Right Right = refl
 
 same-sym : (m n : ℕ) → (m == n) ≡ (n == m)
 same-sym m n = grind (arith, nat_tests)

@@ -7,11 +7,10 @@ use Rattle.std.proofs.lemmas.Bool.{le-leb}
 use Rattle.dialogue.specs.Meaning.{Meaning, IsLawful}
 use Rattle.dialogue.specs.Places.{Push, Plain, Changed, Span, plain_spans, spans_from, end_from, back_in}
 use Rattle.dialogue.specs.Stream.{cut, due, due_rest, fore, back}
-use Rattle.dialogue.proofs.PlaceLemmas.{back_in-replicate}
+use Rattle.dialogue.proofs.PlaceLemmas.{back_in-replicate, end_from-le}
 use Rattle.dialogue.proofs.CutLemmas.{cut_joined, length-spans_from}
 use Rattle.dialogue.proofs.Laws.{back-append, fore-back}
 use Rattle.shift_ledger.specs.Kept.{back_of}
-use Rattle.shift_ledger.proofs.Walks.{end_from-le}
 use Rattle.compact_stream.specs.Kept.{sent_pushes}
 use Rattle.compact_stream.specs.Runs.{held_rest}
 use Rattle.compact_stream.proofs.DuePlaces.{end_from-due, back-due}

@@ -5,6 +5,7 @@ use Rattle.std.specs.Option.{option_map}
 use Rattle.std.specs.Str.{bytes_eq}
 use Rattle.std.proofs.lemmas.List.{length-append, map-append}
 use Rattle.std.proofs.lemmas.Bool.{cases_Bool, false≢true}
+use Rattle.gate_base.proofs.Options.{none_there}
 use Rattle.dialogue.specs.Meaning.{Meaning, IsUnit, IsRest, IsReleased, IsLawful, is_held, is_empty, is_released}
 use Rattle.dialogue.specs.Places.{Push, Plain, Changed}
 use Rattle.dialogue.specs.Stream.{Cut, cut, cut_at, add_octet, due_rest, push_of}
@@ -27,10 +28,6 @@ IsKept m rest released ledger s k = IsKeptOf m rest released ledger (cut m s) k
 from_some : (o : Option ℕ) → is_some o ≡ true → (n : ℕ) × (o ≡ Some n)
 from_some None e = absurd (let f : false ≡ true = e in cc)
 from_some (Some n) e = (n, refl)
-
-pub from_none : (o : Option ℕ) → is_some o ≡ false → o ≡ None
-from_none None e = refl
-from_none (Some n) e = absurd (let f : true ≡ false = e in cc)
 
 -- where a first unit stands after one octet more, it is the whole
 pub unit_here : (m : Meaning) → IsLawful m → (rest : List ℕ) (x : ℕ) → IsRest m rest → is_some (m.first_end (rest ++ x ∷ [])) ≡ true → IsUnit m (rest ++ x ∷ [])
@@ -144,7 +141,7 @@ step_changed_unit m rest image l l' c x k n n_is kept ends is other st =
 pub step_free : (m : Meaning) → IsLawful m → (rest : List ℕ) (l : Kept) (l' : Kept) (c : Cut) (x k : ℕ) → IsRest m c.rest → IsKeptOf m rest true l c k → is_some (m.first_end (x ∷ [])) ≡ false → StandsFor l' (sent_pushes m false c ++ Plain 1 ∷ []) k → IsKeptOf m rest true l' (add_octet m c x) k
 step_free m law rest l l' c x k ir kept none st =
     let r : (rest ≡ []) × IsReleased m c.rest × (due_rest m false c.rest ≡ c.rest) = free_rest m c.rest rest ir kept.rest_is kept.released_is in
-    let alone : m.first_end (x ∷ []) ≡ None = from_none (m.first_end (x ∷ [])) none in
+    let alone : m.first_end (x ∷ []) ≡ None = none_there (m.first_end (x ∷ [])) none in
     let on : m.first_end (c.rest ++ x ∷ []) ≡ None = law.ends c.rest (x ∷ []) r.1 ∙ ap (option_map (λ n. length c.rest + n)) alone in
     let free : is_held m (c.rest ++ x ∷ []) ≡ false = is_held-push m c.rest x ∙ law.stays c.rest (x ∷ []) r.1 on in
     rw on (record {

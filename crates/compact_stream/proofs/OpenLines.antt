@@ -5,8 +5,9 @@ use Rattle.std.specs.List.{fold}
 use Rattle.std.proofs.lemmas.Bool.{cases_lt, lt-ltb, le-ltb}
 use Rattle.dialogue.specs.Meaning.{Meaning}
 use Rattle.dialogue.specs.Places.{Push, Plain, Changed, end_from, changed_ends, open_in}
+use Rattle.dialogue.proofs.PlaceLemmas.{end_from-le}
 use Rattle.dialogue.specs.Stream.{cut, due_rest, push_of, open_units}
-use Rattle.shift_ledger.proofs.Walks.{end_from-le, open_in-kept}
+use Rattle.shift_ledger.proofs.Walks.{open_in-kept}
 use Rattle.stream_model.specs.Session.{Sender}
 use Rattle.stream_model.specs.Steps.{open_of}
 use Rattle.compact_stream.specs.Kept.{sent_pushes, CompactSender, KeepsSender}

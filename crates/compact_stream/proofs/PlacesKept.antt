@@ -1,5 +1,5 @@
 -- The places that the ledger of what is kept answers are those of the stream.
-use Rattle.std.proofs.Common.{◌≡◌, ◌≤◌, ◌<◌, ◌+◌, ℕ, Bool, true, false, List, length, sym, ◌∙◌, ap, arith, inl, inr}
+use Rattle.std.proofs.Common.{◌≡◌, ◌≤◌, ◌<◌, ◌+◌, ℕ, Bool, List, length, sym, ◌∙◌, ap, arith, inl, inr}
 use Rattle.std.specs.Prelude.{min}
 use Rattle.std.proofs.lemmas.Bool.{cases_Bool, eq-eqb}
 use Rattle.dialogue.specs.Meaning.{Meaning, IsLawful}
@@ -8,6 +8,7 @@ use Rattle.dialogue.specs.Stream.{cut, image, due, fore, rear, back}
 use Rattle.dialogue.proofs.Laws.{back-mono, length-due-le}
 use Rattle.shift_ledger.specs.Kept.{StandsFor, fore_of, rear_of, back_of}
 use Rattle.tcp_segments.specs.Flags.{one_if}
+use Rattle.stream_model.proofs.PassLemmas.{one-le}
 use Rattle.stream_model.specs.Session.{Sender}
 use Rattle.compact_stream.specs.Kept.{sent_pushes, CompactSender, Keeps, KeepsSender, InRange}
 use Rattle.compact_stream.proofs.RearBack.{rear_back}
@@ -17,16 +18,12 @@ use Rattle.compact_stream.proofs.SenderLemmas.{octets_are, due_is, fore-sent, re
 pub back_kept-le : (m : Meaning) → IsLawful m → (h : CompactSender) (s : List ℕ) → Keeps m h s → h.acked ≤ h.ledger.octets_out + one_if h.ended → back_of (sent_pushes m h.ended (cut m s)) (min h.acked h.ledger.octets_out) ≤ back m h.ended s h.acked
 back_kept-le m law h s k i =
     let q = min h.acked h.ledger.octets_out in
-    let one : one_if h.ended ≤ 1 = small h.ended in
+    let one : one_if h.ended ≤ 1 = one-le h.ended in
     let d : h.ledger.octets_out ≡ length (due m h.ended s) = due_is m h s k in
     let j : length (due m h.ended s) ≤ length (image m s) = length-due-le m law h.ended s in
     let e : back m h.ended s (min h.acked h.ledger.octets_out) ≡ back_of (sent_pushes m h.ended (cut m s)) (min h.acked h.ledger.octets_out) = back-sent m law h.ended s (min h.acked h.ledger.octets_out) (omega arith) in
     let le : back m h.ended s (min h.acked h.ledger.octets_out) ≤ back m h.ended s h.acked = back-mono m h.ended s (min h.acked h.ledger.octets_out) h.acked (omega arith) (omega arith) in
     omega arith
-  where
-    small : (b : Bool) → one_if b ≤ 1
-    small true = omega arith
-    small false = omega arith
 
 -- Back of the place of an end
 pub back_past : (m : Meaning) → IsLawful m → (h : CompactSender) (s : List ℕ) (q : ℕ) → Keeps m h s → h.ledger.octets_out < q → q ≤ h.ledger.octets_out + one_if h.ended → back m h.ended s q ≡ h.ledger.octets_in + length h.rest + 1

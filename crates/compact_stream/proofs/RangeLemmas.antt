@@ -1,9 +1,11 @@
 -- What is kept stays in its ranges, whatever it is kept of.
 use Rattle.std.proofs.Common.{◌≡◌, ◌≤◌, ◌<◌, ◌+◌, ◌-◌, ◌*◌, ℕ, Bool, true, false, cond, List, [], ◌∷◌, ◌++◌, length, drop, sym, ◌∙◌, subst, arith, inl, inr}
-use Rattle.std.specs.Prelude.{◌^◌, ◌||◌, ◌&&◌, nat_lt, max, is_some, None}
+use Rattle.std.specs.Prelude.{◌^◌, ◌||◌, max, is_some, None}
 use Rattle.std.specs.Str.{bytes_eq}
 use Rattle.std.proofs.lemmas.List.{length-append, length-drop}
-use Rattle.std.proofs.lemmas.Bool.{cases_Bool, cond-true, cond-false, leb-false, ltb-false, or_parts, and_cases}
+use Rattle.std.proofs.lemmas.Bool.{cases_Bool, cond-true, cond-false, leb-false, or_parts}
+use Rattle.gate_base.proofs.Options.{none_there}
+use Rattle.gate_base.specs.declared.host.Host.{Host}
 use Rattle.dialogue.specs.Meaning.{Meaning, IsUnit, IsRest, IsLawful}
 use Rattle.dialogue.specs.Places.{Push, Plain, Changed}
 use Rattle.dialogue.specs.Stream.{push_of}
@@ -13,10 +15,11 @@ use Rattle.tcp_segments.specs.Flags.{one_if}
 use Rattle.stream_model.specs.Session.{Segment, other, arrival, start_at, place_acknowledged}
 use Rattle.stream_model.specs.Refusals.{is_data, refusal_of}
 use Rattle.stream_model.specs.declared.refusals.Extent.{Extent}
-use Rattle.stream_model.proofs.PassLemmas.{second_false, PassesBy, passes_by, data_is, ack_within}
+use Rattle.stream_model.proofs.PassLemmas.{second_false, PassesBy, passes_by, data_is, ack_within, one-le}
+use Rattle.stream_model.proofs.RecentFact.{few_added}
 use Rattle.compact_stream.specs.Kept.{CompactSender, extent_kept, recent_start, back_kept, InRange, went_on, closed, taken_kept, own_kept, other_kept}
 use Rattle.compact_stream.specs.Runs.{Run, run, all_pushed, next}
-use Rattle.compact_stream.proofs.OctetSteps.{from_none, unit_here}
+use Rattle.compact_stream.proofs.OctetSteps.{unit_here}
 use Rattle.compact_stream.proofs.RunLemmas.{all_pushed-push}
 
 -- a rest and a ledger of at most n octets, the ledger of an image that is small enough and has at least so many octets
@@ -49,7 +52,7 @@ counted_octet m law least r l x n k =
             | inl ends ↦ rw ends (counted_unit m law least r.rest (r.rest ++ x ∷ []) l r.pushes n one (unit_here m law r.rest x k.is_rest ends) k)
             | inr goes ↦
                 elim (cases_Bool (m.holds (r.rest ++ x ∷ []))) [
-                  | inl holds ↦ rw (goes, holds) (record { is_rest = from_none (m.first_end (r.rest ++ x ∷ [])) goes; octets = omega (arith, k.octets); image = k.image; grown = k.grown })
+                  | inl holds ↦ rw (goes, holds) (record { is_rest = none_there (m.first_end (r.rest ++ x ∷ [])) goes; octets = omega (arith, k.octets); image = k.image; grown = k.grown })
                   | inr free ↦ rw (goes, free) (counted_plain m law least r.rest l r.pushes (length (r.rest ++ x ∷ [])) n (omega arith) k)
                 ]
           ])
@@ -70,15 +73,11 @@ went_on_in_range m law h t small few i =
 
 pub closed_in_range : (m : Meaning) → IsLawful m → (h : CompactSender) → InRange m h → InRange m (closed h)
 closed_in_range m law h i =
-    let one : one_if h.ended ≤ 1 = at_most h.ended in
+    let one : one_if h.ended ≤ 1 = one-le h.ended in
     record { octets = omega (arith, i.octets); image = omega (arith, i.image); acked = within (length h.rest); rest = IsRest-nil m law; recent = i.recent }
   where
-    at_most : (b : Bool) → one_if b ≤ 1
-    at_most true = omega arith
-    at_most false = omega arith
-
     within : (n : ℕ) → h.acked ≤ h.ledger.octets_out + n + 1
-    within n = omega (arith, i.acked, at_most h.ended)
+    within n = omega (arith, i.acked, one-le h.ended)
 
 taken_in_range : (m : Meaning) → IsLawful m → (h : CompactSender) (g : Segment) → h.ledger.octets_in + length h.rest + (length g.octets - (start_at (extent_kept h) (arrival g)).before) < 2 ^ 30 → length h.recent + (length g.octets - (start_at (extent_kept h) (arrival g)).before) ≤ 65536 → InRange m h → InRange m (taken_kept m h g)
 taken_in_range m law h g small few i =
@@ -91,14 +90,7 @@ taken_in_range m law h g small few i =
     choose false true h more i j = closed_in_range m law more j
     choose false false h more i j = j
 
-few_added : (d : Bool) (n a : ℕ) → d ≡ true → n ≤ 65536 → (d && nat_lt 0 a && nat_lt 65536 (n + a)) ≡ false → n + a ≤ 65536
-few_added d n a is l e =
-    elim (and_cases _ _ e) [
-      | inl z ↦ let none : a ≤ 0 = ltb-false _ _ (second_false d _ z is) in omega arith
-      | inr z ↦ ltb-false _ _ z
-    ]
-
-pub own_in_range : (f : Bool) (m : Meaning) → IsLawful m → (h : CompactSender) (b : Extent) (g : Segment) (u : Bool) → InRange m h → refusal_of f (extent_kept h) b (arrival g) u ≡ None → InRange m (own_kept m h g)
+pub own_in_range : (f : Host) (m : Meaning) → IsLawful m → (h : CompactSender) (b : Extent) (g : Segment) (u : Bool) → InRange m h → refusal_of f (extent_kept h) b (arrival g) u ≡ None → InRange m (own_kept m h g)
 own_in_range f m law h b g u i v =
     let p : PassesBy f (extent_kept h) b (arrival g) u = passes_by f (extent_kept h) b (arrival g) u v in
     elim (cases_Bool g.flags.syn) [
@@ -108,12 +100,12 @@ own_in_range f m law h b g u i v =
             | inl reset ↦ subst (λ (z : CompactSender). InRange m z) (sym (cond-false g.flags.syn _ _ not_syn ∙ cond-true g.flags.reset _ _ reset)) i
             | inr not_reset ↦
                 let small : h.ledger.octets_in + length h.rest + (length g.octets - (start_at (extent_kept h) (arrival g)).before) < 2 ^ 30 = leb-false _ _ (second_false (is_data (arrival g)) _ p.stream_limit (data_is g (not_syn, not_reset))) in
-                let few : length h.recent + (length g.octets - (start_at (extent_kept h) (arrival g)).before) ≤ 65536 = few_added (is_data (arrival g)) (length h.recent) (length g.octets - (start_at (extent_kept h) (arrival g)).before) (data_is g (not_syn, not_reset)) i.recent p.backlog in
+                let few : length h.recent + (length g.octets - (start_at (extent_kept h) (arrival g)).before) ≤ 65536 = few_added (is_data (arrival g)) (length h.recent) (length g.octets - (start_at (extent_kept h) (arrival g)).before) (data_is g (not_syn, not_reset)) p.backlog i.recent in
                 subst (λ (z : CompactSender). InRange m z) (sym (cond-false g.flags.syn _ _ not_syn ∙ cond-false g.flags.reset _ _ not_reset)) (taken_in_range m law h g small few i)
           ]
     ]
 
-pub other_in_range : (f : Bool) (m : Meaning) (h : CompactSender) (a : Extent) (g : Segment) (u : Bool) → InRange m h → refusal_of f a (extent_kept h) (arrival g) u ≡ None → InRange m (other_kept h g)
+pub other_in_range : (f : Host) (m : Meaning) (h : CompactSender) (a : Extent) (g : Segment) (u : Bool) → InRange m h → refusal_of f a (extent_kept h) (arrival g) u ≡ None → InRange m (other_kept h g)
 other_in_range f m h a g u i v =
     let p : PassesBy f a (extent_kept h) (arrival g) u = passes_by f a (extent_kept h) (arrival g) u v in
     elim (cases_Bool (g.flags.syn || g.flags.reset)) [

@@ -1,5 +1,5 @@
 -- The recent octets, as a stream goes on, ends or is acknowledged.
-use Rattle.std.proofs.Common.{◌≡◌, ◌≤◌, ◌+◌, ◌-◌, ℕ, Bool, true, false, List, [], ◌++◌, length, drop, sym, ◌∙◌, ap, arith, inl, inr}
+use Rattle.std.proofs.Common.{◌≡◌, ◌≤◌, ◌+◌, ◌-◌, ℕ, true, false, List, [], ◌++◌, length, drop, sym, ◌∙◌, ap, arith, inl, inr}
 use Rattle.std.specs.Prelude.{min, nat_le}
 use Rattle.std.proofs.Math.Seq.{drop-nil}
 use Rattle.std.proofs.lemmas.List.{append-nil, length-drop, drop-append-le, drop-drop, drop_all}
@@ -11,6 +11,7 @@ use Rattle.dialogue.specs.Stream.{cut, due, image, spans, back}
 use Rattle.dialogue.proofs.Laws.{back-append, back-mono, length-spans, length-due-le}
 use Rattle.shift_ledger.proofs.Walks.{back_walk-kept}
 use Rattle.tcp_segments.specs.Flags.{one_if}
+use Rattle.stream_model.proofs.PassLemmas.{one-le}
 use Rattle.compact_stream.specs.Kept.{sent_pushes, CompactSender, Keeps, octets_kept, recent_start, back_kept}
 use Rattle.compact_stream.proofs.SenderLemmas.{octets_are, due_is, back-sent}
 use Rattle.compact_stream.proofs.PlacesKept.{back_past}
@@ -43,7 +44,7 @@ back_kept-is m law h s q k from to =
 -- acknowledged up to this place
 pub recent_forgotten : (m : Meaning) → IsLawful m → (h : CompactSender) (s : List ℕ) (q : ℕ) → Keeps m h s → h.acked ≤ q → q ≤ h.ledger.octets_out + one_if h.ended → drop (back_kept h q - recent_start h) h.recent ≡ drop (back m h.ended s q) s
 recent_forgotten m law h s q k from to =
-    let one : one_if h.ended ≤ 1 = small h.ended in
+    let one : one_if h.ended ≤ 1 = one-le h.ended in
     let d : h.ledger.octets_out ≡ length (due m h.ended s) = due_is m h s k in
     let j : length (due m h.ended s) ≤ length (image m s) = length-due-le m law h.ended s in
     let b = back m h.ended s h.acked in
@@ -61,7 +62,3 @@ recent_forgotten m law h s q k from to =
           drop-drop (back_kept h q - recent_start h) (back m h.ended s h.acked) s
           ∙ ap (λ (i : ℕ). drop i s) (omega (arith, is, n, len))
     ]
-  where
-    small : (b : Bool) → one_if b ≤ 1
-    small true = omega arith
-    small false = omega arith

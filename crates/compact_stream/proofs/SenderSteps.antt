@@ -3,6 +3,7 @@ use Rattle.std.proofs.Common.{◌≡◌, ◌≤◌, ◌+◌, ℕ, Bool, true, fa
 use Rattle.std.specs.Prelude.{min, max, ◌||◌}
 use Rattle.std.proofs.lemmas.List.{append-nil, length-append}
 use Rattle.std.proofs.lemmas.Bool.{cases_Bool, cond-true, cond-false, or_parts, true≢false}
+use Rattle.gate_base.specs.declared.host.Host.{Host}
 use Rattle.dialogue.specs.Meaning.{Meaning, IsLawful}
 use Rattle.dialogue.specs.Places.{Plain}
 use Rattle.dialogue.specs.Stream.{cut, due, back}
@@ -69,7 +70,7 @@ closed_keeps m law h s e l k =
 abbrev with_end : Meaning → CompactSender → List ℕ → Bool → Sender
 with_end m h u b = record { meaning = m; mss = h.mss; initial = h.initial; octets = u; ended = b; acked = h.acked }
 
-pub taken_keeps : (f : Bool) (m : Meaning) → IsLawful m → (h : CompactSender) (s : List ℕ) (b : Sender) (g : Segment) → Passes f (sender_of m h s) b g → IsData g → h.acked ≤ h.ledger.octets_out + one_if h.ended → Keeps m h s → KeepsSender m (taken_kept m h g) (taken (sender_of m h s) g)
+pub taken_keeps : (f : Host) (m : Meaning) → IsLawful m → (h : CompactSender) (s : List ℕ) (b : Sender) (g : Segment) → Passes f (sender_of m h s) b g → IsData g → h.acked ≤ h.ledger.octets_out + one_if h.ended → Keeps m h s → KeepsSender m (taken_kept m h g) (taken (sender_of m h s) g)
 taken_keeps f m law h s b g p d l k =
     let same : (start_at (extent_kept h) (arrival g)).before ≡ (start_of (sender_of m h s) g).before = ap (λ (x : Extent). (start_at x (arrival g)).before) (extent_is m h s k) in
     let t : List ℕ = drop (start_of (sender_of m h s) g).before g.octets in
@@ -104,7 +105,7 @@ taken_keeps f m law h s b g p d l k =
         (record { is = flags_same m h (s ++ t) (h.ended || false) h.ended (ap (λ b. b || false) e ∙ sym e); keeps = k.0 })
 
 -- after its own segment
-pub own_kept_keeps : (f : Bool) (m : Meaning) → IsLawful m → (h : CompactSender) (s : List ℕ) (b : Sender) (g : Segment) → Passes f (sender_of m h s) b g → h.acked ≤ h.ledger.octets_out + one_if h.ended → Keeps m h s → KeepsSender m (own_kept m h g) (own_after (sender_of m h s) g)
+pub own_kept_keeps : (f : Host) (m : Meaning) → IsLawful m → (h : CompactSender) (s : List ℕ) (b : Sender) (g : Segment) → Passes f (sender_of m h s) b g → h.acked ≤ h.ledger.octets_out + one_if h.ended → Keeps m h s → KeepsSender m (own_kept m h g) (own_after (sender_of m h s) g)
 own_kept_keeps f m law h s b g p l k =
     elim (cases_Bool g.flags.syn) [
       | inl syn ↦ both (own_kept m h g) _ (own_after (sender_of m h s) g) _ (cond-true _ _ _ syn) (cond-true _ _ _ syn) (record { is = refl; keeps = record { rest = k.rest; released = k.released; ledger = k.ledger; recent = k.recent } })
@@ -130,7 +131,7 @@ acknowledged_keeps m law h s q i j k =
       recent = recent_forgotten m law h s (max h.acked q) k (omega arith) (omega arith);
     }
 
-pub other_kept_keeps : (f : Bool) (m : Meaning) → IsLawful m → (h : CompactSender) (s : List ℕ) (a : Sender) (g : Segment) → Passes f a (sender_of m h s) g → h.acked ≤ h.ledger.octets_out + one_if h.ended → Keeps m h s → KeepsSender m (other_kept h g) (other_after (sender_of m h s) g)
+pub other_kept_keeps : (f : Host) (m : Meaning) → IsLawful m → (h : CompactSender) (s : List ℕ) (a : Sender) (g : Segment) → Passes f a (sender_of m h s) g → h.acked ≤ h.ledger.octets_out + one_if h.ended → Keeps m h s → KeepsSender m (other_kept h g) (other_after (sender_of m h s) g)
 other_kept_keeps f m law h s a g p l k =
     go (g.flags.syn || g.flags.reset) refl (place_acknowledged (extent_kept h) (arrival g)) (place_acknowledged (extent (sender_of m h s)) (arrival g)) refl (ap (λ (e : Extent). place_acknowledged e (arrival g)) (extent_is m h s k))
   where

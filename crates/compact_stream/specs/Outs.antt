@@ -1,5 +1,7 @@
 -- What goes out of a segment that passes, by what is kept. In each rule new is the sender after its segment.
 use Rattle.std.specs.Prelude.{◌+◌, ◌-◌, ℕ, Bool, true, false, not, ◌&&◌, ◌||◌, cond, nat_lt, nat_le, ◌==◌, min, max, List, [], ◌∷◌, length, map, is_some, is_none, Option, Some, None}
+use Rattle.gate_base.specs.declared.host.Host.{Host}
+use Rattle.gate_base.specs.declared.host.Host.TheVariants.{Client, Server}
 use Rattle.dialogue.specs.Meaning.{Meaning}
 use Rattle.shift_ledger.specs.Answers.{fore_by, rear_by, copied_by}
 use Rattle.tcp_segments.specs.Flags.{one_if}
@@ -90,16 +92,16 @@ data_kept m h receiver segment =
 abbrev pub sender_out : Meaning → CompactSender → CompactSender → Segment → List Outgoing
 sender_out m h receiver segment = cond segment.flags.syn (syn_out segment) (cond segment.flags.reset (reset_kept h receiver segment) (data_kept m h receiver segment))
 
-abbrev pub kept_out : Meaning → Meaning → Bool → CompactState → Segment → List Outgoing
-kept_out m n true h segment = sender_out m h.client h.server segment
-kept_out m n false h segment = sender_out n h.server h.client segment
+abbrev pub kept_out : Meaning → Meaning → Host → CompactState → Segment → List Outgoing
+kept_out m n Client h segment = sender_out m h.client h.server segment
+kept_out m n Server h segment = sender_out n h.server h.client segment
 
 -- an RST ends the session, unless it stands before the end of its sender's octets
 abbrev pub ends_by : CompactSender → Segment → Bool
 ends_by h segment = segment.flags.reset && (is_none h.initial || ((start_kept h segment).before == 0))
 
-abbrev pub kept_ends : Bool → CompactState → Segment → Bool
-kept_ends from_client h segment = ends_by (sender_kept from_client h) segment
+abbrev pub kept_ends : Host → CompactState → Segment → Bool
+kept_ends from h segment = ends_by (sender_kept from h) segment
 
 -- the sender's own number of an image place that was sent and is so near to the end of what is due: Back of a place that is not acknowledged, and one less than Back of what is acknowledged for one below it
 abbrev pub inner_number : CompactSender → ℕ → Offset → ℕ
@@ -117,6 +119,6 @@ abbrev pub inner_of : CompactSender → Option ℕ → ℕ → Option ℕ
 inner_of h None number = None
 inner_of h (Some initial) number = inner_near h initial (place_near initial h.ledger.octets_out number)
 
--- what the sequence number of a datagram that an ICMP error brings back was at the client (true), or the server, that sent it
-abbrev pub inner_kept : Bool → CompactState → ℕ → Option ℕ
-inner_kept from_client h number = inner_of (sender_kept from_client h) (sender_kept from_client h).initial number
+-- what the sequence number of a datagram that an ICMP error brings back was at the host that sent it
+abbrev pub inner_kept : Host → CompactState → ℕ → Option ℕ
+inner_kept host h number = inner_of (sender_kept host h) (sender_kept host h).initial number

@@ -1,7 +1,9 @@
 -- What is kept of a session.
-use Rattle.std.specs.Prelude.{ℕ, Bool, true, false, [], Option, Some, None}
+use Rattle.std.specs.Prelude.{ℕ, false, [], Option, Some, None}
 use Rattle.shift_ledger.specs.Kept.{Kept}
 use Rattle.gate_base.specs.declared.refusal.Refusal.{Refusal}
+use Rattle.gate_base.specs.declared.host.Host.{Host}
+use Rattle.gate_base.specs.declared.host.Host.TheVariants.{Client, Server}
 use Rattle.dialogue.specs.Meaning.{Meaning}
 use Rattle.stream_model.specs.Session.{Session, Segment, arrival}
 use Rattle.stream_model.specs.Refusals.{refusal_of}
@@ -24,21 +26,21 @@ pub record StandsForSession (m n : Meaning) (h : CompactState) (x : Session) : T
   pub client : KeepsSender m h.client x.client
   pub server : KeepsSender n h.server x.server
 
--- what is kept of who sends a segment: the client (true), or the server
-abbrev pub sender_kept : Bool → CompactState → CompactSender
-sender_kept true h = h.client
-sender_kept false h = h.server
+-- what is kept of who sends a segment of this host
+abbrev pub sender_kept : Host → CompactState → CompactSender
+sender_kept Client h = h.client
+sender_kept Server h = h.server
 
 -- what is kept of who takes it
-abbrev pub receiver_kept : Bool → CompactState → CompactSender
-receiver_kept true h = h.server
-receiver_kept false h = h.client
+abbrev pub receiver_kept : Host → CompactState → CompactSender
+receiver_kept Client h = h.server
+receiver_kept Server h = h.client
 
 -- why a segment is refused, by what is kept
-abbrev pub kept_refusal : Bool → CompactState → Segment → Option Refusal
-kept_refusal from_client h segment = refusal_of from_client (extent_kept (sender_kept from_client h)) (extent_kept (receiver_kept from_client h)) (arrival segment) (unlike_kept (sender_kept from_client h) segment)
+abbrev pub kept_refusal : Host → CompactState → Segment → Option Refusal
+kept_refusal from h segment = refusal_of from (extent_kept (sender_kept from h)) (extent_kept (receiver_kept from h)) (arrival segment) (unlike_kept (sender_kept from h) segment)
 
--- what is kept after a segment of the client (true), or of the server
-abbrev pub kept_next : Meaning → Meaning → Bool → CompactState → Segment → CompactState
-kept_next m n true h segment = record { client = own_kept m h.client segment; server = other_kept h.server segment }
-kept_next m n false h segment = record { client = other_kept h.client segment; server = own_kept n h.server segment }
+-- what is kept after a segment of a host
+abbrev pub kept_next : Meaning → Meaning → Host → CompactState → Segment → CompactState
+kept_next m n Client h segment = record { client = own_kept m h.client segment; server = other_kept h.server segment }
+kept_next m n Server h segment = record { client = other_kept h.client segment; server = own_kept n h.server segment }

@@ -1,5 +1,6 @@
 // The laws of what is kept, for every lawful dialogue and every stream that it is kept of.
 ghost use Rattle.std.specs.Prelude.{◌≡◌, ◌≤◌, ◌<◌, ◌+◌, ℕ, Bool, false, List, [], ◌++◌, None, length, min, slice_range};
+ghost use Rattle.gate_base.specs.declared.host.Host.{Host};
 ghost use Rattle.dialogue.specs.Meaning.{Meaning, IsLawful};
 ghost use Rattle.dialogue.specs.Stream.{cut, due, image, fore, rear, back};
 ghost use Rattle.dialogue.specs.Learning.{ReadAlike};
@@ -40,53 +41,52 @@ pub fn kept_session_judges()
         → KeepsSender m h a
         → length h.ledger.changed ≡ open_of a }
     ensures refusal { (m n : Meaning) (h : CompactState) (x : Session)
-        (from_client : Bool) (g : Segment)
+        (from : Host) (g : Segment)
         → StandsForSession m n h x
-        → kept_refusal from_client h g ≡ segment_refusal from_client x g }
+        → kept_refusal from h g ≡ segment_refusal from x g }
 {}
 
 /// What is kept after a segment that passes is determined by what was kept before it, and is that of the session after it.
 pub fn kept_session_goes_on()
     ensures own { (m : Meaning) (h : CompactSender) (a b : Sender)
-        (from_client : Bool) (g : Segment)
+        (from : Host) (g : Segment)
         → IsLawful m
         → h.acked ≤ h.ledger.octets_out + one_if h.ended
         → KeepsSender m h a
-        → refusal_of from_client (extent a) (extent b) (arrival g)
-        (repeats_unlike a g) ≡ None
+        → refusal_of from (extent a) (extent b) (arrival g) (repeats_unlike a g)
+        ≡ None
         → KeepsSender m (own_kept m h g) (own_after a g) }
     ensures other { (m : Meaning) (h : CompactSender) (a b : Sender)
-        (from_client : Bool) (g : Segment)
+        (from : Host) (g : Segment)
         → IsLawful m
         → h.acked ≤ h.ledger.octets_out + one_if h.ended
         → KeepsSender m h b
-        → refusal_of from_client (extent a) (extent b) (arrival g)
-        (repeats_unlike a g) ≡ None
+        → refusal_of from (extent a) (extent b) (arrival g) (repeats_unlike a g)
+        ≡ None
         → KeepsSender m (other_kept h g) (other_after b g) }
     ensures session { (m n : Meaning) (h : CompactState) (x : Session)
-        (from_client : Bool) (g : Segment)
+        (from : Host) (g : Segment)
         → IsLawful m
         → IsLawful n
         → h.client.acked ≤ h.client.ledger.octets_out + one_if h.client.ended
         → h.server.acked ≤ h.server.ledger.octets_out + one_if h.server.ended
         → StandsForSession m n h x
-        → segment_refusal from_client x g ≡ None
-        → StandsForSession m n (kept_next m n from_client h g)
-        (session_next from_client x g) }
+        → segment_refusal from x g ≡ None
+        → StandsForSession m n (kept_next m n from h g) (session_next from x g) }
 {}
 
 /// What is kept stays in its ranges after a segment that passes, whatever it is kept of.
 pub fn kept_stays_in_range()
     ensures own { (m : Meaning) (h : CompactSender) (receiver : Extent)
-        (from_client unlike : Bool) (g : Segment)
+        (from : Host) (unlike : Bool) (g : Segment)
         → IsLawful m
         → InRange m h
-        → refusal_of from_client (extent_kept h) receiver (arrival g) unlike ≡ None
+        → refusal_of from (extent_kept h) receiver (arrival g) unlike ≡ None
         → InRange m (own_kept m h g) }
     ensures other { (m : Meaning) (h : CompactSender) (sender : Extent)
-        (from_client unlike : Bool) (g : Segment)
+        (from : Host) (unlike : Bool) (g : Segment)
         → InRange m h
-        → refusal_of from_client sender (extent_kept h) (arrival g) unlike ≡ None
+        → refusal_of from sender (extent_kept h) (arrival g) unlike ≡ None
         → InRange m (other_kept h g) }
 {}
 

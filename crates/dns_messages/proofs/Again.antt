@@ -19,8 +19,9 @@ use Rattle.dns_messages.specs.declared.message.Resource.{Resource}
 use Rattle.dns_messages.specs.declared.message.Message.{Message}
 use Rattle.dns_messages.specs.Forms.{form_of, form_at}
 use Rattle.dns_messages.specs.Suits.{Suits, ContentFits, ResourceSuits, ResourceFits, QuestionFits, MessageSuits, MessageFits}
-use Rattle.dns_messages.specs.Reading.{number_at, octets_at, ending, content_by, resource_at, resources_at, question_at, questions_at, message_at}
+use Rattle.dns_messages.specs.Reading.{number_at, octets_at, content_by, resource_at, resources_at, question_at, questions_at, message_at}
 use Rattle.dns_messages.specs.Writing.{put, join, behind_length, content_written, resource_written, resources_written, questions_written, question_count, message_written, spelling}
+use Rattle.dns_messages.proofs.Exact.{ends}
 
 -- the label starts are known once more was written
 abbrev pub Knows : List ℕ → List Start → ℕ → Added → Type 0
@@ -75,11 +76,6 @@ name-again m starts place ls ok known h =
 
 -- ---- data
 
-ends-there : (after end : ℕ) (x : Content) → after ≡ end → ending end after x ≡ Some x
-ends-there after end x e =
-    let test : eqb after end ≡ true = grind arith in
-    rw test refl
-
 -- the form that a content has
 abbrev pub form_for : Content → Form
 form_for (Address a) = form.Address
@@ -106,19 +102,19 @@ unfolding content_by
 content-again m starts place (Address a) fits size known h =
     let n = number-again 4 (2 ^ 32) wide32 m place a.0 fits h in
     record {
-      reads = rw (n, ends-there (place + length (big_bytes 4 a.0)) (place + length (big_bytes 4 a.0)) (Address a) refl) refl;
+      reads = rw (n, ends (place + length (big_bytes 4 a.0)) (place + length (big_bytes 4 a.0)) (Address a) refl) refl;
       knows = put-knows m starts place (big_bytes 4 a.0) known;
     }
 content-again m starts place (One n) fits size known h =
     let a = name-again m starts place n fits known h in
-    record { reads = rw (a.reads, ends-there _ _ (One n) refl) refl; knows = a.knows }
+    record { reads = rw (a.reads, ends _ _ (One n) refl) refl; knows = a.knows }
 content-again m starts place (Two n k) fits size known h =
     let x = spell starts place n in
     let y = spell (starts ++ x.starts) (place + length x.octets) k in
     let a = name-again m starts place n fits.0 known (Holds-front m place x.octets y.octets h) in
     let b = name-again m (starts ++ x.starts) (place + length x.octets) k fits.1 a.knows (Holds-back m place x.octets y.octets h) in
     let end : place + length x.octets + length y.octets ≡ place + length (x.octets ++ y.octets) = omega (arith, length-append x.octets y.octets) in
-    record { reads = rw (a.reads, b.reads, ends-there _ _ (Two n k) end) refl; knows = join-knows m starts place x y b.knows }
+    record { reads = rw (a.reads, b.reads, ends _ _ (Two n k) end) refl; knows = join-knows m starts place x y b.knows }
 content-again m starts place (Soa n k octets) fits size known h =
     let x = spell starts place n in
     let y = spell (starts ++ x.starts) (place + length x.octets) k in
@@ -129,7 +125,7 @@ content-again m starts place (Soa n k octets) fits size known h =
     let o20 : octets_at m (place + length x.octets + length y.octets) 20 ≡ Some (octets, place + length x.octets + length y.octets + length octets) = subst (λ (c : ℕ). octets_at m (place + length x.octets + length y.octets) c ≡ Some (octets, place + length x.octets + length y.octets + length octets)) size o in
     let end : place + length x.octets + length y.octets + length octets ≡ place + length (x.octets ++ (y.octets ++ octets)) = omega (arith, length-append x.octets (y.octets ++ octets), length-append y.octets octets) in
     record {
-      reads = rw (a.reads, b.reads, o20, ends-there _ _ (Soa n k octets) end) refl;
+      reads = rw (a.reads, b.reads, o20, ends _ _ (Soa n k octets) end) refl;
       knows = join-knows m starts place x (join y (put octets [] 0)) (join-knows m (starts ++ x.starts) (place + length x.octets) y (put octets [] 0) (put-knows m _ _ octets b.knows));
     }
 content-again m starts place (Mx p n) fits size known h =
@@ -139,11 +135,11 @@ content-again m starts place (Mx p n) fits size known h =
     let a = number-again 2 (2 ^ 16) wide16 m place p fits.0 (Holds-front m place x y.octets h) in
     let b = name-again m (starts ++ []) (place + length x) n fits.1 k (Holds-back m place x y.octets h) in
     let end : place + length x + length y.octets ≡ place + length (x ++ y.octets) = omega (arith, length-append x y.octets) in
-    record { reads = rw (a, b.reads, ends-there _ _ (Mx p n) end) refl; knows = join-knows m starts place (put x [] 0) y b.knows }
+    record { reads = rw (a, b.reads, ends _ _ (Mx p n) end) refl; knows = join-knows m starts place (put x [] 0) y b.knows }
 content-again m starts place (Octets octets) fits size known h =
     let o = octets-again m place octets h in
     let count : place + length octets - place ≡ length octets = omega arith in
-    record { reads = rw (count, o, ends-there _ _ (Octets octets) refl) refl; knows = put-knows m starts place octets known }
+    record { reads = rw (count, o, ends _ _ (Octets octets) refl) refl; knows = put-knows m starts place octets known }
 
 -- ---- records
 

@@ -1,12 +1,14 @@
 -- What reading gives is what the octets are, and no other message is it.
-use Rattle.std.proofs.Common.{◌≡◌, ℕ, zero, suc, ◌+◌, ◌-◌, Bool, true, false, cond, ltb, eqb, List, [], ◌∷◌, length, take, drop, Option, Some, None, refl, sym, ap, subst, ◌∙◌, arith, inl, inr, ◌⊎◌}
+use Rattle.std.proofs.Common.{◌≡◌, ℕ, zero, suc, ◌+◌, ◌-◌, Bool, true, false, cond, ltb, eqb, List, [], ◌∷◌, length, take, drop, Option, Some, None, refl, sym, ap, subst, ◌∙◌, arith, inl, inr}
 use Rattle.std.specs.Prelude.{IfOk, Result, Ok, Err}
 use Rattle.dns_names.specs.Stops.{ReturnsRead}
 use Rattle.dns_names.specs.declared.stop.NameStop.{NameStop}
 use Rattle.dns_names.specs.declared.stop.NameStop.TheVariants.{BadDns, OutOfMemory}
 use Rattle.std.proofs.lemmas.Bool.{le-ltb, ltb-false, eq-eqb, eqb-true}
+use Rattle.std.proofs.lemmas.Option.{cond_some}
 use Rattle.dns_names.specs.Names.{NameAt}
 use Rattle.dns_names.specs.Walk.{name_at}
+use Rattle.dns_names.proofs.Walking.{chosen}
 use Rattle.dns_names.proofs.Walks.{name_at-finds, name_at-is}
 use Rattle.dns_messages.specs.declared.form.Form.{Form}
 use Rattle.dns_messages.specs.declared.form.Form.TheVariants as form
@@ -17,6 +19,7 @@ use Rattle.dns_messages.specs.declared.message.Resource.{Resource}
 use Rattle.dns_messages.specs.declared.message.Message.{Message}
 use Rattle.byteorder.specs.Endian.{big_number}
 use Rattle.gate_base.specs.Address.{◌>>=◌}
+use Rattle.gate_base.proofs.Quads.{bind_some}
 use Rattle.dns_messages.specs.Forms.{form_at}
 use Rattle.dns_messages.specs.Reading.{number_at, octets_at, ending, content_by, resource_at, resources_at, question_at, questions_at, message_at}
 use Rattle.dns_messages.specs.Relation.{OctetsAt, NumberAt, ContentAt, ResourceAt, ResourcesAt, QuestionAt, QuestionsAt, IsMessage}
@@ -33,7 +36,7 @@ octets-read m place count octets a =
     let test : ltb (length m) (place + count) ≡ false = le-ltb _ _ a.within in
     rw test (ap (λ (k : List ℕ). Some (k, place + count)) (sym a.are))
 
-ends : (after end : ℕ) (x : Content) → after ≡ end → ending end after x ≡ Some x
+pub ends : (after end : ℕ) (x : Content) → after ≡ end → ending end after x ≡ Some x
 ends after end x e =
     let test : eqb after end ≡ true = eq-eqb _ _ e in
     rw test refl
@@ -107,17 +110,9 @@ message-read o m r =
 
 -- ---- from the function to the relation
 
-pub bind_some : {A B : Type 0} (r : Option A) (f : A → Option B) (y : B) → (r >>= f) ≡ Some y → (x : A) × (r ≡ Some x) × (f x ≡ Some y)
-bind_some (Some x) f y e = (x, refl, e)
-bind_some None f y e = absurd cc
-
 guard_none : {A : Type 0} (b : Bool) (x y : A) → cond b None (Some x) ≡ Some y → (b ≡ false) × (x ≡ y)
 guard_none true x y e = absurd cc
 guard_none false x y e = (refl, cc)
-
-guard_some : {A : Type 0} (b : Bool) (x y : A) → cond b (Some x) None ≡ Some y → (b ≡ true) × (x ≡ y)
-guard_some true x y e = (refl, cc)
-guard_some false x y e = absurd cc
 
 number-is : (w : ℕ) (m : List ℕ) (place : ℕ) (x : ℕ × ℕ) → number_at w m place ≡ Some x → NumberAt w m place x.0 × (x.1 ≡ place + w)
 number-is w m place x e =
@@ -130,7 +125,7 @@ octets-is m place count x e =
     (record { within = ltb-false _ _ g.0; are = ap (λ (p : List ℕ × ℕ). p.0) (sym g.1) }, ap (λ (p : List ℕ × ℕ). p.1) (sym g.1))
 
 ends-is : (end after : ℕ) (x y : Content) → ending end after x ≡ Some y → (end ≡ after) × (x ≡ y)
-ends-is end after x y e = let g = guard_some (eqb after end) x y e in (sym (eqb-true _ _ g.0), g.1)
+ends-is end after x y e = let g = cond_some (eqb after end) x y e in (sym (eqb-true _ _ g.0), g.1)
 
 name-is : (m : List ℕ) (place : ℕ) (x : List (List ℕ) × ℕ) → name_at m place ≡ Some x → NameAt m place x.0 x.1
 name-is m place x e = name_at-is m place x.0 x.1 e
@@ -251,10 +246,6 @@ question-is m place x e =
     question-made : (m : List ℕ) (place : ℕ) (n : List (List ℕ) × ℕ) (k c : ℕ × ℕ) → NameAt m place n.0 n.1 → NumberAt 2 m n.1 k.0 × (k.1 ≡ n.1 + 2) → NumberAt 2 m k.1 c.0 × (c.1 ≡ k.1 + 2) → QuestionAt m place (record { name = n.0; kind = k.0; class = c.0 }) c.1
     question-made m place n k c na k0 k1 = record { fields = n.1; name = na; kind = k0.0; class = number-from 2 m k.1 (n.1 + 2) c.0 k0.1 k1.0; after_is = omega (arith, k0.1, k1.1) }
 
-pub chosen : {A : Type 0} (b : Bool) (x y z : A) → cond b x y ≡ z → ((b ≡ true) × (x ≡ z)) ⊎ ((b ≡ false) × (y ≡ z))
-chosen true x y z e = inl (refl, e)
-chosen false x y z e = inr (refl, e)
-
 questions-is : (count : ℕ) (m : List ℕ) (place : ℕ) (x : Option Question × ℕ) → questions_at count m place ≡ Some x → QuestionsAt m place x.0 count x.1
 unfolding questions_at
 questions-is count m place x e =
@@ -313,7 +304,7 @@ body-is o id flags asked answered backed added w n0 h proof =
     let b8 = bind_some (resources_at backed.0 o b7.0.1) (λ authority. resources_at added.0 o authority.1 >>= λ additional. cond (eqb additional.1 (length o)) (Some (record { id = id.0; flags = flags.0; question = b6.0.0; answers = b7.0.0; authority = authority.0; additional = additional.0 })) None) w b7.2 in
     let b9 = bind_some (resources_at added.0 o b8.0.1) (λ additional. cond (eqb additional.1 (length o)) (Some (record { id = id.0; flags = flags.0; question = b6.0.0; answers = b7.0.0; authority = b8.0.0; additional = additional.0 })) None) w b8.2 in
     let made : Message = record { id = id.0; flags = flags.0; question = b6.0.0; answers = b7.0.0; authority = b8.0.0; additional = b9.0.0 } in
-    let g = guard_some (eqb b9.0.1 (length o)) made w b9.2 in
+    let g = cond_some (eqb b9.0.1 (length o)) made w b9.2 in
     let xs = resources-is answered.0 o b6.0.1 b7.0 b7.1 in
     let ys = resources-is backed.0 o b7.0.1 b8.0 b8.1 in
     let zs = resources-is added.0 o b8.0.1 b9.0 b9.1 in

@@ -1,10 +1,10 @@
 -- What is read suits its types.
-use Rattle.std.proofs.Common.{◌≡◌, ℕ, ◌+◌, ◌≤◌, List, [], ◌∷◌, length, drop, refl, ap, ◌∙◌, arith, inl, inr}
+use Rattle.std.proofs.Common.{◌≡◌, ℕ, ◌+◌, ◌≤◌, List, [], ◌∷◌, length, drop, ap, ◌∙◌, arith, inl, inr}
 use Rattle.std.specs.Prelude.{◌==◌, if◌then◌else◌, IfOk, Result, Ok, Err}
 use Rattle.dns_names.specs.declared.stop.NameStop.{NameStop}
 use Rattle.std.specs.List.{AllByRecursion}
 use Rattle.std.proofs.lemmas.Bool.{eqb-true}
-use Rattle.std.proofs.lemmas.List.{length-take-le, length-drop}
+use Rattle.std.proofs.lemmas.List.{length-take-le, length-drop, nil_from_length}
 use Rattle.dns_messages.specs.declared.form.Form.{Form}
 use Rattle.dns_messages.specs.declared.form.Form.TheVariants as form
 use Rattle.dns_messages.specs.declared.message.Content.{Content}
@@ -14,7 +14,7 @@ use Rattle.dns_messages.specs.declared.message.Message.{Message}
 use Rattle.dns_messages.specs.Forms.{form_of, form_at}
 use Rattle.dns_messages.specs.Relation.{OctetsAt, ContentAt, ResourcesAt, IsMessage}
 use Rattle.dns_messages.specs.Suits.{Suits, ResourceSuits, MessageSuits}
-use Rattle.dns_messages.proofs.Exact.{chosen}
+use Rattle.dns_names.proofs.Walking.{chosen}
 
 not_octets : (count : ℕ) (f g : Form) → (if count == 0 then form.Octets else f) ≡ g → (form.Octets ≡ g → ⊥) → f ≡ g
 not_octets count f g e other =
@@ -38,13 +38,9 @@ content-suits m kind class count place (Octets octets) r =
     elim (chosen (count == 0) form.Octets (form_of kind class) form.Octets r.0) [
       | inl t ↦
           let none : r.1.0 ≡ 0 = omega (arith, eqb-true count 0 t.0, r.1.2) in
-          inl (no_octets octets (octets-long m place r.1.0 octets r.1.1 ∙ none))
+          inl (nil_from_length octets (octets-long m place r.1.0 octets r.1.1 ∙ none))
       | inr t ↦ inr t.1
     ]
-  where
-    no_octets : (octets : List ℕ) → length octets ≡ 0 → octets ≡ []
-    no_octets [] e = refl
-    no_octets (x ∷ xs) e = absurd (omega arith)
 
 resources-suit : (m : List ℕ) (place : ℕ) (rs : List Resource) (after : ℕ) → ResourcesAt m place rs after → AllByRecursion ResourceSuits rs
 resources-suit m place [] after at = tt

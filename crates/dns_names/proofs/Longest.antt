@@ -5,7 +5,6 @@ use Rattle.std.specs.Str.{bytes_eq}
 use Rattle.std.proofs.lemmas.Bool.{cases_Bool, ltb-true, ltb-false}
 use Rattle.std.proofs.lemmas.List.{append-nil, length-drop}
 use Rattle.std.proofs.lemmas.Slice.Eq.{bytes_eq-Decides}
-use Rattle.dns_names.specs.declared.suffix.Suffix.{Suffix}
 use Rattle.dns_names.specs.Octets.{behind}
 use Rattle.dns_names.specs.Spelling.{Start, found, with_start}
 use Rattle.dns_names.specs.Longest.{skipped, IsKept, Ends, EndsAt, IsClosed, IsBound, IsLongest, edge_by}
@@ -74,10 +73,6 @@ no-end name edge rest count is le off long n e =
           let whole : count + (n - count) ≡ n = omega (arith, past) in
           no-end-in rest edge le off (n - count) (ap (skipped (n - count)) is ∙ skipped-add count (n - count) name ∙ ap (λ (m : ℕ). skipped m name) whole ∙ e)
     ]
-
-pub no-entries : (entries : List (Suffix × ℕ)) → length entries ≡ 0 → entries ≡ []
-no-entries [] none = refl
-no-entries (e ∷ entries) none = absurd (omega (arith, none))
 
 -- ---- what stands before an end that isn't kept isn't kept either
 

@@ -1,10 +1,10 @@
 -- Reverse names, and the octets that spell them.
-use Rattle.std.proofs.Common.{◌≡◌, ℕ, ◌+◌, ◌*◌, ◌/◌, ◌%◌, ◌≤◌, ◌<◌, ◌^◌, Bool, true, false, cond, ◌&&◌, List, [], ◌∷◌, ◌++◌, length, map, Option, Some, None, refl, sym, ap, subst, ◌∙◌, arith, decimal, inl, inr}
+use Rattle.std.proofs.Common.{◌≡◌, ℕ, ◌+◌, ◌*◌, ◌/◌, ◌%◌, ◌≤◌, ◌<◌, ◌^◌, true, false, cond, List, [], ◌∷◌, ◌++◌, length, map, Option, Some, None, refl, sym, ap, subst, ◌∙◌, arith, decimal, inl, inr}
 use Rattle.std.specs.Prelude.{nat_lt, ◌==◌, IsSome, codes}
 use Rattle.std.specs.Str.{str_eq_ignore_ascii_case}
 use Rattle.std.specs.Char.{to_ascii_lowercase}
 use Rattle.std.proofs.lemmas.Fmt.{decimal_nonempty, length-decimal-le}
-use Rattle.std.proofs.lemmas.Bool.{cases_Bool, le-ltb}
+use Rattle.std.proofs.lemmas.Bool.{cases_Bool, le-ltb, and_parts}
 use Rattle.std.proofs.lemmas.Slice.Eq.{bytes_eq-Decides}
 use Rattle.std.proofs.lemmas.List.{take_at, drop_at, length-append, length-map}
 use Rattle.std.proofs.lemmas.Grind.{flat_map-append}
@@ -83,14 +83,9 @@ reverse_again address zone top lt is =
     let whole : ((address / 16777216 * 256 + address / 65536 % 256) * 256 + address / 256 % 256) * 256 + address % 256 ≡ address = omega arith in
     rw (number_again (address % 256) (omega arith), number_again (address / 256 % 256) (omega arith), number_again (address / 65536 % 256) (omega arith), number_again (address / 16777216) (omega arith), is) (ap (λ (n : ℕ). Some n) whole)
 
-both : (x y : Bool) → (x && y) ≡ true → (x ≡ true) × (y ≡ true)
-both true true e = (refl, refl)
-both true false e = absurd cc
-both false y e = absurd cc
-
 pub zone_sizes : (zone top : List ℕ) → is_zone zone top ≡ true → (length zone ≡ 7) × (length top ≡ 4)
 zone_sizes zone top e =
-    let p = both (str_eq_ignore_ascii_case zone (codes "in-addr")) (str_eq_ignore_ascii_case top (codes "arpa")) e in
+    let p = and_parts (str_eq_ignore_ascii_case zone (codes "in-addr")) (str_eq_ignore_ascii_case top (codes "arpa")) e in
     let z = ap length ((bytes_eq-Decides (map to_ascii_lowercase zone) (map to_ascii_lowercase (codes "in-addr"))).0 p.0) in
     let t = ap length ((bytes_eq-Decides (map to_ascii_lowercase top) (map to_ascii_lowercase (codes "arpa"))).0 p.1) in
     (sym (length-map zone to_ascii_lowercase) ∙ z, sym (length-map top to_ascii_lowercase) ∙ t)

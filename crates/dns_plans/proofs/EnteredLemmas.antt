@@ -18,6 +18,9 @@ pub entered-beside : (called : Addr → Option Addr) (es : List Entry) (names : 
 entered-beside called es [] = refl
 entered-beside called es (name ∷ names) = entered-beside called (enter called es name) names
 
+pub list_after : (called : Addr → Option Addr) (es entries : List Entry) (names : List Addr) → entries ≡ beside called names → entered_all es entries ≡ entered called es names
+list_after called es entries names e = ap (entered_all es) e ∙ entered-beside called es names
+
 pub one-more : (es : List Entry) (one : Entry) → length es ≤ length (enter_one es one)
 one-more es one =
     elim (cases_Bool (is_listed es one.0.0)) [

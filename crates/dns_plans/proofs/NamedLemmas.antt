@@ -2,7 +2,7 @@
 use Rattle.std.proofs.Common.{◌≡◌, ◌≤◌, ◌+◌, ◌-◌, ℕ, Bool, true, false, List, [], ◌∷◌, ◌++◌, length, take, drop, refl, sym, ◌∙◌, ap, arith, append_assoc}
 use Rattle.std.specs.Prelude.{Some, None, map, ◌||◌}
 use Rattle.std.specs.List.{flat_map, list_any}
-use Rattle.std.proofs.lemmas.List.{append-nil, take_all, length-drop, drop-drop, map-append}
+use Rattle.std.proofs.lemmas.List.{append-nil, length-drop, drop-drop, map-append}
 use Rattle.gate_base.specs.declared.address.Addr.{Addr}
 use Rattle.dialogue.specs.Stream.{Cut}
 use Rattle.dns_stream.specs.Images.{dns_units}
@@ -19,9 +19,6 @@ abbrev has_bad : List (List ℕ) → Bool
 has_bad units = list_any is_bad units
 
 -- what stands behind a place, as a range
-pub whole_part : (at : ℕ) (s : List ℕ) → take (length s - at) (drop at s) ≡ drop at s
-whole_part at s = take_all (length s - at) (drop at s) (omega (arith, length-drop at s))
-
 pub units-first : (s : List ℕ) (n : ℕ) → unit_end s ≡ Some n → whole_units s ≡ take n s ∷ whole_units (drop n s)
 units-first s n e = ap (λ (c : Cut). c.units) (cut-first (dns_units []) (dns_units-lawful []) s n e)
 

@@ -1,44 +1,32 @@
 -- Addresses that are bound, and what they are called.
-use Rattle.std.proofs.Common.{◌≡◌, ◌≢◌, ℕ, Bool, true, false, List, [], ◌∷◌, length, take, drop, ◌-◌, refl, sym, ◌∙◌, ap, subst, arith, inl, inr}
-use Rattle.std.specs.Prelude.{map, Option, not, ◌||◌, ◌&&◌, All, ◌==◌}
+use Rattle.std.proofs.Common.{◌≡◌, ◌≢◌, true, false, List, [], ◌∷◌, length, take, drop, ◌-◌, refl, sym, ◌∙◌, ap, subst, arith, inl, inr}
+use Rattle.std.specs.Prelude.{map, Option, not, All}
 use Rattle.std.specs.List.{list_all, list_any}
-use Rattle.std.proofs.lemmas.Bool.{cases_Bool, eqb-true}
+use Rattle.std.proofs.lemmas.Bool.{cases_Bool, or_parts, and_parts, not-true, true≢false}
 use Rattle.std.proofs.lemmas.List.{take_all, length-drop}
 use Rattle.std.proofs.lemmas.List.Elements.{All-nil, All-cons, All-head, All-tail}
 use Rattle.gate_base.specs.declared.address.Addr.{Addr}
 use Rattle.gate_base.specs.declared.side.Side.{Side}
 use Rattle.binding_table.specs.Bindings.{Bindings, cross}
-use Rattle.binding_table.specs.declared.binding.Crossing.{Crossing}
 use Rattle.binding_table.specs.declared.binding.Crossing.TheVariants.{Unbound}
 use Rattle.binding_table.specs.Plan.{Use, AreUsesOf, after_uses, image_after, images_after}
+use Rattle.binding_table.proofs.Once.{address_is}
 use Rattle.dialogue.specs.Learning.{Entry, is_of, is_listed}
 use Rattle.gate_model.specs.Names.{is_unbound}
 use Rattle.gate_model.specs.Units.{is_new_unbound}
+use Rattle.gate_model.proofs.ListsBound.{not_unbound}
 use Rattle.dns_plans.specs.Plans.{all_addresses, called_after, AreBound, IsListBound}
 use Rattle.dns_plans.specs.declared.plan.Endpoints.{Endpoints}
-
-true-false : true ≡ false → ⊥
-true-false e = cc
-
-or_none : (a b : Bool) → (a || b) ≡ false → (a ≡ false) × (b ≡ false)
-or_none true b e = absurd (true-false e)
-or_none false b e = (refl, e)
-
-is_bound : (crossing : Crossing) → is_unbound crossing ≡ false → crossing ≢ Unbound
-is_bound crossing e u = true-false (ap is_unbound (sym u) ∙ e)
 
 abbrev IsBound : Bindings → Side → Addr → Type 0
 IsBound t side address = cross t side address ≢ Unbound
 
-same_address : (a b : Addr) → (a.0 == b.0) ≡ true → a ≡ b
-same_address a b e = ap (λ (n : ℕ). let one : Addr = record { 0 = n } in one) (eqb-true a.0 b.0 e)
-
 -- a listed address is bound, where all of the list are
 listed_bound : (t : Bindings) (side : Side) (es : List Entry) (a : Addr) → IsListBound t side es → is_listed es a.0 ≡ true → IsBound t side a
-listed_bound t side [] a h e = absurd (true-false (sym e))
+listed_bound t side [] a h e = absurd (true≢false (sym e))
 listed_bound t side (x ∷ es) a h e =
     elim (cases_Bool (is_of a.0 x)) [
-      | inl is ↦ subst (IsBound t side) (same_address x.0 a is) (All-head (IsBound t side) x.0 (map (λ (entry : Entry). entry.0) es) h)
+      | inl is ↦ subst (IsBound t side) (address_is x.0 a is) (All-head (IsBound t side) x.0 (map (λ (entry : Entry). entry.0) es) h)
       | inr not ↦ listed_bound t side es a (All-tail (IsBound t side) x.0 (map (λ (entry : Entry). entry.0) es) h) (rw not at e)
     ]
 
@@ -46,13 +34,13 @@ one_bound : (t : Bindings) (side : Side) (es : List Entry) (a : Addr) → IsList
 one_bound t side es a h e =
     elim (cases_Bool (is_listed es a.0)) [
       | inl listed ↦ listed_bound t side es a h listed
-      | inr new ↦ is_bound (cross t side a) (rw new at e)
+      | inr new ↦ not_unbound (cross t side a) (rw new at e)
     ]
 
 pub named_bound : (t : Bindings) (side : Side) (es : List Entry) (named : List Addr) → IsListBound t side es → list_any (is_new_unbound t side es) named ≡ false → AreBound t side named
 named_bound t side es [] h e = All-nil (IsBound t side)
 named_bound t side es (a ∷ named) h e =
-    let parts = or_none (is_new_unbound t side es a) (list_any (is_new_unbound t side es) named) e in
+    let parts = or_parts (is_new_unbound t side es a) (list_any (is_new_unbound t side es) named) e in
     All-cons (IsBound t side) a named (one_bound t side es a h parts.0) (named_bound t side es named h parts.1)
 
 abbrev IsOf : Side → Use → Type 0
@@ -90,13 +78,5 @@ used_bound t ends es names header listed new =
 pub all_bound : (t : Bindings) (side : Side) (es : List Entry) → list_all (λ (entry : Entry). not (is_unbound (cross t side entry.0))) es ≡ true → IsListBound t side es
 all_bound t side [] h = All-nil (IsBound t side)
 all_bound t side (e ∷ es) h =
-    let parts = and_true (not (is_unbound (cross t side e.0))) (list_all (λ (entry : Entry). not (is_unbound (cross t side entry.0))) es) h in
-    All-cons (IsBound t side) e.0 (map (λ (entry : Entry). entry.0) es) (is_bound (cross t side e.0) (not_true (is_unbound (cross t side e.0)) parts.0)) (all_bound t side es parts.1)
-  where
-    and_true : (a b : Bool) → (a && b) ≡ true → (a ≡ true) × (b ≡ true)
-    and_true true b e = (refl, e)
-    and_true false b e = absurd (true-false (sym e))
-
-    not_true : (a : Bool) → not a ≡ true → a ≡ false
-    not_true true e = sym e
-    not_true false e = refl
+    let parts = and_parts (not (is_unbound (cross t side e.0))) (list_all (λ (entry : Entry). not (is_unbound (cross t side entry.0))) es) h in
+    All-cons (IsBound t side) e.0 (map (λ (entry : Entry). entry.0) es) (not_unbound (cross t side e.0) (not-true (is_unbound (cross t side e.0)) parts.0)) (all_bound t side es parts.1)

@@ -25,10 +25,6 @@ none_told t called ends es octets none = let e : whole_units octets ≡ [] = uni
 pub none_named : (octets : List ℕ) → unit_end octets ≡ None → names_in octets ≡ []
 none_named octets none = let e : whole_units octets ≡ [] = units-none octets none in rw e refl
 
-pub none_whole : (end : Option ℕ) → is_some end ≡ false → end ≡ None
-none_whole None e = refl
-none_whole (Some n) e = cc
-
 pub some_whole : (octets : List ℕ) → is_some (unit_end octets) ≡ true → 1 ≤ length (whole_units octets)
 some_whole octets e = from (unit_end octets) refl e
   where

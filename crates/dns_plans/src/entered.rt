@@ -19,16 +19,14 @@ const MOST_ENTRIES: usize = 256;
 /// Enters an address into `new`, unless the sender's list or `new` has it. False exactly where it would be the 257th entry.
 fn enter_one<S: Session>(sender: &Sender<'_, S>, new: &mut RenameList, one: Entry) -> bool
     requires few { length
-        (S.rules.listed sender.now.is_client sender.now.session.now ++ new.old)
-        ≤ 256 }
+        (S.rules.listed sender.now.host sender.now.session.now ++ new.old) ≤ 256 }
     ensures entered { result ≡ true
-        → S.rules.listed sender.now.is_client sender.now.session.now ++ new.new
+        → S.rules.listed sender.now.host sender.now.session.now ++ new.new
         ≡ enter_one
-        (S.rules.listed sender.now.is_client sender.now.session.now ++ new.old) one }
+        (S.rules.listed sender.now.host sender.now.session.now ++ new.old) one }
     ensures room { result
         ≡ not (nat_lt most_entries (length (enter_one
-        (S.rules.listed sender.now.is_client sender.now.session.now ++ new.old)
-        one))) }
+        (S.rules.listed sender.now.host sender.now.session.now ++ new.old) one))) }
 {
     if sender.knows(one.0) || new.image_of(one.0).is_some() {
         return true;
@@ -49,11 +47,10 @@ pub fn new_entries<S: Session>(
 ) -> Result<Option<RenameList>, OutOfMemory>
     ensures few { IfOk result (λ new. is_none new
         ≡ nat_lt most_entries (length (entered_all
-        (S.rules.listed sender.now.is_client sender.now.session.now)
-        named.now))) }
+        (S.rules.listed sender.now.host sender.now.session.now) named.now))) }
     ensures list { IfOk result (λ new. IfSome new (λ list.
-        S.rules.listed sender.now.is_client sender.now.session.now ++ list
-        ≡ entered_all (S.rules.listed sender.now.is_client sender.now.session.now)
+        S.rules.listed sender.now.host sender.now.session.now ++ list
+        ≡ entered_all (S.rules.listed sender.now.host sender.now.session.now)
         named.now)) }
 {
     let mut new = RenameList::new(alloc)?;
@@ -81,7 +78,7 @@ fn is_new_unbound<S: Session>(
 ) -> bool
     ensures { result
         ≡ is_new_unbound table.now side
-        (S.rules.listed sender.now.is_client sender.now.session.now) address }
+        (S.rules.listed sender.now.host sender.now.session.now) address }
 {
     !sender.knows(address) && is_unbound(table.cross(side, address))
 }
@@ -95,7 +92,7 @@ pub fn has_new_unbound<S: Session>(
 ) -> bool
     ensures { result
         ≡ list_any (is_new_unbound table.now side
-        (S.rules.listed sender.now.is_client sender.now.session.now)) named.now }
+        (S.rules.listed sender.now.host sender.now.session.now)) named.now }
 {
     named
         .iter()

@@ -18,8 +18,7 @@ use std::alloc::Global;
 /// The image of an address by the sender's list and what is new to it. None where it is kept, and where it isn't listed.
 fn image_in<S: Session>(sender: &Sender<'_, S>, new: &RenameList, address: Addr) -> Option<Addr>
     ensures { result
-        ≡ image_in
-        (S.rules.listed sender.now.is_client sender.now.session.now ++ new.now)
+        ≡ image_in (S.rules.listed sender.now.host sender.now.session.now ++ new.now)
         address.0 }
 {
     match sender.image_of(address) {
@@ -37,7 +36,7 @@ fn images_in<S: Session>(
 ) -> Result<Vec<Option<Addr>>, OutOfMemory>
     ensures { IfOk result (λ images. images.items
         ≡ map (image_in
-        (S.rules.listed sender.now.is_client sender.now.session.now ++ new.now))
+        (S.rules.listed sender.now.host sender.now.session.now ++ new.now))
         (map (λ a. a.0) addresses.now)) }
 {
     let mut images = Vec::with_capacity(alloc, addresses.len())?;
@@ -57,13 +56,13 @@ fn unit_image<S: Session>(
     requires { IsRead read }
     ensures grows { IfOk result (λ image. is_none image
         ≡ grows_too_much
-        (S.rules.listed sender.now.is_client sender.now.session.now ++ new.now)
+        (S.rules.listed sender.now.host sender.now.session.now ++ new.now)
         read.unit.items) }
     ensures unit { IfOk result
         (λ image. IfSome image (λ one. one.unit.items ≡ unit_of read)) }
     ensures image { IfOk result (λ image. IfSome image (λ one. one.image.items
         ≡ (dns_units
-        (S.rules.listed sender.now.is_client sender.now.session.now ++ new.now)).image
+        (S.rules.listed sender.now.host sender.now.session.now ++ new.now)).image
         one.unit.items)) }
 {
     let ReadUnit { unit, message } = read;
@@ -85,13 +84,12 @@ pub fn unit_images<S: Session>(
     requires { AreRead units.items }
     ensures grows { IfOk result (λ images. is_none images
         ≡ list_any (grows_too_much
-        (S.rules.listed sender.now.is_client sender.now.session.now ++ new.now))
+        (S.rules.listed sender.now.host sender.now.session.now ++ new.now))
         (map unit_of units.items)) }
     ensures units { IfOk result (λ images. IfSome images (λ these.
         map image_unit these.items ≡ map unit_of units.items)) }
     ensures images { IfOk result (λ images. IfSome images (λ these. AreImages
-        (dns_units
-        (S.rules.listed sender.now.is_client sender.now.session.now ++ new.now))
+        (dns_units (S.rules.listed sender.now.host sender.now.session.now ++ new.now))
         these.items)) }
 {
     let mut images = Vec::with_capacity(alloc, units.len())?;

@@ -75,20 +75,19 @@ pub fn plan_units<S: Session>(
     requires header { AreBound table.now endpoints.now.side
         (endpoints.now.source ∷ endpoints.now.destination ∷ []) }
     requires listed { IsListBound table.now endpoints.now.side
-        (S.rules.listed sender.now.is_client sender.now.session.now) }
+        (S.rules.listed sender.now.host sender.now.session.now) }
     ensures refused { (uses : List Use)
         → AreUsesOf endpoints.now.side
         (all_addresses endpoints.now (names_in octets.now)) uses
         → IfErr result (TellsFirst (first_that_holds (plan_tests table.now
         (called_after table.now uses endpoints.now.side) endpoints.now
-        (S.rules.listed sender.now.is_client sender.now.session.now) octets.now))) }
+        (S.rules.listed sender.now.host sender.now.session.now) octets.now))) }
     ensures passes { (uses : List Use)
         → AreUsesOf endpoints.now.side
         (all_addresses endpoints.now (names_in octets.now)) uses
         → IfOk result (λ _. first_that_holds (plan_tests table.now
         (called_after table.now uses endpoints.now.side) endpoints.now
-        (S.rules.listed sender.now.is_client sender.now.session.now)
-        octets.now) ≡ None) }
+        (S.rules.listed sender.now.host sender.now.session.now) octets.now) ≡ None) }
     ensures named { IfOk result (λ plan. plan.named.items ≡ names_in octets.now) }
     ensures entries { (uses : List Use)
         → AreUsesOf endpoints.now.side
@@ -100,7 +99,7 @@ pub fn plan_units<S: Session>(
         (λ plan. map image_unit plan.images.items ≡ whole_units octets.now) }
     ensures images { IfOk result (λ plan. AreImages
         (dns_units (entered_all
-        (S.rules.listed sender.now.is_client sender.now.session.now)
+        (S.rules.listed sender.now.host sender.now.session.now)
         plan.entries.items)) plan.images.items) }
     ensures memory { result ≡ Err PlanStop.OutOfMemory
         → 1 ≤ length (whole_units octets.now) }
@@ -123,10 +122,10 @@ fn plan_none<S: Session>(
         (endpoints.now.source ∷ endpoints.now.destination ∷ []) }
     ensures refused { IfErr result (TellsFirst
         (first_that_holds (none_tests table.now endpoints.now
-        (S.rules.listed sender.now.is_client sender.now.session.now)))) }
+        (S.rules.listed sender.now.host sender.now.session.now)))) }
     ensures passes { IfOk result (λ _. first_that_holds
         (none_tests table.now endpoints.now
-        (S.rules.listed sender.now.is_client sender.now.session.now)) ≡ None) }
+        (S.rules.listed sender.now.host sender.now.session.now)) ≡ None) }
     ensures named { IfOk result (λ plan. plan.named.items ≡ []) }
     ensures entries { IfOk result (λ plan. plan.entries.items ≡ []) }
     ensures images { IfOk result (λ plan. plan.images.items ≡ []) }
@@ -153,20 +152,19 @@ fn plan_some<S: Session>(
     requires header { AreBound table.now endpoints.now.side
         (endpoints.now.source ∷ endpoints.now.destination ∷ []) }
     requires listed { IsListBound table.now endpoints.now.side
-        (S.rules.listed sender.now.is_client sender.now.session.now) }
+        (S.rules.listed sender.now.host sender.now.session.now) }
     ensures refused { (uses : List Use)
         → AreUsesOf endpoints.now.side
         (all_addresses endpoints.now (names_in octets.now)) uses
         → IfErr result (TellsFirst (first_that_holds (plan_tests table.now
         (called_after table.now uses endpoints.now.side) endpoints.now
-        (S.rules.listed sender.now.is_client sender.now.session.now) octets.now))) }
+        (S.rules.listed sender.now.host sender.now.session.now) octets.now))) }
     ensures passes { (uses : List Use)
         → AreUsesOf endpoints.now.side
         (all_addresses endpoints.now (names_in octets.now)) uses
         → IfOk result (λ _. first_that_holds (plan_tests table.now
         (called_after table.now uses endpoints.now.side) endpoints.now
-        (S.rules.listed sender.now.is_client sender.now.session.now)
-        octets.now) ≡ None) }
+        (S.rules.listed sender.now.host sender.now.session.now) octets.now) ≡ None) }
     ensures named { IfOk result (λ plan. plan.named.items ≡ names_in octets.now) }
     ensures entries { (uses : List Use)
         → AreUsesOf endpoints.now.side
@@ -178,7 +176,7 @@ fn plan_some<S: Session>(
         (λ plan. map image_unit plan.images.items ≡ whole_units octets.now) }
     ensures images { IfOk result (λ plan. AreImages
         (dns_units (entered_all
-        (S.rules.listed sender.now.is_client sender.now.session.now)
+        (S.rules.listed sender.now.host sender.now.session.now)
         plan.entries.items)) plan.images.items) }
 {
     let ReadUnits { units, named } = match read_units(alloc, octets) {

@@ -3,17 +3,17 @@ ghost use Rattle.std.specs.Prelude.{◌≡◌, ◌≤◌, length};
 ghost use Rattle.dialogue.specs.Learning.{is_listed, listed_image};
 
 use crate::session::Session;
-use gate_base::Addr;
+use gate_base::{Addr, Host};
 
 /// The host that sends a segment, in its session. Its list has the addresses that its units named before, and what each is called.
 pub struct Sender<'a, S> {
     pub session: &'a S,
-    pub is_client: bool,
+    pub host: Host,
 }
 
 impl<S> Drop for Sender<'_, S> {
     fn drop(self) {
-        let Self { session, is_client } = self;
+        let Self { session, host } = self;
     }
 }
 
@@ -21,25 +21,25 @@ impl<S: Session> Sender<'_, S> {
     /// How many entries its list has.
     pub(crate) fn listed(&self) -> usize
         ensures count { result
-            ≡ length (S.rules.listed self.now.is_client self.now.session.now) }
+            ≡ length (S.rules.listed self.now.host self.now.session.now) }
         ensures few { result ≤ 256 }
     {
-        self.session.listed(self.is_client)
+        self.session.listed(self.host)
     }
 
     /// The image of an address by its list, if that has an entry of it.
     pub(crate) fn image_of(&self, address: Addr) -> Option<Option<Addr>>
         ensures { result
-            ≡ listed_image (S.rules.listed self.now.is_client self.now.session.now)
+            ≡ listed_image (S.rules.listed self.now.host self.now.session.now)
             address.0 }
     {
-        self.session.image_of(self.is_client, address)
+        self.session.image_of(self.host, address)
     }
 
     /// Whether its list has an entry of an address.
     pub(crate) fn knows(&self, address: Addr) -> bool
         ensures { result
-            ≡ is_listed (S.rules.listed self.now.is_client self.now.session.now)
+            ≡ is_listed (S.rules.listed self.now.host self.now.session.now)
             address.0 }
     {
         self.image_of(address).is_some()

@@ -4,11 +4,11 @@ ghost use Rattle.dialogue.specs.Learning.{listed_image};
 ghost use Rattle.stream_model.specs.Session.{segment_in};
 ghost use Rattle.dns_plans.specs.Plans.{whole_units};
 ghost use Rattle.gate_model.specs.Rules.{SessionRules};
-ghost use Rattle.gate_model.specs.World.{is_client};
+ghost use Rattle.gate_model.specs.World.{host_on};
 
 use crate::octets::UnitOctets;
 use dns_stream::Entry;
-use gate_base::{Addr, Pair, Refusal, Side};
+use gate_base::{Addr, Host, Pair, Refusal, Side};
 use std::marker::Model;
 use tcp_segments::TcpView;
 
@@ -17,37 +17,36 @@ pub trait Session {
     /// The answers of such sessions.
     ghost rules: { SessionRules Self };
 
-    /// Why a segment of the client, or else of the server, is refused; None where it passes.
-    fn refusal(&self, from_client: bool, segment: &TcpView<'_>) -> Option<Refusal>
-        ensures { result
-            ≡ rules.refusal from_client self.now (segment_in segment.now) };
+    /// Why a segment of a host is refused; None where it passes.
+    fn refusal(&self, from: Host, segment: &TcpView<'_>) -> Option<Refusal>
+        ensures { result ≡ rules.refusal from self.now (segment_in segment.now) };
 
-    /// What the sequence number of a datagram that an ICMP error brings back was at the client, or else the server, that sent it.
-    fn inner(&self, from_client: bool, sequence: u32) -> Option<u32>
-        ensures { result ≡ rules.inner from_client self.now sequence };
+    /// What the sequence number of a datagram that an ICMP error brings back was at the host that sent it.
+    fn inner(&self, host: Host, sequence: u32) -> Option<u32>
+        ensures { result ≡ rules.inner host self.now sequence };
 
-    /// How many entries the list of the client, or else of the server, has, at most 256: none in a session of FTP.
-    fn listed(&self, client: bool) -> usize
-        ensures count { result ≡ length (rules.listed client self.now) }
+    /// How many entries the list of a host has, at most 256: none in a session of FTP.
+    fn listed(&self, host: Host) -> usize
+        ensures count { result ≡ length (rules.listed host self.now) }
         ensures few { result ≤ 256 };
 
     /// The address and its image at a place of that list; None for an address that is kept. The place must lie below `listed`.
-    fn entry(&self, client: bool, place: usize) -> Entry
-        requires { place < length (rules.listed client self.now) }
-        ensures { slice_get (rules.listed client self.now) place ≡ Some result };
+    fn entry(&self, host: Host, place: usize) -> Entry
+        requires { place < length (rules.listed host self.now) }
+        ensures { slice_get (rules.listed host self.now) place ≡ Some result };
 
-    /// What the client's list, or else the server's, has of an address: `Some(image)` for an entry with an image, `Some(None)` for an
-    /// address that is kept, and None without an entry.
-    fn image_of(&self, client: bool, address: Addr) -> Option<Option<Addr>>
-        ensures { result ≡ listed_image (rules.listed client self.now) address.0 };
+    /// What a host's list has of an address: `Some(image)` for an entry with an image, `Some(None)` for an address that is kept, and
+    /// None without an entry.
+    fn image_of(&self, host: Host, address: Addr) -> Option<Option<Addr>>
+        ensures { result ≡ listed_image (rules.listed host self.now) address.0 };
 
-    /// Puts the octets whose whole units a segment of the client, or else of the server, completes: a held rest and what goes on behind
-    /// it, in a session of DNS. The segment must pass.
-    fn put_octets(&self, from_client: bool, segment: &TcpView<'_>, octets: &mut UnitOctets)
-        requires passes { rules.refusal from_client self.now (segment_in segment.now)
+    /// Puts the octets whose whole units a segment of a host completes: a held rest and what goes on behind it, in a session of DNS.
+    /// The segment must pass.
+    fn put_octets(&self, from: Host, segment: &TcpView<'_>, octets: &mut UnitOctets)
+        requires passes { rules.refusal from self.now (segment_in segment.now)
             ≡ None }
         ensures { whole_units octets.new
-            ≡ rules.units from_client self.now (segment_in segment.now) };
+            ≡ rules.units from self.now (segment_in segment.now) };
 }
 
 /// A session that is tracked: its client's realm, the pair of its hosts, and the session itself.
@@ -77,10 +76,14 @@ impl<S> Model for Tracked<S> {
 }
 
 impl<S> Tracked<S> {
-    /// Whether the session's client is of the realm.
-    pub fn is_client(&self, side: Side) -> bool
-        ensures { result ≡ is_client side self.now }
+    /// Which host of the session is of the realm.
+    pub fn host_on(&self, side: Side) -> Host
+        ensures { result ≡ host_on side self.now }
     {
-        self.client == side
+        if self.client == side {
+            Host::Client
+        } else {
+            Host::Server
+        }
     }
 }

@@ -7,7 +7,7 @@ use Rattle.ipv4_frames.specs.Ipv4.{Datagram}
 use Rattle.gate_model.specs.Frame.{Stream}
 use Rattle.gate_model.specs.Rules.{SessionRules}
 use Rattle.gate_model.specs.Stream.{segment_of, found_in, session_in, begins, session_refusal}
-use Rattle.gate_model.specs.World.{Tracked, World, is_client}
+use Rattle.gate_model.specs.World.{Tracked, World, host_on}
 use Rattle.event_steps.specs.SegmentFate.{CompletesUnit}
 use Rattle.event_steps.specs.Segments.{stream_refusal}
 use Rattle.event_engine.specs.Engines.{Gives}
@@ -15,7 +15,7 @@ use Rattle.event_engine.specs.Lost.{IsLost, IsSegmentDone}
 use Rattle.event_engine.specs.declared.taken.Taken.{Taken}
 
 -- by its session
-pub lost_in_session : {S P A : Type 0} (rules : SessionRules S) (gives : Gives S P A) (live : World S) (side : Side) (d : Datagram) (t : Tracked S) (after : World S) (sent : List (List ℕ)) → session_in (found_in live side d) ≡ Some t → session_refusal rules side d (Some t) ≡ None → gives.MayWant (is_client side t) t.session (segment_of d) → None ≡ stream_refusal rules live side d → (gives.Keeps → after ≡ live) → (gives.Keeps → sent ≡ []) → IsLost rules gives None Stream live side d after sent
+pub lost_in_session : {S P A : Type 0} (rules : SessionRules S) (gives : Gives S P A) (live : World S) (side : Side) (d : Datagram) (t : Tracked S) (after : World S) (sent : List (List ℕ)) → session_in (found_in live side d) ≡ Some t → session_refusal rules side d (Some t) ≡ None → gives.MayWant (host_on side t) t.session (segment_of d) → None ≡ stream_refusal rules live side d → (gives.Keeps → after ≡ live) → (gives.Keeps → sent ≡ []) → IsLost rules gives None Stream live side d after sent
 lost_in_session rules gives live side d t after sent e verdict h p same nothing = record { same = same; nothing = nothing; allowed = refl; wants = inr (refl, inl (sym p, inr (record { tracked = t; found = e; refusal = verdict; wants = h }))) }
 
 pub lost_at_units : {S P A : Type 0} (rules : SessionRules S) (gives : Gives S P A) (live : World S) (side : Side) (d : Datagram) (after : World S) (sent : List (List ℕ)) → CompletesUnit rules live side d → (gives.Keeps → after ≡ live) → (gives.Keeps → sent ≡ []) → IsLost rules gives None Stream live side d after sent

@@ -10,7 +10,7 @@ use Rattle.gate_model.specs.Frame.{Kind, Dns, Stream, datagram_in, kind_of}
 use Rattle.gate_model.specs.Rules.{SessionRules}
 use Rattle.gate_model.specs.Stream.{begins, found_in, segment_of, session_in, session_refusal}
 use Rattle.gate_model.specs.Verdict.{address_tests}
-use Rattle.gate_model.specs.World.{Tracked, World, is_client}
+use Rattle.gate_model.specs.World.{Tracked, World, host_on}
 use Rattle.event_steps.specs.SegmentFate.{CompletesUnit}
 use Rattle.event_steps.specs.Segments.{refusal_as}
 use Rattle.event_engine.specs.Engines.{Gives}
@@ -26,7 +26,7 @@ pub record MayWantInside {S P A : Type 0} (rules : SessionRules S) (gives : Give
   pub tracked : Tracked S
   pub found : session_in (found_in live side d) ≡ Some tracked
   pub refusal : session_refusal rules side d (Some tracked) ≡ None
-  pub wants : gives.MayWant (is_client side tracked) tracked.session (segment_of d)
+  pub wants : gives.MayWant (host_on side tracked) tracked.session (segment_of d)
 
 -- no test behind those of its addresses refuses it, and it begins a session or is one for which its session may want memory; or it completes a unit
 abbrev pub SegmentMayWant : {S P A : Type 0} (rules : SessionRules S) → Gives S P A → World S → Side → Datagram → Type 0

@@ -1,6 +1,7 @@
 // What an engine does with its sessions, and what it tells of a datagram.
-ghost use Rattle.std.specs.Prelude.{◌≡◌, ◌≤◌, true, Option, [], length, IfOk, OnErr, OnOk};
+ghost use Rattle.std.specs.Prelude.{◌≡◌, ◌≤◌, Option, [], length, IfOk, OnErr, OnOk};
 ghost use Rattle.gate_base.specs.declared.address.Addr.{Addr};
+ghost use Rattle.gate_base.specs.declared.host.Host.TheVariants.{Client};
 ghost use Rattle.stream_model.specs.Session.{segment_in};
 ghost use Rattle.gate_model.specs.Stream as streams;
 ghost use Rattle.event_steps.specs.Segments.{IsSegmentOf, AreCalled, Enters};
@@ -42,7 +43,7 @@ pub trait Engine: Session + Drop {
     fn opening_refusal(alloc: Global, pair: Pair, segment: &TcpView<'_>) -> Option<Refusal>
         requires { length segment.now.payload ≤ 65535 }
         ensures { result
-            ≡ Self.rules.refusal true
+            ≡ Self.rules.refusal Client
             (Self.rules.made segment.now.destination_port pair
             segment.now.sequence segment.now.mss) (segment_in segment.now) };
 

@@ -12,4 +12,3 @@ pub mod UnitsJudged
 pub mod UnitsPlanned
 pub mod UnitsUsed
 pub mod UsesListed
-pub mod Results

@@ -1,40 +1,28 @@
 -- What a segment's session lists isn't unbound, nor are both addresses of its header.
-use Rattle.std.proofs.Common.{◌≡◌, ◌≢◌, true, false, List, [], ◌∷◌, map, Option, Some, None, refl, sym, ap, subst, ◌∙◌}
+use Rattle.std.proofs.Common.{◌≡◌, ◌≢◌, List, [], ◌∷◌, map, Option, Some, None, sym, ap, subst, ◌∙◌}
 use Rattle.std.specs.Prelude.{IfSome, unwrap_or}
 use Rattle.std.specs.List.{AllByRecursion}
 use Rattle.std.proofs.lemmas.List.Elements.{All-nil, All-cons}
-use Rattle.gate_base.specs.Side.{same_side}
 use Rattle.gate_base.specs.declared.address.Addr.{Addr}
 use Rattle.gate_base.specs.declared.side.Side.{Side}
-use Rattle.gate_base.specs.declared.side.Side.TheVariants.{Left, Right}
 use Rattle.binding_table.specs.Bindings.{Bindings, cross, seen_by, is_settled}
-use Rattle.binding_table.specs.declared.binding.Crossing.{Crossing}
 use Rattle.binding_table.specs.declared.binding.Crossing.TheVariants.{Unbound}
 use Rattle.dialogue.specs.Learning.{Entry}
 use Rattle.ipv4_frames.specs.Ipv4.{Datagram}
 use Rattle.tcp_tracker.specs.Connections.{connection_of}
 use Rattle.tcp_tracker.specs.declared.connection.ConnKey.{ConnKey}
 use Rattle.tcp_tracker.specs.declared.connection.Connection.{Connection}
-use Rattle.gate_model.specs.Held.{KeepsListed, ListsCross, EntryCrosses, side_of}
+use Rattle.gate_model.specs.Held.{KeepsListed, ListsCross, EntryCrosses}
 use Rattle.gate_model.specs.Stream.{session_in}
-use Rattle.gate_model.specs.World.{Tracked, World, is_client, source_of}
+use Rattle.gate_model.specs.World.{Tracked, World, host_on, source_of}
 use Rattle.gate_model.specs.Rules.{SessionRules}
-use Rattle.gate_model.proofs.ListsWorld.{lists_cross}
+use Rattle.gate_model.proofs.ListsWorld.{lists_cross, sender_side}
 use Rattle.gate_model.proofs.Tracking.{all_found}
+use Rattle.gate_model.proofs.ListsKept.{known_unbound}
 use Rattle.gate_payloads.specs.Taken.{IsWayOf}
 use Rattle.gate_payloads.specs.declared.addresses.Way.{Way}
-use Rattle.gate_payloads.proofs.Passes.{host_bound}
+use Rattle.gate_payloads.proofs.DnsTaken.{settled_bound}
 use Rattle.dns_plans.specs.Plans.{AreBound, IsListBound}
-
--- the sender of a segment is of its realm
-sender_side : {S : Type 0} (t : Tracked S) (side : Side) → side_of (is_client side t) t ≡ side
-sender_side t side = by_sides t.client side
-  where
-    by_sides : (one two : Side) → side_of (same_side one two) (record t { client = one }) ≡ two
-    by_sides Left Left = refl
-    by_sides Left Right = refl
-    by_sides Right Left = refl
-    by_sides Right Right = refl
 
 crosses_bound : (table : Bindings) (side : Side) (entry : Entry) → EntryCrosses table side entry → cross table side entry.0 ≢ Unbound
 crosses_bound table side entry h u = let none : None ≡ Some (unwrap_or entry.1 entry.0) = sym (ap (seen_by entry.0) u) ∙ h in absurd (cc)
@@ -47,17 +35,14 @@ by_found : {S : Type 0} (rules : SessionRules S) (table : Bindings) (t : Tracked
 by_found rules table t None h e = absurd (cc)
 by_found {S = S} rules table t (Some c) h e = subst (λ (s : Option (Tracked S)). IfSome s (ListsCross rules table)) e h
 
-pub listed_bound : {S : Type 0} (rules : SessionRules S) (live : World S) (side : Side) (key : ConnKey) (t : Tracked S) → KeepsListed rules live → session_in (connection_of key live.connections) ≡ Some t → IsListBound live.table side (rules.listed (is_client side t) t.session)
+pub listed_bound : {S : Type 0} (rules : SessionRules S) (live : World S) (side : Side) (key : ConnKey) (t : Tracked S) → KeepsListed rules live → session_in (connection_of key live.connections) ≡ Some t → IsListBound live.table side (rules.listed (host_on side t) t.session)
 listed_bound rules live side key t k e =
     let crosses = by_found rules live.table t (connection_of key live.connections) (all_found (λ c. IfSome c.session (ListsCross rules live.table)) key live.connections (lists_cross rules live k)) e in
-    let f = is_client side t in
+    let f = host_on side t in
     entries_bound live.table side (rules.listed f t.session) (subst (λ (s : Side). AllByRecursion (EntryCrosses live.table s) (rules.listed f t.session)) (sender_side t side) (crosses f))
-
-settled_bound : (c : Crossing) → is_settled c ≡ true → c ≢ Unbound
-settled_bound c h u = let f : is_settled c ≡ false = ap is_settled u in absurd (let x : true ≡ false = sym h ∙ f in cc)
 
 pub header_bound : {S : Type 0} (live : World S) (d : Datagram) (way : Way) → IsWayOf live way.side d way → AreBound live.table way.side (way.source ∷ way.destination ∷ [])
 header_bound live d way w =
     let P : Addr → Type 0 = λ address. cross live.table way.side address ≢ Unbound in
-    let source = subst P (sym w.source_is) (host_bound live.table way.side (source_of d) w.outside) in
+    let source = subst P (sym w.source_is) (known_unbound live.table way.side (source_of d) w.outside) in
     All-cons P way.source (way.destination ∷ []) source (All-cons P way.destination [] (settled_bound (cross live.table way.side way.destination) (ap is_settled (sym w.crossings.destination) ∙ w.settled)) (All-nil P))

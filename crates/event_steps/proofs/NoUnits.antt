@@ -19,7 +19,7 @@ use Rattle.gate_model.specs.Lists.{most_entries, addresses_in, entered, is_bad, 
 use Rattle.gate_model.specs.Stream.{tcp_of, segment_of, is_opening, found_in, session_in, stream_timeout, made_by, pair_in}
 use Rattle.gate_model.specs.Units.{uses_until, units_in, names_in, entries_in, uses_of_lists, is_new_unbound, unit_tests, growth_tests}
 use Rattle.gate_model.specs.Verdict.{is_pool_empty, table_after}
-use Rattle.gate_model.specs.World.{Tracked, World, addresses_of, is_client}
+use Rattle.gate_model.specs.World.{Tracked, World, addresses_of, host_on}
 use Rattle.gate_model.specs.Rules.{SessionRules}
 
 -- no unit is completed in the session that takes the segment, and nothing is listed
@@ -42,7 +42,7 @@ syn_held false ack e = e
 pub made_names : {S : Type 0} (rules : SessionRules S) (lists : HasLists rules) (table : Bindings) (side : Side) (d : Datagram) → (is_opening (tcp_of d).flags && is_tracked_port (tcp_of d).destination_port) ≡ true → NamesNothing rules side d (Some (made_by rules table side d))
 made_names rules lists table side d first =
     let t = made_by rules table side d in
-    let f = is_client side t in
+    let f = host_on side t in
     let opens = (and_parts (is_opening (tcp_of d).flags) (is_tracked_port (tcp_of d).destination_port) first).0 in
     record {
       units = unless (rules.refusal f t.session (segment_of d)) (rules.units f t.session (segment_of d)) (lists.syn f t.session (segment_of d) (syn_held (flags_of (tcp_of d).flags).syn (flags_of (tcp_of d).flags).ack opens));

@@ -1,17 +1,18 @@
 -- Connections, their sessions and the segments that pass on them.
-use Rattle.std.proofs.Common.{◌≡◌, ℕ, zero, suc, ◌+◌, ◌≤◌, Bool, true, false, not, ◌&&◌, ◌||◌, cond, List, [], ◌∷◌, length, set, position, Option, Some, None, option_map, is_some, is_none, refl, sym, ap, ◌∙◌, arith}
+use Rattle.std.proofs.Common.{◌≡◌, ℕ, zero, suc, ◌+◌, Bool, true, false, not, ◌&&◌, ◌||◌, cond, List, [], ◌∷◌, set, position, Option, Some, None, option_map, is_some, is_none, refl, sym, ap, ◌∙◌}
 use Rattle.std.specs.Prelude.{option_and_then, slice_get, if◌then◌else◌}
 use Rattle.std.specs.List.{remove, position_or_len}
 use Rattle.std.proofs.lemmas.List.{length-set, set-set}
-use Rattle.std.proofs.lemmas.List.Quantifiers.{position-Some}
 use Rattle.gate_base.specs.declared.event.Moment.{Moment}
 use Rattle.gate_base.specs.declared.side.Side.{Side}
 use Rattle.gate_base.specs.declared.side.Side.TheVariants.{Left, Right}
+use Rattle.gate_base.proofs.Lists.{remove_set}
 use Rattle.tcp_segments.specs.Flags.{flags_of}
 use Rattle.tcp_tracker.specs.Connections.{is_of, place_of, connection_of, is_reset, starts_anew, unused, kept, with_flags, held, after, changed, noted, without, timeout_of, timeout_or_short, kept_or_begun, short_timeout, with_session}
 use Rattle.tcp_tracker.specs.declared.connection.ConnKey.{ConnKey}
 use Rattle.tcp_tracker.specs.declared.connection.Connection.{Connection}
 use Rattle.tcp_tracker.specs.Joined.{replaced}
+use Rattle.tcp_tracker.proofs.Joining.{place_none}
 use Rattle.gate_model.specs.Stream.{session_in}
 use Rattle.gate_model.specs.World.{Tracked}
 
@@ -26,11 +27,6 @@ get_put : {A : Type 0} (xs : List A) (i : ℕ) (x y : A) → slice_get xs i ≡ 
 get_put [] i x y e = absurd (cc)
 get_put (z ∷ xs) zero x y e = refl
 get_put (z ∷ xs) (suc i) x y e = get_put xs i x y e
-
-remove_put : {A : Type 0} (xs : List A) (i : ℕ) (y : A) → remove (set xs i y) i ≡ remove xs i
-remove_put [] i y = refl
-remove_put (z ∷ xs) zero y = refl
-remove_put (z ∷ xs) (suc i) y = ap (λ ys. z ∷ ys) (remove_put xs i y)
 
 place_put : {A : Type 0} (p : A → Bool) (xs : List A) (i : ℕ) (x y : A) → slice_get xs i ≡ Some x → p y ≡ p x → position_or_len p (set xs i y) ≡ position_or_len p xs
 place_put p [] i x y e f = absurd (cc)
@@ -96,7 +92,7 @@ without_replaced key all t s e =
     let a = at_place key all t e in
     ap (λ (o : Option ℕ). changed (replaced all key s) o None) (place_replaced key all t s e ∙ a.stands)
     ∙ ap (λ xs. remove xs a.place) (replaced_at key all t s a)
-    ∙ remove_put all a.place (with_session (Some s) a.connection)
+    ∙ remove_set all a.place (with_session (Some s) a.connection)
     ∙ ap (λ (o : Option ℕ). changed all o None) (sym a.stands)
 
 -- ## Segments
@@ -191,22 +187,6 @@ none_left (Some c) = refl
 
 -- ## A connection that doesn't live
 
-none_past : {A : Type 0} (xs : List A) (i : ℕ) → slice_get xs i ≡ None → length xs ≤ i
-none_past [] i e = omega arith
-none_past (x ∷ xs) zero e = absurd (cc)
-none_past (x ∷ xs) (suc i) e = let le : length xs ≤ i = none_past xs i e in omega arith
-
-no_place : {S : Type 0} (key : ConnKey) (all : List (Connection S)) → connection_of key all ≡ None → place_of key all ≡ None
-no_place {S = S} key all e = by_place (place_of key all) refl e
-  where
-    by_element : (i : ℕ) (o : Option (Connection S)) → slice_get all i ≡ o → place_of key all ≡ Some i → o ≡ None → ⊥
-    by_element i None g p n = let past = none_past all i g in let within = (position-Some (is_of key) all i (unused key None) p).0 in omega arith
-    by_element i (Some c) g p n = cc
-
-    by_place : (o : Option ℕ) → place_of key all ≡ o → option_and_then (slice_get all) o ≡ None → place_of key all ≡ None
-    by_place None p n = p
-    by_place (Some i) p n = absurd (by_element i (slice_get all i) refl p n)
-
 -- an RST of it changes nothing
 -- an RST without a connection holds its addresses as long as one that isn't established
 pub timeout_reset : {S : Type 0} (key : ConnKey) (all : List (Connection S)) (side : Side) (flags : ℕ) → (is_none (connection_of key all) && (flags_of flags).reset) ≡ true → timeout_of all key side flags ≡ short_timeout
@@ -226,6 +206,6 @@ noted_reset {S = S} key all side flags now e = by_connection (connection_of key 
     by_connection (Some c) b f r h = absurd (cc)
     by_connection None false f r h = absurd (cc)
     by_connection None true f r h =
-        ap (λ (o : Option ℕ). changed all o (after key side flags None now (connection_of key all))) (no_place key all f)
+        ap (λ (o : Option ℕ). changed all o (after key side flags None now (connection_of key all))) (place_none key all f)
         ∙ ap (λ (o : Option (Connection S)). changed all None (after key side flags None now o)) f
         ∙ ap (λ (b : Bool). changed all None (option_map (passed side flags now) (if b then None else Some (unused {S = S} key None)))) r

@@ -2,7 +2,7 @@
 use Rattle.std.proofs.Common.{◌≡◌, ℕ, Bool, true, false, not, ◌&&◌, ◌||◌, nat_le, ◌<◌, arith, List, [], ◌∷◌, ◌++◌, length, count_by, Option, Some, None, is_some, refl, sym, ap, ◌∙◌}
 use Rattle.std.specs.Prelude.{if◌then◌else◌}
 use Rattle.std.specs.Option.{option_or}
-use Rattle.std.proofs.lemmas.Bool.{and_parts}
+use Rattle.std.proofs.lemmas.Bool.{and_parts, and_right}
 use Rattle.std.proofs.lemmas.List.Elements.{All-nil}
 use Rattle.dialogue.specs.Meaning.{Meaning}
 use Rattle.dialogue.specs.Learning.{AreImages}
@@ -25,7 +25,7 @@ use Rattle.gate_model.specs.Step.{taker_in}
 use Rattle.gate_model.specs.Stream.{most_connections, most_sessions, tcp_of, segment_of, key_in, found_in, session_in, is_opening, lacks_session, is_full, made_by, taker_by, session_refusal}
 use Rattle.gate_model.specs.Units.{unit_tests, growth_tests}
 use Rattle.gate_model.specs.Verdict.{refusal_tests, is_pool_empty, late_tests, table_after, image_in}
-use Rattle.gate_model.specs.World.{Tracked, World, is_client}
+use Rattle.gate_model.specs.World.{Tracked, World, host_on}
 use Rattle.gate_payloads.specs.Taken.{IsWayOf}
 use Rattle.gate_payloads.specs.Ways.{is_empty}
 use Rattle.gate_payloads.specs.declared.addresses.Way.{Way}
@@ -101,6 +101,14 @@ pub taker_found : {S : Type 0} (rules : SessionRules S) (table : Bindings) (side
 taker_found rules table side d None e = absurd (cc)
 taker_found rules table side d (Some c) e = refl
 
+pub some_session : {S : Type 0} (found : Option (Connection (Tracked S))) (t : Tracked S) → session_in found ≡ Some t → is_some found ≡ true
+some_session None t e = absurd (cc)
+some_session (Some c) t e = refl
+
+-- where its connection lives, the session in it takes a segment
+pub session_takes : {S : Type 0} (rules : SessionRules S) (live : World S) (side : Side) (d : Datagram) (t : Tracked S) → session_in (found_in live side d) ≡ Some t → taker_in rules live side live.clock d ≡ Some t
+session_takes rules live side d t e = taker_found rules (table_after rules live side live.clock d Stream) side d (found_in live side d) (some_session (found_in live side d) t e) ∙ e
+
 -- no session takes the segment, where it has none
 pub found_joined : {S : Type 0} (rules : SessionRules S) (live : World S) (side : Side) (d : Datagram) → is_some (found_in live side d) ≡ true → session_in (found_in live side d) ≡ None → IsJoined rules live side d None false
 found_joined rules live side d e f = record {
@@ -138,16 +146,12 @@ new_joined {S = S} rules live side d none lacks other = record {
 pub begun_joined : {S : Type 0} (rules : SessionRules S) (lists : HasLists rules) (live : World S) (side : Side) (d : Datagram) → found_in live side d ≡ None → (is_opening (tcp_of d).flags && is_tracked_port (tcp_of d).destination_port) ≡ true →
     IsJoined rules live side d (Some (made_by rules (table_after rules live side live.clock d Stream) side d)) (not (flags_of (tcp_of d).flags).reset && nat_le most_connections (length live.connections) || nat_le most_sessions (count_by is_tracked live.connections))
 begun_joined {S = S} rules lists live side d none begun = record {
-  begins = ap (λ (o : Option (Connection (Tracked S))). lacks_session o d) none ∙ ap (λ (b : Bool). (is_tracked_port (tcp_of d).source_port || is_tracked_port (tcp_of d).destination_port) && not b) (and_parts (is_opening (tcp_of d).flags) (is_tracked_port (tcp_of d).destination_port) begun).0 ∙ and_false _;
+  begins = ap (λ (o : Option (Connection (Tracked S))). lacks_session o d) none ∙ ap (λ (b : Bool). (is_tracked_port (tcp_of d).source_port || is_tracked_port (tcp_of d).destination_port) && not b) (and_parts (is_opening (tcp_of d).flags) (is_tracked_port (tcp_of d).destination_port) begun).0 ∙ and_right _ false refl;
   taker_is = ap (λ (o : Option (Connection (Tracked S))). taker_by rules (table_after rules live side live.clock d Stream) side d o) none ∙ ap (λ (b : Bool). if b then Some (made_by rules (table_after rules live side live.clock d Stream) side d) else None) begun;
   full_is = ap (λ (o : Option (Connection (Tracked S))). is_full live.connections o d) none ∙ ap (λ (b : Bool). not (flags_of (tcp_of d).flags).reset && nat_le most_connections (length live.connections) || (b && nat_le most_sessions (count_by is_tracked live.connections))) begun;
   alone = none_alone (found_in live side d) none;
   names = made_names rules lists (table_after rules live side live.clock d Stream) side d begun;
 }
-  where
-    and_false : (a : Bool) → (a && false) ≡ false
-    and_false true = refl
-    and_false false = refl
 
 -- nothing is entered into it
 made_held : (tcp : Tcp) (d : Datagram) → tcp ≡ tcp_of d → is_opening tcp.flags ≡ true → (flags_of (tcp_of d).flags).syn ≡ true
@@ -156,7 +160,7 @@ made_held tcp d is opens = syn_held (flags_of (tcp_of d).flags).syn (flags_of (t
 pub made_called : {S : Type 0} (rules : SessionRules S) (lists : HasLists rules) (way : Way) (tcp : Tcp) (d : Datagram) (image : Addr → Option Addr) → tcp ≡ tcp_of d → is_opening tcp.flags ≡ true → AreCalled rules image way.side d (made_on rules way tcp) []
 made_called rules lists way tcp d image is opens =
     let t = made_on rules way tcp in
-    sym (ap (λ (us : List (List ℕ)). beside image (addresses_in us)) (lists.syn (is_client way.side t) t.session (segment_of d) (made_held tcp d is opens)))
+    sym (ap (λ (us : List (List ℕ)). beside image (addresses_in us)) (lists.syn (host_on way.side t) t.session (segment_of d) (made_held tcp d is opens)))
 
 -- no image is wrong of none
 pub no_images : (m : Meaning) → AreImages m []
@@ -165,13 +169,13 @@ no_images m = All-nil (λ (one : UnitImage). one.image.items ≡ m.image one.uni
 pub made_enters : {S : Type 0} (rules : SessionRules S) (lists : HasLists rules) (way : Way) (tcp : Tcp) (d : Datagram) (image : Addr → Option Addr) → tcp ≡ tcp_of d → is_opening tcp.flags ≡ true → session_refusal rules way.side d (Some (made_on rules way tcp)) ≡ None → Enters rules way.side d (made_on rules way tcp) [] []
 made_enters rules lists way tcp d image is opens verdict =
     let t = made_on rules way tcp in
-    let none : rules.listed (is_client way.side t) t.session ≡ [] = lists.made tcp.destination_port (pair_on way) tcp.sequence tcp.mss (is_client way.side t) in
+    let none : rules.listed (host_on way.side t) t.session ≡ [] = lists.made tcp.destination_port (pair_on way) tcp.sequence tcp.mss (host_on way.side t) in
     record {
       passes = verdict;
       few = omega (arith, ap length none);
       image = image;
       called = made_called rules lists way tcp d image is opens;
-      right = no_images (dns_units (entered_all (rules.listed (is_client way.side t) t.session) []));
+      right = no_images (dns_units (entered_all (rules.listed (host_on way.side t) t.session) []));
     }
 
 -- a first segment of a connection that doesn't live: the session that it makes takes it, with this verdict

@@ -1,5 +1,5 @@
 -- Segments that pass, and those for which memory runs out.
-use Rattle.std.proofs.Common.{◌≡◌, ℕ, ◌+◌, max, Bool, true, false, ◌&&◌, List, [], ◌∷◌, Option, Some, None, option_map, is_some, refl, sym, ap, ◌∙◌, arith}
+use Rattle.std.proofs.Common.{◌≡◌, ℕ, ◌+◌, max, Bool, true, false, ◌&&◌, List, [], ◌∷◌, Option, Some, None, option_map, refl, sym, ap, ◌∙◌, arith}
 use Rattle.std.specs.Prelude.{if◌then◌else◌, unwrap_or}
 use Rattle.std.specs.Option.{option_or}
 use Rattle.gate_base.specs.declared.address.Addr.{Addr}
@@ -35,7 +35,7 @@ use Rattle.event_steps.specs.Segments.{stream_refusal, room_tests, lacks_place, 
 use Rattle.event_steps.specs.SegmentFate.{image_of}
 use Rattle.event_steps.proofs.NotedConnections.{noted_replaced, noted_untracked, noted_begun, without_replaced, session_left, session_begun, none_left}
 use Rattle.event_steps.proofs.NoUnits.{table_is}
-use Rattle.event_steps.proofs.SegmentTests.{IsJoined, joined_refusal, taker_found, room_none}
+use Rattle.event_steps.proofs.SegmentTests.{IsJoined, joined_refusal, room_none, session_takes}
 
 -- ## What both addresses are called
 
@@ -155,10 +155,6 @@ is_over : (ends : Bool) (n : ℕ) → None ≡ (if ends then None else Some n) �
 is_over true n e = refl
 is_over false n e = absurd (cc)
 
-pub some_session : {S : Type 0} (found : Option (Connection (Tracked S))) (t : Tracked S) → session_in found ≡ Some t → is_some found ≡ true
-some_session None t e = absurd (cc)
-some_session (Some c) t e = refl
-
 -- the session passes it, and the source has an alias
 pub passes : {S : Type 0} (rules : SessionRules S) (live : World S) (side : Side) (d : Datagram) (way : Way) (taker : Option (Tracked S)) (full : Bool) → IsWayOf live side d way → IsJoined rules live side d taker full → session_refusal rules side d taker ≡ None → full ≡ false → is_empty way.of_source ≡ false → None ≡ stream_refusal rules live side d
 passes rules live side d way taker full w j verdict few room =
@@ -168,10 +164,6 @@ passes rules live side d way taker full w j verdict few room =
     ∙ ap (λ (b : Bool). first_that_holds (room_tests false b)) room
     )
     ∙ joined_refusal rules live side d way taker full w j
-
--- where its connection lives, the session in it takes a segment
-taker_is : {S : Type 0} (rules : SessionRules S) (live : World S) (side : Side) (d : Datagram) (t : Tracked S) → session_in (found_in live side d) ≡ Some t → taker_in rules live side live.clock d ≡ Some t
-taker_is rules live side d t e = taker_found rules (table_after rules live side live.clock d Stream) side d (found_in live side d) (some_session (found_in live side d) t e) ∙ e
 
 pub session_goes_on : {S A : Type 0} (rules : SessionRules S) (tells : Tells S A) (live : World S) (way : Way) (d : Datagram) (t : Tracked S) (waiting : ℕ) (table_new : Bindings) (connections_new : List (Connection (Tracked S))) (sent : A) →
     let key = key_in live.table way.side d in let flags = (tcp_of d).flags in
@@ -189,7 +181,7 @@ session_goes_on {S = S} rules tells live way d t waiting table_new connections_n
     let left : Bool → Option (Connection (Tracked S)) = λ x. if x then None else option_map (with_session (Some s)) (after key way.side flags (Some t) (now_of live) (found_in live way.side d)) in
     passed_is rules tells live way.side d way (Some t) table_new connections_new (max live.pending waiting) sent
     (b (ap (λ (o : Option (Tracked S)). if ends_by rules way.side d o then short_timeout else timeout) e ∙ ap (λ (x : Bool). if x then short_timeout else timeout) on.0))
-    (taker_is rules live way.side d t e) none
+    (session_takes rules live way.side d t e) none
     (c ∙ ap (noted (replaced live.connections key s) key way.side flags None) (now_is live way.side d way w) ∙ noted_replaced key live.connections t s way.side flags (Some t) (now_of live) e ∙ sym (ap (λ (x : Bool). changed live.connections (place_of key live.connections) (left x)) on.0))
     (ap (max live.pending) (on.1 ∙ sym (ap (λ (x : Bool). pending_in rules (left x)) on.0 ∙ ap (pending_by rules) (session_left key t s way.side flags (Some t) (now_of live) (found_in live way.side d) e))))
     g
@@ -210,7 +202,7 @@ session_is_over {S = S} rules tells live way d t table_new connections_new sent 
     let left : Bool → Option (Connection (Tracked S)) = λ x. if x then None else option_map (with_session (Some s)) (after key way.side flags (Some t) (now_of live) (found_in live way.side d)) in
     passed_is rules tells live way.side d way (Some t) table_new connections_new live.pending sent
     (b (ap (λ (o : Option (Tracked S)). if ends_by rules way.side d o then short_timeout else timeout) e ∙ ap (λ (x : Bool). if x then short_timeout else timeout) over))
-    (taker_is rules live way.side d t e) none
+    (session_takes rules live way.side d t e) none
     (c ∙ without_replaced key live.connections t s e ∙ sym (ap (λ (x : Bool). changed live.connections (place_of key live.connections) (left x)) over))
     (nothing_waits rules live.pending (session_in (left (ends_by rules way.side d (Some t)))) (ap (λ (x : Bool). session_in (left x)) over))
     g

@@ -1,5 +1,5 @@
 -- A segment that a session takes by a plan: what it enters, and what is used.
-use Rattle.std.proofs.Common.{◌≡◌, ◌≢◌, ◌≤◌, ◌+◌, ℕ, Bool, true, false, List, [], ◌∷◌, ◌++◌, length, take, Option, Some, refl, sym, ap, subst, ◌∙◌, arith}
+use Rattle.std.proofs.Common.{◌≡◌, ◌≢◌, ◌≤◌, ◌+◌, ℕ, false, List, [], ◌∷◌, ◌++◌, length, take, Option, Some, refl, sym, ap, subst, ◌∙◌, arith}
 use Rattle.gate_base.specs.Tests.{unless_refused}
 use Rattle.std.specs.List.{All}
 use Rattle.std.proofs.lemmas.Bool.{le-ltb}
@@ -8,6 +8,8 @@ use Rattle.gate_base.specs.Side.{other}
 use Rattle.gate_base.specs.declared.address.Addr.{Addr}
 use Rattle.gate_base.specs.declared.refusal.Refusal.{Refusal}
 use Rattle.gate_base.specs.declared.side.Side.{Side}
+use Rattle.gate_base.specs.declared.host.Host.{Host}
+use Rattle.gate_base.specs.declared.host.Host.TheVariants.{Client, Server}
 use Rattle.binding_table.specs.Bindings.{Bindings, cross, free}
 use Rattle.binding_table.specs.Lawful.{IsLawful}
 use Rattle.binding_table.specs.Plan.{Use, after_uses, needed}
@@ -20,7 +22,7 @@ use Rattle.gate_model.specs.Held.{HasLists}
 use Rattle.gate_model.specs.Lists.{addresses_in, entered, renamed_in}
 use Rattle.gate_model.specs.Stream.{segment_of, stepped, stream_timeout}
 use Rattle.gate_model.specs.Units.{uses_until, names_in, uses_of_lists}
-use Rattle.gate_model.specs.World.{Tracked, World, addresses_of, source_of, destination_of, is_client}
+use Rattle.gate_model.specs.World.{Tracked, World, addresses_of, source_of, destination_of, host_on}
 use Rattle.gate_model.specs.Rules.{SessionRules}
 use Rattle.gate_model.proofs.ListsKept.{needed_front, all_front}
 use Rattle.gate_model.proofs.ListsWorld.{lists_grow}
@@ -39,15 +41,15 @@ use Rattle.event_steps.proofs.UnitsUsed.{until_of, table_with, header_called}
 
 -- ## What is entered
 
-named_in_session : {S : Type 0} (rules : SessionRules S) (side : Side) (d : Datagram) (t : Tracked S) (live : World S) (plan : SegmentPlan) → IsPlanOf rules live side d t plan → names_in rules side d (Some t) ≡ addresses_in (rules.units (is_client side t) t.session (segment_of d))
-named_in_session rules side d t live plan p = ap (λ (v : Option Refusal). addresses_in (unless_refused v (rules.units (is_client side t) t.session (segment_of d)) [])) p.refusal
+named_in_session : {S : Type 0} (rules : SessionRules S) (side : Side) (d : Datagram) (t : Tracked S) (live : World S) (plan : SegmentPlan) → IsPlanOf rules live side d t plan → names_in rules side d (Some t) ≡ addresses_in (rules.units (host_on side t) t.session (segment_of d))
+named_in_session rules side d t live plan p = ap (λ (v : Option Refusal). addresses_in (unless_refused v (rules.units (host_on side t) t.session (segment_of d)) [])) p.refusal
 
 pub called_by : {S : Type 0} (rules : SessionRules S) (live : World S) (side : Side) (d : Datagram) (t : Tracked S) (plan : SegmentPlan) (entries : List Entry) → IsPlanOf rules live side d t plan → entries ≡ plan.units.entries.items → AreCalled rules (image_of rules live side d) side d t entries
 called_by rules live side d t plan entries p e = e ∙ p.units.entries ∙ ap (beside (image_of rules live side d)) (named_in_session rules side d t live plan p)
 
 pub enters_by : {S : Type 0} (rules : SessionRules S) (live : World S) (side : Side) (d : Datagram) (t : Tracked S) (plan : SegmentPlan) (entries : List Entry) (images : List UnitImage) → IsPlanOf rules live side d t plan → entries ≡ plan.units.entries.items → images ≡ plan.units.images.items → Enters rules side d t entries images
 enters_by rules live side d t plan entries images p e i =
-    let es = rules.listed (is_client side t) t.session in
+    let es = rules.listed (host_on side t) t.session in
     let image = image_of rules live side d in
     let ns = names_in rules side d (Some t) in
     let same : entered_all es entries ≡ entered image es ns = ap (entered_all es) (e ∙ p.units.entries) ∙ entered-beside image es ns in
@@ -62,21 +64,21 @@ enters_by rules live side d t plan entries images p e i =
 -- ## What is used
 
 -- each list begins as it was
-begins_so : {S : Type 0} (rules : SessionRules S) (lists : HasLists rules) (live : World S) (side : Side) (d : Datagram) (t : Tracked S) (client : Bool) → take (length (rules.listed client t.session)) (rules.listed client (stepped rules (image_of rules live side d) side d t).session) ≡ rules.listed client t.session
-begins_so rules lists live side d t client =
-    let more = lists_grow rules lists (image_of rules live side d) (is_client side t) t.session (segment_of d) client in
-    let xs = rules.listed client t.session in
+begins_so : {S : Type 0} (rules : SessionRules S) (lists : HasLists rules) (live : World S) (side : Side) (d : Datagram) (t : Tracked S) (host : Host) → take (length (rules.listed host t.session)) (rules.listed host (stepped rules (image_of rules live side d) side d t).session) ≡ rules.listed host t.session
+begins_so rules lists live side d t host =
+    let more = lists_grow rules lists (image_of rules live side d) (host_on side t) t.session (segment_of d) host in
+    let xs = rules.listed host t.session in
     ap (take (length xs)) more.1 ∙ take-front xs more.0
   where
     take-front : (xs ys : List Entry) → take (length xs) (xs ++ ys) ≡ xs
     take-front [] ys = refl
     take-front (x ∷ xs) ys = ap (λ (zs : List Entry). x ∷ zs) (take-front xs ys)
 
-pub still_within : {S : Type 0} (rules : SessionRules S) (lists : HasLists rules) (live : World S) (side : Side) (d : Datagram) (t s : Tracked S) (client : Bool) (count : ℕ) → s ≡ stepped rules (image_of rules live side d) side d t → count ≡ length (rules.listed client t.session) → count ≤ length (rules.listed client s.session)
-still_within {S = S} rules lists live side d t s client count e n =
-    let more = lists_grow rules lists (image_of rules live side d) (is_client side t) t.session (segment_of d) client in
-    let long : length (rules.listed client s.session) ≡ length (rules.listed client t.session ++ more.0) = ap (λ (x : Tracked S). length (rules.listed client x.session)) e ∙ ap length more.1 in
-    omega (arith, n, long, length-append (rules.listed client t.session) more.0)
+pub still_within : {S : Type 0} (rules : SessionRules S) (lists : HasLists rules) (live : World S) (side : Side) (d : Datagram) (t s : Tracked S) (host : Host) (count : ℕ) → s ≡ stepped rules (image_of rules live side d) side d t → count ≡ length (rules.listed host t.session) → count ≤ length (rules.listed host s.session)
+still_within {S = S} rules lists live side d t s host count e n =
+    let more = lists_grow rules lists (image_of rules live side d) (host_on side t) t.session (segment_of d) host in
+    let long : length (rules.listed host s.session) ≡ length (rules.listed host t.session ++ more.0) = ap (λ (x : Tracked S). length (rules.listed host x.session)) e ∙ ap length more.1 in
+    omega (arith, n, long, length-append (rules.listed host t.session) more.0)
 
 abbrev by_lists : {S : Type 0} → Tracked S → ℕ → List Entry → List Entry → List Use
 by_lists t until one two = uses_until t.client until (renamed_in one) ++ uses_until (other t.client) until (renamed_in two)
@@ -92,12 +94,12 @@ uses_as {S = S} rules lists live way d t s plan timeout w p e h =
     let moment : way.moment.0 + timeout ≡ until = ap (λ (n : ℕ). n + timeout) w.moment_is ∙ ap (λ (n : ℕ). live.clock + n) (sym h) in
     let U : ℕ → Addr → Addr → List Addr → Tracked S → List Entry → List Entry → List Use = λ u a b ns x one two. uses_until side u (a ∷ b ∷ []) ++ (uses_until side u ns ++ by_lists x u one two) in
     ap (λ (x : Tracked S). uses_planned rules way plan timeout x) e
-    ∙ ap (λ (u : ℕ). U u way.source way.destination plan.units.named.items t' (take plan.client (rules.listed true t'.session)) (take plan.server (rules.listed false t'.session))) moment
-    ∙ ap (λ (a : Addr). U until a way.destination plan.units.named.items t' (take plan.client (rules.listed true t'.session)) (take plan.server (rules.listed false t'.session))) w.source_is
-    ∙ ap (λ (a : Addr). U until (source_of d) a plan.units.named.items t' (take plan.client (rules.listed true t'.session)) (take plan.server (rules.listed false t'.session))) w.destination_is
-    ∙ ap (λ (ns : List Addr). U until (source_of d) (destination_of d) ns t' (take plan.client (rules.listed true t'.session)) (take plan.server (rules.listed false t'.session))) p.units.named
-    ∙ ap (λ (xs : List Entry). U until (source_of d) (destination_of d) (names_in rules side d (Some t)) t' xs (take plan.server (rules.listed false t'.session))) (ap (λ (n : ℕ). take n (rules.listed true t'.session)) p.client ∙ begins_so rules lists live side d t true)
-    ∙ ap (λ (xs : List Entry). U until (source_of d) (destination_of d) (names_in rules side d (Some t)) t' (rules.listed true t.session) xs) (ap (λ (n : ℕ). take n (rules.listed false t'.session)) p.server ∙ begins_so rules lists live side d t false)
+    ∙ ap (λ (u : ℕ). U u way.source way.destination plan.units.named.items t' (take plan.client (rules.listed Client t'.session)) (take plan.server (rules.listed Server t'.session))) moment
+    ∙ ap (λ (a : Addr). U until a way.destination plan.units.named.items t' (take plan.client (rules.listed Client t'.session)) (take plan.server (rules.listed Server t'.session))) w.source_is
+    ∙ ap (λ (a : Addr). U until (source_of d) a plan.units.named.items t' (take plan.client (rules.listed Client t'.session)) (take plan.server (rules.listed Server t'.session))) w.destination_is
+    ∙ ap (λ (ns : List Addr). U until (source_of d) (destination_of d) ns t' (take plan.client (rules.listed Client t'.session)) (take plan.server (rules.listed Server t'.session))) p.units.named
+    ∙ ap (λ (xs : List Entry). U until (source_of d) (destination_of d) (names_in rules side d (Some t)) t' xs (take plan.server (rules.listed Server t'.session))) (ap (λ (n : ℕ). take n (rules.listed Client t'.session)) p.client ∙ begins_so rules lists live side d t Client)
+    ∙ ap (λ (xs : List Entry). U until (source_of d) (destination_of d) (names_in rules side d (Some t)) t' (rules.listed Client t.session) xs) (ap (λ (n : ℕ). take n (rules.listed Server t'.session)) p.server ∙ begins_so rules lists live side d t Server)
 
 pub planned_used : {S : Type 0} (rules : SessionRules S) (lists : HasLists rules) (live : World S) (way : Way) (d : Datagram) (t s : Tracked S) (plan : SegmentPlan) (timeout : ℕ) (table : Bindings) → IsLawful live.table → IsWayOf live way.side d way → IsPlanOf rules live way.side d t plan → s ≡ stepped rules (image_of rules live way.side d) way.side d t → stream_timeout rules live way.side d ≡ timeout
     → table ≡ after_uses live.table (uses_planned rules way plan timeout s) → AreUsed rules live way.side d way table

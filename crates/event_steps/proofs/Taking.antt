@@ -127,14 +127,6 @@ udp_snmp d p q e f x y = rw (← e, ← f, x, y) refl
 pub error_kind : (d : Datagram) → is_error_type (slice_index d.payload 0) ≡ true → icmp_kind d ≡ Error
 error_kind d e = rw e refl
 
-pub or_first : (a b : Bool) → a ≡ true → (a || b) ≡ true
-or_first true b e = refl
-or_first false b e = absurd cc
-
-pub or_second : (a b : Bool) → b ≡ true → (a || b) ≡ true
-or_second true b e = refl
-or_second false b e = e
-
 -- ## What becomes of it
 
 -- what is told of one that leaves the connections goes out whole

@@ -1,5 +1,5 @@
 -- A segment of a session is refused by the plan of its units, and else by nothing.
-use Rattle.std.proofs.Common.{◌≡◌, ◌≢◌, ◌≤◌, ℕ, Bool, true, false, List, [], ◌∷◌, ◌++◌, length, nat_lt, Option, Some, None, is_some, Result, Ok, Err, refl, sym, ap, subst, ◌∙◌}
+use Rattle.std.proofs.Common.{◌≡◌, ◌≢◌, ◌≤◌, ℕ, Bool, true, false, List, [], ◌∷◌, ◌++◌, length, nat_lt, Option, Some, None, Result, Ok, Err, refl, sym, ap, subst, ◌∙◌}
 use Rattle.std.specs.Prelude.{IfOk, IfErr}
 use Rattle.std.specs.List.{All, AllByRecursion, list_any}
 use Rattle.std.proofs.lemmas.Bool.{ltb-false, le-ltb}
@@ -9,6 +9,7 @@ use Rattle.gate_base.specs.declared.address.Addr.{Addr}
 use Rattle.gate_base.specs.declared.refusal.Refusal.{Refusal}
 use Rattle.gate_base.specs.declared.refusal.Refusal.TheVariants.{NoSession, BadUnit, UnitUnbound, RenamesFull, SessionsFull, PoolEmpty, UnitGrows}
 use Rattle.gate_base.specs.declared.side.Side.{Side}
+use Rattle.gate_base.specs.declared.host.Host.{Host}
 use Rattle.binding_table.specs.Bindings.{cross, free}
 use Rattle.binding_table.specs.Plan.{needed, image_after}
 use Rattle.binding_table.specs.declared.binding.Crossing.TheVariants.{Unbound}
@@ -16,14 +17,13 @@ use Rattle.dialogue.specs.Learning.{Entry, AreImages}
 use Rattle.dns_stream.specs.Images.{dns_units}
 use Rattle.ipv4_frames.specs.Ipv4.{Datagram}
 use Rattle.stream_model.specs.Session.{Segment}
-use Rattle.tcp_tracker.specs.declared.connection.Connection.{Connection}
 use Rattle.gate_model.specs.Frame.{Stream, Udp}
 use Rattle.gate_model.specs.Lists.{most_entries, addresses_in, entered, is_bad, grows_too_much}
 use Rattle.gate_model.specs.Step.{taker_in}
 use Rattle.gate_model.specs.Stream.{segment_of, found_in, session_in, lacks_session, is_full, session_refusal}
 use Rattle.gate_model.specs.Units.{uses_until, is_new_unbound, units_in, names_in, entries_in, entries_after, unit_tests, growth_tests}
-use Rattle.gate_model.specs.Verdict.{refusal_tests, is_pool_empty, table_after}
-use Rattle.gate_model.specs.World.{Tracked, World, addresses_of, source_of, destination_of, is_client}
+use Rattle.gate_model.specs.Verdict.{refusal_tests, is_pool_empty}
+use Rattle.gate_model.specs.World.{Tracked, World, addresses_of, source_of, destination_of, host_on}
 use Rattle.gate_model.specs.Rules.{SessionRules}
 use Rattle.gate_model.proofs.ListsKept.{table_of}
 use Rattle.gate_payloads.specs.Ways.{is_empty}
@@ -39,15 +39,11 @@ use Rattle.dns_plans.proofs.EnteredLemmas.{entered-beside}
 use Rattle.dns_plans.proofs.PlannedLemmas.{used_bound}
 use Rattle.event_steps.specs.SegmentFate.{image_of, used_by, IsOn, IsUnitPlan, IsStopped, CompletesUnit}
 use Rattle.event_steps.specs.Segments.{stream_refusal}
-use Rattle.event_steps.proofs.SegmentTests.{no_images, tests_by, lacks_none, full_none, taker_found}
+use Rattle.event_steps.proofs.SegmentTests.{no_images, tests_by, lacks_none, full_none, some_session, session_takes}
 use Rattle.event_steps.proofs.UnitsPlanned.{five, plans_alike, none_told, beside_alike, entered_alike}
 use Rattle.event_steps.proofs.UnitsUsed.{until_of, names_called}
 
 -- ## The refusal, by the units
-
-some_session : {S : Type 0} (found : Option (Connection (Tracked S))) (t : Tracked S) → session_in found ≡ Some t → is_some found ≡ true
-some_session None t e = absurd (cc)
-some_session (Some c) t e = refl
 
 order : (bad unbound full empty grows : Bool) → first_that_holds (((false, NoSession) ∷ refusal_tests None ++ (((bad, BadUnit) ∷ (unbound, UnitUnbound) ∷ (full, RenamesFull) ∷ []) ++ (false, SessionsFull) ∷ [])) ++ (empty, PoolEmpty) ∷ (grows, UnitGrows) ∷ []) ≡ five bad unbound full empty grows
 order true unbound full empty grows = refl
@@ -68,7 +64,7 @@ refusal_is {S = S} rules live side d t found verdict =
     let lives = some_session place t found in
     let units = unit_tests rules image live.table side d (Some t) in
     let late = growth_tests rules image side d (Some t) in
-    let taker : taker_in rules live side live.clock d ≡ Some t = taker_found rules (table_after rules live side live.clock d Stream) side d place lives ∙ found in
+    let taker : taker_in rules live side live.clock d ≡ Some t = session_takes rules live side d t found in
     ap (λ (o : Option (Tracked S)). tests_by rules side d o (lacks_session place d) (unit_tests rules image live.table side d o) (is_full live.connections place d) (is_pool_empty rules live side d Stream) (growth_tests rules image side d o)) taker
     ∙ ap (λ (b : Bool). tests_by rules side d (Some t) b units (is_full live.connections place d) (is_pool_empty rules live side d Stream) late) (lacks_none place d lives)
     ∙ ap (λ (v : Option Refusal). first_that_holds (((false, NoSession) ∷ refusal_tests v ++ (units ++ (is_full live.connections place d, SessionsFull) ∷ [])) ++ (is_pool_empty rules live side d Stream, PoolEmpty) ∷ late)) verdict
@@ -77,23 +73,23 @@ refusal_is {S = S} rules live side d t found verdict =
     ∙ order _ _ _ _ _
 
 -- the units of its session
-units_are : {S : Type 0} (rules : SessionRules S) (side : Side) (d : Datagram) (t : Tracked S) (us : List (List ℕ)) → session_refusal rules side d (Some t) ≡ None → us ≡ rules.units (is_client side t) t.session (segment_of d) → units_in rules side d (Some t) ≡ us
-units_are rules side d t us verdict e = ap (λ (v : Option Refusal). unless_refused v (rules.units (is_client side t) t.session (segment_of d)) []) verdict ∙ sym e
+units_are : {S : Type 0} (rules : SessionRules S) (side : Side) (d : Datagram) (t : Tracked S) (us : List (List ℕ)) → session_refusal rules side d (Some t) ≡ None → us ≡ rules.units (host_on side t) t.session (segment_of d) → units_in rules side d (Some t) ≡ us
+units_are rules side d t us verdict e = ap (λ (v : Option Refusal). unless_refused v (rules.units (host_on side t) t.session (segment_of d)) []) verdict ∙ sym e
 
 abbrev pub ends_of : Side → Datagram → Endpoints
 ends_of side d = record { side = side; source = source_of d; destination = destination_of d }
 
 -- the plan's tests, by what addresses are called in the end
-planned_is : {S : Type 0} (rules : SessionRules S) (live : World S) (side : Side) (d : Datagram) (way : Way) (t : Tracked S) (octets : List ℕ) → IsOn rules live side d way t → whole_units octets ≡ rules.units (is_client side t) t.session (segment_of d)
-    → stream_refusal rules live side d ≡ first_that_holds (plan_tests live.table (image_of rules live side d) (ends_of side d) (rules.listed (is_client side t) t.session) octets)
-planned_is rules live side d way t octets on e = refusal_is rules live side d t on.found on.refusal ∙ ap (by_units rules live side d (rules.listed (is_client side t) t.session)) (units_are rules side d t (whole_units octets) on.refusal e)
+planned_is : {S : Type 0} (rules : SessionRules S) (live : World S) (side : Side) (d : Datagram) (way : Way) (t : Tracked S) (octets : List ℕ) → IsOn rules live side d way t → whole_units octets ≡ rules.units (host_on side t) t.session (segment_of d)
+    → stream_refusal rules live side d ≡ first_that_holds (plan_tests live.table (image_of rules live side d) (ends_of side d) (rules.listed (host_on side t) t.session) octets)
+planned_is rules live side d way t octets on e = refusal_is rules live side d t on.found on.refusal ∙ ap (by_units rules live side d (rules.listed (host_on side t) t.session)) (units_are rules side d t (whole_units octets) on.refusal e)
 
 -- ## Where no unit is whole
 
-pub none_stopped : {S : Type 0} (rules : SessionRules S) (live : World S) (side : Side) (d : Datagram) (way : Way) (t : Tracked S) (octets : List ℕ) → IsOn rules live side d way t → whole_units octets ≡ rules.units (is_client side t) t.session (segment_of d) → whole_units octets ≡ [] → length (rules.listed (is_client side t) t.session) ≤ most_entries
+pub none_stopped : {S : Type 0} (rules : SessionRules S) (live : World S) (side : Side) (d : Datagram) (way : Way) (t : Tracked S) (octets : List ℕ) → IsOn rules live side d way t → whole_units octets ≡ rules.units (host_on side t) t.session (segment_of d) → whole_units octets ≡ [] → length (rules.listed (host_on side t) t.session) ≤ most_entries
     → stream_refusal rules live side d ≡ first_that_holds ((is_empty way.of_source, PoolEmpty) ∷ [])
 none_stopped rules live side d way t octets on e none few =
-    let es = rules.listed (is_client side t) t.session in
+    let es = rules.listed (host_on side t) t.session in
     let full : nat_lt most_entries (length es) ≡ false = le-ltb most_entries (length es) few in
     planned_is rules live side d way t octets on e
     ∙ ap (λ (us : List (List ℕ)). by_units rules live side d es us) none
@@ -109,12 +105,12 @@ none_stopped rules live side d way t octets on e none few =
 -- a connection's session and the octets in which its units end; the addresses of the header aren't unbound, nor are those of the sender's list
 pub record IsReady {S : Type 0} (rules : SessionRules S) (live : World S) (side : Side) (d : Datagram) (way : Way) (t : Tracked S) (octets : List ℕ) (ends : Endpoints) (es : List Entry) : Type 0 where
   pub on : IsOn rules live side d way t
-  pub units : whole_units octets ≡ rules.units (is_client side t) t.session (segment_of d)
+  pub units : whole_units octets ≡ rules.units (host_on side t) t.session (segment_of d)
   pub ends_are : ends ≡ ends_of side d
-  pub entries_are : es ≡ rules.listed (is_client side t) t.session
+  pub entries_are : es ≡ rules.listed (host_on side t) t.session
   pub header : AreBound live.table ends.side (ends.source ∷ ends.destination ∷ [])
   pub listed : IsListBound live.table ends.side es
-  pub few : length (rules.listed (is_client side t) t.session) ≤ most_entries
+  pub few : length (rules.listed (host_on side t) t.session) ≤ most_entries
 
 names_are : {S : Type 0} (rules : SessionRules S) (live : World S) (side : Side) (d : Datagram) (way : Way) (t : Tracked S) (octets : List ℕ) (ends : Endpoints) (es : List Entry) → IsReady rules live side d way t octets ends es → addresses_in (whole_units octets) ≡ names_in rules side d (Some t)
 names_are rules live side d way t octets ends es r = ap addresses_in (sym (units_are rules side d t (whole_units octets) r.on.refusal r.units))
@@ -148,7 +144,7 @@ all_called rules live side d way t octets ends es r new room =
 pub told_is : {S : Type 0} (rules : SessionRules S) (live : World S) (side : Side) (d : Datagram) (way : Way) (t : Tracked S) (octets : List ℕ) (ends : Endpoints) (es : List Entry) → IsReady rules live side d way t octets ends es → stream_refusal rules live side d ≡ first_that_holds (plan_tests live.table (called_so rules live side d ends octets) ends es octets)
 told_is rules live side d way t octets ends es r =
     planned_is rules live side d way t octets r.on r.units
-    ∙ ap (λ (e : Endpoints). first_that_holds (plan_tests live.table (image_of rules live side d) e (rules.listed (is_client side t) t.session) octets)) (sym r.ends_are)
+    ∙ ap (λ (e : Endpoints). first_that_holds (plan_tests live.table (image_of rules live side d) e (rules.listed (host_on side t) t.session) octets)) (sym r.ends_are)
     ∙ ap (λ (xs : List Entry). first_that_holds (plan_tests live.table (image_of rules live side d) ends xs octets)) (sym r.entries_are)
     ∙ sym (plans_alike live.table (called_so rules live side d ends octets) (image_of rules live side d) ends es octets (all_called rules live side d way t octets ends es r))
 
@@ -162,8 +158,8 @@ some_planned rules live side d way t octets ends es plan r none named entries im
     let same = used_is rules live side d way t octets ends es r in
     let names = names_are rules live side d way t octets ends es r in
     let side_is : ends.side ≡ side = ap (λ (e : Endpoints). e.side) r.ends_are in
-    let after : entered (called_so rules live side d ends octets) es ns ≡ entered image (rules.listed (is_client side t) t.session) (names_in rules side d (Some t)) =
-    entered_alike (called_so rules live side d ends octets) image es ns alike ∙ ap (λ (xs : List Entry). entered image xs ns) r.entries_are ∙ ap (entered image (rules.listed (is_client side t) t.session)) names in
+    let after : entered (called_so rules live side d ends octets) es ns ≡ entered image (rules.listed (host_on side t) t.session) (names_in rules side d (Some t)) =
+    entered_alike (called_so rules live side d ends octets) image es ns alike ∙ ap (λ (xs : List Entry). entered image xs ns) r.entries_are ∙ ap (entered image (rules.listed (host_on side t) t.session)) names in
     record {
       passes = told_is rules live side d way t octets ends es r ∙ none;
       bound = subst (λ (ys : List Addr). All (λ address. cross live.table side address ≢ Unbound) ys) same (subst (λ (s : Side). AreBound live.table s (all_addresses ends ns)) side_is (used_bound live.table ends es ns r.header r.listed told.bound));
@@ -178,7 +174,7 @@ pub none_planned : {S : Type 0} (rules : SessionRules S) (live : World S) (side 
     → whole_units octets ≡ [] → is_empty way.of_source ≡ false → plan.named.items ≡ [] → plan.entries.items ≡ [] → plan.images.items ≡ [] → IsUnitPlan rules live side d t plan
 none_planned rules live side d way t octets ends es plan r none room named entries images =
     let image = image_of rules live side d in
-    let listed = rules.listed (is_client side t) t.session in
+    let listed = rules.listed (host_on side t) t.session in
     let names : names_in rules side d (Some t) ≡ [] = sym (names_are rules live side d way t octets ends es r) ∙ ap addresses_in none in
     let used : addresses_of d ≡ used_by rules side d t = ap (λ (ns : List Addr). source_of d ∷ destination_of d ∷ ns) (sym names) in
     let fits : nat_lt (free live.table (other side)) (needed live.table side (addresses_of d)) ≡ false = sym (empty_is rules live side d way r.on.way_is) ∙ room in
@@ -208,20 +204,20 @@ is_stopped rules live side d way t octets ends es stops.OutOfMemory r first some
 abbrev pub way_ends : Way → Endpoints
 way_ends way = record { side = way.side; source = way.source; destination = way.destination }
 
-pub ready_is : {S : Type 0} (rules : SessionRules S) (live : World S) (d : Datagram) (way : Way) (t : Tracked S) (f : Bool) (session : S) (g : Segment) (octets : List ℕ) (es : List Entry) → f ≡ is_client way.side t → session ≡ t.session → g ≡ segment_of d → whole_units octets ≡ rules.units f session g → es ≡ rules.listed f session
-    → AreBound live.table way.side (way.source ∷ way.destination ∷ []) → IsListBound live.table way.side (rules.listed (is_client way.side t) t.session) → ((client : Bool) → length (rules.listed client t.session) ≤ 256) → IsOn rules live way.side d way t → IsReady rules live way.side d way t octets (way_ends way) es
+pub ready_is : {S : Type 0} (rules : SessionRules S) (live : World S) (d : Datagram) (way : Way) (t : Tracked S) (f : Host) (session : S) (g : Segment) (octets : List ℕ) (es : List Entry) → f ≡ host_on way.side t → session ≡ t.session → g ≡ segment_of d → whole_units octets ≡ rules.units f session g → es ≡ rules.listed f session
+    → AreBound live.table way.side (way.source ∷ way.destination ∷ []) → IsListBound live.table way.side (rules.listed (host_on way.side t) t.session) → ((host : Host) → length (rules.listed host t.session) ≤ 256) → IsOn rules live way.side d way t → IsReady rules live way.side d way t octets (way_ends way) es
 ready_is {S = S} rules live d way t f session g octets es sender same of units entries header listed few on =
-    let mine = entries ∙ ap (λ (s : S). rules.listed f s) same ∙ ap (λ (b : Bool). rules.listed b t.session) sender in
+    let mine = entries ∙ ap (λ (s : S). rules.listed f s) same ∙ ap (λ (b : Host). rules.listed b t.session) sender in
     record {
       on = on;
-      units = units ∙ ap (λ (s : S). rules.units f s g) same ∙ ap (λ (b : Bool). rules.units b t.session g) sender ∙ ap (rules.units (is_client way.side t) t.session) of;
+      units = units ∙ ap (λ (s : S). rules.units f s g) same ∙ ap (λ (b : Host). rules.units b t.session g) sender ∙ ap (rules.units (host_on way.side t) t.session) of;
       ends_are =
           ap (λ (a : Addr). let e : Endpoints = record { side = way.side; source = a; destination = way.destination } in e) on.way_is.source_is
           ∙ ap (λ (a : Addr). let e : Endpoints = record { side = way.side; source = source_of d; destination = a } in e) on.way_is.destination_is;
       entries_are = mine;
       header = header;
       listed = subst (λ (xs : List Entry). IsListBound live.table way.side xs) (sym mine) listed;
-      few = few (is_client way.side t);
+      few = few (host_on way.side t);
     }
 
 pub by_ok : {A E : Type 0} {P Q : A → Type 0} (r : Result A E) → ((x : A) → P x → Q x) → IfOk r P → IfOk r Q

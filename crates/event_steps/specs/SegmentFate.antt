@@ -1,9 +1,10 @@
 -- What is found of a segment's connection, and what its units do.
-use Rattle.std.specs.Prelude.{◌≡◌, ◌≢◌, ◌≤◌, ℕ, true, false, ◌+◌, List, [], ◌∷◌, ◌++◌, take, length, Option, Some, None, is_some}
+use Rattle.std.specs.Prelude.{◌≡◌, ◌≢◌, ◌≤◌, ℕ, true, ◌+◌, List, [], ◌∷◌, ◌++◌, take, length, Option, Some, None, is_some}
 use Rattle.std.specs.List.{All}
 use Rattle.gate_base.specs.declared.address.Addr.{Addr}
 use Rattle.gate_base.specs.declared.side.Side.{Side}
 use Rattle.gate_base.specs.Side.{other}
+use Rattle.gate_base.specs.declared.host.Host.TheVariants.{Client, Server}
 use Rattle.binding_table.specs.Bindings.{cross, free}
 use Rattle.binding_table.specs.Lawful.{IsLawful}
 use Rattle.binding_table.specs.Plan.{Use, needed}
@@ -69,8 +70,8 @@ pub record IsPlanOf {S : Type 0} (rules : SessionRules S) (live : World S) (side
   pub found : session_in (found_in live side d) ≡ Some t
   pub refusal : session_refusal rules side d (Some t) ≡ None
   pub units : IsUnitPlan rules live side d t plan.units
-  pub client : plan.client ≡ length (rules.listed true t.session)
-  pub server : plan.server ≡ length (rules.listed false t.session)
+  pub client : plan.client ≡ length (rules.listed Client t.session)
+  pub server : plan.server ≡ length (rules.listed Server t.session)
 
 -- what is found: no connection, one without a session, or one with a session, by which or behind which the segment is refused, or that takes it; or memory is wanting for its units
 abbrev pub IsFound : {S : Type 0} (rules : SessionRules S) → World S → Side → Datagram → SegmentFate → Type 0
@@ -86,4 +87,4 @@ uses_planned rules way plan timeout t =
     let until = way.moment.0 + timeout in
     uses_until way.side until (way.source ∷ way.destination ∷ [])
     ++ (uses_until way.side until plan.units.named.items
-    ++ (uses_until t.client until (renamed_in (take plan.client (rules.listed true t.session))) ++ uses_until (other t.client) until (renamed_in (take plan.server (rules.listed false t.session)))))
+    ++ (uses_until t.client until (renamed_in (take plan.client (rules.listed Client t.session))) ++ uses_until (other t.client) until (renamed_in (take plan.server (rules.listed Server t.session)))))

@@ -14,7 +14,7 @@ use Rattle.gate_model.specs.Frame.{Kind, Stream}
 use Rattle.twice_translate.specs.Renamed.{CanGoOn, datagram_of}
 use Rattle.gate_model.specs.Stream.{tcp_of, segment_of, stepped, ends_by, pending_by, most_connections}
 use Rattle.gate_model.specs.Verdict.{kind_tests, late_tests, is_pool_empty}
-use Rattle.gate_model.specs.World.{Tracked, World, is_client}
+use Rattle.gate_model.specs.World.{Tracked, World, host_on}
 use Rattle.dialogue.specs.Learning.{Entry, AreImages}
 use Rattle.dialogue.specs.declared.learns.UnitImage.{UnitImage}
 use Rattle.dns_stream.specs.Images.{dns_units}
@@ -50,15 +50,15 @@ lacks_place all found flags = is_none found && (not (flags_of flags).reset && na
 
 -- the addresses that the units of a segment name, each beside what it is called
 abbrev pub AreCalled : {S : Type 0} (rules : SessionRules S) → (Addr → Option Addr) → Side → Datagram → Tracked S → List Entry → Type 0
-AreCalled rules image side d t entries = entries ≡ beside image (addresses_in (rules.units (is_client side t) t.session (segment_of d)))
+AreCalled rules image side d t entries = entries ≡ beside image (addresses_in (rules.units (host_on side t) t.session (segment_of d)))
 
 -- a session passes a segment, its list has room for such entries, and these are images of units by the list with them
 pub record Enters {S : Type 0} (rules : SessionRules S) (side : Side) (d : Datagram) (t : Tracked S) (entries : List Entry) (images : List UnitImage) : Type 0 where
-  pub passes : rules.refusal (is_client side t) t.session (segment_of d) ≡ None
-  pub few : length (entered_all (rules.listed (is_client side t) t.session) entries) ≤ 256
+  pub passes : rules.refusal (host_on side t) t.session (segment_of d) ≡ None
+  pub few : length (entered_all (rules.listed (host_on side t) t.session) entries) ≤ 256
   pub image : Addr → Option Addr
   pub called : AreCalled rules image side d t entries
-  pub right : AreImages (dns_units (entered_all (rules.listed (is_client side t) t.session) entries)) images
+  pub right : AreImages (dns_units (entered_all (rules.listed (host_on side t) t.session) entries)) images
 
 -- how many changed lines or units wait in a session after a segment, unless it ends
 abbrev pub waiting_after : {S : Type 0} (rules : SessionRules S) → (Addr → Option Addr) → Side → Datagram → Tracked S → Option ℕ

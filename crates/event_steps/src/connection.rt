@@ -1,9 +1,10 @@
 // What is found of a segment's connection, and what the units of DNS over TCP do that it completes (RFC 2694, RFC 7766).
-ghost use Rattle.std.specs.Prelude.{◌≡◌, ◌≤◌, ◌∷◌, Bool, true, false, [], length, Some, None, IfOk, IfErr};
+ghost use Rattle.std.specs.Prelude.{◌≡◌, ◌≤◌, ◌∷◌, [], length, Some, None, IfOk, IfErr};
+ghost use Rattle.gate_base.specs.declared.host.Host.{Host};
 ghost use Rattle.binding_table.specs.Lawful.{IsLawful};
 ghost use Rattle.gate_model.specs.Stream as streams;
 ghost use Rattle.gate_model.specs.World as worlds;
-ghost use Rattle.gate_model.specs.World.{World, is_client};
+ghost use Rattle.gate_model.specs.World.{World, host_on};
 ghost use Rattle.tcp_tracker.specs.Connections.{connection_of};
 ghost use Rattle.dns_plans.specs.Plans.{AreBound, IsListBound};
 ghost use Rattle.gate_payloads.specs.Taken.{IsWayOf};
@@ -14,7 +15,7 @@ use crate::workspace::Workspace;
 use binding_table::Table;
 use dns_plans::{Endpoints, PlanStop, Sender, Session, Tracked, UnitPlan, plan_units};
 use dns_stream::unit_end;
-use gate_base::Refusal;
+use gate_base::{Host, Refusal};
 use gate_outbox::Segment;
 use gate_payloads::Way;
 use tcp_tracker::{ConnKey, SessionTable};
@@ -32,7 +33,7 @@ fn session_refusal<S: Session>(
 {
     tracked
         .session
-        .refusal(tracked.is_client(way.side), segment.tcp)
+        .refusal(tracked.host_on(way.side), segment.tcp)
 }
 
 /// What the units do that a segment completes, which its session passes, or why it is refused. Memory is taken only where it completes
@@ -50,9 +51,9 @@ fn plan_session<S: Session>(
     requires header { AreBound table.now way.now.side
         (way.now.source ∷ way.now.destination ∷ []) }
     requires listed { IsListBound table.now way.now.side
-        (S.rules.listed (is_client way.now.side tracked.now) tracked.now.session) }
-    requires few { (client : Bool)
-        → length (S.rules.listed client tracked.now.session) ≤ 256 }
+        (S.rules.listed (host_on way.now.side tracked.now) tracked.now.session) }
+    requires few { (host : Host)
+        → length (S.rules.listed host tracked.now.session) ≤ 256 }
     ensures planned { (live : World S)
         → live.table ≡ table.now
         → IsOn S.rules live way.now.side segment.now.datagram.now way.now tracked.now
@@ -64,16 +65,16 @@ fn plan_session<S: Session>(
         → IfErr result
         (IsStopped S.rules live way.now.side segment.now.datagram.now) }
 {
-    let from_client = tracked.is_client(way.side);
+    let from = tracked.host_on(way.side);
     tracked
         .session
-        .put_octets(from_client, segment.tcp, &mut workspace.octets);
+        .put_octets(from, segment.tcp, &mut workspace.octets);
     if unit_end(workspace.octets.octets()).is_none() {
         return no_units(workspace.alloc, way);
     }
     let sender = Sender {
         session: &tracked.session,
-        is_client: from_client,
+        host: from,
     };
     let endpoints = Endpoints {
         side: way.side,
@@ -102,7 +103,7 @@ fn judge_session<S: Session>(
     requires header { AreBound table.now way.now.side
         (way.now.source ∷ way.now.destination ∷ []) }
     requires listed { IsListBound table.now way.now.side
-        (S.rules.listed (is_client way.now.side tracked.now) tracked.now.session) }
+        (S.rules.listed (host_on way.now.side tracked.now) tracked.now.session) }
     ensures { (live : World S)
         → live.table ≡ table.now
         → IsLawful live.table
@@ -115,8 +116,8 @@ fn judge_session<S: Session>(
     if let Some(refusal) = session_refusal(tracked, way, segment) {
         return SegmentFate::Refused(refusal);
     }
-    let client = tracked.session.listed(true);
-    let server = tracked.session.listed(false);
+    let client = tracked.session.listed(Host::Client);
+    let server = tracked.session.listed(Host::Server);
     match plan_session(workspace, table, tracked, way, segment) {
         Ok(units) => SegmentFate::Tracked(SegmentPlan {
             units,
@@ -143,7 +144,7 @@ pub fn look_up<S: Session>(
     requires listed { (t : worlds.Tracked S)
         → streams.session_in (connection_of key.now connections.now) ≡ Some t
         → IsListBound table.now way.now.side
-        (S.rules.listed (is_client way.now.side t) t.session) }
+        (S.rules.listed (host_on way.now.side t) t.session) }
     ensures { (live : World S)
         → live.table ≡ table.now
         → live.connections ≡ connections.now

@@ -39,7 +39,7 @@ fn inner_number<S: Session>(
     Some(
         tracked
             .session
-            .inner(tracked.is_client(side.other()), inner.sequence),
+            .inner(tracked.host_on(side.other()), inner.sequence),
     )
 }
 

@@ -1,6 +1,7 @@
 // The uses of a segment of a session (RFC 2694, RFC 3022, 3.1).
-ghost use Rattle.std.specs.Prelude.{◌≡◌, ◌≤◌, ◌++◌, take, length, true, false, Some};
+ghost use Rattle.std.specs.Prelude.{◌≡◌, ◌≤◌, ◌++◌, take, length, true, Some};
 ghost use Rattle.gate_base.specs.Moments.{IsMoment, IsTimeout};
+ghost use Rattle.gate_base.specs.declared.host.Host.TheVariants.{Client, Server};
 ghost use Rattle.gate_base.specs.Side.{other};
 ghost use Rattle.binding_table.specs.Bindings.{is_settled};
 ghost use Rattle.binding_table.specs.Plan.{after_uses};
@@ -16,47 +17,54 @@ use crate::entries::use_entry;
 use crate::found::SegmentPlan;
 use binding_table::Table;
 use dns_plans::{Session, Tracked};
-use gate_base::{Moment, Side};
+use gate_base::{Host, Moment, Side};
 use gate_payloads::{Way, use_all};
 use tcp_tracker::{ConnKey, SessionTable};
 
-/// Uses the addresses of the first entries of the client's list, or else of the server's, from the realm of its sender.
+/// Uses the addresses of the first entries of a host's list, from the host's realm.
 fn use_list<S: Session>(
     table: &mut Table,
     session: &S,
-    client: bool,
+    host: Host,
     count: usize,
     side: Side,
     until: Moment,
 )
-    requires { count ≤ length (S.rules.listed client session.now) }
+    requires { count ≤ length (S.rules.listed host session.now) }
     ensures { table.new
         ≡ after_uses table.old (uses_until side until.0
-        (renamed_in (take count (S.rules.listed client session.now)))) }
+        (renamed_in (take count (S.rules.listed host session.now)))) }
 {
     for place in 0..count {
-        use_entry(table, side, session.entry(client, place), until);
+        use_entry(table, side, session.entry(host, place), until);
     }
 }
 
 /// Uses the addresses that the lists of a session rename, as long as they were before the segment: the client's list first.
 fn use_lists<S: Session>(table: &mut Table, tracked: &Tracked<S>, plan: &SegmentPlan, until: Moment)
     requires client { plan.now.client
-        ≤ length (S.rules.listed true tracked.now.session) }
+        ≤ length (S.rules.listed Client tracked.now.session) }
     requires server { plan.now.server
-        ≤ length (S.rules.listed false tracked.now.session) }
+        ≤ length (S.rules.listed Server tracked.now.session) }
     ensures { table.new
         ≡ after_uses table.old (uses_until tracked.now.client until.0 (renamed_in
-        (take plan.now.client (S.rules.listed true tracked.now.session)))
+        (take plan.now.client (S.rules.listed Client tracked.now.session)))
         ++ uses_until (other tracked.now.client) until.0 (renamed_in
-        (take plan.now.server (S.rules.listed false tracked.now.session)))) }
+        (take plan.now.server (S.rules.listed Server tracked.now.session)))) }
 {
     let client = tracked.client;
-    use_list(table, &tracked.session, true, plan.client, client, until);
     use_list(
         table,
         &tracked.session,
-        false,
+        Host::Client,
+        plan.client,
+        client,
+        until,
+    );
+    use_list(
+        table,
+        &tracked.session,
+        Host::Server,
         plan.server,
         client.other(),
         until,
@@ -80,10 +88,10 @@ pub fn use_segment<S: Session>(
     requires timeout { IsTimeout timeout }
     requires client { (t : worlds.Tracked S)
         → streams.session_in (connection_of key.now connections.now) ≡ Some t
-        → plan.now.client ≤ length (S.rules.listed true t.session) }
+        → plan.now.client ≤ length (S.rules.listed Client t.session) }
     requires server { (t : worlds.Tracked S)
         → streams.session_in (connection_of key.now connections.now) ≡ Some t
-        → plan.now.server ≤ length (S.rules.listed false t.session) }
+        → plan.now.server ≤ length (S.rules.listed Server t.session) }
     ensures { (t : worlds.Tracked S)
         → streams.session_in (connection_of key.now connections.now) ≡ Some t
         → table.new

@@ -3,7 +3,7 @@ use Rattle.std.proofs.Common.{◌≡◌, ◌⊎◌, inl, inr, ℕ, ◌+◌, true
 use Rattle.std.proofs.lemmas.Bool.{cases_Bool}
 use Rattle.std.proofs.lemmas.Option.{none-some, same_Some}
 use Rattle.expiring_table.specs.declared.row.Row.{Row}
-use Rattle.expiring_table.specs.Rows.{row_of, without, lives, living, AreDistinct}
+use Rattle.expiring_table.specs.Rows.{row_of, without, lives, living, AreDistinct, with_row}
 use Rattle.expiring_table.specs.Kept.{rows_in, AreOnce}
 use Rattle.expiring_table.proofs.Cells.{once_tail, none_found}
 use Rattle.expiring_table.proofs.Changes.{rest_other}
@@ -20,6 +20,14 @@ module _ {T : Type 0} where
       elim (cases_Bool (row.key == key)) [
         | inl e ↦ let found : Some row ≡ None = sym (rw e refl) ∙ none in absurd (none-some row (sym found))
         | inr e ↦ let rest : row_of key rows ≡ None = (let p : row_of key (row ∷ rows) ≡ row_of key rows = rw e refl in sym p ∙ none) in rw e (ap (λ more. row ∷ more) (without_none key rows rest))
+      ]
+
+  pub with_none : (new : Row T) (rows : List (Row T)) → row_of new.key rows ≡ None → with_row new rows ≡ rows
+  with_none new [] none = refl
+  with_none new (row ∷ rows) none =
+      elim (cases_Bool (row.key == new.key)) [
+        | inl e ↦ let found : row_of new.key (row ∷ rows) ≡ Some row = rw e refl in absurd (none-some row (sym none ∙ found))
+        | inr e ↦ let rest : row_of new.key (row ∷ rows) ≡ row_of new.key rows = rw e refl in rw e (ap (λ more. row ∷ more) (with_none new rows (sym rest ∙ none)))
       ]
 
   -- the first row is the one that is found, or the rest has it

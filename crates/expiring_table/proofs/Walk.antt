@@ -1,5 +1,5 @@
 -- A walk through the places of a bucket.
-use Rattle.std.proofs.Common.{◌≡◌, ℕ, ◌+◌, ◌<◌, ◌≤◌, true, false, List, length, slice_index, Option, Some, None, ap, sym, ◌∙◌, arith}
+use Rattle.std.proofs.Common.{◌≡◌, ℕ, ◌+◌, ◌<◌, ◌≤◌, true, false, List, length, slice_index, Option, Some, None, ap, sym, ◌∙◌, arith, true≢false}
 use Rattle.std.proofs.Common.{inl, inr}
 use Rattle.std.proofs.Math.Nat.{eq-or-lt_of_le}
 use Rattle.std.proofs.lemmas.Bool.{cases_lt, eq-eqb, eqb-true}
@@ -7,9 +7,6 @@ use Rattle.expiring_table.specs.declared.row.Row.{Row}
 use Rattle.expiring_table.specs.Chained.{Chained, IsLast}
 use Rattle.expiring_table.proofs.Cells.{row_within}
 use Rattle.expiring_table.specs.Kept.{row_at, is_cell_of, AreHashed, IsPlaceOf, bucket_of}
-
-true-false : true ≡ false → ⊥
-true-false is = cc
 
 -- how many places may be left
 abbrev pub left : Option ℕ → ℕ
@@ -61,13 +58,13 @@ module _ {T : Type 0} where
         bucket = in_bucket (bucket_of chained key) chained.buckets met at last' (omega (arith, walk.bucket.0));
         ahead = λ place row at_place same.
             let before : place ≤ met = walk.ahead place row at_place same in
-            let not_met : place ≡ met → ⊥ = λ is. true-false (sym (eq-eqb row.key key same) ∙ ap (is_cell_of key) (sym at_place ∙ ap (row_at cells) is) ∙ other) in
+            let not_met : place ≡ met → ⊥ = λ is. true≢false (sym (eq-eqb row.key key same) ∙ ap (is_cell_of key) (sym at_place ∙ ap (row_at cells) is) ∙ other) in
             ahead_of (bucket_of chained key) chained.buckets met at place last' (elim (eq-or-lt_of_le before) [ inl is ↦ absurd (not_met is) | inr h ↦ h ]) (hashed place row at_place ∙ ap (bucket_of chained) same);
       }
 
   -- the cell of the key was met
   pub walk_found : (key : ℕ) (cells : List (Option (Row T))) (met : ℕ) → met < length cells → (cell : Option (Row T)) → row_at cells met ≡ cell → is_cell_of key cell ≡ true → IsPlaceOf key cells (Some met)
-  walk_found key cells met within None at is = absurd (true-false (sym is))
+  walk_found key cells met within None at is = absurd (true≢false (sym is))
   walk_found key cells met within (Some row) at is = (within, (row, at, eqb-true row.key key is))
 
   pub met_within : (key : ℕ) (cells : List (Option (Row T))) (chained : Chained) (met : ℕ) → length chained.buckets ≡ length cells → IsWalk key cells chained (Some met) → met < length cells

@@ -5,12 +5,12 @@ use Rattle.audit_records.specs.Kept.{Expecting}
 use Rattle.frag_join.specs.Arrivals.{Arrival}
 use Rattle.gate_base.specs.Side.{other}
 use Rattle.gate_base.specs.declared.event.Verdict.{Verdict}
-use Rattle.gate_base.specs.declared.event.Verdict.TheVariants.{Pass, Refused, Held}
 use Rattle.gate_base.specs.declared.side.Side.{Side}
 use Rattle.gate_base.specs.declared.side.Side.TheVariants.{Left, Right}
 use Rattle.gate_desk.specs.Outside.{Outside, Trace, told_at, took}
 use Rattle.gate_desk.specs.declared.slot.Slot.TheVariants.{ReportGiven}
-use Rattle.gate_report.specs.Counts.{counted, one_if_passed, one_if_refused}
+use Rattle.gate_report.specs.Counts.{counted}
+use Rattle.gate_report.proofs.Counts.{few_passed, few_refused}
 use Rattle.gate_report.specs.declared.totals.Totals.{Totals}
 use Rattle.gate_settings.specs.declared.settings.Settings.{Settings}
 use Rattle.pcap_files.specs.Capture.{Packet, Records}
@@ -154,16 +154,6 @@ lawful_with settings s x frames packets g next addresses sound few count right w
       },
       size,
     )
-
-few_passed : (v : Verdict) → one_if_passed v ≤ 1
-few_passed Pass = omega arith
-few_passed (Refused r) = omega arith
-few_passed Held = omega arith
-
-few_refused : (v : Verdict) → one_if_refused v ≤ 1
-few_refused Pass = omega arith
-few_refused (Refused r) = omega arith
-few_refused Held = omega arith
 
 fits_on : (frames : ℕ) (h : LineHead) (totals totals' : Totals) (a a' : Auditing) (r r' : GivenFiles) (ahead' : List ℕ) (mid new : Outside) → Fits totals r → TookNext frames h.side (record r { report = ahead' }) r' a a' mid new → totals' ≡ counted totals h.side h.verdict frames → Fits totals' r'
 fits_on frames h totals totals' a a' r r' ahead' mid new f t is = subst (λ (x : Totals). Fits x r') (sym is) (record {

@@ -2,7 +2,7 @@ mod TakenRecords
 mod FoundLines
 mod ReportAhead
 mod Alikes
-mod Walked
+pub mod Walked
 mod TakenFiles
 mod FoundEvents
 mod FoundLast

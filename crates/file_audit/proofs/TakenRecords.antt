@@ -1,5 +1,5 @@
 -- The next records of a given capture.
-use Rattle.std.proofs.Common.{◌≡◌, ℕ, ◌+◌, ◌-◌, ◌*◌, ◌^◌, ◌≤◌, ◌<◌, List, [], ◌∷◌, ◌++◌, true, false, Result, Ok, Err, Option, Some, None, IfSome, IsErrAnd, drop, length, refl, sym, ap, subst, ◌∙◌, arith, append_assoc, length-append}
+use Rattle.std.proofs.Common.{◌≡◌, ℕ, ◌+◌, ◌-◌, ◌*◌, ◌^◌, ◌≤◌, ◌<◌, List, [], ◌∷◌, ◌++◌, true, false, Ok, Err, Option, Some, None, IfSome, drop, length, refl, sym, ap, subst, ◌∙◌, arith, append_assoc, length-append}
 use Rattle.std.specs.Prelude.{option_map}
 use Rattle.std.proofs.lemmas.List.{drop-drop}
 use Rattle.std.proofs.lemmas.List.Sums.{fold-append}
@@ -13,12 +13,10 @@ use Rattle.pcap_files.specs.Capture as faults
 use Rattle.pcap_files.specs.Reader.{Reading, Advances}
 use Rattle.pcap_files.proofs.Records.{records-came, records-ended, records-broken}
 use Rattle.pcap_merge.specs.Given.{with_records}
-use Rattle.gate_base.specs.declared.side.Side.{Side}
-use Rattle.gate_settings.specs.declared.settings.Settings.{Settings}
 use Rattle.pcap_files.specs.declared.fault.CaptureFault.{CaptureFault}
 use Rattle.pcap_files.specs.declared.fault.ReadStop.TheVariants.{Fault}
-use Rattle.lawful_files.specs.Wanted.{Wanted, Exactly, Cut}
 use Rattle.lawful_files.specs.Progress.{Progress, behind, carries}
+use Rattle.audit_records.proofs.Carried.{carries_few}
 use Rattle.gate_audit.specs.Auditing.{Auditing}
 use Rattle.file_audit.specs.Records.{FindsEnd, Took, judged, TakesSome, TakesRecord, TakesRecords}
 
@@ -154,15 +152,6 @@ counted_one p a a' n small is kept count few = (
       let little = carries_few a.settings (other a.expecting.side) a.expecting.wanted p in
       omega (arith, more, little, small, few),
 )
-  where
-    carries_few : (settings : Settings) (side : Side) (w : Wanted) (q : Packet) → carries settings side w q ≤ length q.octets
-    carries_few settings side (Exactly datagrams) q = omega arith
-    carries_few settings side (Cut d source destination s) q = omega arith
-
--- what a `?` hands on
-pub handed_on : {T E : Type 0} (Goal : Result T E → Type 0) (r : Result T E) (e : E) → IsErrAnd r (λ y. y ≡ e) → Goal (Err e) → Goal r
-handed_on Goal (Ok x) e h g = absurd h
-handed_on Goal (Err y) e h g = subst (λ z. Goal (Err z)) (sym h) g
 
 -- ## The end of a capture
 

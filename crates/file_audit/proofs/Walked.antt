@@ -1,5 +1,5 @@
 -- How far an audit has come: the steps of its loop.
-use Rattle.std.proofs.Common.{◌≡◌, ℕ, ◌+◌, List, [], ◌∷◌, ◌++◌, Bool, true, Ok, Err, Option, Some, None, IfSome, inl, inr, length, refl, sym, ap, subst, ◌∙◌, arith, append_assoc, append-nil, length-append}
+use Rattle.std.proofs.Common.{◌≡◌, ℕ, ◌+◌, List, [], ◌∷◌, ◌++◌, Ok, Err, Option, Some, None, IfSome, inl, inr, length, refl, sym, ap, subst, ◌∙◌, arith, append_assoc, append-nil, length-append}
 use Rattle.std.specs.Prelude.{option_map}
 use Rattle.frag_join.specs.Arrivals.{Arrival, arrival, arrival_by, arrivals_of, arrivals_from, joined_in, joiner_after, joiner_of, known_joiner, opened, taken_by}
 use Rattle.frag_join.specs.declared.taken.Taken.{Taken}
@@ -22,7 +22,7 @@ use Rattle.pcap_merge.specs.declared.stop.MergeStop.{MergeStop}
 use Rattle.pcap_merge.specs.declared.stop.MergeStop.TheVariants as merges
 use Rattle.pcap_merge.specs.Stops.{slot_of}
 use Rattle.pcap_merge.specs.Given.{TakenFor}
-use Rattle.pcap_merge.specs.Merge.{Merging, HasGiven, Reads, StopsBy, Advances, ComesTo, Finishes, ahead}
+use Rattle.pcap_merge.specs.Merge.{Merging, HasGiven, Reads, StopsBy, ComesTo, Finishes, ahead}
 use Rattle.lawful_files.specs.declared.reason.AuditReason.{AuditReason}
 use Rattle.lawful_files.specs.Files.{Given, State, opening, after, LawfulFrom, IsAtLast}
 use Rattle.lawful_files.specs.Reasons.{IsFirst}
@@ -36,7 +36,7 @@ use Rattle.file_audit.specs.declared.stop.AuditStop.TheVariants as stops
 use Rattle.file_audit.specs.Given.{ReadsGiven, TookFiles, given_told, Alike, IfBoth}
 use Rattle.file_audit.specs.Events.{Expected, IsExpecting, state_of, IsLawfulWith, IsReasonAt, IsReadInAudit, MayWantFor, WantsAt, TookFew, Finds, FindsAt, FindsLast, FoundLawful, stop_of}
 use Rattle.gate_audit.specs.Auditing.{Auditing}
-use Rattle.file_audit.proofs.Alikes.{alike_same, alike_join}
+use Rattle.file_audit.proofs.Alikes.{alike_same, alike_join, any}
 use Rattle.file_audit.proofs.Wanting.{given_still}
 
 -- what is read of the incoming captures changes nothing of the given files, and the other way round
@@ -161,10 +161,6 @@ walked_reason settings m0 m m' r0 r old now mid joiner s e number reason h one f
 
 -- ## What the loop answers
 
-any_given : (o : Option Given) → IfSome o (λ g. Unit {0})
-any_given None = tt
-any_given (Some g) = tt
-
 read_side : (side : Side) → IsReadInAudit (slot_of side)
 read_side Left = tt
 read_side Right = tt
@@ -181,7 +177,7 @@ first_at_end settings xs s g left number reason c first = subst (λ (ys : List A
 
 pub finds_stop : (stop : MergeStop) (settings : Settings) (m0 m : Merging) (r0 r : GivenFiles) (old now mid : Outside) (joiner : Joined) (s : State) → Walked settings m0 m r0 r old now joiner s → Grows old now → StopsBy stop m now mid → Finds (Err (stop_of stop)) settings m0 r0 old mid
 finds_stop (merges.Fault side fault place) settings m0 m r0 r old now mid joiner s h grows k =
-    walked_end settings m0 m r0 r old now joiner s (Fault side fault place) (λ g. Unit {0}) (λ all g. (all.ending ≡ Fault side fault place) × LawfulFrom settings (opening settings) (arrivals_of settings.join all.events) all.ending g) h k.1 (any_given (given_told r now.left))
+    walked_end settings m0 m r0 r old now joiner s (Fault side fault place) (λ g. Unit {0}) (λ all g. (all.ending ≡ Fault side fault place) × LawfulFrom settings (opening settings) (arrivals_of settings.join all.events) all.ending g) h k.1 (any (given_told r now.left))
     (λ g left c u. (refl, all_lawful settings (arrivals_of settings.join h.done) (Fault side fault place) s g left c tt))
 finds_stop (merges.Desk slot) settings m0 m r0 r old now mid joiner s h grows k =
     (subst IsReadInAudit (sym k.1) (read_side k.0), subst (λ x. HasFailed x old mid) (sym k.1) (failed_since (slot_of k.0) old now mid grows k.2.cause))
@@ -248,14 +244,6 @@ walked_event settings m0 m m' r0 r r' a a' totals joiner joiner' s s' e frames o
     steps state
     (subst (λ (x : Settings). Alike (IsLawfulWith x s (arrival by_known joiner e) frames) (given_told r now.left) (given_told r' new.left)) is
     (subst (λ o. Alike (IsLawfulWith a.settings s (arrival by_known joiner e) frames) o (given_told r' new.left)) (same_given r now mid came.reads) f.lawful))
-
--- the event that was given is the one that is asked for
-pub gives : (more : Bool) (e : Event) (m m' : Merging) (old new : Outside) → more ≡ true → Advances (Ok more) m m' old new → m'.event ≡ Some e → ComesTo e m m' old new
-gives more e m m' old new is h held =
-    let came = subst (λ b. Advances (Ok b) m m' old new) is h in
-    let found : Some came.0 ≡ Some e = sym came.1.event ∙ held in
-    let same : came.0 ≡ e = cc in
-    subst (λ (x : Event). ComesTo x m m' old new) same came.1
 
 -- a frame comes to the gate, or stays, at its own moment
 at-of : (e : Event) (t : Taken) (joined : Option Event) → ((y : Event) → joined ≡ Some y → y.moment ≡ e.moment) → (event_in (arrival_by e t joined)).moment ≡ e.moment

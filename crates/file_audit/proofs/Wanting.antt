@@ -1,5 +1,5 @@
 -- Where memory is wanting.
-use Rattle.std.proofs.Common.{◌≡◌, ℕ, List, Bool, Result, Ok, Err, OnErr, sym, ap, subst, ◌∙◌}
+use Rattle.std.proofs.Common.{◌≡◌, ℕ, List, Bool, Err, sym, ap, subst, ◌∙◌}
 use Rattle.frag_join.specs.Arrivals.{Arrival}
 use Rattle.gate_base.specs.Events.{Event}
 use Rattle.gate_base.specs.declared.side.Side.{Side}
@@ -25,10 +25,6 @@ use Rattle.file_audit.specs.Given.{ReadsGiven}
 use Rattle.file_audit.proofs.IncomingEnds.{left_kept, right_kept}
 use Rattle.file_audit.specs.Lines.{TakesLast, TakesLine}
 use Rattle.gate_audit.specs.Auditing.{Auditing}
-
-pub always_err : {A E P : Type 0} (r : Result A E) → P → OnErr r P
-always_err (Ok x) p = tt
-always_err (Err e) p = p
 
 -- a line could not be taken
 pub line_stops : (stop : AuditStop) (json : Bool) (h : LineHead) (ahead ahead' : List ℕ) (s : State) (x : Arrival) (r r' : GivenFiles) (a a' : Auditing) (old new : Outside) → json ≡ a.settings.json → TakesLine (Err stop) json h ahead ahead' old new → FindsAt (Err stop) s x r r' a a' old new

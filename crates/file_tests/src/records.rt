@@ -12,7 +12,7 @@ use pcap_files::Packet;
 use settings_file::read_settings;
 use std::alloc::Global;
 use std::test::Fail;
-use tcp_segments::{TcpView, put_segment};
+use tcp_segments::{SegmentFields, TcpView, put_segment};
 
 const SETTINGS: &[u8] = b"left.pool_first = \"192.168.200.1\"
 left.pool_last = \"192.168.200.254\"
@@ -144,18 +144,15 @@ fn datagram_of(
     };
     let octets = octets_from(first, count)?;
     let mut datagram = vec![in alloc; 0u8; 40 + octets.len()]?;
-    put_segment(
-        &mut datagram,
-        IP,
-        header(),
-        ends.0,
-        ends.1,
+    let fields = SegmentFields {
+        source: ends.0,
+        destination: ends.1,
         lifetime,
-        SEQUENCE.wrapping_add(u32::from(first)),
-        ACKNOWLEDGEMENT,
+        sequence: SEQUENCE.wrapping_add(u32::from(first)),
+        acknowledgement: ACKNOWLEDGEMENT,
         flags,
-        octets,
-    );
+    };
+    put_segment(&mut datagram, IP, header(), fields, octets);
     Ok(datagram)
 }
 

@@ -1,7 +1,7 @@
 // Documents, and the settings or the first fault that they give.
 use gate_base::{Addr, Link, OidRule, Side};
 use gate_settings::{Block, Blocks, Fixed, OidRules, SameRanges, Settings, SideSettings, Statics};
-use settings_file::{ReadSettings, fault_text, read_settings};
+use settings_file::{ReadSettings, read_settings};
 use std::alloc::Global;
 use std::test::Fail;
 
@@ -140,10 +140,7 @@ fn answer(alloc: Global, octets: &[u8]) -> Result<String, Fail> {
     match read_settings(alloc, octets) {
         Ok(_) => Ok(String::from_str(alloc, "accepted")?),
         Err(ReadSettings::OutOfMemory) => Err(Fail::from("memory")),
-        Err(ReadSettings::Fault(fault)) => match fault_text(alloc, &fault) {
-            Ok(text) => Ok(String::from_utf8(text)?),
-            Err(_) => Err(Fail::from("memory")),
-        },
+        Err(ReadSettings::Fault(fault)) => Ok(fault.to_string(alloc)?),
     }
 }
 

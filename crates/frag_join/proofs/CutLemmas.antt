@@ -2,7 +2,7 @@
 use Rattle.std.proofs.Common.{◌≡◌, ℕ, ◌+◌, ◌-◌, ◌%◌, ◌<◌, ◌≤◌, Bool, true, false, ◌&&◌, ◌||◌, not, eqb, ltb, leb, cond, List, [], ◌∷◌, ◌++◌, length, get_or, Option, Some, None, is_some, unwrap_or, refl, sym, ap, ◌∙◌, arith, ◌⊎◌, inl, inr}
 use Rattle.std.specs.Prelude.{All}
 use Rattle.std.specs.Option.{option_or}
-use Rattle.std.proofs.lemmas.Bool.{true≢false, cases_Bool, ltb-true, ltb-false, leb-true, eq-eqb, le-ltb, ne_eqb, and_parts}
+use Rattle.std.proofs.lemmas.Bool.{true≢false, cases_Bool, ltb-true, ltb-false, leb-true, eq-eqb, le-ltb, ne_eqb, and_parts, false≢true}
 use Rattle.std.proofs.lemmas.List.Edits.{get_or-between}
 use Rattle.std.proofs.lemmas.List.Elements.{All-head, All-tail}
 use Rattle.frag_join.specs.Places.{table}
@@ -138,12 +138,9 @@ more_octets : (fragments more : List Fragment) (place : ℕ) → is_some (octet_
 more_octets [] more place is = absurd cc
 more_octets (f ∷ others) more place is = more_octets_at f others more place (more_octets others more place) (some_or (octet_in f place) (octet_at others place) is)
 
-some_none : false ≡ true → ⊥
-some_none is = cc
-
 cover_cases : (f : Fragment) (place : ℕ) → is_some (octet_in f place) ≡ true → (covers f place ≡ true) ⊎ (covers f place ≡ false) → covers f place ≡ true
 cover_cases f place is (inl inside) = inside
-cover_cases f place is (inr outside) = absurd (some_none (sym (ap is_some (octet-outside f place outside)) ∙ is))
+cover_cases f place is (inr outside) = absurd (false≢true (sym (ap is_some (octet-outside f place outside)) ∙ is))
 
 told_last : (d : Original) (f : Fragment) (more : Bool) (o : Option ℕ) → IsCut d f → f.more ≡ more → more ≡ false → option_or (cond more None (Some (end_of f))) o ≡ Some (length d.payload)
 told_last d f true o cut is last = absurd cc

@@ -10,6 +10,7 @@ use Rattle.gate_base.specs.Events.{Event}
 use Rattle.gate_base.specs.Tests.{first_that_holds}
 use Rattle.gate_base.specs.declared.refusal.Refusal.{Refusal}
 use Rattle.gate_base.specs.declared.refusal.Refusal.TheVariants.{IpOptions, BadFragment, FragmentsFull}
+use Rattle.gate_base.proofs.Lists.{find_passes, find_filter}
 use Rattle.ipv4_frames.specs.Ipv4.{has_options}
 use Rattle.frag_join.specs.declared.part.Name.{Name}
 use Rattle.frag_join.specs.declared.part.Part.{Part}
@@ -22,7 +23,7 @@ use Rattle.frag_join.proofs.NameLemmas.{name-eq, name-same}
 use Rattle.frag_join.proofs.CutLemmas.{cut-good, cover-complete, cover-datagram, open-incomplete, open-less}
 use Rattle.frag_join.proofs.StepLemmas.{step-there, step-new, settled-joined, settled-held}
 use Rattle.frag_join.proofs.KeptSteps.{step-known, after-known}
-use Rattle.frag_join.proofs.Found.{part-find, place-there, place-none, find-passes, find-filter, find-last, find-set, find-changed}
+use Rattle.frag_join.proofs.Found.{part-find, place-there, place-none, find-last, find-set, find-changed}
 
 abbrev Whole : Type 0
 Whole = Part (List Fragment)
@@ -37,7 +38,7 @@ new_name e None is = refl
 new_name e (Some part) is = is part refl
 
 part_name : (e : Event) (parts : List Whole) (part : Whole) → part_of (name_in e) parts ≡ Some part → part.name ≡ name_in e
-part_name e parts part found = name-eq part.name (name_in e) (find-passes (is_of (name_in e)) parts part (sym (part-find (name_in e) parts) ∙ found))
+part_name e parts part found = name-eq part.name (name_in e) (find_passes (is_of (name_in e)) parts part (sym (part-find (name_in e) parts) ∙ found))
 
 settled_miss : (name : Name) (parts : List Whole) (place : Option ℕ) (e : Event) (part d : Whole) → ((i : ℕ) → place ≡ Some i → (is_of name (get_or parts i d) ≡ false) × (i < length parts)) → is_of name part ≡ false → (b : Bool) → is_complete (known_by part.kept) ≡ b → find (is_of name) (settled by_list parts place e part).state.parts ≡ find (is_of name) parts
 settled_miss name parts place e part d was is true complete =
@@ -91,7 +92,7 @@ record HasPart (d : Original) (since : ℕ) (fragments : List Fragment) (parts :
 live_part : (d : Original) (since now : ℕ) (fragments : List Fragment) (parts : List Whole) → now < since + timeout → HasPart d since fragments parts → HasPart d since fragments (live now parts)
 live_part d since now fragments parts soon has = record {
   part = has.part;
-  found = find-filter (is_of d.name) (is_live now) parts has.part has.found (lt-ltb now (has.part.since.0 + timeout) (omega (arith, has.moment)));
+  found = find_filter (is_of d.name) (is_live now) parts has.part has.found (lt-ltb now (has.part.since.0 + timeout) (omega (arith, has.moment)));
   kept = has.kept;
   moment = has.moment;
 }
@@ -132,7 +133,7 @@ piece_held d since fragments parts e fits has cuts piece_is more open_ =
     let first = position-Some (is_of d.name) parts at.place has.part at.at in
     record {
       part = new;
-      found = ap (λ (s : Step (List Fragment)). find (is_of d.name) s.state.parts) one ∙ find-set (is_of d.name) parts at.place new has.part first.0 first.2 (find-passes (is_of d.name) parts has.part has.found);
+      found = ap (λ (s : Step (List Fragment)). find (is_of d.name) s.state.parts) one ∙ find-set (is_of d.name) parts at.place new has.part first.0 first.2 (find_passes (is_of d.name) parts has.part has.found);
       kept = kept;
       moment = has.moment;
     }

@@ -1,18 +1,14 @@
 -- The datagram with a name, among others.
-use Rattle.std.proofs.Common.{◌≡◌, ℕ, zero, suc, ◌<◌, ◌≤◌, Bool, true, false, ltb, cond, List, [], ◌∷◌, ◌++◌, length, get_or, set, Option, Some, None, refl, sym, ap, ◌∙◌, arith}
+use Rattle.std.proofs.Common.{◌≡◌, ℕ, zero, suc, ◌<◌, Bool, true, false, ltb, cond, List, [], ◌∷◌, ◌++◌, length, get_or, set, Option, Some, None, refl, sym, ap, ◌∙◌, arith}
 use Rattle.std.specs.Prelude.{slice_get}
 use Rattle.std.specs.Option.{option_and_then}
-use Rattle.std.specs.List.{filter, find, remove, position, position_or_len}
-use Rattle.std.proofs.lemmas.Bool.{true≢false, ltb-true, ltb-false}
+use Rattle.std.specs.List.{find, remove, position, position_or_len}
+use Rattle.std.proofs.lemmas.Bool.{ltb-true, ltb-false}
+use Rattle.std.proofs.lemmas.Option.{slice_get_past}
 use Rattle.std.proofs.lemmas.List.Folds.{find_at}
 use Rattle.frag_join.specs.declared.part.Name.{Name}
 use Rattle.frag_join.specs.declared.part.Part.{Part}
 use Rattle.frag_join.specs.Joining.{is_of, part_of, changed}
-
-get-past : {X : Type 0} (xs : List X) (i : ℕ) → length xs ≤ i → slice_get xs i ≡ None
-get-past [] i past = refl
-get-past (x ∷ xs) zero past = absurd (omega arith)
-get-past (x ∷ xs) (suc i) past = get-past xs i (omega arith)
 
 some_there : {X : Type 0} (xs : List X) (i : ℕ) → i < length xs → slice_get xs i ≡ None → ⊥
 some_there [] i within none = omega arith
@@ -21,7 +17,7 @@ some_there (x ∷ xs) (suc i) within none = some_there xs i (omega arith) none
 
 there_or_past : {X : Type 0} (xs : List X) (i : ℕ) (b : Bool) → ltb i (length xs) ≡ b → option_and_then (slice_get xs) (cond b (Some i) None) ≡ slice_get xs i
 there_or_past xs i true is = refl
-there_or_past xs i false is = sym (get-past xs i (ltb-false i (length xs) is))
+there_or_past xs i false is = sym (slice_get_past xs i (ltb-false i (length xs) is))
 
 -- it is the first with that name
 pub part-find : {K : Type 0} (name : Name) (parts : List (Part K)) → part_of name parts ≡ find (is_of name) parts
@@ -39,24 +35,6 @@ place-none_at xs i false is none = refl
 
 pub place-none : {X : Type 0} (test : X → Bool) (xs : List X) → option_and_then (slice_get xs) (position test xs) ≡ None → (position test xs ≡ None)
 place-none test xs none = place-none_at xs (position_or_len test xs) (ltb (position_or_len test xs) (length xs)) refl none
-
-find-passes_at : {X : Type 0} (test : X → Bool) (y x : X) (b : Bool) (rest : Option X) → test y ≡ b → cond b (Some y) rest ≡ Some x → (rest ≡ Some x → test x ≡ true) → test x ≡ true
-find-passes_at test y x true rest is found later = let same : y ≡ x = cc in ap test (sym same) ∙ is
-find-passes_at test y x false rest is found later = later found
-
-pub find-passes : {X : Type 0} (test : X → Bool) (xs : List X) (x : X) → find test xs ≡ Some x → test x ≡ true
-find-passes test [] x found = absurd cc
-find-passes test (y ∷ xs) x found = find-passes_at test y x (test y) (find test xs) refl found (find-passes test xs x)
-
-find-filter_at : {X : Type 0} (test keeps : X → Bool) (y : X) (xs : List X) (x : X) (b k : Bool) → test y ≡ b → keeps y ≡ k → cond b (Some y) (find test xs) ≡ Some x → keeps x ≡ true → (find test xs ≡ Some x → find test (filter keeps xs) ≡ Some x) → find test (cond k (y ∷ filter keeps xs) (filter keeps xs)) ≡ Some x
-find-filter_at test keeps y xs x true true is stays found kept later = ap (λ b. cond b (Some y) (find test (filter keeps xs))) is ∙ found
-find-filter_at test keeps y xs x true false is stays found kept later = let same : y ≡ x = cc in absurd (true≢false (sym kept ∙ ap keeps (sym same) ∙ stays))
-find-filter_at test keeps y xs x false true is stays found kept later = ap (λ b. cond b (Some y) (find test (filter keeps xs))) is ∙ later found
-find-filter_at test keeps y xs x false false is stays found kept later = later found
-
-pub find-filter : {X : Type 0} (test keeps : X → Bool) (xs : List X) (x : X) → find test xs ≡ Some x → keeps x ≡ true → find test (filter keeps xs) ≡ Some x
-find-filter test keeps [] x found kept = absurd cc
-find-filter test keeps (y ∷ xs) x found kept = find-filter_at test keeps y xs x (test y) (keeps y) refl refl found kept (λ more. find-filter test keeps xs x more kept)
 
 find-last_at : {X : Type 0} (b : Bool) (y x : X) (rest more : Option X) → cond b (Some y) rest ≡ None → (rest ≡ None → more ≡ Some x) → cond b (Some y) more ≡ Some x
 find-last_at true y x rest more none later = absurd cc

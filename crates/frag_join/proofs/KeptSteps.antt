@@ -1,12 +1,13 @@
 -- A step on lists of fragments, and on what they tell.
-use Rattle.std.proofs.Common.{◌≡◌, ℕ, zero, suc, ◌+◌, Bool, true, false, not, ltb, cond, List, [], ◌∷◌, ◌++◌, map, length, take, drop, Option, Some, None, refl, sym, ap, ◌∙◌}
+use Rattle.std.proofs.Common.{◌≡◌, ℕ, Bool, true, false, cond, List, [], ◌∷◌, map, length, Option, Some, None, refl, sym, ap, ◌∙◌}
 use Rattle.std.specs.Prelude.{slice_get}
 use Rattle.std.specs.Option.{option_and_then, option_map}
-use Rattle.std.specs.List.{filter, remove, position, position_or_len}
-use Rattle.std.proofs.lemmas.List.{map-append, take-map, drop-map, map-set, length-map}
+use Rattle.std.proofs.lemmas.List.{map-append, map-set, length-map}
+use Rattle.std.proofs.lemmas.Option.{slice_get-map}
 use Rattle.gate_base.specs.Events.{Event}
 use Rattle.gate_base.specs.Tests.{first_that_holds}
 use Rattle.gate_base.specs.declared.refusal.Refusal.{Refusal}
+use Rattle.gate_base.proofs.Lists.{filter_as, position_as, remove_as}
 use Rattle.frag_join.specs.declared.part.Name.{Name}
 use Rattle.frag_join.specs.declared.part.Part.{Part}
 use Rattle.frag_join.specs.declared.taken.Taken.TheVariants.{Plain, Held, Joined}
@@ -15,49 +16,20 @@ use Rattle.frag_join.specs.Coverage.{Coverage, known_by, is_complete, datagram_o
 use Rattle.frag_join.specs.Joining.{State, Step, by_list, by_known, is_live, live, is_of, place_of, part_of, part_or_new, changed, event_from, tests_by, fragment_tests, settled, with_fragment, taken_unless, fragment_taken, fragment_step, step_by, step, after, part_known, state_known, step_known}
 use Rattle.frag_join.proofs.KnownLemmas.{known-push}
 
--- ## Lists
-
-filter-map_at : {X Y : Type 0} (b : Bool) (f : X → Y) (x : X) (ys : List Y) (xs : List X) → ys ≡ map f xs → cond b (f x ∷ ys) ys ≡ map f (cond b (x ∷ xs) xs)
-filter-map_at true f x ys xs same = ap (λ rest. f x ∷ rest) same
-filter-map_at false f x ys xs same = same
-
-filter-map : {X Y : Type 0} (test : Y → Bool) (f : X → Y) (xs : List X) → filter test (map f xs) ≡ map f (filter (λ x. test (f x)) xs)
-filter-map test f [] = refl
-filter-map test f (x ∷ xs) = filter-map_at (test (f x)) f x (filter test (map f xs)) (filter (λ y. test (f y)) xs) (filter-map test f xs)
-
-position-map_len : {X Y : Type 0} (test : Y → Bool) (f : X → Y) (xs : List X) → position_or_len test (map f xs) ≡ position_or_len (λ x. test (f x)) xs
-position-map_len test f [] = refl
-position-map_len test f (x ∷ xs) = ap (λ n. cond (not (test (f x))) (1 + n) 0) (position-map_len test f xs)
-
-position-map : {X Y : Type 0} (test : Y → Bool) (f : X → Y) (xs : List X) → position test (map f xs) ≡ position (λ x. test (f x)) xs
-position-map test f xs =
-    ap (λ n. cond (ltb n (length (map f xs))) (Some n) None) (position-map_len test f xs)
-    ∙ ap (λ m. cond (ltb (position_or_len (λ x. test (f x)) xs) m) (Some (position_or_len (λ x. test (f x)) xs)) None) (length-map xs f)
-
-get-map : {X Y : Type 0} (f : X → Y) (xs : List X) (i : ℕ) → slice_get (map f xs) i ≡ option_map f (slice_get xs i)
-get-map f [] i = refl
-get-map f (x ∷ xs) zero = refl
-get-map f (x ∷ xs) (suc i) = get-map f xs i
-
-remove-map : {X Y : Type 0} (f : X → Y) (xs : List X) (i : ℕ) → remove (map f xs) i ≡ map f (remove xs i)
-remove-map f xs i =
-    ap (λ front. front ++ drop (suc i) (map f xs)) (take-map f i xs) ∙ ap (λ rest. map f (take i xs) ++ rest) (drop-map f (suc i) xs)
-    ∙ sym (map-append f (take i xs) (drop (suc i) xs))
-
 -- ## Parts
 
 abbrev Whole : Type 0
 Whole = Part (List Fragment)
 
 live-known : (now : ℕ) (parts : List Whole) → live now (map part_known parts) ≡ map part_known (live now parts)
-live-known now parts = filter-map (is_live now) part_known parts
+live-known now parts = filter_as part_known (is_live now) (is_live now) (λ p. refl) parts
 
 place-known : (name : Name) (parts : List Whole) → place_of name (map part_known parts) ≡ place_of name parts
-place-known name parts = position-map (is_of name) part_known parts
+place-known name parts = position_as part_known (is_of name) (is_of name) (λ p. refl) parts
 
 part-known_at : (parts : List Whole) (place : Option ℕ) → option_and_then (slice_get (map part_known parts)) place ≡ option_map part_known (option_and_then (slice_get parts) place)
 part-known_at parts None = refl
-part-known_at parts (Some place) = get-map part_known parts place
+part-known_at parts (Some place) = slice_get-map part_known parts place
 
 part-known : (name : Name) (parts : List Whole) → part_of name (map part_known parts) ≡ option_map part_known (part_of name parts)
 part-known name parts = ap (option_and_then (slice_get (map part_known parts))) (place-known name parts) ∙ part-known_at parts (place_of name parts)
@@ -65,7 +37,7 @@ part-known name parts = ap (option_and_then (slice_get (map part_known parts))) 
 changed-known : (parts : List Whole) (place : Option ℕ) (part : Option Whole) → changed (map part_known parts) place (option_map part_known part) ≡ map part_known (changed parts place part)
 changed-known parts None None = refl
 changed-known parts None (Some part) = sym (map-append part_known parts (part ∷ []))
-changed-known parts (Some place) None = remove-map part_known parts place
+changed-known parts (Some place) None = remove_as part_known place parts
 changed-known parts (Some place) (Some part) = sym (map-set part_known parts place part)
 
 new-known : (e : Event) (part : Option Whole) → part_or_new by_known e (option_map part_known part) ≡ part_known (part_or_new by_list e part)

@@ -2,15 +2,12 @@
 use Rattle.std.proofs.Common.{◌≡◌, ℕ, ◌<◌, ◌≤◌, max, List, [], ◌∷◌, ◌++◌, length, Option, Some, None, refl, sym, ap, ◌∙◌, arith, ◌⊎◌, inl, inr}
 use Rattle.std.specs.Option.{option_or}
 use Rattle.std.proofs.lemmas.Bool.{cases_lt}
+use Rattle.gate_base.proofs.Options.{or_none}
 use Rattle.frag_join.specs.Places.{table}
 use Rattle.frag_join.specs.Fragments.{Fragment, end_of, octet_in}
 use Rattle.frag_join.specs.Coverage.{octet_at, reach_of, end_by, end_told, header_by, header_told, known_by, octet_of, added}
 use Rattle.frag_join.proofs.PlaceLemmas.{length-table, at-table, past-table, same-tables}
 use Rattle.frag_join.proofs.FragmentLemmas.{covers-behind, octet-outside}
-
-or-none : {X : Type 0} (o : Option X) → option_or o None ≡ o
-or-none None = refl
-or-none (Some x) = refl
 
 or-or : {X : Type 0} (a b c : Option X) → option_or a (option_or b c) ≡ option_or (option_or a b) c
 or-or None b c = refl
@@ -19,7 +16,7 @@ or-or (Some x) b c = refl
 -- ## One fragment more
 
 pub octet_at-push : (fragments : List Fragment) (f : Fragment) (place : ℕ) → octet_at (fragments ++ f ∷ []) place ≡ option_or (octet_at fragments place) (octet_in f place)
-octet_at-push [] f place = or-none (octet_in f place)
+octet_at-push [] f place = or_none (octet_in f place)
 octet_at-push (g ∷ others) f place =
     ap (option_or (octet_in g place)) (octet_at-push others f place) ∙ or-or (octet_in g place) (octet_at others place) (octet_in f place)
 
@@ -28,11 +25,11 @@ reach_of-push [] f = omega arith
 reach_of-push (g ∷ others) f = omega (arith, reach_of-push others f)
 
 pub end_by-push : (fragments : List Fragment) (f : Fragment) → end_by (fragments ++ f ∷ []) ≡ option_or (end_by fragments) (end_told f)
-end_by-push [] f = or-none (end_told f)
+end_by-push [] f = or_none (end_told f)
 end_by-push (g ∷ others) f = ap (option_or (end_told g)) (end_by-push others f) ∙ or-or (end_told g) (end_by others) (end_told f)
 
 header_by-push : (fragments : List Fragment) (f : Fragment) → header_by (fragments ++ f ∷ []) ≡ option_or (header_by fragments) (header_told f)
-header_by-push [] f = or-none (header_told f)
+header_by-push [] f = or_none (header_told f)
 header_by-push (g ∷ others) f = ap (option_or (header_told g)) (header_by-push others f) ∙ or-or (header_told g) (header_by others) (header_told f)
 
 past-reach : (fragments : List Fragment) (place : ℕ) → reach_of fragments ≤ place → octet_at fragments place ≡ None

@@ -39,21 +39,6 @@ none-ended test xs none =
 
 -- ## One of them
 
-pub remove-set : {X : Type 0} (xs : List X) (i : ℕ) (y : X) → remove (set xs i y) i ≡ remove xs i
-remove-set [] i y = refl
-remove-set (x ∷ xs) zero y = refl
-remove-set (x ∷ xs) (suc i) y = ap (λ rest. x ∷ rest) (remove-set xs i y)
-
-pub get-or-get : {X : Type 0} (xs : List X) (i : ℕ) (x d : X) → slice_get xs i ≡ Some x → get_or xs i d ≡ x
-get-or-get [] i x d there = absurd cc
-get-or-get (y ∷ xs) zero x d there = cc
-get-or-get (y ∷ xs) (suc i) x d there = get-or-get xs i x d there
-
-pub get-or-some : {X : Type 0} (xs : List X) (i : ℕ) (d : X) → i < length xs → slice_get xs i ≡ Some (get_or xs i d)
-get-or-some [] i d within = absurd (omega arith)
-get-or-some (y ∷ xs) zero d within = refl
-get-or-some (y ∷ xs) (suc i) d within = get-or-some xs i d (omega arith)
-
 -- a new one at the end
 pub get-last : {X : Type 0} (xs : List X) (x : X) → slice_get (xs ++ x ∷ []) (length xs) ≡ Some x
 get-last [] x = refl
@@ -88,8 +73,3 @@ bad-new f =
 
 pub ended-count : {X : Type 0} (test : X → Bool) (xs : List X) (i : ℕ) (d : X) → position (λ x. not (test x)) xs ≡ Some i → length (remove xs i) + 1 ≡ length xs
 ended-count test xs i d found = length-remove xs i (position-Some (λ x. not (test x)) xs i d found).0
-
-pub some-within : {X : Type 0} (xs : List X) (i : ℕ) (x : X) → slice_get xs i ≡ Some x → i < length xs
-some-within [] i x there = absurd cc
-some-within (y ∷ xs) zero x there = omega arith
-some-within (y ∷ xs) (suc i) x there = omega (arith, some-within xs i x there)

@@ -1,6 +1,6 @@
 -- Tables, tests and counts over the places below a bound.
 use Rattle.std.proofs.Common.{◌≡◌, ℕ, zero, suc, ◌+◌, ◌-◌, ◌<◌, ◌≤◌, Bool, true, false, ◌&&◌, ◌||◌, eqb, cond, List, length, get_or, refl, sym, ap, ◌∙◌, arith, ◌⊎◌, inl, inr}
-use Rattle.std.proofs.lemmas.Bool.{cases_eq, cases_lt, eq-eqb, ne_eqb, and_parts}
+use Rattle.std.proofs.lemmas.Bool.{cases_eq, cases_lt, eq-eqb, ne_eqb, and_parts, and_right, or_parts}
 use Rattle.std.proofs.lemmas.List.{get_or_past}
 use Rattle.std.proofs.lemmas.List.FromFn.{length-map-range_with_len, get_or-map-range_with_len, fill_by_all}
 use Rattle.frag_join.specs.Places.{table, any_below, all_below, count_below}
@@ -24,11 +24,6 @@ pub same-tables : {X : Type 0} (at other : ℕ → X) (bound : ℕ) (d : X) → 
 same-tables at other bound d same = is-table other (table at bound) bound d (length-table at bound) (λ place below. at-table at bound place d below ∙ same place below)
 
 -- ## Tests
-
--- neither of two tests passes
-pub or_parts : (x y : Bool) → (x || y) ≡ false → (x ≡ false) × (y ≡ false)
-or_parts true y none = absurd cc
-or_parts false y none = (refl, none)
 
 pub same-all : (test other : ℕ → Bool) (bound : ℕ) → ((place : ℕ) → place < bound → test place ≡ other place) → all_below test bound ≡ all_below other bound
 same-all test other zero same = refl
@@ -93,10 +88,6 @@ and-true : (x : Bool) → (x && true) ≡ x
 and-true true = refl
 and-true false = refl
 
-and-false : (x : Bool) → (x && false) ≡ false
-and-false true = refl
-and-false false = refl
-
 same-eqb_at : (a b c d : ℕ) → a + 1 ≡ c → b + 1 ≡ d → (a ≡ b) ⊎ (a ≡ b → ⊥) → eqb a b ≡ eqb c d
 same-eqb_at a b c d e f (inl same) = eq-eqb a b same ∙ sym (eq-eqb c d (omega arith))
 same-eqb_at a b c d e f (inr other) = ne_eqb a b other ∙ sym (ne_eqb c d (λ g. other (omega arith)))
@@ -106,7 +97,7 @@ same-eqb a b c d e f = same-eqb_at a b c d e f (cases_eq a b)
 
 counted_next : (all last : Bool) (count n : ℕ) → count ≤ n → all ≡ eqb count n → (all && last) ≡ eqb (count + cond last 1 0) (suc n)
 counted_next all true count n few same = and-true all ∙ same ∙ same-eqb count n (count + 1) (suc n) (omega arith) (omega arith)
-counted_next all false count n few same = and-false all ∙ sym (ne_eqb (count + 0) (suc n) (λ e. omega arith))
+counted_next all false count n few same = and_right all false refl ∙ sym (ne_eqb (count + 0) (suc n) (λ e. omega arith))
 
 -- all pass where as many pass as there are
 pub all-counted : (test : ℕ → Bool) (bound : ℕ) → all_below test bound ≡ eqb (count_below test bound) bound

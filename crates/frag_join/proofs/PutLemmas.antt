@@ -1,15 +1,16 @@
 -- A fragment is put into its place.
 use Rattle.std.proofs.Common.{◌≡◌, ℕ, zero, suc, ◌+◌, ◌-◌, ◌*◌, ◌/◌, ◌%◌, ◌<◌, ◌≤◌, max, Bool, true, false, ◌&&◌, ◌||◌, not, eqb, ltb, cond, List, take, drop, replicate, length, get_or, Option, Some, None, is_some, refl, sym, ap, ◌∙◌, arith, ◌⊎◌, inl, inr}
 use Rattle.std.specs.Option.{option_or}
-use Rattle.std.proofs.lemmas.Bool.{cases_lt, eqb-true, not-false, ltb-false}
+use Rattle.std.proofs.lemmas.Bool.{cases_lt, eqb-true, not-false, ltb-false, or_parts}
 use Rattle.std.proofs.lemmas.List.{get_or-drop, get_or-replicate, length-replicate}
+use Rattle.gate_base.proofs.Options.{or_none}
 use Rattle.frag_join.specs.Places.{table, count_below}
 use Rattle.frag_join.specs.Fragments.{Fragment, end_of, covers, octet_in}
 use Rattle.frag_join.specs.Coverage.{Coverage, octet_of, added, is_bad, is_torn, ends_otherwise, is_unlike, are_unlike, is_other, is_above, header_told}
 use Rattle.frag_join.specs.Held.{header_held}
 use Rattle.frag_join.specs.Inside.{octet_inside, known_inside, IsWhole}
 use Rattle.frag_join.specs.declared.buffer.Buffer.TheInside.{Inside}
-use Rattle.frag_join.proofs.PlaceLemmas.{length-table, same-tables, or_parts, any-none, count-from, count-sum, same-count}
+use Rattle.frag_join.proofs.PlaceLemmas.{length-table, same-tables, any-none, count-from, count-sum, same-count}
 use Rattle.frag_join.proofs.Splices.{splice, front-splice, length-splice, splice-before, splice-inside, splice-behind}
 use Rattle.frag_join.proofs.FragmentLemmas.{covers-before, covers-behind, covers-inside, octet-outside, octet-covered}
 use Rattle.frag_join.proofs.BufferLemmas.{octet-below, octet-past}
@@ -80,10 +81,6 @@ pub record IsPut (b : Inside) (f : Fragment) (new : Inside) : Type 0 where
 
 -- ## What is then known at a place
 
-or-none : (o : Option ℕ) → option_or o None ≡ o
-or-none None = refl
-or-none (Some x) = refl
-
 same_read : (held other : Bool) (x y : ℕ) → held ≡ other → x ≡ y → cond held (Some x) None ≡ cond other (Some y) None
 same_read held other x y units octets = ap (λ h. cond h (Some x) None) units ∙ ap (λ n. cond other (Some n) None) octets
 
@@ -109,7 +106,7 @@ octets-new b f new place put =
 kept-outside : (b : Inside) (f : Fragment) (new : Inside) (place : ℕ) → IsWhole b → (b.ended ≡ true → place < b.reach) → covers f place ≡ false → get_or new.held.items (place / 8) false ≡ get_or b.held.items (place / 8) false → get_or new.octets.items (20 + place) 0 ≡ get_or b.octets.items (20 + place) 0
     → octet_inside new place ≡ option_or (octet_of (known_inside b) place) (octet_in f place)
 kept-outside b f new place whole early out unit octet =
-    same_read _ _ _ _ unit octet ∙ octet-old b place whole early ∙ sym (or-none (octet_of (known_inside b) place))
+    same_read _ _ _ _ unit octet ∙ octet-old b place whole early ∙ sym (or_none (octet_of (known_inside b) place))
     ∙ ap (λ o. option_or (octet_of (known_inside b) place) o) (sym (octet-outside f place out))
 
 end-known : (more ended : Bool) (end reach : ℕ) → (more ≡ true → ended ≡ true → end ≤ reach) → (more ≡ false → ended ≡ true → end ≡ reach) → ended ≡ true → end ≤ reach

@@ -7,7 +7,7 @@ use Rattle.run_setup.specs.declared.status.Status.TheVariants.{Done}
 use Rattle.run_setup.specs.RunNames.{Names}
 use Rattle.gateway.specs.Answers.{IsRun, Runs, TookForWritten}
 use Rattle.gate_command.specs.Answers.{IsDoneRun, IsToldRun, AnswersRun}
-use Rattle.run_setup.specs.Telling.{Tells}
+use Rattle.run_setup.specs.Telling.{Tells, TellsLine}
 use Rattle.gateway.proofs.Promises.{promise_kept}
 use Rattle.gateway.proofs.Runs.{run_of}
 
@@ -18,7 +18,7 @@ done_run line names a b h took = record { run = h.0; promise = promise_kept Done
 told_run : (e answer : Status) (names : Names) (a b c : Outside) → Runs (Err e) names a b → TookForWritten a b → Tells e answer b c → IsToldRun answer names a c
 told_run e answer names a b c h took t =
     let run = subst (λ s. IsRun s names a b) (sym t.answer_is) (run_of e names a b h) in
-    record { ended = b; run = run; promise = promise_kept answer names a b run; taken = took; line = t.line }
+    record { ended = b; run = run; promise = promise_kept answer names a b run; taken = took; line = subst (λ s. TellsLine s b c) (sym t.answer_is) t.line }
 
 not_done : (e : Status) (names : Names) (a b c : Outside) → Runs (Err e) names a b → Tells e Done b c → ⊥
 not_done e names a b c h t = subst (λ s. Runs (Err s) names a b) (sym t.answer_is) h

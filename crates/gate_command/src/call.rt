@@ -9,7 +9,7 @@ ghost use Rattle.run_setup.specs.AuditNames.{names_of as audit_names_of};
 use gate_desk::Desk;
 use gateway::{make, run};
 use gateway_audit::audit;
-use run_setup::{AuditNames, Command, FileNames, Status, read_words, tell_usage, write_error_line};
+use run_setup::{AuditNames, Command, FileNames, Status, read_words, write_error_line};
 use std::alloc::Global;
 
 /// A run, and the line about what went wrong.
@@ -73,6 +73,6 @@ pub fn realm_gate<D: Desk>(alloc: Global, words: &[String], desk: &mut D) -> Sta
             report,
         } => told_make(alloc, desk, number, count, report),
         Command::Audit(names) => told_audit(alloc, desk, names),
-        Command::Usage => tell_usage(desk),
+        Command::Usage => write_error_line(desk, Status::Usage),
     }
 }

@@ -1,15 +1,12 @@
 // The program over real files.
 ghost use Rattle.std.specs.String.{string_bytes};
 ghost use Rattle.run_setup.specs.Command.{command_of};
-ghost use Rattle.run_setup.specs.Telling.{TellsLine};
-ghost use Rattle.std.specs.Prelude.{◌≡◌, map};
-ghost use Rattle.run_setup.specs.Status.{error_line};
-ghost use Rattle.run_setup.specs.declared.status.Status.TheVariants.{WriteFault};
+ghost use Rattle.std.specs.Prelude.{map};
 ghost use Rattle.gate_command.specs.Exit.{IsExit, IsCode, Finishes, IsFinished};
 
 use crate::call::realm_gate;
-use gate_desk::{Desk, FileDesk, Slot, write_whole};
-use run_setup::Status;
+use gate_desk::{Desk, FileDesk};
+use run_setup::{Status, write_error_line};
 use std::alloc::{AllocError, Global};
 use std::env;
 use std::io::ErrorKind;
@@ -38,32 +35,6 @@ fn exit_status<D: Desk>(alloc: Global, words: &[String], desk: &mut D) -> u8
     realm_gate(alloc, words, desk).code()
 }
 
-// The line of a failed write of a slot.
-#[tactic(auto, unfolding(run_setup::specs::Status::error_line, gate_desk::specs::Slots::name_of))]
-fn refused_line(slot: Slot) -> &'static str
-    ensures { result.now ≡ error_line (WriteFault slot) }
-{
-    match slot {
-        Slot::Settings => "write failed: settings\n",
-        Slot::LeftIn => "write failed: left_in\n",
-        Slot::RightIn => "write failed: right_in\n",
-        Slot::LeftGiven => "write failed: left_given\n",
-        Slot::RightGiven => "write failed: right_given\n",
-        Slot::ReportGiven => "write failed: report_given\n",
-        Slot::LeftOut => "write failed: left_out\n",
-        Slot::RightOut => "write failed: right_out\n",
-        Slot::Report => "write failed: report\n",
-        Slot::Errors => "write failed: errors\n",
-    }
-}
-
-// Writes the line of a failed write of a slot. Nothing is done about a failure there.
-fn tell_refused<D: Desk>(desk: &mut D, slot: Slot)
-    ensures { TellsLine (WriteFault slot) (D.outside desk.old) (D.outside desk.new) }
-{
-    let _ = write_whole(desk, Slot::Errors, refused_line(slot).as_bytes());
-}
-
 /// Hands all that was written to the system, and answers the exit status. Where the system refuses octets that had been
 /// taken, that is a failed write of their slot, which a line on standard error names, whatever the status was before.
 fn finish<R: Runtime>(desk: &mut FileDesk<R>, code: u8) -> u8
@@ -71,10 +42,7 @@ fn finish<R: Runtime>(desk: &mut FileDesk<R>, code: u8) -> u8
 {
     match desk.finish() {
         Ok(()) => code,
-        Err(slot) => {
-            tell_refused(desk, slot);
-            Status::WriteFault(slot).code()
-        }
+        Err(slot) => write_error_line(desk, Status::WriteFault(slot)).code(),
     }
 }
 

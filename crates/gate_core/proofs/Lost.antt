@@ -1,12 +1,12 @@
 -- Segments for which memory runs out.
-use Rattle.std.proofs.Common.{◌≡◌, ℕ, true, List, [], Option, Some, None, Result, Ok, Err, refl, sym, ap, subst, ◌≤◌, length, inl, inr}
+use Rattle.std.proofs.Common.{◌≡◌, ℕ, List, [], Option, Some, None, Result, Ok, Err, refl, sym, ap, subst, ◌≤◌, length, inl, inr}
 use Rattle.gate_base.specs.Tests.{unless_refused}
 use Rattle.gate_base.specs.declared.refusal.Refusal.{Refusal}
 use Rattle.gate_base.specs.declared.side.Side.{Side}
 use Rattle.ipv4_frames.specs.Ipv4.{Datagram}
 use Rattle.gate_model.specs.Stream.{segment_of, found_in, session_in, session_refusal}
 use Rattle.gate_model.specs.Units.{units_in}
-use Rattle.gate_model.specs.World.{Tracked, World, is_client}
+use Rattle.gate_model.specs.World.{Tracked, World, host_on}
 use Rattle.gate_sessions.specs.Compact.{CompactSession, compact_rules}
 use Rattle.event_steps.specs.Segments.{stream_refusal}
 use Rattle.event_engine.specs.Lost as state
@@ -16,10 +16,10 @@ use Rattle.gate_sessions.specs.Sessions.{MayWantBy}
 use Rattle.gate_model.specs.Lists.{Lists}
 
 -- by its session
-lost_by : (live : World CompactSession) (side : Side) (d : Datagram) (t : Tracked CompactSession) → session_in (found_in live side d) ≡ Some t → session_refusal compact_rules side d (Some t) ≡ None → None ≡ stream_refusal compact_rules live side d → (lists : Option Lists) → t.session.lists ≡ lists → MayWantBy lists (is_client side t) t.session (segment_of d) → SegmentMayWant live side d
+lost_by : (live : World CompactSession) (side : Side) (d : Datagram) (t : Tracked CompactSession) → session_in (found_in live side d) ≡ Some t → session_refusal compact_rules side d (Some t) ≡ None → None ≡ stream_refusal compact_rules live side d → (lists : Option Lists) → t.session.lists ≡ lists → MayWantBy lists (host_on side t) t.session (segment_of d) → SegmentMayWant live side d
 lost_by live side d t e verdict p None l h = inl (sym p, inr (record { tracked = t; found = e; completes = h }))
 lost_by live side d t e verdict p (Some lists) l h =
-    let units = compact_rules.units (is_client side t) t.session (segment_of d) in
+    let units = compact_rules.units (host_on side t) t.session (segment_of d) in
     let same : units_in compact_rules side d (Some t) ≡ units = ap (λ (v : Option Refusal). unless_refused v units []) verdict in
     inr (record { tracked = t; found = e; completes = subst (λ (us : List (List ℕ)). 1 ≤ length us) (sym same) h })
 

@@ -8,7 +8,7 @@ use Rattle.ipv4_frames.specs.Ipv4.{Datagram}
 use Rattle.stream_gate.specs.Memory.{KeptCompletes}
 use Rattle.gate_model.specs.Frame.{Kind, Dns, Stream, datagram_in, kind_of}
 use Rattle.gate_model.specs.Stream.{begins, found_in, segment_of, session_in}
-use Rattle.gate_model.specs.World.{Tracked, World, is_client}
+use Rattle.gate_model.specs.World.{Tracked, World, host_on}
 use Rattle.gate_sessions.specs.Compact.{CompactSession, compact_rules}
 use Rattle.event_steps.specs.Segments.{refusal_as}
 use Rattle.event_steps.specs.SegmentFate.{CompletesUnit}
@@ -18,7 +18,7 @@ use Rattle.event_engine.specs.Lost.{early_tests}
 pub record CompletesLine (live : World CompactSession) (side : Side) (d : Datagram) : Type 0 where
   pub tracked : Tracked CompactSession
   pub found : session_in (found_in live side d) ≡ Some tracked
-  pub completes : KeptCompletes (client_lines tracked.session.pair) (server_lines tracked.session.pair) (is_client side tracked) tracked.session.kept (segment_of d)
+  pub completes : KeptCompletes (client_lines tracked.session.pair) (server_lines tracked.session.pair) (host_on side tracked) tracked.session.kept (segment_of d)
 
 -- no test behind those of its addresses refuses it, and it begins a session or completes such a line; or it completes such a unit
 abbrev pub SegmentMayWant : World CompactSession → Side → Datagram → Type 0

@@ -1,13 +1,15 @@
 -- What waits on a slot.
-use Rattle.std.proofs.Common.{◌≡◌, inr, ℕ, List, [], ◌++◌, Result, OnOk, refl, sym, ◌∙◌, ap, subst}
+use Rattle.std.proofs.Common.{◌≡◌, ◌<◌, inl, inr, ℕ, List, [], ◌++◌, Option, Some, None, IfErr, IfSome, IsSome, Result, Ok, Err, OnOk, OnErr, false, length, refl, sym, ◌∙◌, ap, subst}
+use Rattle.std.proofs.lemmas.Bool.{false≢true}
+use Rattle.std.specs.Option.{is_some}
 use Rattle.gate_desk.specs.declared.gathered.Gathering.{Gathering}
 use Rattle.gate_desk.specs.declared.gathered.Gathering.TheVariants.{Gathered, NoRoom}
 use Rattle.gate_desk.specs.declared.slot.Slot.{Slot}
 use Rattle.gate_desk.specs.declared.slot.Slot.TheVariants.{Errors}
 use Rattle.gate_desk.specs.declared.slot.PerSlot.{PerSlot}
-use Rattle.gate_desk.specs.Slots.{at, put, each}
+use Rattle.gate_desk.specs.Slots.{at, put, each, mapped}
 use Rattle.gate_desk.specs.declared.place.Place.{Place}
-use Rattle.gate_desk.specs.Gathering.{Waits, waiting, waiting_in, gathered_after}
+use Rattle.gate_desk.specs.Gathering.{RefusedWaits, StaysWaiting, Waits, waiting, waiting_in, gathered_after}
 use Rattle.gate_desk.proofs.Laws.{at-each, at-mapped, mapped-put, put-at}
 
 -- a piece waits alone where nothing waited before
@@ -28,3 +30,46 @@ pub gathered_at : {F A : Type 0} (places : PerSlot (Place F A)) (s : Slot) (piec
     → waiting_in (put places s after) ≡ put (waiting_in places) s (gathered_after r piece (at (waiting_in places) s))
 gathered_at places s piece r before after there e =
     mapped-put waiting places s after ∙ ap (put (waiting_in places) s) (e ∙ ap (gathered_after r piece) (ap waiting there ∙ sym (at-mapped waiting places s)))
+
+-- a line of errors waits nowhere
+pub waits_nowhere : {A E : Type 0} (result : Result A E) (s : Slot) (piece : List ℕ) (old new : PerSlot (List ℕ)) → s ≡ Errors → OnOk result (Waits s piece old new)
+waits_nowhere (Ok x) s piece old new e = subst (λ (s : Slot). Waits s piece old new) (sym e) tt
+waits_nowhere (Err x) s piece old new e = tt
+
+-- a piece waits behind what waited
+waits_more : (s : Slot) (piece : List ℕ) (old : PerSlot (List ℕ)) → Waits s piece old (put old s (at old s ++ piece))
+waits_more Errors piece old = tt
+waits_more s piece old = inl refl
+
+pub waits_behind : (s : Slot) (piece : List ℕ) (old new : PerSlot (List ℕ)) (r : Gathering) → new ≡ put old s (gathered_after r piece (at old s)) → r ≡ Gathered → Waits s piece old new
+waits_behind s piece old new r e is = subst (Waits s piece old) (sym (e ∙ ap (λ x. put old s (gathered_after x piece (at old s))) is)) (waits_more s piece old)
+
+-- where none was refused, nothing has to wait
+pub none_refused : (refused : Option Slot) (waiting : PerSlot (List ℕ)) → false ≡ is_some refused → RefusedWaits refused waiting
+none_refused None waiting e = tt
+none_refused (Some slot) waiting e = absurd (false≢true e)
+
+-- what is left waiting of a refused slot waits
+pub still_waits : (refused : Option Slot) (old new : PerSlot (List ℕ)) → IfSome refused (λ slot. StaysWaiting slot old new) → RefusedWaits refused new
+still_waits None old new h = tt
+still_waits (Some slot) old new h = subst (λ (xs : List ℕ). 0 < length xs) (sym h.1) h.0
+
+-- the same value of each slot
+pub alike : {A : Type 0} (p q : PerSlot A) → q.settings ≡ p.settings → q.left_in ≡ p.left_in → q.right_in ≡ p.right_in → q.left_given ≡ p.left_given → q.right_given ≡ p.right_given → q.report_given ≡ p.report_given → q.left_out ≡ p.left_out → q.right_out ≡ p.right_out → q.report ≡ p.report → q.errors ≡ p.errors → q ≡ p
+alike {A = A} p q a b c d e g h i j k =
+    let same : mapped (λ (x : A). x) q ≡ mapped (λ (x : A). x) p = cc in
+    same
+
+-- what waits of the slot that was refused stays
+pub refused_last : {A : Type 0} (result : Result A Slot) (s : Slot) (old new : PerSlot (List ℕ)) → IfErr result (λ slot. slot ≡ s) → OnErr result (StaysWaiting s old new) → IfErr result (λ slot. StaysWaiting slot old new)
+refused_last (Ok x) s old new e h = tt
+refused_last (Err y) s old new e h = subst (λ slot. StaysWaiting slot old new) (sym e) h
+
+-- where no slot is refused afterwards, all was handed out, and none was refused before
+pub none_failed : {A E P : Type 0} (result : Result A E) (refused : Option Slot) → OnErr result (IsSome refused) → refused ≡ None → OnOk result P → P
+none_failed (Ok x) refused err none h = h
+none_failed (Err y) refused err none h = absurd (false≢true (subst (λ (o : Option Slot). IsSome o) none err))
+
+pub none_before : (old new : Option Slot) → (IsSome old → new ≡ old) → new ≡ None → old ≡ None
+none_before None new kept none = refl
+none_before (Some slot) new kept none = sym (kept refl) ∙ none

@@ -1,5 +1,6 @@
 -- What the files of slots got, and what waits for them.
 use Rattle.std.proofs.Common.{◌≡◌, ℕ, List, [], ◌++◌, Option, Some, None, Result, OnOk, false, cond, if◌then◌else◌, sym, ap, subst, ◌∙◌, append_assoc, append-nil}
+use Rattle.std.proofs.KnownBytes.{Appends-nil}
 use Rattle.std.specs.Io.KnownBytes.{Appends, append_known}
 use Rattle.gate_desk.specs.declared.gathered.Gathering.{Gathering}
 use Rattle.gate_desk.specs.declared.gathered.Gathering.TheVariants.{Gathered, NoRoom}
@@ -10,10 +11,6 @@ use Rattle.gate_desk.specs.declared.place.Place.{Place}
 use Rattle.gate_desk.specs.Slots.{at, put, mapped, same_slot, each}
 use Rattle.gate_desk.specs.Gathering.{HandsOut, TakesNothing, TakesNothingElse, TakesPiece, gathered_after, got, got_in, taken_at, waiting, waiting_in}
 use Rattle.gate_desk.proofs.Laws.{at-each, at-mapped, at-put_any, at-put_append, put-at}
-
-appends_none : (g : Option (List ℕ)) → Appends g g []
-appends_none None = tt
-appends_none (Some xs) = sym (append-nil xs)
 
 appends_on : (a b c : Option (List ℕ)) (piece : List ℕ) → Appends a b [] → Appends b c piece → Appends a c piece
 appends_on None b c piece h k = tt
@@ -69,7 +66,7 @@ taken_for_none piece got got' waiting waiting' h none s file = handed_all got go
 pub nothing_taken : (got got' : PerSlot (Option (List ℕ))) (waiting waiting' : PerSlot (List ℕ)) → got' ≡ got → waiting' ≡ waiting → TakesNothing got waiting got' waiting'
 nothing_taken got got' waiting waiting' e f = λ s.
     subst (λ (g : PerSlot (Option (List ℕ))). Appends (taken_at got waiting s) (taken_at g waiting' s) []) (sym e)
-    (subst (λ (w : PerSlot (List ℕ)). Appends (taken_at got waiting s) (taken_at got w s) []) (sym f) (appends_none (taken_at got waiting s)))
+    (subst (λ (w : PerSlot (List ℕ)). Appends (taken_at got waiting s) (taken_at got w s) []) (sym f) (Appends-nil (taken_at got waiting s)))
 
 -- all that waited was got, and then neither changed
 pub nothing_behind : (got mid got' : PerSlot (Option (List ℕ))) (waiting none waiting' : PerSlot (List ℕ)) → HandsOut got waiting mid → none ≡ each [] → got' ≡ mid → waiting' ≡ none → TakesNothing got waiting got' waiting'

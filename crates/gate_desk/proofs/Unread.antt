@@ -1,5 +1,6 @@
 -- What is still to be read of slots.
 use Rattle.std.proofs.Common.{◌≡◌, ℕ, ◌<◌, ◌≤◌, ◌==◌, ◌⊎◌, inl, inr, Bool, true, false, cond, List, ◌++◌, Option, Some, None, option_map, Result, length, take, drop, refl, ap, sym, subst, ◌∙◌, append_assoc, arith, min}
+use Rattle.std.proofs.KnownBytes.{Keeps-refl}
 use Rattle.std.proofs.Math.ListN.{drop_of_length-le}
 use Rattle.std.proofs.lemmas.Bool.{cases_lt}
 use Rattle.std.proofs.lemmas.List.{drop-append-le, take-append-drop}
@@ -68,6 +69,12 @@ unread_there remaining places slot after = sym (at-mapped (unread remaining) (pu
 unread_before : {F A : Type 0} (remaining : F → Option (List ℕ)) (places : PerSlot (Place F A)) (slot : Slot) (before : Place F A) → before ≡ at places slot → unread remaining before ≡ at (unread_in remaining places) slot
 unread_before remaining places slot before there = ap (unread remaining) there ∙ sym (at-mapped (unread remaining) places slot)
 
+-- octets that were read ahead are taken of their slot
+pub takes_at : {F A : Type 0} (places : PerSlot (Place F A)) (slot : Slot) (before after : Place F A) (n : ℕ) (buffer : List ℕ) → before ≡ at places slot → TakesAhead n buffer (ahead before) (ahead after) → TakesAhead n buffer (at (ahead_in places) slot) (at (ahead_in (put places slot after)) slot)
+takes_at places slot before after n buffer there h =
+    subst (λ (xs : List ℕ). TakesAhead n buffer xs (at (ahead_in (put places slot after)) slot)) (ap ahead there ∙ sym (at-mapped ahead places slot))
+    (subst (λ (xs : List ℕ). TakesAhead n buffer (ahead before) xs) (sym (at-mapped ahead (put places slot after) slot ∙ ap ahead (at-put places slot after))) h)
+
 -- octets that were read ahead were read
 pub read_ahead_at : {F A : Type 0} (remaining : F → Option (List ℕ)) (places : PerSlot (Place F A)) (slot : Slot) (before after : Place F A) (n : ℕ) (buffer : List ℕ) → before ≡ at places slot → TakesAhead n buffer (ahead before) (ahead after) → 0 < length (ahead before) → unread remaining after ≡ option_map (drop n) (unread remaining before)
     → Consumes (at (unread_in remaining places) slot) (at (unread_in remaining (put places slot after)) slot) (take n buffer) × (n ≡ 0 → 0 < length buffer → IsAtEnd (at (unread_in remaining (put places slot after)) slot))
@@ -89,12 +96,8 @@ read_at remaining places slot before after r buffer there h =
     subst (λ (o : Option (List ℕ)). ReadConsumes o (at (unread_in remaining (put places slot after)) slot) r buffer) (unread_before remaining places slot before there)
     (subst (λ (o : Option (List ℕ)). ReadConsumes (unread remaining before) o r buffer) (unread_there remaining places slot after) h)
 
-keeps-same : (o : Option (List ℕ)) → Keeps o o
-keeps-same None = tt
-keeps-same (Some xs) = refl
-
 pub keeps : (a b : Option (List ℕ)) → b ≡ a → Keeps a b
-keeps a b e = subst (λ (o : Option (List ℕ)). Keeps a o) (sym e) (keeps-same a)
+keeps a b e = subst (λ (o : Option (List ℕ)). Keeps a o) (sym e) (Keeps-refl a)
 
 -- nothing changed but at one slot
 pub put_kept : {X : Type 0} (old new : PerSlot X) (slot : Slot) → new ≡ old → new ≡ put old slot (at new slot)
@@ -132,3 +135,9 @@ skipped_is remaining contents places slot count before after refused faults star
     ∙ ap (option_map (drop (min count (length (at (ahead_in places) slot))))) (unread_before remaining places slot before there)))
     (mapped-same (got contents) places slot after (g ∙ ap (got contents) there))
     (mapped-same waiting places slot after (t ∙ ap waiting there))
+
+-- all that two desks tell is the same
+pub files_alike : (p q : Files) → p.accesses ≡ q.accesses → p.ahead ≡ q.ahead → p.unread ≡ q.unread → p.got ≡ q.got → p.waiting ≡ q.waiting → p.refused ≡ q.refused → p.faults ≡ q.faults → p.start_faults ≡ q.start_faults → p ≡ q
+files_alike p q a b c d e f g h =
+    let same : files p.accesses p.ahead p.unread p.got p.waiting p.refused p.faults p.start_faults ≡ files q.accesses q.ahead q.unread q.got q.waiting q.refused q.faults q.start_faults = cc in
+    same

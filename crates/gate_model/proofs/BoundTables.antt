@@ -1,12 +1,14 @@
 -- Bindings that stay, and last longer by uses.
 use Rattle.std.proofs.Common.{◌≡◌, ◌≤◌, ◌<◌, ◌⊎◌, ℕ, Bool, true, false, ◌||◌, ◌==◌, nat_lt, cond, List, [], ◌∷◌, All, Option, Some, None, option_map, refl, sym, ◌∙◌, ap, subst, arith, inl, inr}
-use Rattle.std.specs.List.{find, filter}
-use Rattle.std.proofs.lemmas.Bool.{and_parts, or_left, or_right, eqb-true, lt-ltb, true≢false}
+use Rattle.std.specs.List.{find}
+use Rattle.std.proofs.lemmas.Bool.{and_parts, or_left, or_right, eqb-true, lt-ltb}
 use Rattle.std.proofs.lemmas.List.Elements.{All-head, All-tail}
 use Rattle.gate_base.specs.Side.{other, same_side}
 use Rattle.gate_base.specs.declared.address.Addr.{Addr}
 use Rattle.gate_base.specs.declared.event.Moment.{Moment}
 use Rattle.gate_base.specs.declared.side.Side.{Side}
+use Rattle.gate_base.proofs.Sides.{same_side-true}
+use Rattle.gate_base.proofs.Lists.{find_passes, find_filter}
 use Rattle.realm_pools.specs.Addresses.{least_free}
 use Rattle.binding_table.specs.declared.binding.Binding.{Binding}
 use Rattle.binding_table.specs.declared.binding.Crossing.{Crossing}
@@ -15,19 +17,10 @@ use Rattle.binding_table.specs.Bindings.{Bindings, is_same, is_of_host, in_pool,
 use Rattle.binding_table.specs.Lasting.{IsBoundTo, IsKnownAs}
 use Rattle.binding_table.specs.Lawful.{IsInPlace, IsLawful}
 use Rattle.binding_table.specs.Plan.{Use, used, used_by, after_uses, needs_binding}
-use Rattle.binding_table.proofs.Pools.{same_side-true}
 use Rattle.binding_table.proofs.Kept.{same_pair, lawful_map, lawful_push}
 use Rattle.binding_table.proofs.Bind.{HasNoBinding, fresh_is, unbound_cross, least_is_free, can_bind}
 
 -- ## What is found
-
-pub find_passes : {A : Type 0} (p : A → Bool) (xs : List A) (x : A) → find p xs ≡ Some x → p x ≡ true
-find_passes p [] x e = cc
-find_passes {A = A} p (y ∷ ys) x e = by_test (p y) (λ k. find_passes p ys x k) refl e
-  where
-    by_test : (b : Bool) → (find p ys ≡ Some x → p x ≡ true) → p y ≡ b → cond b (Some y) (find p ys) ≡ Some x → p x ≡ true
-    by_test true more h e = let same : y ≡ x = cc in subst (λ (z : A). p z ≡ true) same h
-    by_test false more h e = more e
 
 pub find_all : {A : Type 0} (P : A → Type 0) (p : A → Bool) (xs : List A) (x : A) → find p xs ≡ Some x → All P xs → P x
 find_all P p [] x e h = absurd (cc)
@@ -36,16 +29,6 @@ find_all {A = A} P p (y ∷ ys) x e h = by_test (p y) (λ k. find_all P p ys x k
     by_test : (b : Bool) → (find p ys ≡ Some x → P x) → cond b (Some y) (find p ys) ≡ Some x → P x
     by_test true more e = let same : y ≡ x = cc in subst P same (All-head P y ys h)
     by_test false more e = more e
-
-pub find_filter : {A : Type 0} (p q : A → Bool) (xs : List A) (x : A) → find p xs ≡ Some x → q x ≡ true → find p (filter q xs) ≡ Some x
-find_filter p q [] x e k = cc
-find_filter {A = A} p q (y ∷ ys) x e k = by_tests (p y) (q y) (λ h. find_filter p q ys x h k) refl refl e
-  where
-    by_tests : (b c : Bool) → (find p ys ≡ Some x → find p (filter q ys) ≡ Some x) → p y ≡ b → q y ≡ c → cond b (Some y) (find p ys) ≡ Some x → find p (cond c (y ∷ filter q ys) (filter q ys)) ≡ Some x
-    by_tests true true more h i e = rw h e
-    by_tests true false more h i e = let same : y ≡ x = cc in absurd (true≢false (sym k ∙ ap q (sym same) ∙ i))
-    by_tests false true more h i e = rw h (more e)
-    by_tests false false more h i e = more e
 
 pub found_alias : (o : Option Binding) (alias : Addr) → option_map (λ (b : Binding). b.alias) o ≡ Some alias → (b : Binding) × (o ≡ Some b) × (b.alias ≡ alias)
 found_alias None alias e = absurd (cc)

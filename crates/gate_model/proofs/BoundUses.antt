@@ -9,6 +9,8 @@ use Rattle.gate_base.specs.Side.{other, same_side}
 use Rattle.gate_base.specs.declared.address.Addr.{Addr}
 use Rattle.gate_base.specs.declared.event.Moment.{Moment}
 use Rattle.gate_base.specs.declared.side.Side.{Side}
+use Rattle.gate_base.proofs.Sides.{other_other, same_side-true, same_side-itself}
+use Rattle.gate_base.proofs.Lists.{find_passes}
 use Rattle.realm_pools.specs.Addresses.{least_free}
 use Rattle.binding_table.specs.declared.binding.Binding.{Binding}
 use Rattle.binding_table.specs.declared.binding.Crossing.TheVariants.{Bound, New, Empty}
@@ -16,7 +18,6 @@ use Rattle.binding_table.specs.Bindings.{Bindings, is_same, is_of_host, is_of_al
 use Rattle.binding_table.specs.Lasting.{IsBoundTo, IsKnownAs}
 use Rattle.binding_table.specs.Lawful.{IsInPlace, IsLawful}
 use Rattle.binding_table.specs.Plan.{Use, used, after_uses, is_fresh, needed}
-use Rattle.binding_table.proofs.Pools.{other_other, same_side-true, same_side-itself}
 use Rattle.binding_table.proofs.Kept.{same_pair}
 use Rattle.binding_table.proofs.Bind.{HasNoBinding, unbound_cross}
 use Rattle.binding_table.proofs.Back.{crosses_back}
@@ -25,7 +26,7 @@ use Rattle.binding_table.proofs.Fresh.{fresh_cons}
 use Rattle.binding_table.proofs.Used.{find_map, host_same, known_used, known_after, same_used}
 use Rattle.gate_model.specs.World.{called}
 use Rattle.gate_model.specs.Verdict.{is_reachable}
-use Rattle.gate_model.proofs.BoundTables.{find_passes, find_all, found_alias, none_alias, host_is, placed, bound_crosses, lawful_used}
+use Rattle.gate_model.proofs.BoundTables.{find_all, found_alias, none_alias, host_is, placed, bound_crosses, lawful_used}
 
 abbrev pub use_of : Side → ℕ → ℕ → Use
 use_of side address until = record { side = side; address = record { 0 = address }; until = record { 0 = until } }

@@ -1,17 +1,17 @@
 -- What is entered into a list stays, and all that is entered is listed.
-use Rattle.std.proofs.Common.{◌≡◌, ◌*◌, ℕ, Bool, true, false, List, [], ◌∷◌, ◌++◌, length, map, Option, Some, None, refl, sym, ◌∙◌, ap, subst, append_assoc, inl, inr}
-use Rattle.std.specs.Prelude.{if◌then◌else◌, nat_lt, is_none, is_some, unwrap_or, option_map}
-use Rattle.std.specs.List.{flat_map, list_any, find, AllByRecursion}
-use Rattle.std.specs.Option.{option_or}
+use Rattle.std.proofs.Common.{◌≡◌, ◌*◌, ℕ, Bool, true, false, List, [], ◌∷◌, ◌++◌, length, map, Option, Some, None, refl, sym, ◌∙◌, ap, subst, append_assoc}
+use Rattle.std.specs.Prelude.{if◌then◌else◌, nat_lt, is_none, unwrap_or}
+use Rattle.std.specs.List.{flat_map, list_any, AllByRecursion}
 use Rattle.std.proofs.lemmas.List.{append-nil}
-use Rattle.std.proofs.lemmas.List.Folds.{list_any-append, find-append}
-use Rattle.std.proofs.lemmas.Bool.{cases_Bool, or_left, or_right, or_parts, eq-eqb}
+use Rattle.std.proofs.lemmas.List.Folds.{list_any-append}
+use Rattle.std.proofs.lemmas.Bool.{or_left, or_right, or_parts, eq-eqb}
 use Rattle.gate_base.specs.declared.address.Addr.{Addr}
 use Rattle.dialogue.specs.Learning.{Entry, is_of, is_listed, AllListed}
 use Rattle.dns_messages.specs.declared.message.Message.{Message}
 use Rattle.dns_gateway.specs.Addresses.{message_addresses}
 use Rattle.dns_stream.specs.Units.{message_in, addresses_of, unit_addresses}
 use Rattle.dns_stream.specs.Images.{image_in, renamed, if_small, image_with, image_by, grows_by}
+use Rattle.dns_stream.specs.Lawful.{images-stay}
 use Rattle.gate_model.specs.Lists.{enter, entered, is_bad, grows_too_much}
 use Rattle.gate_model.specs.Remembered.{IsRenamed}
 
@@ -58,27 +58,6 @@ entered_all image es (n ∷ ns) = (
   entered_all image (enter image es (record { 0 = n })) ns,
 )
 
--- ## The images of what is listed stay
-
-found_stays : (o p : Option Entry) → is_some o ≡ true → option_or o p ≡ o
-found_stays None p e = cc
-found_stays (Some x) p e = refl
-
-listed_found : (es : List Entry) (n : ℕ) → is_listed es n ≡ true → is_some (find (is_of n) es) ≡ true
-listed_found [] n e = cc
-listed_found (x ∷ es) n e =
-    elim (cases_Bool (is_of n x)) [
-      | inl t ↦ rw t refl
-      | inr f ↦ rw f (listed_found es n (rw f at e))
-    ]
-
-pub image_stays : (es more : List Entry) (n : ℕ) → is_listed es n ≡ true → image_in (es ++ more) n ≡ image_in es n
-image_stays es more n e = ap (λ o. unwrap_or (option_map (λ x. x.1) o) None) (find-append (is_of n) es more ∙ found_stays _ _ (listed_found es n e))
-
-images_stay : (es more : List Entry) (ns : List ℕ) → AllListed es ns → map (image_in (es ++ more)) ns ≡ map (image_in es) ns
-images_stay es more [] h = refl
-images_stay es more (n ∷ ns) h = ap (λ i. i ∷ map (image_in (es ++ more)) ns) (image_stays es more n h.0) ∙ ap (λ is. image_in es n ∷ is) (images_stay es more ns h.1)
-
 -- ## Units that are renamed
 
 renamed_more : (es more : List Entry) (u : List ℕ) → IsRenamed es u → IsRenamed (es ++ more) u
@@ -87,7 +66,7 @@ renamed_more es more u r = record {
   holds = r.holds;
   listed = all_listed_more es more (message_addresses r.message) r.listed;
   image =
-      let same = images_stay es more (message_addresses r.message) r.listed in
+      let same = images-stay es more (message_addresses r.message) r.listed in
       ap (image_by (es ++ more) u) r.holds ∙ ap (λ (is : List (Option Addr)). image_with is u r.message) same ∙ sym (ap (image_by es u) r.holds) ∙ r.image ∙ ap (λ (is : List (Option Addr)). renamed is u r.message) (sym same);
 }
 

@@ -7,6 +7,7 @@ use Rattle.gate_base.specs.declared.address.Addr.{Addr}
 use Rattle.gate_base.specs.declared.event.Verdict.{Verdict}
 use Rattle.gate_base.specs.declared.event.Verdict.TheVariants.{Pass}
 use Rattle.gate_base.specs.declared.side.Side.{Side}
+use Rattle.gate_base.specs.declared.host.Host.TheVariants.{Client, Server}
 use Rattle.binding_table.specs.Bindings.{Bindings}
 use Rattle.ipv4_frames.specs.Ipv4.{Datagram}
 use Rattle.stream_model.specs.Session.{Sender, Segment, due_in, start_of}
@@ -16,7 +17,7 @@ use Rattle.stream_model.specs.Steps.{pieces, empty_piece, bare_offset, sends_end
 use Rattle.gate_model.specs.Frame.{Kind, Udp, Echo, Error, Dns, Snmp, Stream, datagram_in, kind_of}
 use Rattle.gate_model.specs.Rules.{SessionRules, whole_rules}
 use Rattle.gate_model.specs.Sessions.{whole_learned}
-use Rattle.gate_model.specs.World.{Tracked, World, at_moment, called, source_of, destination_of, is_client}
+use Rattle.gate_model.specs.World.{Tracked, World, at_moment, called, source_of, destination_of, host_on}
 use Rattle.gate_model.specs.Stream.{segment_of}
 use Rattle.gate_model.specs.Verdict.{table_after, image_in, verdict}
 use Rattle.gate_model.specs.Step.{taker_in, stream_out, out_between, out_by, out}
@@ -24,7 +25,7 @@ use Rattle.gate_model.specs.Answers.{Answers}
 
 stream_some : {S : Type 0} (rules : SessionRules S) → Answers rules → (image : Addr → Option Addr) (side : Side) (d : Datagram) (source destination : ℕ) (t : Option (Tracked S)) → 1 ≤ length (stream_out rules image side d source destination t)
 stream_some rules answers image side d source destination None = omega arith
-stream_some rules answers image side d source destination (Some t) = rw length-map (answers image (is_client side t) t.session (segment_of d))
+stream_some rules answers image side d source destination (Some t) = rw length-map (answers image (host_on side t) t.session (segment_of d))
 
 between_some : {S : Type 0} (rules : SessionRules S) → Answers rules → (live : World S) (table : Bindings) (side : Side) (moment : ℕ) (d : Datagram) (source destination : ℕ) (kind : Kind) → 1 ≤ length (out_between rules live table side moment d source destination kind)
 between_some rules answers live table side moment d source destination Udp = omega arith
@@ -68,5 +69,5 @@ sender_some a b g =
     (cond_some g.flags.reset (reset_out a b g) (data_out a b g) (omega arith) (data_some a b g))
 
 pub whole_answers : Answers whole_rules
-whole_answers image true x g = let s = (whole_learned image true x g).session in sender_some s.client s.server g
-whole_answers image false x g = let s = (whole_learned image false x g).session in sender_some s.server s.client g
+whole_answers image Client x g = let s = (whole_learned image Client x g).session in sender_some s.client s.server g
+whole_answers image Server x g = let s = (whole_learned image Server x g).session in sender_some s.server s.client g

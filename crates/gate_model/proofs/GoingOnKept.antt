@@ -1,9 +1,11 @@
 -- Tracked sessions go on.
-use Rattle.std.proofs.Common.{◌≡◌, Bool, true, false, List, length, Option, Some, None, option_map, ◌∙◌, ap, subst, arith}
+use Rattle.std.proofs.Common.{◌≡◌, true, List, length, Option, Some, None, option_map, ◌∙◌, ap, subst, arith}
 use Rattle.std.specs.List.{fold}
 use Rattle.gate_base.specs.Events.{Event}
 use Rattle.gate_base.specs.declared.address.Addr.{Addr}
 use Rattle.gate_base.specs.declared.event.Pair.{Pair}
+use Rattle.gate_base.specs.declared.host.Host.{Host}
+use Rattle.gate_base.specs.declared.host.Host.TheVariants.{Client, Server}
 use Rattle.gate_settings.specs.declared.settings.Settings.{Settings}
 use Rattle.dialogue.specs.Learning.{Entry, ReadAlike}
 use Rattle.dialogue.specs.Meaning.{Meaning}
@@ -17,7 +19,7 @@ use Rattle.stream_model.proofs.RecentFact.{facts_of}
 use Rattle.stream_model.proofs.Waiting.{only_held}
 use Rattle.gate_model.specs.Lists.{Lists, with_list, addresses_in, entered}
 use Rattle.gate_model.specs.Sessions.{meaning_by, entries_by, whole_units, whole_learned}
-use Rattle.gate_model.specs.World.{Tracked, at_moment, is_client, opening_world}
+use Rattle.gate_model.specs.World.{Tracked, at_moment, host_on, opening_world}
 use Rattle.gate_model.specs.Remembered.{RememberedSession, remembering_rules, stream_of, UnitsAreRenamed, EachTracked}
 use Rattle.gate_model.specs.Frame.{datagram_in}
 use Rattle.gate_model.specs.Stream.{segment_of}
@@ -45,14 +47,14 @@ brings_alike a n new g outs h b =
       again = λ by_it r k. b.again (omega (arith, by_it, back)) r k;
     }
 
-brings_learned : (lists : Option Lists) (pair : Pair) (f : Bool) (s : Session) (g : Segment) (es : List Entry) (new : Sender) (outs : List Outgoing) → IsLonger lists f es → UnitsAreRenamed lists f (own f s).octets → (own f s).meaning ≡ meaning_by lists pair f
+brings_learned : (lists : Option Lists) (pair : Pair) (f : Host) (s : Session) (g : Segment) (es : List Entry) (new : Sender) (outs : List Outgoing) → IsLonger lists f es → UnitsAreRenamed lists f (own f s).octets → (own f s).meaning ≡ meaning_by lists pair f
     → Brings (own f (learned f (option_map (with_list f es) lists) s)) new g outs → Brings (own f s) new g outs
 brings_learned None pair f s g es new outs more units is b = subst (λ (a : Sender). Brings a new g outs) (own_same f f s) b
-brings_learned (Some l) pair true s g es new outs more units is b = brings_alike s.client (dns_units es) new g outs (own_alike l.client es s.client is more units) b
-brings_learned (Some l) pair false s g es new outs more units is b = brings_alike s.server (dns_units es) new g outs (own_alike l.server es s.server is more units) b
+brings_learned (Some l) pair Client s g es new outs more units is b = brings_alike s.client (dns_units es) new g outs (own_alike l.client es s.client is more units) b
+brings_learned (Some l) pair Server s g es new outs more units is b = brings_alike s.server (dns_units es) new g outs (own_alike l.server es s.server is more units) b
 
 -- a segment that a session doesn't refuse
-goes_by : (image : Addr → Option Addr) (f : Bool) (t : Tracked RememberedSession) (g : Segment) → TrackedHolds t → segment_refusal f (streams_of t) g ≡ None → is_data (arrival g) ≡ true → OnlyRestsWait (remembering_rules.next image f t.session g).session.session
+goes_by : (image : Addr → Option Addr) (f : Host) (t : Tracked RememberedSession) (g : Segment) → TrackedHolds t → segment_refusal f (streams_of t) g ≡ None → is_data (arrival g) ≡ true → OnlyRestsWait (remembering_rules.next image f t.session g).session.session
     → GoesOn f (streams_of t) (remembering_rules.next image f t.session g).session.session g (remembering_rules.out image f t.session g)
 goes_by image f t g h v d waits =
     record {
@@ -71,7 +73,7 @@ goes_by image f t g h v d waits =
 
 -- nothing but held rests waits in what holds
 rests_wait : (t : Tracked RememberedSession) → TrackedHolds t → OnlyRestsWait (streams_of t)
-rests_wait t h client = only_held (own client (streams_of t)) (h.streams.holds client).acked.lawful
+rests_wait t h host = only_held (own host (streams_of t)) (h.streams.holds host).acked.lawful
 
 pub waits_are : (events : List Event) (settings : Settings) → EachTracked (λ t. OnlyRestsWait (streams_of t)) (remembered_after settings events).connections
 waits_are events settings = each (λ t. OnlyRestsWait (streams_of t)) rests_wait events settings
@@ -82,4 +84,4 @@ goes_on events settings e t takes d =
     let image = image_in remembering_rules (at_moment w e.moment) e.side e.moment (datagram_in e) in
     let before = taken_before remembering_rules TrackedHolds remembered_keeps w e t takes (run_holds events settings) in
     let behind = taken_keeps remembering_rules TrackedHolds remembered_keeps w e t takes (run_holds events settings) in
-    goes_by image (is_client e.side t) t (segment_of (datagram_in e)) before.0 before.1 d (rests_wait (taken_by remembering_rules w e t) behind)
+    goes_by image (host_on e.side t) t (segment_of (datagram_in e)) before.0 before.1 d (rests_wait (taken_by remembering_rules w e t) behind)

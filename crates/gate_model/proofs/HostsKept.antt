@@ -15,12 +15,12 @@ use Rattle.gate_base.specs.declared.event.Verdict.TheVariants.{Pass, Refused, He
 use Rattle.gate_base.specs.declared.refusal.Refusal.TheVariants.{SourceInPool, NoBinding}
 use Rattle.gate_base.specs.declared.side.Side.{Side}
 use Rattle.gate_base.specs.declared.side.Side.TheVariants.{Left, Right}
+use Rattle.gate_base.proofs.Sides.{other_other}
 use Rattle.binding_table.specs.Bindings.{Bindings, in_pool, cross, seen, seen_by, expired}
 use Rattle.binding_table.specs.Lawful.{IsLawful}
 use Rattle.binding_table.specs.Lasting.{IsKnownAs}
 use Rattle.binding_table.specs.Plan.{Use, after_uses}
 use Rattle.binding_table.proofs.Used.{known_after}
-use Rattle.binding_table.proofs.Pools.{other_other}
 use Rattle.binding_table.proofs.Kept.{lawful_expired}
 use Rattle.binding_table.proofs.Back.{crosses_back}
 use Rattle.ipv4_frames.specs.Ipv4.{Datagram}

@@ -8,6 +8,8 @@ use Rattle.std.proofs.lemmas.List.Folds.{find-append}
 use Rattle.gate_base.specs.Side.{other}
 use Rattle.gate_base.specs.declared.address.Addr.{Addr}
 use Rattle.gate_base.specs.declared.side.Side.{Side}
+use Rattle.gate_base.proofs.Sides.{other_other, same_side-itself}
+use Rattle.gate_base.proofs.Lists.{find_filter}
 use Rattle.realm_pools.specs.Addresses.{least_free}
 use Rattle.dialogue.specs.Learning.{Entry, is_of, is_listed}
 use Rattle.binding_table.specs.declared.binding.Binding.{Binding}
@@ -19,13 +21,12 @@ use Rattle.binding_table.specs.Lawful.{IsLawful}
 use Rattle.binding_table.specs.Plan.{Use, used, after_uses}
 use Rattle.binding_table.proofs.Back.{crosses_back}
 use Rattle.binding_table.proofs.Bind.{HasNoBinding, unbound_cross}
-use Rattle.binding_table.proofs.Pools.{other_other, same_side-itself}
 use Rattle.binding_table.proofs.Used.{known_used, same_used}
 use Rattle.gate_model.specs.Held.{IsBoundAs, IsImage, IsEntryBound}
 use Rattle.gate_model.specs.Lists.{renamed_in}
 use Rattle.gate_model.specs.Names.{is_unbound}
 use Rattle.gate_model.specs.Units.{uses_until, is_new_unbound}
-use Rattle.gate_model.proofs.BoundTables.{find_filter, none_alias, placed, known_seen, lives, lawful_used}
+use Rattle.gate_model.proofs.BoundTables.{none_alias, placed, known_seen, lives, lawful_used}
 use Rattle.gate_model.proofs.BoundUses.{use_of, host_lasts, alias_lasts, bound_from, back_bound}
 use Rattle.gate_model.proofs.HostsKept.{known_back}
 
@@ -91,7 +92,7 @@ unfolding cross
 image_seen table side until address None lawful h = (address, rw h refl)
 image_seen table side until address (Some image) lawful h = (image, as_seen table side address.0 image.0 until lawful h)
 
-seen_bound : (table : Bindings) (side : Side) (address x : Addr) → seen table side address ≡ Some x → cross table side address ≢ Unbound
+pub seen_bound : (table : Bindings) (side : Side) (address x : Addr) → seen table side address ≡ Some x → cross table side address ≢ Unbound
 seen_bound table side address x h e = let n : seen table side address ≡ None = ap (seen_by address) e in let f : None ≡ Some x = sym n ∙ h in absurd (cc)
 
 -- what is listed isn't unbound
@@ -106,7 +107,7 @@ listed_bound table side until (e ∷ es) address lawful h listed =
       | inr that ↦ listed_bound table side until es address lawful h.1 (rw that at listed)
     ]
 
-not_unbound : (c : Crossing) → is_unbound c ≡ false → c ≢ Unbound
+pub not_unbound : (c : Crossing) → is_unbound c ≡ false → c ≢ Unbound
 not_unbound c h e = let f : is_unbound c ≡ true = ap is_unbound e in true≢false (sym f ∙ h)
 
 pub names_bound_once : (table : Bindings) (side : Side) (until : ℕ) (es : List Entry) (names : List Addr) → IsLawful table → AllByRecursion (IsEntryBound table side until) es → list_any (is_new_unbound table side es) names ≡ false → All (λ address. cross table side address ≢ Unbound) names

@@ -132,24 +132,16 @@ pub same_cross : (table : Bindings) (side : Side) (address : Addr) → is_same t
 unfolding cross
 same_cross table side address same = rw same refl
 
+never_unbound : (same : Bool) (alias least : Option Addr) → (if same then Same else known_or (new_or_empty least) alias) ≡ Unbound → ⊥
+never_unbound true alias least e = cc
+never_unbound false (Some a) least e = cc
+never_unbound false None (Some a) e = cc
+never_unbound false None None e = cc
+
 -- an address outside the pool isn't unbound
-known_not_unbound : (c : Crossing) (o : Option Addr) → c ≢ Unbound → known_or c o ≢ Unbound
-known_not_unbound c None h e = h e
-known_not_unbound c (Some a) h e = cc
-
-new_not_unbound : (o : Option Addr) → new_or_empty o ≢ Unbound
-new_not_unbound None e = cc
-new_not_unbound (Some a) e = cc
-
-same_not_unbound : Same ≢ Unbound
-same_not_unbound e = cc
-
 pub known_unbound : (table : Bindings) (side : Side) (address : Addr) → in_pool table side address ≡ false → cross table side address ≢ Unbound
-known_unbound table side address outside e =
-    elim (cases_Bool (is_same table address)) [
-      | inl same ↦ same_not_unbound (sym (same_cross table side address same) ∙ e)
-      | inr differs ↦ known_not_unbound (new_or_empty (least_free (pool_of table (other side)))) (alias_of side address table.entries) (new_not_unbound (least_free (pool_of table (other side)))) (sym (cross_host table side address differs outside) ∙ e)
-    ]
+unfolding cross
+known_unbound table side address outside e = never_unbound (is_same table address) (alias_of side address table.entries) (least_free (pool_of table (other side))) (rw outside at e)
 
 -- what a name is called afterwards is its image
 name_image : (table later : Bindings) (side : Side) (until : ℕ) (address : Addr) → IsLawful later → is_same later address ≡ is_same table address → Crosses later side until address → IsImage later side until address (image_after table later side address)

@@ -1,9 +1,9 @@
 -- Over all events: what the lists of sessions rename stays bound while their connections live.
-use Rattle.std.proofs.Common.{◌≡◌, ◌≢◌, ◌≤◌, ◌<◌, ℕ, ◌+◌, Bool, true, false, not, nat_lt, if◌then◌else◌, cond, List, [], ◌∷◌, ◌++◌, length, drop, All, Option, Some, None, option_map, refl, sym, ◌∙◌, ap, subst, arith}
+use Rattle.std.proofs.Common.{◌≡◌, ◌≢◌, ◌≤◌, ◌<◌, ℕ, ◌+◌, Bool, true, false, not, nat_lt, if◌then◌else◌, cond, List, [], ◌∷◌, ◌++◌, length, All, Option, Some, None, option_map, refl, sym, ◌∙◌, ap, subst, arith}
 use Rattle.gate_base.specs.Tests.{unless_refused}
 use Rattle.std.specs.Prelude.{IfSome}
 use Rattle.std.specs.List.{fold, list_any, AllByRecursion}
-use Rattle.std.proofs.lemmas.Bool.{and_parts, not-false, ltb-false, ltb-true, cond-true}
+use Rattle.std.proofs.lemmas.Bool.{and_parts, not-false, ltb-false, ltb-true, and_left}
 use Rattle.std.proofs.lemmas.List.{append-nil}
 use Rattle.std.proofs.lemmas.List.Elements.{All-weaker, All-nil, All-head, All-tail, All-cons}
 use Rattle.gate_base.specs.Events.{Event}
@@ -19,16 +19,13 @@ use Rattle.gate_settings.specs.Forms.{HasForms}
 use Rattle.gate_settings.specs.Sound.{IsSound}
 use Rattle.gate_settings.specs.declared.settings.Settings.{Settings}
 use Rattle.dialogue.specs.Learning.{Entry, is_listed}
-use Rattle.dialogue.specs.Stream.{cut}
 use Rattle.binding_table.specs.declared.binding.Crossing.TheVariants.{Unbound}
-use Rattle.binding_table.specs.Bindings.{Bindings, in_pool, free, cross, seen, seen_by, expired, opening}
+use Rattle.binding_table.specs.Bindings.{Bindings, in_pool, free, cross, seen_by, expired, opening}
 use Rattle.binding_table.specs.Lawful.{IsLawful}
 use Rattle.binding_table.specs.Plan.{Use, after_uses, image_after, needed}
 use Rattle.binding_table.proofs.Kept.{lawful_expired}
-use Rattle.binding_table.proofs.Pools.{same_side-true}
 use Rattle.ipv4_frames.specs.Ipv4.{Datagram}
-use Rattle.stream_model.specs.Session.{Sender, Segment, own}
-use Rattle.stream_model.specs.Steps.{opened, taken}
+use Rattle.stream_model.specs.Session.{Segment, own}
 use Rattle.tcp_segments.specs.Flags.{flags_of}
 use Rattle.tcp_tracker.specs.Connections.{is_of, place_of, live}
 use Rattle.tcp_tracker.specs.declared.connection.Connection.{Connection}
@@ -36,9 +33,13 @@ use Rattle.gate_model.specs.Frame.{is_tracked_port, Kind, Udp, Echo, Error, Dns,
 use Rattle.gate_model.specs.Held.{IsImage, IsEntryBound, side_of, ListsAreBound, KeepsLists, HasLists, KeepsListed, EntryCrosses, ListsCross, ListsAreFew}
 use Rattle.gate_model.specs.Lists.{Lists, with_list, addresses_in, entered, is_bad, most_entries}
 use Rattle.gate_base.specs.declared.refusal.Refusal.TheVariants.{BadUnit, UnitUnbound, RenamesFull}
+use Rattle.gate_base.proofs.Hosts.{both}
+use Rattle.gate_base.specs.declared.host.Host.{Host}
+use Rattle.gate_base.specs.declared.host.Host.TheVariants.{Client, Server}
+use Rattle.gate_base.specs.Hosts.{peer}
 use Rattle.gate_model.specs.Rules.{SessionRules, whole_rules}
 use Rattle.gate_model.specs.Sessions.{entries_by, units_by, completed}
-use Rattle.gate_model.specs.World.{Tracked, World, at_moment, called, source_of, destination_of, addresses_of, is_client, opening_world}
+use Rattle.gate_model.specs.World.{Tracked, World, at_moment, called, source_of, destination_of, addresses_of, host_on, opening_world}
 use Rattle.gate_model.specs.Stream.{tcp_of, segment_of, is_opening, key_in, found_in, session_in, begins, made_by, taker_by, session_refusal, stepped, stream_timeout, connection_after}
 use Rattle.gate_model.specs.Units.{uses_until, units_in, names_in, entries_after, uses_of_lists, is_new_unbound, unit_tests}
 use Rattle.gate_model.specs.Verdict.{uses_of, table_after, image_in, is_reachable, verdict}
@@ -48,38 +49,31 @@ use Rattle.gate_model.proofs.BoundTables.{lawful_after}
 use Rattle.gate_model.proofs.BoundUses.{far_known}
 use Rattle.gate_model.proofs.HostsKept.{IsLeft, left_of, found_is, known_back, table_is}
 use Rattle.gate_model.proofs.HostsOpen.{opening_is_lawful}
-use Rattle.gate_model.proofs.ListsBound.{as_seen, entries_later, entries_expired, names_bound_once}
-use Rattle.gate_model.proofs.Entering.{entered_more, image_stays}
+use Rattle.gate_model.proofs.ListsBound.{as_seen, entries_later, entries_expired, names_bound_once, seen_bound}
+use Rattle.gate_model.proofs.Entering.{entered_more}
 use Rattle.dns_stream.specs.Images.{image_in as listed_image}
+use Rattle.dns_stream.specs.Lawful.{image-stays}
 use Rattle.gate_model.proofs.ListsKept.{Listing, table_with, ListsLast, lists_last, entered_bound, same_cross, known_unbound}
 use Rattle.gate_model.proofs.Passing.{NoneHolds, none_head, none_tail, Passes, passes, StreamPasses, stream_passes}
 use Rattle.gate_model.proofs.Tracking.{all_changed, Keeps, run_keeps}
+use Rattle.gate_model.proofs.Completing.{none_completed}
 
 -- ## Sessions over whole lists have lists
 
-pub made_at : (b client : Bool) → entries_by (if b then Some (record { client = []; server = [] }) else None) client ≡ []
-made_at true true = refl
-made_at true false = refl
-made_at false client = refl
+pub made_at : (b : Bool) (host : Host) → entries_by (if b then Some (record { client = []; server = [] }) else None) host ≡ []
+made_at true Client = refl
+made_at true Server = refl
+made_at false host = refl
 
-pub own_at : (lists : Option Lists) (image : Addr → Option Addr) (f : Bool) (units : List (List ℕ)) → entries_by (option_map (with_list f (entered image (entries_by lists f) (addresses_in (units_by lists units)))) lists) f ≡ entered image (entries_by lists f) (addresses_in (units_by lists units))
+pub own_at : (lists : Option Lists) (image : Addr → Option Addr) (f : Host) (units : List (List ℕ)) → entries_by (option_map (with_list f (entered image (entries_by lists f) (addresses_in (units_by lists units)))) lists) f ≡ entered image (entries_by lists f) (addresses_in (units_by lists units))
 own_at None image f units = refl
-own_at (Some l) image true units = refl
-own_at (Some l) image false units = refl
+own_at (Some l) image Client units = refl
+own_at (Some l) image Server units = refl
 
-pub other_at : (lists : Option Lists) (f : Bool) (es : List Entry) → entries_by (option_map (with_list f es) lists) (not f) ≡ entries_by lists (not f)
+pub other_at : (lists : Option Lists) (f : Host) (es : List Entry) → entries_by (option_map (with_list f es) lists) (peer f) ≡ entries_by lists (peer f)
 other_at None f es = refl
-other_at (Some l) true es = refl
-other_at (Some l) false es = refl
-
-none_left : {A : Type 0} (xs : List A) → drop (length xs) xs ≡ []
-none_left [] = refl
-none_left (x ∷ xs) = none_left xs
-
-syn_completes : (a : Sender) (g : Segment) → g.flags.syn ≡ true → completed a g ≡ []
-syn_completes a g syn =
-    ap (λ (x : Sender). drop (length (cut a.meaning a.octets).units) (cut a.meaning x.octets).units) (cond-true g.flags.syn (opened a g) (cond g.flags.reset a (taken a g)) syn)
-    ∙ none_left (cut a.meaning a.octets).units
+other_at (Some l) Client es = refl
+other_at (Some l) Server es = refl
 
 pub no_units : (lists : Option Lists) (units : List (List ℕ)) → units ≡ [] → units_by lists units ≡ []
 no_units None units e = refl
@@ -87,10 +81,10 @@ no_units (Some l) units e = e
 
 pub whole_lists : HasLists whole_rules
 whole_lists = record {
-  made = λ port pair initial mss client. made_at _ client;
+  made = λ port pair initial mss host. made_at _ host;
   own = λ image f x g. own_at x.lists image f (completed (own f x.session) g);
   other = λ image f x g. other_at x.lists f (entered image (entries_by x.lists f) (addresses_in (units_by x.lists (completed (own f x.session) g))));
-  syn = λ f x g syn. no_units x.lists (completed (own f x.session) g) (syn_completes (own f x.session) g syn);
+  syn = λ f x g syn. no_units x.lists (completed (own f x.session) g) (none_completed (own f x.session) g (and_left (not g.flags.syn) (not g.flags.reset) (ap not syn)));
 }
 
 -- ## Any connection, as time goes on and by uses
@@ -100,7 +94,7 @@ lists_expired {S = S} rules table now c less h = by_session c.session h
   where
     by_session : (o : Option (Tracked S)) → IfSome o (ListsAreBound rules table c.until.0) → IfSome o (ListsAreBound rules (expired table (record { 0 = now })) c.until.0)
     by_session None k = tt
-    by_session (Some t) k = λ client. entries_expired table (side_of client t) c.until.0 now (rules.listed client t.session) less (k client)
+    by_session (Some t) k = λ host. entries_expired table (side_of host t) c.until.0 now (rules.listed host t.session) less (k host)
 
 lists_live : {S : Type 0} (rules : SessionRules S) (table : Bindings) (now : ℕ) (all : List (Connection (Tracked S))) → All (KeepsLists rules table) all → All (KeepsLists rules (expired table (record { 0 = now }))) (live (record { 0 = now }) all)
 lists_live {S = S} rules table now [] h = All-nil (KeepsLists rules (expired table (record { 0 = now })))
@@ -115,7 +109,7 @@ lists_later {S = S} rules uses table c lawful h = by_session c.session h
   where
     by_session : (o : Option (Tracked S)) → IfSome o (ListsAreBound rules table c.until.0) → IfSome o (ListsAreBound rules (after_uses table uses) c.until.0)
     by_session None k = tt
-    by_session (Some t) k = λ client. entries_later uses table (side_of client t) c.until.0 (rules.listed client t.session) lawful (k client)
+    by_session (Some t) k = λ host. entries_later uses table (side_of host t) c.until.0 (rules.listed host t.session) lawful (k host)
 
 lists_used : {S : Type 0} (rules : SessionRules S) (table : Bindings) (uses : List Use) (all : List (Connection (Tracked S))) → IsLawful table → All (KeepsLists rules table) all → All (KeepsLists rules (after_uses table uses)) all
 lists_used rules table uses all lawful h = All-weaker (KeepsLists rules table) (KeepsLists rules (after_uses table uses)) (λ c k. lists_later rules uses table c lawful k) all h
@@ -123,33 +117,24 @@ lists_used rules table uses all lawful h = All-weaker (KeepsLists rules table) (
 -- ## The lists after a segment
 
 -- who sends it has its new list, and who takes it the old one
-abbrev list_after : {S : Type 0} → SessionRules S → (Addr → Option Addr) → Bool → S → Segment → List Entry
+abbrev list_after : {S : Type 0} → SessionRules S → (Addr → Option Addr) → Host → S → Segment → List Entry
 list_after rules image f s g = entered image (rules.listed f s) (addresses_in (rules.units f s g))
 
-both_listed : {S : Type 0} (rules : SessionRules S) → HasLists rules → (P : Bool → List Entry → Type 0) (image : Addr → Option Addr) (f : Bool) (s : S) (g : Segment) → P f (list_after rules image f s g) → P (not f) (rules.listed (not f) s) → (client : Bool) → P client (rules.listed client (rules.next image f s g))
-both_listed rules has P image true s g mine theirs true = subst (λ (es : List Entry). P true es) (sym (has.own image true s g)) mine
-both_listed rules has P image false s g mine theirs false = subst (λ (es : List Entry). P false es) (sym (has.own image false s g)) mine
-both_listed rules has P image true s g mine theirs false = subst (λ (es : List Entry). P false es) (sym (has.other image true s g)) theirs
-both_listed rules has P image false s g mine theirs true = subst (λ (es : List Entry). P true es) (sym (has.other image false s g)) theirs
+both_listed : {S : Type 0} (rules : SessionRules S) → HasLists rules → (P : Host → List Entry → Type 0) (image : Addr → Option Addr) (f : Host) (s : S) (g : Segment) → P f (list_after rules image f s g) → P (peer f) (rules.listed (peer f) s) → (host : Host) → P host (rules.listed host (rules.next image f s g))
+both_listed rules has P image f s g mine theirs =
+    both (λ (h : Host). P h (rules.listed h (rules.next image f s g))) f
+    (subst (P f) (sym (has.own image f s g)) mine)
+    (subst (P (peer f)) (sym (has.other image f s g)) theirs)
 
--- the realm of who sends
-sender_side : {S : Type 0} (t : Tracked S) (side : Side) (f : Bool) → is_client side t ≡ f → side_of f t ≡ side
-sender_side t side true e = same_side-true t.client side e
-sender_side t side false e = not_same t.client side e
+-- who sends a segment is of its realm
+pub sender_side : {S : Type 0} (t : Tracked S) (side : Side) → side_of (host_on side t) t ≡ side
+sender_side t side = by_sides t.client side
   where
-    not_same : (one two : Side) → same_side one two ≡ false → other one ≡ two
-    not_same Left Left e = cc
-    not_same Left Right e = refl
-    not_same Right Left e = refl
-    not_same Right Right e = cc
-
--- ## Both addresses of a header aren't unbound
-
-source_bound_once : (table : Bindings) (side : Side) (address : Addr) → in_pool table side address ≡ false → cross table side address ≢ Unbound
-source_bound_once table side address outside = known_unbound table side address outside
-
-seen_once : (table : Bindings) (side : Side) (address x : Addr) → seen table side address ≡ Some x → cross table side address ≢ Unbound
-seen_once table side address x h e = let n : seen table side address ≡ None = ap (seen_by address) e in let f : None ≡ Some x = sym n ∙ h in absurd (cc)
+    by_sides : (one two : Side) → side_of (cond (same_side one two) Client Server) (record t { client = one }) ≡ two
+    by_sides Left Left = refl
+    by_sides Left Right = refl
+    by_sides Right Left = refl
+    by_sides Right Right = refl
 
 -- ## The connection that is left
 
@@ -158,12 +143,12 @@ record TakesWith {S : Type 0} (rules : SessionRules S) (live : World S) (side : 
   holder : session_in (found_in live side d) ≡ Some t
   lawful : IsLawful live.table
   lists : ListsAreBound rules live.table sooner t
-  bound : list_any (is_new_unbound live.table side (rules.listed (is_client side t) t.session)) (names_in rules side d (Some t)) ≡ false
-  names : names_in rules side d (Some t) ≡ addresses_in (rules.units (is_client side t) t.session (segment_of d))
+  bound : list_any (is_new_unbound live.table side (rules.listed (host_on side t) t.session)) (names_in rules side d (Some t)) ≡ false
+  names : names_in rules side d (Some t) ≡ addresses_in (rules.units (host_on side t) t.session (segment_of d))
 
 session_keeps : {S : Type 0} (rules : SessionRules S) → HasLists rules → (live : World S) (side : Side) (moment : ℕ) (d : Datagram) → Passes rules live side moment d Stream → (t : Tracked S) (sooner : ℕ) → TakesWith rules live side moment d t sooner
     → ListsAreBound rules (table_after rules live side moment d Stream) (moment + stream_timeout rules live side d) (stepped rules (image_in rules live side moment d) side d t)
-session_keeps {S = S} rules has live side moment d p t sooner k = by_sender (is_client side t) refl
+session_keeps {S = S} rules has live side moment d p t sooner k = by_sender (host_on side t) refl
   where
     until : ℕ
     until = moment + stream_timeout rules live side d
@@ -176,8 +161,8 @@ session_keeps {S = S} rules has live side moment d p t sooner k = by_sender (is_
       header = addresses_of d;
       names = names_in rules side d (Some t);
       client = t.client;
-      one = rules.listed true t.session;
-      two = rules.listed false t.session;
+      one = rules.listed Client t.session;
+      two = rules.listed Server t.session;
     }
 
     same_table : table_after rules live side moment d Stream ≡ table_with listing
@@ -191,54 +176,54 @@ session_keeps {S = S} rules has live side moment d p t sooner k = by_sender (is_
     reach = not-false _ (none_head {test = (not (is_reachable live.table side (destination_of d)), NoBinding)} {more = []} (none_tail {test = (in_pool live.table side (source_of d), SourceInPool)} {more = (not (is_reachable live.table side (destination_of d)), NoBinding) ∷ []} p.address))
 
     far : cross live.table side (destination_of d) ≢ Unbound
-    far = seen_once live.table side (destination_of d) (called live.table side (destination_of d)) (known_back live.table side (called live.table side (destination_of d)).0 d.destination 0 k.lawful (far_known live.table side d.destination k.lawful reach))
+    far = seen_bound live.table side (destination_of d) (called live.table side (destination_of d)) (known_back live.table side (called live.table side (destination_of d)).0 d.destination 0 k.lawful (far_known live.table side d.destination k.lawful reach))
 
-    names_bound : (f : Bool) → is_client side t ≡ f → All (λ address. cross live.table side address ≢ Unbound) (names_in rules side d (Some t))
+    names_bound : (f : Host) → host_on side t ≡ f → All (λ address. cross live.table side address ≢ Unbound) (names_in rules side d (Some t))
     names_bound f e =
         names_bound_once live.table side sooner (rules.listed f t.session) (names_in rules side d (Some t)) k.lawful
-        (subst (λ (s : Side). AllByRecursion (IsEntryBound live.table s sooner) (rules.listed f t.session)) (sender_side t side f e) (k.lists f))
-        (subst (λ (x : Bool). list_any (is_new_unbound live.table side (rules.listed x t.session)) (names_in rules side d (Some t)) ≡ false) e k.bound)
+        (subst (λ (s : Side). AllByRecursion (IsEntryBound live.table s sooner) (rules.listed f t.session)) (ap (λ (h : Host). side_of h t) (sym e) ∙ sender_side t side) (k.lists f))
+        (subst (λ (x : Host). list_any (is_new_unbound live.table side (rules.listed x t.session)) (names_in rules side d (Some t)) ≡ false) e k.bound)
 
     room : needed live.table side (addresses_of d ++ names_in rules side d (Some t)) ≤ free live.table (other side)
     room = ltb-false _ _ (subst (λ (o : Option (Tracked S)). nat_lt (free live.table (other side)) (needed live.table side (addresses_of d ++ names_in rules side d o)) ≡ false) k.holder p.pool)
 
-    last : (f : Bool) → is_client side t ≡ f → ListsLast listing
+    last : (f : Host) → host_on side t ≡ f → ListsLast listing
     last f e =
-        lists_last listing sooner k.lawful (k.lists true) (k.lists false)
-        (All-cons (λ address. cross live.table side address ≢ Unbound) (source_of d) (destination_of d ∷ names_in rules side d (Some t)) (source_bound_once live.table side (source_of d) outside)
+        lists_last listing sooner k.lawful (k.lists Client) (k.lists Server)
+        (All-cons (λ address. cross live.table side address ≢ Unbound) (source_of d) (destination_of d ∷ names_in rules side d (Some t)) (known_unbound live.table side (source_of d) outside)
         (All-cons (λ address. cross live.table side address ≢ Unbound) (destination_of d) (names_in rules side d (Some t)) far (names_bound f e)))
         room
 
     -- what holds of both lists before the names are entered
-    old : (f : Bool) → is_client side t ≡ f → (client : Bool) → AllByRecursion (IsEntryBound (table_after rules live side moment d Stream) (side_of client t) (moment + stream_timeout rules live side d)) (rules.listed client t.session)
-    old f e true = subst (λ (x : Bindings). AllByRecursion (IsEntryBound x t.client (moment + stream_timeout rules live side d)) (rules.listed true t.session)) (sym same_table) (last f e).one
-    old f e false = subst (λ (x : Bindings). AllByRecursion (IsEntryBound x (other t.client) (moment + stream_timeout rules live side d)) (rules.listed false t.session)) (sym same_table) (last f e).two
+    old : (f : Host) → host_on side t ≡ f → (host : Host) → AllByRecursion (IsEntryBound (table_after rules live side moment d Stream) (side_of host t) (moment + stream_timeout rules live side d)) (rules.listed host t.session)
+    old f e Client = subst (λ (x : Bindings). AllByRecursion (IsEntryBound x t.client (moment + stream_timeout rules live side d)) (rules.listed Client t.session)) (sym same_table) (last f e).one
+    old f e Server = subst (λ (x : Bindings). AllByRecursion (IsEntryBound x (other t.client) (moment + stream_timeout rules live side d)) (rules.listed Server t.session)) (sym same_table) (last f e).two
 
-    named : (f : Bool) → is_client side t ≡ f → AllByRecursion (λ a. IsImage (table_after rules live side moment d Stream) side (moment + stream_timeout rules live side d) a (image_in rules live side moment d a)) (addresses_in (rules.units f t.session (segment_of d)))
+    named : (f : Host) → host_on side t ≡ f → AllByRecursion (λ a. IsImage (table_after rules live side moment d Stream) side (moment + stream_timeout rules live side d) a (image_in rules live side moment d a)) (addresses_in (rules.units f t.session (segment_of d)))
     named f e =
-        subst (λ (ns : List Addr). AllByRecursion (λ a. IsImage (table_after rules live side moment d Stream) side (moment + stream_timeout rules live side d) a (image_in rules live side moment d a)) ns) (k.names ∙ ap (λ (x : Bool). addresses_in (rules.units x t.session (segment_of d))) e)
+        subst (λ (ns : List Addr). AllByRecursion (λ a. IsImage (table_after rules live side moment d Stream) side (moment + stream_timeout rules live side d) a (image_in rules live side moment d a)) ns) (k.names ∙ ap (λ (x : Host). addresses_in (rules.units x t.session (segment_of d))) e)
         (subst (λ (x : Bindings). AllByRecursion (λ a. IsImage x side (moment + stream_timeout rules live side d) a (image_after live.table x side a)) (names_in rules side d (Some t))) (sym same_table) (last f e).names)
 
-    mine : (f : Bool) → is_client side t ≡ f → AllByRecursion (IsEntryBound (table_after rules live side moment d Stream) (side_of f t) (moment + stream_timeout rules live side d)) (list_after rules (image_in rules live side moment d) f t.session (segment_of d))
+    mine : (f : Host) → host_on side t ≡ f → AllByRecursion (IsEntryBound (table_after rules live side moment d Stream) (side_of f t) (moment + stream_timeout rules live side d)) (list_after rules (image_in rules live side moment d) f t.session (segment_of d))
     mine f e =
-        subst (λ (s : Side). AllByRecursion (IsEntryBound (table_after rules live side moment d Stream) s (moment + stream_timeout rules live side d)) (list_after rules (image_in rules live side moment d) f t.session (segment_of d))) (sym (sender_side t side f e))
+        subst (λ (s : Side). AllByRecursion (IsEntryBound (table_after rules live side moment d Stream) s (moment + stream_timeout rules live side d)) (list_after rules (image_in rules live side moment d) f t.session (segment_of d))) (sym (ap (λ (h : Host). side_of h t) (sym e) ∙ sender_side t side))
         (entered_bound (table_after rules live side moment d Stream) side (moment + stream_timeout rules live side d) (image_in rules live side moment d) (rules.listed f t.session) (addresses_in (rules.units f t.session (segment_of d)))
-        (subst (λ (s : Side). AllByRecursion (IsEntryBound (table_after rules live side moment d Stream) s (moment + stream_timeout rules live side d)) (rules.listed f t.session)) (sender_side t side f e) (old f e f)) (named f e))
+        (subst (λ (s : Side). AllByRecursion (IsEntryBound (table_after rules live side moment d Stream) s (moment + stream_timeout rules live side d)) (rules.listed f t.session)) (ap (λ (h : Host). side_of h t) (sym e) ∙ sender_side t side) (old f e f)) (named f e))
 
-    by_sender : (f : Bool) → is_client side t ≡ f → (client : Bool) → AllByRecursion (IsEntryBound (table_after rules live side moment d Stream) (side_of client (stepped rules (image_in rules live side moment d) side d t)) (moment + stream_timeout rules live side d)) (rules.listed client (rules.next (image_in rules live side moment d) (is_client side t) t.session (segment_of d)))
-    by_sender f e client = subst (λ (x : Bool). AllByRecursion (IsEntryBound (table_after rules live side moment d Stream) (side_of client (stepped rules (image_in rules live side moment d) side d t)) (moment + stream_timeout rules live side d)) (rules.listed client (rules.next (image_in rules live side moment d) x t.session (segment_of d)))) (sym e)
-        (same_sides client (both_listed rules has (λ c es. AllByRecursion (IsEntryBound (table_after rules live side moment d Stream) (side_of c t) (moment + stream_timeout rules live side d)) es) (image_in rules live side moment d) f t.session (segment_of d) (mine f e) (old f e (not f)) client))
+    by_sender : (f : Host) → host_on side t ≡ f → (host : Host) → AllByRecursion (IsEntryBound (table_after rules live side moment d Stream) (side_of host (stepped rules (image_in rules live side moment d) side d t)) (moment + stream_timeout rules live side d)) (rules.listed host (rules.next (image_in rules live side moment d) (host_on side t) t.session (segment_of d)))
+    by_sender f e host = subst (λ (x : Host). AllByRecursion (IsEntryBound (table_after rules live side moment d Stream) (side_of host (stepped rules (image_in rules live side moment d) side d t)) (moment + stream_timeout rules live side d)) (rules.listed host (rules.next (image_in rules live side moment d) x t.session (segment_of d)))) (sym e)
+        (same_sides host (both_listed rules has (λ c es. AllByRecursion (IsEntryBound (table_after rules live side moment d Stream) (side_of c t) (moment + stream_timeout rules live side d)) es) (image_in rules live side moment d) f t.session (segment_of d) (mine f e) (old f e (peer f)) host))
       where
-        same_sides : (c : Bool) → AllByRecursion (IsEntryBound (table_after rules live side moment d Stream) (side_of c t) (moment + stream_timeout rules live side d)) (rules.listed c (rules.next (image_in rules live side moment d) f t.session (segment_of d)))
+        same_sides : (c : Host) → AllByRecursion (IsEntryBound (table_after rules live side moment d Stream) (side_of c t) (moment + stream_timeout rules live side d)) (rules.listed c (rules.next (image_in rules live side moment d) f t.session (segment_of d)))
             → AllByRecursion (IsEntryBound (table_after rules live side moment d Stream) (side_of c (stepped rules (image_in rules live side moment d) side d t)) (moment + stream_timeout rules live side d)) (rules.listed c (rules.next (image_in rules live side moment d) f t.session (segment_of d)))
-        same_sides true h = h
-        same_sides false h = h
+        same_sides Client h = h
+        same_sides Server h = h
 
 -- a session that begins has no lists
 begun_keeps : {S : Type 0} (rules : SessionRules S) → HasLists rules → (image : Addr → Option Addr) (table later : Bindings) (side : Side) (until : ℕ) (d : Datagram) (b : Bool) → begins {S = S} None d ≡ b
     → IfSome (option_map (stepped rules image side d) (if b then Some (made_by rules table side d) else None)) (ListsAreBound rules later until)
 begun_keeps rules has image table later side until d false e = tt
-begun_keeps {S = S} rules has image table later side until d true e = λ client. subst (λ (es : List Entry). AllByRecursion (IsEntryBound later (side_of client (stepped rules image side d (made_by rules table side d))) until) es) (sym (none client)) tt
+begun_keeps {S = S} rules has image table later side until d true e = λ host. subst (λ (es : List Entry). AllByRecursion (IsEntryBound later (side_of host (stepped rules image side d (made_by rules table side d))) until) es) (sym (none host)) tt
   where
     syn : (segment_of d).flags.syn ≡ true
     syn =
@@ -248,15 +233,15 @@ begun_keeps {S = S} rules has image table later side until d true e = λ client.
     made : S
     made = (made_by rules table side d).session
 
-    empty : (client : Bool) → rules.listed client (made_by rules table side d).session ≡ []
-    empty client = has.made (tcp_of d).destination_port (made_by rules table side d).pair (tcp_of d).sequence (tcp_of d).mss client
+    empty : (host : Host) → rules.listed host (made_by rules table side d).session ≡ []
+    empty host = has.made (tcp_of d).destination_port (made_by rules table side d).pair (tcp_of d).sequence (tcp_of d).mss host
 
-    none : (client : Bool) → rules.listed client (rules.next image (is_client side (made_by rules table side d)) (made_by rules table side d).session (segment_of d)) ≡ []
-    none client =
-        both_listed rules has (λ c es. es ≡ []) image (is_client side (made_by rules table side d)) (made_by rules table side d).session (segment_of d)
-        (ap (λ (es : List Entry). entered image es (addresses_in (rules.units (is_client side (made_by rules table side d)) (made_by rules table side d).session (segment_of d)))) (empty (is_client side (made_by rules table side d)))
-        ∙ ap (λ (us : List (List ℕ)). entered image [] (addresses_in us)) (has.syn (is_client side (made_by rules table side d)) (made_by rules table side d).session (segment_of d) syn))
-        (empty (not (is_client side (made_by rules table side d)))) client
+    none : (host : Host) → rules.listed host (rules.next image (host_on side (made_by rules table side d)) (made_by rules table side d).session (segment_of d)) ≡ []
+    none host =
+        both_listed rules has (λ c es. es ≡ []) image (host_on side (made_by rules table side d)) (made_by rules table side d).session (segment_of d)
+        (ap (λ (es : List Entry). entered image es (addresses_in (rules.units (host_on side (made_by rules table side d)) (made_by rules table side d).session (segment_of d)))) (empty (host_on side (made_by rules table side d)))
+        ∙ ap (λ (us : List (List ℕ)). entered image [] (addresses_in us)) (has.syn (host_on side (made_by rules table side d)) (made_by rules table side d).session (segment_of d) syn))
+        (empty (peer (host_on side (made_by rules table side d)))) host
 
 left_lists : {S : Type 0} (rules : SessionRules S) → HasLists rules → (live : World S) (side : Side) (moment : ℕ) (d : Datagram) → Passes rules live side moment d Stream → IsLawful live.table → (found : Option (Connection (Tracked S))) → found_in live side d ≡ found
     → IfSome found (λ e. KeepsLists rules live.table e × (is_of (key_in live.table side d) e ≡ true)) → (c : Connection (Tracked S)) → IsLeft rules (image_in rules live side moment d) live side moment d (taker_by rules (table_after rules live side moment d Stream) side d found) c
@@ -273,7 +258,7 @@ left_lists {S = S} rules has live side moment d p lawful found f kept c left =
         → IfSome (option_map (stepped rules (image_in rules live side moment d) side d) o) (ListsAreBound rules (table_after rules live side moment d Stream) (moment + stream_timeout rules live side d))
     by_session None h t sooner k = tt
     by_session (Some t) h taker sooner k =
-        let passed : rules.refusal (is_client side t) t.session (segment_of d) ≡ None = ap (session_refusal rules side d) (sym taker) ∙ s.taken in
+        let passed : rules.refusal (host_on side t) t.session (segment_of d) ≡ None = ap (session_refusal rules side d) (sym taker) ∙ s.taken in
         let units : NoneHolds (unit_tests rules (image_in rules live side moment d) live.table side d (Some t)) = subst (λ (o : Option (Tracked S)). NoneHolds (unit_tests rules (image_in rules live side moment d) live.table side d o)) taker s.units in
         let image = image_in rules live side moment d in
         let last : List (Bool × Refusal) = (nat_lt most_entries (length (entries_after rules (image_in rules live side moment d) side d (Some t))), RenamesFull) ∷ [] in
@@ -282,9 +267,9 @@ left_lists {S = S} rules has live side moment d p lawful found f kept c left =
           holder = h;
           lawful = lawful;
           lists = k;
-          bound = none_head {test = (list_any (is_new_unbound live.table side (rules.listed (is_client side t) t.session)) (names_in rules side d (Some t)), UnitUnbound)} {more = last}
-              (none_tail {test = (list_any is_bad (units_in rules side d (Some t)), BadUnit)} {more = (list_any (is_new_unbound live.table side (rules.listed (is_client side t) t.session)) (names_in rules side d (Some t)), UnitUnbound) ∷ last} units);
-          names = ap (λ (v : Option Refusal). addresses_in (unless_refused v (rules.units (is_client side t) t.session (segment_of d)) [])) passed;
+          bound = none_head {test = (list_any (is_new_unbound live.table side (rules.listed (host_on side t) t.session)) (names_in rules side d (Some t)), UnitUnbound)} {more = last}
+              (none_tail {test = (list_any is_bad (units_in rules side d (Some t)), BadUnit)} {more = (list_any (is_new_unbound live.table side (rules.listed (host_on side t) t.session)) (names_in rules side d (Some t)), UnitUnbound) ∷ last} units);
+          names = ap (λ (v : Option Refusal). addresses_in (unless_refused v (rules.units (host_on side t) t.session (segment_of d)) [])) passed;
         })
 
     by_found : (o : Option (Connection (Tracked S))) → found_in live side d ≡ o → IfSome o (λ e. KeepsLists rules live.table e × (is_of (key_in live.table side d) e ≡ true))
@@ -358,24 +343,24 @@ lists_cross {S = S} rules w h = All-weaker (KeepsLists rules w.table) (λ c. IfS
   where
     by_session : (o : Option (Tracked S)) (until : ℕ) → IfSome o (ListsAreBound rules w.table until) → IfSome o (ListsCross rules w.table)
     by_session None until k = tt
-    by_session (Some t) until k = λ client. entries_cross w.table (side_of client t) until (rules.listed client t.session) h.lawful (k client)
+    by_session (Some t) until k = λ host. entries_cross w.table (side_of host t) until (rules.listed host t.session) h.lawful (k host)
 
-pub lists_grow : {S : Type 0} (rules : SessionRules S) → HasLists rules → (image : Addr → Option Addr) (f : Bool) (s : S) (g : Segment) (client : Bool) → (more : List Entry) × (rules.listed client (rules.next image f s g) ≡ rules.listed client s ++ more)
-lists_grow rules has image f s g client =
-    both_listed rules has (λ c es. (more : List Entry) × (es ≡ rules.listed c s ++ more)) image f s g (entered_more image (rules.listed f s) (addresses_in (rules.units f s g))) ([], sym (append-nil (rules.listed (not f) s))) client
+pub lists_grow : {S : Type 0} (rules : SessionRules S) → HasLists rules → (image : Addr → Option Addr) (f : Host) (s : S) (g : Segment) (host : Host) → (more : List Entry) × (rules.listed host (rules.next image f s g) ≡ rules.listed host s ++ more)
+lists_grow rules has image f s g host =
+    both_listed rules has (λ c es. (more : List Entry) × (es ≡ rules.listed c s ++ more)) image f s g (entered_more image (rules.listed f s) (addresses_in (rules.units f s g))) ([], sym (append-nil (rules.listed (peer f) s))) host
 
 -- what is listed has one image for good
-pub images_stay : {S : Type 0} (rules : SessionRules S) → HasLists rules → (image : Addr → Option Addr) (f : Bool) (s : S) (g : Segment) (client : Bool) (number : ℕ) → is_listed (rules.listed client s) number ≡ true → listed_image (rules.listed client (rules.next image f s g)) number ≡ listed_image (rules.listed client s) number
-images_stay rules has image f s g client number h =
-    let more = lists_grow rules has image f s g client in
-    ap (λ (es : List Entry). listed_image es number) more.1 ∙ image_stays (rules.listed client s) more.0 number h
+pub images_stay : {S : Type 0} (rules : SessionRules S) → HasLists rules → (image : Addr → Option Addr) (f : Host) (s : S) (g : Segment) (host : Host) (number : ℕ) → is_listed (rules.listed host s) number ≡ true → listed_image (rules.listed host (rules.next image f s g)) number ≡ listed_image (rules.listed host s) number
+images_stay rules has image f s g host number h =
+    let more = lists_grow rules has image f s g host in
+    ap (λ (es : List Entry). listed_image es number) more.1 ∙ image-stays (rules.listed host s) more.0 number h
 
 -- ## How long they are
 
 few_keep : {S : Type 0} (rules : SessionRules S) → HasLists rules → Keeps rules (ListsAreFew rules)
 few_keep rules has = record {
-  made = λ port client pair initial mss of_client. let none : length (rules.listed of_client (rules.made port pair initial mss)) ≡ 0 = ap length (has.made port pair initial mss of_client) in omega (arith, none);
-  next = λ image f t g v fit h. both_listed rules has (λ c es. length es ≤ most_entries) image f t.session g (ltb-false _ _ fit.few) (h (not f));
+  made = λ port client pair initial mss host. let none : length (rules.listed host (rules.made port pair initial mss)) ≡ 0 = ap length (has.made port pair initial mss host) in omega (arith, none);
+  next = λ image f t g v fit h. both_listed rules has (λ c es. length es ≤ most_entries) image f t.session g (ltb-false _ _ fit.few) (h (peer f));
 }
 
 pub lists_few : {S : Type 0} (rules : SessionRules S) → HasLists rules → (events : List Event) (settings : Settings) → EachTracked (ListsAreFew rules) (fold (next rules) (opening_world settings) events).connections

@@ -10,8 +10,9 @@ use Rattle.gate_base.specs.declared.address.Addr.{Addr}
 use Rattle.binding_table.specs.Plan.{is_among}
 use Rattle.dialogue.specs.Learning.{Entry, is_of, is_listed}
 use Rattle.dns_stream.specs.Images.{image_in}
+use Rattle.dns_stream.specs.Lawful.{image-stays}
 use Rattle.gate_model.specs.Lists.{enter, entered, is_new, unlisted_after, unlisted}
-use Rattle.gate_model.proofs.Entering.{entered_more, image_stays}
+use Rattle.gate_model.proofs.Entering.{entered_more}
 
 -- an address with what it is called
 abbrev entry_of : (Addr → Option Addr) → Addr → Entry
@@ -76,7 +77,7 @@ entered_image image es names n h =
     elim (cases_Bool (is_listed es n)) [
       | inl listed ↦
           let more = entered_more image es names in
-          rw listed (ap (λ (xs : List Entry). image_in xs n) more.1 ∙ image_stays es more.0 n listed)
+          rw listed (ap (λ (xs : List Entry). image_in xs n) more.1 ∙ image-stays es more.0 n listed)
       | inr new ↦
           let is = entered_new image es names in
           let after : is_listed (map (entry_of image) (unlisted es names)) n ≡ true =

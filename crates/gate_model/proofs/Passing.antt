@@ -47,7 +47,7 @@ pub none_told : (o : Option Refusal) → NoneHolds (refusal_tests o) → o ≡ N
 none_told None h = refl
 none_told (Some r) h = absurd (let e = h.none in cc)
 
-pass_is : (o : Option Refusal) → verdict_of o ≡ Pass → o ≡ None
+pub pass_is : (o : Option Refusal) → verdict_of o ≡ Pass → o ≡ None
 pass_is None e = refl
 pass_is (Some r) e = cc
 

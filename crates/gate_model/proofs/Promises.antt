@@ -18,7 +18,7 @@ use Rattle.gate_model.specs.Step.{out, out_by, out_between, stream_out, taker_in
 use Rattle.gate_model.specs.Remembered.{RememberedSession, remembering_rules}
 use Rattle.gate_model.specs.Verdict.{table_after, image_in, verdict, verdict_of}
 use Rattle.gate_model.specs.Stream.{segment_of}
-use Rattle.gate_model.specs.World.{World, at_moment, called, source_of, destination_of, opening_world, is_client}
+use Rattle.gate_model.specs.World.{World, at_moment, called, source_of, destination_of, opening_world, host_on}
 use Rattle.gate_model.proofs.GoesOn.{goes_on, whole_answers}
 use Rattle.gate_model.proofs.GoingOnKept.{waits_are, goes_on as session_goes_on}
 use Rattle.gate_model.proofs.Through.{through}
@@ -62,7 +62,7 @@ promised settings events sound forms =
       frames = λ done others e split. frame_is (known_after settings done) e;
       sessions = λ done others split. sessions_are done settings;
       taken = λ done others e split t h. session_is _ (taken_keeps remembering_rules TrackedHolds remembered_keeps (remembered_after settings done) e t h (run_holds done settings));
-      images = λ done others e split t h client number listed. images_stay whole_rules whole_lists (image_in remembering_rules (at_moment (remembered_after settings done) e.moment) e.side e.moment (datagram_in e)) (is_client e.side t) t.session.session (segment_of (datagram_in e)) client number listed;
+      images = λ done others e split t h host number listed. images_stay whole_rules whole_lists (image_in remembering_rules (at_moment (remembered_after settings done) e.moment) e.side e.moment (datagram_in e)) (host_on e.side t) t.session.session (segment_of (datagram_in e)) host number listed;
       remembers = λ done others split. sym (known done);
       said_is = λ done others e split t h. ap (λ (w : World WholeSession). out whole_rules w e) (known done) ∙ out_as (λ (x : RememberedSession). x.session) remembering_rules whole_rules remembered_reads (remembered_after settings done) e ∙ taken_out remembering_rules (remembered_after settings done) e t h;
       pairs = λ done others split. pairs_cross _ (run_hosts whole_rules done (opening_world settings) (opening_hosts settings sound forms));
@@ -70,7 +70,7 @@ promised settings events sound forms =
       waits = λ done others split. waits_are done settings;
       going = λ done others e split t h is. session_goes_on done settings e t h is;
       through = λ done others e split. through (remembered_after settings done) e;
-      rounds = λ done others split client t knows had rounds below acked all. frame_rounds_raise client rounds (remembered_after settings done) t knows had (run_holds done settings) below acked all;
+      rounds = λ done others split host t knows had rounds below acked all. frame_rounds_raise host rounds (remembered_after settings done) t knows had (run_holds done settings) below acked all;
     }
   where
     known : (done : List Event) → known_after settings done ≡ world_as (λ (x : RememberedSession). x.session) (remembered_after settings done)

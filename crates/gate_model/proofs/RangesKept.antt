@@ -1,8 +1,8 @@
 -- The most connections and sessions are never passed.
-use Rattle.std.proofs.Common.{◌≡◌, ◌≤◌, ◌<◌, ℕ, zero, suc, Bool, true, false, not, ◌&&◌, ◌||◌, nat_le, nat_lt, if◌then◌else◌, cond, List, [], ◌∷◌, ◌++◌, length, set, position, Option, Some, None, option_map, is_some, count_by, refl, sym, ◌∙◌, ap, subst, arith}
+use Rattle.std.proofs.Common.{◌≡◌, ◌≤◌, ◌<◌, ℕ, zero, suc, Bool, true, false, not, ◌&&◌, ◌||◌, nat_le, if◌then◌else◌, cond, List, [], ◌∷◌, ◌++◌, length, set, Option, Some, None, option_map, is_some, count_by, refl, sym, ◌∙◌, ap, subst, arith}
 use Rattle.std.specs.Prelude.{option_and_then, slice_get, IfSome}
-use Rattle.std.specs.List.{filter, fold, remove, position_or_len}
-use Rattle.std.proofs.lemmas.Bool.{leb-false, ltb-true}
+use Rattle.std.specs.List.{filter, fold, remove}
+use Rattle.std.proofs.lemmas.Bool.{leb-false}
 use Rattle.std.proofs.lemmas.List.{length-set, length_push, length-append}
 use Rattle.std.proofs.lemmas.List.Sums.{length-filter, count_by-le-length}
 use Rattle.std.proofs.lemmas.List.Elements.{filter-append}
@@ -11,10 +11,12 @@ use Rattle.gate_base.specs.declared.address.Addr.{Addr}
 use Rattle.gate_base.specs.declared.event.Verdict.{Verdict}
 use Rattle.gate_base.specs.declared.event.Verdict.TheVariants.{Pass, Refused, Held}
 use Rattle.gate_base.specs.declared.side.Side.{Side}
+use Rattle.gate_base.proofs.Options.{some_mapped}
 use Rattle.ipv4_frames.specs.Ipv4.{Datagram}
 use Rattle.tcp_segments.specs.Flags.{flags_of}
 use Rattle.tcp_tracker.specs.Connections.{is_of, is_tracked, is_live, place_of, changed, kept_or_begun, held, with_flags, after, live, with_session}
 use Rattle.tcp_tracker.specs.declared.connection.Connection.{Connection}
+use Rattle.tcp_tracker.proofs.Joining.{place_within, none_past}
 use Rattle.gate_model.specs.Frame.{Kind, Udp, Echo, Error, Dns, Snmp, Stream, datagram_in, kind_of}
 use Rattle.gate_model.specs.Rules.{SessionRules}
 use Rattle.gate_model.specs.World.{Tracked, World, at_moment}
@@ -79,10 +81,6 @@ few_long p xs = omega (arith, length-filter p xs, count_by-le-length p xs)
 
 -- ## A segment
 
-some_kept : {A B : Type 0} (f : A → B) (o : Option A) → is_some (option_map f o) ≡ is_some o
-some_kept f None = refl
-some_kept f (Some x) = refl
-
 -- what is left has a session where one takes the segment
 session_left : {S : Type 0} (rules : SessionRules S) (image : Addr → Option Addr) (live : World S) (side : Side) (moment : ℕ) (d : Datagram) (taker : Option (Tracked S)) → IfSome (connection_after rules image live side moment d taker) (λ c. is_tracked c ≡ is_some taker)
 session_left {S = S} rules image live side moment d taker = by_cases (ends_by rules side d taker) (after (key_in live.table side d) side (tcp_of d).flags taker (record { 0 = moment }) (found_in live side d))
@@ -90,7 +88,7 @@ session_left {S = S} rules image live side moment d taker = by_cases (ends_by ru
     by_cases : (b : Bool) (o : Option (Connection (Tracked S))) → IfSome (if b then None else option_map (with_session (option_map (stepped rules image side d) taker)) o) (λ c. is_tracked c ≡ is_some taker)
     by_cases true o = tt
     by_cases false None = tt
-    by_cases false (Some c) = some_kept (stepped rules image side d) taker
+    by_cases false (Some c) = some_mapped (stepped rules image side d) taker
 
 -- a connection that begins does so without RST
 begins_plain : {S : Type 0} (rules : SessionRules S) (image : Addr → Option Addr) (live : World S) (side : Side) (moment : ℕ) (d : Datagram) (taker : Option (Tracked S)) → found_in live side d ≡ None → IfSome (connection_after rules image live side moment d taker) (λ c. (flags_of (tcp_of d).flags).reset ≡ false)
@@ -140,18 +138,6 @@ fits_changed all (Some i) None f new old = record { connections = omega (arith, 
 fits_changed all (Some i) (Some c) f new old =
     let o = old i refl in
     record { connections = omega (arith, length-set all i c, f.connections); sessions = omega (arith, few_set is_tracked all i o.0 c o.1 o.2, f.sessions) }
-
-place_within : {A : Type 0} (p : A → Bool) (xs : List A) (i : ℕ) → position p xs ≡ Some i → i < length xs
-place_within {A = A} p xs i e = by_test (nat_lt (position_or_len p xs) (length xs)) refl e
-  where
-    by_test : (b : Bool) → nat_lt (position_or_len p xs) (length xs) ≡ b → cond b (Some (position_or_len p xs)) None ≡ Some i → i < length xs
-    by_test true h e = let same : position_or_len p xs ≡ i = cc in omega (arith, ltb-true (position_or_len p xs) (length xs) h)
-    by_test false h e = absurd (cc)
-
-none_past : {A : Type 0} (xs : List A) (i : ℕ) → slice_get xs i ≡ None → length xs ≤ i
-none_past [] i e = omega arith
-none_past (x ∷ xs) zero e = absurd (cc)
-none_past (x ∷ xs) (suc i) e = let le : length xs ≤ i = none_past xs i e in omega arith
 
 stream_fits : {S : Type 0} (rules : SessionRules S) (live : World S) (side : Side) (moment : ℕ) (d : Datagram) → StreamPasses rules live side moment d → Fits live.connections → Fits (after_kind rules live side moment d Stream).connections
 stream_fits {S = S} rules live side moment d p f =

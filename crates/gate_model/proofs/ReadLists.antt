@@ -1,12 +1,13 @@
 -- Lists of connections whose sessions are read as others.
-use Rattle.std.proofs.Common.{◌≡◌, ℕ, suc, ◌+◌, Bool, true, false, cond, if◌then◌else◌, List, [], ◌∷◌, map, take, drop, position, Option, Some, None, option_map, is_some, count_by, refl, sym, ◌∙◌, ap}
+use Rattle.std.proofs.Common.{◌≡◌, ℕ, ◌+◌, Bool, true, false, cond, if◌then◌else◌, List, [], ◌∷◌, map, Option, Some, None, option_map, count_by, refl, sym, ◌∙◌, ap}
 use Rattle.std.specs.Prelude.{option_and_then, slice_get, fold}
-use Rattle.std.specs.List.{filter, remove, position_or_len}
-use Rattle.std.proofs.lemmas.List.{length-map, map-append, map-set, take-map, drop-map}
+use Rattle.std.proofs.lemmas.List.{map-append, map-set}
 use Rattle.std.proofs.lemmas.Option.{slice_get-map}
 use Rattle.gate_base.specs.declared.event.Moment.{Moment}
 use Rattle.gate_base.specs.declared.side.Side.{Side}
 use Rattle.gate_base.specs.declared.side.Side.TheVariants.{Left, Right}
+use Rattle.gate_base.proofs.Options.{some_mapped}
+use Rattle.gate_base.proofs.Lists.{filter_as, position_as, remove_as}
 use Rattle.tcp_segments.specs.Flags.{flags_of}
 use Rattle.tcp_tracker.specs.Connections.{is_of, timeout, unused, with_flags, starts_anew, is_reset, kept, kept_or_begun, held, after, timeout_or_short, is_live, is_tracked, place_of, connection_of, timeout_of, changed, live}
 use Rattle.tcp_tracker.specs.declared.connection.ConnKey.{ConnKey}
@@ -16,34 +17,12 @@ use Rattle.gate_model.specs.Reading.{tracked_as, connection_as}
 
 -- ## Any lists
 
-pub filter_as : {A B : Type 0} (f : A → B) (p : B → Bool) (q : A → Bool) → ((x : A) → p (f x) ≡ q x) → (xs : List A) → filter p (map f xs) ≡ map f (filter q xs)
-filter_as f p q same [] = refl
-filter_as f p q same (x ∷ xs) = rw (same x) (by_test (q x) (filter_as f p q same xs))
-  where
-    by_test : (b : Bool) → filter p (map f xs) ≡ map f (filter q xs) → cond b (f x ∷ filter p (map f xs)) (filter p (map f xs)) ≡ map f (cond b (x ∷ filter q xs) (filter q xs))
-    by_test true e = ap (λ ys. f x ∷ ys) e
-    by_test false e = e
-
-place_as : {A B : Type 0} (f : A → B) (p : B → Bool) (q : A → Bool) → ((x : A) → p (f x) ≡ q x) → (xs : List A) → position_or_len p (map f xs) ≡ position_or_len q xs
-place_as f p q same [] = refl
-place_as f p q same (x ∷ xs) = rw (same x, place_as f p q same xs) refl
-
-pub position_as : {A B : Type 0} (f : A → B) (p : B → Bool) (q : A → Bool) → ((x : A) → p (f x) ≡ q x) → (xs : List A) → position p (map f xs) ≡ position q xs
-position_as f p q same xs = rw (place_as f p q same xs, length-map) refl
-
 pub count_as : {A B : Type 0} (f : A → B) (p : B → Bool) (q : A → Bool) → ((x : A) → p (f x) ≡ q x) → (xs : List A) → count_by p (map f xs) ≡ count_by q xs
 count_as {A = A} f p q same xs = go 0 xs
   where
     go : (n : ℕ) (ys : List A) → fold (λ a x. a + cond (p x) 1 0) n (map f ys) ≡ fold (λ a x. a + cond (q x) 1 0) n ys
     go n [] = refl
     go n (y ∷ ys) = ap (λ (b : Bool). fold (λ a x. a + cond (p x) 1 0) (n + cond b 1 0) (map f ys)) (same y) ∙ go (n + cond (q y) 1 0) ys
-
-pub remove_as : {A B : Type 0} (f : A → B) (i : ℕ) (xs : List A) → remove (map f xs) i ≡ map f (remove xs i)
-remove_as f i xs = rw (take-map f i xs, drop-map f (suc i) xs) (sym (map-append f (take i xs) (drop (suc i) xs)))
-
-some_as : {A B : Type 0} (f : A → B) (o : Option A) → is_some (option_map f o) ≡ is_some o
-some_as f None = refl
-some_as f (Some x) = refl
 
 -- ## Connections
 
@@ -61,10 +40,10 @@ connection_of_as h key all = rw (place_of_as h key all) (at (place_of key all))
     at (Some i) = slice_get-map (connection_as h) all i
 
 pub tracked_as_many : {S T : Type 0} (h : S → T) (all : List (Connection (Tracked S))) → count_by is_tracked (map (connection_as h) all) ≡ count_by is_tracked all
-tracked_as_many h all = count_as (connection_as h) is_tracked is_tracked (λ c. some_as (tracked_as h) c.session) all
+tracked_as_many h all = count_as (connection_as h) is_tracked is_tracked (λ c. some_mapped (tracked_as h) c.session) all
 
 kept_as : {S T : Type 0} (h : S → T) (flags : ℕ) (c : Connection (Tracked S)) → kept flags (connection_as h c) ≡ option_map (connection_as h) (kept flags c)
-kept_as h flags c = rw (some_as (tracked_as h) c.session) (by_tests (is_reset flags c) (starts_anew flags c))
+kept_as h flags c = rw (some_mapped (tracked_as h) c.session) (by_tests (is_reset flags c) (starts_anew flags c))
   where
     by_tests : (r s : Bool) → (if r then None else if s then Some (unused c.key None) else Some (connection_as h c)) ≡ option_map (connection_as h) (if r then None else if s then Some (unused c.key None) else Some c)
     by_tests true s = refl

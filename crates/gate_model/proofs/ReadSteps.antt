@@ -14,7 +14,7 @@ use Rattle.tcp_tracker.specs.Connections.{after, place_of, changed, with_session
 use Rattle.tcp_tracker.specs.declared.connection.Connection.{Connection}
 use Rattle.gate_model.specs.Frame.{Kind, Udp, Echo, Error, Dns, Snmp, Stream, datagram_in, kind_of}
 use Rattle.gate_model.specs.Rules.{SessionRules}
-use Rattle.gate_model.specs.World.{Tracked, World, at_moment, called, source_of, destination_of, is_client}
+use Rattle.gate_model.specs.World.{Tracked, World, at_moment, called, source_of, destination_of, host_on}
 use Rattle.gate_model.specs.Reading.{tracked_as, connection_as, world_as, Reads}
 use Rattle.gate_model.specs.Stream.{tcp_of, segment_of, key_in, found_in, session_in, session_refusal, stepped, ends_by, connection_after, connections_with, pending_by, pending_in, sent_as}
 use Rattle.gate_model.specs.Inner.{inside}
@@ -28,7 +28,7 @@ use Rattle.gate_model.proofs.Passing.{Passes, passes, stream_passes}
 
 stepped_as : {S T : Type 0} (h : S → T) (a : SessionRules S) (b : SessionRules T) → Reads h a b → (image : Addr → Option Addr) (side : Side) (d : Datagram) (t : Option (Tracked S)) → session_refusal a side d t ≡ None → option_map (stepped b image side d) (option_map (tracked_as h) t) ≡ option_map (tracked_as h) (option_map (stepped a image side d) t)
 stepped_as h a b r image side d None e = refl
-stepped_as {T = T} h a b r image side d (Some t) e = ap (λ (s : T). Some (record { client = t.client; pair = t.pair; session = s })) (r.next image (is_client side t) t.session (segment_of d) e)
+stepped_as {T = T} h a b r image side d (Some t) e = ap (λ (s : T). Some (record { client = t.client; pair = t.pair; session = s })) (r.next image (host_on side t) t.session (segment_of d) e)
 
 connection_after_as : {S T : Type 0} (h : S → T) (a : SessionRules S) (b : SessionRules T) → Reads h a b → (image : Addr → Option Addr) (live : World S) (side : Side) (moment : ℕ) (d : Datagram) (t : Option (Tracked S)) → session_refusal a side d t ≡ None
     → connection_after b image (world_as h live) side moment d (option_map (tracked_as h) t) ≡ option_map (connection_as h) (connection_after a image live side moment d t)
@@ -95,7 +95,7 @@ next_as {S = S} h a b r w e =
 
 stream_out_as : {S T : Type 0} (h : S → T) (a : SessionRules S) (b : SessionRules T) → Reads h a b → (image : Addr → Option Addr) (side : Side) (d : Datagram) (source destination : ℕ) (t : Option (Tracked S)) → session_refusal a side d t ≡ None → stream_out b image side d source destination (option_map (tracked_as h) t) ≡ stream_out a image side d source destination t
 stream_out_as h a b r image side d source destination None e = refl
-stream_out_as h a b r image side d source destination (Some t) e = ap (λ (os : List Outgoing). map (sent_as d source destination) os) (r.out image (is_client side t) t.session (segment_of d) e)
+stream_out_as h a b r image side d source destination (Some t) e = ap (λ (os : List Outgoing). map (sent_as d source destination) os) (r.out image (host_on side t) t.session (segment_of d) e)
 
 out_between_as : {S T : Type 0} (h : S → T) (a : SessionRules S) (b : SessionRules T) → Reads h a b → (live : World S) (table : Bindings) (side : Side) (moment : ℕ) (d : Datagram) (source destination : ℕ) (kind : Kind) → Passes a live side moment d kind
     → out_between b (world_as h live) table side moment d source destination kind ≡ out_between a live table side moment d source destination kind

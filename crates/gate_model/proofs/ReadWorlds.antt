@@ -14,13 +14,14 @@ use Rattle.icmp_errors.specs.Inner.{inner_fields}
 use Rattle.icmp_errors.specs.declared.Inner.{Inner}
 use Rattle.ipv4_frames.specs.Ipv4.{Datagram}
 use Rattle.gate_base.specs.Tests.{first_that_holds, unless_refused}
+use Rattle.gate_base.specs.declared.host.Host.TheVariants.{Client, Server}
 use Rattle.tcp_tracker.specs.Connections.{connection_of, short_timeout, timeout_of}
 use Rattle.tcp_tracker.specs.declared.connection.Connection.{Connection}
 use Rattle.gate_model.specs.Frame.{Kind, Udp, Echo, Error, Dns, Snmp, Stream, datagram_in, header_tests, datagram_tests, transport_tests, kind_of}
 use Rattle.gate_model.specs.Lists.{addresses_in, renamed_in}
 use Rattle.gate_model.specs.Rules.{SessionRules}
 use Rattle.gate_model.specs.Units.{uses_until, units_in, names_in, entries_in, uses_of_lists, unit_tests, growth_tests}
-use Rattle.gate_model.specs.World.{Tracked, World, at_moment, called, addresses_of, is_client}
+use Rattle.gate_model.specs.World.{Tracked, World, at_moment, called, addresses_of, host_on}
 use Rattle.gate_model.specs.Reading.{tracked_as, connection_as, world_as, Reads}
 use Rattle.gate_model.specs.Stream.{tcp_of, segment_of, key_in, key_of, found_in, session_in, begins, made_by, taker_by, session_refusal, ends_by, lacks_session, is_full, stream_timeout}
 use Rattle.gate_model.specs.Inner.{inside, inner_session, inner_number, is_inner_unbound}
@@ -39,7 +40,7 @@ session_as h (Some c) = refl
 
 pub ends_as : {S T : Type 0} (h : S → T) (a : SessionRules S) (b : SessionRules T) → Reads h a b → (side : Side) (d : Datagram) (t : Option (Tracked S)) → ends_by b side d (option_map (tracked_as h) t) ≡ ends_by a side d t
 ends_as h a b r side d None = refl
-ends_as h a b r side d (Some t) = r.ends (is_client side t) t.session (segment_of d)
+ends_as h a b r side d (Some t) = r.ends (host_on side t) t.session (segment_of d)
 
 stream_timeout_as : {S T : Type 0} (h : S → T) (a : SessionRules S) (b : SessionRules T) → Reads h a b → (live : World S) (side : Side) (d : Datagram) → stream_timeout b (world_as h live) side d ≡ stream_timeout a live side d
 stream_timeout_as h a b r live side d =
@@ -56,11 +57,11 @@ holder_as h live side d = ap (λ f. session_in f) (found_as h live side d) ∙ s
 pub units_as : {S T : Type 0} (h : S → T) (a : SessionRules S) (b : SessionRules T) → Reads h a b → (side : Side) (d : Datagram) (t : Option (Tracked S)) → units_in b side d (option_map (tracked_as h) t) ≡ units_in a side d t
 units_as h a b r side d None = refl
 units_as {S = S} h a b r side d (Some t) =
-    ap (λ (v : Option Refusal). unless_refused v (b.units (is_client side t) (h t.session) (segment_of d)) []) (r.refusal (is_client side t) t.session (segment_of d))
-    ∙ by_verdict (a.refusal (is_client side t) t.session (segment_of d)) refl
+    ap (λ (v : Option Refusal). unless_refused v (b.units (host_on side t) (h t.session) (segment_of d)) []) (r.refusal (host_on side t) t.session (segment_of d))
+    ∙ by_verdict (a.refusal (host_on side t) t.session (segment_of d)) refl
   where
-    by_verdict : (v : Option Refusal) → a.refusal (is_client side t) t.session (segment_of d) ≡ v → unless_refused v (b.units (is_client side t) (h t.session) (segment_of d)) [] ≡ unless_refused v (a.units (is_client side t) t.session (segment_of d)) []
-    by_verdict None e = r.units (is_client side t) t.session (segment_of d) e
+    by_verdict : (v : Option Refusal) → a.refusal (host_on side t) t.session (segment_of d) ≡ v → unless_refused v (b.units (host_on side t) (h t.session) (segment_of d)) [] ≡ unless_refused v (a.units (host_on side t) t.session (segment_of d)) []
+    by_verdict None e = r.units (host_on side t) t.session (segment_of d) e
     by_verdict (Some refusal) e = refl
 
 names_as : {S T : Type 0} (h : S → T) (a : SessionRules S) (b : SessionRules T) → Reads h a b → (side : Side) (d : Datagram) (t : Option (Tracked S)) → names_in b side d (option_map (tracked_as h) t) ≡ names_in a side d t
@@ -68,13 +69,13 @@ names_as h a b r side d t = ap addresses_in (units_as h a b r side d t)
 
 entries_as : {S T : Type 0} (h : S → T) (a : SessionRules S) (b : SessionRules T) → Reads h a b → (side : Side) (t : Option (Tracked S)) → entries_in b side (option_map (tracked_as h) t) ≡ entries_in a side t
 entries_as h a b r side None = refl
-entries_as h a b r side (Some t) = r.listed (is_client side t) t.session
+entries_as h a b r side (Some t) = r.listed (host_on side t) t.session
 
 lists_as : {S T : Type 0} (h : S → T) (a : SessionRules S) (b : SessionRules T) → Reads h a b → (until : ℕ) (t : Option (Tracked S)) → uses_of_lists b until (option_map (tracked_as h) t) ≡ uses_of_lists a until t
 lists_as h a b r until None = refl
 lists_as h a b r until (Some t) =
-    ap (λ (es : List Entry). uses_until t.client until (renamed_in es) ++ uses_until (other t.client) until (renamed_in (b.listed false (h t.session)))) (r.listed true t.session)
-    ∙ ap (λ (es : List Entry). uses_until t.client until (renamed_in (a.listed true t.session)) ++ uses_until (other t.client) until (renamed_in es)) (r.listed false t.session)
+    ap (λ (es : List Entry). uses_until t.client until (renamed_in es) ++ uses_until (other t.client) until (renamed_in (b.listed Server (h t.session)))) (r.listed Client t.session)
+    ∙ ap (λ (es : List Entry). uses_until t.client until (renamed_in (a.listed Client t.session)) ++ uses_until (other t.client) until (renamed_in es)) (r.listed Server t.session)
 
 payload_as : {S T : Type 0} (h : S → T) (a : SessionRules S) (b : SessionRules T) → Reads h a b → (live : World S) (side : Side) (d : Datagram) (kind : Kind) → payload_addresses b (world_as h live) side d kind ≡ payload_addresses a live side d kind
 payload_as h a b r live side d Udp = refl
@@ -131,7 +132,7 @@ taker_as h a b r live side moment d =
 
 refusal_as : {S T : Type 0} (h : S → T) (a : SessionRules S) (b : SessionRules T) → Reads h a b → (side : Side) (d : Datagram) (t : Option (Tracked S)) → session_refusal b side d (option_map (tracked_as h) t) ≡ session_refusal a side d t
 refusal_as h a b r side d None = refl
-refusal_as h a b r side d (Some t) = r.refusal (is_client side t) t.session (segment_of d)
+refusal_as h a b r side d (Some t) = r.refusal (host_on side t) t.session (segment_of d)
 
 lacks_as : {S T : Type 0} (h : S → T) (d : Datagram) (found : Option (Connection (Tracked S))) → lacks_session (option_map (connection_as h) found) d ≡ lacks_session found d
 lacks_as h d None = refl
@@ -161,11 +162,11 @@ inner_session_as {S = S} {T = T} h live side inner =
 
 pub inner_number_as : {S T : Type 0} (h : S → T) (a : SessionRules S) (b : SessionRules T) → Reads h a b → (live : World S) (side : Side) (inner : Inner) → inner_number b (world_as h live) side inner ≡ inner_number a live side inner
 inner_number_as {S = S} h a b r live side inner =
-    ap (option_map (λ t. b.inner (is_client (other side) t) t.session inner.sequence)) (inner_session_as h live side inner) ∙ by_session (inner_session live side inner)
+    ap (option_map (λ t. b.inner (host_on (other side) t) t.session inner.sequence)) (inner_session_as h live side inner) ∙ by_session (inner_session live side inner)
   where
-    by_session : (t : Option (Tracked S)) → option_map (λ t. b.inner (is_client (other side) t) t.session inner.sequence) (option_map (tracked_as h) t) ≡ option_map (λ t. a.inner (is_client (other side) t) t.session inner.sequence) t
+    by_session : (t : Option (Tracked S)) → option_map (λ t. b.inner (host_on (other side) t) t.session inner.sequence) (option_map (tracked_as h) t) ≡ option_map (λ t. a.inner (host_on (other side) t) t.session inner.sequence) t
     by_session None = refl
-    by_session (Some t) = ap (λ (x : Option ℕ). Some x) (r.inner (is_client (other side) t) t.session inner.sequence)
+    by_session (Some t) = ap (λ (x : Option ℕ). Some x) (r.inner (host_on (other side) t) t.session inner.sequence)
 
 unbound_as : {S T : Type 0} (h : S → T) (a : SessionRules S) (b : SessionRules T) → Reads h a b → (live : World S) (side : Side) (inner : Inner) → is_inner_unbound b (world_as h live) side inner ≡ is_inner_unbound a live side inner
 unbound_as h a b r live side inner = rw (inner_number_as h a b r live side inner) refl

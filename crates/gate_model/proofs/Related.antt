@@ -1,9 +1,10 @@
 -- Worlds of related sessions answer alike, and stay related.
-use Rattle.std.proofs.Common.{◌≡◌, Bool, List, [], ◌∷◌, Option, Some, None, refl, sym, ◌∙◌, ap}
+use Rattle.std.proofs.Common.{◌≡◌, List, [], ◌∷◌, Option, Some, None, refl, sym, ◌∙◌, ap}
 use Rattle.std.specs.List.{fold}
 use Rattle.gate_base.specs.Events.{Event}
 use Rattle.gate_base.specs.declared.address.Addr.{Addr}
 use Rattle.gate_base.specs.declared.refusal.Refusal.{Refusal}
+use Rattle.gate_base.specs.declared.host.Host.{Host}
 use Rattle.gate_settings.specs.declared.settings.Settings.{Settings}
 use Rattle.stream_model.specs.Session.{Segment}
 use Rattle.gate_model.specs.Rules.{SessionRules}
@@ -15,7 +16,7 @@ use Rattle.gate_model.proofs.ReadWorlds.{verdict_as}
 use Rattle.gate_model.proofs.ReadSteps.{next_as, out_as}
 
 -- two related sessions after a segment: they stay as they are where it doesn't pass
-abbrev both_after : {S T : Type 0} (R : S → T → Type 0) (a : SessionRules S) (b : SessionRules T) → Agree R a b → (i : Addr → Option Addr) (f : Bool) (x : Both R) (g : Segment) (v : Option Refusal) → v ≡ a.refusal f x.one g → Both R
+abbrev both_after : {S T : Type 0} (R : S → T → Type 0) (a : SessionRules S) (b : SessionRules T) → Agree R a b → (i : Addr → Option Addr) (f : Host) (x : Both R) (g : Segment) (v : Option Refusal) → v ≡ a.refusal f x.one g → Both R
 both_after R a b agree i f x g None e = record { one = a.next i f x.one g; two = b.next i f x.two g; related = agree.next i f x.one x.two g x.related (sym e) }
 both_after R a b agree i f x g (Some r) e = x
 
@@ -33,11 +34,11 @@ both_rules R a b agree = record {
   pending = λ x. a.pending x.one;
 }
 
-one_after : {S T : Type 0} (R : S → T → Type 0) (a : SessionRules S) (b : SessionRules T) (agree : Agree R a b) (i : Addr → Option Addr) (f : Bool) (x : Both R) (g : Segment) (v : Option Refusal) (e : v ≡ a.refusal f x.one g) → v ≡ None → a.next i f x.one g ≡ (both_after R a b agree i f x g v e).one
+one_after : {S T : Type 0} (R : S → T → Type 0) (a : SessionRules S) (b : SessionRules T) (agree : Agree R a b) (i : Addr → Option Addr) (f : Host) (x : Both R) (g : Segment) (v : Option Refusal) (e : v ≡ a.refusal f x.one g) → v ≡ None → a.next i f x.one g ≡ (both_after R a b agree i f x g v e).one
 one_after R a b agree i f x g None e n = refl
 one_after R a b agree i f x g (Some r) e n = absurd (cc)
 
-two_after : {S T : Type 0} (R : S → T → Type 0) (a : SessionRules S) (b : SessionRules T) (agree : Agree R a b) (i : Addr → Option Addr) (f : Bool) (x : Both R) (g : Segment) (v : Option Refusal) (e : v ≡ a.refusal f x.one g) → v ≡ None → b.next i f x.two g ≡ (both_after R a b agree i f x g v e).two
+two_after : {S T : Type 0} (R : S → T → Type 0) (a : SessionRules S) (b : SessionRules T) (agree : Agree R a b) (i : Addr → Option Addr) (f : Host) (x : Both R) (g : Segment) (v : Option Refusal) (e : v ≡ a.refusal f x.one g) → v ≡ None → b.next i f x.two g ≡ (both_after R a b agree i f x g v e).two
 two_after R a b agree i f x g None e n = refl
 two_after R a b agree i f x g (Some r) e n = absurd (cc)
 

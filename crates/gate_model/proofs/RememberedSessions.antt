@@ -1,19 +1,23 @@
 -- What sessions remember is true, and so the laws of streams speak of what the world sent.
-use Rattle.std.proofs.Common.{◌≡◌, ℕ, Bool, true, false, cond, ◌<◌, ◌≤◌, List, [], ◌∷◌, ◌++◌, length, drop, Option, Some, None, option_map, is_some, refl, sym, ◌∙◌, ap, subst, append_assoc, arith}
+use Rattle.std.proofs.Common.{◌≡◌, ℕ, Bool, true, false, cond, ◌<◌, ◌≤◌, List, [], ◌∷◌, ◌++◌, length, drop, Option, Some, None, option_map, refl, sym, ◌∙◌, ap, subst, arith}
 use Rattle.std.specs.List.{fold, flat_map, AllByRecursion}
 use Rattle.std.specs.Prelude.{IfSome, ◌^◌, ◌||◌}
 use Rattle.std.proofs.lemmas.List.{append-nil}
+use Rattle.std.proofs.Math.Seq.{drop-append_seam}
 use Rattle.std.proofs.lemmas.List.Elements.{All-weaker, All-nil}
 use Rattle.gate_base.specs.Events.{Event as Frame}
 use Rattle.gate_base.specs.declared.address.Addr.{Addr}
 use Rattle.gate_base.specs.declared.event.Pair.{Pair}
 use Rattle.gate_base.specs.declared.side.Side.{Side}
+use Rattle.gate_base.specs.declared.host.Host.{Host}
+use Rattle.gate_base.specs.declared.host.Host.TheVariants.{Client, Server}
 use Rattle.gate_settings.specs.declared.settings.Settings.{Settings}
-use Rattle.dialogue.specs.Learning.{Entry, ReadAlike}
+use Rattle.dialogue.specs.Learning.{Entry, ReadAlike, AllListed}
 use Rattle.dialogue.specs.Meaning.{Meaning, IsLawful}
 use Rattle.dialogue.specs.Repeats.{is_unlike}
-use Rattle.dialogue.specs.Stream.{Cut, cut, cut_at, add_octet}
+use Rattle.dialogue.specs.Stream.{Cut, cut}
 use Rattle.dialogue.proofs.Alike.{learned_alike, due_alike, back_alike}
+use Rattle.dialogue.proofs.FirstUnit.{cut-on}
 use Rattle.dns_stream.specs.Units.{unit_addresses}
 use Rattle.dns_stream.specs.Images.{dns_units}
 use Rattle.dns_stream.specs.Lawful.{dns_units-lawful, dns_units-learning}
@@ -37,7 +41,7 @@ use Rattle.gate_model.specs.World.{Tracked, opening_world}
 use Rattle.gate_model.specs.Reading.{Reads}
 use Rattle.gate_model.specs.Remembered.{Passed, Remembered, RememberedSession, stream_of, remembered, remembering_rules, begun, step, AllPass, IsRenamed, UnitsAreRenamed, StreamIs, IsRemembered, SessionIs, EachTracked}
 use Rattle.gate_model.specs.Step.{next as world_next}
-use Rattle.gate_model.proofs.Entering.{entered_more, entered_all, all_renamed_more, all_renamed, listed_units, all_append}
+use Rattle.gate_model.proofs.Entering.{entered_more, entered_all, all_renamed_more, all_renamed, listed_units, all_append, split_listed}
 use Rattle.gate_model.proofs.Tracking.{UnitsFit, Keeps, run_keeps}
 
 -- ## A sender whose octets are read by another meaning, in the same way
@@ -53,7 +57,7 @@ extent_alike a n h =
 unlike_alike : (a : Sender) (n : Meaning) (g : Segment) → ReadAlike a.meaning n a.octets → repeats_unlike (with_meaning a n) g ≡ repeats_unlike a g
 unlike_alike a n g h = ap (λ (k : ℕ). is_unlike (drop k a.octets) (start_of a g).before g.octets) (sym (back_alike a.meaning n a.ended a.octets a.acked h))
 
-verdict_alike : (f : Bool) (a b : Sender) (n : Meaning) (g : Segment) → ReadAlike a.meaning n a.octets → refusal_of f (extent (with_meaning a n)) (extent b) (arrival g) (repeats_unlike (with_meaning a n) g) ≡ refusal_of f (extent a) (extent b) (arrival g) (repeats_unlike a g)
+pub verdict_alike : (f : Host) (a b : Sender) (n : Meaning) (g : Segment) → ReadAlike a.meaning n a.octets → refusal_of f (extent (with_meaning a n)) (extent b) (arrival g) (repeats_unlike (with_meaning a n) g) ≡ refusal_of f (extent a) (extent b) (arrival g) (repeats_unlike a g)
 verdict_alike f a b n g h =
     ap (λ (e : Extent). refusal_of f e (extent b) (arrival g) (repeats_unlike (with_meaning a n) g)) (extent_alike a n h)
     ∙ ap (refusal_of f (extent a) (extent b) (arrival g)) (unlike_alike a n g h)
@@ -100,30 +104,30 @@ holds_alike m n a r lawful h k = record {
 
 -- ## A segment that passes
 
-meaning_step : (client f : Bool) (s : Session) (g : Segment) → (own client (session_next f s g)).meaning ≡ (own client s).meaning
-meaning_step true true s g = own_meaning g.flags.syn g.flags.reset s.client g
-meaning_step false false s g = own_meaning g.flags.syn g.flags.reset s.server g
-meaning_step true false s g = other_meaning (g.flags.syn || g.flags.reset) s.client g
-meaning_step false true s g = other_meaning (g.flags.syn || g.flags.reset) s.server g
+pub meaning_step : (host f : Host) (s : Session) (g : Segment) → (own host (session_next f s g)).meaning ≡ (own host s).meaning
+meaning_step Client Client s g = own_meaning g.flags.syn g.flags.reset s.client g
+meaning_step Server Server s g = own_meaning g.flags.syn g.flags.reset s.server g
+meaning_step Client Server s g = other_meaning (g.flags.syn || g.flags.reset) s.client g
+meaning_step Server Client s g = other_meaning (g.flags.syn || g.flags.reset) s.server g
 
-holds_step : (m : Meaning) (client f : Bool) (s : Session) (g : Segment) (r : Remembered) → segment_refusal f s g ≡ None → Holds m (own client s) r → Holds m (own client (session_next f s g)) (remembered client f s g (session_out f s g) r)
-holds_step m client f s g r v k =
-    let sound = sound_step client f s g r.sent v (record { lawful = k.acked.lawful; silent = k.silent; sent_is = k.sent }) in
+holds_step : (m : Meaning) (host f : Host) (s : Session) (g : Segment) (r : Remembered) → segment_refusal f s g ≡ None → Holds m (own host s) r → Holds m (own host (session_next f s g)) (remembered host f s g (session_out f s g) r)
+holds_step m host f s g r v k =
+    let sound = sound_step host f s g r.sent v (record { lawful = k.acked.lawful; silent = k.silent; sent_is = k.sent }) in
     record {
-      meaning = meaning_step client f s g ∙ k.meaning;
+      meaning = meaning_step host f s g ∙ k.meaning;
       silent = sound.silent;
       sent = sound.sent_is;
-      acked = acked_step client f s g r.places r.numbers v k.acked;
-      short = short_step client f s g v k.short;
-      few = few_after client (record { from_client = f; segment = g } ∷ []) s r.places r.numbers (v, tt) k.acked k.few;
+      acked = acked_step host f s g r.places r.numbers v k.acked;
+      short = short_step host f s g v k.short;
+      few = few_after host (record { from = f; segment = g } ∷ []) s r.places r.numbers (v, tt) k.acked k.few;
     }
 
 -- ## What is learned first
 
-pub meaning_lawful : (lists : Option Lists) (pair : Pair) (client : Bool) → IsLawful (meaning_by lists pair client)
-meaning_lawful None pair true = client_lines-lawful pair
-meaning_lawful None pair false = server_lines-lawful pair
-meaning_lawful (Some lists) pair client = dns_units-lawful (list_of client lists)
+pub meaning_lawful : (lists : Option Lists) (pair : Pair) (host : Host) → IsLawful (meaning_by lists pair host)
+meaning_lawful None pair Client = client_lines-lawful pair
+meaning_lawful None pair Server = server_lines-lawful pair
+meaning_lawful (Some lists) pair host = dns_units-lawful (list_of host lists)
 
 pub own_alike : (es es' : List Entry) (a : Sender) → a.meaning ≡ dns_units es → ((more : List Entry) × (es' ≡ es ++ more)) → AllByRecursion (IsRenamed es) (cut (dns_units es) a.octets).units → ReadAlike a.meaning (dns_units es') a.octets
 own_alike es es' a is more units =
@@ -132,66 +136,48 @@ own_alike es es' a is more units =
     (learned_alike unit_addresses dns_units es more.0 a.octets dns_units-learning (listed_units es (cut (dns_units es) a.octets).units units)))
 
 -- the session that has learned
-abbrev pub learned : Bool → Option Lists → Session → Session
+abbrev pub learned : Host → Option Lists → Session → Session
 learned f lists s = session f (reads_by lists f (own f s)) (other f s)
 
-pub own_same : (client f : Bool) (s : Session) → own client (session f (own f s) (other f s)) ≡ own client s
-own_same true true s = refl
-own_same true false s = refl
-own_same false true s = refl
-own_same false false s = refl
+pub same_session : (f : Host) (s : Session) → s ≡ session f (own f s) (other f s)
+same_session Client s = refl
+same_session Server s = refl
 
-other_same : (f : Bool) (a b : Sender) → other f (session f a b) ≡ b
-other_same true a b = refl
-other_same false a b = refl
+pub own_same : (host f : Host) (s : Session) → own host (session f (own f s) (other f s)) ≡ own host s
+own_same host f s = ap (own host) (sym (same_session f s))
+
+other_same : (f : Host) (a b : Sender) → other f (session f a b) ≡ b
+other_same Client a b = refl
+other_same Server a b = refl
 
 -- the list is longer, where there is one
-abbrev pub IsLonger : Option Lists → Bool → List Entry → Type 0
+abbrev pub IsLonger : Option Lists → Host → List Entry → Type 0
 IsLonger lists f es = IfSome lists (λ l. (more : List Entry) × (es ≡ list_of f l ++ more))
 
 -- what holds of a stream goes on to hold where the list of who sends is longer
-pub holds_learned : (lists : Option Lists) (pair : Pair) (client f : Bool) (s : Session) (r : Remembered) (es : List Entry) → IsLonger lists f es → UnitsAreRenamed lists f (own f s).octets → Holds (meaning_by lists pair client) (own client s) r
-    → Holds (meaning_by (option_map (with_list f es) lists) pair client) (own client (learned f (option_map (with_list f es) lists) s)) r
-holds_learned None pair client f s r es more units h = subst (λ (a : Sender). Holds (meaning_by None pair client) a r) (sym (own_same client f s)) h
-holds_learned (Some l) pair true true s r es more units h = holds_alike (dns_units l.client) (dns_units es) s.client r (dns_units-lawful es) (own_alike l.client es s.client h.meaning more units) h
-holds_learned (Some l) pair false false s r es more units h = holds_alike (dns_units l.server) (dns_units es) s.server r (dns_units-lawful es) (own_alike l.server es s.server h.meaning more units) h
-holds_learned (Some l) pair true false s r es more units h = h
-holds_learned (Some l) pair false true s r es more units h = h
+pub holds_learned : (lists : Option Lists) (pair : Pair) (host f : Host) (s : Session) (r : Remembered) (es : List Entry) → IsLonger lists f es → UnitsAreRenamed lists f (own f s).octets → Holds (meaning_by lists pair host) (own host s) r
+    → Holds (meaning_by (option_map (with_list f es) lists) pair host) (own host (learned f (option_map (with_list f es) lists) s)) r
+holds_learned None pair host f s r es more units h = subst (λ (a : Sender). Holds (meaning_by None pair host) a r) (sym (own_same host f s)) h
+holds_learned (Some l) pair Client Client s r es more units h = holds_alike (dns_units l.client) (dns_units es) s.client r (dns_units-lawful es) (own_alike l.client es s.client h.meaning more units) h
+holds_learned (Some l) pair Server Server s r es more units h = holds_alike (dns_units l.server) (dns_units es) s.server r (dns_units-lawful es) (own_alike l.server es s.server h.meaning more units) h
+holds_learned (Some l) pair Client Server s r es more units h = h
+holds_learned (Some l) pair Server Client s r es more units h = h
 
-pub verdict_learned : (lists : Option Lists) (pair : Pair) (f : Bool) (s : Session) (g : Segment) (es : List Entry) → IsLonger lists f es → UnitsAreRenamed lists f (own f s).octets → (own f s).meaning ≡ meaning_by lists pair f
+pub verdict_learned : (lists : Option Lists) (pair : Pair) (f : Host) (s : Session) (g : Segment) (es : List Entry) → IsLonger lists f es → UnitsAreRenamed lists f (own f s).octets → (own f s).meaning ≡ meaning_by lists pair f
     → segment_refusal f (learned f (option_map (with_list f es) lists) s) g ≡ segment_refusal f s g
-verdict_learned None pair true s g es more units is = refl
-verdict_learned None pair false s g es more units is = refl
-verdict_learned (Some l) pair true s g es more units is = verdict_alike true s.client s.server (dns_units es) g (own_alike l.client es s.client is more units)
-verdict_learned (Some l) pair false s g es more units is = verdict_alike false s.server s.client (dns_units es) g (own_alike l.server es s.server is more units)
+verdict_learned None pair Client s g es more units is = refl
+verdict_learned None pair Server s g es more units is = refl
+verdict_learned (Some l) pair Client s g es more units is = verdict_alike Client s.client s.server (dns_units es) g (own_alike l.client es s.client is more units)
+verdict_learned (Some l) pair Server s g es more units is = verdict_alike Server s.server s.client (dns_units es) g (own_alike l.server es s.server is more units)
 
 -- ## Units that are completed
 
-fold_app : (m : Meaning) (c : Cut) (s t : List ℕ) → fold (add_octet m) c (s ++ t) ≡ fold (add_octet m) (fold (add_octet m) c s) t
-fold_app m c [] t = refl
-fold_app m c (x ∷ s) t = fold_app m (add_octet m c x) s t
-
 -- the units so far stay in front
-cut_more : (m : Meaning) (t : List ℕ) (c : Cut) → (more : List (List ℕ)) × ((fold (add_octet m) c t).units ≡ c.units ++ more)
-cut_more m [] c = ([], sym (append-nil c.units))
-cut_more m (x ∷ t) c =
-    let one = by_test (is_some (m.first_end (c.rest ++ x ∷ []))) in
-    let rest = cut_more m t (add_octet m c x) in
-    (one.0 ++ rest.0, rest.1 ∙ ap (λ (us : List (List ℕ)). us ++ rest.0) one.1 ∙ append_assoc c.units one.0 rest.0)
-  where
-    by_test : (b : Bool) → (more : List (List ℕ)) × ((cut_at c (c.rest ++ x ∷ []) b).units ≡ c.units ++ more)
-    by_test true = ((c.rest ++ x ∷ []) ∷ [], refl)
-    by_test false = ([], sym (append-nil c.units))
-
-drop_front : {A : Type 0} (xs ys : List A) → drop (length xs) (xs ++ ys) ≡ ys
-drop_front [] ys = refl
-drop_front (x ∷ xs) ys = drop_front xs ys
-
-units_split : (m : Meaning) (s t : List ℕ) → (cut m (s ++ t)).units ≡ (cut m s).units ++ drop (length (cut m s).units) (cut m (s ++ t)).units
-units_split m s t =
-    let more = cut_more m t (cut m s) in
-    let is : (cut m (s ++ t)).units ≡ (cut m s).units ++ more.0 = ap (λ (c : Cut). c.units) (fold_app m (record { units = []; rest = [] }) s t) ∙ more.1 in
-    is ∙ ap (λ (us : List (List ℕ)). (cut m s).units ++ us) (sym (drop_front (cut m s).units more.0) ∙ ap (drop (length (cut m s).units)) (sym is))
+units_split : (m : Meaning) → IsLawful m → (s t : List ℕ) → (cut m (s ++ t)).units ≡ (cut m s).units ++ drop (length (cut m s).units) (cut m (s ++ t)).units
+units_split m law s t =
+    let more : List (List ℕ) = (cut m ((cut m s).rest ++ t)).units in
+    let is : (cut m (s ++ t)).units ≡ (cut m s).units ++ more = ap (λ (c : Cut). c.units) (cut-on m law s t) in
+    is ∙ ap (λ (us : List (List ℕ)). (cut m s).units ++ us) (sym (drop-append_seam (cut m s).units more) ∙ ap (drop (length (cut m s).units)) (sym is))
 
 -- what a sender's segment adds to its octets
 own_octets : (a : Sender) (g : Segment) → (t : List ℕ) × ((own_after a g).octets ≡ a.octets ++ t)
@@ -235,77 +221,82 @@ own_units P goes es es' a g is more units new =
     split : (cut (dns_units es) (own_after a g).octets).units ≡ (cut (dns_units es) a.octets).units ++ drop (length (cut (dns_units es) a.octets).units) (cut (dns_units es) (own_after a g).octets).units
     split =
         let t = own_octets a g in
-        subst (λ (s : List ℕ). (cut (dns_units es) s).units ≡ (cut (dns_units es) a.octets).units ++ drop (length (cut (dns_units es) a.octets).units) (cut (dns_units es) s).units) (sym t.1) (units_split (dns_units es) a.octets t.0)
+        subst (λ (s : List ℕ). (cut (dns_units es) s).units ≡ (cut (dns_units es) a.octets).units ++ drop (length (cut (dns_units es) a.octets).units) (cut (dns_units es) s).units) (sym t.1) (units_split (dns_units es) (dns_units-lawful es) a.octets t.0)
 
 other_units : (P : List Entry → List ℕ → Type 0) (es : List Entry) (b : Sender) (g : Segment) → AllByRecursion (P es) (cut (dns_units es) b.octets).units → AllByRecursion (P es) (cut (dns_units es) (other_after b g).octets).units
 other_units P es b g h = subst (λ (s : List ℕ). AllByRecursion (P es) (cut (dns_units es) s).units) (sym (other_octets b g)) h
 
 -- each new unit is renamed by the list afterwards
-new_units : (lists : Option Lists) (f : Bool) (image : Addr → Option Addr) (units : List (List ℕ)) → let es = entered image (entries_by lists f) (addresses_in (units_by lists units)) in
+new_units : (lists : Option Lists) (f : Host) (image : Addr → Option Addr) (units : List (List ℕ)) → let es = entered image (entries_by lists f) (addresses_in (units_by lists units)) in
     UnitsFit es (units_by lists units) → IfSome lists (λ l. AllByRecursion (IsRenamed es) units)
 new_units None f image units fit = tt
 new_units (Some l) f image units fit = all_renamed (entered image (list_of f l) (addresses_in units)) units (entered_all image (list_of f l) (flat_map unit_addresses units)) fit.good fit.small
 
-pub longer : (lists : Option Lists) (f : Bool) (image : Addr → Option Addr) (names : List Addr) → IsLonger lists f (entered image (entries_by lists f) names)
+pub longer : (lists : Option Lists) (f : Host) (image : Addr → Option Addr) (names : List Addr) → IsLonger lists f (entered image (entries_by lists f) names)
 longer None f image names = tt
 longer (Some l) f image names = entered_more image (list_of f l) names
 
--- it holds of each whole unit of a stream, where there are lists
-abbrev pub EachUnit : (List Entry → List ℕ → Type 0) → Option Lists → Bool → List ℕ → Type 0
-EachUnit P lists client octets = IfSome lists (λ l. AllByRecursion (P (list_of client l)) (cut (dns_units (list_of client l)) octets).units)
+-- all that new units name is listed afterwards
+pub new_listed : (image : Addr → Option Addr) (lists : Option Lists) (f : Host) (units : List (List ℕ)) → IfSome lists (λ l. AllByRecursion (λ u. AllListed (entered image (entries_by lists f) (addresses_in (units_by lists units))) (unit_addresses u)) units)
+new_listed image None f units = tt
+new_listed image (Some l) f units = split_listed (entered image (list_of f l) (addresses_in units)) units (entered_all image (list_of f l) (flat_map unit_addresses units))
 
-pub units_next : (P : List Entry → List ℕ → Type 0) → Goes P → (lists : Option Lists) (pair : Pair) (client f : Bool) (s : Session) (g : Segment) (es : List Entry) → IsLonger lists f es → (own f s).meaning ≡ meaning_by lists pair f → EachUnit P lists f (own f s).octets → EachUnit P lists client (own client s).octets → IfSome lists (λ l. AllByRecursion (P es) (completed (own f s) g))
-    → EachUnit P (option_map (with_list f es) lists) client (own client (session_next f (learned f (option_map (with_list f es) lists) s) g)).octets
-units_next P goes None pair client f s g es more is mine units new = tt
-units_next P goes (Some l) pair true true s g es more is mine units new = own_units P goes l.client es s.client g is more mine new
-units_next P goes (Some l) pair false false s g es more is mine units new = own_units P goes l.server es s.server g is more mine new
-units_next P goes (Some l) pair true false s g es more is mine units new = other_units P l.client s.client g units
-units_next P goes (Some l) pair false true s g es more is mine units new = other_units P l.server s.server g units
+-- it holds of each whole unit of a stream, where there are lists
+abbrev pub EachUnit : (List Entry → List ℕ → Type 0) → Option Lists → Host → List ℕ → Type 0
+EachUnit P lists host octets = IfSome lists (λ l. AllByRecursion (P (list_of host l)) (cut (dns_units (list_of host l)) octets).units)
+
+pub units_next : (P : List Entry → List ℕ → Type 0) → Goes P → (lists : Option Lists) (pair : Pair) (host f : Host) (s : Session) (g : Segment) (es : List Entry) → IsLonger lists f es → (own f s).meaning ≡ meaning_by lists pair f → EachUnit P lists f (own f s).octets → EachUnit P lists host (own host s).octets → IfSome lists (λ l. AllByRecursion (P es) (completed (own f s) g))
+    → EachUnit P (option_map (with_list f es) lists) host (own host (session_next f (learned f (option_map (with_list f es) lists) s) g)).octets
+units_next P goes None pair host f s g es more is mine units new = tt
+units_next P goes (Some l) pair Client Client s g es more is mine units new = own_units P goes l.client es s.client g is more mine new
+units_next P goes (Some l) pair Server Server s g es more is mine units new = own_units P goes l.server es s.server g is more mine new
+units_next P goes (Some l) pair Client Server s g es more is mine units new = other_units P l.client s.client g units
+units_next P goes (Some l) pair Server Client s g es more is mine units new = other_units P l.server s.server g units
 
 -- ## Sessions that remember
 
 -- what both streams keep while segments pass
 pub record StreamsHold (t : Tracked RememberedSession) : Type 0 where
-  pub holds : (client : Bool) → Holds (meaning_by t.session.session.lists t.pair client) (own client t.session.session.session) (stream_of client t.session)
-  pub units : (client : Bool) → UnitsAreRenamed t.session.session.lists client (own client t.session.session.session).octets
+  pub holds : (host : Host) → Holds (meaning_by t.session.session.lists t.pair host) (own host t.session.session.session) (stream_of host t.session)
+  pub units : (host : Host) → UnitsAreRenamed t.session.session.lists host (own host t.session.session.session).octets
 
-made_holds : (lists : Option Lists) (pair : Pair) (initial mss : ℕ) (client : Bool) → Holds (meaning_by lists pair client) (own client (session_made (meaning_by lists pair true) (meaning_by lists pair false) initial mss)) (record { sent = []; places = []; numbers = [] })
-made_holds lists pair initial mss true = record {
+made_holds : (lists : Option Lists) (pair : Pair) (initial mss : ℕ) (host : Host) → Holds (meaning_by lists pair host) (own host (session_made (meaning_by lists pair Client) (meaning_by lists pair Server) initial mss)) (record { sent = []; places = []; numbers = [] })
+made_holds lists pair initial mss Client = record {
   meaning = refl;
   silent = λ e. refl;
-  sent = record { each = tt; whole = λ q l. absurd (omega (arith, ap length (due_nil (meaning_by lists pair true) false))) };
-  acked = made_acked (meaning_by lists pair true) (meaning_by lists pair false) initial mss true (meaning_lawful lists pair true) (meaning_lawful lists pair false);
+  sent = record { each = tt; whole = λ q l. absurd (omega (arith, ap length (due_nil (meaning_by lists pair Client) false))) };
+  acked = made_acked (meaning_by lists pair Client) (meaning_by lists pair Server) initial mss Client (meaning_lawful lists pair Client) (meaning_lawful lists pair Server);
   short = omega arith;
   few = omega arith;
 }
-made_holds lists pair initial mss false = record {
+made_holds lists pair initial mss Server = record {
   meaning = refl;
   silent = λ e. refl;
-  sent = record { each = tt; whole = λ q l. absurd (omega (arith, ap length (due_nil (meaning_by lists pair false) false))) };
-  acked = made_acked (meaning_by lists pair true) (meaning_by lists pair false) initial mss false (meaning_lawful lists pair true) (meaning_lawful lists pair false);
+  sent = record { each = tt; whole = λ q l. absurd (omega (arith, ap length (due_nil (meaning_by lists pair Server) false))) };
+  acked = made_acked (meaning_by lists pair Client) (meaning_by lists pair Server) initial mss Server (meaning_lawful lists pair Client) (meaning_lawful lists pair Server);
   short = omega arith;
   few = omega arith;
 }
 
-made_units : (lists : Option Lists) (m n : Meaning) (initial mss : ℕ) (client : Bool) → UnitsAreRenamed lists client (own client (session_made m n initial mss)).octets
-made_units None m n initial mss client = tt
-made_units (Some l) m n initial mss true = tt
-made_units (Some l) m n initial mss false = tt
+pub made_each : (P : List Entry → List ℕ → Type 0) (lists : Option Lists) (m n : Meaning) (initial mss : ℕ) (host : Host) → EachUnit P lists host (own host (session_made m n initial mss)).octets
+made_each P None m n initial mss host = tt
+made_each P (Some l) m n initial mss Client = tt
+made_each P (Some l) m n initial mss Server = tt
 
 streams_made : (port : ℕ) (client : Side) (pair : Pair) (initial mss : ℕ) → StreamsHold (record { client = client; pair = pair; session = remembering_rules.made port pair initial mss })
-streams_made port client pair initial mss = record { holds = all; units = made_units (lists_at port) (meaning_by (lists_at port) pair true) (meaning_by (lists_at port) pair false) initial mss }
+streams_made port client pair initial mss = record { holds = all; units = made_each IsRenamed (lists_at port) (meaning_by (lists_at port) pair Client) (meaning_by (lists_at port) pair Server) initial mss }
   where
-    all : (of_client : Bool) → Holds (meaning_by (lists_at port) pair of_client) (own of_client (session_made (meaning_by (lists_at port) pair true) (meaning_by (lists_at port) pair false) initial mss)) (stream_of of_client (remembering_rules.made port pair initial mss))
-    all true = made_holds (lists_at port) pair initial mss true
-    all false = made_holds (lists_at port) pair initial mss false
+    all : (host : Host) → Holds (meaning_by (lists_at port) pair host) (own host (session_made (meaning_by (lists_at port) pair Client) (meaning_by (lists_at port) pair Server) initial mss)) (stream_of host (remembering_rules.made port pair initial mss))
+    all Client = made_holds (lists_at port) pair initial mss Client
+    all Server = made_holds (lists_at port) pair initial mss Server
 
-streams_next : (image : Addr → Option Addr) (f : Bool) (t : Tracked RememberedSession) (g : Segment) → segment_refusal f t.session.session.session g ≡ None
+streams_next : (image : Addr → Option Addr) (f : Host) (t : Tracked RememberedSession) (g : Segment) → segment_refusal f t.session.session.session g ≡ None
     → UnitsFit (entered image (whole_rules.listed f t.session.session) (addresses_in (whole_units f t.session.session g))) (whole_units f t.session.session g) → StreamsHold t
     → StreamsHold (record { client = t.client; pair = t.pair; session = remembering_rules.next image f t.session g })
 streams_next image f t g v fit h =
     record {
       holds = both;
-      units = λ client. units_next IsRenamed all_renamed_more lists t.pair client f s g es more (h.holds f).meaning (h.units f) (h.units client) (new_units lists f image (completed (own f s) g) fit);
+      units = λ host. units_next IsRenamed all_renamed_more lists t.pair host f s g es more (h.holds f).meaning (h.units f) (h.units host) (new_units lists f image (completed (own f s) g) fit);
     }
   where
     lists : Option Lists
@@ -326,24 +317,24 @@ streams_next image f t g v fit h =
     passes : segment_refusal f (whole_learned image f t.session.session g).session g ≡ None
     passes = verdict_learned t.session.session.lists t.pair f t.session.session.session g (entered image (entries_by t.session.session.lists f) (addresses_in (whole_units f t.session.session g))) (longer t.session.session.lists f image (addresses_in (whole_units f t.session.session g))) (h.units f) (h.holds f).meaning ∙ v
 
-    one : (client : Bool) → Holds (meaning_by (whole_learned image f t.session.session g).lists t.pair client) (own client (session_next f (whole_learned image f t.session.session g).session g)) (remembered client f (whole_learned image f t.session.session g).session g (session_out f (whole_learned image f t.session.session g).session g) (stream_of client t.session))
-    one client =
-        holds_step (meaning_by (whole_learned image f t.session.session g).lists t.pair client) client f (whole_learned image f t.session.session g).session g (stream_of client t.session) passes
-        (holds_learned t.session.session.lists t.pair client f t.session.session.session (stream_of client t.session) (entered image (entries_by t.session.session.lists f) (addresses_in (whole_units f t.session.session g))) (longer t.session.session.lists f image (addresses_in (whole_units f t.session.session g))) (h.units f) (h.holds client))
+    one : (host : Host) → Holds (meaning_by (whole_learned image f t.session.session g).lists t.pair host) (own host (session_next f (whole_learned image f t.session.session g).session g)) (remembered host f (whole_learned image f t.session.session g).session g (session_out f (whole_learned image f t.session.session g).session g) (stream_of host t.session))
+    one host =
+        holds_step (meaning_by (whole_learned image f t.session.session g).lists t.pair host) host f (whole_learned image f t.session.session g).session g (stream_of host t.session) passes
+        (holds_learned t.session.session.lists t.pair host f t.session.session.session (stream_of host t.session) (entered image (entries_by t.session.session.lists f) (addresses_in (whole_units f t.session.session g))) (longer t.session.session.lists f image (addresses_in (whole_units f t.session.session g))) (h.units f) (h.holds host))
 
     -- who takes the segment is the same before and after
-    same : (client : Bool) (outs : List Outgoing) (r : Remembered) → remembered client f (whole_learned image f t.session.session g).session g outs r ≡ remembered client f t.session.session.session g outs r
-    same client outs r =
-        ap (λ (b : Sender). let x : Remembered = record { sent = r.sent ++ if_by client f outs; places = r.places ++ if_to client f (places_of b g); numbers = r.numbers ++ if_to client f (numbers_of b g outs) } in x)
+    same : (host : Host) (outs : List Outgoing) (r : Remembered) → remembered host f (whole_learned image f t.session.session g).session g outs r ≡ remembered host f t.session.session.session g outs r
+    same host outs r =
+        ap (λ (b : Sender). let x : Remembered = record { sent = r.sent ++ if_by host f outs; places = r.places ++ if_to host f (places_of b g); numbers = r.numbers ++ if_to host f (numbers_of b g outs) } in x)
         (other_same f (reads_by (whole_learned image f t.session.session g).lists f (own f t.session.session.session)) (other f t.session.session.session))
 
-    both : (client : Bool) → Holds (meaning_by (whole_learned image f t.session.session g).lists t.pair client) (own client (session_next f (whole_learned image f t.session.session g).session g)) (stream_of client (remembering_rules.next image f t.session g))
-    both true = subst (λ (r : Remembered). Holds (meaning_by (whole_learned image f t.session.session g).lists t.pair true) (own true (session_next f (whole_learned image f t.session.session g).session g)) r) (same true (session_out f (whole_learned image f t.session.session g).session g) t.session.client) (one true)
-    both false = subst (λ (r : Remembered). Holds (meaning_by (whole_learned image f t.session.session g).lists t.pair false) (own false (session_next f (whole_learned image f t.session.session g).session g)) r) (same false (session_out f (whole_learned image f t.session.session g).session g) t.session.server) (one false)
+    both : (host : Host) → Holds (meaning_by (whole_learned image f t.session.session g).lists t.pair host) (own host (session_next f (whole_learned image f t.session.session g).session g)) (stream_of host (remembering_rules.next image f t.session g))
+    both Client = subst (λ (r : Remembered). Holds (meaning_by (whole_learned image f t.session.session g).lists t.pair Client) (own Client (session_next f (whole_learned image f t.session.session g).session g)) r) (same Client (session_out f (whole_learned image f t.session.session g).session g) t.session.client) (one Client)
+    both Server = subst (λ (r : Remembered). Holds (meaning_by (whole_learned image f t.session.session g).lists t.pair Server) (own Server (session_next f (whole_learned image f t.session.session g).session g)) r) (same Server (session_out f (whole_learned image f t.session.session g).session g) t.session.server) (one Server)
 
 -- ## What is remembered is true
 
-pass_more : (t : RememberedSession) (ps : List Passed) (p : Passed) → AllPass t ps → segment_refusal p.from_client (fold step t ps).session.session p.segment ≡ None → AllPass t (ps ++ p ∷ [])
+pass_more : (t : RememberedSession) (ps : List Passed) (p : Passed) → AllPass t ps → segment_refusal p.from (fold step t ps).session.session p.segment ≡ None → AllPass t (ps ++ p ∷ [])
 pass_more t [] p all v = (v, tt)
 pass_more t (x ∷ ps) p all v = (all.0, pass_more (step t x) ps p all.1 v)
 
@@ -351,9 +342,9 @@ step_more : (t : RememberedSession) (ps : List Passed) (p : Passed) → fold ste
 step_more t [] p = refl
 step_more t (x ∷ ps) p = step_more (step t x) ps p
 
-remembered_next : (image : Addr → Option Addr) (f : Bool) (t : Tracked RememberedSession) (g : Segment) → segment_refusal f t.session.session.session g ≡ None → IsRemembered t → IsRemembered (record { client = t.client; pair = t.pair; session = remembering_rules.next image f t.session g })
+remembered_next : (image : Addr → Option Addr) (f : Host) (t : Tracked RememberedSession) (g : Segment) → segment_refusal f t.session.session.session g ≡ None → IsRemembered t → IsRemembered (record { client = t.client; pair = t.pair; session = remembering_rules.next image f t.session g })
 remembered_next image f t g v h =
-    let p : Passed = record { from_client = f; segment = g; image = image } in
+    let p : Passed = record { from = f; segment = g; image = image } in
     record {
       pair = h.pair;
       passed = pass_more (begun t.session) t.session.past p h.passed (ap (λ (x : RememberedSession). segment_refusal f x.session.session g) (sym h.session) ∙ v);
@@ -387,17 +378,17 @@ remembered_reads = record {
 
 -- ## The laws of streams
 
-stream_is : (t : Tracked RememberedSession) (client : Bool) → StreamsHold t → StreamIs client t
-stream_is t client h = record { meaning = (h.holds client).meaning; units = h.units client; sent = (h.holds client).sent; acknowledged = (h.holds client).acked.each }
+stream_is : (t : Tracked RememberedSession) (host : Host) → StreamsHold t → StreamIs host t
+stream_is t host h = record { meaning = (h.holds host).meaning; units = h.units host; sent = (h.holds host).sent; acknowledged = (h.holds host).acked.each }
 
 pub session_is : (t : Tracked RememberedSession) → TrackedHolds t → SessionIs t
-session_is t h = record { remembers = h.remembers; streams = λ client. stream_is t client h.streams }
+session_is t h = record { remembers = h.remembers; streams = λ host. stream_is t host h.streams }
 
 -- what always holds of the hosts of a session
-facts_is : (client : Bool) (t : Tracked RememberedSession) → TrackedHolds t → Facts (own client t.session.session.session)
-facts_is client t h =
-    let k = h.streams.holds client in
-    facts_of (own client t.session.session.session) (stream_of client t.session).places (stream_of client t.session).numbers k.acked k.short k.few
+facts_is : (host : Host) (t : Tracked RememberedSession) → TrackedHolds t → Facts (own host t.session.session.session)
+facts_is host t h =
+    let k = h.streams.holds host in
+    facts_of (own host t.session.session.session) (stream_of host t.session).places (stream_of host t.session).numbers k.acked k.short k.few
 
 pub run_holds : (events : List Frame) (settings : Settings) → EachTracked TrackedHolds (fold (world_next remembering_rules) (opening_world settings) events).connections
 run_holds events settings = run_keeps remembering_rules TrackedHolds remembered_keeps events (opening_world settings) (All-nil (λ (c : Connection (Tracked RememberedSession)). IfSome c.session TrackedHolds))
@@ -414,8 +405,8 @@ each Q weaker events settings =
 pub sessions_are : (events : List Frame) (settings : Settings) → EachTracked SessionIs (fold (world_next remembering_rules) (opening_world settings) events).connections
 sessions_are = each SessionIs session_is
 
-pub streams_are : (events : List Frame) (settings : Settings) (client : Bool) → EachTracked (StreamIs client) (fold (world_next remembering_rules) (opening_world settings) events).connections
-streams_are events settings client = each (StreamIs client) (λ t h. stream_is t client h.streams) events settings
+pub streams_are : (events : List Frame) (settings : Settings) (host : Host) → EachTracked (StreamIs host) (fold (world_next remembering_rules) (opening_world settings) events).connections
+streams_are events settings host = each (StreamIs host) (λ t h. stream_is t host h.streams) events settings
 
-pub facts_are : (events : List Frame) (settings : Settings) (client : Bool) → EachTracked (λ t. Facts (own client t.session.session.session)) (fold (world_next remembering_rules) (opening_world settings) events).connections
-facts_are events settings client = each (λ t. Facts (own client t.session.session.session)) (facts_is client) events settings
+pub facts_are : (events : List Frame) (settings : Settings) (host : Host) → EachTracked (λ t. Facts (own host t.session.session.session)) (fold (world_next remembering_rules) (opening_world settings) events).connections
+facts_are events settings host = each (λ t. Facts (own host t.session.session.session)) (facts_is host) events settings

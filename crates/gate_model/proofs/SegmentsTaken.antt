@@ -3,14 +3,14 @@ use Rattle.std.proofs.Common.{◌≡◌, ◌<◌, ℕ, Bool, true, false, nat_lt
 use Rattle.std.specs.Prelude.{option_and_then, slice_get, IfSome}
 use Rattle.std.specs.List.{find, position_or_len}
 use Rattle.std.specs.Option.{option_or}
-use Rattle.std.proofs.lemmas.Bool.{ltb-true, ltb-false}
-use Rattle.std.proofs.lemmas.List.Folds.{find-set, find-append, find_at}
-use Rattle.std.proofs.lemmas.Option.{slice_get_past}
+use Rattle.std.proofs.lemmas.Bool.{ltb-true}
+use Rattle.std.proofs.lemmas.List.Folds.{find-set, find-append}
 use Rattle.gate_base.specs.Events.{Event}
 use Rattle.gate_base.specs.declared.event.Verdict.{Verdict}
 use Rattle.tcp_tracker.specs.Connections.{is_of, place_of, connection_of, changed}
 use Rattle.tcp_tracker.specs.declared.connection.ConnKey.{ConnKey}
 use Rattle.tcp_tracker.specs.declared.connection.Connection.{Connection}
+use Rattle.tcp_tracker.proofs.Names.{find_by_place}
 use Rattle.gate_model.specs.Frame.{Kind, Stream, datagram_in}
 use Rattle.gate_model.specs.Rules.{SessionRules}
 use Rattle.gate_model.specs.World.{Tracked, World, at_moment}
@@ -29,13 +29,6 @@ taken_out rules w e t k =
 
 -- ## What is found afterwards
 
-found_at : {A : Type 0} (p : A → Bool) (xs : List A) → option_and_then (slice_get xs) (position p xs) ≡ find p xs
-found_at {A = A} p xs = by_test (nat_lt (position_or_len p xs) (length xs)) refl
-  where
-    by_test : (b : Bool) → nat_lt (position_or_len p xs) (length xs) ≡ b → option_and_then (slice_get xs) (cond b (Some (position_or_len p xs)) None) ≡ find p xs
-    by_test true e = sym (find_at p xs)
-    by_test false e = sym (find_at p xs ∙ slice_get_past xs (position_or_len p xs) (omega (arith, ltb-false (position_or_len p xs) (length xs) e)))
-
 place_is : {A : Type 0} (p : A → Bool) (xs : List A) (i : ℕ) → position p xs ≡ Some i → (i ≡ position_or_len p xs) × (i < length xs)
 place_is {A = A} p xs i e = by_test (nat_lt (position_or_len p xs) (length xs)) refl e
   where
@@ -45,11 +38,11 @@ place_is {A = A} p xs i e = by_test (nat_lt (position_or_len p xs) (length xs)) 
 
 -- a connection of this name that was put in its place is found there
 changed_found : {S : Type 0} (key : ConnKey) (all : List (Connection (Tracked S))) (c : Connection (Tracked S)) → is_of key c ≡ true → connection_of key (changed all (place_of key all) (Some c)) ≡ Some c
-changed_found {S = S} key all c named = found_at (is_of key) (changed all (place_of key all) (Some c)) ∙ by_place (place_of key all) refl
+changed_found {S = S} key all c named = find_by_place (is_of key) (changed all (place_of key all) (Some c)) ∙ by_place (place_of key all) refl
   where
     by_place : (o : Option ℕ) → place_of key all ≡ o → find (is_of key) (changed all o (Some c)) ≡ Some c
     by_place None e =
-        let none : find (is_of key) all ≡ None = sym (found_at (is_of key) all) ∙ ap (option_and_then (slice_get all)) e in
+        let none : find (is_of key) all ≡ None = sym (find_by_place (is_of key) all) ∙ ap (option_and_then (slice_get all)) e in
         find-append (is_of key) all (c ∷ []) ∙ ap (λ (o : Option (Connection (Tracked S))). option_or o (find (is_of key) (c ∷ []))) none ∙ ap (λ (b : Bool). cond b (Some c) None) named
     by_place (Some i) e = let at = place_is (is_of key) all i e in find-set (is_of key) all i c at.0 at.1 named
 

@@ -13,6 +13,7 @@ use Rattle.gate_base.specs.declared.refusal.Refusal.TheVariants.{BadUnit, UnitUn
 use Rattle.gate_base.specs.declared.event.Verdict.{Verdict}
 use Rattle.gate_base.specs.declared.event.Verdict.TheVariants.{Pass, Refused, Held}
 use Rattle.gate_base.specs.declared.side.Side.{Side}
+use Rattle.gate_base.specs.declared.host.Host.{Host}
 use Rattle.binding_table.specs.Bindings.{Bindings}
 use Rattle.dialogue.specs.Learning.{Entry}
 use Rattle.ipv4_frames.specs.Ipv4.{Datagram}
@@ -23,7 +24,7 @@ use Rattle.tcp_tracker.specs.declared.connection.Connection.{Connection}
 use Rattle.gate_model.specs.Frame.{Kind, Udp, Echo, Error, Dns, Snmp, Stream, datagram_in, kind_of}
 use Rattle.gate_model.specs.Lists.{most_entries, addresses_in, entered, is_bad, grows_too_much}
 use Rattle.gate_model.specs.Rules.{SessionRules}
-use Rattle.gate_model.specs.World.{Tracked, World, at_moment, is_client}
+use Rattle.gate_model.specs.World.{Tracked, World, at_moment, host_on}
 use Rattle.gate_model.specs.Stream.{tcp_of, segment_of, key_in, found_in, begins, made_by, taker_by, session_refusal, stepped, ends_by, connection_after}
 use Rattle.gate_model.specs.Units.{units_in, names_in, entries_in, entries_after, is_new_unbound, unit_tests, growth_tests}
 use Rattle.gate_model.specs.Verdict.{table_after, image_in, verdict}
@@ -62,8 +63,8 @@ pub record UnitsFit (entries : List Entry) (units : List (List ℕ)) : Type 0 wh
 -- a session has this when it is made, and keeps it while segments pass
 pub record Keeps {S : Type 0} (rules : SessionRules S) (Q : Tracked S → Type 0) : Type 0 where
   pub made : (port : ℕ) (client : Side) (pair : Pair) (initial mss : ℕ) → Q (record { client = client; pair = pair; session = rules.made port pair initial mss })
-  pub next : (image : Addr → Option Addr) (from_client : Bool) (t : Tracked S) (g : Segment) → rules.refusal from_client t.session g ≡ None → UnitsFit (entered image (rules.listed from_client t.session) (addresses_in (rules.units from_client t.session g))) (rules.units from_client t.session g) → Q t
-      → Q (record { client = t.client; pair = t.pair; session = rules.next image from_client t.session g })
+  pub next : (image : Addr → Option Addr) (from : Host) (t : Tracked S) (g : Segment) → rules.refusal from t.session g ≡ None → UnitsFit (entered image (rules.listed from t.session) (addresses_in (rules.units from t.session g))) (rules.units from t.session g) → Q t
+      → Q (record { client = t.client; pair = t.pair; session = rules.next image from t.session g })
 
 taker_keeps : {S : Type 0} (rules : SessionRules S) (Q : Tracked S → Type 0) → Keeps rules Q → (table : Bindings) (side : Side) (d : Datagram) (found : Option (Connection (Tracked S))) → IfSome found (λ c. IfSome c.session Q) → IfSome (taker_by rules table side d found) Q
 taker_keeps {S = S} rules Q k table side d None h = by_test (begins {S = S} None d)
@@ -86,8 +87,8 @@ units_fit rules image table side d t units growth = record {
 stepped_keeps : {S : Type 0} (rules : SessionRules S) (Q : Tracked S → Type 0) → Keeps rules Q → (image : Addr → Option Addr) (side : Side) (d : Datagram) (t : Option (Tracked S)) → session_refusal rules side d t ≡ None → UnitsFit (entries_after rules image side d t) (units_in rules side d t) → IfSome t Q → IfSome (option_map (stepped rules image side d) t) Q
 stepped_keeps rules Q k image side d None e f h = tt
 stepped_keeps rules Q k image side d (Some t) e f h =
-    k.next image (is_client side t) t (segment_of d) e
-    (subst (λ (v : Option Refusal). UnitsFit (entered image (rules.listed (is_client side t) t.session) (addresses_in (unless_refused v (rules.units (is_client side t) t.session (segment_of d)) []))) (unless_refused v (rules.units (is_client side t) t.session (segment_of d)) [])) e f) h
+    k.next image (host_on side t) t (segment_of d) e
+    (subst (λ (v : Option Refusal). UnitsFit (entered image (rules.listed (host_on side t) t.session) (addresses_in (unless_refused v (rules.units (host_on side t) t.session (segment_of d)) []))) (unless_refused v (rules.units (host_on side t) t.session (segment_of d)) [])) e f) h
 
 pub after_keeps : {S : Type 0} (rules : SessionRules S) (Q : Tracked S → Type 0) (image : Addr → Option Addr) (live : World S) (side : Side) (moment : ℕ) (d : Datagram) (t : Option (Tracked S)) → IfSome (option_map (stepped rules image side d) t) Q → IfSome (connection_after rules image live side moment d t) (λ c. IfSome c.session Q)
 after_keeps {S = S} rules Q image live side moment d t h = by_test (ends_by rules side d t) (after (key_in live.table side d) side (tcp_of d).flags t (record { 0 = moment }) (found_in live side d))
@@ -141,7 +142,7 @@ taken_keeps {S = S} rules Q k w e t takes h =
     subst (λ (o : Option (Tracked S)). IfSome (option_map (stepped rules image e.side d) o) Q) takes.taker kept
 
 -- a session that takes a segment has it before, and doesn't refuse the segment
-pub taken_before : {S : Type 0} (rules : SessionRules S) (Q : Tracked S → Type 0) → Keeps rules Q → (w : World S) (e : Event) (t : Tracked S) → TakesSegment rules w e t → EachTracked Q w.connections → Q t × (rules.refusal (is_client e.side t) t.session (segment_of (datagram_in e)) ≡ None)
+pub taken_before : {S : Type 0} (rules : SessionRules S) (Q : Tracked S → Type 0) → Keeps rules Q → (w : World S) (e : Event) (t : Tracked S) → TakesSegment rules w e t → EachTracked Q w.connections → Q t × (rules.refusal (host_on e.side t) t.session (segment_of (datagram_in e)) ≡ None)
 taken_before {S = S} rules Q k w e t takes h =
     let live = at_moment w e.moment in
     let d = datagram_in e in

@@ -1,6 +1,7 @@
 -- That tracked sessions go on, those of FTP and those of DNS.
-use Rattle.std.specs.Prelude.{◌≡◌, ◌⊎◌, Bool, true, List, Option, Some, Contains}
+use Rattle.std.specs.Prelude.{◌≡◌, ◌⊎◌, true, List, Option, Some, Contains}
 use Rattle.gate_base.specs.Events.{Event}
+use Rattle.gate_base.specs.declared.host.Host.{Host}
 use Rattle.stream_model.specs.Numbers.{number_at, known}
 use Rattle.stream_model.specs.Progress.{acknowledged_of, Brings, EachCarries, OnlyHeldWaits}
 use Rattle.stream_model.specs.Session.{Session, Segment, Outgoing, own, other, arrival}
@@ -10,7 +11,7 @@ use Rattle.gate_model.specs.Frame.{datagram_in}
 use Rattle.gate_model.specs.Remembered.{RememberedSession, remembering_rules}
 use Rattle.gate_model.specs.Stream.{segment_of}
 use Rattle.gate_model.specs.Taken.{TakesSegment, segments_for, taken_by}
-use Rattle.gate_model.specs.World.{Tracked, World, is_client}
+use Rattle.gate_model.specs.World.{Tracked, World, host_on}
 
 -- both hosts' streams of a session
 abbrev pub streams_of : Tracked RememberedSession → Session
@@ -18,24 +19,24 @@ streams_of t = t.session.session.session
 
 -- of neither host's octets anything waits but a held rest
 abbrev pub OnlyRestsWait : Session → Type 0
-OnlyRestsWait s = (client : Bool) → OnlyHeldWaits (own client s)
+OnlyRestsWait s = (host : Host) → OnlyHeldWaits (own host s)
 
 -- the segment of an event's frame, which has neither SYN nor RST
 abbrev pub HasDataSegment : Event → Type 0
 HasDataSegment e = is_data (arrival (segment_of (datagram_in e))) ≡ true
 
--- for a segment of the client (true), or of the server, that makes this session of that one
-pub record GoesOn (from_client : Bool) (before after : Session) (g : Segment) (outs : List Outgoing) : Type 0 where
+-- for a segment of a host that makes this session of that one
+pub record GoesOn (from : Host) (before after : Session) (g : Segment) (outs : List Outgoing) : Type 0 where
   -- what goes out brings what is lacking of its sender's stream,
-  pub brings : Brings (own from_client before) (own from_client after) g outs
+  pub brings : Brings (own from before) (own from after) g outs
   -- each of it acknowledges to the other host all of its octets whose images are acknowledged by then,
-  pub carries : EachCarries (number_at (known (other from_client after).initial) (acknowledged_of (other from_client after))) outs
+  pub carries : EachCarries (number_at (known (other from after).initial) (acknowledged_of (other from after))) outs
   -- and nothing waits then but held rests
   pub waits : OnlyRestsWait after
 
 -- so it is for the segment of an event, which this session takes
 abbrev pub GoesOnBy : World RememberedSession → Event → Tracked RememberedSession → Type 0
-GoesOnBy w e t = GoesOn (is_client e.side t) (streams_of t) (streams_of (taken_by remembering_rules w e t)) (segment_of (datagram_in e)) (segments_for remembering_rules w e t)
+GoesOnBy w e t = GoesOn (host_on e.side t) (streams_of t) (streams_of (taken_by remembering_rules w e t)) (segment_of (datagram_in e)) (segments_for remembering_rules w e t)
 
 -- a session is tracked
 pub record IsTracked (all : List (Connection (Tracked RememberedSession))) (t : Tracked RememberedSession) : Type 0 where

@@ -1,11 +1,14 @@
 -- The bindings of connections: while a connection lives its hosts keep their aliases.
-use Rattle.std.specs.Prelude.{◌≡◌, ◌≤◌, ◌⊎◌, ℕ, Bool, true, false, not, All, [], length, unwrap_or, Option, Some, None, IfSome}
+use Rattle.std.specs.Prelude.{◌≡◌, ◌≤◌, ◌⊎◌, ℕ, true, All, [], length, unwrap_or, Option, Some, None, IfSome}
 use Rattle.std.specs.List.{AllByRecursion}
 use Rattle.gate_base.specs.Side.{other}
 use Rattle.gate_base.specs.declared.address.Addr.{Addr}
 use Rattle.gate_base.specs.declared.event.Pair.{Pair}
 use Rattle.gate_base.specs.declared.side.Side.{Side}
 use Rattle.gate_base.specs.declared.side.Side.TheVariants.{Left, Right}
+use Rattle.gate_base.specs.declared.host.Host.{Host}
+use Rattle.gate_base.specs.declared.host.Host.TheVariants.{Client, Server}
+use Rattle.gate_base.specs.Hosts.{peer}
 use Rattle.binding_table.specs.Bindings.{Bindings, is_same, seen}
 use Rattle.binding_table.specs.Lasting.{IsBoundTo, IsKnownAs}
 use Rattle.binding_table.specs.Lawful.{IsLawful}
@@ -53,14 +56,14 @@ IsImage table side until address (Some image) = IsBoundAs table side address.0 i
 abbrev pub IsEntryBound : Bindings → Side → ℕ → Entry → Type 0
 IsEntryBound table side until entry = IsImage table side until entry.0 entry.1
 
--- the realm of the client (true), or of the server
-abbrev pub side_of : {S : Type 0} → Bool → Tracked S → Side
-side_of true t = t.client
-side_of false t = other t.client
+-- the realm of a host
+abbrev pub side_of : {S : Type 0} → Host → Tracked S → Side
+side_of Client t = t.client
+side_of Server t = other t.client
 
 -- what the lists of a session rename is bound, as it is listed, until a moment
 abbrev pub ListsAreBound : {S : Type 0} → SessionRules S → Bindings → ℕ → Tracked S → Type 0
-ListsAreBound rules table until t = (client : Bool) → AllByRecursion (IsEntryBound table (side_of client t) until) (rules.listed client t.session)
+ListsAreBound rules table until t = (host : Host) → AllByRecursion (IsEntryBound table (side_of host t) until) (rules.listed host t.session)
 
 -- for as long as its connection lives
 abbrev pub KeepsLists : {S : Type 0} → SessionRules S → Bindings → Connection (Tracked S) → Type 0
@@ -68,10 +71,10 @@ KeepsLists rules table c = IfSome c.session (ListsAreBound rules table c.until.0
 
 -- what each representation of sessions does with lists: nothing is listed when a session begins, the addresses in the units of a segment are entered into its sender's list and the other one stays, and a SYN completes no unit
 pub record HasLists {S : Type 0} (rules : SessionRules S) : Type 0 where
-  pub made : (port : ℕ) (pair : Pair) (initial mss : ℕ) (client : Bool) → rules.listed client (rules.made port pair initial mss) ≡ []
-  pub own : (image : Addr → Option Addr) (from_client : Bool) (s : S) (g : Segment) → rules.listed from_client (rules.next image from_client s g) ≡ entered image (rules.listed from_client s) (addresses_in (rules.units from_client s g))
-  pub other : (image : Addr → Option Addr) (from_client : Bool) (s : S) (g : Segment) → rules.listed (not from_client) (rules.next image from_client s g) ≡ rules.listed (not from_client) s
-  pub syn : (from_client : Bool) (s : S) (g : Segment) → g.flags.syn ≡ true → rules.units from_client s g ≡ []
+  pub made : (port : ℕ) (pair : Pair) (initial mss : ℕ) (host : Host) → rules.listed host (rules.made port pair initial mss) ≡ []
+  pub own : (image : Addr → Option Addr) (from : Host) (s : S) (g : Segment) → rules.listed from (rules.next image from s g) ≡ entered image (rules.listed from s) (addresses_in (rules.units from s g))
+  pub other : (image : Addr → Option Addr) (from : Host) (s : S) (g : Segment) → rules.listed (peer from) (rules.next image from s g) ≡ rules.listed (peer from) s
+  pub syn : (from : Host) (s : S) (g : Segment) → g.flags.syn ≡ true → rules.units from s g ≡ []
 
 -- a world in which all that is listed is bound
 pub record KeepsListed {S : Type 0} (rules : SessionRules S) (w : World S) : Type 0 where
@@ -83,12 +86,12 @@ abbrev pub EntryCrosses : Bindings → Side → Entry → Type 0
 EntryCrosses table side entry = seen table side entry.0 ≡ Some (unwrap_or entry.1 entry.0)
 
 abbrev pub ListsCross : {S : Type 0} → SessionRules S → Bindings → Tracked S → Type 0
-ListsCross rules table t = (client : Bool) → AllByRecursion (EntryCrosses table (side_of client t)) (rules.listed client t.session)
+ListsCross rules table t = (host : Host) → AllByRecursion (EntryCrosses table (side_of host t)) (rules.listed host t.session)
 
 -- each address that was listed keeps its image
 abbrev pub KeepsImages : {S : Type 0} → SessionRules S → Tracked S → Tracked S → Type 0
-KeepsImages rules old new = (client : Bool) (number : ℕ) → is_listed (rules.listed client old.session) number ≡ true → image_in (rules.listed client new.session) number ≡ image_in (rules.listed client old.session) number
+KeepsImages rules old new = (host : Host) (number : ℕ) → is_listed (rules.listed host old.session) number ≡ true → image_in (rules.listed host new.session) number ≡ image_in (rules.listed host old.session) number
 
 -- no list is longer than the most
 abbrev pub ListsAreFew : {S : Type 0} → SessionRules S → Tracked S → Type 0
-ListsAreFew rules t = (client : Bool) → length (rules.listed client t.session) ≤ most_entries
+ListsAreFew rules t = (host : Host) → length (rules.listed host t.session) ≤ most_entries

@@ -8,7 +8,7 @@ use Rattle.icmp_errors.specs.declared.Inner.{Inner}
 use Rattle.ipv4_frames.specs.Ipv4.{Datagram}
 use Rattle.tcp_tracker.specs.Connections.{connection_of}
 use Rattle.gate_model.specs.Rules.{SessionRules}
-use Rattle.gate_model.specs.World.{Tracked, World, called, is_client}
+use Rattle.gate_model.specs.World.{Tracked, World, called, host_on}
 use Rattle.gate_model.specs.Stream.{key_of, session_in}
 
 -- what follows the first 8 octets of the message
@@ -24,7 +24,7 @@ inner_session live side inner =
 
 -- the number that its sender gave it, where a session tells; nothing inside that where the session sent no such number
 abbrev pub inner_number : {S : Type 0} → SessionRules S → World S → Side → Inner → Option (Option ℕ)
-inner_number rules live side inner = option_map (λ t. rules.inner (is_client (other side) t) t.session inner.sequence) (inner_session live side inner)
+inner_number rules live side inner = option_map (λ t. rules.inner (host_on (other side) t) t.session inner.sequence) (inner_session live side inner)
 
 -- a session that tells nothing
 abbrev pub is_unknown : Option (Option ℕ) → Bool

@@ -1,10 +1,11 @@
 -- What is promised of the frames of two realms, whatever they are.
-use Rattle.std.specs.Prelude.{◌≡◌, ◌≤◌, ◌+◌, ℕ, Bool, All, List, [], ◌∷◌, ◌++◌, length, Option, Some, None}
+use Rattle.std.specs.Prelude.{◌≡◌, ◌≤◌, ◌+◌, ℕ, All, List, [], ◌∷◌, ◌++◌, length, Option, Some, None}
 use Rattle.std.specs.List.{fold}
 use Rattle.gate_base.specs.Events.{Event}
 use Rattle.gate_base.specs.Tests.{first_that_holds}
 use Rattle.gate_base.specs.declared.event.Verdict.TheVariants.{Pass, Refused}
 use Rattle.gate_base.specs.declared.refusal.Refusal.{Refusal}
+use Rattle.gate_base.specs.declared.host.Host.{Host}
 use Rattle.gate_settings.specs.declared.settings.Settings.{Settings}
 use Rattle.twice_translate.specs.Renamed.{renamed}
 use Rattle.gate_model.specs.Frame.{Stream, datagram_in, kind_of}
@@ -55,13 +56,13 @@ pub record FrameIs (w : World WholeSession) (e : Event) : Type 0 where
   -- and where no session takes it, that is its renaming
   pub renames : verdict whole_rules w e ≡ Pass → IsPlain w e → out whole_rules w e ≡ renaming w e ∷ []
 
--- each round of repeats of the client's octets (true), or the server's, raises what is acknowledged of their image, or what their sender knows to be acknowledged
-abbrev pub RoundsEnd : Settings → List Event → Bool → Tracked RememberedSession → ℕ → ℕ → List FrameRound → Type 0
-RoundsEnd settings done client t knows had rounds =
+-- each round of repeats of a host's octets raises what is acknowledged of their image, or what their sender knows to be acknowledged
+abbrev pub RoundsEnd : Settings → List Event → Host → Tracked RememberedSession → ℕ → ℕ → List FrameRound → Type 0
+RoundsEnd settings done host t knows had rounds =
     let w = remembered_after settings done in
-    let a = own client (streams_of t) in
-    let new = own client (streams_of (after_frame_rounds w t rounds)) in
-    knows ≤ acknowledged_of a → a.acked ≤ had → AllFrameRounds client w t knows had rounds → length rounds + a.acked + knows ≤ new.acked + acknowledged_of new
+    let a = own host (streams_of t) in
+    let new = own host (streams_of (after_frame_rounds w t rounds)) in
+    knows ≤ acknowledged_of a → a.acked ≤ had → AllFrameRounds host w t knows had rounds → length rounds + a.acked + knows ≤ new.acked + acknowledged_of new
 
 -- by accepted settings, at each of these events and after each:
 pub record Promised (settings : Settings) (events : List Event) : Type 0 where
@@ -88,4 +89,4 @@ pub record Promised (settings : Settings) (events : List Event) : Type 0 where
   -- nothing else changes a session, whatever frames come in between;
   pub through : (done others : List Event) (e : Event) → events ≡ done ++ e ∷ others → EachTracked (ComesThrough (remembered_after settings done) e) (next remembering_rules (remembered_after settings done) e).connections
   -- and where a host sends again what it has no acknowledgement of, and the other acknowledges what it has, there are no more such rounds than octets and their image have
-  pub rounds : (done others : List Event) → events ≡ done ++ others → (client : Bool) (t : Tracked RememberedSession) (knows had : ℕ) (rounds : List FrameRound) → RoundsEnd settings done client t knows had rounds
+  pub rounds : (done others : List Event) → events ≡ done ++ others → (host : Host) (t : Tracked RememberedSession) (knows had : ℕ) (rounds : List FrameRound) → RoundsEnd settings done host t knows had rounds

@@ -1,7 +1,8 @@
 -- One representation of sessions in place of another.
-use Rattle.std.specs.Prelude.{◌≡◌, ℕ, Bool, map, Option, None, option_map}
+use Rattle.std.specs.Prelude.{◌≡◌, ℕ, map, Option, None, option_map}
 use Rattle.gate_base.specs.declared.address.Addr.{Addr}
 use Rattle.gate_base.specs.declared.event.Pair.{Pair}
+use Rattle.gate_base.specs.declared.host.Host.{Host}
 use Rattle.stream_model.specs.Session.{Segment}
 use Rattle.tcp_tracker.specs.declared.connection.Connection.{Connection}
 use Rattle.gate_model.specs.Rules.{SessionRules}
@@ -29,13 +30,13 @@ world_as h w = record { clock = w.clock; table = w.table; connections = map (con
 -- sessions by the rules a, read as others, are sessions by the rules b
 pub record Reads {S T : Type 0} (h : S → T) (a : SessionRules S) (b : SessionRules T) : Type 0 where
   pub made : (port : ℕ) (pair : Pair) (initial mss : ℕ) → h (a.made port pair initial mss) ≡ b.made port pair initial mss
-  pub refusal : (from_client : Bool) (s : S) (g : Segment) → b.refusal from_client (h s) g ≡ a.refusal from_client s g
-  pub units : (from_client : Bool) (s : S) (g : Segment) → a.refusal from_client s g ≡ None → b.units from_client (h s) g ≡ a.units from_client s g
-  pub listed : (client : Bool) (s : S) → b.listed client (h s) ≡ a.listed client s
-  pub next : (image : Addr → Option Addr) (from_client : Bool) (s : S) (g : Segment) → a.refusal from_client s g ≡ None → b.next image from_client (h s) g ≡ h (a.next image from_client s g)
-  pub out : (image : Addr → Option Addr) (from_client : Bool) (s : S) (g : Segment) → a.refusal from_client s g ≡ None → b.out image from_client (h s) g ≡ a.out image from_client s g
-  pub ends : (from_client : Bool) (s : S) (g : Segment) → b.ends from_client (h s) g ≡ a.ends from_client s g
-  pub inner : (from_client : Bool) (s : S) (number : ℕ) → b.inner from_client (h s) number ≡ a.inner from_client s number
+  pub refusal : (from : Host) (s : S) (g : Segment) → b.refusal from (h s) g ≡ a.refusal from s g
+  pub units : (from : Host) (s : S) (g : Segment) → a.refusal from s g ≡ None → b.units from (h s) g ≡ a.units from s g
+  pub listed : (host : Host) (s : S) → b.listed host (h s) ≡ a.listed host s
+  pub next : (image : Addr → Option Addr) (from : Host) (s : S) (g : Segment) → a.refusal from s g ≡ None → b.next image from (h s) g ≡ h (a.next image from s g)
+  pub out : (image : Addr → Option Addr) (from : Host) (s : S) (g : Segment) → a.refusal from s g ≡ None → b.out image from (h s) g ≡ a.out image from s g
+  pub ends : (from : Host) (s : S) (g : Segment) → b.ends from (h s) g ≡ a.ends from s g
+  pub inner : (host : Host) (s : S) (number : ℕ) → b.inner host (h s) number ≡ a.inner host s number
   pub pending : (s : S) → b.pending (h s) ≡ a.pending s
 
 -- ## Sessions that are related
@@ -43,13 +44,13 @@ pub record Reads {S T : Type 0} (h : S → T) (a : SessionRules S) (b : SessionR
 -- related sessions answer alike, and stay related while segments pass
 pub record Agree {S T : Type 0} (R : S → T → Type 0) (a : SessionRules S) (b : SessionRules T) : Type 0 where
   pub made : (port : ℕ) (pair : Pair) (initial mss : ℕ) → R (a.made port pair initial mss) (b.made port pair initial mss)
-  pub refusal : (from_client : Bool) (s : S) (t : T) (g : Segment) → R s t → b.refusal from_client t g ≡ a.refusal from_client s g
-  pub units : (from_client : Bool) (s : S) (t : T) (g : Segment) → R s t → a.refusal from_client s g ≡ None → b.units from_client t g ≡ a.units from_client s g
-  pub listed : (client : Bool) (s : S) (t : T) → R s t → b.listed client t ≡ a.listed client s
-  pub next : (image : Addr → Option Addr) (from_client : Bool) (s : S) (t : T) (g : Segment) → R s t → a.refusal from_client s g ≡ None → R (a.next image from_client s g) (b.next image from_client t g)
-  pub out : (image : Addr → Option Addr) (from_client : Bool) (s : S) (t : T) (g : Segment) → R s t → a.refusal from_client s g ≡ None → b.out image from_client t g ≡ a.out image from_client s g
-  pub ends : (from_client : Bool) (s : S) (t : T) (g : Segment) → R s t → b.ends from_client t g ≡ a.ends from_client s g
-  pub inner : (from_client : Bool) (s : S) (t : T) (number : ℕ) → R s t → b.inner from_client t number ≡ a.inner from_client s number
+  pub refusal : (from : Host) (s : S) (t : T) (g : Segment) → R s t → b.refusal from t g ≡ a.refusal from s g
+  pub units : (from : Host) (s : S) (t : T) (g : Segment) → R s t → a.refusal from s g ≡ None → b.units from t g ≡ a.units from s g
+  pub listed : (host : Host) (s : S) (t : T) → R s t → b.listed host t ≡ a.listed host s
+  pub next : (image : Addr → Option Addr) (from : Host) (s : S) (t : T) (g : Segment) → R s t → a.refusal from s g ≡ None → R (a.next image from s g) (b.next image from t g)
+  pub out : (image : Addr → Option Addr) (from : Host) (s : S) (t : T) (g : Segment) → R s t → a.refusal from s g ≡ None → b.out image from t g ≡ a.out image from s g
+  pub ends : (from : Host) (s : S) (t : T) (g : Segment) → R s t → b.ends from t g ≡ a.ends from s g
+  pub inner : (host : Host) (s : S) (t : T) (number : ℕ) → R s t → b.inner host t number ≡ a.inner host s number
   pub pending : (s : S) (t : T) → R s t → b.pending t ≡ a.pending s
 
 -- two related sessions

@@ -1,8 +1,10 @@
 -- Sessions that remember: each segment that passed, what went out, and what was acknowledged.
-use Rattle.std.specs.Prelude.{◌≡◌, ℕ, Bool, true, false, List, [], ◌∷◌, ◌++◌, Option, Some, None, IfSome, All, map}
+use Rattle.std.specs.Prelude.{◌≡◌, ℕ, List, [], ◌∷◌, ◌++◌, Option, Some, None, IfSome, All, map}
 use Rattle.std.specs.List.{fold, AllByRecursion}
 use Rattle.gate_base.specs.declared.address.Addr.{Addr}
 use Rattle.gate_base.specs.declared.event.Pair.{Pair}
+use Rattle.gate_base.specs.declared.host.Host.{Host}
+use Rattle.gate_base.specs.declared.host.Host.TheVariants.{Client, Server}
 use Rattle.dialogue.specs.Learning.{Entry, AllListed}
 use Rattle.dialogue.specs.Stream.{cut}
 use Rattle.dns_messages.specs.declared.message.Message.{Message}
@@ -18,9 +20,9 @@ use Rattle.gate_model.specs.Rules.{SessionRules, whole_rules}
 use Rattle.gate_model.specs.Sessions.{WholeSession, meaning_by}
 use Rattle.gate_model.specs.World.{Tracked}
 
--- a segment that passed, whether the client sent it, and what an address that it names first was called
+-- a segment that passed, which host sent it, and what an address that it names first was called
 pub record Passed : Type 0 where
-  pub from_client : Bool
+  pub from : Host
   pub segment : Segment
   pub image : Addr → Option Addr
 
@@ -41,17 +43,17 @@ pub record RememberedSession : Type 0 where
   pub client : Remembered
   pub server : Remembered
 
--- of the client's stream (true), or the server's
-abbrev pub stream_of : Bool → RememberedSession → Remembered
-stream_of true t = t.client
-stream_of false t = t.server
+-- of a host's stream
+abbrev pub stream_of : Host → RememberedSession → Remembered
+stream_of Client t = t.client
+stream_of Server t = t.server
 
 -- one segment more, of which this went out
-abbrev pub remembered : Bool → Bool → Session → Segment → List Outgoing → Remembered → Remembered
-remembered client from_client s segment outs r = record {
-  sent = r.sent ++ if_by client from_client outs;
-  places = r.places ++ if_to client from_client (places_of (other from_client s) segment);
-  numbers = r.numbers ++ if_to client from_client (numbers_of (other from_client s) segment outs);
+abbrev pub remembered : Host → Host → Session → Segment → List Outgoing → Remembered → Remembered
+remembered host from s segment outs r = record {
+  sent = r.sent ++ if_by host from outs;
+  places = r.places ++ if_to host from (places_of (other from s) segment);
+  numbers = r.numbers ++ if_to host from (numbers_of (other from s) segment outs);
 }
 
 abbrev nothing : Remembered
@@ -61,22 +63,22 @@ nothing = record { sent = []; places = []; numbers = [] }
 abbrev pub remembering_rules : SessionRules RememberedSession
 remembering_rules = record {
   made = λ port pair initial mss. record { session = whole_rules.made port pair initial mss; port = port; pair = pair; initial = initial; mss = mss; past = []; client = nothing; server = nothing };
-  refusal = λ from_client t g. whole_rules.refusal from_client t.session g;
-  units = λ from_client t g. whole_rules.units from_client t.session g;
-  listed = λ client t. whole_rules.listed client t.session;
-  next = λ image from_client t g. record {
-    session = whole_rules.next image from_client t.session g;
+  refusal = λ from t g. whole_rules.refusal from t.session g;
+  units = λ from t g. whole_rules.units from t.session g;
+  listed = λ host t. whole_rules.listed host t.session;
+  next = λ image from t g. record {
+    session = whole_rules.next image from t.session g;
     port = t.port;
     pair = t.pair;
     initial = t.initial;
     mss = t.mss;
-    past = t.past ++ record { from_client = from_client; segment = g; image = image } ∷ [];
-    client = remembered true from_client t.session.session g (whole_rules.out image from_client t.session g) t.client;
-    server = remembered false from_client t.session.session g (whole_rules.out image from_client t.session g) t.server;
+    past = t.past ++ record { from = from; segment = g; image = image } ∷ [];
+    client = remembered Client from t.session.session g (whole_rules.out image from t.session g) t.client;
+    server = remembered Server from t.session.session g (whole_rules.out image from t.session g) t.server;
   };
-  out = λ image from_client t g. whole_rules.out image from_client t.session g;
-  ends = λ from_client t g. whole_rules.ends from_client t.session g;
-  inner = λ from_client t number. whole_rules.inner from_client t.session number;
+  out = λ image from t g. whole_rules.out image from t.session g;
+  ends = λ from t g. whole_rules.ends from t.session g;
+  inner = λ host t number. whole_rules.inner host t.session number;
   pending = λ t. whole_rules.pending t.session;
 }
 
@@ -86,12 +88,12 @@ begun t = remembering_rules.made t.port t.pair t.initial t.mss
 
 -- after one segment more
 abbrev pub step : RememberedSession → Passed → RememberedSession
-step t p = remembering_rules.next p.image p.from_client t p.segment
+step t p = remembering_rules.next p.image p.from t p.segment
 
 -- none of these segments, one after the other, is refused
 abbrev pub AllPass : RememberedSession → List Passed → Type 0
 AllPass t [] = Unit {0}
-AllPass t (p ∷ ps) = (remembering_rules.refusal p.from_client t p.segment ≡ None) × AllPass (step t p) ps
+AllPass t (p ∷ ps) = (remembering_rules.refusal p.from t p.segment ≡ None) × AllPass (step t p) ps
 
 -- a unit holds a message, each of whose addresses is listed, and goes on as that message renamed by the list
 pub record IsRenamed (entries : List Entry) (unit : List ℕ) : Type 0 where
@@ -100,20 +102,20 @@ pub record IsRenamed (entries : List Entry) (unit : List ℕ) : Type 0 where
   pub listed : AllListed entries (message_addresses message)
   pub image : (dns_units entries).image unit ≡ renamed (map (image_in entries) (message_addresses message)) unit message
 
--- each whole unit of a DNS session's stream is renamed by the list of its sender: true for the client's, false for the server's
-abbrev pub UnitsAreRenamed : Option Lists → Bool → List ℕ → Type 0
-UnitsAreRenamed lists client octets = IfSome lists (λ all. let entries = list_of client all in AllByRecursion (IsRenamed entries) (cut (dns_units entries) octets).units)
+-- each whole unit of a host's stream in a DNS session is renamed by the list of that host
+abbrev pub UnitsAreRenamed : Option Lists → Host → List ℕ → Type 0
+UnitsAreRenamed lists host octets = IfSome lists (λ all. let entries = list_of host all in AllByRecursion (IsRenamed entries) (cut (dns_units entries) octets).units)
 
--- what holds of the stream of the client (true), or the server:
-pub record StreamIs (client : Bool) (t : Tracked RememberedSession) : Type 0 where
+-- what holds of the stream of a host:
+pub record StreamIs (host : Host) (t : Tracked RememberedSession) : Type 0 where
   -- its lines are renamed by the session's one pair, or its units by the list of its sender;
-  pub meaning : (own client t.session.session.session).meaning ≡ meaning_by t.session.session.lists t.pair client
+  pub meaning : (own host t.session.session.session).meaning ≡ meaning_by t.session.session.lists t.pair host
   -- each whole unit of DNS is a message, which that list renames;
-  pub units : UnitsAreRenamed t.session.session.lists client (own client t.session.session.session).octets
+  pub units : UnitsAreRenamed t.session.session.lists host (own host t.session.session.session).octets
   -- the octets that went out are those of its image that are due, each at its place and none left out;
-  pub sent : SentIs (known (own client t.session.session.session).initial) (due_in (own client t.session.session.session)) (stream_of client t.session).sent
+  pub sent : SentIs (known (own host t.session.session.session).initial) (due_in (own host t.session.session.session)) (stream_of host t.session).sent
   -- and each acknowledgement that went out to its sender covers only octets whose images the other host acknowledged
-  pub acknowledged : EachIsBack (own client t.session.session.session) (stream_of client t.session).places (stream_of client t.session).numbers
+  pub acknowledged : EachIsBack (own host t.session.session.session) (stream_of host t.session).places (stream_of host t.session).numbers
 
 -- what a session remembers is true: it began with its hosts' pair, none of its segments was refused, and it is what they made of it
 pub record IsRemembered (t : Tracked RememberedSession) : Type 0 where
@@ -124,7 +126,7 @@ pub record IsRemembered (t : Tracked RememberedSession) : Type 0 where
 -- what holds of a session: what it remembers is true, and the streams of both hosts are as they should be
 pub record SessionIs (t : Tracked RememberedSession) : Type 0 where
   pub remembers : IsRemembered t
-  pub streams : (client : Bool) → StreamIs client t
+  pub streams : (host : Host) → StreamIs host t
 
 -- each tracked session has this
 abbrev pub EachTracked : {S : Type 0} → (Tracked S → Type 0) → List (Connection (Tracked S)) → Type 0

@@ -1,7 +1,9 @@
 -- Rounds of repeats of a tracked session, with other frames in between (RFC 9293, 3.8.1, 3.10.7.4).
-use Rattle.std.specs.Prelude.{◌≡◌, ◌⊎◌, ℕ, Bool, not, List, [], ◌∷◌}
+use Rattle.std.specs.Prelude.{◌≡◌, ◌⊎◌, ℕ, List, [], ◌∷◌}
 use Rattle.std.specs.List.{fold}
 use Rattle.gate_base.specs.Events.{Event}
+use Rattle.gate_base.specs.declared.host.Host.{Host}
+use Rattle.gate_base.specs.Hosts.{peer}
 use Rattle.stream_model.specs.Numbers.{known}
 use Rattle.stream_model.specs.Progress.{acknowledged_of}
 use Rattle.stream_model.specs.Rounds.{Hears, LacksOctets, LacksEnd}
@@ -12,7 +14,7 @@ use Rattle.gate_model.specs.Remembered.{RememberedSession, remembering_rules}
 use Rattle.gate_model.specs.Step.{next}
 use Rattle.gate_model.specs.Stream.{segment_of}
 use Rattle.gate_model.specs.Taken.{TakesSegment, segments_for, taken_by}
-use Rattle.gate_model.specs.World.{Tracked, World, is_client}
+use Rattle.gate_model.specs.World.{Tracked, World, host_on}
 
 -- frames that the session doesn't take, the frame by which one host sends again, frames that the session doesn't take, how many octets of the image the other host has then, and the frame by which it answers
 pub record FrameRound : Type 0 where
@@ -39,25 +41,25 @@ repeated w x t = taken_by remembering_rules (at_repeat w x) x.repeat t
 abbrev pub answered : World RememberedSession → FrameRound → Tracked RememberedSession → Tracked RememberedSession
 answered w x t = taken_by remembering_rules (at_answer w x) x.answer (repeated w x t)
 
--- of the stream of the client (true), or of the server, of whose octets it knows so many to be acknowledged, and of whose image the other host has so many octets:
-pub record IsFrameRound (client : Bool) (w : World RememberedSession) (t : Tracked RememberedSession) (knows had : ℕ) (x : FrameRound) : Type 0 where
+-- of the stream of a host that knows so many of its octets to be acknowledged, and of whose image the other host has so many octets:
+pub record IsFrameRound (host : Host) (w : World RememberedSession) (t : Tracked RememberedSession) (knows had : ℕ) (x : FrameRound) : Type 0 where
   -- while not all that is due is acknowledged, or the end isn't, the session takes a segment of its that has the first octet that isn't known to be acknowledged, or begins there and has the end;
   pub takes : TakesSegment remembering_rules (at_repeat w x) x.repeat t
-  pub by : is_client x.repeat.side t ≡ client
+  pub by : host_on x.repeat.side t ≡ host
   pub kind : HasDataSegment x.repeat
-  pub lacks : let g = segment_of (datagram_in x.repeat) in LacksOctets (own client (streams_of t)) (own client (streams_of (repeated w x t))) g knows ⊎ LacksEnd (own client (streams_of t)) (own client (streams_of (repeated w x t))) g knows
+  pub lacks : let g = segment_of (datagram_in x.repeat) in LacksOctets (own host (streams_of t)) (own host (streams_of (repeated w x t))) g knows ⊎ LacksEnd (own host (streams_of t)) (own host (streams_of (repeated w x t))) g knows
   -- the other host hears what goes out for it,
-  pub hears : Hears (known (own client (streams_of t)).initial) (due_in (own client (streams_of (repeated w x t)))) had (segments_for remembering_rules (at_repeat w x) x.repeat t) x.has
+  pub hears : Hears (known (own host (streams_of t)).initial) (due_in (own host (streams_of (repeated w x t)))) had (segments_for remembering_rules (at_repeat w x) x.repeat t) x.has
   -- and acknowledges all that it has by a segment that the session takes, the same one, so that it lived through what came in between
   pub takes_answer : TakesSegment remembering_rules (at_answer w x) x.answer (repeated w x t)
-  pub answers_by : is_client x.answer.side t ≡ not client
+  pub answers_by : host_on x.answer.side t ≡ peer host
   pub answer_kind : HasDataSegment x.answer
-  pub all : place_acknowledged (extent (own client (streams_of (repeated w x t)))) (arrival (segment_of (datagram_in x.answer))) ≡ x.has
+  pub all : place_acknowledged (extent (own host (streams_of (repeated w x t)))) (arrival (segment_of (datagram_in x.answer))) ≡ x.has
 
 -- one round after the other; what comes back with an answer is known from then on
-abbrev pub AllFrameRounds : Bool → World RememberedSession → Tracked RememberedSession → ℕ → ℕ → List FrameRound → Type 0
-AllFrameRounds client w t knows had [] = Unit {0}
-AllFrameRounds client w t knows had (x ∷ xs) = IsFrameRound client w t knows had x × AllFrameRounds client (at_end w x) (answered w x t) (acknowledged_of (own client (streams_of (answered w x t)))) x.has xs
+abbrev pub AllFrameRounds : Host → World RememberedSession → Tracked RememberedSession → ℕ → ℕ → List FrameRound → Type 0
+AllFrameRounds host w t knows had [] = Unit {0}
+AllFrameRounds host w t knows had (x ∷ xs) = IsFrameRound host w t knows had x × AllFrameRounds host (at_end w x) (answered w x t) (acknowledged_of (own host (streams_of (answered w x t)))) x.has xs
 
 -- the session after them
 abbrev pub after_frame_rounds : World RememberedSession → Tracked RememberedSession → List FrameRound → Tracked RememberedSession

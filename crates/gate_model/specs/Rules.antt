@@ -3,30 +3,31 @@ use Rattle.std.specs.Prelude.{ℕ, Bool, List, Option}
 use Rattle.gate_base.specs.declared.address.Addr.{Addr}
 use Rattle.gate_base.specs.declared.event.Pair.{Pair}
 use Rattle.gate_base.specs.declared.refusal.Refusal.{Refusal}
+use Rattle.gate_base.specs.declared.host.Host.{Host}
 use Rattle.dialogue.specs.Learning.{Entry}
 use Rattle.stream_model.specs.Session.{Segment, Outgoing}
 use Rattle.stream_model.specs.Refusals.{segment_refusal}
 use Rattle.stream_model.specs.Steps.{session_ends, session_inner, session_open}
 use Rattle.gate_model.specs.Sessions.{WholeSession, whole_made, whole_units, whole_listed, whole_next, whole_out}
 
--- the answers of sessions of one representation; where a segment is taken, it is told whether the client sends it, and what an address that it names first is called
+-- the answers of sessions of one representation; where a segment is taken, it is told which host sends it, and what an address that it names first is called
 pub record SessionRules (S : Type 0) : Type 0 where
   -- the session of a client's first SYN, by the server's port, the pair of its hosts, the SYN's number and its maximum segment size
   pub made : ℕ → Pair → ℕ → ℕ → S
   -- why a segment is refused
-  pub refusal : Bool → S → Segment → Option Refusal
+  pub refusal : Host → S → Segment → Option Refusal
   -- the units that a segment completes; only a session of DNS tells any
-  pub units : Bool → S → Segment → List (List ℕ)
-  -- the list of entries of the client (true), or of the server
-  pub listed : Bool → S → List Entry
+  pub units : Host → S → Segment → List (List ℕ)
+  -- the list of entries of a host
+  pub listed : Host → S → List Entry
   -- the session after a segment that passes, into whose list the addresses in its units are entered first
-  pub next : (Addr → Option Addr) → Bool → S → Segment → S
+  pub next : (Addr → Option Addr) → Host → S → Segment → S
   -- what goes out of it
-  pub out : (Addr → Option Addr) → Bool → S → Segment → List Outgoing
+  pub out : (Addr → Option Addr) → Host → S → Segment → List Outgoing
   -- whether it ends the session
-  pub ends : Bool → S → Segment → Bool
+  pub ends : Host → S → Segment → Bool
   -- the sender's own number of one that an ICMP error brings back
-  pub inner : Bool → S → ℕ → Option ℕ
+  pub inner : Host → S → ℕ → Option ℕ
   -- how many changed lines or units wait to be acknowledged
   pub pending : S → ℕ
 
@@ -34,12 +35,12 @@ pub record SessionRules (S : Type 0) : Type 0 where
 abbrev pub whole_rules : SessionRules WholeSession
 whole_rules = record {
   made = whole_made;
-  refusal = λ from_client x segment. segment_refusal from_client x.session segment;
+  refusal = λ from x segment. segment_refusal from x.session segment;
   units = whole_units;
   listed = whole_listed;
   next = whole_next;
   out = whole_out;
-  ends = λ from_client x segment. session_ends from_client x.session segment;
-  inner = λ from_client x number. session_inner from_client x.session number;
+  ends = λ from x segment. session_ends from x.session segment;
+  inner = λ host x number. session_inner host x.session number;
   pending = λ x. session_open x.session;
 }

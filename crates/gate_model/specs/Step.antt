@@ -16,7 +16,7 @@ use Rattle.gate_model.specs.Names.{names_after}
 use Rattle.gate_model.specs.Rules.{SessionRules}
 use Rattle.gate_model.specs.Stream.{segment_of, found_in, taker_by, connection_after, connections_with, pending_in, sent_as}
 use Rattle.gate_model.specs.Verdict.{table_after, image_in, verdict}
-use Rattle.gate_model.specs.World.{World, Tracked, at_moment, called, source_of, destination_of, is_client}
+use Rattle.gate_model.specs.World.{World, Tracked, at_moment, called, source_of, destination_of, host_on}
 
 -- ## What is known afterwards
 
@@ -53,7 +53,7 @@ next rules w e = next_by rules (at_moment w e.moment) e (verdict rules w e)
 -- a segment of a session goes as the session says, and any other one as it came
 abbrev pub stream_out : {S : Type 0} → SessionRules S → (Addr → Option Addr) → Side → Datagram → ℕ → ℕ → Option (Tracked S) → List (List ℕ)
 stream_out rules image side d source destination None = renamed d source destination ∷ []
-stream_out rules image side d source destination (Some t) = map (sent_as d source destination) (rules.out image (is_client side t) t.session (segment_of d))
+stream_out rules image side d source destination (Some t) = map (sent_as d source destination) (rules.out image (host_on side t) t.session (segment_of d))
 
 -- a datagram with the addresses in its payload renamed, by its kind; table is that of afterwards
 abbrev pub translated : {S : Type 0} → SessionRules S → World S → Bindings → Side → Datagram → Kind → Datagram

@@ -15,7 +15,7 @@ use Rattle.tcp_tracker.specs.declared.connection.ConnKey.{ConnKey}
 use Rattle.tcp_tracker.specs.declared.connection.Connection.{Connection}
 use Rattle.gate_model.specs.Frame.{is_tracked_port}
 use Rattle.gate_model.specs.Rules.{SessionRules}
-use Rattle.gate_model.specs.World.{Tracked, World, called, source_of, destination_of, is_client}
+use Rattle.gate_model.specs.World.{Tracked, World, called, source_of, destination_of, host_on}
 
 -- ## The segment
 
@@ -76,16 +76,16 @@ taker_by rules table side d (Some c) = c.session
 
 -- why the session refuses it
 abbrev pub session_refusal : {S : Type 0} → SessionRules S → Side → Datagram → Option (Tracked S) → Option Refusal
-session_refusal rules side d taker = option_and_then (λ t. rules.refusal (is_client side t) t.session (segment_of d)) taker
+session_refusal rules side d taker = option_and_then (λ t. rules.refusal (host_on side t) t.session (segment_of d)) taker
 
 -- the session after it, by what new addresses are called
 abbrev pub stepped : {S : Type 0} → SessionRules S → (Addr → Option Addr) → Side → Datagram → Tracked S → Tracked S
-stepped rules image side d t = record t { session = rules.next image (is_client side t) t.session (segment_of d) }
+stepped rules image side d t = record t { session = rules.next image (host_on side t) t.session (segment_of d) }
 
 -- whether the session ends with it
 abbrev pub ends_by : {S : Type 0} → SessionRules S → Side → Datagram → Option (Tracked S) → Bool
 ends_by rules side d None = false
-ends_by rules side d (Some t) = rules.ends (is_client side t) t.session (segment_of d)
+ends_by rules side d (Some t) = rules.ends (host_on side t) t.session (segment_of d)
 
 -- ## Refusals
 

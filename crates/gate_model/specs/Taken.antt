@@ -8,7 +8,7 @@ use Rattle.gate_model.specs.Rules.{SessionRules}
 use Rattle.gate_model.specs.Step.{taker_in}
 use Rattle.gate_model.specs.Stream.{segment_of, stepped, sent_as}
 use Rattle.gate_model.specs.Verdict.{table_after, image_in, verdict}
-use Rattle.gate_model.specs.World.{Tracked, World, at_moment, called, source_of, destination_of, is_client}
+use Rattle.gate_model.specs.World.{Tracked, World, at_moment, called, source_of, destination_of, host_on}
 
 -- the event's frame passes, and is a segment that this session takes
 pub record TakesSegment {S : Type 0} (rules : SessionRules S) (w : World S) (e : Event) (t : Tracked S) : Type 0 where
@@ -25,7 +25,7 @@ destination_after rules w e = (called (table_after rules (at_moment w e.moment) 
 
 -- what the session says of it
 abbrev pub segments_for : {S : Type 0} → SessionRules S → World S → Event → Tracked S → List Outgoing
-segments_for rules w e t = rules.out (image_in rules (at_moment w e.moment) e.side e.moment (datagram_in e)) (is_client e.side t) t.session (segment_of (datagram_in e))
+segments_for rules w e t = rules.out (image_in rules (at_moment w e.moment) e.side e.moment (datagram_in e)) (host_on e.side t) t.session (segment_of (datagram_in e))
 
 -- the same as datagrams
 abbrev pub said : {S : Type 0} → SessionRules S → World S → Event → Tracked S → List (List ℕ)

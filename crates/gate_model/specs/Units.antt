@@ -1,5 +1,5 @@
 -- What the units of a DNS session over TCP name, for how long its lists keep bindings alive, and how units are tested.
-use Rattle.std.specs.Prelude.{ℕ, Bool, true, false, not, ◌&&◌, nat_lt, List, [], ◌∷◌, ◌++◌, map, length, Option, Some, None}
+use Rattle.std.specs.Prelude.{ℕ, Bool, not, ◌&&◌, nat_lt, List, [], ◌∷◌, ◌++◌, map, length, Option, Some, None}
 use Rattle.gate_base.specs.Tests.{unless_refused}
 use Rattle.std.specs.List.{list_any}
 use Rattle.gate_base.specs.Side.{other}
@@ -13,9 +13,10 @@ use Rattle.ipv4_frames.specs.Ipv4.{Datagram}
 use Rattle.gate_model.specs.Lists.{most_entries, addresses_in, entered, renamed_in, is_bad, grows_too_much}
 use Rattle.gate_model.specs.Names.{is_unbound}
 use Rattle.gate_base.specs.declared.refusal.Refusal.TheVariants.{BadUnit, UnitUnbound, RenamesFull, UnitGrows}
+use Rattle.gate_base.specs.declared.host.Host.TheVariants.{Client, Server}
 use Rattle.gate_model.specs.Rules.{SessionRules}
 use Rattle.gate_model.specs.Stream.{segment_of}
-use Rattle.gate_model.specs.World.{Tracked, is_client}
+use Rattle.gate_model.specs.World.{Tracked, host_on}
 
 -- uses of addresses of a realm, each until a moment
 abbrev pub uses_until : Side → ℕ → List Addr → List Use
@@ -24,7 +25,7 @@ uses_until side moment addresses = map (λ address. let one : Use = record { sid
 -- the units that a segment completes in the session that takes it, unless that refuses it
 abbrev pub units_in : {S : Type 0} → SessionRules S → Side → Datagram → Option (Tracked S) → List (List ℕ)
 units_in rules side d None = []
-units_in rules side d (Some t) = unless_refused (rules.refusal (is_client side t) t.session (segment_of d)) (rules.units (is_client side t) t.session (segment_of d)) []
+units_in rules side d (Some t) = unless_refused (rules.refusal (host_on side t) t.session (segment_of d)) (rules.units (host_on side t) t.session (segment_of d)) []
 
 -- the addresses to rename in them
 abbrev pub names_in : {S : Type 0} → SessionRules S → Side → Datagram → Option (Tracked S) → List Addr
@@ -33,7 +34,7 @@ names_in rules side d t = addresses_in (units_in rules side d t)
 -- the list of the segment's sender, before it
 abbrev pub entries_in : {S : Type 0} → SessionRules S → Side → Option (Tracked S) → List Entry
 entries_in rules side None = []
-entries_in rules side (Some t) = rules.listed (is_client side t) t.session
+entries_in rules side (Some t) = rules.listed (host_on side t) t.session
 
 -- and after the segment, by what new addresses are called
 abbrev pub entries_after : {S : Type 0} → SessionRules S → (Addr → Option Addr) → Side → Datagram → Option (Tracked S) → List Entry
@@ -42,7 +43,7 @@ entries_after rules image side d t = entered image (entries_in rules side t) (na
 -- the uses of the addresses that the lists of a session rename, each from the realm of its list's sender: the client's list first
 abbrev pub uses_of_lists : {S : Type 0} → SessionRules S → ℕ → Option (Tracked S) → List Use
 uses_of_lists rules until None = []
-uses_of_lists rules until (Some t) = uses_until t.client until (renamed_in (rules.listed true t.session)) ++ uses_until (other t.client) until (renamed_in (rules.listed false t.session))
+uses_of_lists rules until (Some t) = uses_until t.client until (renamed_in (rules.listed Client t.session)) ++ uses_until (other t.client) until (renamed_in (rules.listed Server t.session))
 
 -- an address that isn't listed, is of the realm's pool and stands for no host
 abbrev pub is_new_unbound : Bindings → Side → List Entry → Addr → Bool

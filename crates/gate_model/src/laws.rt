@@ -1,9 +1,10 @@
 // The laws of the gateway. The functions do nothing: their clauses are proved.
-ghost use Rattle.std.specs.Prelude.{◌≡◌, ◌≤◌, ◌<◌, ◌+◌, ℕ, Bool, true, if◌then◌else◌, List, [], ◌++◌, map, Option, Some, Ok, length, All};
+ghost use Rattle.std.specs.Prelude.{◌≡◌, ◌≤◌, ◌<◌, ◌+◌, ℕ, true, if◌then◌else◌, List, [], ◌++◌, map, Option, Some, Ok, length, All};
 ghost use Rattle.std.specs.List.{fold};
 ghost use Rattle.gate_base.specs.Events.{Event};
 ghost use Rattle.gate_base.specs.declared.refusal.Refusal.{Refusal};
 ghost use Rattle.gate_base.specs.declared.event.Verdict.TheVariants.{Pass, Refused};
+ghost use Rattle.gate_base.specs.declared.host.Host.{Host};
 ghost use Rattle.gate_base.specs.declared.side.Side.{Side};
 ghost use Rattle.gate_settings.specs.Sound.{IsSound};
 ghost use Rattle.gate_settings.specs.Forms.{HasForms};
@@ -15,7 +16,7 @@ ghost use Rattle.gate_model.specs.Sessions.{WholeSession};
 ghost use Rattle.gate_model.specs.Verdict.{image_in};
 ghost use Rattle.stream_model.specs.History.{Facts};
 ghost use Rattle.gate_model.specs.Rules.{SessionRules, whole_rules};
-ghost use Rattle.gate_model.specs.World.{World, Tracked, opening_world, at_moment, is_client};
+ghost use Rattle.gate_model.specs.World.{World, Tracked, opening_world, at_moment};
 ghost use Rattle.gate_model.specs.Verdict.{verdict};
 ghost use Rattle.gate_model.specs.Step.{next, out, taker_in};
 ghost use Rattle.gate_model.specs.Reading.{Reads, world_as};
@@ -83,11 +84,11 @@ pub fn worlds_read_alike<S, T>()
 /// Its address lines, or its messages, are renamed, each at its place and none left out. Acknowledgements cover only octets whose
 /// images were acknowledged. The sessions that remember what passed and what went out are those of the world.
 pub fn streams_are_renamed()
-    ensures streams { (settings : Settings) (events : List Event) (client : Bool)
-        → EachTracked (StreamIs client) (fold (next remembering_rules)
+    ensures streams { (settings : Settings) (events : List Event) (host : Host)
+        → EachTracked (StreamIs host) (fold (next remembering_rules)
         (opening_world settings) events).connections }
-    ensures facts { (settings : Settings) (events : List Event) (client : Bool)
-        → EachTracked (λ t. Facts (own client t.session.session.session)) (fold
+    ensures facts { (settings : Settings) (events : List Event) (host : Host)
+        → EachTracked (λ t. Facts (own host t.session.session.session)) (fold
         (next remembering_rules) (opening_world settings) events).connections }
     ensures world { (settings : Settings) (events : List Event)
         → world_as (λ (t : RememberedSession). t.session)
@@ -119,9 +120,9 @@ pub fn sessions_go_on()
         → GoesOnBy w e t }
     ensures through { (w : World RememberedSession) (e : Event)
         → EachTracked (ComesThrough w e) (next remembering_rules w e).connections }
-    ensures rounds { (settings : Settings) (events : List Event) (client : Bool)
+    ensures rounds { (settings : Settings) (events : List Event) (host : Host)
         (t : Tracked RememberedSession) (knows had : ℕ) (rounds : List FrameRound)
-        → RoundsEnd settings events client t knows had rounds }
+        → RoundsEnd settings events host t knows had rounds }
 {}
 
 /// Whatever events come, both hosts of a connection are bound for as long as it lives, and a session's pair is what crossing
@@ -167,18 +168,18 @@ pub fn lists_stay_bound<S>()
         → EachTracked (ListsCross rules w.table) w.connections }
     ensures grow { (rules : SessionRules S)
         → HasLists rules
-        → (image : Addr → Option Addr) (from_client : Bool) (s : S) (g : Segment)
-        (client : Bool)
+        → (image : Addr → Option Addr) (from : Host) (s : S) (g : Segment)
+        (host : Host)
         → (more : List Entry)
-        × (rules.listed client (rules.next image from_client s g)
-        ≡ rules.listed client s ++ more) }
+        × (rules.listed host (rules.next image from s g)
+        ≡ rules.listed host s ++ more) }
     ensures image { (rules : SessionRules S)
         → HasLists rules
-        → (image : Addr → Option Addr) (from_client : Bool) (s : S) (g : Segment)
-        (client : Bool) (number : ℕ)
-        → is_listed (rules.listed client s) number ≡ true
-        → listed_image (rules.listed client (rules.next image from_client s g)) number
-        ≡ listed_image (rules.listed client s) number }
+        → (image : Addr → Option Addr) (from : Host) (s : S) (g : Segment)
+        (host : Host) (number : ℕ)
+        → is_listed (rules.listed host s) number ≡ true
+        → listed_image (rules.listed host (rules.next image from s g)) number
+        ≡ listed_image (rules.listed host s) number }
     ensures few { (rules : SessionRules S) (settings : Settings) (events : List Event)
         → HasLists rules
         → EachTracked (ListsAreFew rules)

@@ -2,7 +2,7 @@
 use Rattle.std.proofs.Common.{Fits, w8, ◌≡◌, ◌≢◌, ℕ, ◌+◌, ◌-◌, ◌/◌, ◌%◌, ◌≤◌, ◌==◌, Bool, true, false, not, ◌&&◌, ◌||◌, nat_lt, cond, if◌then◌else◌, List, [], ◌∷◌, ◌++◌, length, map, take, drop, get_or, All, Option, Some, None, Result, Ok, Err, refl, sym, ap, subst, ◌∙◌, arith, eq-eqb, length-drop}
 use Rattle.std.specs.Prelude.{IfOk, is_none}
 use Rattle.std.specs.Result.{is_ok}
-use Rattle.std.proofs.lemmas.Bool.{true≢false, ltb-false, le-ltb}
+use Rattle.std.proofs.lemmas.Bool.{true≢false, ltb-false, le-ltb, or_parts}
 use Rattle.std.proofs.lemmas.Bool.Decides.{nat_tests}
 use Rattle.std.proofs.lemmas.List.{take_all, take-append-drop, length-take, get_or-drop}
 use Rattle.std.proofs.lemmas.List.Elements.{All-nil, All-cons}
@@ -22,7 +22,8 @@ use Rattle.ipv4_frames.proofs.Items.{items, front_items}
 use Rattle.udp_icmp.specs.Udp.{has_bad_length, read_udp}
 use Rattle.twice_translate.specs.Content.{of_udp, read_content}
 use Rattle.twice_translate.specs.Renamed.{CanGoOn, datagram_of, renamed, rebuilt}
-use Rattle.twice_translate.proofs.Accepted.{ok_as, reads_udp, udp_long}
+use Rattle.twice_translate.proofs.Accepted.{ok_as, reads_udp}
+use Rattle.udp_icmp.proofs.Sealed.{long_segment}
 use Rattle.gate_base.specs.Tests.{first_that_holds, unless_refused}
 use Rattle.gate_base.specs.declared.refusal.Refusal.{Refusal}
 use Rattle.gate_base.specs.declared.refusal.Refusal.TheVariants.{BadDns, DnsUnbound, PoolEmpty}
@@ -32,11 +33,13 @@ use Rattle.gate_model.specs.Verdict.{udp_timeout, named_timeout}
 use Rattle.gate_model.specs.Units.{uses_until}
 use Rattle.gate_model.specs.World.{World, source_of, destination_of, called}
 use Rattle.gate_model.specs.Rules.{SessionRules}
+use Rattle.gate_model.proofs.ListsKept.{known_unbound}
+use Rattle.gate_model.proofs.ListsBound.{not_unbound}
 use Rattle.gate_payloads.specs.Named.{named_uses}
 use Rattle.gate_payloads.specs.Taken.{IsTaken, IsWayOf}
 use Rattle.gate_payloads.specs.Ways.{image_by, is_empty}
 use Rattle.gate_payloads.specs.declared.addresses.Way.{Way}
-use Rattle.gate_payloads.proofs.Passes.{of_crossing, used_called, still_after, called_is, host_bound, free_is}
+use Rattle.gate_payloads.proofs.Passes.{of_crossing, used_called, still_after, called_is, free_is}
 use Rattle.gate_payloads.proofs.HeadersOnly.{of_source_is, of_destination_is}
 
 -- ## Addresses and their uses
@@ -88,29 +91,22 @@ images_named t side moment source destination named = images_used (image_after t
 
 -- ## None of them is unbound
 
-or_none : (a b : Bool) → (a || b) ≡ false → (a ≡ false) × (b ≡ false)
-or_none true b e = absurd (true≢false e)
-or_none false b e = (refl, e)
-
-is_bound : (crossing : Crossing) → is_unbound crossing ≡ false → crossing ≢ Unbound
-is_bound crossing e u = true≢false (ap is_unbound (sym u) ∙ e)
-
 abbrev IsBound : Bindings → Side → Addr → Type 0
 IsBound t side address = cross t side address ≢ Unbound
 
 named_bound : (t : Bindings) (side : Side) (named : List Addr) → has_unbound t side named ≡ false → All (IsBound t side) named
 named_bound t side [] e = All-nil (IsBound t side)
 named_bound t side (address ∷ rest) e =
-    let parts = or_none (is_unbound (cross t side address)) (has_unbound t side rest) e in
-    All-cons (IsBound t side) address rest (is_bound (cross t side address) parts.0) (named_bound t side rest parts.1)
+    let parts = or_parts (is_unbound (cross t side address)) (has_unbound t side rest) e in
+    All-cons (IsBound t side) address rest (not_unbound (cross t side address) parts.0) (named_bound t side rest parts.1)
 
-settled_bound : (crossing : Crossing) → is_settled crossing ≡ true → crossing ≢ Unbound
+pub settled_bound : (crossing : Crossing) → is_settled crossing ≡ true → crossing ≢ Unbound
 settled_bound crossing s u = true≢false (sym s ∙ ap is_settled u)
 
 pub all_bound : (t : Bindings) (side : Side) (source destination : Addr) (named addresses : List Addr) → addresses ≡ source ∷ destination ∷ named → in_pool t side source ≡ false → is_settled (cross t side destination) ≡ true → has_unbound t side named ≡ false → All (λ address. cross t side address ≢ Unbound) addresses
 all_bound t side source destination named addresses e outside settled none =
     subst (All (IsBound t side)) (sym e)
-    (All-cons (IsBound t side) source (destination ∷ named) (host_bound t side source outside)
+    (All-cons (IsBound t side) source (destination ∷ named) (known_unbound t side source outside)
     (All-cons (IsBound t side) destination named (settled_bound (cross t side destination) settled) (named_bound t side named none)))
 
 -- ## There is an address for the source
@@ -133,7 +129,7 @@ source_goes : (t : Bindings) (side : Side) (moment : ℕ) (source destination : 
 source_goes t side moment source destination named outside room =
     let until : Moment = record { 0 = moment + udp_timeout } in
     let one : Use = record { side = side; address = source; until = until } in
-    let first = used_called t side source until (cross t side source) refl (host_bound t side source outside) (has_room t side source (destination ∷ named) room) in
+    let first = used_called t side source until (cross t side source) refl (known_unbound t side source outside) (has_room t side source (destination ∷ named) room) in
     let header = still_after (used t one) side source _ until.0 (destination ∷ []) first in
     called_is (still_after (after_uses t (uses_until side until.0 (source ∷ destination ∷ []))) side source _ (moment + named_timeout) named header)
 
@@ -168,7 +164,7 @@ put_again payload value long e four five =
 
 own_payload : (payload : List ℕ) → has_bad_length payload ≡ false → Fits w8 (get_or payload 4 0) → Fits w8 (get_or payload 5 0) → with_u16 4 (8 + length (drop 8 payload)) (take 8 payload ++ drop 8 payload) ≡ payload
 own_payload payload lengths four five =
-    let long = udp_long payload lengths in
+    let long = long_segment payload lengths in
     let stands = length_is (u16_at 4 payload) (length payload) lengths in
     let value : 8 + length (drop 8 payload) ≡ u16_at 4 payload = omega (arith, length-drop 8 payload, long, stands) in
     ap (with_u16 4 (8 + length (drop 8 payload))) (take-append-drop 8 payload)

@@ -1,14 +1,16 @@
 -- What both addresses of a datagram that passes are called, and when a pool is empty.
-use Rattle.std.proofs.Common.{◌≡◌, ◌≢◌, inl, inr, ◌⊎◌, ℕ, ◌+◌, Bool, true, false, not, ◌&&◌, ◌||◌, nat_lt, if◌then◌else◌, List, [], ◌∷◌, ◌++◌, length, Option, Some, None, option_map, is_some, count_by, position, drop, refl, sym, ap, subst, ◌∙◌, arith}
+use Rattle.std.proofs.Common.{◌≡◌, ◌≢◌, inl, inr, ℕ, ◌+◌, Bool, true, false, not, ◌||◌, nat_lt, if◌then◌else◌, List, [], ◌∷◌, ◌++◌, length, Option, Some, None, option_map, is_some, count_by, position, drop, refl, sym, ap, subst, ◌∙◌, arith}
 use Rattle.std.specs.List.{filter, position_or_len}
 use Rattle.std.specs.Prelude.{unwrap_or}
-use Rattle.std.proofs.lemmas.Bool.{cases_Bool, cases_lt, false≢true, le-ltb, eq-eqb}
+use Rattle.std.proofs.lemmas.Bool.{cases_Bool, cases_lt, false≢true, le-ltb, eq-eqb, or_cases, and_parts}
 use Rattle.std.proofs.lemmas.List.Sums.{length-filter}
 use Rattle.gate_base.specs.Address.{is_unicast_number}
 use Rattle.gate_base.specs.Side.{other}
 use Rattle.gate_base.specs.declared.address.Addr.{Addr}
 use Rattle.gate_base.specs.declared.event.Moment.{Moment}
 use Rattle.gate_base.specs.declared.side.Side.{Side}
+use Rattle.gate_base.proofs.Sides.{same_side-itself}
+use Rattle.gate_base.proofs.Options.{none_mapped}
 use Rattle.gate_settings.specs.Cross.{is_in_same}
 use Rattle.realm_pools.specs.Addresses.{least_free}
 use Rattle.binding_table.specs.declared.binding.Binding.{Binding}
@@ -16,13 +18,13 @@ use Rattle.binding_table.specs.declared.binding.Crossing.{Crossing}
 use Rattle.binding_table.specs.declared.binding.Crossing.TheVariants.{Same, Bound, New, Unbound, Empty}
 use Rattle.binding_table.specs.Bindings.{Bindings, is_same, in_pool, is_of_host, alias_of, host_of, pool_of, free, cross, seen, seen_by, known_or, new_or_empty, with_binding, extended, IsNew, is_settled}
 use Rattle.binding_table.specs.Plan.{Use, used, used_by, after_uses, needed, needs_binding}
-use Rattle.binding_table.proofs.Pools.{same_side-itself}
 use Rattle.binding_table.proofs.Bind.{HasNoBinding, unbound_of}
 use Rattle.binding_table.proofs.Planned.{settled_stays, extended_follows, used_follows, flags_free}
 use Rattle.gate_model.specs.Verdict.{is_reachable}
 use Rattle.gate_model.specs.Units.{uses_until}
 use Rattle.gate_model.specs.World.{called}
 use Rattle.gate_model.proofs.BoundTables.{new_is_least}
+use Rattle.gate_model.proofs.ListsKept.{known_unbound}
 use Rattle.gate_payloads.specs.Ways.{image_by, is_empty}
 
 -- ## After a use
@@ -85,14 +87,6 @@ called_is {address = address} h = ap (λ (o : Option Addr). unwrap_or o address)
 
 -- ## What the tests say
 
-both_held : (a b : Bool) → (a || b) ≡ true → (a ≡ true) ⊎ (b ≡ true)
-both_held true b h = inl refl
-both_held false b h = inr h
-
-each_held : (a b : Bool) → (a && b) ≡ true → (a ≡ true) × (b ≡ true)
-each_held true b h = (refl, h)
-each_held false b h = absurd (false≢true h)
-
 same_or_not : (unicast : Bool) {same : Bool} → same ≡ true → (not unicast || same) ≡ true
 same_or_not true h = h
 same_or_not false h = refl
@@ -110,21 +104,10 @@ seen_settled address Empty h = absurd (false≢true h)
 
 -- an address that can be reached has a settled crossing
 pub reached_settled : (t : Bindings) (side : Side) (address : Addr) → is_reachable t side address ≡ true → is_settled (cross t side address) ≡ true
-reached_settled t side address h = elim (both_held (is_in_same address t.same) _ h) as (λ x. is_settled (cross t side address) ≡ true) [
+reached_settled t side address h = elim (or_cases (is_in_same address t.same) _ h) as (λ x. is_settled (cross t side address) ≡ true) [
   | inl same ↦ same_settled t side address same
-  | inr pool ↦ seen_settled address (cross t side address) (each_held (in_pool t side address) (is_some (seen t side address)) pool).1
+  | inr pool ↦ seen_settled address (cross t side address) (and_parts (in_pool t side address) (is_some (seen t side address)) pool).1
 ]
-
-not_unbound : (same : Bool) (alias least : Option Addr) → (if same then Same else known_or (new_or_empty least) alias) ≡ Unbound → ⊥
-not_unbound true alias least e = cc
-not_unbound false (Some a) least e = cc
-not_unbound false None (Some a) e = cc
-not_unbound false None None e = cc
-
--- a host outside the pool isn't unbound
-pub host_bound : (t : Bindings) (side : Side) (address : Addr) → in_pool t side address ≡ false → cross t side address ≢ Unbound
-unfolding cross
-host_bound t side address outside e = not_unbound (is_same t address) (alias_of side address t.entries) (least_free (pool_of t (other side))) (rw outside at e)
 
 -- ## An empty pool
 
@@ -140,12 +123,8 @@ empty_least : (t : Bindings) (side : Side) (address : Addr) → cross t side add
 unfolding cross
 empty_least t side address e = least_none (is_same t address) (in_pool t side address) (host_of side address t.entries) (alias_of side address t.entries) (least_free (pool_of t (other side))) e
 
-mapped_none : {A B : Type 0} (f : A → B) (o : Option A) → option_map f o ≡ None → o ≡ None
-mapped_none f None e = refl
-mapped_none f (Some x) e = absurd cc
-
 no_least : (first : ℕ) (taken : List Bool) → option_map (λ more. let a : Addr = record { 0 = first + (0 + more) } in a) (position not (drop 0 taken)) ≡ None → position not taken ≡ None
-no_least first taken e = mapped_none _ (position not taken) e
+no_least first taken e = none_mapped _ (position not taken) e
 
 all_taken : (flags : List Bool) → length (filter not flags) ≡ 0 → position_or_len not flags ≡ length flags
 all_taken [] h = refl
@@ -196,7 +175,7 @@ pool_empty_is t side source destination h =
 pub source_called : (t : Bindings) (side : Side) (source destination : Addr) (until : Moment) → in_pool t side source ≡ false → is_empty (cross t side source) ≡ false →
     called (after_uses t (uses_until side until.0 (source ∷ destination ∷ []))) side source ≡ image_by (cross t side source) source
 source_called t side source destination until outside room =
-    let first = used_called t side source until (cross t side source) refl (host_bound t side source outside) room in
+    let first = used_called t side source until (cross t side source) refl (known_unbound t side source outside) room in
     called_is (still_after (used t (record { side = side; address = source; until = until })) side source _ until.0 (destination ∷ []) first)
 
 pub destination_called : (t : Bindings) (side : Side) (source destination : Addr) (until : Moment) → is_settled (cross t side destination) ≡ true →

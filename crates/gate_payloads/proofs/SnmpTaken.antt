@@ -30,12 +30,13 @@ use Rattle.gate_model.specs.Verdict.{udp_timeout, kind_tests, late_tests, is_poo
 use Rattle.gate_model.specs.Units.{uses_until}
 use Rattle.gate_model.specs.World.{World, source_of, destination_of, called}
 use Rattle.gate_model.specs.Rules.{SessionRules}
+use Rattle.gate_model.proofs.ListsKept.{known_unbound}
 use Rattle.gate_payloads.specs.Taken.{IsTaken, IsWayOf}
 use Rattle.gate_payloads.specs.Ways.{image_by, is_empty, header_uses}
 use Rattle.gate_payloads.specs.declared.addresses.Way.{Way}
 use Rattle.gate_payloads.specs.Planned.{number_planned}
 use Rattle.gate_payloads.proofs.HeadersOnly.{are_images, empty_is, uses_are, of_source_is, of_destination_is}
-use Rattle.gate_payloads.proofs.Passes.{used_called, still_after, host_bound}
+use Rattle.gate_payloads.proofs.Passes.{used_called, still_after}
 
 -- octets of which a kind was told are a message
 told_good : {A B : Type 0} (o : Option (A × B)) → is_some (option_map (λ m. m.0) o) ≡ true → is_none o ≡ false
@@ -90,7 +91,7 @@ planned_at : {S : Type 0} (live : World S) (side : Side) (d : Datagram) (way : W
 planned_at live side d way w room n = elim (cases_Bool (n == way.source.0)) [
   | inl same ↦
       let s = of_source_is live side d way w in
-      let first = used_called live.table side (source_of d) (record { 0 = live.clock + udp_timeout }) (cross live.table side (source_of d)) refl (host_bound live.table side (source_of d) w.outside) (ap is_empty (sym s) ∙ room) in
+      let first = used_called live.table side (source_of d) (record { 0 = live.clock + udp_timeout }) (cross live.table side (source_of d)) refl (known_unbound live.table side (source_of d) w.outside) (ap is_empty (sym s) ∙ room) in
       let both = still_after (used live.table (record { side = side; address = source_of d; until = record { 0 = live.clock + udp_timeout } })) side (source_of d) _ (live.clock + udp_timeout) (destination_of d ∷ []) first in
       rw same (ap (λ (c : Crossing). let o : Option ℕ = Some (image_by c way.source).0 in o) s ∙ ap (λ (a : Addr). let o : Option ℕ = Some (image_by (cross live.table side (source_of d)) a).0 in o) w.source_is
       ∙ sym (numbered (source_of d) _ (after_both live side d) side n (eqb-true n way.source.0 same ∙ ap (λ (a : Addr). a.0) w.source_is) both.seen))

@@ -11,13 +11,13 @@ PlainSession = Unit {0}
 abbrev pub plain_rules : SessionRules PlainSession
 plain_rules = record {
   made = λ port pair sequence mss. tt;
-  refusal = λ from_client x segment. None;
-  units = λ from_client x segment. [];
-  listed = λ client x. [];
-  next = λ image from_client x segment. tt;
-  out = λ image from_client x segment. [];
-  ends = λ from_client x segment. false;
-  inner = λ from_client x number. None;
+  refusal = λ from x segment. None;
+  units = λ from x segment. [];
+  listed = λ host x. [];
+  next = λ image from x segment. tt;
+  out = λ image from x segment. [];
+  ends = λ from x segment. false;
+  inner = λ host x number. None;
   pending = λ x. 0;
 }
 

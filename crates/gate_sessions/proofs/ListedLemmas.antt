@@ -1,6 +1,5 @@
 -- Lists that grow, and forget what they grew by.
-use Rattle.std.proofs.Common.{◌≡◌, ◌≤◌, ℕ, Bool, true, false, List, ◌++◌, length, take, refl, sym, ◌∙◌, ap, subst, arith}
-use Rattle.std.specs.Prelude.{not}
+use Rattle.std.proofs.Common.{◌≡◌, ◌≤◌, ℕ, List, ◌++◌, length, take, refl, sym, ◌∙◌, ap, subst, arith}
 use Rattle.std.specs.List.{AllByRecursion}
 use Rattle.std.proofs.lemmas.List.{take_at}
 use Rattle.dialogue.specs.Stream.{Cut, cut}
@@ -18,6 +17,9 @@ use Rattle.gate_sessions.specs.Compact.{IsListedStream}
 use Rattle.dns_plans.specs.Steps.{entered_all}
 use Rattle.dns_plans.proofs.EnteredLemmas.{all_grown}
 use Rattle.gate_base.specs.declared.event.Pair.{Pair}
+use Rattle.gate_base.specs.declared.host.Host.{Host}
+use Rattle.gate_base.specs.declared.host.Host.TheVariants.{Client, Server}
+use Rattle.gate_base.specs.Hosts.{peer}
 use Rattle.stream_gate.specs.Listed.{entries_of}
 use Rattle.gate_sessions.specs.Directions.{DnsKept, listed_of, IsListedSide, dns_session}
 use Rattle.gate_sessions.specs.Sessions.{IsSession}
@@ -35,13 +37,13 @@ listed_longer es more h i = record {
       (listed_units_more es more (cut (dns_units es) i.octets).units i.listed);
 }
 
-pub side_longer : (b : Bool) (d e : DnsKept) (more : List Entry) → IsListedSide b d → listed_of b e ≡ listed_of b d ++ more → e.kept ≡ d.kept → IsListedSide b e
+pub side_longer : (b : Host) (d e : DnsKept) (more : List Entry) → IsListedSide b d → listed_of b e ≡ listed_of b d ++ more → e.kept ≡ d.kept → IsListedSide b e
 side_longer b d e more i l k =
     subst (λ (es : List Entry). IsListedStream es (sender_kept b e.kept)) (sym l)
     (subst (λ (x : CompactState). IsListedStream (listed_of b d ++ more) (sender_kept b x)) (sym k) (listed_longer (listed_of b d) more (sender_kept b d.kept) i))
 
 -- as far as the entries before a place
-pub record LearnedTo (b other : Bool) (old now : DnsKept) (named : List Entry) : Type 0 where
+pub record LearnedTo (b other : Host) (old now : DnsKept) (named : List Entry) : Type 0 where
   pub grown : listed_of b now ≡ entered_all (listed_of b old) named
   pub apart : listed_of other now ≡ listed_of other old
   pub kept : now.kept ≡ old.kept
@@ -57,9 +59,9 @@ pub front_of : (es named : List Entry) (count : ℕ) → count ≡ length es →
 front_of es named count is = let a = all_grown es named in ap (λ (n : ℕ). take n (entered_all es named)) is ∙ ap (take (length es)) a.1 ∙ take_at es a.0 (length es) refl
 
 -- what it is once it has forgotten that
-pub forgotten_is : (b : Bool) (old new : DnsKept) → listed_of b new ≡ listed_of b old → listed_of (not b) new ≡ listed_of (not b) old → new.kept ≡ old.kept → new ≡ old
-forgotten_is true old new e f h = same_kept new.client_dialogue old.client_dialogue new.server_dialogue old.server_dialogue new.kept old.kept e f h
-forgotten_is false old new e f h = same_kept new.client_dialogue old.client_dialogue new.server_dialogue old.server_dialogue new.kept old.kept f e h
+pub forgotten_is : (b : Host) (old new : DnsKept) → listed_of b new ≡ listed_of b old → listed_of (peer b) new ≡ listed_of (peer b) old → new.kept ≡ old.kept → new ≡ old
+forgotten_is Client old new e f h = same_kept new.client_dialogue old.client_dialogue new.server_dialogue old.server_dialogue new.kept old.kept e f h
+forgotten_is Server old new e f h = same_kept new.client_dialogue old.client_dialogue new.server_dialogue old.server_dialogue new.kept old.kept f e h
 
 -- the stream of which it is kept is listed by the front of a longer list
 fewer : (es more : List Entry) (h : CompactSender) → IsListedStream es h → IsStreamBy unit_addresses (dns_units (es ++ more)) es h
@@ -70,7 +72,7 @@ fewer es more h i = record {
 }
 
 -- so what was learned can be forgotten
-pub can_forget : (b : Bool) (old d : DnsKept) (named : List Entry) (count : ℕ) → IsListedSide b old → count ≡ length (listed_of b old) → listed_of b d ≡ entered_all (listed_of b old) named → d.kept ≡ old.kept → IsStreamBy unit_addresses (dns_units (listed_of b d)) (take count (listed_of b d)) (sender_kept b d.kept)
+pub can_forget : (b : Host) (old d : DnsKept) (named : List Entry) (count : ℕ) → IsListedSide b old → count ≡ length (listed_of b old) → listed_of b d ≡ entered_all (listed_of b old) named → d.kept ≡ old.kept → IsStreamBy unit_addresses (dns_units (listed_of b d)) (take count (listed_of b d)) (sender_kept b d.kept)
 can_forget b old d named count i is l k =
     let es : List Entry = listed_of b old in
     let a = all_grown es named in
@@ -80,18 +82,18 @@ can_forget b old d named count i is l k =
     (subst (λ (xs : List Entry). IsStreamBy unit_addresses (dns_units (es ++ a.0)) xs (sender_kept b old.kept)) (sym (take_at es a.0 count (sym is)))
     (fewer es a.0 (sender_kept b old.kept) i)))
 
-pub other_same : (b : Bool) (new d : DnsKept) → (b ≡ true → new.server_dialogue ≡ d.server_dialogue) → (b ≡ false → new.client_dialogue ≡ d.client_dialogue) → listed_of (not b) new ≡ listed_of (not b) d
-other_same true new d s c = s refl
-other_same false new d s c = c refl
+pub other_same : (b : Host) (new d : DnsKept) → (b ≡ Client → new.server_dialogue ≡ d.server_dialogue) → (b ≡ Server → new.client_dialogue ≡ d.client_dialogue) → listed_of (peer b) new ≡ listed_of (peer b) d
+other_same Client new d s c = s refl
+other_same Server new d s c = c refl
 
 -- no list is longer than the most
-few_listed : (client : Bool) (n : ℕ) (gate : DnsKept) → n ≡ length (entries_of (λ (es : List Entry). es) (λ (es : List Entry). es) client gate) → length (listed_of client gate) ≤ 256 → n ≤ 256
-few_listed true n gate e h = omega (arith, e, h)
-few_listed false n gate e h = omega (arith, e, h)
+few_listed : (host : Host) (n : ℕ) (gate : DnsKept) → n ≡ length (entries_of (λ (es : List Entry). es) (λ (es : List Entry). es) host gate) → length (listed_of host gate) ≤ 256 → n ≤ 256
+few_listed Client n gate e h = omega (arith, e, h)
+few_listed Server n gate e h = omega (arith, e, h)
 
-few_by : (client : Bool) (pair : Pair) (gate : DnsKept) → IsSession (dns_session pair gate) → length (listed_of client gate) ≤ 256
-few_by true pair gate h = h.few true
-few_by false pair gate h = h.few false
+few_by : (host : Host) (pair : Pair) (gate : DnsKept) → IsSession (dns_session pair gate) → length (listed_of host gate) ≤ 256
+few_by Client pair gate h = h.few Client
+few_by Server pair gate h = h.few Server
 
-pub few_in : (pair : Pair) (gate : DnsKept) (client : Bool) (n : ℕ) → IsSession (dns_session pair gate) → n ≡ length (entries_of (λ (es : List Entry). es) (λ (es : List Entry). es) client gate) → n ≤ 256
-few_in pair gate client n h is = few_listed client n gate is (few_by client pair gate h)
+pub few_in : (pair : Pair) (gate : DnsKept) (host : Host) (n : ℕ) → IsSession (dns_session pair gate) → n ≡ length (entries_of (λ (es : List Entry). es) (λ (es : List Entry). es) host gate) → n ≤ 256
+few_in pair gate host n h is = few_listed host n gate is (few_by host pair gate h)

@@ -4,12 +4,13 @@ use Rattle.std.specs.Prelude.{◌/◌, min, max, map, nat_lt, Result, Ok, Err, O
 use Rattle.std.specs.List.{flat_map}
 use Rattle.std.proofs.lemmas.List.{take_at, drop_at}
 use Rattle.std.proofs.Math.Nat.{lt-div-mul-add}
+use Rattle.gate_base.specs.declared.host.Host.{Host}
+use Rattle.gate_base.specs.declared.host.Host.TheVariants.{Client, Server}
 use Rattle.dialogue.specs.Meaning.{Meaning}
-use Rattle.ipv4_frames.specs.Ipv4.{Datagram, head_with, spelled_head}
-use Rattle.ipv4_frames.proofs.Items.{items, front_items}
-use Rattle.tcp_segments.specs.Options.{blanked}
-use Rattle.tcp_segments.specs.Tcp.{Tcp, IsTcpHeader, tcp_header_with, sealed_tcp, spelled_segment}
-use Rattle.tcp_segments.proofs.Blanking.{blanks}
+use Rattle.ipv4_frames.specs.Ipv4.{Datagram, spelled_head}
+use Rattle.ipv4_frames.proofs.Heads.{head_long}
+use Rattle.tcp_segments.specs.Tcp.{Tcp, IsTcpHeader, spelled_segment}
+use Rattle.tcp_segments.proofs.Written.{segment_long}
 use Rattle.tcp_segments.specs.Flags.{flags_octet}
 use Rattle.stream_model.specs.Session.{Segment, Outgoing, arrival, place_acknowledged, segment_in}
 use Rattle.stream_model.specs.Steps.{Piece, pieces, empty_piece, syn_out}
@@ -61,28 +62,7 @@ joined_box octets ends ds most slots e f short few room places = record {
 joined_view : (octets ends : List ℕ) (ds : List (List ℕ)) → octets ≡ flat_map (λ d. d) ds → ends ≡ ends_from 0 ds → datagrams_from 0 octets ends ≡ ds
 joined_view octets ends ds e f = ap (λ (xs : List ℕ). datagrams_from 0 xs ends) e ∙ ap (datagrams_from 0 (flat_map (λ d. d) ds)) f ∙ joined_datagrams [] ds
 
--- ## How long a segment is
-
-segment_shown : (front rest octets : List ℕ) (source destination sequence acknowledgement flags : ℕ) → length (spelled_segment (items 0 20 front ++ rest) source destination sequence acknowledgement flags octets) ≡ 20 + length (blanked rest ++ octets)
-unfolding sealed_tcp tcp_header_with
-segment_shown front rest octets source destination sequence acknowledgement flags = omega arith
-
-segment_long : (model octets : List ℕ) (source destination sequence acknowledgement flags : ℕ) → IsTcpHeader model → length (spelled_segment model source destination sequence acknowledgement flags octets) ≡ length model + length octets
-segment_long model octets source destination sequence acknowledgement flags right =
-    let same = (blanks (drop 20 model) right.2).count in
-    let shown : length (spelled_segment model source destination sequence acknowledgement flags octets) ≡ 20 + length (blanked (drop 20 model) ++ octets) =
-    subst (λ (m : List ℕ). length (spelled_segment m source destination sequence acknowledgement flags octets) ≡ 20 + length (blanked (drop 20 model) ++ octets)) (sym (front_items 20 model right.0)) (segment_shown model (drop 20 model) octets source destination sequence acknowledgement flags) in
-    omega (arith, shown, length-append (blanked (drop 20 model)) octets, same, length-drop 20 model, right.0)
-
-head_shown : (front rest : List ℕ) (total lifetime source destination : ℕ) → length (spelled_head (items 0 20 front ++ rest) total lifetime source destination) ≡ 20 + length rest
-unfolding head_with
-head_shown front rest total lifetime source destination = omega arith
-
-head_long : (model : List ℕ) (total lifetime source destination : ℕ) → length model ≡ 20 → length (spelled_head model total lifetime source destination) ≡ 20
-head_long model total lifetime source destination count =
-    let shown : length (spelled_head model total lifetime source destination) ≡ 20 + length (drop 20 model) =
-    subst (λ (m : List ℕ). length (spelled_head m total lifetime source destination) ≡ 20 + length (drop 20 model)) (sym (front_items 20 model (omega (arith, count)))) (head_shown model (drop 20 model) total lifetime source destination) in
-    omega (arith, shown, length-drop 20 model, count)
+-- ## How long a datagram is
 
 datagram_short : (w : Headers) (o : Outgoing) (limit : ℕ) → length w.ip ≡ 20 → IsTcpHeader w.tcp → length w.tcp + limit ≤ 65515 → length o.octets ≤ limit → length (datagram w o) ≤ 65535
 datagram_short w o limit ip tcp fits few =
@@ -157,9 +137,9 @@ sender_short m h receiver w g heads =
     (λ o few. datagram_short w o (limit_kept receiver g) heads.ip heads.tcp (omega (arith, fits.1, heads.options, long)) few)
     (outs_small m h receiver g fits.0)
 
-pub sent_short : (m n : Meaning) (from_client : Bool) (h : CompactState) (w : Headers) (g : Segment) → Heads w g → AreShort 65535 (map (datagram w) (kept_out m n from_client h g))
-sent_short m n true h w g heads = sender_short m h.client h.server w g heads
-sent_short m n false h w g heads = sender_short n h.server h.client w g heads
+pub sent_short : (m n : Meaning) (from : Host) (h : CompactState) (w : Headers) (g : Segment) → Heads w g → AreShort 65535 (map (datagram w) (kept_out m n from h g))
+sent_short m n Client h w g heads = sender_short m h.client h.server w g heads
+sent_short m n Server h w g heads = sender_short n h.server h.client w g heads
 
 -- ## What a step leaves
 

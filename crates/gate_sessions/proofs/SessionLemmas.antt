@@ -1,11 +1,12 @@
 -- What holds of each session stays so.
-use Rattle.std.proofs.Common.{◌≡◌, ◌≤◌, ℕ, Bool, true, false, List, [], ◌++◌, length, drop, min, Option, None, sym, ◌∙◌, ap, arith}
-use Rattle.std.specs.Prelude.{not}
+use Rattle.std.proofs.Common.{◌≡◌, ◌≤◌, ℕ, true, List, [], ◌++◌, length, drop, min, Option, None, sym, ◌∙◌, ap, arith}
 use Rattle.std.proofs.lemmas.Bool.{cond-true}
-use Rattle.std.proofs.lemmas.List.{drop_min}
-use Rattle.std.proofs.Math.Nat.{min_comm}
 use Rattle.gate_base.specs.declared.address.Addr.{Addr}
 use Rattle.gate_base.specs.declared.event.Pair.{Pair}
+use Rattle.gate_base.proofs.Hosts.{both}
+use Rattle.gate_base.specs.declared.host.Host.{Host}
+use Rattle.gate_base.specs.declared.host.Host.TheVariants.{Client, Server}
+use Rattle.gate_base.specs.Hosts.{peer}
 use Rattle.dialogue.specs.Stream.{cut}
 use Rattle.dns_stream.specs.Images.{dns_units}
 use Rattle.stream_model.specs.Session.{Segment, arrival}
@@ -16,6 +17,7 @@ use Rattle.compact_stream.proofs.SessionLemmas.{verdict_is}
 use Rattle.gate_model.specs.Lists.{addresses_in, entered, most_entries}
 use Rattle.gate_model.specs.Rules.{whole_rules}
 use Rattle.gate_model.specs.Sessions.{meaning_by, whole_next}
+use Rattle.gate_model.proofs.Completing.{drop-min}
 use Rattle.gate_sessions.specs.Compact.{CompactSession, compact_rules, kept_units, IsOfSome}
 use Rattle.gate_sessions.proofs.Agreed.{made_stands, next_stands}
 use Rattle.gate_sessions.proofs.Listing.{kept_have_lists}
@@ -26,37 +28,28 @@ use Rattle.gate_sessions.specs.Sessions.{IsSession}
 pub made_session : (port : ℕ) (pair : Pair) (initial mss : ℕ) → IsSession (compact_rules.made port pair initial mss)
 made_session port pair initial mss = record {
   some = record { session = whole_rules.made port pair initial mss; stands = made_stands port pair initial mss };
-  few = λ client. omega (arith, ap length (kept_have_lists.made port pair initial mss client));
+  few = λ host. omega (arith, ap length (kept_have_lists.made port pair initial mss host));
 }
 
-some_next : (image : Addr → Option Addr) (f : Bool) (k : CompactSession) (g : Segment) → IsOfSome k → compact_rules.refusal f k g ≡ None → IsOfSome (compact_rules.next image f k g)
+some_next : (image : Addr → Option Addr) (f : Host) (k : CompactSession) (g : Segment) → IsOfSome k → compact_rules.refusal f k g ≡ None → IsOfSome (compact_rules.next image f k g)
 some_next image f k g h v = record {
   session = whole_next image f h.session g;
-  stands = next_stands image f h.session k g h.stands (sym (verdict_is (meaning_by k.lists k.pair true) (meaning_by k.lists k.pair false) k.kept h.session.session f g h.stands.session) ∙ v);
+  stands = next_stands image f h.session k g h.stands (sym (verdict_is (meaning_by k.lists k.pair Client) (meaning_by k.lists k.pair Server) k.kept h.session.session f g h.stands.session) ∙ v);
 }
 
-both : (P : Bool → Type 0) (f : Bool) → P f → P (not f) → (b : Bool) → P b
-both P true own other true = own
-both P true own other false = other
-both P false own other true = other
-both P false own other false = own
-
-pub next_session : (image : Addr → Option Addr) (f : Bool) (k : CompactSession) (g : Segment) → IsSession k → compact_rules.refusal f k g ≡ None → length (entered image (compact_rules.listed f k) (addresses_in (compact_rules.units f k g))) ≤ 256 → IsSession (compact_rules.next image f k g)
+pub next_session : (image : Addr → Option Addr) (f : Host) (k : CompactSession) (g : Segment) → IsSession k → compact_rules.refusal f k g ≡ None → length (entered image (compact_rules.listed f k) (addresses_in (compact_rules.units f k g))) ≤ 256 → IsSession (compact_rules.next image f k g)
 next_session image f k g h v few = record {
   some = some_next image f k g h.some v;
-  few = both (λ (b : Bool). length (compact_rules.listed b (compact_rules.next image f k g)) ≤ most_entries) f
+  few = both (λ (b : Host). length (compact_rules.listed b (compact_rules.next image f k g)) ≤ most_entries) f
       (omega (arith, few, ap length (kept_have_lists.own image f k g)))
-      (omega (arith, h.few (not f), ap length (kept_have_lists.other image f k g)));
+      (omega (arith, h.few (peer f), ap length (kept_have_lists.other image f k g)));
 }
 
-drop-min : {X : Type 0} (n : ℕ) (xs : List X) → drop (min (length xs) n) xs ≡ drop n xs
-drop-min n xs = ap (λ (m : ℕ). drop m xs) (min_comm (length xs) n) ∙ drop_min n xs
-
 -- the octets that are joined have the units that a segment completes
-pub joined_units : (pair : Pair) (d : DnsKept) (f : Bool) (g : Segment) → is_data (arrival g) ≡ true → whole_units ((sender_kept f d.kept).rest ++ drop (min (length g.octets) (start_kept (sender_kept f d.kept) g).before) g.octets) ≡ kept_units f (dns_session pair d) g
-joined_units pair d true g is =
+pub joined_units : (pair : Pair) (d : DnsKept) (f : Host) (g : Segment) → is_data (arrival g) ≡ true → whole_units ((sender_kept f d.kept).rest ++ drop (min (length g.octets) (start_kept (sender_kept f d.kept) g).before) g.octets) ≡ kept_units f (dns_session pair d) g
+joined_units pair d Client g is =
     ap (λ (t : List ℕ). whole_units (d.kept.client.rest ++ t)) (drop-min (start_kept d.kept.client g).before g.octets)
     ∙ sym (cond-true (is_data (arrival g)) (cut (dns_units d.client_dialogue) (d.kept.client.rest ++ drop (start_kept d.kept.client g).before g.octets)).units [] is)
-joined_units pair d false g is =
+joined_units pair d Server g is =
     ap (λ (t : List ℕ). whole_units (d.kept.server.rest ++ t)) (drop-min (start_kept d.kept.server g).before g.octets)
     ∙ sym (cond-true (is_data (arrival g)) (cut (dns_units d.server_dialogue) (d.kept.server.rest ++ drop (start_kept d.kept.server g).before g.octets)).units [] is)

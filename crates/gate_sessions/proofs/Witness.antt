@@ -1,5 +1,5 @@
 -- What is kept of a tracked session is that of some session, whatever events come.
-use Rattle.std.proofs.Common.{Bool, true, false, List, Option, Some, None, sym, ◌∙◌}
+use Rattle.std.proofs.Common.{List, Option, Some, None, sym, ◌∙◌}
 use Rattle.std.specs.List.{fold}
 use Rattle.std.proofs.lemmas.List.Elements.{All-nil}
 use Rattle.std.specs.Prelude.{IfSome}
@@ -7,6 +7,8 @@ use Rattle.gate_base.specs.Events.{Event}
 use Rattle.gate_settings.specs.declared.settings.Settings.{Settings}
 use Rattle.tcp_tracker.specs.declared.connection.Connection.{Connection}
 use Rattle.gate_base.specs.declared.event.Pair.{Pair}
+use Rattle.gate_base.specs.declared.host.Host.{Host}
+use Rattle.gate_base.specs.declared.host.Host.TheVariants.{Client, Server}
 use Rattle.stream_model.specs.Session.{Session, own}
 use Rattle.compact_stream.specs.Sessions.{CompactState, StandsForSession, sender_kept}
 use Rattle.compact_stream.proofs.SessionLemmas.{verdict_is}
@@ -26,7 +28,7 @@ witness_keeps = record {
   next = λ image f t g v fit h.
       record {
         session = whole_next image f h.session g;
-        stands = next_stands image f h.session t.session g h.stands (sym (verdict_is (meaning_by t.session.lists t.session.pair true) (meaning_by t.session.lists t.session.pair false) t.session.kept h.session.session f g h.stands.session) ∙ v);
+        stands = next_stands image f h.session t.session g h.stands (sym (verdict_is (meaning_by t.session.lists t.session.pair Client) (meaning_by t.session.lists t.session.pair Server) t.session.kept h.session.session f g h.stands.session) ∙ v);
       };
 }
 
@@ -37,10 +39,10 @@ pub witness_run : (settings : Settings) (events : List Event) → EachTracked (�
 witness_run settings events = run_keeps compact_rules (λ t. IsOfSome t.session) witness_keeps events (opening_world settings) (All-nil (λ (c : Connection (Tracked CompactSession)). IfSome c.session (λ t. IsOfSome t.session)))
 
 -- so both directions of a DNS session have a stream whose addresses are listed
-streams_at : (lists : Option Lists) (pair : Pair) (h : CompactState) (s : Session) (client : Bool) → StandsForSession (meaning_by lists pair true) (meaning_by lists pair false) h s → AllNamesListed lists client (own client s).octets → IfSome lists (λ l. IsListedStream (list_of client l) (sender_kept client h))
-streams_at None pair h s client st listed = tt
-streams_at (Some l) pair h s true st listed = record { octets = s.client.octets; keeps = st.client.keeps; listed = listed }
-streams_at (Some l) pair h s false st listed = record { octets = s.server.octets; keeps = st.server.keeps; listed = listed }
+streams_at : (lists : Option Lists) (pair : Pair) (h : CompactState) (s : Session) (host : Host) → StandsForSession (meaning_by lists pair Client) (meaning_by lists pair Server) h s → AllNamesListed lists host (own host s).octets → IfSome lists (λ l. IsListedStream (list_of host l) (sender_kept host h))
+streams_at None pair h s host st listed = tt
+streams_at (Some l) pair h s Client st listed = record { octets = s.client.octets; keeps = st.client.keeps; listed = listed }
+streams_at (Some l) pair h s Server st listed = record { octets = s.server.octets; keeps = st.server.keeps; listed = listed }
 
-pub streams_listed : (k : CompactSession) (client : Bool) → IsOfSome k → IfSome k.lists (λ l. IsListedStream (list_of client l) (sender_kept client k.kept))
-streams_listed k client h = streams_at k.lists k.pair k.kept h.session.session client h.stands.session (h.stands.listed client)
+pub streams_listed : (k : CompactSession) (host : Host) → IsOfSome k → IfSome k.lists (λ l. IsListedStream (list_of host l) (sender_kept host k.kept))
+streams_listed k host h = streams_at k.lists k.pair k.kept h.session.session host h.stands.session (h.stands.listed host)

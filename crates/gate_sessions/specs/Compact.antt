@@ -1,8 +1,10 @@
 -- Sessions by what is kept of them.
-use Rattle.std.specs.Prelude.{◌≡◌, ℕ, Bool, true, false, cond, List, [], ◌++◌, drop, max, length, Option, IfSome, option_map}
+use Rattle.std.specs.Prelude.{◌≡◌, ℕ, cond, List, [], ◌++◌, drop, max, length, Option, IfSome, option_map}
 use Rattle.std.specs.List.{AllByRecursion}
 use Rattle.gate_base.specs.declared.address.Addr.{Addr}
 use Rattle.gate_base.specs.declared.event.Pair.{Pair}
+use Rattle.gate_base.specs.declared.host.Host.{Host}
+use Rattle.gate_base.specs.declared.host.Host.TheVariants.{Client, Server}
 use Rattle.dialogue.specs.Learning.{Entry, AllListed, AllUnitsListed}
 use Rattle.dialogue.specs.Meaning.{Meaning}
 use Rattle.dialogue.specs.Stream.{cut}
@@ -33,38 +35,38 @@ kept_pending h = max (length h.client.ledger.changed) (length h.server.ledger.ch
 abbrev pub kept_completed : Meaning → CompactSender → Segment → List (List ℕ)
 kept_completed m h segment = cond (is_data (arrival segment)) (cut m (h.rest ++ drop (start_kept h segment).before segment.octets)).units []
 
-abbrev pub kept_units : Bool → CompactSession → Segment → List (List ℕ)
-kept_units from_client k segment = units_by k.lists (kept_completed (meaning_by k.lists k.pair from_client) (sender_kept from_client k.kept) segment)
+abbrev pub kept_units : Host → CompactSession → Segment → List (List ℕ)
+kept_units from k segment = units_by k.lists (kept_completed (meaning_by k.lists k.pair from) (sender_kept from k.kept) segment)
 
 -- the lists after the addresses of a segment's units were entered, by what they are called
-abbrev pub kept_lists : (Addr → Option Addr) → Bool → CompactSession → Segment → Option Lists
-kept_lists image from_client k segment = option_map (with_list from_client (entered image (entries_by k.lists from_client) (addresses_in (kept_units from_client k segment)))) k.lists
+abbrev pub kept_lists : (Addr → Option Addr) → Host → CompactSession → Segment → Option Lists
+kept_lists image from k segment = option_map (with_list from (entered image (entries_by k.lists from) (addresses_in (kept_units from k segment)))) k.lists
 
 -- sessions by what is kept of them
 abbrev pub compact_rules : SessionRules CompactSession
 compact_rules = record {
   made = λ port pair initial mss. record { pair = pair; lists = lists_at port; kept = kept_made initial mss nothing_pushed nothing_pushed };
-  refusal = λ from_client k g. kept_refusal from_client k.kept g;
+  refusal = λ from k g. kept_refusal from k.kept g;
   units = kept_units;
-  listed = λ client k. entries_by k.lists client;
-  next = λ image from_client k g. let lists = kept_lists image from_client k g in record { pair = k.pair; lists = lists; kept = kept_next (meaning_by lists k.pair true) (meaning_by lists k.pair false) from_client k.kept g };
-  out = λ image from_client k g. let lists = kept_lists image from_client k g in kept_out (meaning_by lists k.pair true) (meaning_by lists k.pair false) from_client k.kept g;
-  ends = λ from_client k g. kept_ends from_client k.kept g;
-  inner = λ from_client k number. inner_kept from_client k.kept number;
+  listed = λ host k. entries_by k.lists host;
+  next = λ image from k g. let lists = kept_lists image from k g in record { pair = k.pair; lists = lists; kept = kept_next (meaning_by lists k.pair Client) (meaning_by lists k.pair Server) from k.kept g };
+  out = λ image from k g. let lists = kept_lists image from k g in kept_out (meaning_by lists k.pair Client) (meaning_by lists k.pair Server) from k.kept g;
+  ends = λ from k g. kept_ends from k.kept g;
+  inner = λ host k number. inner_kept host k.kept number;
   pending = λ k. kept_pending k.kept;
 }
 
 -- each address of the whole units of a stream is listed, where there are lists
-abbrev pub AllNamesListed : Option Lists → Bool → List ℕ → Type 0
-AllNamesListed lists client octets = IfSome lists (λ l. AllUnitsListed unit_addresses (dns_units (list_of client l)) (list_of client l) octets)
+abbrev pub AllNamesListed : Option Lists → Host → List ℕ → Type 0
+AllNamesListed lists host octets = IfSome lists (λ l. AllUnitsListed unit_addresses (dns_units (list_of host l)) (list_of host l) octets)
 
 -- what is kept is that of this session, and in its ranges
 pub record StandsFor (x : WholeSession) (k : CompactSession) : Type 0 where
   pub lists : x.lists ≡ k.lists
-  pub session : StandsForSession (meaning_by k.lists k.pair true) (meaning_by k.lists k.pair false) k.kept x.session
-  pub client : InRange (meaning_by k.lists k.pair true) k.kept.client
-  pub server : InRange (meaning_by k.lists k.pair false) k.kept.server
-  pub listed : (client : Bool) → AllNamesListed k.lists client (own client x.session).octets
+  pub session : StandsForSession (meaning_by k.lists k.pair Client) (meaning_by k.lists k.pair Server) k.kept x.session
+  pub client : InRange (meaning_by k.lists k.pair Client) k.kept.client
+  pub server : InRange (meaning_by k.lists k.pair Server) k.kept.server
+  pub listed : (host : Host) → AllNamesListed k.lists host (own host x.session).octets
 
 -- what is kept is that of some session, all of whose addresses are listed
 pub record IsOfSome (k : CompactSession) : Type 0 where

@@ -1,6 +1,7 @@
 -- Sessions of two kinds as code keeps them.
-use Rattle.std.specs.Prelude.{◌≡◌, ◌≤◌, Bool, Option, Some, None, length}
+use Rattle.std.specs.Prelude.{◌≡◌, ◌≤◌, Option, Some, None, length}
 use Rattle.gate_base.specs.declared.event.Pair.{Pair}
+use Rattle.gate_base.specs.declared.host.Host.{Host}
 use Rattle.ftp_lines.specs.Renaming.{client_lines, server_lines}
 use Rattle.stream_model.specs.Session.{Segment}
 use Rattle.stream_gate.specs.Memory.{KeptCompletes}
@@ -24,12 +25,12 @@ IsOfPair pair (Units session) = Unit {0}
 -- what holds of each session by itself: it is kept of some session over whole lists, all of whose addresses are listed where it is one of DNS, and no list is longer than the most
 pub record IsSession (k : CompactSession) : Type 0 where
   pub some : IsOfSome k
-  pub few : (client : Bool) → length (entries_by k.lists client) ≤ most_entries
+  pub few : (host : Host) → length (entries_by k.lists host) ≤ most_entries
 
 -- where a segment may want memory: it completes a line that bears an address, or a unit of DNS
-abbrev pub MayWantBy : Option Lists → Bool → CompactSession → Segment → Type 0
-MayWantBy None from_client k g = KeptCompletes (client_lines k.pair) (server_lines k.pair) from_client k.kept g
-MayWantBy (Some lists) from_client k g = 1 ≤ length (kept_units from_client k g)
+abbrev pub MayWantBy : Option Lists → Host → CompactSession → Segment → Type 0
+MayWantBy None from k g = KeptCompletes (client_lines k.pair) (server_lines k.pair) from k.kept g
+MayWantBy (Some lists) from k g = 1 ≤ length (kept_units from k g)
 
-abbrev pub MayWantIn : Bool → CompactSession → Segment → Type 0
-MayWantIn from_client k g = MayWantBy k.lists from_client k g
+abbrev pub MayWantIn : Host → CompactSession → Segment → Type 0
+MayWantIn from k g = MayWantBy k.lists from k g

@@ -46,7 +46,7 @@ impl Engine for AnySession {
         outbox: &mut Outbox,
     ) -> Result<Stepped<()>, OutOfMemory> {
         let passing = Passing {
-            from_client: tracked.is_client(way.side),
+            from: tracked.host_on(way.side),
             segment,
             source: way.source_image(),
             destination: way.destination_image(),

@@ -1,7 +1,8 @@
 // The laws of worlds by what is kept. The functions do nothing: their clauses are proved.
-ghost use Rattle.std.specs.Prelude.{◌≡◌, Bool, List, IfSome};
+ghost use Rattle.std.specs.Prelude.{◌≡◌, List, IfSome};
 ghost use Rattle.std.specs.List.{fold};
 ghost use Rattle.gate_base.specs.Events.{Event};
+ghost use Rattle.gate_base.specs.declared.host.Host.{Host};
 ghost use Rattle.gate_settings.specs.declared.settings.Settings.{Settings};
 ghost use Rattle.gate_model.specs.Sessions.{WholeSession};
 ghost use Rattle.gate_model.specs.Held.{HasLists};
@@ -43,10 +44,10 @@ pub fn compact_worlds_answer()
     ensures step_some { (w : World CompactSession) (e : Event)
         → EachTracked (λ t. IsOfSome t.session) w.connections
         → EachTracked (λ t. IsOfSome t.session) (next compact_rules w e).connections }
-    ensures listed { (k : CompactSession) (client : Bool)
+    ensures listed { (k : CompactSession) (host : Host)
         → IsOfSome k
         → IfSome k.lists
-        (λ l. IsListedStream (list_of client l) (sender_kept client k.kept)) }
+        (λ l. IsListedStream (list_of host l) (sender_kept host k.kept)) }
     ensures step_verdict { (w : World WholeSession) (v : World CompactSession)
         (e : Event)
         → AreRelated StandsFor w v

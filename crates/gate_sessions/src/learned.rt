@@ -1,5 +1,6 @@
 // A connection of DNS that learns what its units name.
-ghost use Rattle.std.specs.Prelude.{◌≡◌, ◌≤◌, ◌<◌, [], not, false, length, map, None, IfOk, OnOk, OnErr};
+ghost use Rattle.std.specs.Prelude.{◌≡◌, ◌≤◌, ◌<◌, [], false, length, map, None, IfOk, OnOk, OnErr};
+ghost use Rattle.gate_base.specs.Hosts.{peer};
 ghost use Rattle.dialogue.specs.Learning.{is_listed, AreImages};
 ghost use Rattle.dns_stream.specs.Images.{dns_units};
 ghost use Rattle.gate_model.specs.Stream.{segment_of, sent_as, tcp_of};
@@ -12,47 +13,46 @@ use crate::kinds::DnsSession;
 use crate::segments::put_segments;
 use crate::session::Passing;
 use dns_plans::{Completed, Entry};
-use gate_base::{Addr, OutOfMemory};
+use gate_base::{Addr, Host, OutOfMemory};
 use gate_outbox::{Outbox, Scratch};
 
-/// Whether the client's list, or else the server's, has an entry of an address.
-fn knows(session: &DnsSession, from_client: bool, address: Addr) -> bool
-    ensures { result ≡ is_listed (listed_of from_client session.now) address.0 }
+/// Whether a host's list has an entry of an address.
+fn knows(session: &DnsSession, host: Host, address: Addr) -> bool
+    ensures { result ≡ is_listed (listed_of host session.now) address.0 }
 {
-    session.image_of(from_client, address).is_some()
+    session.image_of(host, address).is_some()
 }
 
-/// Enters an address into the client's list, or else the server's, unless it is listed.
-fn learn_one(session: &mut DnsSession, from_client: bool, one: Entry)
-    requires few { is_listed (listed_of from_client session.old) one.0.0 ≡ false
-        → length (listed_of from_client session.old) < 256 }
-    requires stream { IsListedSide from_client session.old }
-    ensures list { listed_of from_client session.new
-        ≡ enter_one (listed_of from_client session.old) one }
-    ensures other { listed_of (not from_client) session.new
-        ≡ listed_of (not from_client) session.old }
+/// Enters an address into a host's list, unless it is listed.
+fn learn_one(session: &mut DnsSession, host: Host, one: Entry)
+    requires few { is_listed (listed_of host session.old) one.0.0 ≡ false
+        → length (listed_of host session.old) < 256 }
+    requires stream { IsListedSide host session.old }
+    ensures list { listed_of host session.new
+        ≡ enter_one (listed_of host session.old) one }
+    ensures other { listed_of (peer host) session.new
+        ≡ listed_of (peer host) session.old }
     ensures kept { session.new.kept ≡ session.old.kept }
-    ensures stream { IsListedSide from_client session.new }
+    ensures stream { IsListedSide host session.new }
 {
-    if knows(session, from_client, one.0) {
+    if knows(session, host, one.0) {
         return;
     }
-    session.learn(from_client, one.0, one.1);
+    session.learn(host, one.0, one.1);
 }
 
-/// Enters addresses into the client's list, or else the server's, one after the other.
-fn learn_all(session: &mut DnsSession, from_client: bool, named: &[Entry])
-    requires few { length (entered_all (listed_of from_client session.old) named.now)
-        ≤ 256 }
-    requires stream { IsListedSide from_client session.old }
-    ensures list { listed_of from_client session.new
-        ≡ entered_all (listed_of from_client session.old) named.now }
-    ensures other { listed_of (not from_client) session.new
-        ≡ listed_of (not from_client) session.old }
+/// Enters addresses into a host's list, one after the other.
+fn learn_all(session: &mut DnsSession, host: Host, named: &[Entry])
+    requires few { length (entered_all (listed_of host session.old) named.now) ≤ 256 }
+    requires stream { IsListedSide host session.old }
+    ensures list { listed_of host session.new
+        ≡ entered_all (listed_of host session.old) named.now }
+    ensures other { listed_of (peer host) session.new
+        ≡ listed_of (peer host) session.old }
     ensures kept { session.new.kept ≡ session.old.kept }
 {
     for one in named {
-        learn_one(session, from_client, *one);
+        learn_one(session, host, *one);
     }
 }
 
@@ -67,46 +67,46 @@ pub fn step_units(
     scratch: &mut Scratch,
 ) -> Result<bool, OutOfMemory>
     requires few { length
-        (entered_all (listed_of passing.now.from_client session.old) completed.entries.now)
+        (entered_all (listed_of passing.now.from session.old) completed.entries.now)
         ≤ 256 }
     requires images { AreImages
-        (dns_units (entered_all (listed_of passing.now.from_client session.old)
+        (dns_units (entered_all (listed_of passing.now.from session.old)
         completed.entries.now)) completed.images.items }
-    requires stream { IsListedSide passing.now.from_client session.old }
+    requires stream { IsListedSide passing.now.from session.old }
     requires empty { outbox.old ≡ [] }
     requires segment { passing.now.segment.now.tcp.now
         ≡ tcp_of passing.now.segment.now.datagram.now }
     requires alive { 1 ≤ passing.now.segment.now.datagram.now.lifetime }
-    requires passes { kept_refusal passing.now.from_client session.old.kept
+    requires passes { kept_refusal passing.now.from session.old.kept
         (segment_of passing.now.segment.now.datagram.now) ≡ None }
     ensures next { OnOk result (session.new
-        ≡ dns_next passing.now.from_client
-        (with_entered passing.now.from_client completed.entry.entries.now session.old)
+        ≡ dns_next passing.now.from
+        (with_entered passing.now.from completed.entry.entries.now session.old)
         (segment_of passing.now.segment.now.datagram.now)) }
     ensures out { OnOk result (outbox.new
         ≡ map
         (sent_as passing.now.segment.now.datagram.now passing.now.source.0
-        passing.now.destination.0) (dns_out passing.now.from_client
-        (with_entered passing.now.from_client completed.entry.entries.now session.old)
+        passing.now.destination.0) (dns_out passing.now.from
+        (with_entered passing.now.from completed.entry.entries.now session.old)
         (segment_of passing.now.segment.now.datagram.now))) }
     ensures over { IfOk result (λ b. b
-        ≡ kept_ends passing.now.from_client session.old.kept
+        ≡ kept_ends passing.now.from session.old.kept
         (segment_of passing.now.segment.now.datagram.now)) }
-    ensures memory { OnErr result (DnsCompletes passing.now.from_client
-        (with_entered passing.now.from_client completed.entry.entries.now session.old)
+    ensures memory { OnErr result (DnsCompletes passing.now.from
+        (with_entered passing.now.from completed.entry.entries.now session.old)
         (segment_of passing.now.segment.now.datagram.now)) }
     ensures same { OnErr result (session.new ≡ session.old) }
     ensures nothing { OnErr result (outbox.new ≡ []) }
 {
-    let from_client = passing.from_client;
-    let listed = session.listed(from_client);
+    let from = passing.from;
+    let listed = session.listed(from);
     let Completed { entries, images } = completed;
-    learn_all(session, from_client, entries);
-    session.expect(from_client, images);
+    learn_all(session, from, entries);
+    session.expect(from, images);
     match put_segments(session, passing, outbox, scratch) {
         Ok(over) => Ok(over),
         Err(error) => {
-            session.forget_from(from_client, listed);
+            session.forget_from(from, listed);
             Err(error)
         }
     }

@@ -9,7 +9,7 @@ use crate::session::Passing;
 use dialogue::Dialogue;
 use gate_base::OutOfMemory;
 use gate_outbox::{Outbox, Scratch};
-use stream_gate::StreamGate;
+use stream_gate::{DatagramModel, StreamGate};
 
 /// Passes a segment: puts what its session sends into the outbox, and says whether the session ends. There is too little memory only where
 /// the segment completes a unit that bears, and then nothing has changed.
@@ -23,12 +23,12 @@ pub fn put_segments<C: Dialogue, S: Dialogue, const N: usize>(
     requires segment { passing.now.segment.now.tcp.now
         ≡ tcp_of passing.now.segment.now.datagram.now }
     requires alive { 1 ≤ passing.now.segment.now.datagram.now.lifetime }
-    requires passes { kept_refusal passing.now.from_client session.old.kept
+    requires passes { kept_refusal passing.now.from session.old.kept
         (segment_of passing.now.segment.now.datagram.now) ≡ None }
     ensures next { OnOk result (session.new
         ≡ record session.old {
           kept = kept_next (C.meaning session.old.client_dialogue)
-              (S.meaning session.old.server_dialogue) passing.now.from_client
+              (S.meaning session.old.server_dialogue) passing.now.from
               session.old.kept
               (segment_of passing.now.segment.now.datagram.now);
         }) }
@@ -37,14 +37,14 @@ pub fn put_segments<C: Dialogue, S: Dialogue, const N: usize>(
         (sent_as passing.now.segment.now.datagram.now passing.now.source.0
         passing.now.destination.0) (kept_out
         (C.meaning session.old.client_dialogue)
-        (S.meaning session.old.server_dialogue) passing.now.from_client
+        (S.meaning session.old.server_dialogue) passing.now.from
         session.old.kept (segment_of passing.now.segment.now.datagram.now))) }
     ensures over { IfOk result (λ b. b
-        ≡ kept_ends passing.now.from_client session.old.kept
+        ≡ kept_ends passing.now.from session.old.kept
         (segment_of passing.now.segment.now.datagram.now)) }
     ensures memory { OnErr result (KeptCompletes
         (C.meaning session.old.client_dialogue)
-        (S.meaning session.old.server_dialogue) passing.now.from_client
+        (S.meaning session.old.server_dialogue) passing.now.from
         session.old.kept (segment_of passing.now.segment.now.datagram.now)) }
     ensures same { OnErr result (session.new ≡ session.old) }
     ensures nothing { OnErr result (outbox.new ≡ []) }
@@ -52,13 +52,16 @@ pub fn put_segments<C: Dialogue, S: Dialogue, const N: usize>(
     let segment = passing.segment;
     // No datagram is longer than 65,535 octets: the segment's own header leaves room for a piece.
     let _header = segment.tcp.header();
+    let model = DatagramModel {
+        ip: segment.datagram.header(),
+        source: passing.source,
+        destination: passing.destination,
+        lifetime: segment.datagram.lifetime() - 1,
+    };
     session.step(
-        passing.from_client,
+        passing.from,
         segment.tcp,
-        segment.datagram.header(),
-        passing.source,
-        passing.destination,
-        segment.datagram.lifetime() - 1,
+        &model,
         &mut outbox.octets,
         &mut outbox.ends,
         &mut scratch.octets,

@@ -20,7 +20,7 @@ use crate::segments::put_segments;
 use dns_plans::{Completed, Entry, Session, UnitOctets};
 use dns_stream::DnsUnits;
 use ftp_lines::{ClientLines, ServerLines};
-use gate_base::{Addr, DNS_PORT, OutOfMemory, Pair, Refusal};
+use gate_base::{Addr, DNS_PORT, Host, OutOfMemory, Pair, Refusal};
 use gate_outbox::{Outbox, Scratch, Segment};
 use shift_ledger::Recent;
 use std::alloc::Global;
@@ -29,10 +29,10 @@ use std::marker::Model;
 use stream_gate::StreamGate;
 use tcp_segments::{TcpView, flags_of};
 
-/// A segment that passes: whether the client sends it, and the addresses between which it goes on.
+/// A segment that passes: which host sends it, and the addresses between which it goes on.
 #[derive(Clone, Copy)]
 pub struct Passing<'a> {
-    pub from_client: bool,
+    pub from: Host,
     pub segment: &'a Segment<'a>,
     pub source: Addr,
     pub destination: Addr,
@@ -106,47 +106,47 @@ impl Session for AnySession {
 
     ghost rules = { compact_rules };
 
-    fn inner(&self, from_client: bool, sequence: u32) -> Option<u32> {
+    fn inner(&self, host: Host, sequence: u32) -> Option<u32> {
         match &self.kind {
-            SessionKind::Lines(session) => session.inner(from_client, sequence),
-            SessionKind::Units(session) => session.inner(from_client, sequence),
+            SessionKind::Lines(session) => session.inner(host, sequence),
+            SessionKind::Units(session) => session.inner(host, sequence),
         }
     }
 
-    fn refusal(&self, from_client: bool, segment: &TcpView<'_>) -> Option<Refusal> {
+    fn refusal(&self, from: Host, segment: &TcpView<'_>) -> Option<Refusal> {
         match &self.kind {
-            SessionKind::Lines(session) => session.refusal(from_client, segment),
-            SessionKind::Units(session) => session.refusal(from_client, segment),
+            SessionKind::Lines(session) => session.refusal(from, segment),
+            SessionKind::Units(session) => session.refusal(from, segment),
         }
     }
 
-    fn listed(&self, client: bool) -> usize {
+    fn listed(&self, host: Host) -> usize {
         match &self.kind {
             SessionKind::Lines(_) => 0,
-            SessionKind::Units(session) => session.listed(client),
+            SessionKind::Units(session) => session.listed(host),
         }
     }
 
-    fn entry(&self, client: bool, place: usize) -> Entry {
+    fn entry(&self, host: Host, place: usize) -> Entry {
         match &self.kind {
             SessionKind::Lines(_) => unreachable!(),
-            SessionKind::Units(session) => session.entry(client, place),
+            SessionKind::Units(session) => session.entry(host, place),
         }
     }
 
-    fn image_of(&self, client: bool, address: Addr) -> Option<Option<Addr>> {
+    fn image_of(&self, host: Host, address: Addr) -> Option<Option<Addr>> {
         match &self.kind {
             SessionKind::Lines(_) => None,
-            SessionKind::Units(session) => session.image_of(client, address),
+            SessionKind::Units(session) => session.image_of(host, address),
         }
     }
 
-    fn put_octets(&self, from_client: bool, segment: &TcpView<'_>, octets: &mut UnitOctets) {
+    fn put_octets(&self, from: Host, segment: &TcpView<'_>, octets: &mut UnitOctets) {
         octets.clear();
         if let SessionKind::Units(session) = &self.kind {
             if is_data(segment) {
-                let repeated = session.repeated(from_client, segment);
-                octets.join(session.rest(from_client), &segment.payload()[repeated..]);
+                let repeated = session.repeated(from, segment);
+                octets.join(session.rest(from), &segment.payload()[repeated..]);
             }
         }
     }
@@ -200,46 +200,45 @@ impl AnySession {
         scratch: &mut Scratch,
     ) -> Result<bool, OutOfMemory>
         requires few { length (entered_all
-            (compact_rules.listed passing.now.from_client self.old)
+            (compact_rules.listed passing.now.from self.old)
             completed.entries.now) ≤ 256 }
         requires images { AreImages
-            (dns_units (entered_all
-            (compact_rules.listed passing.now.from_client self.old)
+            (dns_units (entered_all (compact_rules.listed passing.now.from self.old)
             completed.entries.now)) completed.images.items }
         requires named { (image : Addr → Option Addr)
             × (completed.entries.now
             ≡ beside image (addresses_in (compact_rules.units
-            passing.now.from_client self.old
+            passing.now.from self.old
             (segment_of passing.now.segment.now.datagram.now)))) }
         requires empty { outbox.old ≡ [] }
         requires segment { passing.now.segment.now.tcp.now
             ≡ tcp_of passing.now.segment.now.datagram.now }
         requires alive { 1 ≤ passing.now.segment.now.datagram.now.lifetime }
-        requires passes { compact_rules.refusal passing.now.from_client self.old
+        requires passes { compact_rules.refusal passing.now.from self.old
             (segment_of passing.now.segment.now.datagram.now) ≡ None }
         ensures next { (image : Addr → Option Addr)
             → completed.entry.entries.now
             ≡ beside image (addresses_in (compact_rules.units
-            passing.now.from_client self.old
+            passing.now.from self.old
             (segment_of passing.now.segment.now.datagram.now)))
             → OnOk result (self.new
-            ≡ compact_rules.next image passing.now.from_client self.old
+            ≡ compact_rules.next image passing.now.from self.old
             (segment_of passing.now.segment.now.datagram.now)) }
         ensures out { (image : Addr → Option Addr)
             → completed.entry.entries.now
             ≡ beside image (addresses_in (compact_rules.units
-            passing.now.from_client self.old
+            passing.now.from self.old
             (segment_of passing.now.segment.now.datagram.now)))
             → OnOk result (outbox.new
             ≡ map
             (sent_as passing.now.segment.now.datagram.now passing.now.source.0
             passing.now.destination.0) (compact_rules.out image
-            passing.now.from_client self.old
+            passing.now.from self.old
             (segment_of passing.now.segment.now.datagram.now))) }
         ensures over { IfOk result (λ b. b
-            ≡ compact_rules.ends passing.now.from_client self.old
+            ≡ compact_rules.ends passing.now.from self.old
             (segment_of passing.now.segment.now.datagram.now)) }
-        ensures memory { OnErr result (MayWantIn passing.now.from_client self.old
+        ensures memory { OnErr result (MayWantIn passing.now.from self.old
             (segment_of passing.now.segment.now.datagram.now)) }
         ensures same { OnErr result (self.new ≡ self.old) }
         ensures nothing { OnErr result (outbox.new ≡ []) }

@@ -11,7 +11,7 @@ use crate::flow::Flow;
 use gate_base::{OutOfMemory, TCP, UDP, put_u16};
 use inet_sum::pseudo_sum;
 use ipv4_frames::put_head;
-use tcp_segments::put_segment;
+use tcp_segments::{SegmentFields, put_segment};
 
 /// The octets of an IPv4 header and of a UDP header.
 const IP_HEAD: usize = 20;
@@ -190,18 +190,15 @@ fn put_tcp(target: &mut [u8], segment: &Segment<'_>)
     let mut model = [0; TCP_HEAD + MOST_OPTIONS];
     let model = &mut model[..TCP_HEAD + segment.options.len()];
     put_tcp_model(model, &segment.flow, segment.options);
-    put_segment(
-        target,
-        &ip_model(TCP),
-        model,
-        segment.flow.source,
-        segment.flow.destination,
-        LIFETIME,
-        segment.sequence,
-        segment.acknowledgement,
-        segment.flags,
-        segment.octets,
-    );
+    let fields = SegmentFields {
+        source: segment.flow.source,
+        destination: segment.flow.destination,
+        lifetime: LIFETIME,
+        sequence: segment.sequence,
+        acknowledgement: segment.acknowledgement,
+        flags: segment.flags,
+    };
+    put_segment(target, &ip_model(TCP), model, fields, segment.octets);
 }
 
 /// Writes a whole UDP datagram into a target of just its length.

@@ -1,5 +1,5 @@
 -- Where no count rose, the settings and the captures decide the status of a run, but for want of memory.
-use Rattle.std.proofs.Common.{◌≡◌, ℕ, List, Option, Some, Err, IfSome, inl, inr, refl, ap, subst}
+use Rattle.std.proofs.Common.{◌≡◌, ℕ, List, Err, inl, inr, refl, ap}
 use Rattle.gate_base.specs.declared.side.Side.{Side}
 use Rattle.gate_desk.specs.declared.slot.Slot.TheVariants.{Report}
 use Rattle.gate_desk.specs.declared.slot.PerSlot.{PerSlot}
@@ -8,31 +8,15 @@ use Rattle.settings_file.specs.Accepting.{settings_of}
 use Rattle.settings_file.specs.declared.fault.SettingsFault.{SettingsFault}
 use Rattle.gate_settings.specs.declared.settings.Settings.{Settings as GateSettings}
 use Rattle.pcap_files.specs.declared.fault.CaptureFault.{CaptureFault}
-use Rattle.pcap_merge.specs.Events.{Ending, Done as BothEnded, Fault as EndsFaulty}
+use Rattle.pcap_merge.specs.Events.{Done as BothEnded, Fault as EndsFaulty}
 use Rattle.run_setup.specs.declared.status.Status.{Status}
 use Rattle.run_setup.specs.declared.status.Status.TheVariants.{Done, Usage, SettingsRefused, CaptureRefused, ReadFault, WriteFault, OpenFault, OutOfMemory, Unlawful}
 use Rattle.run_setup.specs.Beginning.{IsAccepted, events_in}
 use Rattle.run_setup.specs.Decided.{NoneRose, IsUnlessMemory}
 use Rattle.run_setup.specs.RunNames.{Names}
+use Rattle.run_setup.proofs.Beginning.{at_told, no_fault, same_fault, no_end, same_end}
 use Rattle.gateway.specs.Decided.{IsRunOf}
 use Rattle.gateway.specs.Making.{IsMake}
-
-at_told : {A : Type 0} (t : Option A) (x : A) (P : A → Type 0) → t ≡ Some x → IfSome t P → P x
-at_told t x P e h = subst (λ (o : Option _). IfSome o P) e h
-
--- accepted settings have no fault, and refused ones have one
-no_fault : (all : PerSlot (List ℕ)) (settings : GateSettings) (fault : SettingsFault) → IsAccepted settings all → settings_of all.settings ≡ Err fault → ⊥
-no_fault all settings fault a b = cc
-
-same_fault : (f g : SettingsFault) (all : PerSlot (List ℕ)) → settings_of all.settings ≡ Err f → settings_of all.settings ≡ Err g → f ≡ g
-same_fault f g all a b = cc
-
--- both captures don't end where one is faulty, which has one fault
-no_end : (e : Ending) (side : Side) (fault : CaptureFault) (place : ℕ) → e ≡ BothEnded → e ≡ EndsFaulty side fault place → ⊥
-no_end e side fault place a b = cc
-
-same_end : (e : Ending) (s t : Side) (f g : CaptureFault) (n m : ℕ) → e ≡ EndsFaulty s f n → e ≡ EndsFaulty t g m → CaptureRefused s f n ≡ CaptureRefused t g m
-same_end e s t f g n m a b = cc
 
 pub settings_decide : (all : PerSlot (List ℕ)) (status : Status) (names : Names) (old new : Outside) (fault : SettingsFault) → IsRunOf all status names old new → settings_of all.settings ≡ Err fault → IsUnlessMemory (SettingsRefused fault) status
 settings_decide all Done names old new fault h e = let v = at_told old.left all _ h.told h.run.ends.cause.0 in absurd (no_fault all v.0 fault v.1 e)

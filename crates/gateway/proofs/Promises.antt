@@ -3,6 +3,7 @@ use Rattle.std.proofs.Common.{◌≡◌, ℕ, ◌+◌, List, [], ◌∷◌, ◌+
 use Rattle.std.specs.Prelude.{IfSome}
 use Rattle.std.specs.List.{fold}
 use Rattle.std.proofs.lemmas.Bool.{cases_Bool}
+use Rattle.std.proofs.lemmas.Option.{IfSome_then}
 use Rattle.gate_base.specs.Side.{other}
 use Rattle.gate_base.specs.declared.side.Side.{Side}
 use Rattle.gate_base.specs.declared.side.Side.TheVariants.{Left, Right}
@@ -32,7 +33,6 @@ use Rattle.run_setup.specs.Beginning.{IsAccepted, events_in}
 use Rattle.gateway.specs.Ends.{Wants, outputs_of}
 use Rattle.gateway.specs.Answers.{HasWritten, IsRun, IsPromised, StopsAtCapture, WantsMemory}
 use Rattle.gateway.proofs.Pieces.{is_front_none, is_front_all, is_front_more, is_front_on}
-use Rattle.run_setup.proofs.Beginning.{if_some}
 use Rattle.gateway.proofs.Progress.{given_all-append, given_all-cons, front_of_first, front_of_line}
 use Rattle.gateway.proofs.Runs.{good_outputs, bad_outputs}
 
@@ -112,16 +112,16 @@ files_front s all t u h =
     ]
 
 outputs_front : (a b : Outside) → IfSome a.left (λ all. (s : GateSettings) × IsAccepted s all × IsFront (outputs_of s all) a.written b.written) → IfSome a.left (λ all. (s : GateSettings) → IsAccepted s all → WrotesFront a b s all)
-outputs_front a b h = for_all_accepted a.left (WrotesFront a b) (if_some a.left _ _ h (λ all k. (k.0, k.1, files_front k.0 all a.written b.written k.2)))
+outputs_front a b h = for_all_accepted a.left (WrotesFront a b) (IfSome_then a.left h (λ all k. (k.0, k.1, files_front k.0 all a.written b.written k.2)))
 
 whole_front : (a b : Outside) → IfSome a.left (λ all. (s : GateSettings) × IsAccepted s all × (b.written ≡ wrote_pieces (outputs_of s all) a.written)) → IfSome a.left (λ all. (s : GateSettings) → IsAccepted s all → WrotesFront a b s all)
-whole_front a b h = outputs_front a b (if_some a.left _ _ h (λ all k. (k.0, k.1, is_front_all (outputs_of k.0 all) a.written b.written k.2)))
+whole_front a b h = outputs_front a b (IfSome_then a.left h (λ all k. (k.0, k.1, is_front_all (outputs_of k.0 all) a.written b.written k.2)))
 
 -- behind the heads a front of what the events give
 behind_heads : (a b : Outside) → IfSome a.left (λ all. (s : GateSettings) × IsAccepted s all × IsFront (given_by_merged s (events_in all)) (wrote_pieces (heads s) a.written) b.written) → IfSome a.left (λ all. (s : GateSettings) → IsAccepted s all → WrotesFront a b s all)
 behind_heads a b h =
     for_all_accepted a.left (WrotesFront a b)
-    (if_some a.left _ _ h (λ all k. (k.0, k.1, is_front_on (heads k.0) (given_by_merged k.0 (events_in all)) a.written (wrote_pieces (heads k.0) a.written) b.written refl k.2)))
+    (IfSome_then a.left h (λ all k. (k.0, k.1, is_front_on (heads k.0) (given_by_merged k.0 (events_in all)) a.written (wrote_pieces (heads k.0) a.written) b.written refl k.2)))
 
 wanted_front : (s : GateSettings) (all : Merged) (a b : Trace) → Wants s all a b → IsFront (given_by_merged s all) a b
 wanted_front s all a b (inl h) = front_of_first s h.handled all a b (record { others = h.next ∷ h.others; split = h.split; written = h.written })
@@ -129,11 +129,11 @@ wanted_front s all a b (inr h) = front_of_line s all a b h.1
 
 stops_front : (side : Side) (names : Names) (a b : Outside) → StopsAtCapture side names a b → IfSome a.left (λ all. (s : GateSettings) → IsAccepted s all → WrotesFront a b s all)
 stops_front side names a b (inl h) = nothing_written a b h.0
-stops_front side names a b (inr h) = behind_heads a b (if_some a.left _ _ h.0.written (λ all k. (k.0, k.1, front_of_first k.0 h.0.handled (events_in all) (wrote_pieces (heads k.0) a.written) b.written k.3)))
+stops_front side names a b (inr h) = behind_heads a b (IfSome_then a.left h.0.written (λ all k. (k.0, k.1, front_of_first k.0 h.0.handled (events_in all) (wrote_pieces (heads k.0) a.written) b.written k.3)))
 
 wants_front : (names : Names) (a b : Outside) → WantsMemory names a b → IfSome a.left (λ all. (s : GateSettings) → IsAccepted s all → WrotesFront a b s all)
 wants_front names a b (inl h) = nothing_written a b h.0
-wants_front names a b (inr h) = behind_heads a b (if_some a.left _ _ h.0 (λ all k. (k.0, k.1, wanted_front k.0 (events_in all) (wrote_pieces (heads k.0) a.written) b.written k.3)))
+wants_front names a b (inr h) = behind_heads a b (IfSome_then a.left h.0 (λ all k. (k.0, k.1, wanted_front k.0 (events_in all) (wrote_pieces (heads k.0) a.written) b.written k.3)))
 
 front_written : (status : Status) (names : Names) (a b : Outside) → HasWritten status names a b → IfSome a.left (λ all. (s : GateSettings) → IsAccepted s all → WrotesFront a b s all)
 front_written Done names a b h = whole_front a b h

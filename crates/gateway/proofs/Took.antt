@@ -1,5 +1,6 @@
 -- What a run took of the captures.
 use Rattle.std.proofs.Common.{◌≡◌, inl, inr, List, [], ◌∷◌, Bool, Result, Ok, Err, Option, Some, None, IfSome, option_map, refl, sym, ap, subst, ◌∙◌}
+use Rattle.std.proofs.lemmas.Option.{IfSome_then}
 use Rattle.gate_base.specs.Events.{Event}
 use Rattle.frag_join.specs.Arrivals.{Arrival}
 use Rattle.gate_desk.specs.Outside.{Outside, Trace, Start, told_at}
@@ -25,7 +26,6 @@ use Rattle.gateway.specs.Ends.{StandWritten}
 use Rattle.gateway.specs.Phases.{Prepared, Readied, TookFew, WritesLastLine, Handles, OfEvents, state_of}
 use Rattle.gateway.specs.Pieces.{Piece, IsFront, wrote_pieces}
 use Rattle.run_setup.specs.Beginning.{TookInputs}
-use Rattle.run_setup.proofs.Beginning.{if_some}
 use Rattle.run_setup.proofs.Inputs.{captures_later, captures_read, inputs_later, inputs_on}
 use Rattle.gateway.proofs.Pieces.{is_front_all, is_front_none, wrote_pieces-nil}
 use Rattle.gateway.proofs.Progress.{Progress, Joiner, with_front, given_first, given_kept, failed_only}
@@ -121,6 +121,6 @@ took_events gate m names a b c d h k f = record {
   handled = f.handled;
   few = f.few a (given_kept a m b c [] k.left h.given);
   stand = inr (of_events gate m names a b c (λ s all. StandWritten s f.handled all.events (wrote_pieces (heads s) a.written) d.written) h k.left
-      (if_some (ahead m c.left) _ _ f.stand (λ all p. subst (λ (t : Trace). StandWritten gate.settings f.handled all.events t d.written) (heads_written gate m names a b c h k) p)));
+      (IfSome_then (ahead m c.left) f.stand (λ all p. subst (λ (t : Trace). StandWritten gate.settings f.handled all.events t d.written) (heads_written gate m names a b c h k) p)));
   inputs = inputs_on a c d (inputs_later a b c k.left h.inputs) f.captures;
 }

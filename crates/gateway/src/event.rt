@@ -1,5 +1,5 @@
 // One frame: it is judged, and what it gives is written.
-ghost use Rattle.std.specs.Prelude.{◌≡◌, ◌*◌, ◌<◌, ◌≤◌, ◌^◌, ◌++◌, [], ◌∷◌, length, IfSome, IsSome};
+ghost use Rattle.std.specs.Prelude.{◌≡◌, ◌<◌, ◌≤◌, ◌^◌, ◌++◌, [], ◌∷◌, length, IfSome, IsSome};
 ghost use Rattle.gate_base.specs.Moments.{IsMoment};
 ghost use Rattle.gate_base.specs.Events.{event_of};
 ghost use Rattle.gate_desk.specs.declared.slot.Slot.TheVariants.{LeftOut, RightOut, Report};
@@ -9,7 +9,7 @@ ghost use Rattle.frag_join.specs.Joining.{by_known};
 ghost use Rattle.ether_frames.specs.Ether.{ipv4_head};
 ghost use Rattle.gateway.specs.Machine.{out_slot, frame_piece, sent};
 ghost use Rattle.gateway.specs.Causes.{WritesPieces};
-ghost use Rattle.gateway.specs.Phases.{Handles, counting};
+ghost use Rattle.gateway.specs.Phases.{CanCount, Handles, counting};
 
 use crate::report::{Reporter, put_line};
 use ether_frames::put_head;
@@ -128,12 +128,7 @@ fn handle<D: Desk>(
     requires report { CanWrite (D.outside desk.old) Report }
     requires early { IsMoment event.moment.0 }
     requires few { reporter.old.totals.events < 2 ^ 42 }
-    requires passed { reporter.old.totals.passed ≤ reporter.old.totals.events }
-    requires refused { reporter.old.totals.refused ≤ reporter.old.totals.events }
-    requires to_left { reporter.old.totals.to_left
-        ≤ 4096 * reporter.old.totals.events }
-    requires to_right { reporter.old.totals.to_right
-        ≤ 4096 * reporter.old.totals.events }
+    requires counts { CanCount reporter.old.totals }
     ensures { Handles (counting reporter.new.totals result) gate.old gate.new
         reporter.old.totals (Reaches (event_of event.entry)) (D.outside desk.old)
         (D.outside desk.new) }
@@ -166,12 +161,7 @@ fn leave<D: Desk>(
 ) -> Result<(), Status>
     requires report { CanWrite (D.outside desk.old) Report }
     requires few { reporter.old.totals.events < 2 ^ 42 }
-    requires passed { reporter.old.totals.passed ≤ reporter.old.totals.events }
-    requires refused { reporter.old.totals.refused ≤ reporter.old.totals.events }
-    requires to_left { reporter.old.totals.to_left
-        ≤ 4096 * reporter.old.totals.events }
-    requires to_right { reporter.old.totals.to_right
-        ≤ 4096 * reporter.old.totals.events }
+    requires counts { CanCount reporter.old.totals }
     ensures { Handles (counting reporter.new.totals result) gate.now gate.now
         reporter.old.totals (Stopped (event_of event.entry) verdict)
         (D.outside desk.old) (D.outside desk.new) }
@@ -204,12 +194,7 @@ fn handle_joined<D: Desk>(
     requires joined { IsSome (joined_in joiner.now) }
     requires early { IfSome (joined_in joiner.now) (λ e. IsMoment e.moment) }
     requires few { reporter.old.totals.events < 2 ^ 42 }
-    requires passed { reporter.old.totals.passed ≤ reporter.old.totals.events }
-    requires refused { reporter.old.totals.refused ≤ reporter.old.totals.events }
-    requires to_left { reporter.old.totals.to_left
-        ≤ 4096 * reporter.old.totals.events }
-    requires to_right { reporter.old.totals.to_right
-        ≤ 4096 * reporter.old.totals.events }
+    requires counts { CanCount reporter.old.totals }
     ensures { IfSome (joined_in joiner.now) (λ e. Handles
         (counting reporter.new.totals result) gate.old gate.new reporter.old.totals
         (Reaches e) (D.outside desk.old) (D.outside desk.new)) }
@@ -232,12 +217,7 @@ pub fn take<D: Desk>(
     requires report { CanWrite (D.outside desk.old) Report }
     requires early { IsMoment event.moment.0 }
     requires few { reporter.old.totals.events < 2 ^ 42 }
-    requires passed { reporter.old.totals.passed ≤ reporter.old.totals.events }
-    requires refused { reporter.old.totals.refused ≤ reporter.old.totals.events }
-    requires to_left { reporter.old.totals.to_left
-        ≤ 4096 * reporter.old.totals.events }
-    requires to_right { reporter.old.totals.to_right
-        ≤ 4096 * reporter.old.totals.events }
+    requires counts { CanCount reporter.old.totals }
     ensures answer { Handles (counting reporter.new.totals result) gate.old gate.new
         reporter.old.totals (arrival by_known joiner.old (event_of event.entry))
         (D.outside desk.old) (D.outside desk.new) }

@@ -1,5 +1,5 @@
 -- Where no count rose, the files decide the status of an audit, but for want of memory.
-use Rattle.std.proofs.Common.{◌≡◌, ℕ, List, true, Option, Some, Err, IfSome, inl, inr, refl, ◌∙◌, ap, subst}
+use Rattle.std.proofs.Common.{◌≡◌, ℕ, List, true, Err, inl, inr, refl, ◌∙◌, ap, subst}
 use Rattle.frag_join.specs.Arrivals.{arrivals_of}
 use Rattle.gate_base.specs.declared.side.Side.{Side}
 use Rattle.gate_desk.specs.declared.slot.PerSlot.{PerSlot}
@@ -8,7 +8,7 @@ use Rattle.settings_file.specs.Accepting.{settings_of}
 use Rattle.settings_file.specs.declared.fault.SettingsFault.{SettingsFault}
 use Rattle.gate_settings.specs.declared.settings.Settings.{Settings as GateSettings}
 use Rattle.pcap_files.specs.declared.fault.CaptureFault.{CaptureFault}
-use Rattle.pcap_merge.specs.Events.{Ending, Done as BothEnded, Fault as EndsFaulty, have_good_heads}
+use Rattle.pcap_merge.specs.Events.{Done as BothEnded, Fault as EndsFaulty, have_good_heads}
 use Rattle.lawful_files.specs.declared.reason.AuditReason.{AuditReason}
 use Rattle.lawful_files.proofs.ReasonsApart.{no_reason, one_reason}
 use Rattle.run_setup.specs.declared.status.Status.{Status}
@@ -17,29 +17,14 @@ use Rattle.run_setup.specs.AuditNames.{Names}
 use Rattle.run_setup.specs.Beginning.{IsAccepted, events_in}
 use Rattle.gateway_audit.specs.Causes.{AreLawful, IsFirstReason}
 use Rattle.run_setup.specs.Decided.{IsUnlessMemory}
+use Rattle.run_setup.proofs.Beginning.{at_told, no_fault, same_fault, no_end, same_end}
 use Rattle.gateway_audit.specs.Decided.{IsAuditOf}
 
 -- ## What is told
 
-at_told : {A : Type 0} (t : Option A) (x : A) (P : A → Type 0) → t ≡ Some x → IfSome t P → P x
-at_told t x P e h = subst (λ (o : Option _). IfSome o P) e h
-
--- accepted settings have no fault, and are the same ones
-no_fault : (all : PerSlot (List ℕ)) (settings : GateSettings) (fault : SettingsFault) → IsAccepted settings all → settings_of all.settings ≡ Err fault → ⊥
-no_fault all settings fault a b = cc
-
+-- accepted settings are the same ones
 same_settings : (all : PerSlot (List ℕ)) (s t : GateSettings) → IsAccepted s all → IsAccepted t all → s ≡ t
 same_settings all s t a b = cc
-
-same_fault : (f g : SettingsFault) (all : PerSlot (List ℕ)) → settings_of all.settings ≡ Err f → settings_of all.settings ≡ Err g → f ≡ g
-same_fault f g all a b = cc
-
--- both captures don't end where one is faulty, which has one fault
-no_end : (e : Ending) (side : Side) (fault : CaptureFault) (place : ℕ) → e ≡ BothEnded → e ≡ EndsFaulty side fault place → ⊥
-no_end e side fault place a b = cc
-
-same_end : (e : Ending) (s t : Side) (f g : CaptureFault) (n m : ℕ) → e ≡ EndsFaulty s f n → e ≡ EndsFaulty t g m → CaptureRefused s f n ≡ CaptureRefused t g m
-same_end e s t f g n m a b = cc
 
 -- the first reason is no other where the settings are accepted
 lawful_in : (all : PerSlot (List ℕ)) (s t : GateSettings) → IsAccepted s all → IsAccepted t all → AreLawful s all → AreLawful t all

@@ -1,6 +1,7 @@
 -- A whole audit, by its parts.
 use Rattle.std.proofs.Common.{◌≡◌, ◌+◌, ◌++◌, ℕ, List, [], true, Option, Some, None, Result, Ok, Err, IfSome, OnOk, option_map, take, length, inl, inr, refl, sym, ap, subst, ◌∙◌}
 use Rattle.std.specs.Prelude.{◌⊎◌}
+use Rattle.std.proofs.lemmas.Option.{IfSome_then}
 use Rattle.gate_base.specs.Events.{Event}
 use Rattle.gate_base.specs.declared.side.Side.{Side}
 use Rattle.gate_base.specs.declared.side.Side.TheVariants.{Left, Right}
@@ -17,6 +18,7 @@ use Rattle.pcap_merge.specs.Given.{TakenFor}
 use Rattle.pcap_merge.specs.Merge.{Merging, all_events, ahead}
 use Rattle.pcap_merge.specs.Stops.{slot_of}
 use Rattle.pcap_merge.proofs.Given.{given_few, taken_later}
+use Rattle.pcap_merge.proofs.Steps.{both as with_some}
 use Rattle.lawful_files.specs.declared.reason.AuditReason.TheVariants.{Capture}
 use Rattle.lawful_files.specs.Files.{Given, HasLink, LawfulFrom, opening}
 use Rattle.lawful_files.specs.Reasons.{IsFirst}
@@ -29,21 +31,22 @@ use Rattle.file_audit.specs.Given.{IfBoth, ReadsGiven, TookFiles, given_slot, gi
 use Rattle.file_audit.proofs.IncomingEnds.{ends_kept, left_kept, right_kept}
 use Rattle.file_audit.proofs.Wanting.{given_later, incoming_kept}
 use Rattle.file_audit.proofs.Files.{files_given, files_later, files_more, files_none, files_on}
+use Rattle.file_audit.proofs.Walked.{ahead_kept}
 use Rattle.run_setup.specs.declared.status.Status.{Status}
 use Rattle.run_setup.specs.declared.status.Status.TheVariants.{CaptureRefused, ReadFault, WriteFault, OpenFault, OutOfMemory}
 use Rattle.run_setup.specs.Beginning.{IsAccepted, TookInputs, events_in}
 use Rattle.run_setup.specs.Causes.{started_all}
 use Rattle.run_setup.proofs.Causes.{all_on, before_on, access_of}
-use Rattle.run_setup.proofs.Beginning.{if_some}
+use Rattle.run_setup.proofs.Beginning.{told_heads}
 use Rattle.gateway_audit.specs.declared.verdict.AuditVerdict.{AuditVerdict}
 use Rattle.gateway_audit.specs.declared.verdict.AuditVerdict.TheVariants.{Lawful, Unlawful}
 use Rattle.gateway_audit.specs.Stops.{verdict_of}
 use Rattle.run_setup.specs.AuditNames.{Names, first_starts, given_starts, plan}
 use Rattle.gateway_audit.specs.Lines.{answer_line}
 use Rattle.gateway_audit.specs.Causes.{AreLawful, IsRead, IsVerdict, MayHaveWanted}
-use Rattle.gateway_audit.specs.Audits.{IsAudit, HasStartedToRead, HasAnswered, TookForEvents, TookRead}
+use Rattle.gateway_audit.specs.Audits.{IsAudit, HasStartedToRead, HasAnswered, TookForEvents, TookRead, refused_starts}
 use Rattle.gateway_audit.specs.Phases.{Prepared, HaveLinks, LeavesIncoming, Readied, StopsAtGiven, AreToWalk, Walks, WasRead, Judged, Judges, Says, status_of, given_in}
-use Rattle.gateway_audit.proofs.Phases.{behind_inputs, refused}
+use Rattle.gateway_audit.proofs.Phases.{behind_inputs}
 
 -- ## What is told
 
@@ -58,19 +61,10 @@ unfolding took
 heads_kept P i j k None h = tt
 heads_kept P i j k (Some all) h = h
 
-ahead_kept : (m : Merging) (i j k : ℕ) (t : Trace) → ahead m (took ReportGiven k (took RightGiven j (took LeftGiven i t))) ≡ ahead m t
-unfolding ahead took
-ahead_kept m i j k None = refl
-ahead_kept m i j k (Some all) = refl
-
 both_told : (t : Trace) (o : Option Merged) (p : Option Given) (R : Merged → Given → Type 0) → all_events t ≡ o → p ≡ option_map given_in t → IfBoth o p R → IfSome t (λ all. R (events_in all) (given_in all))
 unfolding all_events
 both_told None o p R e f h = tt
 both_told (Some all) o p R e f h = subst (λ q. IfSome q (R (events_in all))) f (subst (λ q. IfBoth q p R) (sym e) h)
-
-with_some : {A : Type 0} (t : Option A) (P Q S : A → Type 0) → IfSome t P → IfSome t Q → ((x : A) → P x → Q x → S x) → IfSome t S
-with_some None P Q S h k f = tt
-with_some (Some x) P Q S h k f = f x h k
 
 -- what was read of the given files left the incoming captures as they were
 incoming_left : (m n k : ℕ) (b c : Outside) → c.left ≡ took ReportGiven k (took RightGiven n (took LeftGiven m b.left)) → (side : Side) → told_at c.left (slot_of side) ≡ told_at b.left (slot_of side)
@@ -207,7 +201,7 @@ walks_of (Err stops.OutOfMemory) settings m r old new finds leaves left right = 
 wanted : (settings : GateSettings) (m : Merging) (r : GivenFiles) (names : Names) (a b c d : Outside) → Prepared settings m names a b → Readied (Some r) settings names b c → Walks (Err OutOfMemory) settings m r c d
     → TakenFor [] a d ⊎ IfSome a.left (λ all. (s : GateSettings) × IsAccepted s all × MayHaveWanted s all)
 wanted settings m r names a b c d h k (inl same) = inl (taken_later a b d [] (λ side. ap (λ (t : Trace). told_at t (slot_of side)) same ∙ incoming_left k.left_count k.right_count k.report_count b c k.left side) (given_few a m b [] h.given))
-wanted settings m r names a b c d h k (inr (inl json)) = inr (if_some a.left _ _ h.accepted (λ all is. (settings, is, inl json)))
+wanted settings m r names a b c d h k (inr (inl json)) = inr (IfSome_then a.left h.accepted (λ all is. (settings, is, inl json)))
 wanted settings m r names a b c d h k (inr (inr both)) =
     inr (of_files settings m r names a b c (WantsAt settings) (λ all. (s : GateSettings) × IsAccepted s all × MayHaveWanted s all) h k both (λ all is links q. (settings, is.0, inr q)))
 
@@ -228,7 +222,7 @@ walked (Err (CaptureRefused side fault place)) settings m r names a b c d h k f 
         (λ all is links q. (settings, is.0, q.0, λ heads. record { left_head = links.0; right_head = links.1; goes = q.1 })),
     none_failed_on a b d h.counts (none_failed_on b c d k.counts f.1),
   );
-  starts = refused true a.left names a d h.heads (starts ∙ started (Some r) settings m names a b c h k);
+  starts = told_heads (λ good. d.starts ≡ started_all (refused_starts good names) a.starts) true a.left h.heads (starts ∙ started (Some r) settings m names a b c h k);
   written = written ∙ k.written ∙ h.written;
   grows = grows_on a b d h.grows (grows_on b c d k.grows grows);
 }
@@ -254,9 +248,9 @@ still_at_end slot a b e h = subst (λ (t : Trace). IfSome (told_at t slot) (λ a
 
 answered : (verdict : AuditVerdict) (names : Names) (a b c : Outside) → Judged verdict names a b → Writes Report (answer_line verdict) b c → NoneFailed b c → IsAudit (status_of verdict) names a c
 answered (Lawful events) names a b c h k counts = record {
-  cause = (if_some a.left _ _ h.verdict_is (λ all p. (p.0, p.1, p.2, p.3, refl)), still_at_end LeftIn b c k.left h.read.0, still_at_end RightIn b c k.left h.read.1, none_failed_on a b c h.counts counts);
+  cause = (IfSome_then a.left h.verdict_is (λ all p. (p.0, p.1, p.2, p.3, refl)), still_at_end LeftIn b c k.left h.read.0, still_at_end RightIn b c k.left h.read.1, none_failed_on a b c h.counts counts);
   starts = k.starts ∙ h.starts;
-  written = if_some a.left _ _ h.verdict_is (λ all p. subst (λ (n : ℕ). HasAnswered (Lawful n) a c) p.4 (k.written ∙ ap (wrote Report (answer_line (Lawful events))) h.written));
+  written = IfSome_then a.left h.verdict_is (λ all p. subst (λ (n : ℕ). HasAnswered (Lawful n) a c) p.4 (k.written ∙ ap (wrote Report (answer_line (Lawful events))) h.written));
   grows = grows_on a b c h.grows (grows_writes Report (answer_line (Lawful events)) b c k);
 }
 answered (Unlawful number reason) names a b c h k counts = record {

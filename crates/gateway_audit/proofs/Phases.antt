@@ -1,5 +1,5 @@
 -- The parts of an audit before its events.
-use Rattle.std.proofs.Common.{◌≡◌, List, ◌++◌, Bool, true, false, Option, Some, None, Ok, Err, IfSome, option_map, inl, inr, [], sym, ap, subst, ◌∙◌}
+use Rattle.std.proofs.Common.{◌≡◌, List, ◌++◌, true, false, Option, Some, None, Ok, Err, IfSome, option_map, inl, inr, [], sym, ap, subst, ◌∙◌}
 use Rattle.std.proofs.lemmas.Bool.{false≢true}
 use Rattle.gate_base.specs.declared.side.Side.{Side}
 use Rattle.gate_base.specs.declared.side.Side.TheVariants.{Left, Right}
@@ -19,7 +19,7 @@ use Rattle.run_setup.specs.declared.status.Status.TheVariants.{SettingsRefused, 
 use Rattle.run_setup.specs.Beginning.{IsAccepted, events_in, settings_start, inputs_start, Settled, EndsAtSettings, Begun, EndsAtHeads}
 use Rattle.run_setup.specs.Causes.{started_all, StartsAll, Stops, Opens}
 use Rattle.run_setup.proofs.Causes.{all_on, before_more, before_on}
-use Rattle.run_setup.proofs.Beginning.{all_events-took_settings, heads_before, accepted_and, given_since, settled_stops, told_before}
+use Rattle.run_setup.proofs.Beginning.{all_events-took_settings, heads_before, accepted_and, given_since, settled_stops, told_before, told_heads}
 use Rattle.run_setup.specs.AuditNames.{Names, first_starts, given_starts, answer_start}
 use Rattle.gateway_audit.specs.Causes.{AreLawful}
 use Rattle.gateway_audit.specs.Audits.{IsAudit, refused_starts}
@@ -55,11 +55,6 @@ bad_head : (t : Trace) (P : Merged → Type 0) → HeadsAre false t → IfSome t
 bad_head None P h k = tt
 bad_head (Some all) P h k = (k.0, k.1, k.2, λ good. absurd (false≢true (sym h ∙ good)))
 
--- what is started where a capture is refused
-pub refused : (good : Bool) (t : Trace) (names : Names) (a b : Outside) → HeadsAre good t → b.starts ≡ started_all (refused_starts good names) a.starts → IfSome t (λ all. b.starts ≡ started_all (refused_starts (have_good_heads all.left_in all.right_in) names) a.starts)
-refused good None names a b h e = tt
-refused good (Some all) names a b h e = subst (λ (is : Bool). b.starts ≡ started_all (refused_starts is names) a.starts) (sym h) e
-
 -- reading an incoming head failed
 head_unread : (side : Side) (names : Names) (a b : Outside) → Stops (ReadFault (slot_of side)) (first_starts names) a b → IsAudit (ReadFault (slot_of side)) names a b
 head_unread Left names a b h = record { cause = (tt, h.cause.1); starts = inl h.started; written = h.written; grows = h.grows }
@@ -71,7 +66,7 @@ heads_end (CaptureRefused side f place) settings names a b c few h k =
     let bad = heads_before false settings (settings_start names.settings) a b h k.4 in
     record {
       cause = (bad_head a.left (λ x. x.ending ≡ EndsFaulty side f place) bad (accepted_and settings (settings_start names.settings) a b (λ x. x.ending ≡ EndsFaulty side f place) h k.0), none_failed_on a b c h.counts k.5);
-      starts = refused false a.left names a c bad (all_on (settings_start names.settings) (inputs_start names.left_in names.right_in) a b c h.starts k.1);
+      starts = told_heads (λ good. c.starts ≡ started_all (refused_starts good names) a.starts) false a.left bad (all_on (settings_start names.settings) (inputs_start names.left_in names.right_in) a b c h.starts k.1);
       written = k.2 ∙ h.written;
       grows = grows_on a b c h.grows k.3;
     }

@@ -38,7 +38,7 @@ unfolding inner_with
 right_shown front rest source destination None = right_again 10 (take 20 (addressed (items 0 28 front ++ rest) source destination)) refl (omega arith) refl
 right_shown front rest source destination (Some sequence) = right_again 10 (take 20 (addressed (items 0 28 front ++ rest) source destination)) refl (omega arith) refl
 
-long : (octets : List ℕ) → is_inner octets ≡ true → 28 ≤ length octets
+pub long : (octets : List ℕ) → is_inner octets ≡ true → 28 ≤ length octets
 long octets holds =
     let first = and_parts _ _ holds in
     let second = and_parts _ _ first.0 in

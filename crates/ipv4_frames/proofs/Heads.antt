@@ -98,3 +98,14 @@ reads_head head model payload lifetime source destination holds plain fits =
 pub reads_written : (model payload : List ℕ) (lifetime source destination : ℕ) → length model ≡ 20 → IsPlainHead model → 20 + length payload < 2 ^ 16 → source < 2 ^ 32 → destination < 2 ^ 32 → let head = spelled_head model (20 + length payload) lifetime source destination in read_datagram (head ++ payload) ≡ Ok (record { source = source; destination = destination; protocol = slice_index model 9; lifetime = lifetime; header = head; payload = payload })
 reads_written model payload lifetime source destination count plain fits s d =
     reads_head (spelled_head model (20 + length payload) lifetime source destination) model payload lifetime source destination (holds_fields model (20 + length payload) lifetime source destination count fits s d) plain fits
+
+-- how long a written header is
+head_shown : (front rest : List ℕ) (total lifetime source destination : ℕ) → length (spelled_head (items 0 20 front ++ rest) total lifetime source destination) ≡ 20 + length rest
+unfolding head_with
+head_shown front rest total lifetime source destination = omega arith
+
+pub head_long : (model : List ℕ) (total lifetime source destination : ℕ) → length model ≡ 20 → length (spelled_head model total lifetime source destination) ≡ 20
+head_long model total lifetime source destination count =
+    let shown : length (spelled_head model total lifetime source destination) ≡ 20 + length (drop 20 model) =
+    subst (λ (m : List ℕ). length (spelled_head m total lifetime source destination) ≡ 20 + length (drop 20 model)) (sym (front_items 20 model (omega (arith, count)))) (head_shown model (drop 20 model) total lifetime source destination) in
+    omega (arith, shown, length-drop 20 model, count)

@@ -16,7 +16,7 @@ use Rattle.gate_model.specs.Sessions.{WholeSession}
 use Rattle.gate_model.specs.Step.{taker_in}
 use Rattle.gate_model.specs.Stream.{segment_of, session_refusal}
 use Rattle.gate_model.specs.Verdict.{table_after, image_in, verdict}
-use Rattle.gate_model.specs.World.{World, Tracked, at_moment, called, source_of, destination_of, is_client}
+use Rattle.gate_model.specs.World.{World, Tracked, at_moment, called, source_of, destination_of, host_on}
 use Rattle.gate_model.proofs.Passing.{Passes, passes, stream_passes}
 use Rattle.gate_model.proofs.ReadWorlds.{table_as, image_as, taker_as, inner_number_as, moment_as, verdict_as}
 use Rattle.lawful_files.specs.Wanted.{Wanted, Cut, Sends, SendAlike, whole_sent, wanted_segment, wanted_kind, wanted_by, wanted, wanted_in}
@@ -24,7 +24,7 @@ use Rattle.lawful_files.specs.Wanted.{Wanted, Cut, Sends, SendAlike, whole_sent,
 module _ {S : Type 0} (h : S → WholeSession) (rules : SessionRules S) (sends : Sends S) (reads : Reads h rules whole_rules) (alike : SendAlike h rules sends) where
   segment_as : (image : Addr → Option Addr) (side : Side) (d : Datagram) (source destination : ℕ) (t : Option (Tracked S)) → session_refusal rules side d t ≡ None → wanted_segment whole_sent image side d source destination (option_map (tracked_as h) t) ≡ wanted_segment sends image side d source destination t
   segment_as image side d source destination None e = refl
-  segment_as image side d source destination (Some t) e = ap (Cut d source destination) (alike image (is_client side t) t.session (segment_of d) e)
+  segment_as image side d source destination (Some t) e = ap (Cut d source destination) (alike image (host_on side t) t.session (segment_of d) e)
 
   kind_as : (live : World S) (side : Side) (moment : ℕ) (d : Datagram) (kind : Kind) → Passes rules live side moment d kind → wanted_kind whole_rules whole_sent (world_as h live) side moment d kind ≡ wanted_kind rules sends live side moment d kind
   kind_as live side moment d Stream p =

@@ -23,7 +23,7 @@ use Rattle.gate_model.specs.Sessions.{WholeSession, whole_learned}
 use Rattle.gate_model.specs.Step.{out, out_by, out_kind, stream_out, taker_in}
 use Rattle.gate_model.specs.Stream.{segment_of}
 use Rattle.gate_model.specs.Verdict.{table_after, image_in, verdict}
-use Rattle.gate_model.specs.World.{World, Tracked, at_moment, called, source_of, destination_of, is_client}
+use Rattle.gate_model.specs.World.{World, Tracked, at_moment, called, source_of, destination_of, host_on}
 use Rattle.lawful_files.specs.Wanted.{whole_sent, wanted_segment, wanted_kind, wanted_by, wanted, IsLawfulList}
 use Rattle.stream_model.proofs.Ways.{session_lawful}
 
@@ -68,17 +68,17 @@ event_options e h = few_options (datagram_in e) (payload_octets (octets_in e.lin
 
 -- ## Lawful lists
 
-limit_some : (receiver : Sender) (g : Segment) → g.options ≤ 40 → 1 ≤ limit_of receiver g
+pub limit_some : (receiver : Sender) (g : Segment) → g.options ≤ 40 → 1 ≤ limit_of receiver g
 limit_some receiver g few = omega (arith, few)
 
 segment_lawful : (image : Addr → Option Addr) (side : Side) (d : Datagram) (source destination : ℕ) (t : Option (Tracked WholeSession)) → (segment_of d).options ≤ 40
     → IsLawfulList (wanted_segment whole_sent image side d source destination t) (stream_out whole_rules image side d source destination t)
 segment_lawful image side d source destination None few = refl
 segment_lawful image side d source destination (Some t) few =
-    let client = is_client side t in
+    let host = host_on side t in
     let g = segment_of d in
-    let x = (whole_learned image client t.session g).session in
-    (session_out client x g, session_lawful client x g (limit_some (other client x) g few), refl)
+    let x = (whole_learned image host t.session g).session in
+    (session_out host x g, session_lawful host x g (limit_some (other host x) g few), refl)
 
 kind_lawful : (live : World WholeSession) (side : Side) (moment : ℕ) (d : Datagram) (kind : Kind) → (segment_of d).options ≤ 40 → IsLawfulList (wanted_kind whole_rules whole_sent live side moment d kind) (out_kind whole_rules live side moment d kind)
 kind_lawful live side moment d Udp few = refl

@@ -1,7 +1,7 @@
 -- What is wanted of an event has headers, and its pieces may have octets.
 use Rattle.std.proofs.Common.{◌≡◌, ◌≤◌, ◌*◌, ◌/◌, ℕ, Bool, true, false, List, [], ◌∷◌, ◌++◌, length, take, drop, Option, Some, None, refl, sym, ◌∙◌, ap, arith}
 use Rattle.std.specs.Prelude.{not, ◌||◌, ◌==◌, nat_lt, slice_index, if◌then◌else◌}
-use Rattle.std.proofs.lemmas.Bool.{or_parts, true≢false}
+use Rattle.std.proofs.lemmas.Bool.{or_parts, not-false}
 use Rattle.std.proofs.lemmas.Bool.Decides.{nat_tests}
 use Rattle.std.proofs.lemmas.List.{get_or-take, length-take-le}
 use Rattle.gate_base.specs.Events.{Event}
@@ -14,8 +14,7 @@ use Rattle.gate_base.specs.declared.refusal.Refusal.TheVariants.{Snapped, NotIpv
 use Rattle.gate_base.specs.declared.side.Side.{Side}
 use Rattle.ether_frames.specs.Ether.{octets_in}
 use Rattle.ipv4_frames.specs.Ipv4.{Datagram, header_length_of, total_length_of, is_not_ipv4, has_bad_header, has_bad_header_sum, is_fragment, has_options}
-use Rattle.stream_model.specs.Session.{Sender, Segment, other}
-use Rattle.stream_model.specs.Steps.{limit_of}
+use Rattle.stream_model.specs.Session.{other}
 use Rattle.tcp_segments.specs.Options.{are_options}
 use Rattle.tcp_segments.specs.Tcp.{IsTcpHeader, tcp_header_length_of, has_bad_offset, has_bad_options}
 use Rattle.udp_icmp.specs.Udp.{has_bad_length}
@@ -25,19 +24,15 @@ use Rattle.gate_model.specs.Rules.{whole_rules}
 use Rattle.gate_model.specs.Sessions.{WholeSession, whole_learned}
 use Rattle.gate_model.specs.Step.{taker_in}
 use Rattle.gate_model.specs.Stream.{segment_of}
-use Rattle.gate_model.specs.Verdict.{tests, world_tests, verdict, verdict_of}
-use Rattle.gate_model.specs.World.{World, Tracked, at_moment, is_client}
-use Rattle.gate_model.proofs.Passing.{NoneHolds, none_head, none_tail, none_left, none_right}
+use Rattle.gate_model.specs.Verdict.{tests, world_tests, verdict}
+use Rattle.gate_model.specs.World.{World, Tracked, at_moment, host_on}
+use Rattle.gate_model.proofs.Passing.{NoneHolds, none_head, none_tail, none_left, none_right, pass_is}
 use Rattle.lawful_files.specs.Wanted.{whole_sent, wanted_segment, wanted_kind, wanted_by, wanted}
 use Rattle.lawful_files.specs.Progress.{HasHeads, IsSound}
-use Rattle.lawful_files.proofs.SentLists.{AreOctets, event_options}
+use Rattle.lawful_files.proofs.SentLists.{AreOctets, event_options, limit_some}
 use Rattle.stream_model.proofs.Ways.{session_limit}
 
 -- ## What a frame that passes is like
-
-pass_is : (o : Option Refusal) → verdict_of o ≡ Pass → o ≡ None
-pass_is None e = refl
-pass_is (Some r) e = cc
 
 record IsRight (e : Event) : Type 0 where
   header : has_bad_header (octets_in e.link e.octets) ≡ false
@@ -96,10 +91,6 @@ transport_is d e h = by_protocol (d.protocol == 17) (d.protocol == 6) e h
     by_protocol false true f i = i
     by_protocol false false f i = absurd (no_icmp d f)
 
-not_not : (b : Bool) → not b ≡ false → b ≡ true
-not_not true e = refl
-not_not false e = absurd (true≢false e)
-
 tcp_is : (payload : List ℕ) → (has_bad_offset payload || has_bad_options payload) ≡ false → IsTcpHeader (take (tcp_header_length_of payload) payload)
 tcp_is payload h =
     let count = tcp_header_length_of payload in
@@ -110,7 +101,7 @@ tcp_is payload h =
     let within : count ≤ length payload = let t = a.1 in grind (arith, nat_tests) in
     let long : length (take count payload) ≡ count = length-take-le count payload within in
     let same : slice_index (take count payload) 12 ≡ slice_index payload 12 = get_or-take count payload 12 0 (omega (arith, least)) in
-    (omega (arith, long, least), ap (λ (n : ℕ). n / 16 * 4) same ∙ sym long, not_not (are_options (drop 20 (take count payload))) both.1)
+    (omega (arith, long, least), ap (λ (n : ℕ). n / 16 * 4) same ∙ sym long, not-false (are_options (drop 20 (take count payload))) both.1)
 
 heads_of : (w : World WholeSession) (e : Event) → verdict whole_rules w e ≡ Pass → kind_of (datagram_in e) ≡ Stream → HasHeads (datagram_in e)
 heads_of w e passed stream =
@@ -119,16 +110,13 @@ heads_of w e passed stream =
 
 -- ## What is wanted
 
-limit_some : (receiver : Sender) (g : Segment) → g.options ≤ 40 → 1 ≤ limit_of receiver g
-limit_some receiver g few = omega (arith, few)
-
 segment_sound : (image : Addr → Option Addr) (side : Side) (d : Datagram) (source destination : ℕ) (t : Option (Tracked WholeSession)) → HasHeads d → (segment_of d).options ≤ 40 → IsSound (wanted_segment whole_sent image side d source destination t)
 segment_sound image side d source destination None heads few = tt
 segment_sound image side d source destination (Some t) heads few =
-    let client = is_client side t in
+    let host = host_on side t in
     let g = segment_of d in
-    let x = (whole_learned image client t.session g).session in
-    (heads, omega (arith, session_limit client x g, limit_some (other client x) g few))
+    let x = (whole_learned image host t.session g).session in
+    (heads, omega (arith, session_limit host x g, limit_some (other host x) g few))
 
 pub wanted_sound : (w : World WholeSession) (e : Event) → AreOctets e.octets → IsSound (wanted w e)
 wanted_sound w e h = by_verdict (verdict whole_rules w e) refl

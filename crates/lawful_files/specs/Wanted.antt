@@ -1,10 +1,11 @@
 -- What is wanted of an event: the datagrams that go out for it, or octets that may be cut; and the lists of datagrams that are lawful for it.
-use Rattle.std.specs.Prelude.{◌≡◌, ℕ, Bool, List, [], ◌∷◌, map, Option, Some, None}
+use Rattle.std.specs.Prelude.{◌≡◌, ℕ, List, [], ◌∷◌, map, Option, Some, None}
 use Rattle.gate_base.specs.Events.{Event}
 use Rattle.gate_base.specs.declared.address.Addr.{Addr}
 use Rattle.gate_base.specs.declared.event.Verdict.{Verdict}
 use Rattle.gate_base.specs.declared.event.Verdict.TheVariants.{Pass, Refused, Held}
 use Rattle.gate_base.specs.declared.side.Side.{Side}
+use Rattle.gate_base.specs.declared.host.Host.{Host}
 use Rattle.frag_join.specs.Arrivals.{Arrival, Reaches, Stopped}
 use Rattle.ipv4_frames.specs.Ipv4.{Datagram}
 use Rattle.stream_model.specs.Session.{Segment, Outgoing}
@@ -15,7 +16,7 @@ use Rattle.gate_model.specs.Sessions.{WholeSession, whole_learned}
 use Rattle.gate_model.specs.Step.{next, out_kind, taker_in}
 use Rattle.gate_model.specs.Stream.{segment_of, sent_as}
 use Rattle.gate_model.specs.Verdict.{table_after, image_in, verdict}
-use Rattle.gate_model.specs.World.{World, Tracked, at_moment, called, source_of, destination_of, is_client}
+use Rattle.gate_model.specs.World.{World, Tracked, at_moment, called, source_of, destination_of, host_on}
 use Rattle.stream_model.specs.Cuts.{Sent, session_sent, IsLawfulWay}
 
 -- ## What is wanted of an event
@@ -27,20 +28,20 @@ pub data Wanted : Type 0 where
 
 -- what sessions of one representation send for a segment that passes, before it is cut, by what addresses that it names first are called
 abbrev pub Sends : Type 0 → Type 0
-Sends S = (Addr → Option Addr) → Bool → S → Segment → Sent
+Sends S = (Addr → Option Addr) → Host → S → Segment → Sent
 
 -- and sessions over whole lists: what the session sends once it has learned the addresses in the segment's units
 abbrev pub whole_sent : Sends WholeSession
-whole_sent image from_client x segment = session_sent from_client (whole_learned image from_client x segment).session segment
+whole_sent image from x segment = session_sent from (whole_learned image from x segment).session segment
 
 -- sessions that are read as those over whole lists send the same for each segment that passes
 abbrev pub SendAlike : {S : Type 0} → (S → WholeSession) → SessionRules S → Sends S → Type 0
-SendAlike {S = S} h rules sends = (image : Addr → Option Addr) (from_client : Bool) (x : S) (segment : Segment) → rules.refusal from_client x segment ≡ None → whole_sent image from_client (h x) segment ≡ sends image from_client x segment
+SendAlike {S = S} h rules sends = (image : Addr → Option Addr) (from : Host) (x : S) (segment : Segment) → rules.refusal from x segment ≡ None → whole_sent image from (h x) segment ≡ sends image from x segment
 
 -- of a segment, by the session that takes it
 abbrev pub wanted_segment : {S : Type 0} → Sends S → (Addr → Option Addr) → Side → Datagram → ℕ → ℕ → Option (Tracked S) → Wanted
 wanted_segment sends image side d source destination None = Exactly (renamed d source destination ∷ [])
-wanted_segment sends image side d source destination (Some t) = Cut d source destination (sends image (is_client side t) t.session (segment_of d))
+wanted_segment sends image side d source destination (Some t) = Cut d source destination (sends image (host_on side t) t.session (segment_of d))
 
 -- of a datagram that passes, by its kind
 abbrev pub wanted_kind : {S : Type 0} → SessionRules S → Sends S → World S → Side → ℕ → Datagram → Kind → Wanted

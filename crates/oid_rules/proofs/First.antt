@@ -2,7 +2,7 @@
 use Rattle.std.proofs.Common.{◌≡◌, ◌<◌, ◌≤◌, ◌+◌, ℕ, zero, suc, Bool, true, false, nat_eq, if◌then◌else◌, List, [], ◌∷◌, length, get_or, Option, Some, None, option_map, is_some, IfSome, IsSome, IsTrue, All, refl, sym, ◌∙◌, ap, subst, arith, inl, inr}
 use Rattle.std.specs.List.{starts_with, list_all}
 use Rattle.std.specs.Option.{option_or}
-use Rattle.std.proofs.lemmas.Bool.{cases_order}
+use Rattle.std.proofs.lemmas.Bool.{cases_order, and_parts}
 use Rattle.std.proofs.lemmas.List.Elements.{All-cons, All-from_get_or, All-nil, All-head, All-tail, Contains-get_or}
 use Rattle.std.proofs.lemmas.List.Sorted.{All-permutation, Contains-permutation, IsPermutation-sym}
 use Rattle.gate_base.specs.declared.address.Addr.{Addr}
@@ -11,7 +11,7 @@ use Rattle.oid_rules.specs.declared.sorted.Compared.TheVariants.{Begins}
 use Rattle.oid_rules.specs.declared.sorted.Numbered.{Numbered}
 use Rattle.gate_base.specs.Rules.{is_rule, AreRules}
 use Rattle.oid_rules.specs.Sorted.{compared, first_begun, numbered, rule_at, AllRules, AreSorted, BeginsAt, InOrder, IsEarly, IsFirst, IsFound, IsLast}
-use Rattle.oid_rules.proofs.Prefixes.{both_true, starts_begins, begins_starts, begins_goes_on}
+use Rattle.oid_rules.proofs.Prefixes.{starts_begins, begins_starts, begins_goes_on}
 use Rattle.oid_rules.proofs.Halving.{arcs_at, none_between}
 
 -- ## In the order of the list
@@ -72,7 +72,7 @@ first_passes address arcs place (r ∷ rs) (suc i) one a l is begins names least
 pub all_rules : (place : ℕ) (rules : List OidRule) → AreRules rules → AllRules (numbered place rules)
 all_rules place [] h = All-nil (λ (one : Numbered). IsTrue (is_rule one.rule))
 all_rules place (r ∷ rs) h =
-    let parts = both_true (is_rule r) (list_all is_rule rs) h in
+    let parts = and_parts (is_rule r) (list_all is_rule rs) h in
     All-cons (λ (one : Numbered). IsTrue (is_rule one.rule)) _ _ parts.0 (all_rules (place + 1) rs parts.1)
 
 pub first_is : (address : OidRule → Option ℕ) (sorted : List Numbered) (arcs : List ℕ) (found : Option (ℕ × Addr)) (rules : List OidRule) → AreSorted rules sorted → IsFound address sorted found → IsFirst address sorted arcs None found → option_map (λ (p : ℕ × Addr). ((rule_at sorted p.0).rule, p.1.0)) found ≡ first_begun address arcs rules

@@ -1,11 +1,11 @@
 -- The order of arcs, and prefixes in it.
-use Rattle.std.proofs.Common.{◌≡◌, ◌<◌, ◌==◌, nat_eq, nat_lt, ℕ, Bool, true, false, if◌then◌else◌, List, [], ◌∷◌, length, ◌&&◌, refl, sym, ◌∙◌, ap, arith, ◌⊎◌, inl, inr}
+use Rattle.std.proofs.Common.{◌≡◌, ◌<◌, ◌==◌, nat_eq, nat_lt, ℕ, true, false, if◌then◌else◌, List, [], ◌∷◌, length, ◌&&◌, refl, sym, ◌∙◌, ap, arith, ◌⊎◌, inl, inr}
 use Rattle.std.specs.List.{starts_with}
 use Rattle.std.specs.Ordering.{nat_cmp, is_lt, ordering_then}
 use Rattle.std.specs.Cmp.{nat_cmp_is}
 use Rattle.std.specs.Cmp.Lexicographic.{slice_cmp}
 use Rattle.std.specs.declared.cmp.Ordering.TheVariants.{Less, Equal}
-use Rattle.std.proofs.lemmas.Bool.{cases_order}
+use Rattle.std.proofs.lemmas.Bool.{cases_order, and_parts}
 use Rattle.std.proofs.lemmas.Bool.Decides.{nat_tests}
 use Rattle.oid_rules.specs.declared.sorted.Compared.TheVariants.{Before, Begins, Behind}
 use Rattle.oid_rules.specs.Sorted.{compared, order_of}
@@ -93,15 +93,11 @@ begins_goes_on (x ∷ xs) (y ∷ ys) (z ∷ zs) a b =
 
 -- ## The same in the words of std
 
-pub both_true : (a b : Bool) → (a && b) ≡ true → (a ≡ true) × (b ≡ true)
-both_true true b e = (refl, e)
-both_true false b e = absurd cc
-
 pub starts_begins : (s p : List ℕ) → starts_with nat_eq s p ≡ true → compared s p ≡ Begins
 starts_begins s [] h = refl
 starts_begins [] (x ∷ xs) h = absurd cc
 starts_begins (z ∷ zs) (x ∷ xs) h =
-    let parts = both_true (nat_eq x z) (starts_with nat_eq zs xs) h in
+    let parts = and_parts (nat_eq x z) (starts_with nat_eq zs xs) h in
     let e : z ≡ x = grind (arith, nat_tests, parts.0) in
     same_first z x zs xs e ∙ starts_begins zs xs parts.1
 

@@ -1,10 +1,11 @@
 -- A capture that is read can be cut into the spellings of its records and a rest.
-use Rattle.std.proofs.Common.{◌≡◌, ℕ, zero, suc, ◌+◌, ◌*◌, ◌^◌, ◌<◌, ◌≤◌, List, [], ◌∷◌, ◌++◌, All, Bool, true, false, cond, Option, Some, None, nat_lt, nat_le, ◌==◌, find, unwrap_or, map, take, drop, length, refl, sym, ap, subst, ◌∙◌, append_assoc, add_assoc, add-zero, arith, length-append, length-drop}
-use Rattle.std.proofs.lemmas.List.{take-append-drop, drop-drop, length-take-le}
+use Rattle.std.proofs.Common.{◌≡◌, ℕ, zero, suc, ◌+◌, ◌*◌, ◌^◌, ◌<◌, ◌≤◌, List, [], ◌∷◌, ◌++◌, All, Bool, true, false, cond, Option, Some, None, nat_lt, nat_le, ◌==◌, map, take, drop, length, refl, sym, ap, subst, ◌∙◌, append_assoc, add_assoc, add-zero, arith, length-append, length-drop}
+use Rattle.std.proofs.lemmas.List.{take-append-drop, drop-drop, length-take-le, nil_from_length}
 use Rattle.std.proofs.lemmas.Bool.{eqb-true}
 use Rattle.std.proofs.lemmas.Bool.Decides.{nat_tests}
 use Rattle.gate_base.specs.declared.side.Link.{Link}
 use Rattle.gate_base.specs.declared.side.Link.TheVariants.{Ethernet, Raw}
+use Rattle.gate_base.proofs.Lists.{find_passes}
 use Rattle.pcap_files.specs.declared.fault.CaptureFault.{CaptureFault}
 use Rattle.pcap_files.specs.declared.fault.CaptureFault.TheVariants.{NoHead, Magic, Link as OtherLink}
 use Rattle.pcap_files.specs.declared.form.Order.{Order}
@@ -156,10 +157,6 @@ record IsCut (form : Form) (place : ℕ) (octets : List ℕ) (records : Records)
   packets : records.packets ≡ map (packet_from form) entries
   ending : EndsWith form (place + length (all_spelled form.order entries)) rest records.ending
 
-no_octets : (octets : List ℕ) → length octets ≡ 0 → octets ≡ []
-no_octets [] e = refl
-no_octets (x ∷ octets) e = absurd (omega arith)
-
 cut_at_end : (form : Form) (place : ℕ) (octets : List ℕ) (ending : Ending) → EndsWith form place octets ending → IsCut form place octets (record { packets = []; ending = ending })
 cut_at_end form place octets ending h = record {
   entries = [];
@@ -196,7 +193,7 @@ cut : (n : ℕ) (form : Form) (place : ℕ) (octets : List ℕ) → length octet
 cut zero form place octets less small = absurd (omega arith)
 cut (suc n) form place octets less small =
     elim (next_at form place octets) as (λ x. next_at form place octets ≡ x → IsCut form place octets (records_from form place octets)) [
-      | Ended ↦ λ e. subst (IsCut form place octets) (sym (records-ended form place octets e)) (cut_at_end form place octets Whole (no_octets octets (ended_is_empty form place octets e)))
+      | Ended ↦ λ e. subst (IsCut form place octets) (sym (records-ended form place octets e)) (cut_at_end form place octets Whole (nil_from_length octets (ended_is_empty form place octets e)))
       | Broken f ↦ λ e. subst (IsCut form place octets) (sym (records-broken form place octets f e)) (cut_at_end form place octets (Fault f place) (let told = broken_is form place octets f e in (refl, told.0, told.1)))
       | Came p ↦ λ e. (
           let told = came_is form place octets p e in
@@ -215,17 +212,6 @@ record HasHead (all : List ℕ) (form : Form) : Type 0 where
   magic_is : number_at form.order 0 all ≡ magic form.precision
   link_is : number_at form.order 20 all ≡ link_number form.link
 
-nothing_found : {X : Type 0} (x : X) → None ≡ Some x → ⊥
-nothing_found x e = cc
-
-find_holds : {X : Type 0} (p : X → Bool) (xs : List X) (x : X) → find p xs ≡ Some x → p x ≡ true
-find_holds p [] x e = absurd (nothing_found x e)
-find_holds p (y ∷ ys) x e =
-    elim (p y) as (λ b. p y ≡ b → cond b (Some y) (find p ys) ≡ Some x → p x ≡ true) [
-      | true ↦ λ b k. subst (λ z. p z ≡ true) (ap (λ o. unwrap_or o y) k) b
-      | false ↦ λ b k. find_holds p ys x k
-    ] refl e
-
 bad_not_good : (f : CaptureFault) (form : Form) → Bad f ≡ Good form → ⊥
 bad_not_good f form e = cc
 
@@ -239,13 +225,13 @@ has_link all form order precision (Some link) long m l e =
     subst (HasHead all) (ap (form_or form) e) (record {
       long = long;
       magic_is = m;
-      link_is = eqb-true (number_at order 20 all) (link_number link) (find_holds (λ (k : Link). number_at order 20 all == link_number k) (Ethernet ∷ Raw ∷ []) link l);
+      link_is = eqb-true (number_at order 20 all) (link_number link) (find_passes (λ (k : Link). number_at order 20 all == link_number k) (Ethernet ∷ Raw ∷ []) link l);
     })
 
 has_layout : (all : List ℕ) (form : Form) (o : Option (Order × Precision)) → 24 ≤ length all → layout_at all ≡ o → by_layout all o ≡ Good form → HasHead all form
 has_layout all form None long l e = absurd (bad_not_good Magic form e)
 has_layout all form (Some x) long l e =
-    has_link all form x.0 x.1 (link_of (number_at x.0 20 all)) long (eqb-true (number_at x.0 0 all) (magic x.1) (find_holds (λ (y : Order × Precision). number_at y.0 0 all == magic y.1) layouts x l)) refl e
+    has_link all form x.0 x.1 (link_of (number_at x.0 20 all)) long (eqb-true (number_at x.0 0 all) (magic x.1) (find_passes (λ (y : Order × Precision). number_at y.0 0 all == magic y.1) layouts x l)) refl e
 
 has_head : (all : List ℕ) (form : Form) → head_of all ≡ Good form → HasHead all form
 unfolding head_of

@@ -3,6 +3,7 @@ use Rattle.std.proofs.Common.{◌≡◌, ℕ, suc, ◌+◌, ◌*◌, ◌^◌, �
 use Rattle.std.proofs.lemmas.List.{take_at}
 use Rattle.std.proofs.Math.Seq.{drop-append_seam}
 use Rattle.std.proofs.lemmas.Bool.Decides.{nat_tests}
+use Rattle.std.proofs.lemmas.Option.{none-some}
 use Rattle.gate_base.specs.declared.side.Link.{Link}
 use Rattle.gate_base.specs.declared.side.Link.TheVariants.{Ethernet, Raw}
 use Rattle.pcap_files.specs.declared.fault.CaptureFault.{CaptureFault}
@@ -76,12 +77,9 @@ abbrev fault_or : CaptureFault → Option CaptureFault → CaptureFault
 fault_or f None = f
 fault_or f (Some g) = g
 
-no_fault : (f : CaptureFault) → None ≡ Some f → ⊥
-no_fault f e = cc
-
 -- the first test that holds
 tested-first_fault : (tests : List (Bool × CaptureFault)) (p : Packet) (f : CaptureFault) → first_fault tests ≡ Some f → tested tests p ≡ Broken f
-tested-first_fault [] p f e = absurd (no_fault f e)
+tested-first_fault [] p f e = absurd (none-some f e)
 tested-first_fault (t ∷ tests) p f e =
     elim t.0 as (λ b. cond b (Some t.1) (first_fault tests) ≡ Some f → cond b (Broken t.1) (tested tests p) ≡ Broken f) [
       | true ↦ λ k. ap (λ (o : Option CaptureFault). Broken (fault_or t.1 o)) k

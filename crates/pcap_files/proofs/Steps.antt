@@ -14,15 +14,12 @@ use Rattle.pcap_files.specs.declared.form.Precision.{Precision}
 use Rattle.pcap_files.specs.Capture.{Next, Ended, Broken, Came, next_at, number_at, Head, Bad, head_of, kept_of, layout_at, by_layout, by_link, link_of}
 use Rattle.pcap_files.specs.Heads.{after_head, body_of}
 use Rattle.pcap_files.specs.Reader.{TakesNoRecord, Reading}
+use Rattle.pcap_files.proofs.Records.{nothing_is_ended}
 
 -- a number is read of its own octets alone
 pub number_at-take : (order : Order) (place n : ℕ) (octets : List ℕ) → 4 ≤ n → number_at order place (take (place + n) octets) ≡ number_at order place octets
 number_at-take Little place n octets fits = ap (little_number 4) (drop-take place n octets) ∙ little_from-take 0 4 n (drop place octets) fits
 number_at-take Big place n octets fits = ap (big_number 4) (drop-take place n octets) ∙ big_from-take 0 4 n (drop place octets) fits
-
-no_octets : (form : Form) (place : ℕ) (all : List ℕ) → length all ≡ 0 → next_at form place all ≡ Ended
-unfolding next_at
-no_octets form place all e = grind (arith, nat_tests)
 
 few_octets : (form : Form) (place : ℕ) (all : List ℕ) → 0 < length all → length all < 16 → next_at form place all ≡ Broken Torn
 unfolding next_at
@@ -47,7 +44,7 @@ enough_octets form place all enough =
 -- nothing was read
 pub ended : (form : Form) (place : ℕ) (o : Option (List ℕ)) → IfSome o (λ all. [] ≡ take 16 all) → IfSome o (λ all. next_at form place all ≡ Ended)
 ended form place None h = tt
-ended form place (Some all) h = no_octets form place all (omega (arith, ap length h, length-take 16 all))
+ended form place (Some all) h = nothing_is_ended form place all (omega (arith, ap length h, length-take 16 all))
 
 -- a part of a head was read
 pub torn_head : (form : Form) (place n : ℕ) (head : List ℕ) (o : Option (List ℕ)) → 0 < n → n < 16 → n ≤ length head → IfSome o (λ all. take n head ≡ take 16 all) → IfSome o (λ all. next_at form place all ≡ Broken Torn)

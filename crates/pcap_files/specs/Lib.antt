@@ -4,3 +4,4 @@ pub mod Heads
 pub mod Spelling
 pub mod Spelled
 pub mod Packets
+pub mod Faults

@@ -1,13 +1,13 @@
 -- Steps of a merge, over what is told of both captures.
-use Rattle.std.proofs.Common.{◌≡◌, inl, inr, ℕ, ◌+◌, ◌<◌, List, [], Bool, true, false, cond, Option, Some, None, Err, IfSome, IsSome, option_map, max, nat_le, drop, length, refl, sym, ap, subst, ◌∙◌, arith}
+use Rattle.std.proofs.Common.{◌≡◌, inl, inr, ℕ, ◌+◌, ◌<◌, List, [], Bool, true, false, cond, Option, Some, None, Err, IfSome, IsSome, option_map, max, nat_le, drop, length, refl, sym, ap, subst, ◌∙◌, arith, Ok}
 use Rattle.std.proofs.lemmas.Bool.{false≢true}
+use Rattle.std.proofs.lemmas.Option.{none-some}
 use Rattle.gate_base.specs.declared.side.Side.{Side}
 use Rattle.gate_base.specs.declared.side.Side.TheVariants.{Left, Right}
 use Rattle.gate_base.specs.declared.side.Link.{Link}
 use Rattle.gate_base.specs.Side.{same_side}
 use Rattle.gate_base.specs.Events.{Event}
 use Rattle.gate_desk.specs.declared.slot.Slot.TheVariants.{LeftIn, RightIn}
-use Rattle.gate_desk.specs.declared.slot.PerSlot.{PerSlot}
 use Rattle.gate_desk.specs.Outside.{Outside, Trace, Takes, HasFailed, told_at, took}
 use Rattle.gate_desk.proofs.Laws.{takes_none, grows_on, grows_takes, failed_since}
 use Rattle.pcap_files.specs.declared.fault.CaptureFault.{CaptureFault}
@@ -21,7 +21,7 @@ use Rattle.pcap_merge.specs.declared.stop.MergeStop.TheVariants.{Fault, Desk, Ou
 use Rattle.pcap_merge.specs.Order.{is_unread, earlier}
 use Rattle.pcap_merge.specs.Events.{Merged, Done, Fault as EndsFaulty, Ahead, Gives, Stops, front_of, turn_of, behind_first, event_at, with_event, merge_from}
 use Rattle.pcap_merge.specs.Sides.{Readies, ReadsSide, ReadsSides, records_ahead, held_before, IsSpent, side_work}
-use Rattle.pcap_merge.specs.Merge.{Merging, merging, event_given, HoldsLast, IsSound, Reads, ahead, sides_ahead, ComesTo, Finishes, StopsBy}
+use Rattle.pcap_merge.specs.Merge.{Merging, merging, event_given, HoldsLast, IsSound, Reads, ahead, sides_ahead, ComesTo, Finishes, StopsBy, Advances}
 use Rattle.pcap_merge.proofs.Merged.{merge-gives, merge-ends, merge-stops}
 use Rattle.pcap_merge.proofs.Given.{same_right, given_more, ends_taken, both_ready, left_stopped, right_stopped}
 
@@ -53,10 +53,10 @@ right_told-of (Some all) m P h = h
 pub right_told : (m : ℕ) (old mid : Outside) (P : List ℕ → Type 0) → Takes LeftIn m old mid → IfSome (told_at mid.left RightIn) P → IfSome old.left (λ all. P all.right_in)
 right_told m old mid P t h = right_told-of old.left m P (subst (λ o. IfSome (told_at o RightIn) P) t.left h)
 
--- two facts of both captures
-pub both : (o : Trace) (P Q R : PerSlot (List ℕ) → Type 0) → IfSome o P → IfSome o Q → ((all : PerSlot (List ℕ)) → P all → Q all → R all) → IfSome o R
+-- two facts of what is told
+pub both : {A : Type 0} (o : Option A) (P Q R : A → Type 0) → IfSome o P → IfSome o Q → ((x : A) → P x → Q x → R x) → IfSome o R
 both None P Q R h k f = tt
-both (Some all) P Q R h k f = f all h k
+both (Some x) P Q R h k f = f x h k
 
 -- the events still to come, from those of whole lists
 ahead_gives-of : (x x' : Merging) (m n : ℕ) (o : Trace) (e : Event)
@@ -93,9 +93,6 @@ held_of Right left right = right
 abbrev form_of : Side → Reading → Reading → Form
 form_of Left l r = l.form
 form_of Right l r = r.form
-
-nothing_held : (p : Packet) → None ≡ Some p → ⊥
-nothing_held p e = cc
 
 -- this record comes next, whatever comes behind it
 record IsNext (side : Side) (p : Packet) (time : ℕ) (left right : Option Packet) : Type 0 where
@@ -174,8 +171,8 @@ falls l l' r r' Nothing Left p old mid new holds h k e = let f = h.falls refl (i
 falls l l' r r' Nothing Right p old mid new holds h k e = let f = k.falls refl (inr (is_some_of r'.packet p e)) in omega (arith, f, h.work)
 falls l l' r r' (LastEvent Left) side p old mid new holds h k e = let f = h.falls refl (inl holds) in omega (arith, f, k.work)
 falls l l' r r' (LastEvent Right) side p old mid new holds h k e = let f = k.falls refl (inl holds) in omega (arith, f, h.work)
-falls l l' r r' End Left p old mid new holds h k e = absurd (nothing_held p (sym holds.0 ∙ ap (λ (x : Reading). x.packet) (sym (h.kept refl).0) ∙ e))
-falls l l' r r' End Right p old mid new holds h k e = absurd (nothing_held p (sym holds.1 ∙ ap (λ (x : Reading). x.packet) (sym (k.kept refl).0) ∙ e))
+falls l l' r r' End Left p old mid new holds h k e = absurd (none-some p (sym holds.0 ∙ ap (λ (x : Reading). x.packet) (sym (h.kept refl).0) ∙ e))
+falls l l' r r' End Right p old mid new holds h k e = absurd (none-some p (sym holds.1 ∙ ap (λ (x : Reading). x.packet) (sym (k.kept refl).0) ∙ e))
 
 -- what is spent once a side stands at a record or at its end
 still_spent : (unread : Bool) (p : Option Packet) (octets : List ℕ) → IsSpent false p octets → IsSpent unread p octets
@@ -389,3 +386,11 @@ stops stop l l' r r' clock last stopped old new h = elim h as (λ x. StopsBy sto
   | inl left ↦ stops_left stop l l' r clock last stopped old new left.0
   | inr right ↦ stops_right stop l l' r r' clock last stopped old right.0 new right.1 right.2
 ]
+
+-- the event that was given is the one that is asked for
+pub came_to : (more : Bool) (e : Event) (m m' : Merging) (old new : Outside) → more ≡ true → Advances (Ok more) m m' old new → m'.event ≡ Some e → ComesTo e m m' old new
+came_to more e m m' old new is h held =
+    let came = subst (λ b. Advances (Ok b) m m' old new) is h in
+    let found : Some came.0 ≡ Some e = sym came.1.event ∙ held in
+    let same : came.0 ≡ e = cc in
+    subst (λ (x : Event). ComesTo x m m' old new) same came.1

@@ -2,9 +2,11 @@
 use Rattle.std.proofs.Common.{◌≡◌, ℕ, ◌<◌, List, [], ◌++◌, Bool, true, false, nat_lt, Result, Ok, Err, IfOk, IsTrue, Option, Some, None, IfSome, option_map, take, drop, length, refl, sym, ap, subst, ◌∙◌, arith, inl, inr}
 use Rattle.std.proofs.lemmas.Bool.{cases_Bool, false≢true}
 use Rattle.std.proofs.lemmas.List.{take_all, length-take-le}
+use Rattle.std.proofs.lemmas.Option.{IfSome_then}
 use borrow.Author.Tests.{ltb-true, ltb-false, lt-ltb}
 use Rattle.gate_desk.specs.declared.slot.Slot.{Slot}
 use Rattle.gate_desk.specs.declared.slot.Slot.TheVariants.{Settings, LeftIn, RightIn}
+use Rattle.gate_desk.specs.declared.slot.PerSlot.{PerSlot}
 use Rattle.gate_desk.specs.declared.whole.TakeStop.{TakeStop}
 use Rattle.gate_desk.specs.declared.whole.TakeStop.TheVariants as takes
 use Rattle.gate_desk.specs.Outside.{Outside, Trace, Start, Takes, TakesFewer, AreUpTo, told_at, took}
@@ -20,9 +22,10 @@ use Rattle.settings_file.specs.Document.{keys_of}
 use Rattle.settings_file.specs.Accepting.{settings_of}
 use Rattle.gate_settings.specs.Sound.{IsSound}
 use Rattle.gate_settings.specs.Forms.{HasForms}
+use Rattle.pcap_files.specs.declared.fault.CaptureFault.{CaptureFault}
 use Rattle.pcap_merge.specs.declared.stop.MergeStop.{MergeStop}
 use Rattle.pcap_merge.specs.declared.stop.MergeStop.TheVariants as merges
-use Rattle.pcap_merge.specs.Events.{Merged, Fault as EndsFaulty}
+use Rattle.pcap_merge.specs.Events.{Merged, Ending, Done as BothEnded, Fault as EndsFaulty, have_good_heads}
 use Rattle.pcap_merge.specs.Order.{is_unread}
 use Rattle.pcap_merge.specs.Given.{HasRead, count_of_side}
 use Rattle.pcap_merge.specs.Merge.{Merging, HeadsAre, HasGiven, Reads, Begins, all_events, count_of, reading_of}
@@ -31,15 +34,34 @@ use Rattle.gate_base.specs.Events.{Event}
 use Rattle.gate_base.specs.declared.side.Side.{Side}
 use Rattle.gate_base.specs.declared.side.Side.TheVariants.{Left, Right}
 use Rattle.run_setup.specs.declared.status.Status.{Status}
-use Rattle.run_setup.specs.declared.status.Status.TheVariants.{ReadFault, OpenFault, OutOfMemory}
+use Rattle.run_setup.specs.declared.status.Status.TheVariants.{ReadFault, OpenFault, OutOfMemory, CaptureRefused}
 use Rattle.run_setup.specs.Stops.{status_of_take, status_of_settings, status_of_merge}
 use Rattle.run_setup.specs.Causes.{Causes, StartsAll, StartedBy, Stops, Opens, is_read}
 use Rattle.run_setup.specs.Beginning.{IsAccepted, IsBeforeHead, events_in, Settled, Settles, EndsAtSettings, Begun, EndsAtHeads}
 use Rattle.run_setup.proofs.Causes.{causes_since, stops_on}
 
-pub if_some : {A : Type 0} (o : Option A) (P Q : A → Type 0) → IfSome o P → ((x : A) → P x → Q x) → IfSome o Q
-if_some None P Q h f = tt
-if_some (Some x) P Q h f = f x h
+-- what is told
+pub at_told : {A : Type 0} (t : Option A) (x : A) (P : A → Type 0) → t ≡ Some x → IfSome t P → P x
+at_told t x P e h = subst (λ (o : Option _). IfSome o P) e h
+
+-- what holds as both heads are good or not
+pub told_heads : (P : Bool → Type 0) (good : Bool) (t : Trace) → HeadsAre good t → P good → IfSome t (λ all. P (have_good_heads all.left_in all.right_in))
+told_heads P good None h p = tt
+told_heads P good (Some all) h p = subst P (sym h) p
+
+-- accepted settings have no fault, and refused ones have one
+pub no_fault : (all : PerSlot (List ℕ)) (settings : GateSettings) (fault : SettingsFault) → IsAccepted settings all → settings_of all.settings ≡ Err fault → ⊥
+no_fault all settings fault a b = cc
+
+pub same_fault : (f g : SettingsFault) (all : PerSlot (List ℕ)) → settings_of all.settings ≡ Err f → settings_of all.settings ≡ Err g → f ≡ g
+same_fault f g all a b = cc
+
+-- both captures don't end where one is faulty, which has one fault
+pub no_end : (e : Ending) (side : Side) (fault : CaptureFault) (place : ℕ) → e ≡ BothEnded → e ≡ EndsFaulty side fault place → ⊥
+no_end e side fault place a b = cc
+
+pub same_end : (e : Ending) (s t : Side) (f g : CaptureFault) (n m : ℕ) → e ≡ EndsFaulty s f n → e ≡ EndsFaulty t g m → CaptureRefused s f n ≡ CaptureRefused t g m
+same_end e s t f g n m a b = cc
 
 too_long : (octets : List ℕ) → 1048576 < length octets → settings_of octets ≡ Err TooLong
 unfolding settings_of keys_of
@@ -164,7 +186,7 @@ is_read_side Right = refl
 
 pub begin_stops : (stop : MergeStop) (xs : List Start) (a b c : Outside) → StartsAll xs a b → Begins (Err stop) b c → StopLeavesCounts stop b c → EndsAtHeads (status_of_merge stop) xs a c
 begin_stops (merges.Fault side f place) xs a b c h k leaves = (
-  subst (λ t. IfSome (all_events t) (λ all. all.ending ≡ EndsFaulty side f place)) h.left (if_some (all_events b.left) _ _ k.1 (λ all e. ap (λ (x : Merged). x.ending) e)),
+  subst (λ t. IfSome (all_events t) (λ all. all.ending ≡ EndsFaulty side f place)) h.left (IfSome_then (all_events b.left) k.1 (λ all e. ap (λ (x : Merged). x.ending) e)),
   k.0.starts ∙ h.starts,
   k.0.written ∙ h.written,
   grows_on a b c h.grows k.0.grows,

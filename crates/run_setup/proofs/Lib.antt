@@ -4,4 +4,3 @@ pub mod Beginning
 pub mod Untaken
 pub mod Inputs
 pub mod Numbers
-pub mod Faults

@@ -3,8 +3,7 @@ use Rattle.std.specs.Prelude.{ℕ, List, [], ◌++◌, codes, decimal}
 use Rattle.gate_base.specs.Side.{name_of}
 use Rattle.gate_desk.specs.Slots.{name_of as slot_name}
 use Rattle.settings_file.specs.Faults.{text_of}
-use Rattle.pcap_files.specs.declared.fault.CaptureFault.{CaptureFault}
-use Rattle.pcap_files.specs.declared.fault.CaptureFault.TheVariants.{NoHead, Magic, Link, RecordTooLong, Torn, CaptureTooLong, Stamp}
+use Rattle.pcap_files.specs.Faults.{name_of as fault_name}
 use Rattle.run_setup.specs.declared.status.Status.{Status}
 use Rattle.run_setup.specs.declared.status.Status.TheVariants.{Done, Usage, SettingsRefused, CaptureRefused, ReadFault, WriteFault, OpenFault, OutOfMemory, Unlawful}
 
@@ -19,16 +18,6 @@ code_of (WriteFault slot) = 6
 code_of (OpenFault slot) = 7
 code_of OutOfMemory = 8
 code_of (Unlawful number reason) = 9
-
--- the name of a fault of a capture
-unfoldable pub fault_name : CaptureFault → List ℕ
-fault_name NoHead = codes "NoHead"
-fault_name Magic = codes "Magic"
-fault_name Link = codes "Link"
-fault_name RecordTooLong = codes "RecordTooLong"
-fault_name Torn = codes "Torn"
-fault_name CaptureTooLong = codes "CaptureTooLong"
-fault_name Stamp = codes "Stamp"
 
 -- the line on the slot of errors
 unfoldable pub error_line : Status → List ℕ

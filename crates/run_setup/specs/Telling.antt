@@ -16,4 +16,4 @@ TellsLine status old new = WritesLine (error_line status) old new
 -- the line of this status was written so, and it is the answer
 pub record Tells (status answer : Status) (old new : Outside) : Type 0 where
   pub answer_is : answer ≡ status
-  pub line : TellsLine answer old new
+  pub line : TellsLine status old new

@@ -1,6 +1,6 @@
 -- How many datagrams an event gives.
 use Rattle.std.proofs.Common.{◌≡◌, ◌≤◌, ◌<◌, ◌+◌, ◌-◌, ◌/◌, ◌^◌, ℕ, zero, suc, Bool, true, false, cond, List, length, drop, Option, Some, None, refl, sym, ap, subst, arith, length-take, length-drop}
-use Rattle.std.specs.Prelude.{IfSome, nat_lt, slice_range, if◌then◌else◌, ◌||◌}
+use Rattle.std.specs.Prelude.{IfSome, nat_lt, slice_range, if◌then◌else◌}
 use Rattle.std.proofs.Math.Nat.{div-le_self}
 use Rattle.std.proofs.lemmas.List.{length-map}
 use Rattle.std.proofs.lemmas.List.Elements.{All-filter}
@@ -13,6 +13,8 @@ use Rattle.gate_base.specs.declared.event.Pair.{Pair}
 use Rattle.gate_base.specs.declared.event.Verdict.{Verdict}
 use Rattle.gate_base.specs.declared.event.Verdict.TheVariants.{Pass, Refused, Held}
 use Rattle.gate_base.specs.declared.side.Side.{Side}
+use Rattle.gate_base.specs.declared.host.Host.{Host}
+use Rattle.gate_base.specs.declared.host.Host.TheVariants.{Client, Server}
 use Rattle.binding_table.specs.Bindings.{Bindings}
 use Rattle.ipv4_frames.specs.Ipv4.{Datagram}
 use Rattle.stream_model.specs.Session.{Sender, Session, Segment, own, other, session, due_in, start_of}
@@ -21,7 +23,6 @@ use Rattle.stream_model.specs.Steps.{pieces, limit_of, taken, acknowledged, send
 use Rattle.stream_model.specs.declared.numbers.Offset.{Offset}
 use Rattle.stream_model.proofs.Cutting.{pieces_from, pieces_are}
 use Rattle.stream_model.proofs.FactLemmas.{image_small, short_step}
-use Rattle.stream_model.proofs.SessionSent.{own_meaning, other_meaning}
 use Rattle.tcp_tracker.specs.Connections.{is_live}
 use Rattle.tcp_tracker.specs.declared.connection.Connection.{Connection}
 use Rattle.gate_model.specs.Frame.{Kind, Udp, Echo, Error, Dns, Snmp, Stream, datagram_in, kind_of}
@@ -32,9 +33,9 @@ use Rattle.gate_model.specs.Step.{out, out_by, out_kind, stream_out, taker_in}
 use Rattle.gate_model.specs.Stream.{tcp_of, segment_of, sent_as, found_in, key_in, begins, made_by, taker_by, session_refusal}
 use Rattle.gate_model.specs.Remembered.{EachTracked}
 use Rattle.gate_model.specs.Verdict.{table_after, image_in, kind_tests, verdict}
-use Rattle.gate_model.specs.World.{World, Tracked, at_moment, called, source_of, destination_of, is_client}
+use Rattle.gate_model.specs.World.{World, Tracked, at_moment, called, source_of, destination_of, host_on}
 use Rattle.gate_model.proofs.Passing.{NoneHolds, passes, stream_passes}
-use Rattle.gate_model.proofs.RememberedSessions.{meaning_lawful}
+use Rattle.gate_model.proofs.RememberedSessions.{meaning_lawful, meaning_step}
 use Rattle.gate_model.proofs.Tracking.{Keeps, all_found}
 
 -- ## What each session keeps
@@ -44,34 +45,28 @@ pub record Fit (a : Sender) : Type 0 where
   pub short : length a.octets < 2 ^ 30
 
 abbrev pub AreFit : Tracked WholeSession → Type 0
-AreFit t = (client : Bool) → Fit (own client t.session.session)
+AreFit t = (host : Host) → Fit (own host t.session.session)
 
-meaning_stays : (client from : Bool) (s : Session) (g : Segment) → (own client (session_next from s g)).meaning ≡ (own client s).meaning
-meaning_stays true true s g = own_meaning g.flags.syn g.flags.reset s.client g
-meaning_stays false false s g = own_meaning g.flags.syn g.flags.reset s.server g
-meaning_stays true false s g = other_meaning (g.flags.syn || g.flags.reset) s.client g
-meaning_stays false true s g = other_meaning (g.flags.syn || g.flags.reset) s.server g
-
-made_fit : (lists : Option Lists) (pair : Pair) (initial mss : ℕ) (client : Bool) → Fit (own client (session_made (meaning_by lists pair true) (meaning_by lists pair false) initial mss))
-made_fit lists pair initial mss true = record { lawful = meaning_lawful lists pair true; short = omega arith }
-made_fit lists pair initial mss false = record { lawful = meaning_lawful lists pair false; short = omega arith }
+made_fit : (lists : Option Lists) (pair : Pair) (initial mss : ℕ) (host : Host) → Fit (own host (session_made (meaning_by lists pair Client) (meaning_by lists pair Server) initial mss))
+made_fit lists pair initial mss Client = record { lawful = meaning_lawful lists pair Client; short = omega arith }
+made_fit lists pair initial mss Server = record { lawful = meaning_lawful lists pair Server; short = omega arith }
 
 -- the session that has learned, whatever its lists are
-abbrev learned : Option Lists → Bool → Session → Session
+abbrev learned : Option Lists → Host → Session → Session
 learned lists from s = session from (reads_by lists from (own from s)) (other from s)
 
-learned_fit : (lists : Option Lists) (client from : Bool) (s : Session) → Fit (own client s) → Fit (own client (learned lists from s))
-learned_fit None true true s h = h
-learned_fit None true false s h = h
-learned_fit None false true s h = h
-learned_fit None false false s h = h
-learned_fit (Some lists) true true s h = record { lawful = dns_units-lawful (list_of true lists); short = h.short }
-learned_fit (Some lists) false false s h = record { lawful = dns_units-lawful (list_of false lists); short = h.short }
-learned_fit (Some lists) true false s h = h
-learned_fit (Some lists) false true s h = h
+learned_fit : (lists : Option Lists) (host from : Host) (s : Session) → Fit (own host s) → Fit (own host (learned lists from s))
+learned_fit None Client Client s h = h
+learned_fit None Client Server s h = h
+learned_fit None Server Client s h = h
+learned_fit None Server Server s h = h
+learned_fit (Some lists) Client Client s h = record { lawful = dns_units-lawful (list_of Client lists); short = h.short }
+learned_fit (Some lists) Server Server s h = record { lawful = dns_units-lawful (list_of Server lists); short = h.short }
+learned_fit (Some lists) Client Server s h = h
+learned_fit (Some lists) Server Client s h = h
 
 -- the octets afterwards don't depend on how they are read
-own_short : (lists : Option Lists) (from : Bool) (a : Sender) (g : Segment) → length (own_after a g).octets < 2 ^ 30 → length (own_after (reads_by lists from a) g).octets < 2 ^ 30
+own_short : (lists : Option Lists) (from : Host) (a : Sender) (g : Segment) → length (own_after a g).octets < 2 ^ 30 → length (own_after (reads_by lists from a) g).octets < 2 ^ 30
 own_short None from a g h = h
 own_short (Some lists) from a g h = by_flags g.flags.syn g.flags.reset h
   where
@@ -81,22 +76,22 @@ own_short (Some lists) from a g h = by_flags g.flags.syn g.flags.reset h
     by_flags false true k = k
     by_flags false false k = k
 
-next_short : (lists : Option Lists) (client from : Bool) (s : Session) (g : Segment) → length (own client (session_next from s g)).octets < 2 ^ 30 → length (own client (session_next from (learned lists from s) g)).octets < 2 ^ 30
-next_short lists true true s g h = own_short lists true s.client g h
-next_short lists false false s g h = own_short lists false s.server g h
-next_short lists true false s g h = h
-next_short lists false true s g h = h
+next_short : (lists : Option Lists) (host from : Host) (s : Session) (g : Segment) → length (own host (session_next from s g)).octets < 2 ^ 30 → length (own host (session_next from (learned lists from s) g)).octets < 2 ^ 30
+next_short lists Client Client s g h = own_short lists Client s.client g h
+next_short lists Server Server s g h = own_short lists Server s.server g h
+next_short lists Client Server s g h = h
+next_short lists Server Client s g h = h
 
-next_fit : (lists : Option Lists) (from client : Bool) (s : Session) (g : Segment) → segment_refusal from s g ≡ None → Fit (own client s) → Fit (own client (session_next from (learned lists from s) g))
-next_fit lists from client s g v h = record {
-  lawful = subst (λ (m : Meaning). IsLawful m) (sym (meaning_stays client from (learned lists from s) g)) (learned_fit lists client from s h).lawful;
-  short = next_short lists client from s g (short_step client from s g v h.short);
+next_fit : (lists : Option Lists) (from host : Host) (s : Session) (g : Segment) → segment_refusal from s g ≡ None → Fit (own host s) → Fit (own host (session_next from (learned lists from s) g))
+next_fit lists from host s g v h = record {
+  lawful = subst (λ (m : Meaning). IsLawful m) (sym (meaning_step host from (learned lists from s) g)) (learned_fit lists host from s h).lawful;
+  short = next_short lists host from s g (short_step host from s g v h.short);
 }
 
 pub fit_keeps : Keeps whole_rules AreFit
 fit_keeps = record {
-  made = λ port side pair initial mss client. made_fit (lists_at port) pair initial mss client;
-  next = λ image from t g v fit h client. next_fit (whole_learned image from t.session g).lists from client t.session.session g v (h client);
+  made = λ port side pair initial mss host. made_fit (lists_at port) pair initial mss host;
+  next = λ image from t g v fit h host. next_fit (whole_learned image from t.session g).lists from host t.session.session g v (h host);
 }
 
 -- ## How many segments a session sends
@@ -136,11 +131,11 @@ sender_few a b g law short = by_flags g.flags.syn g.flags.reset short
           image_small a.meaning law (taken a g).octets,
         )
 
-session_few : (from : Bool) (s : Session) (g : Segment) → Fit (own from s) → length (own from (session_next from s g)).octets < 2 ^ 30 → length (session_out from s g) < 2 ^ 31
-session_few true s g h short = sender_few s.client s.server g h.lawful short
-session_few false s g h short = sender_few s.server s.client g h.lawful short
+session_few : (from : Host) (s : Session) (g : Segment) → Fit (own from s) → length (own from (session_next from s g)).octets < 2 ^ 30 → length (session_out from s g) < 2 ^ 31
+session_few Client s g h short = sender_few s.client s.server g h.lawful short
+session_few Server s g h short = sender_few s.server s.client g h.lawful short
 
-whole_few : (image : Addr → Option Addr) (from : Bool) (x : WholeSession) (g : Segment) → segment_refusal from x.session g ≡ None → Fit (own from x.session) → length (session_out from (whole_learned image from x g).session g) < 2 ^ 31
+whole_few : (image : Addr → Option Addr) (from : Host) (x : WholeSession) (g : Segment) → segment_refusal from x.session g ≡ None → Fit (own from x.session) → length (session_out from (whole_learned image from x g).session g) < 2 ^ 31
 whole_few image from x g v h =
     let lists = (whole_learned image from x g).lists in
     session_few from (learned lists from x.session) g (learned_fit lists from from x.session h) (next_short lists from from x.session g (short_step from from x.session g v h.short))
@@ -158,7 +153,7 @@ taker_fit table side d (Some c) h = h
 stream_few : (image : Addr → Option Addr) (side : Side) (d : Datagram) (source destination : ℕ) (t : Option (Tracked WholeSession)) → session_refusal whole_rules side d t ≡ None → IfSome t AreFit → length (stream_out whole_rules image side d source destination t) < 2 ^ 32
 stream_few image side d source destination None v h = omega arith
 stream_few image side d source destination (Some t) v h =
-    let from = is_client side t in
+    let from = host_on side t in
     omega (arith, length-map (session_out from (whole_learned image from t.session (segment_of d)).session (segment_of d)) (sent_as d source destination), whole_few image from t.session (segment_of d) v (h from))
 
 kind_few : (live : World WholeSession) (side : Side) (moment : ℕ) (d : Datagram) (kind : Kind) → (kind ≡ Stream → session_refusal whole_rules side d (taker_in whole_rules live side moment d) ≡ None) → EachTracked AreFit live.connections → length (out_kind whole_rules live side moment d kind) < 2 ^ 32

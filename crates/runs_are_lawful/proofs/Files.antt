@@ -30,6 +30,7 @@ use Rattle.gateway.specs.Machine.{State, opening, after, after_one, arrivals_by,
 use Rattle.lawful_files.specs.Wanted.{event_in, wanted_of, IsLawfulList}
 use Rattle.lawful_files.specs.Files.{Given, Lawful, HasLink, LawfulFrom, HasMacAddresses, HaveMacAddresses}
 use Rattle.lawful_files.proofs.SentLists.{own_lawful}
+use Rattle.lawful_files.proofs.Judged.{addresses_of}
 use Rattle.runs_are_lawful.specs.Outputs.{octets_to}
 use Rattle.runs_are_lawful.proofs.Spelled.{outs_of, if_to, entry_of, entries_to, packets_to, octets-append, given_octets, form_of, read_packets, IsSmallEntry, AreSmall, small-append, read_capture}
 use Rattle.runs_are_lawful.proofs.Walk.{known_of, report_from, records_of, AllFew, walked}
@@ -75,10 +76,6 @@ framed_long : (link : Link) (side : SideSettings) (d : List ℕ) → HasMacAddre
 framed_long Raw side d h short = omega (arith, short)
 framed_long Ethernet side d h short =
     omega (arith, short, h.gateway, h.next, length-append ((side.next_mac ++ side.gateway_mac) ++ big_bytes 2 0x0800) d, length-append (side.next_mac ++ side.gateway_mac) (big_bytes 2 0x0800), length-append side.next_mac side.gateway_mac)
-
-addresses_of : (settings : Settings) (side : Side) → HaveMacAddresses settings → HasMacAddresses (side_settings settings side)
-addresses_of settings Left h = h.left
-addresses_of settings Right h = h.right
 
 seconds_fit : (moment : ℕ) → moment < 2 ^ 32 * 1000000000 → moment / 1000000000 < 2 ^ 32
 seconds_fit moment early = omega (arith, early)

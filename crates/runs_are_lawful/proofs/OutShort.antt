@@ -23,10 +23,10 @@ use Rattle.gate_model.specs.Sessions.{WholeSession, whole_learned}
 use Rattle.gate_model.specs.Step.{out, out_by, out_kind, stream_out, taker_in}
 use Rattle.gate_model.specs.Stream.{segment_of, sent_as}
 use Rattle.gate_model.specs.Verdict.{table_after, image_in, verdict}
-use Rattle.gate_model.specs.World.{World, Tracked, at_moment, called, source_of, destination_of, is_client}
+use Rattle.gate_model.specs.World.{World, Tracked, at_moment, called, source_of, destination_of, host_on}
 use Rattle.gate_model.proofs.Passing.{Passes, none_head, passes}
 use Rattle.stream_model.specs.Cuts.{Sent, session_sent, ArePieces, segment_with, MaySend}
-use Rattle.lawful_files.proofs.SentLists.{AreOctets, event_options}
+use Rattle.lawful_files.proofs.SentLists.{AreOctets, event_options, limit_some}
 use Rattle.runs_are_lawful.proofs.ShortNames.{names_short}
 use Rattle.runs_are_lawful.proofs.Shorts.{IsShort, event_short, renamed_short, sent_short, error_short, rebuilt_short}
 use Rattle.stream_model.proofs.Ways.{session_limit, session_lawful}
@@ -54,21 +54,18 @@ datagrams_short : (d : Datagram) (source destination most : ℕ) (outs : List Ou
 datagrams_short d source destination most [] h few small = tt
 datagrams_short d source destination most (o ∷ outs) h few small = (sent_short d source destination o h (omega (arith, few, small.0)), datagrams_short d source destination most outs h few small.1)
 
-limit_some : (receiver : Sender) (g : Segment) → g.options ≤ 40 → 1 ≤ limit_of receiver g
-limit_some receiver g few = omega (arith, few)
-
 limit_most : (receiver : Sender) (g : Segment) → limit_of receiver g ≤ 65495
 limit_most receiver g = omega arith
 
 session_short : (image : Addr → Option Addr) (side : Side) (d : Datagram) (source destination : ℕ) (t : Tracked WholeSession) → IsShort d → (segment_of d).options ≤ 40
-    → AreShort (map (sent_as d source destination) (session_out (is_client side t) (whole_learned image (is_client side t) t.session (segment_of d)).session (segment_of d)))
+    → AreShort (map (sent_as d source destination) (session_out (host_on side t) (whole_learned image (host_on side t) t.session (segment_of d)).session (segment_of d)))
 session_short image side d source destination t h options =
-    let client = is_client side t in
+    let host = host_on side t in
     let g = segment_of d in
-    let x = (whole_learned image client t.session g).session in
-    let s = session_sent client x g in
-    datagrams_short d source destination s.limit (session_out client x g) h (omega (arith, session_limit client x g, limit_most (other client x) g))
-    (way_small s s.octets (session_out client x g) refl (session_lawful client x g (limit_some (other client x) g options)))
+    let x = (whole_learned image host t.session g).session in
+    let s = session_sent host x g in
+    datagrams_short d source destination s.limit (session_out host x g) h (omega (arith, session_limit host x g, limit_most (other host x) g))
+    (way_small s s.octets (session_out host x g) refl (session_lawful host x g (limit_some (other host x) g options)))
 
 -- ## Any event
 

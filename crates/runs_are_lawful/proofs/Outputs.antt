@@ -1,5 +1,5 @@
 -- What stands written, and the law over what a desk tells.
-use Rattle.std.proofs.Common.{◌≡◌, ℕ, Bool, true, List, [], ◌∷◌, ◌++◌, Some, refl, sym, ◌∙◌, ap, subst, append_assoc}
+use Rattle.std.proofs.Common.{◌≡◌, ℕ, true, List, [], ◌∷◌, ◌++◌, Some, refl, sym, ◌∙◌, ap, subst, append_assoc}
 use Rattle.std.specs.Prelude.{if◌then◌else◌}
 use Rattle.std.proofs.lemmas.List.{append-nil}
 use Rattle.gate_desk.specs.Outside.{wrote, told_at}
@@ -15,6 +15,7 @@ use Rattle.gateway.specs.Machine.{files}
 use Rattle.run_setup.specs.Beginning.{IsAccepted, events_in}
 use Rattle.gateway.specs.Ends.{outputs_of}
 use Rattle.gateway.specs.Pieces.{Piece, wrote_pieces}
+use Rattle.gateway.proofs.Runs.{good_outputs}
 use Rattle.runs_are_lawful.proofs.AcceptedSettings.{accepted_have}
 use Rattle.runs_are_lawful.proofs.EventsRead.{events_are_read}
 use Rattle.lawful_files.specs.Files.{LawfulFor}
@@ -33,10 +34,6 @@ stands_written (p ∷ pieces) told slot =
 
 -- ## The law
 
-outputs_are : (settings : Settings) (all : PerSlot (List ℕ)) → have_good_heads all.left_in all.right_in ≡ true → outputs_of settings all ≡ files settings (events_in all)
-unfolding outputs_of
-outputs_are settings all e = ap (λ (b : Bool). if b then files settings (events_in all) else []) e
-
 heads_good : (left right : List ℕ) → (events_of left right).ending ≡ Done → have_good_heads left right ≡ true
 unfolding events_of have_good_heads
 heads_good left right e = by_heads_of (head_of left) (head_of right) e
@@ -49,7 +46,7 @@ heads_good left right e = by_heads_of (head_of left) (head_of right) e
 pub faulty : (all : PerSlot (List ℕ)) (settings : Settings) → IsAccepted settings all → IsOctets all → have_good_heads all.left_in all.right_in ≡ true → let pieces = outputs_of settings all in OutputsFit pieces
     → LawfulFor settings (events_in all) (octets_to slots.LeftOut pieces) (octets_to slots.RightOut pieces) (octets_to slots.Report pieces)
 faulty all settings accepted octets good fit =
-    let same = outputs_are settings all good in
+    let same = good_outputs settings all good in
     let small : OutputsFit (files settings (events_in all)) = subst OutputsFit same fit in
     subst (λ (ps : List Piece). LawfulFor settings (events_in all) (octets_to slots.LeftOut ps) (octets_to slots.RightOut ps) (octets_to slots.Report ps)) (sym same)
     (files_lawful settings (events_in all) (accepted_have all.settings settings accepted) (events_are_read all.left_in all.right_in octets.left octets.right) small.left small.right)

@@ -4,20 +4,19 @@ use Rattle.std.specs.Prelude.{map, max, nat_lt, ◌==◌, ◌||◌, if◌then◌
 use Rattle.std.specs.List.{list_any}
 use Rattle.std.specs.Fmt.{digits, digits_onto, digit_glyph}
 use Rattle.std.proofs.lemmas.Bool.Decides.{nat_tests}
-use Rattle.byteorder.specs.Endian.{big_bytes}
 use Rattle.gate_base.specs.declared.address.Addr.{Addr}
 use Rattle.gate_base.specs.declared.side.Side.{Side}
 use Rattle.binding_table.specs.Bindings.{Bindings}
 use Rattle.binding_table.specs.Plan.{image_after}
 use Rattle.dns_names.specs.Names.{spelled_label, spelled}
 use Rattle.dns_names.specs.Reverse.{full_reverse, numbers, with_address}
-use Rattle.dns_names.specs.Spelling.{Start, Added, found, spell_by, spell}
 use Rattle.dns_messages.specs.declared.message.Question.{Question}
 use Rattle.dns_messages.specs.declared.message.Message.{Message}
 use Rattle.dns_messages.specs.Reading.{message_at}
 use Rattle.dns_messages.specs.Relation.{QuestionsAt}
-use Rattle.dns_messages.specs.Writing.{questions_written, spelling}
+use Rattle.dns_messages.specs.Writing.{spelling}
 use Rattle.dns_messages.proofs.Exact.{message-is}
+use Rattle.dns_gateway.proofs.Cutting.{cut-within}
 use Rattle.dns_gateway.specs.Replies.{cut, reply_of}
 use Rattle.dns_gateway.specs.Renaming.{name_to, image_of, question_renamed, message_renamed}
 use Rattle.ipv4_frames.specs.Ipv4.{Datagram}
@@ -82,29 +81,6 @@ name_short (Some image) labels = address_short image.0 labels
 
 -- ## Messages that are cut
 
-spell_by_long : (o : Option ℕ) (place : ℕ) (l whole : List ℕ) (rest : Added) (n : ℕ) → length rest.octets ≤ n + 1 → length (Added.octets (spell_by o place l whole rest)) ≤ 1 + length l + n + 1
-spell_by_long None place l whole rest n le = omega (arith, length-append l rest.octets)
-spell_by_long (Some to) place l whole rest n le = omega arith
-
-spell_long : (starts : List Start) (place : ℕ) (ls : List (List ℕ)) → length (Added.octets (spell starts place ls)) ≤ length (spelled ls) + 1
-unfolding spell
-spell_long starts place [] = omega arith
-spell_long starts place (l ∷ ls) =
-    let h = spell_by_long (found starts (spelled (l ∷ ls))) place l (spelled (l ∷ ls)) (spell starts (place + 1 + length l) ls) (length (spelled ls)) (spell_long starts (place + 1 + length l) ls) in
-    omega (arith, h, length-append l (spelled ls))
-
-question_long : (q : Option Question) (starts : List Start) (place n : ℕ) → IfSome q (λ q. length (spelled q.name) ≤ n) → length (Added.octets (questions_written q starts place)) ≤ n + 5
-question_long None starts place n ok = omega arith
-question_long (Some q) starts place n ok =
-    let name = spell starts place q.name in
-    omega (arith, spell_long starts place q.name, ok, length-append name.octets (big_bytes 2 q.kind ++ big_bytes 2 q.class))
-
-cut_long : (m : Message) (n : ℕ) → IfSome m.question (λ q. length (spelled q.name) ≤ n) → length (spelling (cut m)) ≤ n + 17
-unfolding spelling
-cut_long m n ok =
-    let q = questions_written m.question [] 12 in
-    omega (arith, question_long m.question [] 12 n ok, length-append q.octets [])
-
 question_small : (images : List (Option Addr)) (q : Option Question) → IfSome q (λ q. length (spelled q.name) ≤ 254) → IfSome (question_renamed images q) (λ q. length (spelled q.name) ≤ 514)
 question_small images None h = tt
 question_small images (Some q) h = omega (arith, h, name_short (image_of (full_reverse q.name) images 0) q.name)
@@ -131,7 +107,7 @@ names_long images octets (Some m) e few = by_images (list_any is_some images)
     by_images : (some : Bool) → length (if some then reply_of (message_renamed images m) (length octets) else octets) ≤ 66000
     by_images false = omega (arith, few)
     by_images true =
-        let short = cut_long (message_renamed images m) 514 (question_small images m.question (message_small octets m e)) in
+        let short = cut-within (message_renamed images m) 514 (question_small images m.question (message_small octets m e)) in
         reply_long (message_renamed images m) (length octets) (omega (arith, short))
 
 pub names_short : (table after : Bindings) (side : Side) (d : Datagram) → length d.payload ≤ 65535 → length (names_after table after side d) ≤ 66000

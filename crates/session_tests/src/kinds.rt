@@ -1,6 +1,6 @@
 // Sessions before their first segment.
 use dns_plans::{Session, UnitOctets};
-use gate_base::{Addr, OutOfMemory, Pair, Refusal};
+use gate_base::{Addr, Host, OutOfMemory, Pair, Refusal};
 use gate_sessions::AnySession;
 use std::alloc::Global;
 use std::test::Fail;
@@ -33,15 +33,15 @@ fn judged(
 ) -> Result<(Option<Refusal>, usize, usize), OutOfMemory> {
     let session = AnySession::opened(alloc, port, PAIR, 1000, 1460)?;
     let mut octets = UnitOctets::new(alloc)?;
-    let verdict = session.refusal(true, segment);
+    let verdict = session.refusal(Host::Client, segment);
     match verdict {
-        None => session.put_octets(true, segment, &mut octets),
+        None => session.put_octets(Host::Client, segment, &mut octets),
         Some(_) => {}
     }
     Ok((
         verdict,
         octets.octets().len(),
-        session.listed(true) + session.listed(false),
+        session.listed(Host::Client) + session.listed(Host::Server),
     ))
 }
 
@@ -61,6 +61,6 @@ fn sessions_begin(rt: HostRuntime) -> Result<(), Fail> {
     assert!(rt; judged(alloc, 53, &question).ok() == Some((unknown, 0, 0)));
     assert!(rt; judged(alloc, 21, &question).ok() == Some((unknown, 0, 0)));
     let session = AnySession::opened(alloc, 53, PAIR, 1000, 1460)?;
-    assert!(rt; session.pending() == 0 && session.inner(true, 1000) == Some(1000));
+    assert!(rt; session.pending() == 0 && session.inner(Host::Client, 1000) == Some(1000));
     Ok(())
 }

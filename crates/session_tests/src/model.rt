@@ -1,4 +1,4 @@
-use gate_base::Refusal;
+use gate_base::{Host, Refusal};
 use std::test::Fail;
 use stream_model::{
     Arrival, Extent, Offset, number_after, number_at, place_acknowledged, place_near, refusal,
@@ -56,7 +56,7 @@ fn segments_are_judged(rt: HostRuntime) -> Result<(), Fail> {
         flags: ACK,
         count: 0,
     };
-    assert!(rt; refusal(false, SERVER, CLIENT, acknowledging, false) == None);
+    assert!(rt; refusal(Host::Server, SERVER, CLIENT, acknowledging, false) == None);
     assert!(rt; place_acknowledged(CLIENT, acknowledging) == 21);
     assert!(rt;
         start_at(SERVER, acknowledging)
@@ -69,6 +69,6 @@ fn segments_are_judged(rt: HostRuntime) -> Result<(), Fail> {
         acknowledgement: 1023,
         ..acknowledging
     };
-    assert!(rt; refusal(false, SERVER, CLIENT, ahead, false) == Some(Refusal::AckAhead));
+    assert!(rt; refusal(Host::Server, SERVER, CLIENT, ahead, false) == Some(Refusal::AckAhead));
     Ok(())
 }

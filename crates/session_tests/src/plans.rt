@@ -9,7 +9,7 @@ use dialogue::UnitImage;
 use dns_plans::{Endpoints, Entry, PlanStop, Sender, Session, UnitOctets, UnitPlan, plan_units};
 use dns_stream::RenameList;
 use expiring_table::Seed;
-use gate_base::{Addr, OutOfMemory, Refusal, Side};
+use gate_base::{Addr, Host, OutOfMemory, Refusal, Side};
 use settings_file::read_settings;
 use std::alloc::Global;
 use std::marker::Model;
@@ -101,27 +101,27 @@ impl Session for OneList {
       pending = λ _. 0;
     } };
 
-    fn refusal(&self, _from_client: bool, _segment: &TcpView<'_>) -> Option<Refusal> {
+    fn refusal(&self, _from: Host, _segment: &TcpView<'_>) -> Option<Refusal> {
         None
     }
 
-    fn inner(&self, _from_client: bool, _sequence: u32) -> Option<u32> {
+    fn inner(&self, _host: Host, _sequence: u32) -> Option<u32> {
         None
     }
 
-    fn listed(&self, _client: bool) -> usize {
+    fn listed(&self, _host: Host) -> usize {
         self.list.len()
     }
 
-    fn entry(&self, _client: bool, place: usize) -> Entry {
+    fn entry(&self, _host: Host, place: usize) -> Entry {
         self.list.entry(place)
     }
 
-    fn image_of(&self, _client: bool, address: Addr) -> Option<Option<Addr>> {
+    fn image_of(&self, _host: Host, address: Addr) -> Option<Option<Addr>> {
         self.list.image_of(address)
     }
 
-    fn put_octets(&self, _from_client: bool, _segment: &TcpView<'_>, octets: &mut UnitOctets) {
+    fn put_octets(&self, _from: Host, _segment: &TcpView<'_>, octets: &mut UnitOctets) {
         octets.clear();
     }
 }
@@ -153,7 +153,7 @@ fn planned(
     }
     let sender = Sender {
         session: &session_with(alloc, table, entries)?,
-        is_client: true,
+        host: Host::Client,
     };
     plan_units(alloc, table, seen_addresses, &ENDPOINTS, &sender, octets)
 }

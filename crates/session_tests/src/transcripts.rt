@@ -6,11 +6,11 @@ use audit_streams::{Sent, WholeStreams};
 use dialogue::Dialogue;
 use dns_stream::DnsUnits;
 use ftp_lines::{ClientLines, ServerLines};
-use gate_base::{Addr, Pair, Refusal};
+use gate_base::{Addr, Host, Pair, Refusal};
 use ipv4_frames::IpView;
 use std::alloc::Global;
 use std::test::Fail;
-use tcp_segments::{TcpView, put_segment};
+use tcp_segments::{SegmentFields, TcpView, put_segment};
 
 const PAIR: Pair = Pair {
     client: Addr(0x0a00_0005),
@@ -193,24 +193,21 @@ fn frame_of(alloc: Global, mss: &str, segment: &Segment) -> Result<Vec<u8>, Fail
         return Err(Fail::from("too many octets"));
     }
     let mut frame = vec![in alloc; 0u8; 20 + (tcp.len() + count)]?;
-    put_segment(
-        &mut frame,
-        IP,
-        tcp,
-        Addr(0x0a00_0005),
-        Addr(0xc0a8_c801),
-        64,
-        segment.sequence,
-        segment.acknowledgement,
-        segment.flags,
-        &segment.octets,
-    );
+    let fields = SegmentFields {
+        source: Addr(0x0a00_0005),
+        destination: Addr(0xc0a8_c801),
+        lifetime: 64,
+        sequence: segment.sequence,
+        acknowledgement: segment.acknowledgement,
+        flags: segment.flags,
+    };
+    put_segment(&mut frame, IP, tcp, fields, &segment.octets);
     Ok(frame)
 }
 
 fn take<C: Dialogue, S: Dialogue>(
     session: &mut WholeStreams<C, S>,
-    from_client: bool,
+    from: Host,
     frame: &[u8],
 ) -> Result<Taken, Fail> {
     let mut repeated = 0;
@@ -219,10 +216,10 @@ fn take<C: Dialogue, S: Dialogue>(
     if let Ok(ip) = IpView::of(frame)
         && let Ok(tcp) = TcpView::of(ip.payload(), ip.source(), ip.destination())
     {
-        repeated = session.repeated(from_client, &tcp);
-        match session.refusal(from_client, &tcp) {
+        repeated = session.repeated(from, &tcp);
+        match session.refusal(from, &tcp) {
             Some(found) => refusal = Some(found),
-            None => sent = Some(session.step(from_client, &tcp)?),
+            None => sent = Some(session.step(from, &tcp)?),
         }
     }
     Ok(Taken {
@@ -268,6 +265,14 @@ fn is_wanted(alloc: Global, taken: &Taken, wanted: &'static str) -> Result<bool,
     }
 }
 
+fn host_named(name: &str) -> Option<Host> {
+    match name {
+        "client" => Some(Host::Client),
+        "server" => Some(Host::Server),
+        _ => None,
+    }
+}
+
 fn run_row<C: Dialogue, S: Dialogue>(
     alloc: Global,
     session: &mut WholeStreams<C, S>,
@@ -275,10 +280,11 @@ fn run_row<C: Dialogue, S: Dialogue>(
 ) -> Result<(), Fail> {
     if let Some((came, wanted)) = row.split_once(" = ")
         && let Some((sender, text)) = came.split_once(' ')
+        && let Some(from) = host_named(sender)
     {
         let segment = read_segment(alloc, text)?;
         let frame = frame_of(alloc, "-", &segment)?;
-        let taken = take(session, sender == "client", &frame)?;
+        let taken = take(session, from, &frame)?;
         if is_wanted(alloc, &taken, wanted)? {
             return Ok(());
         }
@@ -294,10 +300,10 @@ fn shake<C: Dialogue, S: Dialogue>(
 ) -> Result<(), Fail> {
     let syn = read_segment(alloc, "5000 1001 18 -")?;
     let frame = frame_of(alloc, mss, &syn)?;
-    let _server = take(session, false, &frame)?;
+    let _server = take(session, Host::Server, &frame)?;
     let ack = read_segment(alloc, "1001 5001 16 -")?;
     let frame = frame_of(alloc, "-", &ack)?;
-    let _client = take(session, true, &frame)?;
+    let _client = take(session, Host::Client, &frame)?;
     Ok(())
 }
 
@@ -342,22 +348,22 @@ fn begin_names(alloc: Global) -> Result<Names, Fail>
     ))
 }
 
-fn learn_one(session: &mut Names, from_client: bool, entry: (Addr, Option<Addr>))
+fn learn_one(session: &mut Names, host: Host, entry: (Addr, Option<Addr>))
     requires client { session.old.client ≡ unheard (Some 1000) 1460 }
     requires server { session.old.server ≡ unheard None 536 }
     ensures client { session.new.client ≡ unheard (Some 1000) 1460 }
     ensures server { session.new.server ≡ unheard None 536 }
 {
     let (address, image) = entry;
-    if session.image_of(from_client, address).is_none() && session.listed(from_client) < 256 {
-        session.learn(from_client, address, image);
+    if session.image_of(host, address).is_none() && session.listed(host) < 256 {
+        session.learn(host, address, image);
     }
 }
 
 fn begin_learned(alloc: Global) -> Result<Names, Fail> {
     let mut session = begin_names(alloc)?;
-    learn_one(&mut session, false, OF_SERVER);
-    learn_one(&mut session, true, OF_CLIENT);
+    learn_one(&mut session, Host::Server, OF_SERVER);
+    learn_one(&mut session, Host::Client, OF_CLIENT);
     Ok(session)
 }
 
@@ -375,11 +381,11 @@ fn run_session(alloc: Global, session: &'static str) -> Result<(), Fail> {
 
 /// Whether each list has the one entry that it has learned.
 fn is_learned(session: &Names) -> bool {
-    session.listed(true) == 1
-        && session.listed(false) == 1
-        && session.image_of(true, OF_CLIENT.0) == Some(OF_CLIENT.1)
-        && session.image_of(false, OF_CLIENT.0).is_none()
-        && session.entry(false, 0) == OF_SERVER
+    session.listed(Host::Client) == 1
+        && session.listed(Host::Server) == 1
+        && session.image_of(Host::Client, OF_CLIENT.0) == Some(OF_CLIENT.1)
+        && session.image_of(Host::Server, OF_CLIENT.0).is_none()
+        && session.entry(Host::Server, 0) == OF_SERVER
 }
 
 /// A changed line that is open, and behind it a rest that is held.
@@ -392,8 +398,8 @@ fn tells_what_is_open(alloc: Global) -> Result<bool, Fail> {
     run_rows(alloc, &mut session, OPEN)?;
     Ok(
         session.pending() == 1
-            && session.inner(true, 1010) == Some(1001)
-            && session.rest(true) == b"PORT".as_slice(),
+            && session.inner(Host::Client, 1010) == Some(1001)
+            && session.rest(Host::Client) == b"PORT".as_slice(),
     )
 }
 

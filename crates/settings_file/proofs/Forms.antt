@@ -26,7 +26,7 @@ use Rattle.gate_base.specs.declared.side.Side.TheVariants.{Left, Right}
 
 -- ## Texts
 
-bind : {A B : Type 0} (P : B → Type 0) (o : Option A) (f : A → Option B) → ((x : A) → IfSome (f x) P) → IfSome (addresses.◌>>=◌ o f) P
+pub bind : {A B : Type 0} (P : B → Type 0) (o : Option A) (f : A → Option B) → ((x : A) → IfSome (f x) P) → IfSome (addresses.◌>>=◌ o f) P
 bind P None f h = tt
 bind P (Some x) f h = h x
 
@@ -63,15 +63,15 @@ found : {A : Type 0} (P : A → Type 0) (o : Option A) (fault : SettingsFault) �
 found P None fault h = tt
 found P (Some x) fault h = h
 
-given : {A B : Type 0} (Q : A → Type 0) (P : B → Type 0) (first : Found A) (f : A → Found B) → IfOk first Q → ((x : A) → Q x → IfOk (f x) P) → IfOk (first >>= f) P
+pub given : {A B : Type 0} (Q : A → Type 0) (P : B → Type 0) (first : Found A) (f : A → Found B) → IfOk first Q → ((x : A) → Q x → IfOk (f x) P) → IfOk (first >>= f) P
 given Q P (Ok x) f q h = h x q
 given Q P (Err e) f q h = tt
 
-after : {A B : Type 0} (P : B → Type 0) (first : Found A) (f : A → Found B) → ((x : A) → IfOk (f x) P) → IfOk (first >>= f) P
+pub after : {A B : Type 0} (P : B → Type 0) (first : Found A) (f : A → Found B) → ((x : A) → IfOk (f x) P) → IfOk (first >>= f) P
 after P (Ok x) f h = h x
 after P (Err e) f h = tt
 
-spelled : {A : Type 0} (P : A → Type 0) (spell : List ℕ → Option A) (fault : Key → SettingsFault) → ((text : List ℕ) → IfSome (spell text) P) → (key : Key) (value : Data) → IfOk (document.spelled spell fault key value) P
+pub spelled : {A : Type 0} (P : A → Type 0) (spell : List ℕ → Option A) (fault : Key → SettingsFault) → ((text : List ℕ) → IfSome (spell text) P) → (key : Key) (value : Data) → IfOk (document.spelled spell fault key value) P
 spelled P spell fault h key value = after P (document.text key value) (λ words. ok_or (spell words) (fault key)) (λ words. found P (spell words) (fault key) (h words))
 
 address : (key : Key) (value : Data) → IfOk (document.address key value) IsUnicast
@@ -103,7 +103,7 @@ skip key value = found IsFew _ _ (from (as_integer value))
 needed : {A : Type 0} (P : A → Type 0) (read : Key → Data → Found A) → ((key : Key) (value : Data) → IfOk (read key value) P) → (key : Key) (table : Members) → IfOk (document.needed read key table) P
 needed P read h key table = after P _ (read key) (h key)
 
-optional : {A : Type 0} (P : A → Type 0) (read : Key → Data → Found A) (default : A) → P default → ((key : Key) (value : Data) → IfOk (read key value) P) → (key : Key) (members : Members) → IfOk (document.optional read default key members) P
+pub optional : {A : Type 0} (P : A → Type 0) (read : Key → Data → Found A) (default : A) → P default → ((key : Key) (value : Data) → IfOk (read key value) P) → (key : Key) (members : Members) → IfOk (document.optional read default key members) P
 optional P read default base h key members = from (get_member (name_of key) members)
   where
     from : (o : Option Data) → IfOk (document.read_or (read key) default o) P

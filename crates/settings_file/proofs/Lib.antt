@@ -5,3 +5,4 @@ pub mod Sound
 pub mod Forms
 pub mod Accepted
 mod Repeated
+pub mod Names

@@ -1,5 +1,5 @@
 -- Settings without a fault fit one another.
-use Rattle.std.proofs.Common.{◌≡◌, ℕ, ◌+◌, ◌<◌, Bool, false, List, [], ◌∷◌, ◌++◌, length, get_or, Option, Some, None, option_map, refl, arith, All, inl, inr, nat_lt, append_assoc}
+use Rattle.std.proofs.Common.{◌≡◌, ℕ, ◌+◌, ◌<◌, Bool, false, List, [], ◌∷◌, ◌++◌, length, get_or, Option, Some, None, refl, arith, All, inl, inr, nat_lt, append_assoc}
 use Rattle.std.proofs.lemmas.Bool.{cases_Bool}
 use Rattle.std.proofs.lemmas.List.{append-nil}
 use Rattle.std.proofs.lemmas.List.Folds.{list_any_at}
@@ -10,6 +10,7 @@ use Rattle.std.specs.Option.{option_or}
 use Rattle.std.specs.List.{AllByRecursion, fold, AllPairs, list_any, position, position_or_len}
 use Rattle.gate_base.specs.declared.side.Side.{Side}
 use Rattle.gate_base.specs.declared.side.Side.TheVariants.{Left, Right}
+use Rattle.gate_base.proofs.Options.{none_mapped}
 use Rattle.settings_file.specs.declared.fault.SettingsFault.{SettingsFault}
 use Rattle.settings_file.specs.declared.fault.SettingsFault.TheVariants.{PoolSize, SameInPool, HostInPool, StaticOutsidePool}
 use Rattle.gate_settings.specs.declared.settings.Fixed.{Fixed}
@@ -32,10 +33,6 @@ no_side test fault h Right =
       | inl holds ↦ cc (rw holds at h)
       | inr fails ↦ elim (cases_Bool (test Right)) [ inl holds ↦ cc (rw (fails, holds) at h) | inr other ↦ other ]
     ]
-
-none_mapped : {A B : Type 0} (f : A → B) (o : Option A) → option_map f o ≡ None → o ≡ None
-none_mapped f None h = refl
-none_mapped f (Some x) h = cc
 
 no_place : (test : Fixed → Bool) (statics : List Fixed) → position test statics ≡ None → All (λ fixed. test fixed ≡ false) statics
 no_place test statics h k d within =

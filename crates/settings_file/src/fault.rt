@@ -1,12 +1,17 @@
 // What is wrong with a settings document.
-ghost use Rattle.std.specs.Prelude.{◌≡◌, IfOk};
+ghost use Rattle.std.specs.Prelude.{◌≡◌, ◌+◌, ◌≤◌, ◌++◌, decimal, length};
 ghost use Rattle.settings_file.specs.Faults.{text_of};
 ghost use Rattle.settings_file.specs.declared.fault.ReadSettings.TheVariants.{Fault, OutOfMemory as memory};
 
 use crate::key::Key;
+use arrayvec::ArrayString;
 use gate_base::{OutOfMemory, Side};
-use std::alloc::{AllocError, AllocFailed, Global};
+use itoa::Buffer;
+use std::alloc::{AllocError, AllocFailed};
 use std::fmt;
+
+/// Room for the text of a fault.
+pub type FaultText = ArrayString<75>;
 
 /// What is wrong with a settings document. This is the order of testing, but that `Missing`, `Kind` and `BadAddress`
 /// are tested together, key by key in the order of `Key`. Where a fault names a realm the left one is tested first, and
@@ -78,48 +83,55 @@ impl<T: Drop> From<AllocFailed<T>> for ReadSettings {
     }
 }
 
+// Two texts, one behind the other.
+fn joined(label: &str, text: &str) -> FaultText
+    requires { length label.now + length text.now ≤ 75 }
+    ensures { result.bytes ≡ label.now ++ text.now }
+{
+    let mut joined = FaultText::new();
+    joined.push_str(label);
+    joined.push_str(text);
+    joined
+}
+
+// A text, and behind it a number.
+fn numbered(label: &str, number: u32) -> FaultText
+    requires { length label.now ≤ 25 }
+    ensures { result.bytes ≡ label.now ++ decimal number }
+{
+    joined(label, Buffer::new().format(number))
+}
+
+impl SettingsFault {
+    /// The fault's name, and where it has one a space and its key, realm or static, as `Missing left.pool_first`.
+    #[tactic(auto, unfolding(crate::specs::Faults::text_of), using(crate::proofs::Names::side_short))]
+    pub fn text(self) -> FaultText
+        ensures { result.bytes ≡ text_of self }
+    {
+        match self {
+            SettingsFault::TooLong => joined("", "TooLong"),
+            SettingsFault::NotToml => joined("", "NotToml"),
+            SettingsFault::Missing(key) => joined("Missing ", key.text().as_str()),
+            SettingsFault::Kind(key) => joined("Kind ", key.text().as_str()),
+            SettingsFault::BadAddress(key) => joined("BadAddress ", key.text().as_str()),
+            SettingsFault::PoolSize(side) => joined("PoolSize ", side.name()),
+            SettingsFault::SameInPool(side) => joined("SameInPool ", side.name()),
+            SettingsFault::HostInPool(number) => numbered("HostInPool static.", number),
+            SettingsFault::StaticOutsidePool(number) => {
+                numbered("StaticOutsidePool static.", number)
+            }
+            SettingsFault::StaticRepeated(number) => numbered("StaticRepeated static.", number),
+            SettingsFault::MacMissing(side) => joined("MacMissing ", side.name()),
+        }
+    }
+}
+
 impl fmt::Display for SettingsFault {
     ghost use Rattle.std.specs.Prelude.{Some};
 
     ghost output = { λ fault. Some (text_of fault) };
 
-    #[tactic(auto, unfolding(crate::specs::Faults::text_of))]
     fn fmt<W: fmt::Write>(&self, f: &mut fmt::Formatter<W>) -> fmt::Result {
-        match self {
-            SettingsFault::TooLong => write!(f, "TooLong"),
-            SettingsFault::NotToml => write!(f, "NotToml"),
-            SettingsFault::Missing(key) => write!(f, "Missing {key}"),
-            SettingsFault::Kind(key) => write!(f, "Kind {key}"),
-            SettingsFault::BadAddress(key) => write!(f, "BadAddress {key}"),
-            SettingsFault::PoolSize(side) => {
-                let side = side.name();
-                write!(f, "PoolSize {side}")
-            }
-            SettingsFault::SameInPool(side) => {
-                let side = side.name();
-                write!(f, "SameInPool {side}")
-            }
-            SettingsFault::HostInPool(number) => write!(f, "HostInPool static.{number}"),
-            SettingsFault::StaticOutsidePool(number) => write!(
-                f,
-                "StaticOutsidePool static.{number}"
-            ),
-            SettingsFault::StaticRepeated(number) => write!(f, "StaticRepeated static.{number}"),
-            SettingsFault::MacMissing(side) => {
-                let side = side.name();
-                write!(f, "MacMissing {side}")
-            }
-        }
-    }
-}
-
-/// The text of a fault, as `Missing left.pool_first`: its name, and where it has one a space and its key, realm or
-/// static. The error means that memory ran out.
-pub fn fault_text(alloc: Global, fault: &SettingsFault) -> Result<Vec<u8>, OutOfMemory>
-    ensures { IfOk result (λ text. text.items ≡ text_of fault.now) }
-{
-    match format!(in alloc; "{fault}") {
-        Ok(text) => Ok(text.into_bytes()),
-        Err(_) => Err(OutOfMemory),
+        f.pad(self.text().as_str())
     }
 }

@@ -1,9 +1,14 @@
 // The keys of a settings document.
-ghost use Rattle.std.specs.Prelude.{◌≡◌};
-ghost use Rattle.settings_file.specs.Keys.{name_of};
+ghost use Rattle.std.specs.Prelude.{◌≡◌, ◌+◌, ◌≤◌, ◌++◌, length};
+ghost use Rattle.settings_file.specs.Keys.{key_text, name_of};
 
+use arrayvec::ArrayString;
 use gate_base::Side;
+use itoa::Buffer;
 use std::fmt;
+
+/// Room for a key from the top of the document.
+pub type KeyText = ArrayString<60>;
 
 /// A key of the settings document. Entries of `static` and of `oid` are numbered from 1.
 #[derive(Clone, Copy)]
@@ -44,9 +49,10 @@ pub enum Key {
 
 impl Key {
     /// The key as it stands in its own table.
-    #[tactic(auto, unfolding(crate::specs::Keys::name_of))]
+    #[tactic(auto, unfolding(crate::specs::Keys::name_of), using(crate::proofs::Names::side_short))]
     pub fn name(self) -> &'static str
-        ensures { result.now ≡ name_of self }
+        ensures name { result.now ≡ name_of self }
+        ensures short { length result.now ≤ 11 }
     {
         match self {
             Key::Report => "report",
@@ -67,33 +73,50 @@ impl Key {
             Key::OidSkip(_) => "skip",
         }
     }
-}
 
-impl fmt::Display for Key {
-    ghost use Rattle.std.specs.Prelude.{Some};
-    ghost use Rattle.settings_file.specs.Keys.{key_text};
-
-    ghost output = { λ key. Some (key_text key) };
-
-    #[tactic(auto, unfolding(crate::specs::Keys::key_text, crate::specs::Keys::name_of))]
-    fn fmt<W: fmt::Write>(&self, f: &mut fmt::Formatter<W>) -> fmt::Result {
-        let name = self.name();
+    /// The key as it stands from the top of the document.
+    #[tactic(auto, unfolding(crate::specs::Keys::key_text), using(crate::proofs::Names::side_short))]
+    pub fn text(self) -> KeyText
+        ensures { result.bytes ≡ key_text self }
+    {
         match self {
             Key::Report | Key::Fragments | Key::Same | Key::Table(_) | Key::Statics | Key::Oids => {
-                write!(f, "{name}")
+                self.behind("", "", "")
             }
             Key::PoolFirst(side)
             | Key::PoolLast(side)
             | Key::Link(side)
             | Key::GatewayMac(side)
-            | Key::NextMac(side) => {
-                let side = side.name();
-                write!(f, "{side}.{name}")
-            }
+            | Key::NextMac(side) => self.behind("", side.name(), "."),
             Key::StaticSide(number) | Key::StaticHost(number) | Key::StaticAlias(number) => {
-                write!(f, "static.{number}.{name}")
+                self.behind("static.", Buffer::new().format(number), ".")
             }
-            Key::OidPrefix(number) | Key::OidSkip(number) => write!(f, "oid.{number}.{name}"),
+            Key::OidPrefix(number) | Key::OidSkip(number) => {
+                self.behind("oid.", Buffer::new().format(number), ".")
+            }
         }
+    }
+
+    // The key's own name behind three texts.
+    fn behind(self, first: &str, second: &str, third: &str) -> KeyText
+        requires { length first.now + length second.now + length third.now ≤ 49 }
+        ensures { result.bytes ≡ first.now ++ second.now ++ third.now ++ name_of self }
+    {
+        let mut text = KeyText::new();
+        text.push_str(first);
+        text.push_str(second);
+        text.push_str(third);
+        text.push_str(self.name());
+        text
+    }
+}
+
+impl fmt::Display for Key {
+    ghost use Rattle.std.specs.Prelude.{Some};
+
+    ghost output = { λ key. Some (key_text key) };
+
+    fn fmt<W: fmt::Write>(&self, f: &mut fmt::Formatter<W>) -> fmt::Result {
+        f.pad(self.text().as_str())
     }
 }

@@ -3,20 +3,18 @@ use Rattle.std.proofs.Common.{◌≡◌, ◌≤◌, ◌+◌, ◌-◌, ℕ, true,
 use Rattle.std.specs.Prelude.{nat_lt, Some, None, slice_index}
 use Rattle.std.proofs.lemmas.List.FromFn.{get_or-map-range_with_len, length-map-range_with_len}
 use Rattle.std.proofs.lemmas.Bool.{cases_lt, lt-ltb, le-ltb}
+use Rattle.std.proofs.lemmas.Option.{same_Some}
 use Rattle.dialogue.specs.Places.{Push}
 use Rattle.shift_ledger.specs.Answers.{octet_walk, copied_by}
 use Rattle.shift_ledger.specs.Kept.{KeptUnit, Kept, StandsFor, fore_of, back_of}
 use Rattle.shift_ledger.specs.Sources.{Source, Sent, Written, resolve, copied}
 use Rattle.shift_ledger.proofs.SourceWalk.{source_walk, source_walk-none, source_walk-before, source_walk-in, source_walk-after, sent_before, sent_before-is, sent_before-none, source_walk-kept, source_at, copied_is}
 
-some_is : (x y : Source) → Some x ≡ Some y → x ≡ y
-some_is x y e = cc
-
 sent_resolves : (n before start : ℕ) (octets : List ℕ) (x : Source) → sent_before n before ≡ Some x → slice_index octets (n - before - start) ≡ resolve start octets x
 sent_resolves n before start octets x e =
     elim (cases_lt n before) [
       | inl past ↦ absurd (let none : None ≡ Some x = sym (sent_before-none n before past) ∙ e in cc)
-      | inr within ↦ ap (resolve start octets) (some_is (Sent (n - before)) x (sym (sent_before-is n before within) ∙ e))
+      | inr within ↦ ap (resolve start octets) (same_Some (Sent (n - before)) x (sym (sent_before-is n before within) ∙ e))
     ]
 
 octet_resolves : (us : List KeptUnit) (i o start : ℕ) (octets : List ℕ) (q : ℕ) (x : Source) → source_walk us i o q ≡ Some x → octet_walk us i o start octets q ≡ resolve start octets x
@@ -32,7 +30,7 @@ octet_resolves (u ∷ us) i o start octets q x e =
           elim (cases_lt q (u.at + length u.image)) [
             | inl inside ↦
                 let s : nat_lt q (u.at + length u.image) ≡ true = lt-ltb q (u.at + length u.image) inside in
-                rw (t, s) (ap (resolve start octets) (some_is (Written (get_or u.image (q - u.at) 0)) x (sym (source_walk-in u us i o q from inside) ∙ e)))
+                rw (t, s) (ap (resolve start octets) (same_Some (Written (get_or u.image (q - u.at) 0)) x (sym (source_walk-in u us i o q from inside) ∙ e)))
             | inr after ↦
                 let s : nat_lt q (u.at + length u.image) ≡ false = le-ltb q (u.at + length u.image) after in
                 rw (t, s) (octet_resolves us i o start octets q x (sym (source_walk-after u us i o q after) ∙ e))

@@ -1,13 +1,11 @@
 -- What an element's first octets decide.
-use Rattle.std.proofs.Common.{◌≡◌, ℕ, zero, suc, ◌+◌, ◌-◌, ◌<◌, ◌≤◌, true, ◌&&◌, nat_lt, nat_le, List, [], ◌∷◌, get_or, take, drop, length, Option, Some, None, option_and_then, unwrap_or, inl, inr, refl, ap, ◌∙◌, sym, arith, length-drop}
+use Rattle.std.proofs.Common.{◌≡◌, ℕ, zero, suc, ◌+◌, ◌-◌, ◌<◌, ◌≤◌, true, ◌&&◌, nat_lt, nat_le, List, [], ◌∷◌, get_or, take, drop, length, Option, Some, None, option_and_then, inl, inr, refl, ap, ◌∙◌, sym, arith, length-drop}
 use Rattle.std.proofs.lemmas.Bool.{cases_Bool}
 use Rattle.std.proofs.lemmas.Bool.Decides.{nat_tests}
+use Rattle.std.proofs.lemmas.Option.{same_Some}
 use Rattle.std.proofs.lemmas.List.{length-take-le}
 use Rattle.byteorder.specs.Endian.{big_from}
 use Rattle.snmp_gateway.specs.Element.{Element, is_long_form, length_at, element_with, element_at}
-
-pub some_same : {A : Type 0} (x y : A) → Some x ≡ Some y → x ≡ y
-some_same x y e = ap (λ o. unwrap_or o x) e
 
 pub record Sized (tag count : ℕ) (octets : List ℕ) (element : Element) (rest : List ℕ) : Type 0 where
   pub tag_is : element.tag ≡ tag
@@ -17,7 +15,7 @@ pub record Sized (tag count : ℕ) (octets : List ℕ) (element : Element) (rest
 with_size : (tag count : ℕ) (octets : List ℕ) (element : Element) (rest : List ℕ) → element_with tag count octets ≡ Some (element, rest) → Sized tag count octets element rest
 with_size tag count octets element rest e = elim (cases_Bool (nat_le count (length octets))) [
   | inl fits ↦ (
-      let found = some_same _ _ (rw fits at e) in
+      let found = same_Some _ _ (rw fits at e) in
       let content = sym (ap (λ p. p.0.content) found) in
       let behind = sym (ap (λ p. p.1) found) in
       let within : count ≤ length octets = grind (arith, nat_tests) in
@@ -46,14 +44,14 @@ pub record Again (first count : ℕ) (more new behind : List ℕ) : Type 0 where
 length_again : (first count : ℕ) (more new behind : List ℕ) → length_at (first ∷ more) ≡ Some (count, behind) → length new ≡ length more → ((k : ℕ) → k < length more - length behind → get_or new k 0 ≡ get_or more k 0) → Again first count more new behind
 length_again first count more new behind e size same = elim (cases_Bool (nat_lt first 128)) [
   | inl short ↦ (
-      let found = some_same _ _ (rw short at e) in
+      let found = same_Some _ _ (rw short at e) in
       let number = ap (λ p. p.0) found in
       let is = ap (λ p. p.1) found in
       record { rest = new; found = rw short (ap (λ n. Some (n, new)) number); size = size ∙ ap length is; within = omega (arith, ap length is) }
       )
   | inr long ↦ elim (cases_Bool (is_long_form first && nat_le (first - 128) (length more))) [
     | inl fits ↦ (
-        let found = some_same _ _ (rw (long, fits) at e) in
+        let found = same_Some _ _ (rw (long, fits) at e) in
         let number = ap (λ p. p.0) found in
         let is = ap (λ p. p.1) found in
         let within : first - 128 ≤ length more = grind (arith, nat_tests) in

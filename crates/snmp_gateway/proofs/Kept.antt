@@ -1,12 +1,13 @@
 -- What a message keeps where an address in it is replaced.
 use Rattle.std.proofs.Common.{◌≡◌, ℕ, zero, suc, ◌+◌, ◌-◌, ◌<◌, ◌≤◌, ◌==◌, ◌⊎◌, Bool, true, false, ◌&&◌, nat_le, List, [], ◌∷◌, ◌++◌, get_or, take, drop, length, Option, Some, None, option_map, option_to_list, unwrap_or, inl, inr, refl, ap, subst, ◌∙◌, sym, arith, length-drop, length-append, if◌then◌else◌}
 use Rattle.std.proofs.lemmas.Bool.Decides.{nat_tests}
+use Rattle.std.proofs.lemmas.Option.{same_Some}
 use Rattle.std.proofs.lemmas.List.{length-take-le, get_or-take, get_or-drop, get_or_append_left, get_or-append_right}
 use Rattle.gate_base.specs.Address.{◌>>=◌}
 use Rattle.gate_base.specs.Fields.{u32_at, with_u32}
 use Rattle.byteorder.specs.Endian.{big_bytes}
 use Rattle.snmp_gateway.specs.Element.{element_at}
-use Rattle.snmp_gateway.proofs.Elements.{some_same, element_room, element_alike}
+use Rattle.snmp_gateway.proofs.Elements.{element_room, element_alike}
 use Rattle.snmp_gateway.specs.declared.message.SnmpKind.{SnmpKind}
 use Rattle.snmp_gateway.specs.declared.part.Part.{Part}
 use Rattle.snmp_gateway.specs.declared.part.Piece.{Piece}
@@ -227,7 +228,7 @@ reads_by octets f kind part places true is e = Ends is e
 reads_by octets f kind part places false is e =
     let found = bound (binding octets kind part) _ places e in
     let more = bound (bindings_within f octets kind found.value.1) _ places found.then_is in
-    Goes is found.value more.value found.is more.is (some_same _ _ more.then_is)
+    Goes is found.value more.value found.is more.is (same_Some _ _ more.then_is)
 
 pub bindings_read : (octets : List ℕ) (f : ℕ) (kind : SnmpKind) (part : Part) (places : List ℕ) → bindings_within (suc f) octets kind part ≡ Some places → Reads octets f kind part places
 unfolding bindings_within
@@ -249,7 +250,7 @@ unfolding bindings_within
 none_among place octets kind part places e among = none_by (part.start == part.end) e
   where
     none_by : (test : Bool) → (if test then Some [] else None) ≡ Some places → ⊥
-    none_by true is = subst (IsAmong place) (sym (some_same _ _ is)) among
+    none_by true is = subst (IsAmong place) (sym (same_Some _ _ is)) among
     none_by false is = cc
 
 follows_by : (place : ℕ) (octets : List ℕ) (kind : SnmpKind) (part : Part) (found : Option ℕ × Part) (more : List ℕ) → binding octets kind part ≡ Some found → (IsAmong place more → (found.1.start ≤ place) × (place + 4 ≤ length octets)) → IsAmong place (option_to_list found.0 ++ more) → (part.start ≤ place) × (place + 4 ≤ length octets)
@@ -264,7 +265,7 @@ follows_by place octets kind part found more is on among =
 pub place_follows : (place : ℕ) (octets : List ℕ) (f : ℕ) (kind : SnmpKind) (part : Part) (places : List ℕ) → bindings_within f octets kind part ≡ Some places → IsAmong place places → (part.start ≤ place) × (place + 4 ≤ length octets)
 place_follows place octets zero kind part places e among = absurd (none_among place octets kind part places e among)
 place_follows place octets (suc f) kind part places e among = elim (bindings_read octets f kind part places e) [
-  | Ends test is ↦ absurd (subst (IsAmong place) (sym (some_same _ _ is)) among)
+  | Ends test is ↦ absurd (subst (IsAmong place) (sym (same_Some _ _ is)) among)
   | Goes test found more is next all ↦ follows_by place octets kind part found more is (λ later. place_follows place octets f kind found.1 more next later) (subst (IsAmong place) (sym all) among)
 ]
 
@@ -301,7 +302,7 @@ pub request_opens : (octets : List ℕ) (part : Part) (found : Option ℕ × Par
 request_opens octets part found e =
     let rest = bound (skip octets (integer ∷ integer ∷ integer ∷ []) part) _ found e in
     let follows = skip_follows octets (integer ∷ integer ∷ integer ∷ []) part rest.value rest.is in
-    let same = some_same _ _ rest.then_is in
+    let same = same_Some _ _ rest.then_is in
     record {
       start = omega (arith, follows.start, ap (λ (f : Option ℕ × Part). f.1.start) same);
       end = sym (ap (λ (f : Option ℕ × Part). f.1.end) same) ∙ follows.end;
@@ -311,7 +312,7 @@ request_opens octets part found e =
 pub request_same : (place : ℕ) (old new : List ℕ) → Differs place old new → (part : Part) (found : Option ℕ × Part) → request old part ≡ Some found → (found.0 ≡ Some place) ⊎ (found.1.start ≤ place) → request new part ≡ Some found
 request_same place old new differs part found e clear =
     let rest = bound (skip old (integer ∷ integer ∷ integer ∷ []) part) _ found e in
-    let same = some_same _ _ rest.then_is in
+    let same = same_Some _ _ rest.then_is in
     let none : found.0 ≡ Some place → rest.value.start ≤ place = λ is. let wrong = ap (λ (f : Option ℕ × Part). f.0) same ∙ is in absurd cc in
     let behind : found.1.start ≤ place → rest.value.start ≤ place = λ h. omega (arith, h, ap (λ (f : Option ℕ × Part). f.1.start) same) in
     let here : rest.value.start ≤ place = elim clear [ inl is ↦ none is | inr h ↦ behind h ] in
@@ -339,7 +340,7 @@ trap_read octets part found e =
       agent_is = agent.is;
       rest = rest.value;
       rest_is = rest.is;
-      found_is = sym (some_same _ _ rest.then_is);
+      found_is = sym (same_Some _ _ rest.then_is);
     }
 
 trap_made : (octets : List ℕ) (part : Part) (found : Option ℕ × Part) → ReadsTrap octets part found → trap octets part ≡ Some found
@@ -367,7 +368,7 @@ trap_opens octets part found e =
       start = omega (arith, before.start, cut.head, cut.content, cut.next, follows.start, start);
       end = ap (λ (f : Option ℕ × Part). f.1.end) read.found_is ∙ follows.end ∙ cut.end ∙ before.end;
       inside = λ place is.
-          let agent = some_same _ _ (sym (ap (λ (f : Option ℕ × Part). f.0) read.found_is) ∙ is) in
+          let agent = same_Some _ _ (sym (ap (λ (f : Option ℕ × Part). f.0) read.found_is) ∙ is) in
           (omega (arith, agent, before.start, cut.head), omega (arith, agent, size, cut.next, follows.start, start));
     }
 
@@ -378,7 +379,7 @@ trap_same place old new differs part found e clear =
     let size = agent_size old read.before read.agent read.agent_is in
     let follows = skip_follows old (integer ∷ integer ∷ time_ticks ∷ []) read.agent.rest read.rest read.rest_is in
     let start = ap (λ (f : Option ℕ × Part). f.1.start) read.found_is in
-    let address : found.0 ≡ Some place → read.agent.content.start ≡ place = λ is. some_same _ _ (sym (ap (λ (f : Option ℕ × Part). f.0) read.found_is) ∙ is) in
+    let address : found.0 ≡ Some place → read.agent.content.start ≡ place = λ is. same_Some _ _ (sym (ap (λ (f : Option ℕ × Part). f.0) read.found_is) ∙ is) in
     let head : read.agent.content.start ≤ place = elim clear [ inl is ↦ omega (arith, address is) | inr h ↦ omega (arith, h, start, follows.start, cut.next, cut.content) ] in
     let behind : (read.rest.start ≤ place) ⊎ (place + 4 ≤ read.agent.rest.start) = elim clear [ inl is ↦ inr (omega (arith, address is, size, cut.next)) | inr h ↦ inl (omega (arith, h, start)) ] in
     trap_made new part found (record {

@@ -2,19 +2,17 @@
 use Rattle.std.proofs.Common.{◌≡◌, ℕ, zero, suc, ◌+◌, ◌-◌, ◌<◌, ◌≤◌, ◌==◌, Bool, true, false, List, [], ◌∷◌, ◌++◌, get_or, take, drop, length, Option, Some, None, option_map, option_to_list, refl, ap, ◌∙◌, sym, arith, length-drop, drop-cons, add-one, if◌then◌else◌}
 use Rattle.std.proofs.lemmas.Bool.{eqb-true}
 use Rattle.std.proofs.lemmas.Bool.Decides.{nat_tests}
+use Rattle.std.proofs.lemmas.Option.{same_Some}
 use Rattle.std.proofs.lemmas.List.{length-take-le, drop_all}
 use Rattle.gate_base.specs.Address.{◌>>=◌}
 use Rattle.snmp_gateway.specs.Element.{Element, element_at}
-use Rattle.snmp_gateway.proofs.Elements.{some_same, element_room}
+use Rattle.snmp_gateway.proofs.Elements.{element_room}
 use Rattle.snmp_gateway.specs.declared.message.SnmpKind.{SnmpKind}
 use Rattle.snmp_gateway.specs.declared.part.Part.{Part}
 use Rattle.snmp_gateway.specs.declared.part.Piece.{Piece}
 use Rattle.snmp_gateway.specs.Parts.{object_identifier, ip_address, sequence, has_right_size, octets_in, piece_of, first_of, field, skip, only}
 use Rattle.snmp_gateway.specs.declared.outline.Outline.{Outline}
 use Rattle.snmp_gateway.specs.Message.{binding, bindings_within, bindings, outline_of, places_ahead, message, kind_of}
-
-pub differ : (a b : ℕ) → (a ≡ b → ⊥) → (a == b) ≡ false
-differ a b apart = grind (arith, nat_tests)
 
 -- the step that a chain of steps took first
 pub record Bound {A B : Type 0} (o : Option A) (f : A → Option B) (r : B) : Type 0 where
@@ -31,7 +29,7 @@ pub record Tested {A : Type 0} (test : Bool) (x y : A) : Type 0 where
   pub same : x ≡ y
 
 pub tested : {A : Type 0} (test : Bool) (x y : A) → (if test then Some x else None) ≡ Some y → Tested test x y
-tested true x y e = record { holds = refl; same = some_same x y e }
+tested true x y e = record { holds = refl; same = same_Some x y e }
 tested false x y e = cc
 
 -- how an element was read
@@ -139,7 +137,7 @@ pub record Follows (part rest : Part) : Type 0 where
 
 pub skip_follows : (octets tags : List ℕ) (part rest : Part) → skip octets tags part ≡ Some rest → Follows part rest
 unfolding skip
-skip_follows octets [] part rest e = let same = some_same _ _ e in record { start = omega (arith, ap (λ (p : Part). p.start) same); end = sym (ap (λ (p : Part). p.end) same) }
+skip_follows octets [] part rest e = let same = same_Some _ _ e in record { start = omega (arith, ap (λ (p : Part). p.start) same); end = sym (ap (λ (p : Part). p.end) same) }
 skip_follows octets (tag ∷ tags) part rest e =
     let piece = bound (field octets tag part) _ rest e in
     let cut = field_cut octets tag part piece.value piece.is in

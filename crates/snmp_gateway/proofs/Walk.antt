@@ -1,7 +1,7 @@
 -- The walk over the addresses of a message.
-use Rattle.std.proofs.Common.{◌≡◌, ℕ, ◌-◌, ◌≤◌, Bool, true, false, List, [], ◌∷◌, ◌++◌, length, Option, Some, None, option_map, option_to_list, unwrap_or, is_some, IsSome, inr, refl, ap, subst, ◌∙◌, sym, arith, append-nil, if◌then◌else◌}
+use Rattle.std.proofs.Common.{◌≡◌, ℕ, ◌-◌, ◌≤◌, Bool, true, false, List, [], ◌∷◌, ◌++◌, length, Option, Some, None, option_map, option_to_list, unwrap_or, IsSome, inr, refl, ap, subst, ◌∙◌, sym, arith, append-nil, if◌then◌else◌}
+use Rattle.std.proofs.lemmas.Option.{same_Some}
 use Rattle.gate_base.specs.Address.{◌>>=◌}
-use Rattle.snmp_gateway.proofs.Elements.{some_same}
 use Rattle.snmp_gateway.specs.declared.message.SnmpKind.{SnmpKind}
 use Rattle.snmp_gateway.specs.declared.outline.Outline.{Outline}
 use Rattle.snmp_gateway.specs.declared.part.Part.{Part}
@@ -25,10 +25,6 @@ none_first : (first : Option ℕ) (o : Option (List ℕ)) → first ≡ None →
 none_first None None e = refl
 none_first None (Some places) e = refl
 none_first (Some place) o e = absurd cc
-
-pub no_some : (o : Option ℕ) → is_some o ≡ false → o ≡ None
-no_some None e = refl
-no_some (Some x) e = absurd cc
 
 pub walks_next : (octets : List ℕ) (old now : Outline) (found : Option ℕ × Part) → Walks octets old now → binding octets now.kind now.bindings ≡ Some found → found.0 ≡ None → Walks octets old (record { kind = now.kind; agent = now.agent; bindings = found.1 })
 walks_next octets old now found walks e none =
@@ -126,7 +122,7 @@ lists_first octets before outline e some = record {
 
 -- what is ahead where all is read: nothing
 end_of : {A : Type 0} (f : List ℕ → A) (test : Bool) (o : Option (List ℕ)) (all : A) → option_map f o ≡ Some all → o ≡ (if test then Some [] else None) → f [] ≡ all
-end_of f true o all is e = some_same _ _ (sym (ap (option_map f) e) ∙ is)
+end_of f true o all is e = same_Some _ _ (sym (ap (option_map f) e) ∙ is)
 end_of f false o all is e = (let wrong = sym (ap (option_map f) e) ∙ is in absurd cc)
 
 pub lists_last : (octets before items : List ℕ) (old new : Outline) → Lists octets before items old → places_ahead octets old ≡ option_map (λ more. [] ++ more) (places_ahead octets new) → places_ahead octets new ≡ (if is_at_end new then Some [] else None) → items ≡ before ++ places_of octets
@@ -174,7 +170,7 @@ renames_next image start now old new place renames ahead stands passes =
         ∙ sym (ap (option_map (λ places. renamed image places now)) (ahead ∙ ap (option_map (λ more. (place ∷ []) ++ more)) is))
         ∙ renames.all
 
-none_renamed : (image : ℕ → Option ℕ) (octets : List ℕ) → renamed image [] octets ≡ octets
+pub none_renamed : (image : ℕ → Option ℕ) (octets : List ℕ) → renamed image [] octets ≡ octets
 unfolding renamed
 none_renamed image octets = refl
 

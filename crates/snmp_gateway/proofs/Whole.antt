@@ -1,8 +1,8 @@
 -- The whole message, and its addresses one after another.
 use Rattle.std.proofs.Common.{◌≡◌, ℕ, zero, suc, ◌+◌, ◌-◌, ◌≤◌, ◌==◌, ◌⊎◌, Bool, true, false, List, [], ◌∷◌, ◌++◌, slice_index, length, Option, Some, None, option_map, option_to_list, unwrap_or, IsSome, inl, inr, refl, ap, subst, ◌∙◌, sym, arith, if◌then◌else◌}
 use Rattle.std.proofs.lemmas.Bool.{cases_Bool, eqb-true}
+use Rattle.std.proofs.lemmas.Option.{same_Some}
 use Rattle.gate_base.specs.Address.{◌>>=◌}
-use Rattle.snmp_gateway.proofs.Elements.{some_same}
 use Rattle.snmp_gateway.specs.declared.part.Part.{Part}
 use Rattle.snmp_gateway.specs.declared.part.Piece.{Piece}
 use Rattle.snmp_gateway.specs.declared.outline.Outline.{Outline}
@@ -14,7 +14,7 @@ use Rattle.snmp_gateway.specs.Renaming.{renamed_at, renamed}
 use Rattle.snmp_gateway.proofs.Reading.{bound, first_cut, field_cut, skip_follows, only_first, binding_leaves}
 use Rattle.snmp_gateway.proofs.Kept.{Differs, renamed_differs, IsAmong, among_either, none_among, Ends, Goes, bindings_read, place_follows, bindings_same, Opens, request_opens, request_same, trap_opens, trap_same, sequence_fills, sequence_same, field_same, skip_same, only_same}
 
-tested_first : {A : Type 0} (test : Bool) (o : Option A) (x : A) → (if test then o else None) ≡ Some x → (test ≡ true) × (o ≡ Some x)
+pub tested_first : {A : Type 0} (test : Bool) (o : Option A) (x : A) → (if test then o else None) ≡ Some x → (test ≡ true) × (o ≡ Some x)
 tested_first true o x e = (refl, e)
 tested_first false o x e = absurd cc
 
@@ -55,7 +55,7 @@ community_read octets kind part outline e =
     let piece = bound (only octets rest.value) _ outline rest.then_is in
     let found = bound (pdu octets kind piece.value) _ outline piece.then_is in
     let sequence = bound (in_sequence octets found.value.1) _ outline found.then_is in
-    let same = some_same _ _ sequence.then_is in
+    let same = same_Some _ _ sequence.then_is in
     record {
       rest = rest.value;
       rest_is = rest.is;
@@ -127,7 +127,7 @@ by_version_stands octets version part outline within e = elim (cases_Bool (versi
     | inl is ↦ community_stands octets V2 part outline (community_read octets V2 part outline (rw (other, is) at e))
     | inr more ↦ elim (cases_Bool (version == 3)) [
       | inl is ↦ (
-          let same = some_same _ _ (rw (other, more, is) at e) in
+          let same = same_Some _ _ (rw (other, more, is) at e) in
           let start = ap (λ (o : Outline). o.bindings.start) same in
           let end = ap (λ (o : Outline). o.bindings.end) same in
           record {
@@ -228,7 +228,7 @@ message_read octets found e =
       outline_is = outline.is;
       places = places.value;
       bindings_are = places.is;
-      found_is = ap (λ (ps : List ℕ). (outline.value.kind, ps)) (some_same _ _ places.then_is) ∙ some_same _ _ all.then_is;
+      found_is = ap (λ (ps : List ℕ). (outline.value.kind, ps)) (same_Some _ _ places.then_is) ∙ same_Some _ _ all.then_is;
     }
 
 message_made : (octets : List ℕ) (found : SnmpKind × List ℕ) → ReadsMessage octets found → message octets ≡ Some found
@@ -322,7 +322,7 @@ bindings_apart : (octets : List ℕ) (f : ℕ) (kind : SnmpKind) (part : Part) (
 bindings_apart octets zero kind part [] within e = within
 bindings_apart octets zero kind part (place ∷ places) within e = absurd (none_among place octets kind part (place ∷ places) e (inl refl))
 bindings_apart octets (suc f) kind part places within e = elim (bindings_read octets f kind part places e) [
-  | Ends test is ↦ subst (λ (ps : List ℕ). AreApart part.start ps (length octets)) (some_same _ _ is) within
+  | Ends test is ↦ subst (λ (ps : List ℕ). AreApart part.start ps (length octets)) (same_Some _ _ is) within
   | Goes test found more is next all ↦ (
       let leaves = binding_leaves octets kind part found is in
       subst (λ (ps : List ℕ). AreApart part.start ps (length octets)) all (

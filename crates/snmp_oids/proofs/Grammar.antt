@@ -2,7 +2,7 @@
 use Rattle.std.proofs.Common.{◌≡◌, ℕ, ◌+◌, ◌-◌, ◌==◌, ◌&&◌, not, Bool, true, false, if◌then◌else◌, List, [], ◌∷◌, ◌++◌, take, drop, length, Option, Some, None, option_map, option_and_then, unwrap_or, refl, ap, sym, subst, ◌∙◌, arith, append_assoc, length-append, inl, inr}
 use Rattle.std.proofs.lemmas.Bool.{cases_Bool, eqb-true}
 use Rattle.std.proofs.lemmas.Bool.Decides.{nat_tests}
-use Rattle.std.proofs.lemmas.List.{take_at, drop_at}
+use Rattle.std.proofs.lemmas.List.{take_at, drop_at, nil_from_length}
 use Rattle.gate_base.specs.Address.{◌>>=◌}
 use Rattle.snmp_gateway.specs.Element.{Element, element_at}
 use Rattle.snmp_gateway.specs.Parts.{object_identifier, ip_address, has_right_size, octets_in, first_of}
@@ -184,15 +184,11 @@ node_in image ps qs octets part xs piece r is content rest =
     rest
 
 -- nothing is left
-no_octets : (xs : List ℕ) → length xs ≡ 0 → xs ≡ []
-no_octets [] none = refl
-no_octets (x ∷ xs) none = absurd (omega arith)
-
 empty_kept : (image : ℕ → Option ℕ) → elements_renamed image [] [] ≡ []
 unfolding element_at
 empty_kept image = elements_end image [] [] refl
 
 pub claim_none : (image : ℕ → Option ℕ) (part : Part) (xs : List ℕ) → length xs ≡ 0 → Claim image [] part xs
 claim_none image part xs none =
-    let is = no_octets xs none in
+    let is = nil_from_length xs none in
     swaps_at image [] [] part.start [] xs [] (elements_renamed image [] xs) refl (sym is) (sym (empty_kept image) ∙ ap (elements_renamed image []) (sym is)) (swaps_none image part.start [])

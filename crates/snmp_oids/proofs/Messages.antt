@@ -1,30 +1,20 @@
 -- What a message of the versions 1 and 2c becomes with no rule.
-use Rattle.std.proofs.Common.{◌≡◌, ℕ, zero, suc, ◌-◌, ◌/◌, ◌%◌, ◌≤◌, ◌==◌, ◌&&◌, ◌||◌, not, Bool, true, false, nat_le, if◌then◌else◌, List, [], ◌∷◌, ◌++◌, slice_index, length, Option, Some, None, IsSome, option_map, option_to_list, unwrap_or, refl, ap, sym, subst, ◌∙◌, arith, append-nil, inl, inr, ◌⊎◌, lit≤}
+use Rattle.std.proofs.Common.{◌≡◌, ℕ, zero, suc, ◌-◌, ◌/◌, ◌%◌, ◌≤◌, ◌==◌, ◌&&◌, ◌||◌, not, Bool, true, false, nat_le, if◌then◌else◌, List, [], ◌∷◌, ◌++◌, slice_index, length, Option, Some, None, IsSome, option_map, option_to_list, unwrap_or, refl, ap, sym, subst, ◌∙◌, arith, append-nil, inl, inr, lit≤}
 use Rattle.std.specs.List.{list_all, list_any}
-use Rattle.std.proofs.lemmas.Bool.{eqb-true}
+use Rattle.std.proofs.lemmas.Bool.{eqb-true, and_parts, or_cases, not-true}
 use Rattle.std.proofs.lemmas.Bool.Decides.{nat_tests}
+use Rattle.std.proofs.lemmas.Option.{same_Some}
 use Rattle.gate_base.specs.Address.{◌>>=◌}
-use Rattle.snmp_gateway.proofs.Elements.{some_same}
 use Rattle.snmp_gateway.specs.declared.message.SnmpKind.{SnmpKind}
 use Rattle.snmp_gateway.specs.declared.message.SnmpKind.TheVariants.{V1, V2, V3}
 use Rattle.snmp_gateway.specs.Parts.{integer, octet_string, object_identifier, sequence, ip_address, time_ticks, counter_64, no_such_object, no_such_instance, first_of, field, skip, only, in_sequence}
 use Rattle.snmp_gateway.specs.Message.{common_value_tags, is_common_value_tag, is_value_tag, address_in, binding, bindings_within, bindings, request, trap, trap_tag, is_pdu_tag, pdu, with_community, by_version, outline_of, places_ahead, message, kind_of, places_of}
 use Rattle.snmp_gateway.specs.Renaming.{renamed}
 use Rattle.snmp_gateway.proofs.Reading.{bound, tested, only_first}
+use Rattle.snmp_gateway.proofs.Walk.{none_renamed}
+use Rattle.snmp_gateway.proofs.Whole.{tested_first}
 use Rattle.snmp_oids.specs.Elements.{is_constructed, elements_renamed, by_kind, oid_renamed}
 use Rattle.snmp_oids.proofs.Grammar.{Part, Piece, Outline, At, Claim, Reads, reads, node_kept, node_address, node_in, claim_none, is_kept}
-
-both_first : (a b : Bool) → (a && b) ≡ true → a ≡ true
-both_first true b e = refl
-both_first false b e = e
-
-both_second : (a b : Bool) → (a && b) ≡ true → b ≡ true
-both_second true b e = e
-both_second false b e = cc
-
-not_true : (b : Bool) → not b ≡ true → b ≡ false
-not_true true e = cc
-not_true false e = refl
 
 neither : (a b : Bool) → a ≡ false → b ≡ false → (not a && not b) ≡ true
 neither true b one two = cc
@@ -51,21 +41,22 @@ record Skips (octets : List ℕ) (part rest : Part) (xs : List ℕ) : Type 0 whe
 skips : (octets tags : List ℕ) (part rest : Part) (xs : List ℕ) → list_all is_kept tags ≡ true → At octets part xs → skip octets tags part ≡ Some rest → Skips octets part rest xs
 unfolding skip
 skips octets [] part rest xs kept at e =
-    let same = some_same _ _ e in
+    let same = same_Some _ _ e in
     record {
       left = xs;
       left_at = subst (λ (p : Part). At octets p xs) same at;
       goes = λ image ps claim. subst (λ (p : Part). Claim image ps p xs) (sym same) claim;
     }
 skips octets (tag ∷ tags) part rest xs kept at e =
+    let both = and_parts (is_kept tag) (list_all is_kept tags) kept in
     let piece = bound (field octets tag part) _ rest e in
     let found = field_is octets tag part piece.value piece.is in
     let r = reads octets part xs piece.value at found.first in
-    let more = skips octets tags piece.value.rest rest r.rest (both_second (is_kept tag) _ kept) r.rest_at piece.then_is in
+    let more = skips octets tags piece.value.rest rest r.rest both.1 r.rest_at piece.then_is in
     record {
       left = more.left;
       left_at = more.left_at;
-      goes = λ image ps claim. node_kept image ps octets part xs piece.value r (ap is_kept found.tag_is ∙ both_first (is_kept tag) _ kept) (more.goes image ps claim);
+      goes = λ image ps claim. node_kept image ps octets part xs piece.value r (ap is_kept found.tag_is ∙ both.0) (more.goes image ps claim);
     }
 
 -- the only element of a part
@@ -79,28 +70,26 @@ alone octets part xs piece at e =
     let r = reads octets part xs piece at first.0 in
     record { r = r; behind = λ image. claim_none image piece.rest r.rest (omega (arith, first.1, r.rest_at.end_is)) }
 
-either_tag : (a b : Bool) → (a || b) ≡ true → (a ≡ true) ⊎ (b ≡ true)
-either_tag true b e = inl refl
-either_tag false b e = inr e
-
 plain_at : (tag known : ℕ) → (known == tag) ≡ true → is_constructed known ≡ false → is_constructed tag ≡ false
 plain_at tag known is plain = ap is_constructed (sym (eqb-true _ _ is)) ∙ plain
 
 plain_among : (tag : ℕ) (tags : List ℕ) → list_all (λ known. not (is_constructed known)) tags ≡ true → list_any (λ known. known == tag) tags ≡ true → is_constructed tag ≡ false
 plain_among tag [] plain is = cc
-plain_among tag (known ∷ tags) plain is = elim (either_tag (known == tag) _ is) [
-  | inl same ↦ plain_at tag known same (not_true _ (both_first (not (is_constructed known)) _ plain))
-  | inr among ↦ plain_among tag tags (both_second (not (is_constructed known)) _ plain) among
-]
+plain_among tag (known ∷ tags) plain is =
+    let both = and_parts (not (is_constructed known)) (list_all (λ known. not (is_constructed known)) tags) plain in
+    elim (or_cases (known == tag) _ is) [
+      | inl same ↦ plain_at tag known same (not-true _ both.0)
+      | inr among ↦ plain_among tag tags both.1 among
+    ]
 
 value_plain : (kind : SnmpKind) (tag : ℕ) → is_value_tag kind tag ≡ true → is_constructed tag ≡ false
 value_plain V1 tag is = plain_among tag common_value_tags refl is
-value_plain V2 tag is = elim (either_tag (is_common_value_tag tag) _ is) [
+value_plain V2 tag is = elim (or_cases (is_common_value_tag tag) _ is) [
   | inl common ↦ plain_among tag common_value_tags refl common
-  | inr other ↦ elim (either_tag (tag == counter_64) _ other) [
+  | inr other ↦ elim (or_cases (tag == counter_64) _ other) [
     | inl counter ↦ ap is_constructed (eqb-true _ _ counter)
-    | inr exception ↦ elim (either_tag (tag == no_such_object || tag == no_such_instance) _ exception) [
-      | inl none ↦ elim (either_tag (tag == no_such_object) _ none) [
+    | inr exception ↦ elim (or_cases (tag == no_such_object || tag == no_such_instance) _ exception) [
+      | inl none ↦ elim (or_cases (tag == no_such_object) _ none) [
         | inl object ↦ ap is_constructed (eqb-true _ _ object)
         | inr instance ↦ ap is_constructed (eqb-true _ _ instance)
       ]
@@ -112,8 +101,8 @@ value_plain V3 tag is = cc
 
 in_range : (tag low high : ℕ) → (nat_le low tag && nat_le tag high) ≡ true → 160 ≤ low → high ≤ 168 → is_constructed tag ≡ true
 in_range tag low high is above below =
-    let low_is : nat_le low tag ≡ true = both_first (nat_le low tag) (nat_le tag high) is in
-    let high_is : nat_le tag high ≡ true = both_second (nat_le low tag) (nat_le tag high) is in
+    let low_is : nat_le low tag ≡ true = (and_parts (nat_le low tag) (nat_le tag high) is).0 in
+    let high_is : nat_le tag high ≡ true = (and_parts (nat_le low tag) (nat_le tag high) is).1 in
     let least : low ≤ tag = grind (arith, nat_tests) in
     let most : tag ≤ high = grind (arith, nat_tests) in
     let five : tag / 32 ≡ 5 = omega arith in
@@ -121,7 +110,7 @@ in_range tag low high is above below =
 
 pdu_constructed : (kind : SnmpKind) (tag : ℕ) → is_pdu_tag kind tag ≡ true → is_constructed tag ≡ true
 pdu_constructed V1 tag is = in_range tag 160 164 is (lit≤ tt) (lit≤ tt)
-pdu_constructed V2 tag is = elim (either_tag (nat_le 0xA0 tag && nat_le tag 0xA3) _ is) [
+pdu_constructed V2 tag is = elim (or_cases (nat_le 0xA0 tag && nat_le tag 0xA3) _ is) [
   | inl early ↦ in_range tag 160 163 early (lit≤ tt) (lit≤ tt)
   | inr late ↦ in_range tag 165 168 late (lit≤ tt) (lit≤ tt)
 ]
@@ -173,17 +162,17 @@ unfolding bindings_within
 binding_claims zero octets kind part xs places at e image = by_test (part.start == part.end) refl e
   where
     by_test : (b : Bool) → (part.start == part.end) ≡ b → (if b then Some [] else None) ≡ Some places → Claim image places part xs
-    by_test true end e = no_more octets part xs places at end image (some_same _ _ e)
+    by_test true end e = no_more octets part xs places at end image (same_Some _ _ e)
     by_test false goes e = cc
 binding_claims (suc most) octets kind part xs places at e image = by_test (λ rest left more left_at is. binding_claims most octets kind rest left more left_at is image) (part.start == part.end) refl e
   where
     by_test : ((rest : Part) (left more : List ℕ) → At octets rest left → bindings_within most octets kind rest ≡ Some more → Claim image more rest left) → (b : Bool) → (part.start == part.end) ≡ b → (if b then Some [] else (binding octets kind part >>= λ found. bindings_within most octets kind found.1 >>= λ more. Some (option_to_list found.0 ++ more))) ≡ Some places → Claim image places part xs
-    by_test later true end e = no_more octets part xs places at end image (some_same _ _ e)
+    by_test later true end e = no_more octets part xs places at end image (same_Some _ _ e)
     by_test later false goes e =
         let found = bound (binding octets kind part) _ places e in
         let more = bound (bindings_within most octets kind found.value.1) _ places found.then_is in
         let b = binds octets kind part xs found.value at found.is in
-        subst (λ (ps : List ℕ). Claim image ps part xs) (some_same _ _ more.then_is)
+        subst (λ (ps : List ℕ). Claim image ps part xs) (same_Some _ _ more.then_is)
         (b.goes image more.value (later found.value.1 b.left more.value b.left_at more.is))
 
 -- the fields of a PDU before its bindings
@@ -191,7 +180,7 @@ request_binds : (octets : List ℕ) (part : Part) (xs : List ℕ) (found : Optio
 request_binds octets part xs found at e =
     let rest = bound (skip octets (integer ∷ integer ∷ integer ∷ []) part) _ found e in
     let skipped = skips octets (integer ∷ integer ∷ integer ∷ []) part rest.value xs refl at rest.is in
-    let same = some_same _ _ rest.then_is in
+    let same = same_Some _ _ rest.then_is in
     subst (λ (f : Option ℕ × Part). Binds octets part f.0 f.1 xs) same (record { left = skipped.left; left_at = skipped.left_at; goes = skipped.goes })
 
 trap_binds : (octets : List ℕ) (part : Part) (xs : List ℕ) (found : Option ℕ × Part) → At octets part xs → trap octets part ≡ Some found → Binds octets part found.0 found.1 xs
@@ -203,7 +192,7 @@ trap_binds octets part xs found at e =
     let found_agent = field_is octets ip_address enterprise.value agent.value agent.is in
     let r = reads octets enterprise.value first.left agent.value first.left_at found_agent.first in
     let last = skips octets (integer ∷ integer ∷ time_ticks ∷ []) agent.value.rest rest.value r.rest refl r.rest_at rest.is in
-    let same = some_same _ _ rest.then_is in
+    let same = same_Some _ _ rest.then_is in
     subst (λ (f : Option ℕ × Part). Binds octets part f.0 f.1 xs) same (record {
       left = last.left;
       left_at = last.left_at;
@@ -255,7 +244,7 @@ community_claims octets kind part xs outline places at e ahead =
     let piece = bound (only octets rest.value) _ outline rest.then_is in
     let found = bound (pdu octets kind piece.value) _ outline piece.then_is in
     let inner = bound (in_sequence octets found.value.1) _ outline found.then_is in
-    let same = some_same _ _ inner.then_is in
+    let same = same_Some _ _ inner.then_is in
     let listed = bound (bindings octets kind inner.value) _ places (ap (places_ahead octets) same ∙ ahead) in
     let skipped = skips octets (octet_string ∷ []) part rest.value xs refl at rest.is in
     let a = alone octets rest.value skipped.left piece.value skipped.left_at piece.is in
@@ -265,7 +254,7 @@ community_claims octets kind part xs outline places at e ahead =
       λ image.
           let claim = sequence_in.goes image listed.value (binding_claims (inner.value.end - inner.value.start) octets kind inner.value sequence_in.left listed.value sequence_in.left_at listed.is image) in
           let content = fields.1.goes image listed.value claim in
-          subst (λ (ps : List ℕ). Claim image ps part xs) (some_same (option_to_list found.value.0 ++ listed.value) places listed.then_is)
+          subst (λ (ps : List ℕ). Claim image ps part xs) (same_Some (option_to_list found.value.0 ++ listed.value) places listed.then_is)
           (skipped.goes image (option_to_list found.value.0 ++ listed.value) (without_nil image (option_to_list found.value.0 ++ listed.value) rest.value skipped.left (node_in image (option_to_list found.value.0 ++ listed.value) [] octets rest.value skipped.left piece.value a.r (pdu_constructed kind piece.value.tag fields.0) content (a.behind image)))),
     )
 
@@ -287,9 +276,9 @@ version_meets octets version part xs outline places at e ahead = by_test (versio
         let claims = community_claims octets V2 part xs outline places at e ahead in
         subst (λ (k : SnmpKind). Meets octets part xs k places) (sym claims.0) claims.1
     by_test false false true e =
-        let same = some_same _ _ e in
+        let same = same_Some _ _ e in
         let listed = bound (bindings octets V3 (record { start = length octets; end = length octets })) _ places (ap (places_ahead octets) same ∙ ahead) in
-        let none : places ≡ [] = sym (some_same _ _ listed.then_is) ∙ some_same _ _ (sym listed.is ∙ none_listed (length octets) octets V3) in
+        let none : places ≡ [] = sym (same_Some _ _ listed.then_is) ∙ same_Some _ _ (sym listed.is ∙ none_listed (length octets) octets V3) in
         subst (λ (k : SnmpKind). Meets octets part xs k places) (ap (λ (o : Outline). o.kind) same) none
     by_test false false false e = cc
 
@@ -304,27 +293,19 @@ outline_meets octets outline places e ahead =
     let r = reads octets content.value seq.left version.value seq.left_at first.first in
     wider octets version.value.rest (record { start = 0; end = length octets }) r.rest octets outline.kind places
     (λ image claim. seq.goes image places (node_kept image places octets content.value seq.left version.value r (ap is_kept first.tag_is) claim))
-    (version_meets octets (slice_index octets version.value.content.start) version.value.rest r.rest outline places r.rest_at (by_size (version.value.content.end - version.value.content.start == 1) (by_version octets (slice_index octets version.value.content.start) version.value.rest) version.then_is) ahead)
-  where
-    by_size : (b : Bool) (o : Option Outline) → (if b then o else None) ≡ Some outline → o ≡ Some outline
-    by_size true o e = e
-    by_size false o e = cc
+    (version_meets octets (slice_index octets version.value.content.start) version.value.rest r.rest outline places r.rest_at (tested_first (version.value.content.end - version.value.content.start == 1) (by_version octets (slice_index octets version.value.content.start) version.value.rest) outline version.then_is).1 ahead)
 
 message_meets : (octets : List ℕ) (m : SnmpKind × List ℕ) → message octets ≡ Some m → Meets octets (record { start = 0; end = length octets }) octets m.0 m.1
 unfolding message
 message_meets octets m e =
     let outline = bound (outline_of octets) _ m e in
     let places = bound (places_ahead octets outline.value) _ m outline.then_is in
-    subst (λ (n : SnmpKind × List ℕ). Meets octets (record { start = 0; end = length octets }) octets n.0 n.1) (some_same _ _ places.then_is) (outline_meets octets outline.value places.value outline.is places.is)
-
-nothing_renamed : (image : ℕ → Option ℕ) (octets : List ℕ) → renamed image [] octets ≡ octets
-unfolding renamed
-nothing_renamed image octets = refl
+    subst (λ (n : SnmpKind × List ℕ). Meets octets (record { start = 0; end = length octets }) octets n.0 n.1) (same_Some _ _ places.then_is) (outline_meets octets outline.value places.value outline.is places.is)
 
 by_meeting : (image : ℕ → Option ℕ) (octets : List ℕ) (kind : SnmpKind) (places : List ℕ) → Meets octets (record { start = 0; end = length octets }) octets kind places → by_kind (Some kind) octets (elements_renamed image [] octets) ≡ renamed image places octets
 by_meeting image octets V1 places meets = sym (append-nil (elements_renamed image [] octets)) ∙ sym ((meets image).is [] [] refl) ∙ ap (renamed image places) (append-nil octets)
 by_meeting image octets V2 places meets = sym (append-nil (elements_renamed image [] octets)) ∙ sym ((meets image).is [] [] refl) ∙ ap (renamed image places) (append-nil octets)
-by_meeting image octets V3 places meets = sym (ap (λ ps. renamed image ps octets) meets ∙ nothing_renamed image octets)
+by_meeting image octets V3 places meets = sym (ap (λ ps. renamed image ps octets) meets ∙ none_renamed image octets)
 
 -- with no rule a message becomes what the renaming in place makes of it
 pub no_rule : (image : ℕ → Option ℕ) (octets : List ℕ) → IsSome (kind_of octets) → oid_renamed image [] octets ≡ renamed image (places_of octets) octets

@@ -1,16 +1,19 @@
 -- Where sub-identifiers end.
-use Rattle.std.proofs.Common.{◌≡◌, ℕ, zero, suc, ◌+◌, ◌-◌, ◌<◌, ◌≤◌, ◌==◌, nat_eq, Bool, true, false, nat_lt, nat_le, if◌then◌else◌, List, [], ◌∷◌, ◌&&◌, get_or, take, drop, length, Option, Some, None, option_map, option_and_then, unwrap_or, is_some, IsSome, IsTrue, refl, ap, sym, ◌∙◌, arith, drop-cons, add-one}
+use Rattle.std.proofs.Common.{◌≡◌, ℕ, zero, suc, ◌+◌, ◌-◌, ◌<◌, ◌≤◌, ◌==◌, nat_eq, Bool, true, false, nat_lt, nat_le, if◌then◌else◌, List, [], ◌∷◌, get_or, take, drop, length, Option, Some, None, option_map, option_and_then, unwrap_or, is_some, IsSome, IsTrue, refl, ap, sym, ◌∙◌, arith, drop-cons, add-one}
+use Rattle.std.proofs.lemmas.Bool.{and_parts}
 use Rattle.std.proofs.lemmas.Bool.Decides.{nat_tests}
-use Rattle.std.proofs.lemmas.List.{drop_all}
+use Rattle.std.proofs.lemmas.Option.{same_Some}
+use Rattle.std.proofs.lemmas.List.{drop_all, take_rest}
 use Rattle.std.specs.List.{starts_with, list_all}
 use Rattle.std.specs.Option.{option_or}
 use Rattle.gate_base.specs.Address.{◌>>=◌}
 use Rattle.gate_base.specs.declared.rule.OidRule.{OidRule}
-use Rattle.snmp_gateway.proofs.Elements.{some_same}
+use Rattle.gate_base.proofs.Options.{some_mapped}
+use Rattle.snmp_gateway.proofs.Whole.{tested_first}
 use Rattle.snmp_oids.specs.Arcs.{joined, numbers_from, numbers_of, numbers_in, arcs_for, arcs_of, arcs_in, address_of, named_by, named, named_in, small_first, before}
 use Rattle.gate_base.specs.Rules.{is_rule}
 use Rattle.snmp_oids.specs.Identifier.{place_behind}
-use Rattle.snmp_oids.proofs.SubIdentifiers.{all_of, tail_is, some_mapped}
+use Rattle.snmp_oids.proofs.SubIdentifiers.{all_of}
 
 behind_at : (k : ℕ) (xs : List ℕ) (i : ℕ) → i < length xs → place_behind (suc k) (drop i xs) ≡ 1 + (if nat_lt (get_or xs i 0) 128 then place_behind k (drop (i + 1) xs) else place_behind (suc k) (drop (i + 1) xs))
 unfolding place_behind
@@ -60,10 +63,10 @@ record Split (n : ℕ) (more : Option (List ℕ)) (ns : List ℕ) : Type 0 where
 
 split_of : (n : ℕ) (more : Option (List ℕ)) (ns : List ℕ) → option_map (λ numbers. n ∷ numbers) more ≡ Some ns → Split n more ns
 split_of n None ns e = cc
-split_of n (Some rest) ns e = record { rest = rest; more_is = refl; is = sym (some_same _ _ e) }
+split_of n (Some rest) ns e = record { rest = rest; more_is = refl; is = sym (same_Some _ _ e) }
 
 ends_empty : (s : ℕ) (ns : List ℕ) → (if s == 0 then Some [] else None) ≡ Some ns → ns ≡ []
-ends_empty zero ns e = sym (some_same _ _ e)
+ends_empty zero ns e = sym (same_Some _ _ e)
 ends_empty (suc s) ns e = (let no : (suc s == 0) ≡ false = grind (arith, nat_tests) in let wrong = rw no at e in absurd cc)
 
 moved : (octet : ℕ) (more : List ℕ) (n : ℕ) → drop (1 + n) (octet ∷ more) ≡ drop n more
@@ -108,7 +111,7 @@ numbers_some content some = sym (some_mapped arcs_for (numbers_of content)) ∙ 
 pub behind_some : (content : List ℕ) (count start : ℕ) → IsSome (arcs_of content) → start ≡ place_behind count content → IsSome (numbers_of (take (length content - start) (drop start content)))
 behind_some content count start some is =
     ap (λ n. is_some (numbers_of (take (length content - n) (drop n content)))) is
-    ∙ ap (λ xs. is_some (numbers_of xs)) (tail_is (place_behind count content) content)
+    ∙ ap (λ xs. is_some (numbers_of xs)) (take_rest content (place_behind count content))
     ∙ by_count count
   where
     by_count : (count : ℕ) → is_some (numbers_of (drop (place_behind count content) content)) ≡ true
@@ -126,23 +129,15 @@ behind content (suc zero) start some two is = absurd (omega arith)
 behind content (suc (suc k)) start some two is =
     let less : suc (suc k) - 1 ≡ suc k = omega arith in
     let place : start ≡ place_behind (suc k) content = is ∙ ap (λ n. place_behind n content) less in
-    let there = ap (λ xs. numbers_of xs) (tail_is start content) ∙ ap (λ n. numbers_of (drop n content)) place ∙ behind_numbers k 0 content (numbers_in content) (all_of (numbers_of content) (numbers_some content some)) in
+    let there = ap (λ xs. numbers_of xs) (take_rest content start) ∙ ap (λ n. numbers_of (drop n content)) place ∙ behind_numbers k 0 content (numbers_in content) (all_of (numbers_of content) (numbers_some content some)) in
     record {
       some = ap is_some there;
       numbers_are = ap (λ o. unwrap_or o []) there ∙ sym (ap (drop (suc (suc k))) (arcs_are content some) ∙ drop_arcs k (numbers_in content));
     }
 
-both_first : (a b : Bool) → (a && b) ≡ true → a ≡ true
-both_first true b e = refl
-both_first false b e = e
-
-both_second : (a b : Bool) → (a && b) ≡ true → b ≡ true
-both_second true b e = e
-both_second false b e = cc
-
 rule_two : (rule : OidRule) → IsTrue (is_rule rule) → 2 ≤ length rule.prefix
 rule_two rule fits =
-    let two : nat_le 2 (length rule.prefix) ≡ true = both_first _ _ (both_first _ _ (both_first _ _ (both_first _ _ fits))) in
+    let two : nat_le 2 (length rule.prefix) ≡ true = (and_parts _ _ (and_parts _ _ (and_parts _ _ (and_parts _ _ fits).0).0).0).0 in
     grind (arith, nat_tests)
 
 -- what the rules find stands behind at least two arcs
@@ -153,23 +148,20 @@ pub record Stands (arcs : List ℕ) (before address : ℕ) : Type 0 where
 by_rule : (arcs : List ℕ) (place : ℕ) (o : Option ℕ) (rest : Option (ℕ × ℕ)) (found : ℕ × ℕ) → (o ≡ None → Stands arcs found.0 found.1) → 2 ≤ place → ((address : ℕ) → o ≡ Some address → address_of (drop place arcs) ≡ Some address) → option_or (option_map (λ address. (place, address)) o) rest ≡ Some found → Stands arcs found.0 found.1
 by_rule arcs place None rest found later two here e = later refl
 by_rule arcs place (Some address) rest found later two here e =
-    let same = some_same _ _ e in
+    let same = same_Some _ _ e in
     let place_is = ap (λ (p : ℕ × ℕ). p.0) same in
     let address_is = ap (λ (p : ℕ × ℕ). p.1) same in
     record { two = omega arith; is = ap (λ n. address_of (drop n arcs)) (sym place_is) ∙ here address refl ∙ ap Some address_is }
 
-by_begin : (b : Bool) (o : Option ℕ) (address : ℕ) → (if b then o else None) ≡ Some address → o ≡ Some address
-by_begin true o address e = e
-by_begin false o address e = cc
-
 pub found_stands : (rules : List OidRule) (arcs : List ℕ) (found : ℕ × ℕ) → IsTrue (list_all is_rule rules) → named rules arcs ≡ Some found → Stands arcs found.0 found.1
 found_stands [] arcs found fit e = cc
 found_stands (rule ∷ rules) arcs found fit e =
-    let two = rule_two rule (both_first _ _ fit) in
+    let both = and_parts (is_rule rule) (list_all is_rule rules) fit in
+    let two = rule_two rule both.0 in
     by_rule arcs (before rule) (named_by rule arcs) (named rules arcs) found
-    (λ none. found_stands rules arcs found (both_second _ _ fit) (sym (ap (λ o. option_or (option_map (λ address. (before rule, address)) o) (named rules arcs)) none) ∙ e))
+    (λ none. found_stands rules arcs found both.1 (sym (ap (λ o. option_or (option_map (λ address. (before rule, address)) o) (named rules arcs)) none) ∙ e))
     (omega arith)
-    (λ address is. by_begin (starts_with nat_eq arcs rule.prefix) (address_of (drop (before rule) arcs)) address is)
+    (λ address is. (tested_first (starts_with nat_eq arcs rule.prefix) (address_of (drop (before rule) arcs)) address is).1)
     e
 
 -- four sub-identifiers take at least four octets

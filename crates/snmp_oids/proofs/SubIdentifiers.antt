@@ -1,7 +1,7 @@
 -- Sub-identifiers one after another.
-use Rattle.std.proofs.Common.{◌≡◌, ℕ, ◌+◌, ◌-◌, ◌*◌, ◌%◌, ◌<◌, ◌≤◌, ◌==◌, Bool, true, false, nat_lt, if◌then◌else◌, List, [], ◌∷◌, get_or, take, drop, length, ◌||◌, Option, Some, None, option_map, unwrap_or, is_some, IsSome, IfNone, refl, ap, sym, ◌∙◌, arith, length-drop, drop-cons, add-one}
+use Rattle.std.proofs.Common.{◌≡◌, ℕ, ◌+◌, ◌-◌, ◌*◌, ◌%◌, ◌<◌, ◌≤◌, ◌==◌, Bool, true, false, nat_lt, if◌then◌else◌, List, [], ◌∷◌, get_or, take, drop, length, ◌||◌, Option, Some, None, option_map, unwrap_or, is_some, IsSome, IfNone, refl, ap, sym, ◌∙◌, arith, drop-cons, add-one}
 use Rattle.std.proofs.lemmas.Bool.Decides.{nat_tests}
-use Rattle.std.proofs.lemmas.List.{drop_all, take_all}
+use Rattle.std.proofs.lemmas.List.{drop_all, take_rest}
 use Rattle.gate_base.specs.Address.{◌>>=◌}
 use Rattle.gate_base.specs.Rules.{greatest}
 use Rattle.snmp_oids.specs.Arcs.{joined, numbers_from, numbers_of}
@@ -56,21 +56,13 @@ pub numbers_past : (s : ℕ) (xs : List ℕ) (i : ℕ) → length xs ≤ i → n
 unfolding numbers_from
 numbers_past s xs i past = rw drop_all
 
-pub some_mapped : {A B : Type 0} (f : A → B) (o : Option A) → is_some (option_map f o) ≡ is_some o
-some_mapped f None = refl
-some_mapped f (Some x) = refl
-
 pub some_test : {A : Type 0} (b : Bool) (x : A) → is_some (if b then Some x else None) ≡ b
 some_test true x = refl
 some_test false x = refl
 
--- what `&xs[i..]` is
-pub tail_is : (i : ℕ) (xs : List ℕ) → take (length xs - i) (drop i xs) ≡ drop i xs
-tail_is i xs = take_all (length xs - i) (drop i xs) (omega (arith, length-drop i xs))
-
 pub number_found : (s : ℕ) (xs : List ℕ) (i : ℕ) (o : Option ℕ) (n : ℕ) → i < length xs → o ≡ joined s (get_or xs i 0) → o ≡ Some n → get_or xs i 0 < 128 → numbers_from s (drop i xs) ≡ numbers_from 0 xs → numbers_of xs ≡ option_map (λ numbers. n ∷ numbers) (numbers_of (take (length xs - (i + 1)) (drop (i + 1) xs)))
 number_found s xs i o n below found is under same =
-    sym same ∙ numbers_end s xs i o n below found is under ∙ ap (λ ys. option_map (λ numbers. n ∷ numbers) (numbers_of ys)) (sym (tail_is (i + 1) xs))
+    sym same ∙ numbers_end s xs i o n below found is under ∙ ap (λ ys. option_map (λ numbers. n ∷ numbers) (numbers_of ys)) (sym (take_rest xs (i + 1)))
 
 pub never_none : {A : Type 0} (r : Option A) (o : Option (List ℕ)) → o ≡ None → IfNone r (IsSome o → o ≡ Some [])
 never_none None o none = λ some. cc

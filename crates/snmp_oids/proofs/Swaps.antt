@@ -2,12 +2,12 @@
 use Rattle.std.proofs.Common.{◌≡◌, ℕ, zero, suc, ◌+◌, ◌-◌, ◌≤◌, ◌&&◌, nat_lt, nat_le, List, [], ◌∷◌, ◌++◌, take, drop, length, Option, Some, None, option_map, option_and_then, unwrap_or, refl, ap, sym, ◌∙◌, arith, append_assoc, append-nil, length-append, length-drop, inl, inr}
 use Rattle.std.proofs.lemmas.Bool.{cases_Bool}
 use Rattle.std.proofs.lemmas.Bool.Decides.{nat_tests}
+use Rattle.std.proofs.lemmas.Option.{same_Some}
 use Rattle.std.proofs.lemmas.List.{take-append-drop, take_at, drop_at, drop_all}
 use Rattle.byteorder.specs.Endian.{big_bytes, big_number}
 use Rattle.byteorder.specs.Numbers.{big_from-append, length-bytes_high_first}
 use Rattle.gate_base.specs.Fields.{u32_at, with_u32}
 use Rattle.snmp_gateway.specs.Element.{Element, element_at, element_with, length_at, is_long_form}
-use Rattle.snmp_gateway.proofs.Elements.{some_same}
 use Rattle.snmp_gateway.specs.Renaming.{renamed_at, renamed}
 use Rattle.snmp_oids.specs.Elements.{head_of}
 
@@ -88,12 +88,12 @@ length_ends : (octets : List ℕ) (count : ℕ) (behind : List ℕ) → length_a
 length_ends [] count behind e = cc
 length_ends (first ∷ more) count behind e = elim (cases_Bool (nat_lt first 128)) [
   | inl short ↦ (
-      let found = some_same _ _ (rw short at e) in
+      let found = same_Some _ _ (rw short at e) in
       record { past = suc zero; within = omega arith; is = sym (ap (λ (p : ℕ × List ℕ). p.1) found) }
       )
   | inr long ↦ elim (cases_Bool (is_long_form first && nat_le (first - 128) (length more))) [
     | inl fits ↦ (
-        let found = some_same _ _ (rw (long, fits) at e) in
+        let found = same_Some _ _ (rw (long, fits) at e) in
         let within : first - 128 ≤ length more = grind (arith, nat_tests) in
         record { past = suc (first - 128); within = omega arith; is = sym (ap (λ (p : ℕ × List ℕ). p.1) found) }
         )
@@ -109,7 +109,7 @@ record Parts (octets : List ℕ) (element : Element) (rest : List ℕ) : Type 0 
 with_parts : (tag count : ℕ) (octets : List ℕ) (element : Element) (rest : List ℕ) → element_with tag count octets ≡ Some (element, rest) → element.content ++ rest ≡ octets
 with_parts tag count octets element rest e = elim (cases_Bool (nat_le count (length octets))) [
   | inl fits ↦ (
-      let found = some_same _ _ (rw fits at e) in
+      let found = same_Some _ _ (rw fits at e) in
       sym (ap (λ (p : Element × List ℕ). p.0.content ++ p.1) found) ∙ take-append-drop count octets
       )
   | inr long ↦ (let none = rw long at e in cc)

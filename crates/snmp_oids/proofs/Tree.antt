@@ -2,11 +2,12 @@
 use Rattle.std.proofs.Common.{◌≡◌, ℕ, zero, suc, ◌+◌, ◌-◌, ◌*◌, ◌^◌, ◌<◌, ◌≤◌, ◌==◌, ◌&&◌, Bool, true, false, nat_lt, nat_le, if◌then◌else◌, List, [], ◌∷◌, ◌++◌, get_or, take, drop, length, Option, Some, None, option_map, option_and_then, unwrap_or, IfSome, refl, ap, sym, ◌∙◌, arith, append_assoc, append-nil, add-zero, length-append, inl, inr, lit≤}
 use Rattle.std.proofs.lemmas.Bool.{cases_Bool}
 use Rattle.std.proofs.lemmas.Bool.Decides.{nat_tests}
+use Rattle.std.proofs.lemmas.Option.{same_Some}
 use Rattle.std.proofs.lemmas.List.{length-take-le, take-append-drop}
 use Rattle.byteorder.specs.Numbers.{big_from-lt, length-bytes_high_first}
 use Rattle.gate_base.specs.declared.rule.OidRule.{OidRule}
 use Rattle.snmp_gateway.specs.Element.{Element, element_at, element_with, length_at, is_long_form}
-use Rattle.snmp_gateway.proofs.Elements.{some_same, element_room}
+use Rattle.snmp_gateway.proofs.Elements.{element_room}
 use Rattle.snmp_oids.specs.Elements.{octets_for, shortest, head_for, head_of, is_constructed, primitive_renamed, content_renamed, elements_within, elements_renamed}
 use Rattle.snmp_oids.specs.Written.{with_octets}
 use Rattle.snmp_oids.proofs.Writing.{written_after, overwritten, read_back}
@@ -24,14 +25,14 @@ count_small : (octets : List ℕ) (count : ℕ) (behind : List ℕ) → ((k : �
 count_small [] count behind bytes e = cc
 count_small (first ∷ more) count behind bytes e = elim (cases_Bool (nat_lt first 128)) [
   | inl short ↦ (
-      let found = some_same _ _ (rw short at e) in
+      let found = same_Some _ _ (rw short at e) in
       let number = ap (λ (p : ℕ × List ℕ). p.0) found in
       let below : first < 128 = grind (arith, nat_tests) in
       omega (arith, number, below)
       )
   | inr long ↦ elim (cases_Bool (is_long_form first && nat_le (first - 128) (length more))) [
     | inl fits ↦ (
-        let found = some_same _ _ (rw (long, fits) at e) in
+        let found = same_Some _ _ (rw (long, fits) at e) in
         let number = ap (λ (p : ℕ × List ℕ). p.0) found in
         let four : first - 128 ≤ 4 = grind (arith, nat_tests) in
         let below = big_from-lt 0 (first - 128) more (λ k. bytes (suc k)) in
@@ -44,7 +45,7 @@ count_small (first ∷ more) count behind bytes e = elim (cases_Bool (nat_lt fir
 with_small : (tag count : ℕ) (octets : List ℕ) (element : Element) (rest : List ℕ) → count < 4294967296 → element_with tag count octets ≡ Some (element, rest) → length element.content < 4294967296
 with_small tag count octets element rest small e = elim (cases_Bool (nat_le count (length octets))) [
   | inl fits ↦ (
-      let found = some_same _ _ (rw fits at e) in
+      let found = same_Some _ _ (rw fits at e) in
       let content = ap (λ (p : Element × List ℕ). length p.0.content) found in
       let within : count ≤ length octets = grind (arith, nat_tests) in
       omega (arith, content, length-take-le count octets within)

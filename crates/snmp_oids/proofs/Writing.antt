@@ -1,8 +1,8 @@
 -- Octets written one behind another.
-use Rattle.std.proofs.Common.{◌≡◌, ℕ, ◌+◌, ◌≤◌, List, [], ◌++◌, take, drop, length, refl, ap, ◌∙◌, arith, append_assoc, append-nil, length-append, take-take, sym, ◌-◌, ◌==◌, false, if◌then◌else◌}
+use Rattle.std.proofs.Common.{◌≡◌, ℕ, ◌+◌, ◌≤◌, List, [], ◌++◌, take, drop, length, refl, ap, ◌∙◌, arith, append_assoc, append-nil, length-append, take-take, sym, ◌-◌, if◌then◌else◌}
 use Rattle.std.proofs.lemmas.List.{length-take-le, take_at, drop_at, drop-drop, take-append-le}
+use Rattle.std.proofs.lemmas.Bool.{ne_eqb}
 use Rattle.std.proofs.Math.Seq.{drop-append-add}
-use Rattle.std.proofs.lemmas.Bool.Decides.{nat_tests}
 use Rattle.snmp_oids.specs.Elements.{head_for, shortest}
 use Rattle.snmp_oids.specs.Written.{with_octets}
 
@@ -61,11 +61,8 @@ overwritten place q xs ys base before behind within =
 pub read_back : (place count : ℕ) (xs base : List ℕ) → count ≡ length xs → place ≤ length base → take count (drop place (with_octets place xs base)) ≡ xs
 read_back place count xs base count_is within = ap (take count) (there place xs base within) ∙ take_at xs (drop (place + length xs) base) count (sym count_is)
 
-differ : (a b : ℕ) → (a ≡ b → ⊥) → (a == b) ≡ false
-differ a b apart = grind (arith, nat_tests)
-
 pub head_other : (head : List ℕ) (old new : ℕ) → (new ≡ old → ⊥) → head_for head old new ≡ take 1 head ++ shortest new
-head_other head old new apart = ap (λ b. if b then head else take 1 head ++ shortest new) (differ new old apart)
+head_other head old new apart = ap (λ b. if b then head else take 1 head ++ shortest new) (ne_eqb new old apart)
 
 pub four_written : (place p q r : ℕ) (a b c d old old_a old_b old_c new : List ℕ) → place + length (a ++ (b ++ (c ++ (d ++ [])))) ≤ length old → old_a ≡ with_octets place a old → p ≡ place + length a → old_b ≡ with_octets p b old_a → q ≡ p + length b → old_c ≡ with_octets q c old_b → r ≡ q + length c → new ≡ with_octets r d old_c → new ≡ with_octets place (a ++ (b ++ (c ++ (d ++ [])))) old
 four_written place p q r a b c d old old_a old_b old_c new room a_is p_is b_is q_is c_is r_is d_is =

@@ -4,6 +4,7 @@ use Rattle.std.specs.Prelude.{codes, replicate, map}
 use Rattle.std.specs.Fmt.{digits}
 use Rattle.std.proofs.lemmas.List.{length-append}
 use Rattle.std.proofs.lemmas.Bool.{false≢true}
+use Rattle.gate_base.specs.declared.host.Host.TheVariants.{Client}
 use Rattle.ftp_lines.specs.Numbers.{number, four, six}
 use Rattle.ftp_lines.specs.Grammar.{port, eprt, delimited, passive, client_text, server_text}
 use Rattle.ftp_lines.specs.Renaming.{spelled}
@@ -26,7 +27,7 @@ Row = Event × Sent
 
 abbrev found : Session → List Row → List Sent
 found s [] = []
-found s (row ∷ rows) = session_sent row.0.from_client s row.0.segment ∷ found (next s row.0) rows
+found s (row ∷ rows) = session_sent row.0.from s row.0.segment ∷ found (next s row.0) rows
 
 abbrev wanted : List Row → List Sent
 wanted rows = map (λ row. row.1) rows
@@ -67,7 +68,7 @@ hundred = line (codes "NOOP " ++ replicate 93 120)
 abbrev letters : Sent
 letters = sends ack_push 1001 5001 88 hundred
 
-letters_sent : session_sent true narrow (segment ack_push 1001 5001 hundred) ≡ letters
+letters_sent : session_sent Client narrow (segment ack_push 1001 5001 hundred) ≡ letters
 unfolding number four six port eprt delimited passive client_text server_text spelled digits
 letters_sent = refl
 

@@ -5,6 +5,7 @@ use Rattle.std.proofs.lemmas.List.{length-drop}
 use Rattle.std.proofs.lemmas.Bool.{cases_lt, le-ltb, lt-leb, and_left, and_right, or_from, true≢false}
 use Rattle.gate_base.specs.Tests.{first_that_holds}
 use Rattle.gate_base.specs.declared.refusal.Refusal.{Refusal}
+use Rattle.gate_base.specs.declared.host.Host.{Host}
 use Rattle.tcp_segments.specs.Flags.{one_if}
 use Rattle.stream_model.specs.Numbers.{known, number_at, near_by}
 use Rattle.stream_model.specs.declared.numbers.Offset.{Offset}
@@ -12,14 +13,10 @@ use Rattle.stream_model.specs.Session.{Sender, Session, Segment, own, other, rec
 use Rattle.stream_model.specs.Refusals.{is_data, gap, backlog, tests, segment_refusal, refusal_of}
 use Rattle.stream_model.specs.Progress.{acknowledged_of, BeginsBy}
 use Rattle.stream_model.specs.Keeping.{KeepsTo}
-use Rattle.stream_model.proofs.PassLemmas.{IsData}
+use Rattle.stream_model.proofs.PassLemmas.{IsData, NoneHolds}
 use Rattle.stream_model.proofs.Lacking.{data_of}
 
-abbrev pub NoneAre : List (Bool × Refusal) → Type 0
-NoneAre [] = Unit {0}
-NoneAre (t ∷ ts) = (t.0 ≡ false) × NoneAre ts
-
-none_first : (ts : List (Bool × Refusal)) → NoneAre ts → first_that_holds ts ≡ None
+none_first : (ts : List (Bool × Refusal)) → NoneHolds ts → first_that_holds ts ≡ None
 none_first [] h = refl
 none_first (t ∷ ts) h = ap (λ (b : Bool). cond b (Some t.1) (first_that_holds ts)) h.0 ∙ none_first ts h.1
 
@@ -40,28 +37,18 @@ known_is : (o : Option ℕ) → is_some o ≡ true → is_none o ≡ false
 known_is None e = absurd (true≢false (sym e))
 known_is (Some n) e = refl
 
-second_off : (x y z : Bool) → y ≡ false → (x && y && z) ≡ false
-second_off true true z e = absurd (true≢false e)
-second_off true false z e = refl
-second_off false y z e = refl
-
-third_off : (x y z : Bool) → z ≡ false → (x && y && z) ≡ false
-third_off true true z e = e
-third_off true false z e = refl
-third_off false y z e = refl
-
 no_backlog : (a b : Sender) (g : Segment) → KeepsTo a b g → backlog (extent a) (arrival g) ≡ false
 no_backlog a b g k =
     elim (cases_lt (start_of a g).before (length g.octets)) [
       | inr none ↦
           let z : nat_lt 0 (length g.octets - (start_of a g).before) ≡ false = le-ltb _ _ (omega arith) in
-          second_off (is_data (arrival g)) _ _ z
+          and_left (is_data (arrival g) && nat_lt 0 (length g.octets - (start_of a g).before)) _ (and_right (is_data (arrival g)) _ z)
       | inl some ↦
           elim k.adds [
             | inl none ↦ absurd (omega arith)
             | inr begins ↦
                 let z : nat_lt 65536 (length (recent a) + (length g.octets - (start_of a g).before)) ≡ false = le-ltb _ _ (fits begins some) in
-                third_off (is_data (arrival g)) (nat_lt 0 (length g.octets - (start_of a g).before)) _ z
+                and_right (is_data (arrival g) && nat_lt 0 (length g.octets - (start_of a g).before)) _ z
           ]
     ]
   where
@@ -79,7 +66,7 @@ no_gap a b g k =
     le-ltb _ _ (elim (one_side a g) [ inl e ↦ omega (arith, k.begins) | inr e ↦ omega arith ]) in
     and_right _ _ z
 
-pub keeping_passes : (f : Bool) (a b : Sender) (g : Segment) → KeepsTo a b g → refusal_of f (extent a) (extent b) (arrival g) (repeats_unlike a g) ≡ None
+pub keeping_passes : (f : Host) (a b : Sender) (g : Segment) → KeepsTo a b g → refusal_of f (extent a) (extent b) (arrival g) (repeats_unlike a g) ≡ None
 keeping_passes f a b g k =
     let d : IsData g = data_of g k.kind in
     none_first (tests f (extent a) (extent b) (arrival g) (repeats_unlike a g)) (
@@ -105,5 +92,5 @@ keeping_passes f a b g k =
       ),
     )
 
-pub session_keeping : (f : Bool) (s : Session) (g : Segment) → KeepsTo (own f s) (other f s) g → segment_refusal f s g ≡ None
+pub session_keeping : (f : Host) (s : Session) (g : Segment) → KeepsTo (own f s) (other f s) g → segment_refusal f s g ≡ None
 session_keeping f s g k = keeping_passes f (own f s) (other f s) g k

@@ -3,8 +3,10 @@ use Rattle.std.proofs.Common.{◌≡◌, ◌≤◌, ◌<◌, ◌+◌, ◌-◌, �
 use Rattle.std.specs.Prelude.{not, ◌&&◌, ◌||◌, ◌==◌, ◌/◌, ◌⊎◌, nat_lt, min, max, slice_range, Some, None}
 use Rattle.std.specs.List.{slice_get}
 use Rattle.std.proofs.lemmas.List.{length-append, length-drop, drop_all}
-use Rattle.std.proofs.lemmas.Bool.{cases_Bool, cases_lt, ltb-true, ltb-false, le-ltb, le-leb, lt-leb, cond-false, or_parts, or_right, or_from, and_parts, and_from, and_left, and_right, eqb-true, eq-eqb, ne_eqb, not-false, true≢false}
+use Rattle.std.proofs.lemmas.Bool.{cases_Bool, cases_lt, ltb-true, ltb-false, le-ltb, le-leb, lt-leb, cond-false, or_parts, or_right, or_from, and_parts, and_from, and_left, and_right, eqb-true, eq-eqb, ne_eqb, not-false, true≢false, not-true}
 use Rattle.std.proofs.lemmas.Option.{slice_get_past}
+use Rattle.gate_base.specs.declared.host.Host.{Host}
+use Rattle.gate_base.specs.declared.host.Host.TheVariants.{Client, Server}
 use Rattle.dialogue.specs.Meaning.{Meaning, IsLawful}
 use Rattle.dialogue.specs.Places.{Span, back_in}
 use Rattle.dialogue.specs.Stream.{cut, pushes_of, image, due, spans, fore, rear, back}
@@ -35,7 +37,7 @@ abbrev end_of : Sender → Segment → ℕ
 end_of a g = length a.octets + (start_of a g).after + length g.octets - (start_of a g).before
 
 -- what was acknowledged stays
-ack_same : (f : Bool) (a b : Sender) (g : Segment) → IsLawful a.meaning → Passes f a b g → IsData g → IsBound a → back a.meaning (taken a g).ended (taken a g).octets a.acked ≡ acknowledged_of a
+ack_same : (f : Host) (a b : Sender) (g : Segment) → IsLawful a.meaning → Passes f a b g → IsData g → IsBound a → back a.meaning (taken a g).ended (taken a g).octets a.acked ≡ acknowledged_of a
 ack_same f a b g law p d bound = back_stays f a b g a.acked law p d bound
 
 -- the first place that goes out
@@ -43,12 +45,12 @@ ack_same f a b g law p d bound = back_stays f a b g a.acked law p d bound
 low_by : (a : Sender) (g : Segment) (n q : ℕ) → max (length a.octets + (start_of a g).after - (start_of a g).before) (back a.meaning (taken a g).ended (taken a g).octets a.acked) ≡ n → fore a.meaning (taken a g).ended (taken a g).octets n ≤ q → low a (taken a g) (start_of a g) ≤ q
 low_by a g n q e l = subst (λ (x : ℕ). min (length (due_in a)) (fore a.meaning (taken a g).ended (taken a g).octets x) ≤ q) (sym e) (omega arith)
 
-low_acked : (f : Bool) (a b : Sender) (g : Segment) → IsLawful a.meaning → Passes f a b g → IsData g → IsBound a → BeginsBy a g (acknowledged_of a) → low a (taken a g) (start_of a g) ≤ a.acked
+low_acked : (f : Host) (a b : Sender) (g : Segment) → IsLawful a.meaning → Passes f a b g → IsData g → IsBound a → BeginsBy a g (acknowledged_of a) → low a (taken a g) (start_of a g) ≤ a.acked
 low_acked f a b g law p d bound begins =
     let same : back a.meaning (taken a g).ended (taken a g).octets a.acked ≡ acknowledged_of a = ack_same f a b g law p d bound in
     low_by a g (back a.meaning (taken a g).ended (taken a g).octets a.acked) a.acked (omega arith) (fore-back a.meaning law (taken a g).ended (taken a g).octets a.acked)
 
-low_each : (f : Bool) (a b : Sender) (g : Segment) (p q : ℕ) (x : Span) → IsLawful a.meaning → Passes f a b g → IsData g → IsBound a → acknowledged_of a ≤ p → BeginsBy a g p → slice_get (spans a.meaning (taken a g).octets) p ≡ Some x → x.first ≤ q → low a (taken a g) (start_of a g) ≤ q
+low_each : (f : Host) (a b : Sender) (g : Segment) (p q : ℕ) (x : Span) → IsLawful a.meaning → Passes f a b g → IsData g → IsBound a → acknowledged_of a ≤ p → BeginsBy a g p → slice_get (spans a.meaning (taken a g).octets) p ≡ Some x → x.first ≤ q → low a (taken a g) (start_of a g) ≤ q
 low_each f a b g p q x law pass d bound from begins at l =
     let same : back a.meaning (taken a g).ended (taken a g).octets a.acked ≡ acknowledged_of a = ack_same f a b g law pass d bound in
     low_by a g (max (length a.octets + (start_of a g).after - (start_of a g).before) (back a.meaning (taken a g).ended (taken a g).octets a.acked)) q refl
@@ -69,7 +71,7 @@ high_by a g q d h =
 past_back : (a : Sender) (g : Segment) (q : ℕ) → back_in (spans a.meaning (taken a g).octets) q < end_of a g → q < length (due_in (taken a g)) → q < rear a.meaning (taken a g).ended (taken a g).octets (end_of a g)
 past_back a g q l d = rear_past_back (spans a.meaning (taken a g).octets) 0 0 (length (due_in (taken a g))) q (end_of a g) (rising a.meaning (taken a g).octets) l d
 
-high_acked : (f : Bool) (a b : Sender) (g : Segment) → IsLawful a.meaning → Passes f a b g → IsData g → IsBound a → Reaches a g (acknowledged_of a + 1) → a.acked < length (due_in (taken a g)) → a.acked < high a (taken a g) g (start_of a g)
+high_acked : (f : Host) (a b : Sender) (g : Segment) → IsLawful a.meaning → Passes f a b g → IsData g → IsBound a → Reaches a g (acknowledged_of a + 1) → a.acked < length (due_in (taken a g)) → a.acked < high a (taken a g) g (start_of a g)
 high_acked f a b g law p d bound past l =
     let same : back a.meaning (taken a g).ended (taken a g).octets a.acked ≡ acknowledged_of a = ack_same f a b g law p d bound in
     let is : back a.meaning (taken a g).ended (taken a g).octets a.acked ≡ back_in (spans a.meaning (taken a g).octets) a.acked =
@@ -125,7 +127,7 @@ parts_end a ack g limit lo hi stream h img push e u l =
       | inr t ↦ rw t (inl (record { fin = refl; at = length stream; number = refl; octets = omega arith }))
     ]
 
-pub ends : (f : Bool) (a b : Sender) (g : Segment) → IsLawful a.meaning → Passes f a b g → IsData g → sends_end (taken a g) g ≡ true → OneEnds (known a.initial) (length (due_in (taken a g))) (data_out a b g)
+pub ends : (f : Host) (a b : Sender) (g : Segment) → IsLawful a.meaning → Passes f a b g → IsData g → sends_end (taken a g) g ≡ true → OneEnds (known a.initial) (length (due_in (taken a g))) (data_out a b g)
 ends f a b g law p d e =
     let ack = acknowledgement_to (acknowledged b g) in
     let lo = low a (taken a g) (start_of a g) in
@@ -142,7 +144,7 @@ sends a g f l = and_from _ _ f (le-leb _ _ l)
 
 -- where nothing is lacking, the receiver is asked to acknowledge again
 
-not_longer : (f : Bool) (a b : Sender) (g : Segment) → IsLawful a.meaning → Passes f a b g → IsData g → IsBound a → EndsBy a g (acknowledged_of a) → drop (start_of a g).before g.octets ≡ []
+not_longer : (f : Host) (a b : Sender) (g : Segment) → IsLawful a.meaning → Passes f a b g → IsData g → IsBound a → EndsBy a g (acknowledged_of a) → drop (start_of a g).before g.octets ≡ []
 not_longer f a b g law p d bound by_it =
     elim (cases_Bool a.ended) [
       | inl e ↦ nothing_past f a b g p d e
@@ -154,7 +156,7 @@ not_longer f a b g law p d bound by_it =
     back_open : a.ended ≡ false → acknowledged_of a ≤ length a.octets
     back_open e = rw e (back_within a.meaning a.octets a.acked)
 
-not_growing : (f : Bool) (a b : Sender) (g : Segment) → IsLawful a.meaning → Passes f a b g → IsData g → IsBound a → EndsBy a g (acknowledged_of a) → ((g.flags.fin ≡ false) ⊎ (a.ended ≡ true)) → grows a (taken a g) ≡ false
+not_growing : (f : Host) (a b : Sender) (g : Segment) → IsLawful a.meaning → Passes f a b g → IsData g → IsBound a → EndsBy a g (acknowledged_of a) → ((g.flags.fin ≡ false) ⊎ (a.ended ≡ true)) → grows a (taken a g) ≡ false
 not_growing f a b g law p d bound by_it no_end =
     let none : drop (start_of a g).before g.octets ≡ [] = not_longer f a b g law p d bound by_it in
     or_from (nat_lt (length a.octets) (length (taken a g).octets)) ((a.ended || g.flags.fin) && not a.ended)
@@ -170,7 +172,7 @@ not_growing f a b g law p d bound by_it no_end =
     ended_still true y e = refl
     ended_still false y e = absurd (true≢false (sym e))
 
-nothing_out : (f : Bool) (a b : Sender) (g : Segment) → IsLawful a.meaning → Passes f a b g → IsData g → IsBound a → EndsBy a g (acknowledged_of a) → grows a (taken a g) ≡ false → sends_end (taken a g) g ≡ false → high a (taken a g) g (start_of a g) ≤ low a (taken a g) (start_of a g)
+nothing_out : (f : Host) (a b : Sender) (g : Segment) → IsLawful a.meaning → Passes f a b g → IsData g → IsBound a → EndsBy a g (acknowledged_of a) → grows a (taken a g) ≡ false → sends_end (taken a g) g ≡ false → high a (taken a g) g (start_of a g) ≤ low a (taken a g) (start_of a g)
 nothing_out f a b g law p d bound by_it no_more no_end =
     let same : back a.meaning (taken a g).ended (taken a g).octets a.acked ≡ acknowledged_of a = ack_same f a b g law p d bound in
     let c : (grows a (taken a g) || sends_end (taken a g) g) ≡ false = or_from _ _ no_more no_end in
@@ -199,7 +201,7 @@ nothing_out f a b g law p d bound by_it no_more no_end =
         ]
 
 -- an end that is repeated stands at the end of its sender's octets
-end_place : (f : Bool) (a b : Sender) (g : Segment) → Passes f a b g → IsData g → a.ended ≡ true → g.flags.fin ≡ true → (start_of a g).after + length g.octets ≡ (start_of a g).before
+end_place : (f : Host) (a b : Sender) (g : Segment) → Passes f a b g → IsData g → a.ended ≡ true → g.flags.fin ≡ true → (start_of a g).after + length g.octets ≡ (start_of a g).before
 end_place f a b g p d e fin =
     let x : past_end_at (extent a) (arrival g) (start_of a g) ≡ false = second_false (is_data (arrival g)) _ p.past_end (data_is g d) in
     let two : (a.ended && g.flags.fin && not ((start_of a g).after + length g.octets == (start_of a g).before)) ≡ false = (or_parts _ _ (or_parts _ _ x).0).1 in
@@ -217,7 +219,7 @@ asks a b g l e o =
       number = ap (number_after (known a.initial)) o;
     }
 
-again_at : (f : Bool) (a b : Sender) (g : Segment) → IsLawful a.meaning → Passes f a b g → IsData g → IsBound a → EndsBy a g (acknowledged_of a) → ((g.flags.fin ≡ false) ⊎ (a.ended ≡ true)) → sends_end (taken a g) g ≡ false → bare_offset (taken a g) (start_of a g) ≡ a.acked → AsksAgain (known a.initial) a.acked (data_out a b g)
+again_at : (f : Host) (a b : Sender) (g : Segment) → IsLawful a.meaning → Passes f a b g → IsData g → IsBound a → EndsBy a g (acknowledged_of a) → ((g.flags.fin ≡ false) ⊎ (a.ended ≡ true)) → sends_end (taken a g) g ≡ false → bare_offset (taken a g) (start_of a g) ≡ a.acked → AsksAgain (known a.initial) a.acked (data_out a b g)
 again_at f a b g law p d bound by_it no_new no_end o =
     asks a b g (nothing_out f a b g law p d bound by_it (not_growing f a b g law p d bound by_it no_new) no_end) no_end o
 
@@ -226,7 +228,7 @@ offset_before a g l =
     let n : ((start_of a g).before == 0) ≡ false = ne_eqb (start_of a g).before 0 (λ e. omega arith) in
     rw n refl
 
-offset_end : (f : Bool) (a b : Sender) (g : Segment) → IsLawful a.meaning → Passes f a b g → IsData g → IsBound a → a.ended ≡ true → g.flags.fin ≡ true → length (image a.meaning (taken a g).octets) < a.acked → bare_offset (taken a g) (start_of a g) ≡ a.acked
+offset_end : (f : Host) (a b : Sender) (g : Segment) → IsLawful a.meaning → Passes f a b g → IsData g → IsBound a → a.ended ≡ true → g.flags.fin ≡ true → length (image a.meaning (taken a g).octets) < a.acked → bare_offset (taken a g) (start_of a g) ≡ a.acked
 offset_end f a b g law p d bound e fin l =
     elim (cases_lt 0 (start_of a g).before) [
       | inl more ↦ offset_before a g more
@@ -242,7 +244,7 @@ offset_end f a b g law p d bound e fin l =
     ]
 
 -- an end that its receiver has acknowledged had ended the stream before
-ended_before : (f : Bool) (a b : Sender) (g : Segment) → IsLawful a.meaning → Passes f a b g → IsData g → IsBound a → length (image a.meaning (taken a g).octets) < a.acked → a.ended ≡ true
+ended_before : (f : Host) (a b : Sender) (g : Segment) → IsLawful a.meaning → Passes f a b g → IsData g → IsBound a → length (image a.meaning (taken a g).octets) < a.acked → a.ended ≡ true
 ended_before f a b g law p d bound l =
     elim (cases_Bool a.ended) [
       | inl e ↦ e
@@ -253,7 +255,7 @@ ended_before f a b g law p d bound l =
           absurd (omega (arith, ap length more.1, length-append (due_in a) more.0))
     ]
 
-pub again : (f : Bool) (a b : Sender) (g : Segment) → IsLawful a.meaning → Passes f a b g → IsData g → IsBound a → EndsBy a g (acknowledged_of a) → ((1 ≤ (start_of a g).before) ⊎ (g.flags.fin ≡ true)) → ((g.flags.fin ≡ false) ⊎ (length (image a.meaning (taken a g).octets) < a.acked)) → AsksAgain (known a.initial) a.acked (data_out a b g)
+pub again : (f : Host) (a b : Sender) (g : Segment) → IsLawful a.meaning → Passes f a b g → IsData g → IsBound a → EndsBy a g (acknowledged_of a) → ((1 ≤ (start_of a g).before) ⊎ (g.flags.fin ≡ true)) → ((g.flags.fin ≡ false) ⊎ (length (image a.meaning (taken a g).octets) < a.acked)) → AsksAgain (known a.initial) a.acked (data_out a b g)
 again f a b g law p d bound by_it repeats known_end =
     elim known_end [
       | inl no_fin ↦
@@ -277,7 +279,7 @@ pub each_carries : (a : Sender) (ack : ℕ) (g : Segment) (ps : List Piece) → 
 each_carries a ack g [] = tt
 each_carries a ack g (p ∷ ps) = (refl, each_carries a ack g ps)
 
-pub brings : (f : Bool) (a b : Sender) (g : Segment) → IsLawful a.meaning → Passes f a b g → IsData g → IsBound a → Brings a (taken a g) g (data_out a b g)
+pub brings : (f : Host) (a b : Sender) (g : Segment) → IsLawful a.meaning → Passes f a b g → IsData g → IsBound a → Brings a (taken a g) g (data_out a b g)
 brings f a b g law p d bound = record {
   due = λ q from l. shown a b g q law (omega arith) (high_grown a g q from l);
   ended = λ open_it fin. ends f a b g law p d (sends a g fin (acked_in open_it));
@@ -302,11 +304,7 @@ brings f a b g law p d bound = record {
 -- over a session
 
 pub data_of : (g : Segment) → is_data (arrival g) ≡ true → IsData g
-data_of g e = let b : (not g.flags.syn ≡ true) × (not g.flags.reset ≡ true) = and_parts _ _ e in (un_not g.flags.syn b.0, un_not g.flags.reset b.1)
-  where
-    un_not : (x : Bool) → not x ≡ true → x ≡ false
-    un_not true e = absurd (true≢false (sym e))
-    un_not false e = refl
+data_of g e = let b : (not g.flags.syn ≡ true) × (not g.flags.reset ≡ true) = and_parts _ _ e in (not-true g.flags.syn b.0, not-true g.flags.reset b.1)
 
 pub own_is : (a : Sender) (g : Segment) → IsData g → own_after a g ≡ taken a g
 own_is a g d = cond-false g.flags.syn (opened a g) (cond g.flags.reset a (taken a g)) d.0 ∙ cond-false g.flags.reset a (taken a g) d.1
@@ -317,15 +315,15 @@ out_is a b g d = cond-false _ _ _ d.0 ∙ cond-false _ _ _ d.1
 pub other_is : (b : Sender) (g : Segment) → IsData g → other_after b g ≡ acknowledged b g
 other_is b g d = cond-false (g.flags.syn || g.flags.reset) b (acknowledged b g) (or_from _ _ d.0 d.1)
 
-brings_by : (f : Bool) (a b : Sender) (g : Segment) → IsLawful a.meaning → Facts a → Passes f a b g → is_data (arrival g) ≡ true → Brings a (own_after a g) g (out a b g)
+brings_by : (f : Host) (a b : Sender) (g : Segment) → IsLawful a.meaning → Facts a → Passes f a b g → is_data (arrival g) ≡ true → Brings a (own_after a g) g (out a b g)
 brings_by f a b g law facts p e =
     let d : IsData g = data_of g e in
     subst (λ (z : Sender). Brings a z g (out a b g)) (sym (own_is a g d))
     (subst (λ (os : List Outgoing). Brings a (taken a g) g os) (sym (out_is a b g d)) (brings f a b g law p d facts.acked))
 
-pub session_brings : (from : Bool) (s : Session) (g : Segment) → IsLawful (own from s).meaning → Facts (own from s) → segment_refusal from s g ≡ None → is_data (arrival g) ≡ true → Brings (own from s) (own from (session_next from s g)) g (session_out from s g)
-session_brings true s g law facts v e = brings_by true s.client s.server g law facts (passes true s.client s.server g v) e
-session_brings false s g law facts v e = brings_by false s.server s.client g law facts (passes false s.server s.client g v) e
+pub session_brings : (from : Host) (s : Session) (g : Segment) → IsLawful (own from s).meaning → Facts (own from s) → segment_refusal from s g ≡ None → is_data (arrival g) ≡ true → Brings (own from s) (own from (session_next from s g)) g (session_out from s g)
+session_brings Client s g law facts v e = brings_by Client s.client s.server g law facts (passes Client s.client s.server g v) e
+session_brings Server s g law facts v e = brings_by Server s.server s.client g law facts (passes Server s.server s.client g v) e
 
 carries_by : (a b : Sender) (g : Segment) → is_data (arrival g) ≡ true → EachCarries (acknowledgement_to (other_after b g)) (out a b g)
 carries_by a b g e =
@@ -334,6 +332,6 @@ carries_by a b g e =
     (subst (λ (os : List Outgoing). EachCarries (acknowledgement_to (acknowledged b g)) os) (sym (out_is a b g d))
     (each_carries a (acknowledgement_to (acknowledged b g)) g (pieces_for (limit_of b g) a (taken a g) g (start_of a g))))
 
-pub session_carries : (from : Bool) (s : Session) (g : Segment) → is_data (arrival g) ≡ true → EachCarries (acknowledgement_to (other from (session_next from s g))) (session_out from s g)
-session_carries true s g e = carries_by s.client s.server g e
-session_carries false s g e = carries_by s.server s.client g e
+pub session_carries : (from : Host) (s : Session) (g : Segment) → is_data (arrival g) ≡ true → EachCarries (acknowledgement_to (other from (session_next from s g))) (session_out from s g)
+session_carries Client s g e = carries_by s.client s.server g e
+session_carries Server s g e = carries_by s.server s.client g e

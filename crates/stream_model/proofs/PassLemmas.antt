@@ -12,6 +12,8 @@ use Rattle.stream_model.specs.declared.numbers.Offset.{Offset}
 use Rattle.stream_model.specs.declared.refusals.Arrival.{Arrival}
 use Rattle.stream_model.specs.declared.refusals.Extent.{Extent}
 use Rattle.gate_base.specs.declared.refusal.Refusal.{Refusal}
+use Rattle.gate_base.specs.declared.host.Host.{Host}
+use Rattle.gate_base.specs.declared.host.Host.TheVariants.{Client, Server}
 
 pub second_false : (x y : Bool) → (x && y) ≡ false → x ≡ true → y ≡ false
 second_false true y e i = e
@@ -30,10 +32,10 @@ none_holds (t ∷ ts) e =
     ]
 
 -- each test fails
-pub record PassesBy (from_client : Bool) (a b : Extent) (g : Arrival) (u : Bool) : Type 0 where
+pub record PassesBy (from : Host) (a b : Extent) (g : Arrival) (u : Bool) : Type 0 where
   pub no_session : no_session a b g ≡ false
   pub syn_data : syn_data g ≡ false
-  pub syn_in_session : syn_in_session from_client a g ≡ false
+  pub syn_in_session : syn_in_session from a g ≡ false
   pub no_ack : no_ack g ≡ false
   pub gap : gap a g ≡ false
   pub past_end : past_end a g ≡ false
@@ -42,7 +44,7 @@ pub record PassesBy (from_client : Bool) (a b : Extent) (g : Arrival) (u : Bool)
   pub stream_limit : stream_limit a g ≡ false
   pub backlog : backlog a g ≡ false
 
-pub passes_by : (from_client : Bool) (a b : Extent) (g : Arrival) (u : Bool) → first_that_holds (tests from_client a b g u) ≡ None → PassesBy from_client a b g u
+pub passes_by : (from : Host) (a b : Extent) (g : Arrival) (u : Bool) → first_that_holds (tests from a b g u) ≡ None → PassesBy from a b g u
 passes_by f a b g u e =
     let h : NoneHolds (tests f a b g u) = none_holds (tests f a b g u) e in
     record {
@@ -58,10 +60,10 @@ passes_by f a b g u e =
       backlog = h.1.1.1.1.1.1.1.1.1.0;
     }
 
-abbrev pub Passes : Bool → Sender → Sender → Segment → Type 0
-Passes from_client a b g = PassesBy from_client (extent a) (extent b) (arrival g) (repeats_unlike a g)
+abbrev pub Passes : Host → Sender → Sender → Segment → Type 0
+Passes from a b g = PassesBy from (extent a) (extent b) (arrival g) (repeats_unlike a g)
 
-pub passes : (from_client : Bool) (a b : Sender) (g : Segment) → first_that_holds (tests from_client (extent a) (extent b) (arrival g) (repeats_unlike a g)) ≡ None → Passes from_client a b g
+pub passes : (from : Host) (a b : Sender) (g : Segment) → first_that_holds (tests from (extent a) (extent b) (arrival g) (repeats_unlike a g)) ≡ None → Passes from a b g
 passes f a b g e = passes_by f (extent a) (extent b) (arrival g) (repeats_unlike a g) e
 
 number_is : (o : Option ℕ) (n : ℕ) → is_number o n ≡ true → o ≡ Some n
@@ -77,13 +79,13 @@ some_is None e = absurd (true≢false e)
 some_is (Some m) e = refl
 
 -- a SYN that passes brings its sender's number or repeats it
-pub syn_number : (f : Bool) (a b : Sender) (g : Segment) → Passes f a b g → g.flags.syn ≡ true → (a.initial ≡ None) ⊎ (a.initial ≡ Some g.sequence)
+pub syn_number : (f : Host) (a b : Sender) (g : Segment) → Passes f a b g → g.flags.syn ≡ true → (a.initial ≡ None) ⊎ (a.initial ≡ Some g.sequence)
 syn_number f a b g p syn =
     by f (not-false (opens f (extent a) (arrival g)) (second_false g.flags.syn (not (opens f (extent a) (arrival g))) p.syn_in_session syn))
   where
-    by : (f : Bool) → opens f (extent a) (arrival g) ≡ true → (a.initial ≡ None) ⊎ (a.initial ≡ Some g.sequence)
-    by true e = inr (number_is a.initial g.sequence (and_parts _ _ e).1)
-    by false e =
+    by : (f : Host) → opens f (extent a) (arrival g) ≡ true → (a.initial ≡ None) ⊎ (a.initial ≡ Some g.sequence)
+    by Client e = inr (number_is a.initial g.sequence (and_parts _ _ e).1)
+    by Server e =
         elim (or_cases (is_none a.initial) (is_number a.initial g.sequence) (and_parts _ _ e).1) [
           | inl i ↦ inl (none_is a.initial i)
           | inr i ↦ inr (number_is a.initial g.sequence i)
@@ -96,16 +98,20 @@ pub data_is : (g : Segment) → IsData g → is_data (arrival g) ≡ true
 data_is g d = rw (d.0, d.1) refl
 
 -- both initial numbers are known
-pub both_known : (f : Bool) (a b : Extent) (g : Arrival) (u : Bool) → PassesBy f a b g u → is_data g ≡ true → (is_some a.initial ≡ true) × (is_some b.initial ≡ true)
+pub both_known : (f : Host) (a b : Extent) (g : Arrival) (u : Bool) → PassesBy f a b g u → is_data g ≡ true → (is_some a.initial ≡ true) × (is_some b.initial ≡ true)
 both_known f a b g u p d =
     let n : (is_none a.initial ≡ false) × (is_none b.initial ≡ false) = or_parts _ _ (second_false (is_data g) _ p.no_session d) in
     (some_is a.initial n.0, some_is b.initial n.1)
 
-pub has_ack : (f : Bool) (a b : Extent) (g : Arrival) (u : Bool) → PassesBy f a b g u → is_data g ≡ true → g.flags.ack ≡ true
+pub has_ack : (f : Host) (a b : Extent) (g : Arrival) (u : Bool) → PassesBy f a b g u → is_data g ≡ true → g.flags.ack ≡ true
 has_ack f a b g u p d = not-false g.flags.ack (second_false (is_data g) _ p.no_ack d)
 
+pub one-le : (b : Bool) → one_if b ≤ 1
+one-le true = omega arith
+one-le false = omega arith
+
 -- no more is acknowledged than was sent
-pub ack_within : (f : Bool) (a b : Extent) (g : Arrival) (u : Bool) → PassesBy f a b g u → g.flags.syn ≡ false → is_data g ≡ true → place_acknowledged b g ≤ b.due + one_if b.ended
+pub ack_within : (f : Host) (a b : Extent) (g : Arrival) (u : Bool) → PassesBy f a b g u → g.flags.syn ≡ false → is_data g ≡ true → place_acknowledged b g ≤ b.due + one_if b.ended
 ack_within f a b g u p syn d =
     let t : (g.flags.ack && is_some b.initial && nat_lt (one_if b.ended) (acknowledged_at b g).after) ≡ false =
     sym (cond-false (g.flags.syn && g.flags.ack) _ _ (and_left _ _ syn)) ∙ p.ack_ahead in
@@ -114,7 +120,7 @@ ack_within f a b g u p syn d =
     omega arith
 
 -- no octet stands beyond an end
-pub nothing_past : (f : Bool) (a b : Sender) (g : Segment) → Passes f a b g → IsData g → a.ended ≡ true → drop (start_of a g).before g.octets ≡ []
+pub nothing_past : (f : Host) (a b : Sender) (g : Segment) → Passes f a b g → IsData g → a.ended ≡ true → drop (start_of a g).before g.octets ≡ []
 nothing_past f a b g p d ended =
     let x : past_end_at (extent a) (arrival g) (start_of a g) ≡ false = second_false (is_data (arrival g)) _ p.past_end (data_is g d) in
     let one : (a.ended && nat_lt 0 (length g.octets) && nat_lt (start_of a g).before ((start_of a g).after + length g.octets)) ≡ false = (or_parts _ _ (or_parts _ _ x).0).0 in

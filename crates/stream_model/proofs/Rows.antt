@@ -4,6 +4,7 @@ use Rattle.std.specs.Prelude.{◌+◌, ◌-◌, ◌^◌, Option, Some, None, cod
 use Rattle.std.specs.Fmt.{digits}
 use Rattle.gate_base.specs.declared.refusal.Refusal.{Refusal}
 use Rattle.gate_base.specs.declared.refusal.Refusal.TheVariants.{NoSession, SynData, SynInSession, NoAck, Gap, PastEnd, AckAhead, Unlike, StreamLimit, Backlog}
+use Rattle.gate_base.specs.declared.host.Host.TheVariants.{Client, Server}
 use Rattle.ftp_lines.specs.Numbers.{number, four, six}
 use Rattle.ftp_lines.specs.Grammar.{port, eprt, delimited, passive, client_text, server_text}
 use Rattle.ftp_lines.specs.Renaming.{spelled}
@@ -197,7 +198,7 @@ refusing = (server_with ack_reset 0 1001 [], Goes (goes_with ack_reset 0 1001 []
 refusing_holds : found (begun 1000) refusing ≡ wanted refusing
 refusing_holds = refl
 
-refusing_ends : session_ends false (begun 1000) (segment ack_reset 0 1001 []) ≡ true
+refusing_ends : session_ends Server (begun 1000) (segment ack_reset 0 1001 []) ≡ true
 refusing_ends = refl
 
 -- a reset before the end of the octets so far leaves the session, and stands where it makes the receiver acknowledge again
@@ -208,7 +209,7 @@ late_reset_holds : found (run shaken (port_row ∷ [])) late_reset ≡ wanted la
 unfolding number four six port eprt delimited passive client_text server_text spelled digits
 late_reset_holds = refl
 
-late_reset_stays : session_ends true (run shaken (port_row ∷ [])) (segment ack_reset 1015 5001 []) ≡ false
+late_reset_stays : session_ends Client (run shaken (port_row ∷ [])) (segment ack_reset 1015 5001 []) ≡ false
 late_reset_stays = refl
 
 -- a rest that agrees with no front goes out at once, and again with more
@@ -293,7 +294,7 @@ early_end = refl
 -- a client of so many octets, a server of none, and one octet more
 abbrev full : ℕ → Option Refusal
 full octets =
-    refusal_of true
+    refusal_of Client
     (record { initial = Some 0; octets = octets; due = octets; ended = false; recent = 0 })
     (record { initial = Some 5000; octets = 0; due = 0; ended = false; recent = 0 })
     (record { sequence = octets + 1; acknowledgement = 5001; flags = ack; count = 1 })
@@ -310,16 +311,16 @@ places_around : map (place_near 4294967293 19) (17 ∷ 4294967294 ∷ []) ≡ re
 places_around = refl
 
 -- what an ICMP error brings back of the client: what is not acknowledged, what is, the end of what was sent, and what lies beyond
-inner_open : map (session_inner true (run shaken renamed_line)) (1022 ∷ 1010 ∷ 1028 ∷ 1029 ∷ []) ≡ Some 1020 ∷ Some 1019 ∷ Some 1026 ∷ None ∷ []
+inner_open : map (session_inner Client (run shaken renamed_line)) (1022 ∷ 1010 ∷ 1028 ∷ 1029 ∷ []) ≡ Some 1020 ∷ Some 1019 ∷ Some 1026 ∷ None ∷ []
 unfolding number four six port eprt delimited passive client_text server_text spelled digits
 inner_open = refl
 
 -- inside a changed line that is not acknowledged; and of a server whose number is not known
-inner_inside : session_inner true (run shaken (port_row ∷ [])) 1010 ≡ Some 1001
+inner_inside : session_inner Client (run shaken (port_row ∷ [])) 1010 ≡ Some 1001
 unfolding number four six port eprt delimited passive client_text server_text spelled digits
 inner_inside = refl
 
-inner_unknown : session_inner false (begun 1000) 5001 ≡ None
+inner_unknown : session_inner Server (begun 1000) 5001 ≡ None
 inner_unknown = refl
 
 -- changed lines that are not acknowledged whole
@@ -347,7 +348,7 @@ other_address = refl
 -- a client of so many octets that are not acknowledged, and one octet more
 abbrev waiting : ℕ → Option Refusal
 waiting octets =
-    refusal_of true
+    refusal_of Client
     (record { initial = Some 0; octets = octets; due = octets; ended = false; recent = octets })
     (record { initial = Some 5000; octets = 0; due = 0; ended = false; recent = 0 })
     (record { sequence = octets + 1; acknowledgement = 5001; flags = ack; count = 1 })
@@ -363,7 +364,7 @@ noop_pieces = goes_with ack 1001 5001 (take 88 noop_line) ∷ goes_with ack_push
 abbrev with_options : List Row
 with_options =
     shake 1000 100
-    ++ (record { from_client = true; segment = record (segment ack_push 1001 5001 noop_line) { options = 12 } }, Goes noop_pieces)
+    ++ (record { from = Client; segment = record (segment ack_push 1001 5001 noop_line) { options = 12 } }, Goes noop_pieces)
     ∷ []
 
 with_options_hold : found (begun 1000) with_options ≡ wanted with_options
@@ -418,7 +419,7 @@ unknown_receiver_holds : found (begun 1000) unknown_receiver ≡ wanted unknown_
 unknown_receiver_holds = refl
 
 -- what an ICMP error brings back at the place of an end, and beyond it
-inner_end : map (session_inner true (run shaken ended_rest)) (1008 ∷ 1009 ∷ []) ≡ Some 1008 ∷ None ∷ []
+inner_end : map (session_inner Client (run shaken ended_rest)) (1008 ∷ 1009 ∷ []) ≡ Some 1008 ∷ None ∷ []
 unfolding number four six port eprt delimited passive client_text server_text spelled digits
 inner_end = refl
 

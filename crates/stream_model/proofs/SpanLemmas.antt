@@ -1,11 +1,12 @@
 -- The places of the octets of pushes rise, so that what reaches past Back reaches past its place.
 use Rattle.std.proofs.Common.{◌≡◌, ◌≤◌, ◌<◌, ◌+◌, ◌-◌, ℕ, zero, suc, true, false, List, [], ◌∷◌, ◌++◌, length, refl, sym, ◌∙◌, ap, subst, arith, inl, inr}
-use Rattle.std.specs.Prelude.{nat_le, replicate, min, ◌⊎◌, Some, None}
+use Rattle.std.specs.Prelude.{nat_le, replicate, min, ◌⊎◌, Some}
 use Rattle.std.specs.List.{slice_get}
 use Rattle.std.proofs.lemmas.List.{length-append, length-replicate}
 use Rattle.std.proofs.lemmas.Bool.{cases_Bool, cases_lt, le-leb, lt-leb, leb-false}
-use Rattle.dialogue.specs.Places.{Push, Plain, Changed, AllProper, Span, plain_spans, image_len, spans_from, end_from, fore_in, rear_at, rear_in, back_in}
-use Rattle.dialogue.proofs.PlaceLemmas.{length-plain_spans, back_in-plain, back_in-plain_part, back_in-replicate}
+use Rattle.std.proofs.lemmas.Option.{none-some, same_Some}
+use Rattle.dialogue.specs.Places.{Push, Plain, Changed, AllProper, Span, plain_spans, spans_from, end_from, fore_in, rear_at, rear_in, back_in}
+use Rattle.dialogue.proofs.PlaceLemmas.{length-plain_spans, back_in-plain, back_in-plain_part, back_in-replicate, end_from-le}
 
 -- both ends of spans rise, from these on
 abbrev pub Rising : ℕ → ℕ → List Span → Type 0
@@ -50,36 +51,26 @@ rear_past_back (s ∷ ss) first past due q (suc (suc p)) r l d =
       | inr beyond ↦ past_on ss s.first s.past due q p r.3 (leb-false _ q beyond) d
     ]
 
-some_same : (s x : Span) → Some s ≡ Some x → s ≡ x
-some_same s x e = cc
-
-no_some : (x : Span) → None ≡ Some x → ⊥
-no_some x e = cc
-
 -- what ends above an octet goes past each of its places
 pub rear_past : (ss : List Span) (first past due q p e : ℕ) (x : Span) → Rising first past ss → slice_get ss p ≡ Some x → q < x.past → p < e → q < due → q < rear_in ss due e
 rear_past ss first past due q p zero x r at l k d = absurd (omega arith)
 rear_past [] first past due q p (suc e) x r at l k d = d
-rear_past (s ∷ ss) first past due q zero (suc zero) x r at l k d = let f : s.past ≡ x.past = ap (λ (y : Span). y.past) (some_same s x at) in omega arith
-rear_past (s ∷ ss) first past due q zero (suc (suc e)) x r at l k d = let f : s.past ≡ x.past = ap (λ (y : Span). y.past) (some_same s x at) in past_on ss s.first s.past due q e r.3 (omega arith) d
+rear_past (s ∷ ss) first past due q zero (suc zero) x r at l k d = let f : s.past ≡ x.past = ap (λ (y : Span). y.past) (same_Some s x at) in omega arith
+rear_past (s ∷ ss) first past due q zero (suc (suc e)) x r at l k d = let f : s.past ≡ x.past = ap (λ (y : Span). y.past) (same_Some s x at) in past_on ss s.first s.past due q e r.3 (omega arith) d
 rear_past (s ∷ ss) first past due q (suc p) (suc zero) x r at l k d = absurd (omega arith)
 rear_past (s ∷ ss) first past due q (suc p) (suc (suc e)) x r at l k d = rear_past ss s.first s.past due q p (suc e) x r.3 at l (omega arith) d
 
 first_least : (ss : List Span) (first past p : ℕ) (x : Span) → Rising first past ss → slice_get ss p ≡ Some x → first ≤ x.first
-first_least [] first past p x r at = absurd (no_some x at)
-first_least (s ∷ ss) first past zero x r at = let f : s.first ≡ x.first = ap (λ (y : Span). y.first) (some_same s x at) in omega (arith, r.0)
+first_least [] first past p x r at = absurd (none-some x at)
+first_least (s ∷ ss) first past zero x r at = let f : s.first ≡ x.first = ap (λ (y : Span). y.first) (same_Some s x at) in omega (arith, r.0)
 first_least (s ∷ ss) first past (suc p) x r at = omega (arith, r.0, first_least ss s.first s.past p x r.3 at)
 
 -- what begins at or below an octet begins at or below each of its places
 pub fore_below : (ss : List Span) (first past due q b p : ℕ) (x : Span) → Rising first past ss → slice_get ss p ≡ Some x → x.first ≤ q → b ≤ p → fore_in ss due b ≤ q
-fore_below [] first past due q b p x r at l k = absurd (no_some x at)
+fore_below [] first past due q b p x r at l k = absurd (none-some x at)
 fore_below (s ∷ ss) first past due q zero p x r at l k = let f : s.first ≤ x.first = first_least (s ∷ ss) s.first s.past p x (omega arith, omega arith, r.2, r.3) at in omega arith
 fore_below (s ∷ ss) first past due q (suc b) zero x r at l k = absurd (omega arith)
 fore_below (s ∷ ss) first past due q (suc b) (suc p) x r at l k = fore_below ss s.first s.past due q b p x r.3 at l (omega arith)
-
-end_up : (ps : List Push) (at : ℕ) → at ≤ end_from at ps
-end_up [] at = omega arith
-end_up (p ∷ ps) at = omega (arith, end_up ps (at + image_len p))
 
 -- where all places are below q, the image ends there
 pub end_below : (ps : List Push) (at q : ℕ) → AllProper ps → at ≤ q → back_in (spans_from at ps) q ≡ length (spans_from at ps) → end_from at ps ≤ q
@@ -116,14 +107,14 @@ pub all_below : (ps : List Push) (at q : ℕ) → end_from at ps ≤ q → at �
 all_below [] at q l k = refl
 all_below (Plain n ∷ ps) at q l k =
     let ss = spans_from (at + n) ps in
-    let up : at + n ≤ end_from (at + n) ps = end_up ps (at + n) in
+    let up : at + n ≤ end_from (at + n) ps = end_from-le (at + n) ps in
     back_in-plain n at ss q (omega arith)
     ∙ ap (λ m. n + m) (all_below ps (at + n) q l (omega arith))
     ∙ sym (length-append (plain_spans at n) ss ∙ ap (λ m. m + length ss) (length-plain_spans at n))
 all_below (Changed unit image ∷ ps) at q l k =
     let s : Span = record { first = at; past = at + length image } in
     let ss = spans_from (at + length image) ps in
-    let up : at + length image ≤ end_from (at + length image) ps = end_up ps (at + length image) in
+    let up : at + length image ≤ end_from (at + length image) ps = end_from-le (at + length image) ps in
     back_in-replicate unit s ss q (omega arith)
     ∙ ap (λ m. unit + m) (all_below ps (at + length image) q l (omega arith))
     ∙ sym (length-append (replicate unit s) ss ∙ ap (λ m. m + length ss) (length-replicate unit s))

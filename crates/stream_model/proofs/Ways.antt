@@ -5,6 +5,7 @@ use Rattle.std.proofs.Math.Nat.{div-mul-le_self, lt-div-mul-add, zero-div}
 use Rattle.std.proofs.lemmas.List.{append-nil, take-append-drop, length-drop, length-take-le}
 use Rattle.std.proofs.lemmas.Bool.Decides.{nat_tests}
 use Rattle.std.proofs.lemmas.Bool.{false≢true}
+use Rattle.gate_base.specs.declared.host.Host.{Host}
 use Rattle.dialogue.specs.Stream.{image}
 use Rattle.stream_model.specs.Numbers.{number_after, known}
 use Rattle.stream_model.specs.Session.{Sender, Session, Segment, Outgoing, own, other, due_in, start_of}
@@ -61,8 +62,8 @@ sender_same sender receiver g = by_flags g.flags.syn g.flags.reset
     by_flags false true = refl
     by_flags false false = other_same sender (taken sender g) receiver (acknowledgement_to (acknowledged receiver g)) g (limit_of receiver g) (start_of sender g)
 
-pub session_same : (from_client : Bool) (s : Session) (g : Segment) → session_out from_client s g ≡ in_pieces (session_sent from_client s g)
-session_same from_client s g = sender_same (own from_client s) (other from_client s) g
+pub session_same : (from : Host) (s : Session) (g : Segment) → session_out from s g ≡ in_pieces (session_sent from s g)
+session_same from s g = sender_same (own from s) (other from s) g
 
 -- ## A lawful way
 
@@ -119,10 +120,10 @@ limit_is sender receiver g = by_flags g.flags.syn g.flags.reset
     by_flags false true = refl
     by_flags false false = other_limit sender (taken sender g) g (start_of sender g) (acknowledgement_to (acknowledged receiver g)) (limit_of receiver g)
 
-pub session_limit : (from_client : Bool) (s : Session) (g : Segment) → (session_sent from_client s g).limit ≡ limit_of (other from_client s) g
-session_limit from_client s g = limit_is (own from_client s) (other from_client s) g
+pub session_limit : (from : Host) (s : Session) (g : Segment) → (session_sent from s g).limit ≡ limit_of (other from s) g
+session_limit from s g = limit_is (own from s) (other from s) g
 
-pub session_lawful : (from_client : Bool) (s : Session) (g : Segment) → 1 ≤ limit_of (other from_client s) g → IsLawfulWay (session_sent from_client s g) (session_out from_client s g)
-session_lawful from_client s g some =
-    subst (IsLawfulWay (session_sent from_client s g)) (sym (session_same from_client s g))
-    (in_pieces_lawful (session_sent from_client s g) (omega (arith, some, session_limit from_client s g)))
+pub session_lawful : (from : Host) (s : Session) (g : Segment) → 1 ≤ limit_of (other from s) g → IsLawfulWay (session_sent from s g) (session_out from s g)
+session_lawful from s g some =
+    subst (IsLawfulWay (session_sent from s g)) (sym (session_same from s g))
+    (in_pieces_lawful (session_sent from s g) (omega (arith, some, session_limit from s g)))

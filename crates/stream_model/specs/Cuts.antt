@@ -1,5 +1,6 @@
 -- What goes out for a segment of a session, before it is cut into pieces, and the ways in which it may be cut (RFC 9293, 3.7.1).
 use Rattle.std.specs.Prelude.{◌≡◌, ◌≤◌, ◌+◌, ◌%◌, ◌^◌, ℕ, Bool, true, false, ◌&&◌, ◌==◌, cond, nat_lt, List, [], ◌∷◌, ◌++◌, length, map, slice_range, is_some}
+use Rattle.gate_base.specs.declared.host.Host.{Host}
 use Rattle.dialogue.specs.Stream.{image}
 use Rattle.tcp_segments.specs.declared.flags.Flags.{Flags}
 use Rattle.stream_model.specs.Numbers.{number_after, known}
@@ -57,9 +58,9 @@ sent sender receiver segment =
     (cond segment.flags.reset (reset_sent sender receiver segment (limit_of receiver segment))
     (other_sent sender (taken sender segment) segment (start_of sender segment) (acknowledgement_to (acknowledged receiver segment)) (limit_of receiver segment)))
 
--- what goes out for a segment of the client (true), or of the server
-abbrev pub session_sent : Bool → Session → Segment → Sent
-session_sent from_client s segment = sent (own from_client s) (other from_client s) segment
+-- what goes out for a segment of a host
+abbrev pub session_sent : Host → Session → Segment → Sent
+session_sent from s segment = sent (own from s) (other from s) segment
 
 -- ## How it may be cut
 

@@ -1,8 +1,10 @@
 -- The first reason for which a segment of a session is refused (RFC 9293, 3.10.7), by what is known of its sender, its receiver and itself.
-use Rattle.std.specs.Prelude.{◌+◌, ◌-◌, ◌^◌, Bool, true, false, not, ◌&&◌, ◌||◌, cond, nat_lt, nat_le, ◌==◌, List, [], ◌∷◌, Option, is_some, is_none}
+use Rattle.std.specs.Prelude.{◌+◌, ◌-◌, ◌^◌, Bool, not, ◌&&◌, ◌||◌, cond, nat_lt, nat_le, ◌==◌, List, [], ◌∷◌, Option, is_some, is_none}
 use Rattle.gate_base.specs.Tests.{first_that_holds}
 use Rattle.gate_base.specs.declared.refusal.Refusal.{Refusal}
 use Rattle.gate_base.specs.declared.refusal.Refusal.TheVariants.{NoSession, SynData, SynInSession, NoAck, Gap, PastEnd, AckAhead, Unlike, StreamLimit, Backlog}
+use Rattle.gate_base.specs.declared.host.Host.{Host}
+use Rattle.gate_base.specs.declared.host.Host.TheVariants.{Client, Server}
 use Rattle.tcp_segments.specs.Flags.{one_if}
 use Rattle.stream_model.specs.Numbers.{number_at, known, is_number}
 use Rattle.stream_model.specs.Session.{Session, Segment, own, other, extent, arrival, start_at, acknowledged_at, repeats_unlike}
@@ -23,13 +25,13 @@ abbrev pub syn_data : Arrival → Bool
 syn_data segment = segment.flags.syn && (nat_lt 0 segment.count || segment.flags.fin || segment.flags.reset)
 
 -- the client's SYN has no ACK and repeats its number; the server's has ACK, and brings its number or repeats it
-abbrev pub opens : Bool → Extent → Arrival → Bool
-opens true sender segment = not segment.flags.ack && is_number sender.initial segment.sequence
-opens false sender segment = segment.flags.ack && (is_none sender.initial || is_number sender.initial segment.sequence)
+abbrev pub opens : Host → Extent → Arrival → Bool
+opens Client sender segment = not segment.flags.ack && is_number sender.initial segment.sequence
+opens Server sender segment = segment.flags.ack && (is_none sender.initial || is_number sender.initial segment.sequence)
 
 -- a SYN that is neither
-abbrev pub syn_in_session : Bool → Extent → Arrival → Bool
-syn_in_session from_client sender segment = segment.flags.syn && not (opens from_client sender segment)
+abbrev pub syn_in_session : Host → Extent → Arrival → Bool
+syn_in_session from sender segment = segment.flags.syn && not (opens from sender segment)
 
 -- neither SYN nor RST nor ACK
 abbrev pub no_ack : Arrival → Bool
@@ -68,11 +70,11 @@ backlog sender segment =
     is_data segment && nat_lt 0 added && nat_lt 65536 (sender.recent + added)
 
 -- the tests in their order, where it is known whether the segment repeats unlike
-abbrev pub tests : Bool → Extent → Extent → Arrival → Bool → List (Bool × Refusal)
-tests from_client sender receiver segment unlike =
+abbrev pub tests : Host → Extent → Extent → Arrival → Bool → List (Bool × Refusal)
+tests from sender receiver segment unlike =
     (no_session sender receiver segment, NoSession)
     ∷ (syn_data segment, SynData)
-    ∷ (syn_in_session from_client sender segment, SynInSession)
+    ∷ (syn_in_session from sender segment, SynInSession)
     ∷ (no_ack segment, NoAck)
     ∷ (gap sender segment, Gap)
     ∷ (past_end sender segment, PastEnd)
@@ -83,9 +85,9 @@ tests from_client sender receiver segment unlike =
     ∷ []
 
 -- why a segment is refused, by what is known of both senders and of the segment
-abbrev pub refusal_of : Bool → Extent → Extent → Arrival → Bool → Option Refusal
-refusal_of from_client sender receiver segment unlike = first_that_holds (tests from_client sender receiver segment unlike)
+abbrev pub refusal_of : Host → Extent → Extent → Arrival → Bool → Option Refusal
+refusal_of from sender receiver segment unlike = first_that_holds (tests from sender receiver segment unlike)
 
--- why a segment of the client (true), or of the server, is refused
-abbrev pub segment_refusal : Bool → Session → Segment → Option Refusal
-segment_refusal from_client s segment = refusal_of from_client (extent (own from_client s)) (extent (other from_client s)) (arrival segment) (repeats_unlike (own from_client s) segment)
+-- why a segment of a host is refused
+abbrev pub segment_refusal : Host → Session → Segment → Option Refusal
+segment_refusal from s segment = refusal_of from (extent (own from s)) (extent (other from s)) (arrival segment) (repeats_unlike (own from s) segment)

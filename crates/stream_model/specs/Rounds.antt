@@ -1,5 +1,7 @@
 -- Two hosts that do what every host does: one sends again from the first octet that it has no acknowledgement of, and the other takes what goes on from what it has, and acknowledges what it has (RFC 9293, 3.8.1, 3.10.7.4).
-use Rattle.std.specs.Prelude.{◌≡◌, ◌≤◌, ◌<◌, ◌⊎◌, ℕ, Bool, true, not, List, [], ◌∷◌, length, None}
+use Rattle.std.specs.Prelude.{◌≡◌, ◌≤◌, ◌<◌, ◌⊎◌, ℕ, true, List, [], ◌∷◌, length, None}
+use Rattle.gate_base.specs.declared.host.Host.{Host}
+use Rattle.gate_base.specs.Hosts.{peer}
 use Rattle.stream_model.specs.Numbers.{known}
 use Rattle.stream_model.specs.Session.{Sender, Session, Segment, Outgoing, own, due_in, extent, arrival, place_acknowledged}
 use Rattle.stream_model.specs.Refusals.{is_data, segment_refusal}
@@ -19,12 +21,12 @@ pub record Round : Type 0 where
   pub has : ℕ
   pub answer : Segment
 
--- the session after both segments, the first of the client (true), or of the server
-abbrev pub after_repeat : Bool → Session → Round → Session
-after_repeat client s x = session_next client s x.repeat
+-- the session after both segments, of which this host sends the first
+abbrev pub after_repeat : Host → Session → Round → Session
+after_repeat host s x = session_next host s x.repeat
 
-abbrev pub after_round : Bool → Session → Round → Session
-after_round client s x = session_next (not client) (after_repeat client s x) x.answer
+abbrev pub after_round : Host → Session → Round → Session
+after_round host s x = session_next (peer host) (after_repeat host s x) x.answer
 
 -- not all that is due of a sender's octets is acknowledged, and it sends again the first that it doesn't know to be acknowledged
 pub record LacksOctets (a new : Sender) (g : Segment) (knows : ℕ) : Type 0 where
@@ -38,25 +40,25 @@ pub record LacksEnd (a new : Sender) (g : Segment) (knows : ℕ) : Type 0 where
   pub ended : new.ended ≡ true
   pub lacks : a.acked ≤ length (due_in new)
 
--- of the stream of the client (true), or of the server, of whose octets it knows so many to be acknowledged, and of whose image the other host has so many octets:
-pub record IsRound (client : Bool) (s : Session) (knows had : ℕ) (x : Round) : Type 0 where
+-- of the stream of a host that knows so many of its octets to be acknowledged, and of whose image the other host has so many octets:
+pub record IsRound (host : Host) (s : Session) (knows had : ℕ) (x : Round) : Type 0 where
   -- while not all that is due is acknowledged, or the end isn't, a segment passes that has the first octet that isn't known to be acknowledged, or begins there and has the end;
-  pub passes : segment_refusal client s x.repeat ≡ None
+  pub passes : segment_refusal host s x.repeat ≡ None
   pub kind : is_data (arrival x.repeat) ≡ true
-  pub lacks : LacksOctets (own client s) (own client (after_repeat client s x)) x.repeat knows ⊎ LacksEnd (own client s) (own client (after_repeat client s x)) x.repeat knows
+  pub lacks : LacksOctets (own host s) (own host (after_repeat host s x)) x.repeat knows ⊎ LacksEnd (own host s) (own host (after_repeat host s x)) x.repeat knows
   -- the other host hears what goes out for it,
-  pub hears : Hears (known (own client s).initial) (due_in (own client (after_repeat client s x))) had (session_out client s x.repeat) x.has
+  pub hears : Hears (known (own host s).initial) (due_in (own host (after_repeat host s x))) had (session_out host s x.repeat) x.has
   -- and acknowledges all that it has by a segment that passes
-  pub answered : segment_refusal (not client) (after_repeat client s x) x.answer ≡ None
+  pub answered : segment_refusal (peer host) (after_repeat host s x) x.answer ≡ None
   pub answers : is_data (arrival x.answer) ≡ true
-  pub all : place_acknowledged (extent (own client (after_repeat client s x))) (arrival x.answer) ≡ x.has
+  pub all : place_acknowledged (extent (own host (after_repeat host s x))) (arrival x.answer) ≡ x.has
 
 -- one round after the other; what comes back with an answer is known from then on
-abbrev pub AllRounds : Bool → Session → ℕ → ℕ → List Round → Type 0
-AllRounds client s knows had [] = Unit {0}
-AllRounds client s knows had (x ∷ xs) = IsRound client s knows had x × AllRounds client (after_round client s x) (acknowledged_of (own client (after_round client s x))) x.has xs
+abbrev pub AllRounds : Host → Session → ℕ → ℕ → List Round → Type 0
+AllRounds host s knows had [] = Unit {0}
+AllRounds host s knows had (x ∷ xs) = IsRound host s knows had x × AllRounds host (after_round host s x) (acknowledged_of (own host (after_round host s x))) x.has xs
 
 -- the session after them
-abbrev pub after_rounds : Bool → Session → List Round → Session
-after_rounds client s [] = s
-after_rounds client s (x ∷ xs) = after_rounds client (after_round client s x) xs
+abbrev pub after_rounds : Host → Session → List Round → Session
+after_rounds host s [] = s
+after_rounds host s (x ∷ xs) = after_rounds host (after_round host s x) xs

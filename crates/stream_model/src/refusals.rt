@@ -5,7 +5,7 @@ ghost use Rattle.stream_model.specs.Numbers.{is_number};
 ghost use Rattle.stream_model.specs.Refusals.{is_data, no_session, syn_data, opens, syn_in_session, no_ack, gap, past_end, ack_ahead, stream_limit, backlog, refusal_of};
 
 use crate::numbers::{Offset, number_at, place_near};
-use gate_base::Refusal;
+use gate_base::{Host, Refusal};
 use tcp_segments::Flags;
 
 /// What a refusal needs to know of a segment.
@@ -60,21 +60,22 @@ fn is_number(initial: Option<u32>, number: u32) -> bool
     }
 }
 
-fn opens(from_client: bool, sender: Extent, segment: Arrival) -> bool
-    ensures { result ≡ opens from_client sender segment }
+fn opens(from: Host, sender: Extent, segment: Arrival) -> bool
+    ensures { result ≡ opens from sender segment }
 {
-    if from_client {
-        !segment.flags.ack && is_number(sender.initial, segment.sequence)
-    } else {
-        segment.flags.ack
-            && (sender.initial.is_none() || is_number(sender.initial, segment.sequence))
+    match from {
+        Host::Client => !segment.flags.ack && is_number(sender.initial, segment.sequence),
+        Host::Server => {
+            segment.flags.ack
+                && (sender.initial.is_none() || is_number(sender.initial, segment.sequence))
+        }
     }
 }
 
-fn syn_in_session(from_client: bool, sender: Extent, segment: Arrival) -> bool
-    ensures { result ≡ syn_in_session from_client sender segment }
+fn syn_in_session(from: Host, sender: Extent, segment: Arrival) -> bool
+    ensures { result ≡ syn_in_session from sender segment }
 {
-    segment.flags.syn && !opens(from_client, sender, segment)
+    segment.flags.syn && !opens(from, sender, segment)
 }
 
 fn no_ack(segment: Arrival) -> bool
@@ -157,18 +158,17 @@ fn backlog(sender: Extent, segment: Arrival) -> bool
     is_data(segment) && 0 < added && 65_536 < u64::from(sender.recent) + added
 }
 
-/// Why a segment of the client, or else of the server, is refused: the first reason that holds, in the order of `Refusal`. None
-/// where it passes. It goes by what is known of the sender, of the receiver and of the segment, and by whether the segment
-/// repeats unlike.
+/// Why a segment of a host is refused: the first reason that holds, in the order of `Refusal`. None where it passes. It goes by
+/// what is known of the sender, of the receiver and of the segment, and by whether the segment repeats unlike.
 #[inline(always)]
 pub fn refusal(
-    from_client: bool,
+    from: Host,
     sender: Extent,
     receiver: Extent,
     segment: Arrival,
     unlike: bool,
 ) -> Option<Refusal>
-    ensures { result ≡ refusal_of from_client sender receiver segment unlike }
+    ensures { result ≡ refusal_of from sender receiver segment unlike }
 {
     if no_session(sender, receiver, segment) {
         return Some(Refusal::NoSession);
@@ -176,7 +176,7 @@ pub fn refusal(
     if syn_data(segment) {
         return Some(Refusal::SynData);
     }
-    if syn_in_session(from_client, sender, segment) {
+    if syn_in_session(from, sender, segment) {
         return Some(Refusal::SynInSession);
     }
     if no_ack(segment) {

@@ -1,10 +1,10 @@
 -- Connections with their sessions inline.
-use Rattle.std.proofs.Common.{◌≡◌, ◌≢◌, ◌≤◌, ◌<◌, ℕ, zero, suc, ◌+◌, Bool, true, false, not, ◌&&◌, ◌||◌, cond, nat_lt, if◌then◌else◌, List, [], ◌∷◌, ◌++◌, length, map, take, drop, set, get_or, All, AllPairs, position, Option, Some, None, option_map, is_some, refl, sym, ◌∙◌, ap, subst, arith}
+use Rattle.std.proofs.Common.{◌≡◌, ◌≢◌, ◌≤◌, ◌<◌, ℕ, zero, suc, ◌+◌, Bool, true, false, not, ◌&&◌, ◌||◌, cond, nat_lt, if◌then◌else◌, List, [], ◌∷◌, ◌++◌, length, take, drop, set, get_or, All, AllPairs, position, Option, Some, None, option_map, is_some, refl, sym, ◌∙◌, ap, subst, arith}
 use Rattle.std.specs.Prelude.{option_and_then, slice_get, IfSome, IsSome}
 use Rattle.std.specs.List.{filter, remove, position_or_len}
 use Rattle.std.specs.Prelude.{option_to_list}
 use Rattle.std.proofs.lemmas.Bool.{and_parts, ltb-true, true≢false}
-use Rattle.std.proofs.lemmas.List.{length-map, length-append, append-nil, map-append, map-set, take-map, drop-map}
+use Rattle.std.proofs.lemmas.List.{length-append, append-nil, map-append, map-set, take-map, drop-map}
 use Rattle.std.proofs.lemmas.List.Elements.{All-nil, All-cons, All-push, All-set, All-append, All-take, All-drop, All-weaker, All-head, All-tail, All-get_or}
 use Rattle.std.proofs.lemmas.Grind.{flat_map-append}
 use Rattle.std.proofs.lemmas.List.Quantifiers.{all_pairs_push}
@@ -12,6 +12,8 @@ use Rattle.std.proofs.lemmas.Option.{slice_get-map, slice_get_within, get_or_fro
 use Rattle.gate_base.specs.declared.event.Moment.{Moment}
 use Rattle.gate_base.specs.declared.side.Side.{Side}
 use Rattle.gate_base.specs.declared.side.Side.TheVariants.{Left, Right}
+use Rattle.gate_base.proofs.Options.{none_mapped}
+use Rattle.gate_base.proofs.Lists.{position_as}
 use Rattle.slab.specs.Slab.{Slab, get, slab_len, Updates}
 use Rattle.tcp_segments.specs.Flags.{flags_of}
 use Rattle.tcp_tracker.specs.Connections.{is_of, is_reset, starts_anew, kept, timeout, timeout_or_short, timeout_of, unused, with_flags, held, after, kept_or_begun, is_tracked, place_of, connection_of, changed, noted, seen_as}
@@ -20,12 +22,8 @@ use Rattle.tcp_tracker.specs.declared.connection.Conn.{Conn}
 use Rattle.tcp_tracker.specs.declared.connection.Connection.{Connection}
 use Rattle.tcp_tracker.specs.Joined.{inline, joined, IsKept, slots_of, IsJoined}
 
-place_as : {A B : Type 0} (f : A → B) (p : B → Bool) (q : A → Bool) → ((x : A) → p (f x) ≡ q x) → (xs : List A) → position_or_len p (map f xs) ≡ position_or_len q xs
-place_as f p q same [] = refl
-place_as f p q same (x ∷ xs) = rw (same x, place_as f p q same xs) refl
-
 pub place_joined : {X : Type 0} (slots : Slab X) (key : ConnKey) (all : List (Connection ℕ)) → place_of key (joined slots all) ≡ place_of key all
-place_joined slots key all = rw (place_as (inline slots) (is_of key) (is_of key) (λ c. refl) all, length-map) refl
+place_joined slots key all = position_as (inline slots) (is_of key) (is_of key) (λ c. refl) all
 
 pub connection_joined : {X : Type 0} (slots : Slab X) (key : ConnKey) (all : List (Connection ℕ)) → connection_of key (joined slots all) ≡ option_map (inline slots) (connection_of key all)
 connection_joined slots key all = rw (place_joined slots key all) (at (place_of key all))
@@ -63,16 +61,16 @@ tracked_joined {X = X} slots (c ∷ all) h = rw (some_kept slots c.session (All-
 
 -- ## A new connection
 
-place_none : {S : Type 0} (key : ConnKey) (all : List (Connection S)) → connection_of key all ≡ None → place_of key all ≡ None
+pub none_past : {A : Type 0} (xs : List A) (i : ℕ) → slice_get xs i ≡ None → length xs ≤ i
+none_past [] i e = omega arith
+none_past (x ∷ xs) zero e = absurd (cc)
+none_past (x ∷ xs) (suc i) e = let le : length xs ≤ i = none_past xs i e in omega arith
+
+pub place_none : {S : Type 0} (key : ConnKey) (all : List (Connection S)) → connection_of key all ≡ None → place_of key all ≡ None
 place_none {S = S} key all e = by_place (nat_lt (position_or_len (is_of key) all) (length all)) refl e
   where
-    within : (xs : List (Connection S)) (i : ℕ) → i < length xs → slice_get xs i ≡ None → ⊥
-    within [] i l e = omega arith
-    within (x ∷ xs) zero l e = cc
-    within (x ∷ xs) (suc i) l e = within xs i (omega arith) e
-
     by_place : (b : Bool) → nat_lt (position_or_len (is_of key) all) (length all) ≡ b → option_and_then (slice_get all) (cond b (Some (position_or_len (is_of key) all)) None) ≡ None → cond b (Some (position_or_len (is_of key) all)) None ≡ None
-    by_place true h e = absurd (within all (position_or_len (is_of key) all) (omega (arith, ltb-true (position_or_len (is_of key) all) (length all) h)) e)
+    by_place true h e = absurd (omega (arith, ltb-true (position_or_len (is_of key) all) (length all) h, none_past all (position_or_len (is_of key) all) e))
     by_place false h e = refl
 
 -- the connection that begins
@@ -89,12 +87,8 @@ noted_new {S = S} all key from flags session now none plain =
     ∙ ap (λ found. changed all None (after key from flags (Some session) now found)) none
     ∙ ap (λ (b : Bool). changed all None (option_map (λ c. held now (with_flags from flags c)) (if b then None else Some (unused key (Some session))))) plain
 
-none_of : {A B : Type 0} (f : A → B) (o : Option A) → option_map f o ≡ None → o ≡ None
-none_of f None e = refl
-none_of f (Some x) e = cc
-
 pub absent_below : {X : Type 0} (slots : Slab X) (key : ConnKey) (all : List (Connection ℕ)) → connection_of key (joined slots all) ≡ None → connection_of key all ≡ None
-absent_below slots key all e = none_of (inline slots) (connection_of key all) (sym (connection_joined slots key all) ∙ e)
+absent_below slots key all e = none_mapped (inline slots) (connection_of key all) (sym (connection_joined slots key all) ∙ e)
 
 -- a vacant slot that gets a session is none of the connections'
 other_slot : {X : Type 0} (slots : Slab X) (s slot : ℕ) → IsSome (get slots s) → get slots slot ≡ None → s ≢ slot
@@ -331,11 +325,6 @@ place_within {A = A} p xs i e = by_test (nat_lt (position_or_len p xs) (length x
     by_test true h e = let same : position_or_len p xs ≡ i = cc in omega (arith, ltb-true (position_or_len p xs) (length xs) h)
     by_test false h e = absurd (cc)
 
-pub none_past : {A : Type 0} (xs : List A) (i : ℕ) → slice_get xs i ≡ None → length xs ≤ i
-none_past [] i e = omega arith
-none_past (x ∷ xs) zero e = absurd (cc)
-none_past (x ∷ xs) (suc i) e = let le : length xs ≤ i = none_past xs i e in omega arith
-
 pub noted_stays : {X : Type 0} (slots : Slab X) (all : List (Connection ℕ)) (key : ConnKey) (from : Side) (flags : ℕ) (now : Moment) → All (IsKept slots) all → Stays slots all (noted all key from flags None now)
 noted_stays {X = X} slots all key from flags now h = by_place (place_of key all) refl (found_kept slots key all h)
   where
@@ -356,7 +345,3 @@ noted_is slots all key from flags now h =
       counted = h.counted ∙ ap length (sym s.same);
       room = h.room;
     }
-
-pub some_mapped : {A B : Type 0} (f : A → B) (o : Option A) → is_some (option_map f o) ≡ is_some o
-some_mapped f None = refl
-some_mapped f (Some x) = refl

@@ -1,19 +1,20 @@
 -- Connections under numbers.
 use Rattle.std.proofs.Common.{if◌then◌else◌, ◌≡◌, inl, inr, ℕ, suc, ◌+◌, ◌*◌, ◌^◌, ◌<◌, Bool, true, false, cond, nat_lt, ◌==◌, ◌&&◌, is_some, IsSome, List, [], ◌∷◌, ◌++◌, length, map, position, slice_get, Option, Some, None, IfSome, option_map, option_and_then, refl, ap, sym, ◌∙◌, subst, arith}
 use Rattle.std.specs.List.{find, position_or_len, All}
-use Rattle.std.proofs.lemmas.Bool.{eq-eqb, eqb-true, cases_Bool, ltb-false, ltb-true, lt-ltb, le-ltb}
+use Rattle.std.proofs.lemmas.Bool.{eq-eqb, eqb-true, cases_Bool, ltb-false, ltb-true, lt-ltb, le-ltb, false_from_ne_true}
 use Rattle.std.proofs.lemmas.Bool.Decides.{eqb_tells}
 use Rattle.std.proofs.lemmas.List.Elements.{All-head, All-tail, All-nil, All-cons}
 use Rattle.std.proofs.lemmas.List.Folds.{find_at}
 use Rattle.std.proofs.lemmas.Option.{none-some, slice_get_past}
 use Rattle.expiring_table.specs.declared.row.Row.{Row}
 use Rattle.expiring_table.specs.Rows.{row_of, with_row, without, AreDistinct}
-use Rattle.expiring_table.proofs.Taken.{without_none}
+use Rattle.expiring_table.proofs.Taken.{without_none, with_none}
 use Rattle.tcp_tracker.specs.declared.connection.ConnKey.{ConnKey}
 use Rattle.tcp_tracker.specs.declared.connection.Connection.{Connection}
 use Rattle.gate_base.specs.declared.event.Moment.{Moment}
 use Rattle.gate_base.specs.declared.side.Side.{Side}
 use Rattle.gate_base.specs.declared.side.Side.TheVariants.{Left, Right}
+use Rattle.gate_base.proofs.Options.{some_mapped}
 use Rattle.tcp_segments.specs.Flags.{flags_of}
 use Rattle.tcp_tracker.specs.Connections.{is_of, place_of, connection_of, AreNamedOnce, changed, after, held, with_flags, unused, is_reset, starts_anew, timeout_or_short, kept, kept_or_begun}
 use Rattle.tcp_tracker.specs.Filed.{IsKey, IsFiled, number_of, filed}
@@ -58,10 +59,6 @@ and_parts true true false d e = let bad : ⊥ = cc in absurd bad
 and_parts true false c d e = let bad : ⊥ = cc in absurd bad
 and_parts false b c d e = let bad : ⊥ = cc in absurd bad
 
-false_from_not : (b : Bool) → (b ≡ true → ⊥) → b ≡ false
-false_from_not true never = absurd (never refl)
-false_from_not false never = refl
-
 same_from_is_of : (key : ConnKey) (c : Connection ℕ) → is_of key c ≡ true → AreSame c.key key
 same_from_is_of key c is =
     let parts = and_parts (c.key.left.0 == key.left.0) (c.key.left_port == key.left_port) (c.key.right.0 == key.right.0) (c.key.right_port == key.right_port) is in
@@ -81,7 +78,7 @@ pub named : (key : ConnKey) (row : Row (Connection ℕ)) → IsKey key → IsFil
 named key row k f =
     elim (eqb_tells row.key (number_of key)) [
       | inl h ↦ is_of_from_same key row.value (same_from_number row.value.key key f.key k (sym f.number ∙ h.1)) ∙ sym (h.0)
-      | inr h ↦ false_from_not (is_of key row.value) (λ is. h.1 (f.number ∙ number_from_same row.value.key key (same_from_is_of key row.value is))) ∙ sym (h.0)
+      | inr h ↦ false_from_ne_true (is_of key row.value) (λ is. h.1 (f.number ∙ number_from_same row.value.key key (same_from_is_of key row.value is))) ∙ sym (h.0)
     ]
 
 abbrev key_with : ℕ → ℕ → ℕ → ℕ → ConnKey
@@ -94,7 +91,7 @@ key_from_same a b e =
 
 -- ## Look-ups
 
-find_by_place : {X : Type 0} (p : X → Bool) (xs : List X) → option_and_then (slice_get xs) (position p xs) ≡ find p xs
+pub find_by_place : {X : Type 0} (p : X → Bool) (xs : List X) → option_and_then (slice_get xs) (position p xs) ≡ find p xs
 find_by_place {X} p xs =
     elim (cases_Bool (nat_lt (position_or_len p xs) (length xs))) [
       | inl e ↦ rw e (sym (find_at p xs))
@@ -157,25 +154,9 @@ dropped_named key (row ∷ rows) k all distinct =
       | inr e ↦ rw e (ap (λ more. row.value ∷ more) (dropped_named key rows k (All-tail IsFiled row rows all) (distinct.1)) ∙ sym (changed_at row.value (connections_in rows) key None (same ∙ e)))
     ]
 
-with_row_none : (new : Row (Connection ℕ)) (rows : List (Row (Connection ℕ))) → row_of new.key rows ≡ None → with_row new rows ≡ rows
-with_row_none new [] none = refl
-with_row_none new (row ∷ rows) none =
-    elim (cases_Bool (row.key == new.key)) [
-      | inl e ↦ let found : row_of new.key (row ∷ rows) ≡ Some row = rw e refl in absurd (none-some row (sym none ∙ found))
-      | inr e ↦ let rest : row_of new.key (row ∷ rows) ≡ row_of new.key rows = rw e refl in rw e (ap (λ more. row ∷ more) (with_row_none new rows (sym rest ∙ none)))
-    ]
-
-is_some_map : {X Y : Type 0} (f : X → Y) (o : Option X) → is_some (option_map f o) ≡ is_some o
-is_some_map f None = refl
-is_some_map f (Some x) = refl
-
 -- the connection is there where its row is
 pub there_named : (key : ConnKey) (rows : List (Row (Connection ℕ))) → IsKey key → All IsFiled rows → is_some (connection_of key (connections_in rows)) ≡ is_some (row_of (number_of key) rows)
-there_named key rows k all = ap is_some (found_named key rows k all) ∙ is_some_map (λ row. row.value) (row_of (number_of key) rows)
-
-pub none_there : {X : Type 0} (o : Option X) → is_some o ≡ false → o ≡ None
-none_there None is = refl
-none_there (Some x) is = let bad : ⊥ = cc in absurd bad
+there_named key rows k all = ap is_some (found_named key rows k all) ∙ some_mapped (λ row. row.value) (row_of (number_of key) rows)
 
 -- the row of a connection has the number of its name
 number_in : (key : ConnKey) (next : Connection ℕ) (row : Row (Connection ℕ)) → row ≡ filed next → next.key ≡ key → row.key ≡ number_of key
@@ -200,7 +181,7 @@ set_named key (row ∷ rows) next k all distinct name there =
       | inl e ↦
           let here : (row.key == number_of next.key) ≡ true = ap (λ one. row.key == one) number ∙ e in
           let P : ℕ → Type 0 = λ one. row_of one rows ≡ None in
-          rw here (ap (λ more. next ∷ connections_in more) (with_row_none (filed next) rows (subst P (sym number) (rest_none key row rows distinct e))) ∙ sym (changed_here row.value (connections_in rows) key (Some next) (same ∙ e)))
+          rw here (ap (λ more. next ∷ connections_in more) (with_none (filed next) rows (subst P (sym number) (rest_none key row rows distinct e))) ∙ sym (changed_here row.value (connections_in rows) key (Some next) (same ∙ e)))
       | inr e ↦
           let here : (row.key == number_of next.key) ≡ false = ap (λ one. row.key == one) number ∙ e in
           let rest : row_of (number_of key) (row ∷ rows) ≡ row_of (number_of key) rows = rw e refl in

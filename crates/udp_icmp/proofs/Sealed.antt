@@ -84,7 +84,7 @@ reads_without_sum source destination segment lengths none =
     ap (λ sealed. read_udp sealed source destination) (not_sealed source destination segment none)
     ∙ passes segment source destination lengths (ap (λ b. not b && not (is_right (udp_covered source destination segment))) none)
 
-long_segment : (segment : List ℕ) → has_bad_length segment ≡ false → 8 ≤ length segment
+pub long_segment : (segment : List ℕ) → has_bad_length segment ≡ false → 8 ≤ length segment
 long_segment segment lengths = grind (arith, nat_tests)
 
 pub sealed_udp_reads : (source destination : ℕ) (segment : List ℕ) → source < 2 ^ 32 → destination < 2 ^ 32 → length segment < 2 ^ 16 → has_bad_length segment ≡ false → read_udp (sealed_udp source destination segment) source destination ≡ Ok (udp_fields_of segment)

@@ -1,7 +1,7 @@
 use gate_base::Addr;
 use ipv4_frames::{IpView, TransportFault};
 use std::test::Fail;
-use tcp_segments::{TcpView, put_segment};
+use tcp_segments::{SegmentFields, TcpView, put_segment};
 
 const CAME: &[u8; 59] = b"\x45\0\0\x3b\0\x02\x40\0\x40\x06\xa8\x0c\x0a\0\0\x05\xc0\xa8\xc8\x01\
     \x9c\x40\0\x15\0\0\x03\xe9\0\0\x13\x89\x50\x18\x20\0\x51\x84\0\0PORT 10,0,0,5,4,1\r\n";
@@ -18,20 +18,16 @@ fn reads_and_writes_segments(rt: HostRuntime) -> Result<(), Fail> {
         assert!(rt; tcp.ports() == (40_000, 21) && tcp.sequence() == 1001);
         assert!(rt; tcp.acknowledgement() == 5001 && tcp.flags() == 24 && tcp.mss() == 536);
         assert!(rt; tcp.options().is_empty() && tcp.payload().len() == 19);
-        let (source, destination) = (Addr(0xac10_0901), Addr(0x0a00_0005));
+        let fields = SegmentFields {
+            source: Addr(0xac10_0901),
+            destination: Addr(0x0a00_0005),
+            lifetime: 63,
+            sequence: 1001,
+            acknowledgement: 5001,
+            flags: 24,
+        };
         let octets = b"PORT 172,16,9,1,4,1\r\n";
-        put_segment(
-            &mut target,
-            ip.header(),
-            tcp.header(),
-            source,
-            destination,
-            63,
-            1001,
-            5001,
-            24,
-            octets,
-        );
+        put_segment(&mut target, ip.header(), tcp.header(), fields, octets);
     }
     assert!(rt; target == *GOES);
 

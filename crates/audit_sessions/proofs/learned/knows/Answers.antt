@@ -5,4 +5,4 @@ use Rattle.audit_sessions.specs.Sessions.{listed_of}
 use Rattle.audit_sessions.proofs.learned.knows.Goals as goal
 
 pub returns : goal.returns
-returns c = c.is_some.ensures ∙ ap is_some c.image_of.ensures ∙ image_of_listed (listed_of c.args.from_client c.args.session.now) c.args.address.0
+returns c = c.is_some.ensures ∙ ap is_some c.image_of.ensures ∙ image_of_listed (listed_of c.args.host c.args.session.now) c.args.address.0

@@ -8,7 +8,7 @@ use Rattle.audit_sessions.proofs.learned.learn_all.Goals as goal
 
 pub learn_one-requires-clause-few : goal.learn_one-requires-clause-few
 learn_one-requires-clause-few c =
-    let f = c.args.from_client in
+    let f = c.args.host in
     let i = c.loop-one.one-index in
     let d : Entry = (record { 0 = 0 }, None) in
     let one : Entry = slice_index_or c.args.named.now i d in
@@ -18,4 +18,4 @@ learn_one-requires-clause-few c =
     (room_for (listed_of f c.args.session.now) c.args.named.now (drop (suc i) c.args.named.now) one i (drop-next c.args.named.now i d within) c.requires.few))
 
 pub learn_one-requires-clause-listed : goal.learn_one-requires-clause-listed
-learn_one-requires-clause-listed c = subst (IsListedSide c.args.from_client) (sym c.loop-one.invariant) (side_longer c.args.from_client (take c.loop-one.one-index c.args.named.now) c.args.session.now c.requires.listed)
+learn_one-requires-clause-listed c = subst (IsListedSide c.args.host) (sym c.loop-one.invariant) (side_longer c.args.host (take c.loop-one.one-index c.args.named.now) c.args.session.now c.requires.listed)

@@ -3,4 +3,4 @@ use Rattle.audit_sessions.specs.Sessions.{with_entered}
 use Rattle.audit_sessions.proofs.learned.learn_all.Given as goal
 
 abbrev pub invariant-loop-one : goal.invariant-loop-one
-invariant-loop-one l = l.session ≡ with_entered l.from_client (take l.one-index l.named) l.initial.session
+invariant-loop-one l = l.session ≡ with_entered l.host (take l.one-index l.named) l.initial.session

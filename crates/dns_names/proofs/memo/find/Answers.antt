@@ -1,6 +1,7 @@
 use Rattle.std.proofs.Common.{◌≡◌, ◌-◌, ◌≤◌, ◌++◌, ◌∷◌, [], ℕ, List, length, cond, refl, sym, ap, subst, ◌∙◌, arith, append_assoc, true}
 use Rattle.std.specs.Prelude.{nat_lt}
 use Rattle.std.proofs.lemmas.Bool.{lt-ltb}
+use Rattle.std.proofs.lemmas.List.{nil_from_length}
 use Rattle.dns_names.specs.Names.{piece_at}
 use Rattle.dns_names.specs.Memo.{octets_of, known_by, AreKnown, IsMemo, Joins, Leads}
 use Rattle.dns_names.specs.declared.known.Known.{Known}
@@ -20,10 +21,6 @@ memo-grows m old new more i same is =
 
 taken-back : (m kept : List ℕ) (first : ℕ) (path path' : List ℕ) (at : ℕ) (k : Known) → Leads m kept first path' k → path' ≡ path ++ at ∷ [] → Leads m kept first (path ++ at ∷ []) k
 taken-back m kept first path path' at k leads is = subst (λ (p : List ℕ). Leads m kept first p k) is leads
-
-nil : (xs : List ℕ) → length xs ≡ 0 → xs ≡ []
-nil [] e = refl
-nil (x ∷ xs) e = absurd (omega arith)
 
 pub returns-in_err-keep_end-clause-memo : goal.returns-in_err-keep_end-clause-memo
 returns-in_err-keep_end-clause-memo c =
@@ -74,5 +71,5 @@ back-preserved c =
 pub returns-clause-found : goal.returns-clause-found
 returns-clause-found c =
     let m = c.args.message.now in
-    let none : c.back.memo.path.items ≡ [] = nil c.back.memo.path.items (omega (arith, c.in_default.ensures.cases.0, c.back.memo.path.ok.0)) in
+    let none : c.back.memo.path.items ≡ [] = nil_from_length c.back.memo.path.items (omega (arith, c.in_default.ensures.cases.0, c.back.memo.path.ok.0)) in
     here m c.back.memo.kept.items c.args.place c.back.known (subst (λ (p : List ℕ). Leads m c.back.memo.kept.items c.args.place p c.back.known) none c.back.invariant.0)

@@ -12,7 +12,7 @@ use Rattle.dns_plans.proofs.entered.enter_one.Goals.{then-knows-via-then-knows, 
 
 pub returns-then-knows-clause-entered : goal.returns-then-knows-clause-entered
 returns-then-knows-clause-entered g c = λ _.
-    let es : List Entry = g.S.Session.rules.listed c.args.sender.now.is_client c.args.sender.now.session.now in
+    let es : List Entry = g.S.Session.rules.listed c.args.sender.now.host c.args.sender.now.session.now in
     let new : List Entry = c.args.new.now in
     let address = c.args.one.0.0 in
     let known : (is_listed es address || is_listed new address) ≡ true =
@@ -26,14 +26,14 @@ returns-then-knows-clause-entered g c = λ _.
 
 pub returns-then-knows-clause-room : goal.returns-then-knows-clause-room
 returns-then-knows-clause-room g c =
-    let es : List Entry = g.S.Session.rules.listed c.args.sender.now.is_client c.args.sender.now.session.now in
+    let es : List Entry = g.S.Session.rules.listed c.args.sender.now.host c.args.sender.now.session.now in
     let new : List Entry = c.args.new.now in
     ap not (sym (le-ltb most_entries (length (es ++ new)) c.requires.few))
     ∙ ap (λ (xs : List Entry). not (nat_lt most_entries (length xs))) (returns-then-knows-clause-entered g c refl)
 
 pub returns-then-listed-len-eq-MOST_ENTRIES-clause-room : goal.returns-then-listed-len-eq-MOST_ENTRIES-clause-room
 returns-then-listed-len-eq-MOST_ENTRIES-clause-room g c =
-    let es : List Entry = g.S.Session.rules.listed c.args.sender.now.is_client c.args.sender.now.session.now in
+    let es : List Entry = g.S.Session.rules.listed c.args.sender.now.host c.args.sender.now.session.now in
     let new : List Entry = c.args.new.now in
     let one : Entry = c.args.one in
     let unlisted : is_listed new one.0.0 ≡ false = sym (image_of_listed new one.0.0) ∙ ap is_some (sym c.image_of.ensures) ∙ sym c.is_some.ensures ∙ c.if-is_some.false in
@@ -47,7 +47,7 @@ learn-requires-clause-unknown g c = sym (image_of_listed c.args.new.now c.args.o
 
 pub returns-clause-entered : goal.returns-clause-entered
 returns-clause-entered g c = λ _.
-    let es : List Entry = g.S.Session.rules.listed c.args.sender.now.is_client c.args.sender.now.session.now in
+    let es : List Entry = g.S.Session.rules.listed c.args.sender.now.host c.args.sender.now.session.now in
     let new : List Entry = c.args.new.now in
     let one : Entry = c.args.one in
     let unlisted : is_listed new one.0.0 ≡ false = sym (image_of_listed new one.0.0) ∙ ap is_some (sym c.image_of.ensures) ∙ sym c.is_some.ensures ∙ c.if-is_some.false in

@@ -4,5 +4,5 @@ use Rattle.dns_plans.proofs.entered.new_entries.Given as goal
 
 abbrev pub invariant-loop-one : goal.invariant-loop-one
 invariant-loop-one g l =
-    let es = g.S.Session.rules.listed l.sender.is_client l.sender.session.now in
+    let es = g.S.Session.rules.listed l.sender.host l.sender.session.now in
     (es ++ l.new ≡ entered_all es (take l.one-index l.named)) × (length (es ++ l.new) ≤ 256)

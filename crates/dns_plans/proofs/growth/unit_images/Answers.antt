@@ -10,7 +10,7 @@ use Rattle.dns_plans.proofs.growth.unit_images.Goals as goal
 
 pub loop-read-preserved : goal.loop-read-preserved
 loop-read-preserved g c =
-    let es : List Entry = g.S.Session.rules.listed c.args.sender.now.is_client c.args.sender.now.session.now ++ c.args.new.now in
+    let es : List Entry = g.S.Session.rules.listed c.args.sender.now.host c.args.sender.now.session.now ++ c.args.new.now in
     let unit = subst (λ (o : Option UnitImage). IfSome o (λ one. one.unit.items ≡ unit_of c.in-Some.read)) c.in-Some-2.is c.in_ok-image.ensures.unit in
     let right = subst (λ (o : Option UnitImage). IfSome o (λ one. one.image.items ≡ (dns_units es).image one.unit.items)) c.in-Some-2.is c.in_ok-image.ensures.image in (
       tt,

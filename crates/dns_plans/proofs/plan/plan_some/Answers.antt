@@ -1,6 +1,7 @@
-use Rattle.std.proofs.Common.{◌≡◌, ◌++◌, Bool, true, false, List, length, sym, ◌∙◌, ap, subst}
+use Rattle.std.proofs.Common.{◌≡◌, ◌++◌, true, false, List, length, sym, ◌∙◌, ap, subst}
 use Rattle.std.specs.Prelude.{map, not, nat_lt, is_none, Option, IfSome}
 use Rattle.std.specs.List.{list_any}
+use Rattle.std.proofs.lemmas.Bool.{not-false}
 use Rattle.gate_base.specs.Side.{other}
 use Rattle.gate_base.specs.declared.address.Addr.{Addr}
 use Rattle.binding_table.specs.Bindings.{free}
@@ -18,7 +19,7 @@ pub called_beside-requires : goal.called_beside-requires
 called_beside-requires g c =
     let t = c.args.table.now in
     let ends = c.args.endpoints.now in
-    let es : List Entry = g.S.Session.rules.listed c.args.sender.now.is_client c.args.sender.now.session.now in
+    let es : List Entry = g.S.Session.rules.listed c.args.sender.now.host c.args.sender.now.session.now in
     let names : List Addr = c.in-Ok.read.named.items in
     let new : list_any (is_new_unbound t ends.side es) names ≡ false = ap (list_any (is_new_unbound t ends.side es)) (sym c.deref.ensures.value) ∙ sym c.has_new_unbound.ensures ∙ c.if-has_new_unbound.false in
     record { bound = subst (λ (xs : List Addr). AreBound t ends.side (all_addresses ends xs)) (sym c.deref-2.ensures.value) (used_bound t ends es names c.requires.header c.requires.listed new) }
@@ -27,7 +28,7 @@ pub returns-in_default-clause-refused : goal.returns-in_default-clause-refused
 returns-in_default-clause-refused g c = λ uses u.
     let t = c.args.table.now in
     let ends = c.args.endpoints.now in
-    let es : List Entry = g.S.Session.rules.listed c.args.sender.now.is_client c.args.sender.now.session.now in
+    let es : List Entry = g.S.Session.rules.listed c.args.sender.now.host c.args.sender.now.session.now in
     let octets = c.args.octets.now in
     let called : List Entry = c.in_ok-entries.entries.items in
     let new : list_any (is_new_unbound t ends.side es) (names_in octets) ≡ false = ap (list_any (is_new_unbound t ends.side es)) (sym (c.deref.ensures.value ∙ c.in-Ok.ensures.named)) ∙ sym c.has_new_unbound.ensures ∙ c.if-has_new_unbound.false in
@@ -39,22 +40,18 @@ pub returns-then-not-room-clause-refused : goal.returns-then-not-room-clause-ref
 returns-then-not-room-clause-refused g c = λ uses u.
     let t = c.args.table.now in
     let ends = c.args.endpoints.now in
-    let es : List Entry = g.S.Session.rules.listed c.args.sender.now.is_client c.args.sender.now.session.now in
+    let es : List Entry = g.S.Session.rules.listed c.args.sender.now.host c.args.sender.now.session.now in
     let octets = c.args.octets.now in
     let called : List Entry = c.in_ok-entries.entries.items in
     let new : list_any (is_new_unbound t ends.side es) (names_in octets) ≡ false = ap (list_any (is_new_unbound t ends.side es)) (sym (c.deref.ensures.value ∙ c.in-Ok.ensures.named)) ∙ sym c.has_new_unbound.ensures ∙ c.if-has_new_unbound.false in
     let names : c.deref-2.result.now ≡ names_in octets = c.deref-2.ensures.value ∙ c.in-Ok.ensures.named in
     let few : nat_lt 256 (length (entered_all es called)) ≡ false = ap (λ (xs : List Entry). nat_lt 256 (length (entered_all es xs))) (sym c.deref-3.ensures.value) ∙ sym c.in_ok-new.ensures.few ∙ ap is_none c.in-Some.is in
     let room : not (nat_lt (free t (other ends.side)) (needed t ends.side (all_addresses ends (names_in octets)))) ≡ false = ap (λ (xs : List Addr). not (nat_lt (free t (other ends.side)) (needed t ends.side (all_addresses ends xs)))) (sym names) ∙ sym c.in_ok-entries.ensures.room ∙ c.if-not-room.true in
-    empty_told t (called_after t uses ends.side) ends es called octets c.in-Ok.ensures.good new (c.in_ok-entries.ensures.named ∙ names) few (lacks _ room)
-  where
-    lacks : (b : Bool) → not b ≡ false → b ≡ true
-    lacks true e = cc
-    lacks false e = cc
+    empty_told t (called_after t uses ends.side) ends es called octets c.in-Ok.ensures.good new (c.in_ok-entries.ensures.named ∙ names) few (not-false _ room)
 
 pub returns-clause-images : goal.returns-clause-images
 returns-clause-images g c =
-    let es : List Entry = g.S.Session.rules.listed c.args.sender.now.is_client c.args.sender.now.session.now in
+    let es : List Entry = g.S.Session.rules.listed c.args.sender.now.host c.args.sender.now.session.now in
     let after : es ++ c.in-Some.new ≡ entered_all es c.in_ok-entries.entries.items =
     subst (λ (o : Option (List Entry)). IfSome o (λ list. es ++ list ≡ entered_all es c.deref-3.result.now)) c.in-Some.is c.in_ok-new.ensures.list ∙ ap (entered_all es) c.deref-3.ensures.value in
     let right = subst (λ o. IfSome o (λ these. AreImages (dns_units (es ++ c.in-Some.new)) these.items)) c.in-Some-2.is c.in_ok-images.ensures.images in

@@ -1,10 +1,10 @@
 use Rattle.std.proofs.Common.{◌≡◌, Some, sym, ap, subst, ◌∙◌}
 use Rattle.std.specs.Prelude.{IfOk}
+use Rattle.std.proofs.lemmas.Result.{on_ok_weaker, on_err_weaker}
 use Rattle.tcp_tracker.specs.Joined.{replaced}
 use Rattle.gate_model.specs.Stream.{stepped, segment_of}
-use Rattle.gate_model.specs.World.{Tracked, is_client}
+use Rattle.gate_model.specs.World.{Tracked, host_on}
 use Rattle.event_steps.specs.Segments.{AreCalled}
-use Rattle.event_steps.proofs.Results.{on_ok_by, on_err_by}
 use Rattle.event_steps.proofs.NotedConnections.{replaced_same}
 use Rattle.event_engine.specs.Engines.{IsStepped}
 use Rattle.event_engine.proofs.stream.step_session.Goals as goal
@@ -18,7 +18,7 @@ returns-in-Some-clause-next g c = λ image t e called.
     let same : c.in-Some.tracked.now ≡ t = cc in
     let side = c.args.way.now.side in
     let d = c.args.segment.now.datagram.now in
-    on_ok_by c.take.result (λ n. ap (replaced c.args.connections.now c.args.key.now) (n ∙ ap (stepped g.S.Session.rules image side d) same)) (c.take.ensures.next image (subst (λ (x : Tracked g.row.S.Denot). AreCalled g.S.Session.rules image side d x c.args.completed.entries.now) (sym same) called))
+    on_ok_weaker c.take.result (λ n. ap (replaced c.args.connections.now c.args.key.now) (n ∙ ap (stepped g.S.Session.rules image side d) same)) (c.take.ensures.next image (subst (λ (x : Tracked g.row.S.Denot). AreCalled g.S.Session.rules image side d x c.args.completed.entries.now) (sym same) called))
 
 pub returns-in-Some-clause-stepped : goal.returns-in-Some-clause-stepped
 returns-in-Some-clause-stepped g c = λ image t e called.
@@ -32,8 +32,8 @@ pub returns-in-Some-clause-lost : goal.returns-in-Some-clause-lost
 returns-in-Some-clause-lost g c = λ t e.
     let is : Some c.in-Some.tracked.now ≡ Some t = c.in-Some.ensures.value ∙ e in
     let same : c.in-Some.tracked.now ≡ t = cc in
-    on_err_by c.take.result (λ lost. record {
+    on_err_weaker c.take.result (λ lost. record {
       same = λ keeps. ap (replaced c.args.connections.now c.args.key.now) (lost.same keeps) ∙ replaced_same c.args.key.now c.args.connections.now c.in-Some.tracked.now (sym c.in-Some.ensures.value);
       nothing = lost.nothing;
-      wants = subst (λ (x : Tracked g.row.S.Denot). g.S.Engine.gives.MayWant (is_client c.args.way.now.side x) x.session (segment_of c.args.segment.now.datagram.now)) same lost.wants;
+      wants = subst (λ (x : Tracked g.row.S.Denot). g.S.Engine.gives.MayWant (host_on c.args.way.now.side x) x.session (segment_of c.args.segment.now.datagram.now)) same lost.wants;
     }) c.take.ensures.lost

@@ -1,4 +1,5 @@
-use Rattle.std.proofs.Common.{true, false, length, sym, ap, subst, ◌∙◌}
+use Rattle.std.proofs.Common.{length, sym, ap, subst, ◌∙◌}
+use Rattle.gate_base.specs.declared.host.Host.TheVariants.{Client, Server}
 use Rattle.gate_model.specs.World.{Tracked}
 use Rattle.dns_plans.specs.declared.stop.PlanStop.{PlanStop}
 use Rattle.event_steps.specs.SegmentFate.{IsStopped}
@@ -13,8 +14,8 @@ returns-in-Ok g c = λ live t lawful way found.
         found = found;
         refusal = verdict;
         units = c.in-Ok.ensures.planned live t (record { lawful = lawful; way_is = way; found = found; refusal = verdict });
-        client = c.listed-client.ensures.count ∙ ap (λ (s : g.row.S.Denot). length (g.S.Session.rules.listed true s)) session;
-        server = c.listed-server.ensures.count ∙ ap (λ (s : g.row.S.Denot). length (g.S.Session.rules.listed false s)) session;
+        client = c.listed-client.ensures.count ∙ ap (λ (s : g.row.S.Denot). length (g.S.Session.rules.listed Client s)) session;
+        server = c.listed-server.ensures.count ∙ ap (λ (s : g.row.S.Denot). length (g.S.Session.rules.listed Server s)) session;
       },
     )
 

@@ -1,14 +1,14 @@
 use Rattle.std.proofs.Common.{◌≡◌, ◌∙◌, [], ◌∷◌, Err, ap, sym, subst, refl}
 use Rattle.gate_base.specs.Tests.{first_that_holds}
+use Rattle.gate_base.proofs.Options.{none_there}
 use Rattle.gate_base.specs.declared.refusal.Refusal.TheVariants.{PoolEmpty}
 use Rattle.binding_table.specs.Bindings.{Bindings}
 use Rattle.gate_model.proofs.ListsKept.{uses_are}
 use Rattle.gate_model.specs.Lists.{addresses_in}
 use Rattle.gate_model.specs.Units.{uses_until}
-use Rattle.gate_model.specs.World.{Tracked, is_client}
+use Rattle.gate_model.specs.World.{Tracked, host_on}
 use Rattle.stream_model.specs.Session.{segment_in}
 use Rattle.dns_plans.proofs.NamedLemmas.{units-none}
-use Rattle.dns_plans.proofs.ToldLemmas.{none_whole}
 use Rattle.dns_plans.specs.Plans.{whole_units, all_addresses, called_after, beside, plan_tests, AreBound, IsListBound, TellsFirst}
 use Rattle.event_steps.specs.SegmentFate.{IsStopped}
 use Rattle.event_steps.proofs.UnitsJudged.{ready_is, way_ends, none_stopped, none_planned, some_planned, is_stopped, by_ok, by_four, by_err}
@@ -22,9 +22,9 @@ returns-then-is_none-clause-planned g c = λ live same on.
     let t = c.args.tracked.now in
     let session = ap (λ (x : Tracked g.row.S.Denot). x.session) c.tracked.view_is in
     let octets = c.put_octets.new.octets in
-    let ready = ready_is g.S.Session.rules live d way t c.is_client-from_client.result c.tracked.inside.session (segment_in c.args.segment.now.tcp.now) octets _ c.is_client-from_client.ensures session (ap segment_in c.requires.segment) c.put_octets.ensures refl
-    (subst (λ (b : Bindings). AreBound b way.side (way.source ∷ way.destination ∷ [])) (sym same) c.requires.header) (subst (λ (b : Bindings). IsListBound b way.side (g.S.Session.rules.listed (is_client way.side t) t.session)) (sym same) c.requires.listed) c.requires.few on in
-    let none : whole_units octets ≡ [] = ap whole_units (sym c.octets.ensures) ∙ units-none c.octets.result.now (sym c.unit_end.ensures ∙ none_whole c.unit_end.result c.if-is_none.ensures) in
+    let ready = ready_is g.S.Session.rules live d way t c.host_on-from.result c.tracked.inside.session (segment_in c.args.segment.now.tcp.now) octets _ c.host_on-from.ensures session (ap segment_in c.requires.segment) c.put_octets.ensures refl
+    (subst (λ (b : Bindings). AreBound b way.side (way.source ∷ way.destination ∷ [])) (sym same) c.requires.header) (subst (λ (b : Bindings). IsListBound b way.side (g.S.Session.rules.listed (host_on way.side t) t.session)) (sym same) c.requires.listed) c.requires.few on in
+    let none : whole_units octets ≡ [] = ap whole_units (sym c.octets.ensures) ∙ units-none c.octets.result.now (sym c.unit_end.ensures ∙ none_there c.unit_end.result c.if-is_none.ensures) in
     by_ok c.no_units.result (λ plan k. none_planned g.S.Session.rules live way.side d way t octets (way_ends way) _ plan ready none k.0 k.1.0 k.1.1.0 k.1.1.1) c.no_units.ensures.planned
 
 pub returns-then-is_none-clause-stopped : goal.returns-then-is_none-clause-stopped
@@ -34,9 +34,9 @@ returns-then-is_none-clause-stopped g c = λ live same on.
     let t = c.args.tracked.now in
     let session = ap (λ (x : Tracked g.row.S.Denot). x.session) c.tracked.view_is in
     let octets = c.put_octets.new.octets in
-    let ready = ready_is g.S.Session.rules live d way t c.is_client-from_client.result c.tracked.inside.session (segment_in c.args.segment.now.tcp.now) octets _ c.is_client-from_client.ensures session (ap segment_in c.requires.segment) c.put_octets.ensures refl
-    (subst (λ (b : Bindings). AreBound b way.side (way.source ∷ way.destination ∷ [])) (sym same) c.requires.header) (subst (λ (b : Bindings). IsListBound b way.side (g.S.Session.rules.listed (is_client way.side t) t.session)) (sym same) c.requires.listed) c.requires.few on in
-    let none : whole_units octets ≡ [] = ap whole_units (sym c.octets.ensures) ∙ units-none c.octets.result.now (sym c.unit_end.ensures ∙ none_whole c.unit_end.result c.if-is_none.ensures) in
+    let ready = ready_is g.S.Session.rules live d way t c.host_on-from.result c.tracked.inside.session (segment_in c.args.segment.now.tcp.now) octets _ c.host_on-from.ensures session (ap segment_in c.requires.segment) c.put_octets.ensures refl
+    (subst (λ (b : Bindings). AreBound b way.side (way.source ∷ way.destination ∷ [])) (sym same) c.requires.header) (subst (λ (b : Bindings). IsListBound b way.side (g.S.Session.rules.listed (host_on way.side t) t.session)) (sym same) c.requires.listed) c.requires.few on in
+    let none : whole_units octets ≡ [] = ap whole_units (sym c.octets.ensures) ∙ units-none c.octets.result.now (sym c.unit_end.ensures ∙ none_there c.unit_end.result c.if-is_none.ensures) in
     by_err c.no_units.result (λ stop e k. subst (IsStopped g.S.Session.rules live way.side d) (sym k.1) (none_stopped g.S.Session.rules live way.side d way t octets ready.on ready.units none ready.few ∙ ap (λ b. first_that_holds ((b, PoolEmpty) ∷ [])) k.0)) c.no_units.ensures.stopped
 
 pub returns-clause-planned : goal.returns-clause-planned
@@ -46,9 +46,9 @@ returns-clause-planned g c = λ live same on.
     let t = c.args.tracked.now in
     let session = ap (λ (x : Tracked g.row.S.Denot). x.session) c.tracked.view_is in
     let octets = c.octets-2.result.now in
-    let es = g.S.Session.rules.listed c.is_client-from_client.result c.tracked.inside.session in
-    let ready = ready_is g.S.Session.rules live d way t c.is_client-from_client.result c.tracked.inside.session (segment_in c.args.segment.now.tcp.now) octets es c.is_client-from_client.ensures session (ap segment_in c.requires.segment) (ap whole_units c.octets-2.ensures ∙ c.put_octets.ensures) refl
-    (subst (λ (b : Bindings). AreBound b way.side (way.source ∷ way.destination ∷ [])) (sym same) c.requires.header) (subst (λ (b : Bindings). IsListBound b way.side (g.S.Session.rules.listed (is_client way.side t) t.session)) (sym same) c.requires.listed) c.requires.few on in
+    let es = g.S.Session.rules.listed c.host_on-from.result c.tracked.inside.session in
+    let ready = ready_is g.S.Session.rules live d way t c.host_on-from.result c.tracked.inside.session (segment_in c.args.segment.now.tcp.now) octets es c.host_on-from.ensures session (ap segment_in c.requires.segment) (ap whole_units c.octets-2.ensures ∙ c.put_octets.ensures) refl
+    (subst (λ (b : Bindings). AreBound b way.side (way.source ∷ way.destination ∷ [])) (sym same) c.requires.header) (subst (λ (b : Bindings). IsListBound b way.side (g.S.Session.rules.listed (host_on way.side t) t.session)) (sym same) c.requires.listed) c.requires.few on in
     let ends = way_ends way in
     let uses = uses_until way.side (until_of g.S.Session.rules live way.side d) (all_addresses ends (addresses_in (whole_units octets))) in
     let are = uses_are way.side (until_of g.S.Session.rules live way.side d) (all_addresses ends (addresses_in (whole_units octets))) in
@@ -62,9 +62,9 @@ returns-clause-stopped g c = λ live same on.
     let t = c.args.tracked.now in
     let session = ap (λ (x : Tracked g.row.S.Denot). x.session) c.tracked.view_is in
     let octets = c.octets-2.result.now in
-    let es = g.S.Session.rules.listed c.is_client-from_client.result c.tracked.inside.session in
-    let ready = ready_is g.S.Session.rules live d way t c.is_client-from_client.result c.tracked.inside.session (segment_in c.args.segment.now.tcp.now) octets es c.is_client-from_client.ensures session (ap segment_in c.requires.segment) (ap whole_units c.octets-2.ensures ∙ c.put_octets.ensures) refl
-    (subst (λ (b : Bindings). AreBound b way.side (way.source ∷ way.destination ∷ [])) (sym same) c.requires.header) (subst (λ (b : Bindings). IsListBound b way.side (g.S.Session.rules.listed (is_client way.side t) t.session)) (sym same) c.requires.listed) c.requires.few on in
+    let es = g.S.Session.rules.listed c.host_on-from.result c.tracked.inside.session in
+    let ready = ready_is g.S.Session.rules live d way t c.host_on-from.result c.tracked.inside.session (segment_in c.args.segment.now.tcp.now) octets es c.host_on-from.ensures session (ap segment_in c.requires.segment) (ap whole_units c.octets-2.ensures ∙ c.put_octets.ensures) refl
+    (subst (λ (b : Bindings). AreBound b way.side (way.source ∷ way.destination ∷ [])) (sym same) c.requires.header) (subst (λ (b : Bindings). IsListBound b way.side (g.S.Session.rules.listed (host_on way.side t) t.session)) (sym same) c.requires.listed) c.requires.few on in
     let ends = way_ends way in
     let uses = uses_until way.side (until_of g.S.Session.rules live way.side d) (all_addresses ends (addresses_in (whole_units octets))) in
     let are = uses_are way.side (until_of g.S.Session.rules live way.side d) (all_addresses ends (addresses_in (whole_units octets))) in

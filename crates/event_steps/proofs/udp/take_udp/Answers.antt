@@ -1,12 +1,13 @@
 use Rattle.std.proofs.Common.{◌≡◌, ◌∙◌, ◌||◌, ◌==◌, true, ap, refl, subst, sym}
 use Rattle.std.specs.Prelude.{IfOk}
+use Rattle.std.proofs.lemmas.Bool.{or_left, or_right}
 use Rattle.gate_model.specs.Frame.{Kind}
 use Rattle.twice_translate.specs.Renamed.{datagram_of}
 use Rattle.gate_payloads.specs.Plain.{plain_rules}
 use Rattle.gate_payloads.specs.Taken.{IsTaken}
 use Rattle.gate_payloads.proofs.HeadersOnly.{udp_taken, udp_plain}
 use Rattle.event_steps.specs.Passed.{plain_world}
-use Rattle.event_steps.proofs.Taking.{udp_dns, udp_snmp, or_first, or_second}
+use Rattle.event_steps.proofs.Taking.{udp_dns, udp_snmp}
 use Rattle.event_steps.proofs.udp.take_udp.Goals as goal
 use Rattle.event_steps.proofs.udp.take_udp.Goals.{then-has_port-2-via-then-has_port-2, then-has_port-2-via-else-has_port-2+then-has_port-3}
 
@@ -23,7 +24,7 @@ pub returns-then-has_port-2-clause-taken : goal.returns-then-has_port-2-clause-t
 returns-then-has_port-2-clause-taken c =
     let live = plain_world c.args.way.now.moment.0 c.args.table.now in
     let d = datagram_of c.args.datagram.now.octets.now in
-    let either : ((c.ports-ports.result.0 == 161 || c.ports-ports.result.1 == 161) || (c.ports-ports.result.0 == 162 || c.ports-ports.result.1 == 162)) ≡ true = elim c.then-has_port-2.branch [ then-has_port-2-via-then-has_port-2 w ↦ or_first _ _ (sym c.has_port-2.ensures ∙ w.if-has_port-2.true) | then-has_port-2-via-else-has_port-2+then-has_port-3 w ↦ or_second _ _ (sym w.has_port-else-has_port-2.ensures ∙ w.if-has_port-3.true) ] in
+    let either : ((c.ports-ports.result.0 == 161 || c.ports-ports.result.1 == 161) || (c.ports-ports.result.0 == 162 || c.ports-ports.result.1 == 162)) ≡ true = elim c.then-has_port-2.branch [ then-has_port-2-via-then-has_port-2 w ↦ or_left _ _ (sym c.has_port-2.ensures ∙ w.if-has_port-2.true) | then-has_port-2-via-else-has_port-2+then-has_port-3 w ↦ or_right _ _ (sym w.has_port-else-has_port-2.ensures ∙ w.if-has_port-3.true) ] in
     let kind = udp_snmp d c.ports-ports.result.0 c.ports-ports.result.1
     (c.ports-ports.ensures.source ∙ ap (λ v. v.source_port) c.requires.view) (c.ports-ports.ensures.destination ∙ ap (λ v. v.destination_port) c.requires.view)
     (sym c.has_port.ensures ∙ c.if-has_port.false) either in

@@ -10,7 +10,7 @@ use Rattle.event_steps.proofs.uses.use_list.Goals as goal
 
 pub loop-place-preserved : goal.loop-place-preserved
 loop-place-preserved g c =
-    let xs = g.S.Session.rules.listed c.args.client c.args.session.now in
+    let xs = g.S.Session.rules.listed c.args.host c.args.session.now in
     let until = c.args.until.0 in
     c.use_entry.ensures
     ∙ ap (λ (b : Bindings). after_uses b (uses_until c.args.side until (renamed_in (c.entry.result ∷ [])))) c.loop-place.invariant

@@ -1,10 +1,10 @@
 use Rattle.std.proofs.Common.{◌≡◌, ℕ, ◌∙◌, ap, arith, drop}
 use Rattle.std.proofs.lemmas.List.{take_rest}
+use Rattle.gate_base.proofs.Options.{on_err}
 use Rattle.gate_report.specs.declared.line.Line.{Line}
 use Rattle.file_audit.specs.declared.line.Extent.{Extent}
 use Rattle.file_audit.specs.Lines.{agreement, number_after, octets_of, line_with}
 use Rattle.file_audit.proofs.FoundLines.{told, whole, not_whole, not_other}
-use Rattle.file_audit.proofs.Wanting.{always_err}
 use Rattle.file_audit.proofs.line.find_line.Goals as goal
 
 pub returns-then-none-clause-is : goal.returns-then-none-clause-is
@@ -39,7 +39,7 @@ returns-else-found-clause-is c = λ frames rest small goes.
     not_other c.in_ok-found.found (octets_of c.args.json (line_with c.args.head frames)) c.args.octets.now rest same c.if-found.false goes
 
 pub returns-in_err-none-clause-memory : goal.returns-in_err-none-clause-memory
-returns-in_err-none-clause-memory c = always_err c.from_residual.result c.in_err-none.ensures.memory
+returns-in_err-none-clause-memory c = on_err c.from_residual.result c.in_err-none.ensures.memory
 
 pub returns-in_err-found-clause-memory : goal.returns-in_err-found-clause-memory
-returns-in_err-found-clause-memory c = always_err c.from_residual-in_err-found.result c.in_err-found.ensures.memory
+returns-in_err-found-clause-memory c = on_err c.from_residual-in_err-found.result c.in_err-found.ensures.memory

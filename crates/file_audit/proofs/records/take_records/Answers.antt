@@ -1,9 +1,10 @@
-use Rattle.std.proofs.Common.{arith, refl, sym, ap, subst, ◌∙◌, [], ◌∷◌, ◌++◌, Ok, length-append}
+use Rattle.std.proofs.Common.{arith, refl, sym, ap, subst, ◌∙◌, [], ◌∷◌, ◌++◌, Ok, length-append, Err}
+use Rattle.std.proofs.lemmas.Result.{err_from_is_err_and}
 use Rattle.gate_desk.specs.Outside.{CanRead}
 use Rattle.gate_desk.proofs.Laws.{can_read_same}
 use Rattle.lawful_files.specs.Progress.{Progress}
 use Rattle.file_audit.specs.Records.{TakesRecord, TakesRecords}
-use Rattle.file_audit.proofs.TakenRecords.{took_none, took_on, took_fewer, took_failed, counted_one, handed_on}
+use Rattle.file_audit.proofs.TakenRecords.{took_none, took_on, took_fewer, took_failed, counted_one}
 use Rattle.file_audit.proofs.records.take_records.Goals as goal
 
 pub loop-taken-init : goal.loop-taken-init
@@ -53,7 +54,8 @@ returns-in_err-take_record-clause-takes g c =
     let old = g.D.Desk.outside c.args.desk.now in
     let mid = g.D.Desk.outside c.loop-taken.desk in
     let new = g.D.Desk.outside c.take_record.new.desk in
-    handed_on (λ r. TakesRecords r c.args.frames c.args.reader.now c.take_record.new.reader c.args.auditor.now c.take_record.new.auditor old new) c.from_residual.result c.in_err-take_record.field-0.0 c.from_residual.ensures.1
+    let handed = err_from_is_err_and c.from_residual.result c.from_residual.ensures.1 in
+    subst (λ r. TakesRecords r c.args.frames c.args.reader.now c.take_record.new.reader c.args.auditor.now c.take_record.new.auditor old new) (sym (handed.1 ∙ ap Err handed.2))
     (took_failed c.loop-taken.invariant.packets c.args.frames c.in_err-take_record.field-0.0 c.args.reader.now c.loop-taken.reader c.take_record.new.reader c.args.auditor.now c.loop-taken.auditor c.take_record.new.auditor c.take_record.new.auditor old mid new c.loop-taken.invariant.took c.in_err-take_record.ensures.takes)
 
 pub returns-then-not-branch-clause-leaves : goal.returns-then-not-branch-clause-leaves

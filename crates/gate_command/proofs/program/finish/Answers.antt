@@ -1,6 +1,7 @@
-use Rattle.std.proofs.Common.{◌≡◌, refl, inl, inr, subst}
+use Rattle.std.proofs.Common.{◌≡◌, ◌∙◌, ap, refl, inl, inr, subst}
 use Rattle.gate_desk.specs.Outside.{HasFailed}
 use Rattle.gate_desk.specs.Untold.{Files, told_by, all_dropped}
+use Rattle.run_setup.specs.Status.{code_of}
 use Rattle.run_setup.specs.Telling.{TellsLine}
 use Rattle.run_setup.specs.declared.status.Status.TheVariants.{WriteFault}
 use Rattle.gate_command.proofs.Codes.{first_refused}
@@ -18,6 +19,6 @@ returns-in-Err g c =
       first = first_refused slot c.args.desk.now.refused c.in-Err.ensures.named;
       waited = c.in-Err.ensures.waited;
       cause = subst (λ (d : Files). HasFailed slot (told_by c.args.desk.now) (told_by d)) dropped c.in-Err.ensures.cause;
-      code_is = c.code.ensures;
-      line = subst (λ (d : Files). TellsLine (WriteFault slot) (told_by d) (told_by c.tell_refused.new.desk)) dropped c.tell_refused.ensures;
+      code_is = c.code.ensures ∙ ap code_of c.write_error_line.ensures.answer_is;
+      line = subst (λ (d : Files). TellsLine (WriteFault slot) (told_by d) (told_by c.write_error_line.new.desk)) dropped c.write_error_line.ensures.line;
     })

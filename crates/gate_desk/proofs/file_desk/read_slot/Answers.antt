@@ -1,11 +1,13 @@
-use Rattle.std.proofs.Common.{◌≡◌, ℕ, ◌≤◌, List, [], Option, Result, Ok, Err, OnOk, length, ap, sym, subst, ◌∙◌, arith}
+use Rattle.std.proofs.Common.{◌≡◌, ℕ, ◌≤◌, List, [], Option, Result, Ok, Err, OnOk, length, ap, refl, sym, subst, ◌∙◌, arith}
 use Rattle.std.proofs.lemmas.Result.{IfOk-weaker, err_from_is_err_and}
 use Rattle.gate_desk.specs.declared.slot.PerSlot.{PerSlot}
-use Rattle.gate_desk.specs.Gathering.{ahead, ahead_in, got, got_in, unread, unread_in, waiting, waiting_in, access_of, TakesAhead, TakesNothing}
+use Rattle.gate_desk.specs.Gathering.{ahead, ahead_in, got, got_in, unread, unread_in, waiting, waiting_in, access_of, RefusedWaits, TakesAhead, TakesNothing}
 use Rattle.gate_desk.specs.Slots.{at, put}
 use Rattle.gate_desk.proofs.Laws.{at-mapped, mapped-put, mapped-put_only, mapped-same, put-put}
 use Rattle.std.specs.Io.KnownBytes.{ReadConsumes}
-use Rattle.gate_desk.proofs.Unread.{keeps, none_dropped, put_behind, put_kept, read_ahead_at, read_at}
+use Rattle.gate_desk.proofs.Unread.{keeps, none_dropped, put_behind, put_kept, read_ahead_at, read_at, takes_at}
+use Rattle.std.proofs.lemmas.Bool.{false≢true}
+use Rattle.gate_desk.proofs.Gathering.{still_waits}
 use Rattle.gate_desk.proofs.Taken.{nothing_taken, nothing_behind}
 use Rattle.gate_desk.proofs.file_desk.read_slot.Goals as goal
 
@@ -93,3 +95,54 @@ returns-in-Some-clause-hands_out g c none =
 pub returns-in_ok-hand_out-in-None-clause-hands_out : goal.returns-in_ok-hand_out-in-None-clause-hands_out
 returns-in_ok-hand_out-in-None-clause-hands_out g c =
     always (λ none. mapped-same waiting c.hand_out.new.places c.args.slot c.read.new.self (c.read.ensures.waiting ∙ ap waiting c.at_mut-in-None.ensures.value) ∙ c.in_ok-hand_out-in-None.ensures.all) c.read.result
+
+pub returns-in_err-hand_out-in-None-clause-fits : goal.returns-in_err-hand_out-in-None-clause-fits
+returns-in_err-hand_out-in-None-clause-fits g c = rw (err_from_is_err_and c.from_residual.result c.from_residual.ensures.1).1 tt
+
+pub returns-in_err-hand_out-in-None-clause-ahead : goal.returns-in_err-hand_out-in-None-clause-ahead
+returns-in_err-hand_out-in-None-clause-ahead g c = rw (err_from_is_err_and c.from_residual.result c.from_residual.ensures.1).1 tt
+
+pub returns-in_err-hand_out-in-None-clause-takes : goal.returns-in_err-hand_out-in-None-clause-takes
+returns-in_err-hand_out-in-None-clause-takes g c = rw (err_from_is_err_and c.from_residual.result c.from_residual.ensures.1).1 tt
+
+pub returns-in_err-hand_out-in-None-clause-hands_out : goal.returns-in_err-hand_out-in-None-clause-hands_out
+returns-in_err-hand_out-in-None-clause-hands_out g c = rw (err_from_is_err_and c.from_residual.result c.from_residual.ensures.1).1 tt
+
+pub returns-in_err-hand_out-in-None-clause-refused : goal.returns-in_err-hand_out-in-None-clause-refused
+returns-in_err-hand_out-in-None-clause-refused g c = λ some. rw (err_from_is_err_and c.from_residual.result c.from_residual.ensures.1).1 refl
+
+pub returns-in_err-hand_out-in-None-clause-others : goal.returns-in_err-hand_out-in-None-clause-others
+returns-in_err-hand_out-in-None-clause-others g c = subst (λ (all : PerSlot (List ℕ)). all ≡ put (ahead_in c.args.places.now) c.args.slot (at all c.args.slot)) (sym c.hand_out.ensures.ahead) (mapped-put_only ahead c.args.places.now c.args.slot c.take_ahead.new.self)
+
+pub returns-in_err-hand_out-in-None-clause-still : goal.returns-in_err-hand_out-in-None-clause-still
+returns-in_err-hand_out-in-None-clause-still g c = λ waits. still_waits c.hand_out.new.refused (waiting_in (put c.args.places.now c.args.slot c.take_ahead.new.self)) (waiting_in c.hand_out.new.places) (c.hand_out.ensures.stays (subst (RefusedWaits c.args.refused.now) (sym (mapped-same waiting c.args.places.now c.args.slot c.take_ahead.new.self (c.take_ahead.ensures.waiting ∙ ap waiting c.at_mut.ensures.value))) waits))
+
+pub returns-in-Some-clause-fits : goal.returns-in-Some-clause-fits
+returns-in-Some-clause-fits g c = c.in-Some.ensures.fits
+
+pub returns-in-Some-clause-refused : goal.returns-in-Some-clause-refused
+returns-in-Some-clause-refused g c = λ some. sym c.if-is_some.false ∙ c.is_some.ensures ∙ some
+
+pub returns-in-Some-clause-accesses : goal.returns-in-Some-clause-accesses
+returns-in-Some-clause-accesses g c = mapped-same access_of c.args.places.now c.args.slot c.take_ahead.new.self (c.take_ahead.ensures.access ∙ ap access_of c.at_mut.ensures.value)
+
+pub returns-in-Some-clause-ahead : goal.returns-in-Some-clause-ahead
+returns-in-Some-clause-ahead g c = λ some. takes_at c.args.places.now c.args.slot c.at_mut.result.now c.take_ahead.new.self c.in-Some.n c.take_ahead.new.buffer c.at_mut.ensures.value c.in-Some.ensures.ahead
+
+pub returns-in-Some-clause-others : goal.returns-in-Some-clause-others
+returns-in-Some-clause-others g c = mapped-put_only ahead c.args.places.now c.args.slot c.take_ahead.new.self
+
+pub returns-in-Some-clause-unread_others : goal.returns-in-Some-clause-unread_others
+returns-in-Some-clause-unread_others g c = mapped-put_only (unread g.R.File.Read.remaining) c.args.places.now c.args.slot c.take_ahead.new.self
+
+pub returns-in-Some-clause-still : goal.returns-in-Some-clause-still
+returns-in-Some-clause-still g c = λ waits. subst (RefusedWaits c.args.refused.now) (sym (mapped-same waiting c.args.places.now c.args.slot c.take_ahead.new.self (c.take_ahead.ensures.waiting ∙ ap waiting c.at_mut.ensures.value))) waits
+
+pub returns-in_ok-hand_out-in-None-clause-fits : goal.returns-in_ok-hand_out-in-None-clause-fits
+returns-in_ok-hand_out-in-None-clause-fits g c = c.read.ensures.fits
+
+pub returns-in_ok-hand_out-in-None-clause-refused : goal.returns-in_ok-hand_out-in-None-clause-refused
+returns-in_ok-hand_out-in-None-clause-refused g c = λ some. absurd (false≢true (sym c.if-is_some.false ∙ c.is_some.ensures ∙ some))
+
+pub returns-in_ok-hand_out-in-None-clause-still : goal.returns-in_ok-hand_out-in-None-clause-still
+returns-in_ok-hand_out-in-None-clause-still g c = λ waits. rw c.in_ok-hand_out-in-None.ensures.none tt

@@ -1,8 +1,13 @@
-use Rattle.std.proofs.Common.{◌++◌, ap, ◌∙◌}
-use Rattle.gate_desk.proofs.Gathering.{gathered_at, waits_later}
+use Rattle.std.proofs.Common.{◌≡◌, ◌++◌, OnOk, ap, rules, subst, sym, ◌∙◌}
+use denote.Enum.Bare.{same_true}
+use Rattle.std.proofs.lemmas.Bool.{false≢true}
+use Rattle.gate_desk.specs.contracts.slot.Slot.{the_type}
+use Rattle.gate_desk.specs.declared.slot.Slot.{Slot}
+use Rattle.gate_desk.specs.declared.slot.Slot.TheVariants.{Errors}
+use Rattle.gate_desk.proofs.Gathering.{gathered_at, none_refused, waits_behind, waits_later, waits_nowhere}
 use Rattle.gate_desk.proofs.Laws.{mapped-same}
 use Rattle.gate_desk.proofs.Taken.{gathered_one, taken_later}
-use Rattle.gate_desk.specs.Gathering.{ahead, got, got_in, unread, waiting_in, access_of}
+use Rattle.gate_desk.specs.Gathering.{ahead, got, got_in, unread, waiting_in, access_of, TakesPiece}
 use Rattle.gate_desk.specs.Slots.{put}
 use Rattle.gate_desk.proofs.file_desk.write_slot.Goals as goal
 
@@ -37,3 +42,50 @@ returns-in-Gathered-clause-takes g c =
 
 pub returns-in-NoRoom-clause-unread : goal.returns-in-NoRoom-clause-unread
 returns-in-NoRoom-clause-unread g c = c.gather_alone.ensures.unread ∙ mapped-same (unread g.R.File.Read.remaining) c.args.places.now c.args.slot c.gather.new.self (c.gather.ensures.unread ∙ ap (unread g.R.File.Read.remaining) c.at_mut.ensures.value)
+
+pub returns-then-eq-clause-takes : goal.returns-then-eq-clause-takes
+returns-then-eq-clause-takes g c =
+    let contents = g.R.File.Write.contents in
+    let e : c.args.slot ≡ Errors = same_true the_type (search rules) c.args.slot Errors (sym c.if-eq.ensures) in
+    subst (λ (s : Slot). OnOk c.write_errors.result (TakesPiece s (c.args.first.now ++ c.args.second.now) (got_in contents c.args.places.now) (waiting_in c.args.places.now) (got_in contents c.write_errors.new.places) (waiting_in c.write_errors.new.places))) (sym e) c.write_errors.ensures.takes
+
+pub returns-then-eq-clause-waits : goal.returns-then-eq-clause-waits
+returns-then-eq-clause-waits g c = waits_nowhere c.write_errors.result c.args.slot (c.args.first.now ++ c.args.second.now) (waiting_in c.args.places.now) (waiting_in c.write_errors.new.places) (same_true the_type (search rules) c.args.slot Errors (sym c.if-eq.ensures))
+
+pub returns-in-Gathered-clause-accesses : goal.returns-in-Gathered-clause-accesses
+returns-in-Gathered-clause-accesses g c = mapped-same access_of c.args.places.now c.args.slot c.gather.new.self (c.gather.ensures.access ∙ ap access_of c.at_mut.ensures.value)
+
+pub returns-in-Gathered-clause-ahead : goal.returns-in-Gathered-clause-ahead
+returns-in-Gathered-clause-ahead g c = mapped-same ahead c.args.places.now c.args.slot c.gather.new.self (c.gather.ensures.ahead ∙ ap ahead c.at_mut.ensures.value)
+
+pub returns-in-Gathered-clause-unread : goal.returns-in-Gathered-clause-unread
+returns-in-Gathered-clause-unread g c = mapped-same (unread g.R.File.Read.remaining) c.args.places.now c.args.slot c.gather.new.self (c.gather.ensures.unread ∙ ap (unread g.R.File.Read.remaining) c.at_mut.ensures.value)
+
+pub returns-in-Gathered-clause-still : goal.returns-in-Gathered-clause-still
+returns-in-Gathered-clause-still g c = λ waits. none_refused c.args.refused.now (waiting_in (put c.args.places.now c.args.slot c.gather.new.self)) (sym c.if-is_some.false ∙ c.is_some.ensures)
+
+pub returns-in-Refused-clause-accesses : goal.returns-in-Refused-clause-accesses
+returns-in-Refused-clause-accesses g c = mapped-same access_of c.args.places.now c.args.slot c.gather.new.self (c.gather.ensures.access ∙ ap access_of c.at_mut.ensures.value)
+
+pub returns-in-Refused-clause-ahead : goal.returns-in-Refused-clause-ahead
+returns-in-Refused-clause-ahead g c = mapped-same ahead c.args.places.now c.args.slot c.gather.new.self (c.gather.ensures.ahead ∙ ap ahead c.at_mut.ensures.value)
+
+pub returns-in-Refused-clause-unread : goal.returns-in-Refused-clause-unread
+returns-in-Refused-clause-unread g c = mapped-same (unread g.R.File.Read.remaining) c.args.places.now c.args.slot c.gather.new.self (c.gather.ensures.unread ∙ ap (unread g.R.File.Read.remaining) c.at_mut.ensures.value)
+
+pub returns-in-Refused-clause-still : goal.returns-in-Refused-clause-still
+returns-in-Refused-clause-still g c = λ waits. none_refused c.args.refused.now (waiting_in (put c.args.places.now c.args.slot c.gather.new.self)) (sym c.if-is_some.false ∙ c.is_some.ensures)
+
+pub returns-in-Gathered-clause-waits : goal.returns-in-Gathered-clause-waits
+returns-in-Gathered-clause-waits g c =
+    let waits = gathered_at c.args.places.now c.args.slot (c.args.first.now ++ c.args.second.now) c.gather.result c.at_mut.result.now c.gather.new.self c.at_mut.ensures.value c.gather.ensures.waits in
+    waits_behind c.args.slot (c.args.first.now ++ c.args.second.now) (waiting_in c.args.places.now) (waiting_in (put c.args.places.now c.args.slot c.gather.new.self)) c.gather.result waits c.in-Gathered.is
+
+pub returns-in-Gathered-clause-refused : goal.returns-in-Gathered-clause-refused
+returns-in-Gathered-clause-refused g c = λ some. sym c.if-is_some.false ∙ c.is_some.ensures ∙ some
+
+pub returns-in-NoRoom-clause-refused : goal.returns-in-NoRoom-clause-refused
+returns-in-NoRoom-clause-refused g c = λ some. absurd (false≢true (sym c.if-is_some.false ∙ c.is_some.ensures ∙ some))
+
+pub returns-in-NoRoom-clause-still : goal.returns-in-NoRoom-clause-still
+returns-in-NoRoom-clause-still g c = λ waits. c.gather_alone.ensures.still (none_refused c.args.refused.now (waiting_in (put c.args.places.now c.args.slot c.gather.new.self)) (sym c.if-is_some.false ∙ c.is_some.ensures))

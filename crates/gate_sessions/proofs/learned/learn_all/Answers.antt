@@ -12,4 +12,4 @@ learn_one-requires-clause-few c =
     let one : Entry = slice_index_or c.args.named.now i d in
     let within : i < length c.args.named.now = search (rules, tests) in
     subst (λ (es : List Entry). is_listed es one.0.0 ≡ false → length es < 256) (sym c.loop-one.invariant.grown)
-    (room_for (listed_of c.args.from_client c.args.session.now) c.args.named.now (drop (suc i) c.args.named.now) one i (drop-next c.args.named.now i d within) c.requires.few)
+    (room_for (listed_of c.args.host c.args.session.now) c.args.named.now (drop (suc i) c.args.named.now) one i (drop-next c.args.named.now i d within) c.requires.few)

@@ -1,4 +1,4 @@
-use Rattle.std.proofs.Common.{refl, subst}
+use Rattle.std.proofs.Common.{refl, subst, rules}
 use Rattle.gate_desk.specs.declared.slot.Slot.TheVariants.{LeftIn, RightIn, LeftOut, RightOut, Report}
 use Rattle.gate_desk.specs.declared.slot.Access.TheVariants.{Read, Write}
 use Rattle.run_setup.specs.RunNames.{names_of, first_starts, output_starts, plan}
@@ -45,40 +45,23 @@ returns-in_err-ready-clause-taken g c since prepared =
     let new = g.D.Desk.outside c.ready.new.desk in
     took_prepared c.args.gate.now c.args.merge.now (first_starts (names_of c.args.names)) since mid new prepared c.ready.ensures.left
 
-pub forward-requires-clause-left_in : goal.forward-requires-clause-left_in
-forward-requires-clause-left_in g c =
+pub forward-requires : goal.forward-requires
+forward-requires g c =
     let mid = g.D.Desk.outside c.args.desk.now in
     let new = g.D.Desk.outside c.ready.new.desk in
     let ready = subst (λ s. Readied s (output_starts (names_of c.args.names)) mid new) c.settings-2.ensures c.in_ok-ready.ensures.answer in
-    access_of LeftIn Read (plan (names_of c.args.names)) c.requires.since new (whole c.args.gate.now c.args.merge.now (names_of c.args.names) c.requires.since mid new new c.requires.prepared ready refl) (λ w. refl)
-
-pub forward-requires-clause-right_in : goal.forward-requires-clause-right_in
-forward-requires-clause-right_in g c =
-    let mid = g.D.Desk.outside c.args.desk.now in
-    let new = g.D.Desk.outside c.ready.new.desk in
-    let ready = subst (λ s. Readied s (output_starts (names_of c.args.names)) mid new) c.settings-2.ensures c.in_ok-ready.ensures.answer in
-    access_of RightIn Read (plan (names_of c.args.names)) c.requires.since new (whole c.args.gate.now c.args.merge.now (names_of c.args.names) c.requires.since mid new new c.requires.prepared ready refl) (λ w. refl)
-
-pub forward-requires-clause-left_out : goal.forward-requires-clause-left_out
-forward-requires-clause-left_out g c =
-    let mid = g.D.Desk.outside c.args.desk.now in
-    let new = g.D.Desk.outside c.ready.new.desk in
-    let ready = subst (λ s. Readied s (output_starts (names_of c.args.names)) mid new) c.settings-2.ensures c.in_ok-ready.ensures.answer in
-    access_of LeftOut Write (plan (names_of c.args.names)) c.requires.since new (whole c.args.gate.now c.args.merge.now (names_of c.args.names) c.requires.since mid new new c.requires.prepared ready refl) (λ w. refl)
-
-pub forward-requires-clause-right_out : goal.forward-requires-clause-right_out
-forward-requires-clause-right_out g c =
-    let mid = g.D.Desk.outside c.args.desk.now in
-    let new = g.D.Desk.outside c.ready.new.desk in
-    let ready = subst (λ s. Readied s (output_starts (names_of c.args.names)) mid new) c.settings-2.ensures c.in_ok-ready.ensures.answer in
-    access_of RightOut Write (plan (names_of c.args.names)) c.requires.since new (whole c.args.gate.now c.args.merge.now (names_of c.args.names) c.requires.since mid new new c.requires.prepared ready refl) (λ w. refl)
-
-pub forward-requires-clause-report : goal.forward-requires-clause-report
-forward-requires-clause-report g c =
-    let mid = g.D.Desk.outside c.args.desk.now in
-    let new = g.D.Desk.outside c.ready.new.desk in
-    let ready = subst (λ s. Readied s (output_starts (names_of c.args.names)) mid new) c.settings-2.ensures c.in_ok-ready.ensures.answer in
-    access_of Report Write (plan (names_of c.args.names)) c.requires.since new (whole c.args.gate.now c.args.merge.now (names_of c.args.names) c.requires.since mid new new c.requires.prepared ready refl) (λ w. refl)
+    record {
+      left_in = access_of LeftIn Read (plan (names_of c.args.names)) c.requires.since new (whole c.args.gate.now c.args.merge.now (names_of c.args.names) c.requires.since mid new new c.requires.prepared ready refl) (λ w. refl);
+      right_in = access_of RightIn Read (plan (names_of c.args.names)) c.requires.since new (whole c.args.gate.now c.args.merge.now (names_of c.args.names) c.requires.since mid new new c.requires.prepared ready refl) (λ w. refl);
+      left_out = access_of LeftOut Write (plan (names_of c.args.names)) c.requires.since new (whole c.args.gate.now c.args.merge.now (names_of c.args.names) c.requires.since mid new new c.requires.prepared ready refl) (λ w. refl);
+      right_out = access_of RightOut Write (plan (names_of c.args.names)) c.requires.since new (whole c.args.gate.now c.args.merge.now (names_of c.args.names) c.requires.since mid new new c.requires.prepared ready refl) (λ w. refl);
+      report = access_of Report Write (plan (names_of c.args.names)) c.requires.since new (whole c.args.gate.now c.args.merge.now (names_of c.args.names) c.requires.since mid new new c.requires.prepared ready refl) (λ w. refl);
+      stop = search rules;
+      work = search rules;
+      ends = search rules;
+      joiner = search rules;
+      world = search rules;
+    }
 
 pub returns-clause-answer : goal.returns-clause-answer
 returns-clause-answer g c since prepared =

@@ -11,7 +11,7 @@ use Rattle.session_tests.proofs.transcripts.learn_one.Goals as goal
 -- an address without an image has no entry
 pub learn-requires-clause-unknown : goal.learn-requires-clause-unknown
 learn-requires-clause-unknown c =
-    let entries : List Entry = entries_of (λ (es : List Entry). es) (λ (es : List Entry). es) c.args.from_client c.args.session.now in
+    let entries : List Entry = entries_of (λ (es : List Entry). es) (λ (es : List Entry). es) c.args.host c.args.session.now in
     sym (image_of_listed entries c.args.entry.0.0) ∙ ap is_some (sym c.image_of.ensures) ∙ c.if-is_none.ensures
 
 pub learn-requires-clause-client_known : goal.learn-requires-clause-client_known

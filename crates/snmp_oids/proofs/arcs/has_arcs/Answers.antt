@@ -1,6 +1,7 @@
 use Rattle.std.proofs.Common.{sym, ◌∙◌, ap, is_some, ◌∷◌, ◌+◌, ℕ, drop}
+use Rattle.gate_base.proofs.Options.{some_mapped}
 use Rattle.snmp_oids.specs.Arcs.{arcs_for, numbers_of, numbers_from}
-use Rattle.snmp_oids.proofs.SubIdentifiers.{numbers_stop, numbers_go, numbers_end, numbers_past, some_mapped, some_test}
+use Rattle.snmp_oids.proofs.SubIdentifiers.{numbers_stop, numbers_go, numbers_end, numbers_past, some_test}
 use Rattle.snmp_oids.proofs.arcs.has_arcs.Goals as goal
 use Rattle.snmp_oids.proofs.arcs.has_arcs.Goals.{then-octet-lt128, else-octet-lt128}
 

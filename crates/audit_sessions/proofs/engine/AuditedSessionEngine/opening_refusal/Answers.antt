@@ -1,8 +1,9 @@
-use Rattle.std.proofs.Common.{ℕ, true, ap, ◌∙◌}
+use Rattle.std.proofs.Common.{ℕ, ap, ◌∙◌}
 use Rattle.stream_model.specs.Session.{segment_in}
 use Rattle.stream_model.specs.Refusals.{segment_refusal}
 use Rattle.audit_streams.specs.Hosts.{unheard}
 use Rattle.std.specs.Prelude.{Some, None}
+use Rattle.gate_base.specs.declared.host.Host.TheVariants.{Client}
 use Rattle.audit_sessions.proofs.SeenSessions.{FtpHeard, lines_of}
 use Rattle.audit_sessions.proofs.FreshSessions.{lines_verdict}
 use Rattle.audit_sessions.proofs.engine.AuditedSessionEngine.opening_refusal.Goals as goal
@@ -14,7 +15,7 @@ returns c =
     let pair = c.args.pair in
     let fresh : ℕ → ℕ → FtpHeard = λ initial mss. record { client_dialogue = record { pair = pair }; server_dialogue = record { pair = pair }; client = unheard (Some initial) mss; server = unheard None 536 } in
     c.refusal.ensures
-    ∙ ap (λ (x : FtpHeard). segment_refusal true (lines_of x) g) c.ftp_session-session.ensures
-    ∙ ap (λ (n : ℕ). segment_refusal true (lines_of (fresh n c.mss.result)) g) c.sequence.ensures
-    ∙ ap (λ (n : ℕ). segment_refusal true (lines_of (fresh tcp.sequence n)) g) c.mss.ensures
+    ∙ ap (λ (x : FtpHeard). segment_refusal Client (lines_of x) g) c.ftp_session-session.ensures
+    ∙ ap (λ (n : ℕ). segment_refusal Client (lines_of (fresh n c.mss.result)) g) c.sequence.ensures
+    ∙ ap (λ (n : ℕ). segment_refusal Client (lines_of (fresh tcp.sequence n)) g) c.mss.ensures
     ∙ lines_verdict tcp.destination_port pair tcp.sequence tcp.mss g

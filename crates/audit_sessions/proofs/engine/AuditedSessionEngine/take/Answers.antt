@@ -1,4 +1,4 @@
-use Rattle.std.proofs.Common.{◌≡◌, Bool, Some, List, sym, ap, subst, ◌∙◌}
+use Rattle.std.proofs.Common.{◌≡◌, Some, List, sym, ap, subst, ◌∙◌}
 use Rattle.gate_base.specs.declared.address.Addr.{Addr}
 use Rattle.dialogue.specs.Learning.{Entry, AreImages}
 use Rattle.dns_stream.specs.Images.{dns_units}
@@ -13,17 +13,18 @@ use Rattle.dns_plans.specs.Plans.{beside}
 use Rattle.audit_sessions.specs.Heard.{HeardSession, heard_rules, heard_sent}
 use Rattle.gate_payloads.specs.Ways.{image_by}
 use Rattle.event_steps.proofs.SteppedSessions.{IsSeen, called_is, next_is, waits_is}
-use Rattle.event_steps.proofs.Results.{on_err}
+use Rattle.gate_base.proofs.Options.{on_err}
+use Rattle.gate_base.specs.declared.host.Host.{Host}
 use Rattle.audit_sessions.proofs.SteppedStreams.{sent_wanted, pieces_fit}
 use Rattle.audit_sessions.proofs.engine.AuditedSessionEngine.take.Goals as goal
 
 pub step-requires-clause-images : goal.step-requires-clause-images
 step-requires-clause-images c =
     let t = c.args.tracked.now in
-    let f = c.is_client-from_client.result in
+    let f = c.host_on-from.result in
     let seen : c.tracked.inside.session ≡ t.session = ap (λ (x : Tracked HeardSession). x.session) c.tracked.view_is in
     subst (λ (xs : List Entry). AreImages (dns_units (entered_all xs c.args.completed.entries.now)) c.args.completed.images.items)
-    (ap (λ (b : Bool). heard_rules.listed b t.session) (sym c.is_client-from_client.ensures) ∙ ap (heard_rules.listed f) (sym seen)) c.requires.enters.right
+    (ap (λ (b : Host). heard_rules.listed b t.session) (sym c.host_on-from.ensures) ∙ ap (heard_rules.listed f) (sym seen)) c.requires.enters.right
 
 pub of-requires-clause-fits : goal.of-requires-clause-fits
 of-requires-clause-fits c =
@@ -32,10 +33,10 @@ of-requires-clause-fits c =
     let tcp = c.args.segment.now.tcp.now in
     let t = c.args.tracked.now in
     let entries : List Entry = c.args.completed.entries.now in
-    let f = c.is_client-from_client.result in
+    let f = c.host_on-from.result in
     let session : HeardSession = c.tracked.inside.session in
     let image = c.requires.enters.image in
-    let i : IsSeen heard_rules c.tracked.inside.client c.tracked.inside.pair session f side d t image entries = record { seen = c.tracked.view_is; sender = c.is_client-from_client.ensures; called = c.requires.enters.called } in
+    let i : IsSeen heard_rules c.tracked.inside.client c.tracked.inside.pair session f side d t image entries = record { seen = c.tracked.view_is; sender = c.host_on-from.ensures; called = c.requires.enters.called } in
     let same : segment_in tcp ≡ segment_of d = ap segment_in c.requires.whole.tcp_is in
     let named = subst (λ (g : Segment). entries ≡ beside image (addresses_in (heard_rules.units f session g))) (sym same) (called_is heard_rules c.tracked.inside.client c.tracked.inside.pair session f side d t image entries i) in
     pieces_fit d tcp session f image c.in_ok-sent.sent c.header-header.result.now c.requires.whole.tcp_is (c.in_ok-sent.ensures.sent image named) c.header-header.ensures.octets c.header-header.ensures.few
@@ -47,9 +48,9 @@ returns-clause-next c = λ image called.
     let tcp = c.args.segment.now.tcp.now in
     let t = c.args.tracked.now in
     let entries : List Entry = c.args.completed.entries.now in
-    let f = c.is_client-from_client.result in
+    let f = c.host_on-from.result in
     let session : HeardSession = c.tracked.inside.session in
-    let i : IsSeen heard_rules c.tracked.inside.client c.tracked.inside.pair session f side d t image entries = record { seen = c.tracked.view_is; sender = c.is_client-from_client.ensures; called = called } in
+    let i : IsSeen heard_rules c.tracked.inside.client c.tracked.inside.pair session f side d t image entries = record { seen = c.tracked.view_is; sender = c.host_on-from.ensures; called = called } in
     let same : segment_in tcp ≡ segment_of d = ap segment_in c.requires.whole.tcp_is in
     let named = subst (λ (g : Segment). entries ≡ beside image (addresses_in (heard_rules.units f session g))) (sym same) (called_is heard_rules c.tracked.inside.client c.tracked.inside.pair session f side d t image entries i) in
     next_is heard_rules c.tracked.inside.client c.tracked.inside.pair session c.step.new.self f side d t image entries i (c.in_ok-sent.ensures.next image named ∙ ap (heard_rules.next image f session) same)
@@ -62,10 +63,10 @@ returns-clause-stepped c = λ image called.
     let tcp = c.args.segment.now.tcp.now in
     let t = c.args.tracked.now in
     let entries : List Entry = c.args.completed.entries.now in
-    let f = c.is_client-from_client.result in
+    let f = c.host_on-from.result in
     let session : HeardSession = c.tracked.inside.session in
     let sent : Handed = c.in_ok-sent.sent in
-    let i : IsSeen heard_rules c.tracked.inside.client c.tracked.inside.pair session f side d t image entries = record { seen = c.tracked.view_is; sender = c.is_client-from_client.ensures; called = called } in
+    let i : IsSeen heard_rules c.tracked.inside.client c.tracked.inside.pair session f side d t image entries = record { seen = c.tracked.view_is; sender = c.host_on-from.ensures; called = called } in
     let same : segment_in tcp ≡ segment_of d = ap segment_in c.requires.whole.tcp_is in
     let named = subst (λ (g : Segment). entries ≡ beside image (addresses_in (heard_rules.units f session g))) (sym same) (called_is heard_rules c.tracked.inside.client c.tracked.inside.pair session f side d t image entries i) in
     let next : c.step.new.self ≡ heard_rules.next image f session (segment_of d) = c.in_ok-sent.ensures.next image named ∙ ap (heard_rules.next image f session) same in

@@ -1,7 +1,6 @@
-use Rattle.std.proofs.Common.{◌≡◌, ◌≤◌, Bool, true, false, List, length, refl, ap, subst, sym, ◌∙◌}
+use Rattle.std.proofs.Common.{◌≡◌, ◌≤◌, List, length, ap, subst, sym, ◌∙◌}
 use Rattle.std.specs.Prelude.{IfOk, Option}
 use Rattle.gate_base.specs.declared.address.Addr.{Addr}
-use Rattle.gate_base.specs.declared.event.Pair.{Pair}
 use Rattle.dialogue.specs.Learning.{Entry, AreImages}
 use Rattle.dns_stream.specs.Images.{dns_units}
 use Rattle.audit_streams.specs.Sending.{Handed, handed}
@@ -9,16 +8,16 @@ use Rattle.stream_model.specs.Session.{segment_in, Session}
 use Rattle.stream_model.specs.Refusals.{segment_refusal}
 use Rattle.dns_plans.specs.Steps.{entered_all}
 use Rattle.audit_sessions.specs.Heard.{HeardSession, IsSession, heard_rules, heard_sent}
-use Rattle.audit_sessions.specs.Sessions.{DnsHeard, listed_of, session_by, dns_session, IsOfPair}
+use Rattle.audit_sessions.specs.Sessions.{session_by, dns_session, IsOfPair}
 use Rattle.audit_sessions.specs.declared.kinds.SessionKind.{SessionKind}
 use Rattle.audit_sessions.proofs.LearnedSessions.{AreNamed, next_units, sent_units, units_stay}
-use Rattle.audit_sessions.proofs.SeenSessions.{lines_seen, units_seen, ftp_session, next_seen, sent_seen, lines_hold, few_seen, side_in}
+use Rattle.audit_sessions.proofs.SeenSessions.{lines_seen, units_seen, ftp_session, next_seen, sent_seen, lines_hold, few_seen, side_in, listed_in}
 use Rattle.audit_sessions.proofs.session.AuditedSession.step.Goals as goal
 
 pub step-requires : goal.step-requires
 step-requires c = record {
   passes =
-      ap (λ (s : Session). segment_refusal c.args.from_client s (segment_in c.args.segment.now)) (lines_seen c.self.inside.pair c.self.inside.kind c.in-Lines.session c.args.self.now c.in-Lines.is c.self.invariant.0 c.self.view_is)
+      ap (λ (s : Session). segment_refusal c.args.from s (segment_in c.args.segment.now)) (lines_seen c.self.inside.pair c.self.inside.kind c.in-Lines.session c.args.self.now c.in-Lines.is c.self.invariant.0 c.self.view_is)
       ∙ c.requires.passes;
 }
 
@@ -31,43 +30,39 @@ pub returns-in-Lines-clause-next : goal.returns-in-Lines-clause-next
 returns-in-Lines-clause-next c = λ image e.
     let pair = c.self.inside.pair in
     let seen : ftp_session pair c.in-Lines.session ≡ c.args.self.now = ap (session_by pair) (sym c.in-Lines.is) ∙ c.self.view_is in
-    next_seen c.step.result image pair c.in-Lines.session c.step.new.self c.args.self.now c.args.from_client (segment_in c.args.segment.now) seen (subst (IsOfPair pair) c.in-Lines.is c.self.invariant.0) c.step.ensures.next
+    next_seen c.step.result image pair c.in-Lines.session c.step.new.self c.args.self.now c.args.from (segment_in c.args.segment.now) seen (subst (IsOfPair pair) c.in-Lines.is c.self.invariant.0) c.step.ensures.next
 
 pub returns-in-Lines-clause-sent : goal.returns-in-Lines-clause-sent
 returns-in-Lines-clause-sent c = λ image e.
     let pair = c.self.inside.pair in
     let seen : ftp_session pair c.in-Lines.session ≡ c.args.self.now = ap (session_by pair) (sym c.in-Lines.is) ∙ c.self.view_is in
-    subst (λ (x : Handed). IfOk c.step.result (λ s. s ≡ x)) (sent_seen image pair c.in-Lines.session c.args.self.now c.args.from_client (segment_in c.args.segment.now) seen (subst (IsOfPair pair) c.in-Lines.is c.self.invariant.0)) c.step.ensures.sent
+    subst (λ (x : Handed). IfOk c.step.result (λ s. s ≡ x)) (sent_seen image pair c.in-Lines.session c.args.self.now c.args.from (segment_in c.args.segment.now) seen (subst (IsOfPair pair) c.in-Lines.is c.self.invariant.0)) c.step.ensures.sent
 
 pub step_units-requires-clause-few : goal.step_units-requires-clause-few
 step_units-requires-clause-few c =
     let pair = c.self.inside.pair in
     let seen : dns_session pair c.in-Units.session ≡ c.args.self.now = ap (session_by pair) (sym c.in-Units.is) ∙ c.self.view_is in
-    few_seen pair c.in-Units.session c.args.self.now c.args.from_client c.args.completed.entries.now seen c.requires.few
+    few_seen pair c.in-Units.session c.args.self.now c.args.from c.args.completed.entries.now seen c.requires.few
 
 pub step_units-requires-clause-images : goal.step_units-requires-clause-images
 step_units-requires-clause-images c =
     let pair = c.self.inside.pair in
-    let f = c.args.from_client in
+    let f = c.args.from in
     let seen : dns_session pair c.in-Units.session ≡ c.args.self.now = ap (session_by pair) (sym c.in-Units.is) ∙ c.self.view_is in
     subst (λ (xs : List Entry). AreImages (dns_units (entered_all xs c.args.completed.entries.now)) c.args.completed.images.items) (ap (heard_rules.listed f) (sym seen) ∙ listed_in f pair c.in-Units.session) c.requires.images
-  where
-    listed_in : (f : Bool) (pair : Pair) (d : DnsHeard) → heard_rules.listed f (dns_session pair d) ≡ listed_of f d
-    listed_in true pair d = refl
-    listed_in false pair d = refl
 
 pub step_units-requires-clause-listed : goal.step_units-requires-clause-listed
-step_units-requires-clause-listed c = side_in c.self.inside.pair c.in-Units.session c.args.from_client (subst (λ (x : SessionKind). IsSession (session_by c.self.inside.pair x)) c.in-Units.is c.self.invariant.1)
+step_units-requires-clause-listed c = side_in c.self.inside.pair c.in-Units.session c.args.from (subst (λ (x : SessionKind). IsSession (session_by c.self.inside.pair x)) c.in-Units.is c.self.invariant.1)
 
 pub step_units-requires-clause-passes : goal.step_units-requires-clause-passes
 step_units-requires-clause-passes c =
-    ap (λ (s : Session). segment_refusal c.args.from_client s (segment_in c.args.segment.now)) (units_seen c.self.inside.pair c.self.inside.kind c.in-Units.session c.args.self.now c.in-Units.is c.self.view_is)
+    ap (λ (s : Session). segment_refusal c.args.from s (segment_in c.args.segment.now)) (units_seen c.self.inside.pair c.self.inside.kind c.in-Units.session c.args.self.now c.in-Units.is c.self.view_is)
     ∙ c.requires.passes
 
 pub invariant_of-self-in-Ok : goal.invariant_of-self-in-Ok
 invariant_of-self-in-Ok c =
     let pair = c.self.inside.pair in
-    let f = c.args.from_client in
+    let f = c.args.from in
     let g = segment_in c.args.segment.now in
     let entries = c.args.completed.entries.now in
     let seen : dns_session pair c.in-Units.session ≡ c.args.self.now = ap (session_by pair) (sym c.in-Units.is) ∙ c.self.view_is in
@@ -78,7 +73,7 @@ invariant_of-self-in-Ok c =
 pub returns-in-Ok-clause-next : goal.returns-in-Ok-clause-next
 returns-in-Ok-clause-next c = λ image e.
     let pair = c.self.inside.pair in
-    let f = c.args.from_client in
+    let f = c.args.from in
     let g = segment_in c.args.segment.now in
     let seen : dns_session pair c.in-Units.session ≡ c.args.self.now = ap (session_by pair) (sym c.in-Units.is) ∙ c.self.view_is in
     next_units image pair c.in-Units.session c.step_units.new.session f g c.args.completed.entries.now (subst (λ (h : HeardSession). AreNamed image f h g c.args.completed.entries.now) (sym seen) e) c.in-Ok.ensures.next
@@ -87,7 +82,7 @@ returns-in-Ok-clause-next c = λ image e.
 pub returns-in-Ok-clause-sent : goal.returns-in-Ok-clause-sent
 returns-in-Ok-clause-sent c = λ image e.
     let pair = c.self.inside.pair in
-    let f = c.args.from_client in
+    let f = c.args.from in
     let g = segment_in c.args.segment.now in
     let seen : dns_session pair c.in-Units.session ≡ c.args.self.now = ap (session_by pair) (sym c.in-Units.is) ∙ c.self.view_is in
     c.in-Ok.ensures.sent

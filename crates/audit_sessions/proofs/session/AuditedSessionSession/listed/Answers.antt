@@ -7,4 +7,4 @@ use Rattle.audit_sessions.proofs.session.AuditedSessionSession.listed.Goals as g
 
 pub returns-in-Units-clause-few : goal.returns-in-Units-clause-few
 returns-in-Units-clause-few c =
-    few_in c.self.inside.pair c.in-Units.session c.args.client c.listed.result (subst (λ (x : SessionKind). IsSession (session_by c.self.inside.pair x)) c.in-Units.is c.self.invariant.1) c.listed.ensures
+    few_in c.self.inside.pair c.in-Units.session c.args.host c.listed.result (subst (λ (x : SessionKind). IsSession (session_by c.self.inside.pair x)) c.in-Units.is c.self.invariant.1) c.listed.ensures

@@ -9,4 +9,4 @@ pub put_units-requires-clause-passes : goal.put_units-requires-clause-passes
 put_units-requires-clause-passes c =
     let pair = c.self.inside.pair in
     let seen : dns_session pair c.in-Units.session ≡ c.args.self.now = ap (session_by pair) (sym c.in-Units.is) ∙ c.self.view_is in
-    subst (λ (h : HeardSession). heard_rules.refusal c.args.from_client h (segment_in c.args.segment.now) ≡ None) (sym seen) c.requires.passes
+    subst (λ (h : HeardSession). heard_rules.refusal c.args.from h (segment_in c.args.segment.now) ≡ None) (sym seen) c.requires.passes

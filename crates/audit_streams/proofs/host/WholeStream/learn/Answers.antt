@@ -1,7 +1,8 @@
 use Rattle.std.proofs.Common.{◌∷◌, ◌++◌, [], List, sym, ◌∙◌, ap, subst}
 use Rattle.dialogue.specs.Learning.{Entry, AllUnitsListed}
 use Rattle.audit_streams.specs.Hosts.{HeardStream}
-use Rattle.audit_streams.proofs.Longer.{longer, of_alike}
+use Rattle.dialogue.proofs.Alike.{longer}
+use Rattle.audit_streams.proofs.Longer.{of_alike}
 use Rattle.audit_streams.proofs.host.WholeStream.learn.Goals as goal
 
 pub invariant_of-self : goal.invariant_of-self

@@ -1,4 +1,6 @@
-use Rattle.std.proofs.Common.{◌≡◌, true, false, Some, None, List, [], sym, ap, subst, refl, ◌∙◌, ℕ}
+use Rattle.std.proofs.Common.{◌≡◌, Some, None, List, [], sym, ap, subst, refl, ◌∙◌, ℕ}
+use Rattle.std.proofs.lemmas.Option.{same_Some}
+use Rattle.gate_base.specs.declared.host.Host.TheVariants.{Client, Server}
 use Rattle.tcp_segments.specs.Tcp.{Tcp}
 use Rattle.tcp_tracker.specs.Connections.{connection_of, place_of, timeout_of, short_timeout, noted, without}
 use Rattle.tcp_tracker.specs.declared.connection.ConnKey.{ConnKey}
@@ -19,16 +21,13 @@ use Rattle.event_engine.specs.declared.taken.Taken.TheVariants.{Cut}
 use Rattle.event_engine.proofs.Lost.{lost_in_session, lost_done}
 use Rattle.event_engine.proofs.state.State.take_by_session.Goals as goal
 
-same_session : {S : Type 0} (a b : Tracked S) → Some a ≡ Some b → a ≡ b
-same_session a b e = cc
-
 pub step_session-requires-clause-enters : goal.step_session-requires-clause-enters
 step_session-requires-clause-enters g c = λ x e.
     let (t, p) = c.requires.plan in
     let side = c.args.way.now.side in
     let d = c.args.segment.now.datagram.now in
     let found = ap (λ (k : ConnKey). session_in (connection_of k c.args.self.now.connections)) c.requires.key ∙ p.found in
-    subst (λ (y : Tracked g.row.S.Denot). Enters g.S.Session.rules side d y c.deref.result.now c.replace.result.items) (same_session t x (sym found ∙ e)) (enters_by g.S.Session.rules (world_in c.args.self.now) side d t c.args.plan c.deref.result.now c.replace.result.items p c.deref.ensures.value (ap (λ v. v.items) c.replace.ensures.value))
+    subst (λ (y : Tracked g.row.S.Denot). Enters g.S.Session.rules side d y c.deref.result.now c.replace.result.items) (same_Some t x (sym found ∙ e)) (enters_by g.S.Session.rules (world_in c.args.self.now) side d t c.args.plan c.deref.result.now c.replace.result.items p c.deref.ensures.value (ap (λ v. v.items) c.replace.ensures.value))
 
 pub returns-in_err-stepped : goal.returns-in_err-stepped
 returns-in_err-stepped g c =
@@ -52,7 +51,7 @@ use_segment-requires-clause-client g c = λ x e.
     let s = stepped g.S.Session.rules (image_of g.S.Session.rules live side d) side d t in
     let next = c.in_ok-stepped.ensures.next (image_of g.S.Session.rules live side d) t found (called_by g.S.Session.rules live side d t c.args.plan c.deref.result.now p c.deref.ensures.value) in
     let is : Some x ≡ Some s = sym e ∙ ap (λ (all : List (Connection (Tracked g.row.S.Denot))). session_in (connection_of c.args.key.now all)) next ∙ session_replaced c.args.key.now c.args.self.now.connections t s found in
-    still_within g.S.Session.rules c.requires.laws.lists live side d t x true c.args.plan.client (same_session x s is) p.client
+    still_within g.S.Session.rules c.requires.laws.lists live side d t x Client c.args.plan.client (same_Some x s is) p.client
 
 pub use_segment-requires-clause-server : goal.use_segment-requires-clause-server
 use_segment-requires-clause-server g c = λ x e.
@@ -64,7 +63,7 @@ use_segment-requires-clause-server g c = λ x e.
     let s = stepped g.S.Session.rules (image_of g.S.Session.rules live side d) side d t in
     let next = c.in_ok-stepped.ensures.next (image_of g.S.Session.rules live side d) t found (called_by g.S.Session.rules live side d t c.args.plan c.deref.result.now p c.deref.ensures.value) in
     let is : Some x ≡ Some s = sym e ∙ ap (λ (all : List (Connection (Tracked g.row.S.Denot))). session_in (connection_of c.args.key.now all)) next ∙ session_replaced c.args.key.now c.args.self.now.connections t s found in
-    still_within g.S.Session.rules c.requires.laws.lists live side d t x false c.args.plan.server (same_session x s is) p.server
+    still_within g.S.Session.rules c.requires.laws.lists live side d t x Server c.args.plan.server (same_Some x s is) p.server
 
 pub note-requires-clause-room : goal.note-requires-clause-room
 note-requires-clause-room g c = λ h.
@@ -93,7 +92,7 @@ use_segment-requires-in-None-clause-client g c = λ x e.
     let s = stepped g.S.Session.rules (image_of g.S.Session.rules live side d) side d t in
     let next = c.in_ok-stepped.ensures.next (image_of g.S.Session.rules live side d) t found (called_by g.S.Session.rules live side d t c.args.plan c.deref.result.now p c.deref.ensures.value) in
     let is : Some x ≡ Some s = sym e ∙ ap (λ (all : List (Connection (Tracked g.row.S.Denot))). session_in (connection_of c.args.key.now all)) next ∙ session_replaced c.args.key.now c.args.self.now.connections t s found in
-    still_within g.S.Session.rules c.requires.laws.lists live side d t x true c.args.plan.client (same_session x s is) p.client
+    still_within g.S.Session.rules c.requires.laws.lists live side d t x Client c.args.plan.client (same_Some x s is) p.client
 
 pub use_segment-requires-in-None-clause-server : goal.use_segment-requires-in-None-clause-server
 use_segment-requires-in-None-clause-server g c = λ x e.
@@ -105,7 +104,7 @@ use_segment-requires-in-None-clause-server g c = λ x e.
     let s = stepped g.S.Session.rules (image_of g.S.Session.rules live side d) side d t in
     let next = c.in_ok-stepped.ensures.next (image_of g.S.Session.rules live side d) t found (called_by g.S.Session.rules live side d t c.args.plan c.deref.result.now p c.deref.ensures.value) in
     let is : Some x ≡ Some s = sym e ∙ ap (λ (all : List (Connection (Tracked g.row.S.Denot))). session_in (connection_of c.args.key.now all)) next ∙ session_replaced c.args.key.now c.args.self.now.connections t s found in
-    still_within g.S.Session.rules c.requires.laws.lists live side d t x false c.args.plan.server (same_session x s is) p.server
+    still_within g.S.Session.rules c.requires.laws.lists live side d t x Server c.args.plan.server (same_Some x s is) p.server
 
 pub returns-in-Some : goal.returns-in-Some
 returns-in-Some g c =

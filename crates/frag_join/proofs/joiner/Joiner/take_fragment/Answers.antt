@@ -2,6 +2,7 @@ use Rattle.std.proofs.Common.{◌≡◌, false, [], ◌∷◌, ◌++◌, length,
 use Rattle.std.specs.Prelude.{slice_get}
 use Rattle.std.proofs.lemmas.Bool.{lt-leb}
 use Rattle.std.proofs.lemmas.List.Quantifiers.{position-Some}
+use Rattle.std.proofs.lemmas.Option.{slice_get-get_or}
 use Rattle.gate_base.specs.Events.{event_of}
 use Rattle.ipv4_frames.specs.Ipv4.{has_options}
 use Rattle.frag_join.specs.declared.part.Part.{Part}
@@ -9,7 +10,7 @@ use Rattle.frag_join.specs.Fragments.{name_in, name_of, fragment_in, fragment_of
 use Rattle.frag_join.specs.Coverage.{Coverage, nothing, is_bad}
 use Rattle.frag_join.specs.Joining.{State, Step, by_known, is_of, place_of, limit, fragment_step, part_or_new, with_fragment}
 use Rattle.frag_join.specs.Kept.{known_at, known_or_nothing, put_at, new_part}
-use Rattle.frag_join.proofs.PartLemmas.{get-or-some, get-last}
+use Rattle.frag_join.proofs.PartLemmas.{get-last}
 use Rattle.frag_join.proofs.StepLemmas.{step-there, step-new, settled-last}
 use Rattle.frag_join.proofs.joiner.Joiner.take_fragment.Goals as goal
 
@@ -30,7 +31,7 @@ there : (c : goal.After-put) → slice_get c.args.self.now.parts c.in-Some.place
 unfolding part
 there c =
     let new = new_part c.name_of-name.result c.args.event.now.moment in
-    get-or-some c.args.self.now.parts c.in-Some.place new (position-Some (is_of (name_in (event_of c.args.event.now))) c.args.self.now.parts c.in-Some.place new (found c)).0
+    slice_get-get_or c.args.self.now.parts c.in-Some.place new (position-Some (is_of (name_in (event_of c.args.event.now))) c.args.self.now.parts c.in-Some.place new (found c)).0
 
 step : (c : goal.After-put) → put_at c.args.self.now.parts c.in-Some.place (event_of c.args.event.now) (part c) ≡ fragment_step by_known c.args.self.now.parts (event_of c.args.event.now)
 step c =

@@ -18,7 +18,7 @@ use Rattle.audit_sessions.specs.Gives.{heard_gives}
 use Rattle.event_engine.specs.Given.{IsGiven}
 use Rattle.event_engine.specs.Knowing.{world_in}
 use Rattle.event_engine.specs.Lost.{IsLost, early_tests}
-use Rattle.event_steps.proofs.Results.{on_err}
+use Rattle.gate_base.proofs.Options.{on_err}
 use Rattle.gate_audit.proofs.LostEvents.{wanted}
 use Rattle.gate_audit.proofs.ExpectedEvents.{expected}
 use Rattle.gate_audit.proofs.Laws.{heard_laws}

@@ -17,7 +17,7 @@ use Rattle.gate_core.proofs.Stepping.{stepped, wanted, put_is}
 use Rattle.event_engine.specs.Given.{IsGiven, refusal_of, given_by}
 use Rattle.event_engine.specs.Knowing.{world_in}
 use Rattle.gate_sessions.specs.Gives.{kept_gives}
-use Rattle.event_steps.proofs.Results.{on_err}
+use Rattle.gate_base.proofs.Options.{on_err}
 use Rattle.gate_core.proofs.gate.Gate.step.Goals as goal
 
 pub take_frame-requires-clause-listed : goal.take_frame-requires-clause-listed

@@ -1,4 +1,4 @@
-use Rattle.gate_desk.proofs.FileLaws.{untold_starts}
+use Rattle.gate_desk.proofs.FileLaws.{untold_starts, untold_start_fails}
 use Rattle.gate_desk.proofs.file_desk.FileDeskDesk.start.Goals as goal
 
 pub returns-in-Ok-clause-ok : goal.returns-in-Ok-clause-ok
@@ -15,3 +15,6 @@ returns-in-Ok-clause-takes g c = rw (← c.self.view_is) c.in-Ok.ensures.takes
 
 pub returns-in-Ok-clause-unread : goal.returns-in-Ok-clause-unread
 returns-in-Ok-clause-unread g c = rw (← c.self.view_is) c.in-Ok.ensures.unread
+
+pub returns-in-Err-clause-err : goal.returns-in-Err-clause-err
+returns-in-Err-clause-err g c = rw (← c.self.view_is) (untold_start_fails c.args.slot c.self.inside.faults c.self.inside.start_faults c.raise.new.self c.raise.ensures)

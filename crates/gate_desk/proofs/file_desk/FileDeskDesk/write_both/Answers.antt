@@ -1,5 +1,5 @@
 use Rattle.std.proofs.Common.{◌++◌, arith}
-use Rattle.gate_desk.proofs.FileLaws.{untold_writes, untold_write_fails}
+use Rattle.gate_desk.proofs.FileLaws.{untold_writes, untold_write_fails, rose_one}
 use Rattle.gate_desk.proofs.file_desk.FileDeskDesk.write_both.Goals as goal
 
 pub returns-in-Ok-clause-ok : goal.returns-in-Ok-clause-ok
@@ -10,3 +10,6 @@ returns-in-Err-clause-err g c = rw (← c.self.view_is) (0, omega arith, untold_
 
 pub returns-in-Ok-clause-takes : goal.returns-in-Ok-clause-takes
 returns-in-Ok-clause-takes g c = rw (← c.self.view_is) c.in-Ok.ensures.takes
+
+pub returns-in-Err-clause-cause : goal.returns-in-Err-clause-cause
+returns-in-Err-clause-cause g c = rw (← c.self.view_is) (rose_one c.args.slot c.self.inside.faults c.raise.new.self c.raise.ensures)

@@ -1,4 +1,4 @@
-use Rattle.std.proofs.Common.{◌≡◌, Bool, Some, List, sym, ap, subst, ◌∙◌}
+use Rattle.std.proofs.Common.{◌≡◌, Some, List, sym, ap, subst, ◌∙◌}
 use Rattle.gate_base.specs.declared.address.Addr.{Addr}
 use Rattle.dialogue.specs.Learning.{Entry, AreImages}
 use Rattle.dns_stream.specs.Images.{dns_units}
@@ -8,7 +8,8 @@ use Rattle.gate_model.specs.Stream.{segment_of}
 use Rattle.gate_model.specs.World.{Tracked}
 use Rattle.gate_sessions.specs.Compact.{CompactSession, compact_rules}
 use Rattle.gate_payloads.specs.Ways.{image_by}
-use Rattle.event_steps.proofs.Results.{on_err}
+use Rattle.gate_base.proofs.Options.{on_err}
+use Rattle.gate_base.specs.declared.host.Host.{Host}
 use Rattle.event_steps.proofs.SteppedSessions.{IsSeen, seen_as, called_is, next_is, waits_is}
 use Rattle.gate_sessions.specs.Sessions.{MayWantIn}
 use Rattle.gate_sessions.proofs.Gone.{gone_is}
@@ -17,10 +18,10 @@ use Rattle.gate_sessions.proofs.engine.AnySessionEngine.take.Goals as goal
 pub step-requires-clause-images : goal.step-requires-clause-images
 step-requires-clause-images c =
     let t = c.args.tracked.now in
-    let f = c.is_client.result in
+    let f = c.host_on.result in
     let seen : c.tracked.inside.session ≡ t.session = ap (λ (x : Tracked CompactSession). x.session) c.tracked.view_is in
     subst (λ (xs : List Entry). AreImages (dns_units (entered_all xs c.args.completed.entries.now)) c.args.completed.images.items)
-    (ap (λ (b : Bool). compact_rules.listed b t.session) (sym c.is_client.ensures) ∙ ap (compact_rules.listed f) (sym seen)) c.requires.enters.right
+    (ap (λ (b : Host). compact_rules.listed b t.session) (sym c.host_on.ensures) ∙ ap (compact_rules.listed f) (sym seen)) c.requires.enters.right
 
 pub returns-clause-next : goal.returns-clause-next
 returns-clause-next c = λ image called.
@@ -28,9 +29,9 @@ returns-clause-next c = λ image called.
     let d = c.args.segment.now.datagram.now in
     let t = c.args.tracked.now in
     let entries = c.args.completed.entries.now in
-    let i : IsSeen compact_rules c.tracked.inside.client c.tracked.inside.pair c.tracked.inside.session c.is_client.result side d t image entries = record { seen = c.tracked.view_is; sender = c.is_client.ensures; called = called } in
-    next_is compact_rules c.tracked.inside.client c.tracked.inside.pair c.tracked.inside.session c.step.new.self c.is_client.result side d t image entries i
-    (c.in_ok-over.ensures.next image (called_is compact_rules c.tracked.inside.client c.tracked.inside.pair c.tracked.inside.session c.is_client.result side d t image entries i))
+    let i : IsSeen compact_rules c.tracked.inside.client c.tracked.inside.pair c.tracked.inside.session c.host_on.result side d t image entries = record { seen = c.tracked.view_is; sender = c.host_on.ensures; called = called } in
+    next_is compact_rules c.tracked.inside.client c.tracked.inside.pair c.tracked.inside.session c.step.new.self c.host_on.result side d t image entries i
+    (c.in_ok-over.ensures.next image (called_is compact_rules c.tracked.inside.client c.tracked.inside.pair c.tracked.inside.session c.host_on.result side d t image entries i))
 
 pub returns-clause-stepped : goal.returns-clause-stepped
 returns-clause-stepped c = λ image called.
@@ -39,13 +40,13 @@ returns-clause-stepped c = λ image called.
     let d = c.args.segment.now.datagram.now in
     let t = c.args.tracked.now in
     let entries = c.args.completed.entries.now in
-    let i : IsSeen compact_rules c.tracked.inside.client c.tracked.inside.pair c.tracked.inside.session c.is_client.result side d t image entries = record { seen = c.tracked.view_is; sender = c.is_client.ensures; called = called } in
-    let named = called_is compact_rules c.tracked.inside.client c.tracked.inside.pair c.tracked.inside.session c.is_client.result side d t image entries i in
+    let i : IsSeen compact_rules c.tracked.inside.client c.tracked.inside.pair c.tracked.inside.session c.host_on.result side d t image entries = record { seen = c.tracked.view_is; sender = c.host_on.ensures; called = called } in
+    let named = called_is compact_rules c.tracked.inside.client c.tracked.inside.pair c.tracked.inside.session c.host_on.result side d t image entries i in
     record {
-      gone = gone_is c.tracked.inside.client c.tracked.inside.pair c.tracked.inside.session c.is_client.result side d t image entries c.source_image.result.0 c.destination_image.result.0 c.step.new.outbox i (c.in_ok-over.ensures.out image named)
+      gone = gone_is c.tracked.inside.client c.tracked.inside.pair c.tracked.inside.session c.host_on.result side d t image entries c.source_image.result.0 c.destination_image.result.0 c.step.new.outbox i (c.in_ok-over.ensures.out image named)
           ∙ ap (λ (a : Addr). stream_out compact_rules image side d a.0 c.destination_image.result.0 (Some t)) c.source_image.ensures
           ∙ ap (λ (a : Addr). stream_out compact_rules image side d (image_by way.of_source way.source).0 a.0 (Some t)) c.destination_image.ensures;
-      waits = waits_is compact_rules c.tracked.inside.client c.tracked.inside.pair c.tracked.inside.session c.step.new.self c.is_client.result side d t image entries c.in_ok-over.over c.waiting-waiting.result i (c.in_ok-over.ensures.next image named) c.in_ok-over.ensures.over c.waiting-waiting.ensures;
+      waits = waits_is compact_rules c.tracked.inside.client c.tracked.inside.pair c.tracked.inside.session c.step.new.self c.host_on.result side d t image entries c.in_ok-over.over c.waiting-waiting.result i (c.in_ok-over.ensures.next image named) c.in_ok-over.ensures.over c.waiting-waiting.ensures;
     }
 
 pub returns-in_err-over-clause-lost : goal.returns-in_err-over-clause-lost
@@ -55,5 +56,5 @@ returns-in_err-over-clause-lost c =
     on_err c.from_residual.result (record {
       same = λ keeps. ap (seen_as c.tracked.inside.client c.tracked.inside.pair) c.in_err-over.ensures.same ∙ c.tracked.view_is;
       nothing = λ keeps. c.in_err-over.ensures.nothing;
-      wants = subst (λ (b : Bool). MayWantIn b t.session (segment_of d)) c.is_client.ensures (subst (λ (x : Tracked CompactSession). MayWantIn c.is_client.result x.session (segment_of d)) c.tracked.view_is c.in_err-over.ensures.memory);
+      wants = subst (λ (b : Host). MayWantIn b t.session (segment_of d)) c.host_on.ensures (subst (λ (x : Tracked CompactSession). MayWantIn c.host_on.result x.session (segment_of d)) c.tracked.view_is c.in_err-over.ensures.memory);
     })

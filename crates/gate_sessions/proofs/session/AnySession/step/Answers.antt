@@ -1,7 +1,10 @@
-use Rattle.std.proofs.Common.{◌≡◌, ◌≤◌, Bool, true, false, List, length, refl, ap, subst, sym, ◌∙◌}
+use Rattle.std.proofs.Common.{◌≡◌, ◌≤◌, List, length, refl, ap, subst, sym, ◌∙◌}
+use Rattle.std.proofs.lemmas.Result.{on_err_weaker}
 use Rattle.std.specs.Prelude.{Option, None}
 use Rattle.gate_base.specs.declared.address.Addr.{Addr}
 use Rattle.gate_base.specs.declared.event.Pair.{Pair}
+use Rattle.gate_base.specs.declared.host.Host.{Host}
+use Rattle.gate_base.specs.declared.host.Host.TheVariants.{Client, Server}
 use Rattle.dialogue.specs.Learning.{Entry, AreImages}
 use Rattle.dns_stream.specs.Images.{dns_units}
 use Rattle.stream_model.specs.Session.{Segment}
@@ -11,13 +14,13 @@ use Rattle.dns_plans.specs.Steps.{entered_all}
 use Rattle.gate_sessions.specs.Directions.{DnsKept, dns_session, listed_of}
 use Rattle.gate_sessions.specs.Sessions.{session_of, IsOfPair, IsSession, MayWantIn}
 use Rattle.gate_sessions.specs.declared.kinds.SessionKind.{SessionKind}
-use Rattle.gate_sessions.proofs.Stepped.{on_err, side_of, AreNamed, next_seen, out_seen, units_stay, ftp_session, lines_stay, may_want}
+use Rattle.gate_sessions.proofs.Stepped.{side_of, AreNamed, next_seen, out_seen, units_stay, ftp_session, lines_stay, may_want}
 use Rattle.gate_sessions.proofs.session.AnySession.step.Goals as goal
 
 pub invariant_of-self : goal.invariant_of-self
 invariant_of-self c =
     let pair = c.self.inside.pair in
-    let f = c.args.passing.now.from_client in
+    let f = c.args.passing.now.from in
     let g : Segment = segment_of c.args.passing.now.segment.now.datagram.now in
     let seen : ftp_session pair c.in-Lines.session.kept ≡ c.args.self.now = ap (session_of pair) (sym c.in-Lines.is) ∙ c.self.view_is in
     let holds = subst (λ (x : SessionKind). IsOfPair pair x × IsSession (session_of pair x)) c.in-Lines.is c.self.invariant in
@@ -29,26 +32,26 @@ step_units-requires-clause-stream c =
     let pair = c.self.inside.pair in
     let d : DnsKept = c.deref_mut.result.now in
     let seen : session_of pair c.self.inside.kind ≡ dns_session pair d = ap (session_of pair) c.in-Units.is ∙ ap (dns_session pair) (sym c.deref_mut.ensures.value) in
-    side_of pair d c.args.passing.now.from_client (subst IsSession seen c.self.invariant.1)
+    side_of pair d c.args.passing.now.from (subst IsSession seen c.self.invariant.1)
 
 pub step_units-requires-clause-images : goal.step_units-requires-clause-images
 step_units-requires-clause-images c =
     let pair = c.self.inside.pair in
-    let f = c.args.passing.now.from_client in
+    let f = c.args.passing.now.from in
     let entries : List Entry = c.args.completed.entries.now in
     let d : DnsKept = c.deref_mut.result.now in
     let seen : session_of pair c.self.inside.kind ≡ dns_session pair d = ap (session_of pair) c.in-Units.is ∙ ap (dns_session pair) (sym c.deref_mut.ensures.value) in
     let back : c.args.self.now ≡ dns_session pair d = sym c.self.view_is ∙ seen in
     subst (λ (xs : List Entry). AreImages (dns_units (entered_all xs entries)) c.args.completed.images.items) (ap (compact_rules.listed f) back ∙ listed_in f pair d) c.requires.images
   where
-    listed_in : (f : Bool) (pair : Pair) (d : DnsKept) → compact_rules.listed f (dns_session pair d) ≡ listed_of f d
-    listed_in true pair d = refl
-    listed_in false pair d = refl
+    listed_in : (f : Host) (pair : Pair) (d : DnsKept) → compact_rules.listed f (dns_session pair d) ≡ listed_of f d
+    listed_in Client pair d = refl
+    listed_in Server pair d = refl
 
 pub invariant_of-self-in-Units : goal.invariant_of-self-in-Units
 invariant_of-self-in-Units c =
     let pair = c.self.inside.pair in
-    let f = c.args.passing.now.from_client in
+    let f = c.args.passing.now.from in
     let g : Segment = segment_of c.args.passing.now.segment.now.datagram.now in
     let entries : List Entry = c.args.completed.entries.now in
     let d : DnsKept = c.deref_mut.result.now in
@@ -64,7 +67,7 @@ returns-in-Units-clause-next c = λ image e.
     let pair = c.self.inside.pair in
     let d : DnsKept = c.deref_mut.result.now in
     let seen : dns_session pair d ≡ c.args.self.now = ap (dns_session pair) c.deref_mut.ensures.value ∙ ap (session_of pair) (sym c.in-Units.is) ∙ c.self.view_is in
-    next_seen c.step_units.result image pair d c.step_units.new.session c.args.self.now c.args.passing.now.from_client (segment_of c.args.passing.now.segment.now.datagram.now) c.args.completed.entries.now seen e c.step_units.ensures.next
+    next_seen c.step_units.result image pair d c.step_units.new.session c.args.self.now c.args.passing.now.from (segment_of c.args.passing.now.segment.now.datagram.now) c.args.completed.entries.now seen e c.step_units.ensures.next
 
 pub returns-in-Units-clause-out : goal.returns-in-Units-clause-out
 returns-in-Units-clause-out c = λ image e.
@@ -72,15 +75,15 @@ returns-in-Units-clause-out c = λ image e.
     let passing = c.args.passing.now in
     let d : DnsKept = c.deref_mut.result.now in
     let seen : dns_session pair d ≡ c.args.self.now = ap (dns_session pair) c.deref_mut.ensures.value ∙ ap (session_of pair) (sym c.in-Units.is) ∙ c.self.view_is in
-    out_seen c.step_units.result image pair d c.args.self.now c.args.passing.now.from_client (segment_of c.args.passing.now.segment.now.datagram.now) c.args.completed.entries.now (sent_as passing.segment.now.datagram.now passing.source.0 passing.destination.0) c.step_units.new.outbox seen e c.step_units.ensures.out
+    out_seen c.step_units.result image pair d c.args.self.now c.args.passing.now.from (segment_of c.args.passing.now.segment.now.datagram.now) c.args.completed.entries.now (sent_as passing.segment.now.datagram.now passing.source.0 passing.destination.0) c.step_units.new.outbox seen e c.step_units.ensures.out
 
 pub returns-in-Units-clause-memory : goal.returns-in-Units-clause-memory
 returns-in-Units-clause-memory c =
     let pair = c.self.inside.pair in
-    let f = c.args.passing.now.from_client in
+    let f = c.args.passing.now.from in
     let g : Segment = segment_of c.args.passing.now.segment.now.datagram.now in
     let d : DnsKept = c.deref_mut.result.now in
     let seen : session_of pair c.self.inside.kind ≡ dns_session pair d = ap (session_of pair) c.in-Units.is ∙ ap (dns_session pair) (sym c.deref_mut.ensures.value) in
-    on_err c.step_units.result
+    on_err_weaker c.step_units.result
     (λ m. subst (λ (k : CompactSession). MayWantIn f k g) (sym seen ∙ c.self.view_is) (may_want pair d f g c.args.completed.entries.now (subst IsSession seen c.self.invariant.1) m))
     c.step_units.ensures.memory

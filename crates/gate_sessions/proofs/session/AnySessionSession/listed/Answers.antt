@@ -9,5 +9,5 @@ use Rattle.gate_sessions.proofs.session.AnySessionSession.listed.Goals as goal
 
 pub returns-in-Units-clause-few : goal.returns-in-Units-clause-few
 returns-in-Units-clause-few c =
-    few_in c.self.inside.pair c.in-Units.session.value c.args.client c.listed.result (subst (λ (x : SessionKind). IsSession (session_of c.self.inside.pair x)) c.in-Units.is c.self.invariant.1)
-    (c.listed.ensures ∙ ap (λ (gate : DnsKept). length (entries_of (λ (es : List Entry). es) (λ (es : List Entry). es) c.args.client gate)) c.deref.ensures)
+    few_in c.self.inside.pair c.in-Units.session.value c.args.host c.listed.result (subst (λ (x : SessionKind). IsSession (session_of c.self.inside.pair x)) c.in-Units.is c.self.invariant.1)
+    (c.listed.ensures ∙ ap (λ (gate : DnsKept). length (entries_of (λ (es : List Entry). es) (λ (es : List Entry). es) c.args.host gate)) c.deref.ensures)

@@ -1,5 +1,8 @@
-use Rattle.std.proofs.Common.{◌≡◌, ◌≤◌, ◌++◌, ℕ, Bool, List, true, false, length, drop, min, ap, sym, subst, ◌∙◌}
+use Rattle.std.proofs.Common.{◌≡◌, ◌≤◌, ◌++◌, ℕ, List, true, length, drop, min, ap, sym, subst, ◌∙◌}
+use Rattle.std.proofs.lemmas.List.{take_rest}
 use Rattle.gate_base.specs.declared.event.Pair.{Pair}
+use Rattle.gate_base.specs.declared.host.Host.{Host}
+use Rattle.gate_base.specs.declared.host.Host.TheVariants.{Client, Server}
 use Rattle.dns_stream.specs.Ends.{rest-short}
 use Rattle.stream_model.specs.Session.{Segment, arrival, segment_in}
 use Rattle.stream_model.specs.Refusals.{is_data}
@@ -7,7 +10,6 @@ use Rattle.compact_stream.specs.Outs.{start_kept}
 use Rattle.compact_stream.specs.Sessions.{sender_kept}
 use Rattle.gate_sessions.specs.Compact.{CompactSession, kept_units}
 use Rattle.dns_plans.specs.Plans.{whole_units}
-use Rattle.dns_plans.proofs.NamedLemmas.{whole_part}
 use Rattle.gate_sessions.specs.Directions.{DnsKept, dns_session}
 use Rattle.gate_sessions.specs.Sessions.{session_of, IsSession}
 use Rattle.gate_sessions.specs.declared.kinds.SessionKind.{SessionKind}
@@ -15,20 +17,20 @@ use Rattle.gate_sessions.proofs.SessionLemmas.{joined_units}
 use Rattle.gate_sessions.proofs.session.AnySessionSession.put_octets.Goals as goal
 
 -- no held rest is longer than a unit that isn't whole
-rest_in : (pair : Pair) (d : DnsKept) (f : Bool) → IsSession (dns_session pair d) → length (sender_kept f d.kept).rest ≤ 8193
-rest_in pair d true s = rest-short d.kept.client.rest s.some.stands.client.rest
-rest_in pair d false s = rest-short d.kept.server.rest s.some.stands.server.rest
+rest_in : (pair : Pair) (d : DnsKept) (f : Host) → IsSession (dns_session pair d) → length (sender_kept f d.kept).rest ≤ 8193
+rest_in pair d Client s = rest-short d.kept.client.rest s.some.stands.client.rest
+rest_in pair d Server s = rest-short d.kept.server.rest s.some.stands.server.rest
 
 pub join-requires-clause-rest : goal.join-requires-clause-rest
 join-requires-clause-rest c =
-    let f = c.args.from_client in
+    let f = c.args.from in
     let d : DnsKept = c.in-Units.session.value in
     subst (λ (r : List ℕ). length r ≤ 8193) (sym (c.rest.ensures ∙ ap (λ (x : DnsKept). (sender_kept f x.kept).rest) c.deref-then-is_data.ensures))
     (rest_in c.self.inside.pair d f (subst (λ (x : SessionKind). IsSession (session_of c.self.inside.pair x)) c.in-Units.is c.self.invariant.1))
 
 pub returns-then-is_data : goal.returns-then-is_data
 returns-then-is_data c =
-    let f = c.args.from_client in
+    let f = c.args.from in
     let pair = c.self.inside.pair in
     let d : DnsKept = c.in-Units.session.value in
     let g : Segment = segment_in c.args.segment.now in
@@ -37,7 +39,7 @@ returns-then-is_data c =
     let fresh : drop c.repeated-repeated.result c.payload.result.now ≡ drop (min (length g.octets) (start_kept (sender_kept f d.kept) g).before) g.octets = ap (λ (n : ℕ). drop n c.payload.result.now) repeated ∙ ap (drop (min (length g.octets) (start_kept (sender_kept f d.kept) g).before)) c.payload.ensures.octets in
     let joined : c.join.new.self ≡ (sender_kept f d.kept).rest ++ drop (min (length g.octets) (start_kept (sender_kept f d.kept) g).before) g.octets =
     c.join.ensures
-    ∙ ap (λ (t : List ℕ). c.rest.result.now ++ t) (whole_part c.repeated-repeated.result c.payload.result.now ∙ fresh)
+    ∙ ap (λ (t : List ℕ). c.rest.result.now ++ t) (take_rest c.payload.result.now c.repeated-repeated.result ∙ fresh)
     ∙ ap (λ (r : List ℕ). r ++ drop (min (length g.octets) (start_kept (sender_kept f d.kept) g).before) g.octets) (c.rest.ensures ∙ ap (λ (x : DnsKept). (sender_kept f x.kept).rest) c.deref-then-is_data.ensures) in
     let data_is : is_data (arrival g) ≡ true = sym c.is_data.ensures ∙ c.if-is_data.true in
     ap whole_units joined ∙ joined_units pair d f g data_is ∙ ap (λ (k : CompactSession). kept_units f k g) seen

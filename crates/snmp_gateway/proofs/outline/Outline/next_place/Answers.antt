@@ -1,6 +1,7 @@
 use Rattle.std.proofs.Common.{sym, ◌∙◌, arith}
+use Rattle.gate_base.proofs.Options.{none_there}
 use Rattle.snmp_gateway.proofs.Reading.{binding_leaves}
-use Rattle.snmp_gateway.proofs.Walk.{no_some, walks_next, walks_found, walks_passes, walks_stop, stands_next}
+use Rattle.snmp_gateway.proofs.Walk.{walks_next, walks_found, walks_passes, walks_stop, stands_next}
 use Rattle.snmp_gateway.proofs.outline.Outline.next_place.Goals as goal
 
 pub returns-then-is_some-clause-ahead : goal.returns-then-is_some-clause-ahead
@@ -22,7 +23,7 @@ loop-address-smaller c =
 
 pub loop-address-preserved : goal.loop-address-preserved
 loop-address-preserved c =
-    walks_next c.args.octets.now c.args.self.now c.loop-address.self (c.in-Some-binding.address, c.in-Some-binding.rest) c.loop-address.invariant (sym c.binding.ensures ∙ c.in-Some-binding.is) (no_some c.in-Some-binding.address (sym c.is_some.ensures ∙ c.if-is_some.false))
+    walks_next c.args.octets.now c.args.self.now c.loop-address.self (c.in-Some-binding.address, c.in-Some-binding.rest) c.loop-address.invariant (sym c.binding.ensures ∙ c.in-Some-binding.is) (none_there c.in-Some-binding.address (sym c.is_some.ensures ∙ c.if-is_some.false))
 
 pub returns-clause-stops : goal.returns-clause-stops
 returns-clause-stops c = λ none. walks_stop c.args.octets.now c.args.self.now c.loop-address.self c.loop-address.invariant (sym c.binding.ensures ∙ c.in_default-binding.is)

@@ -1,9 +1,27 @@
-use Rattle.std.proofs.Common.{arith}
+use Rattle.std.proofs.Common.{arith, ◌≡◌, ◌<◌, length, Some}
+use Rattle.std.specs.Prelude.{slice_get}
+use Rattle.gate_base.specs.declared.host.Host.{Host}
+use Rattle.gate_base.specs.declared.host.Host.TheVariants.{Client, Server}
+use Rattle.stream_gate.specs.Gates.{GateKept}
+use Rattle.stream_gate.specs.Listed.{entries_of}
+use Rattle.stream_gate.proofs.Delegated.{at_host, of_host}
 use Rattle.stream_gate.proofs.gate.StreamGate.entry.Goals as goal
 
 -- a rest is smaller than memory
 pub entry-requires-room-H-HoldsRest : goal.entry-requires-room-H-HoldsRest
 entry-requires-room-H-HoldsRest g c κs within = omega (arith, g.N.fits)
 
-pub entry-requires-2-room-H-HoldsRest : goal.entry-requires-2-room-H-HoldsRest
-entry-requires-2-room-H-HoldsRest g c κs within = omega (arith, g.N.fits)
+pub entry-requires-in-Server-room-H-HoldsRest : goal.entry-requires-in-Server-room-H-HoldsRest
+entry-requires-in-Server-room-H-HoldsRest g c κs within = omega (arith, g.N.fits)
+
+pub entry-requires : goal.entry-requires
+entry-requires g c = of_host (λ (h : Host) (d : GateKept _ _). c.args.place < length (entries_of g.C.Learns.entries g.S.Learns.entries h d)) Client c.args.host _ c.args.self.now c.in-Client.is c.self.view_is c.requires
+
+pub returns-in-Client : goal.returns-in-Client
+returns-in-Client g c = at_host (λ (h : Host) (d : GateKept _ _). slice_get (entries_of g.C.Learns.entries g.S.Learns.entries h d) c.args.place ≡ Some c.entry.result) Client c.args.host _ c.args.self.now c.in-Client.is c.self.view_is c.entry.ensures
+
+pub entry-requires-in-Server : goal.entry-requires-in-Server
+entry-requires-in-Server g c = of_host (λ (h : Host) (d : GateKept _ _). c.args.place < length (entries_of g.C.Learns.entries g.S.Learns.entries h d)) Server c.args.host _ c.args.self.now c.in-Server.is c.self.view_is c.requires
+
+pub returns-in-Server : goal.returns-in-Server
+returns-in-Server g c = at_host (λ (h : Host) (d : GateKept _ _). slice_get (entries_of g.C.Learns.entries g.S.Learns.entries h d) c.args.place ≡ Some c.entry-in-Server.result) Server c.args.host _ c.args.self.now c.in-Server.is c.self.view_is c.entry-in-Server.ensures

@@ -5,5 +5,5 @@ use Rattle.stream_gate.proofs.gate.StreamGate.inner.Goals as goal
 pub inner-requires-room-H-HoldsRest : goal.inner-requires-room-H-HoldsRest
 inner-requires-room-H-HoldsRest g c κs within = omega (arith, g.N.fits)
 
-pub inner-requires-2-room-H-HoldsRest : goal.inner-requires-2-room-H-HoldsRest
-inner-requires-2-room-H-HoldsRest g c κs within = omega (arith, g.N.fits)
+pub inner-requires-in-Server-room-H-HoldsRest : goal.inner-requires-in-Server-room-H-HoldsRest
+inner-requires-in-Server-room-H-HoldsRest g c κs within = omega (arith, g.N.fits)

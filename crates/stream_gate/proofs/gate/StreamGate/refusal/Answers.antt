@@ -8,8 +8,8 @@ judge-requires-room-H-HoldsRest g c κs within = omega (arith, g.N.fits)
 pub judge-requires-room-I-HoldsRest : goal.judge-requires-room-I-HoldsRest
 judge-requires-room-I-HoldsRest g c κs within = omega (arith, g.N.fits)
 
-pub judge-requires-2-room-H-HoldsRest : goal.judge-requires-2-room-H-HoldsRest
-judge-requires-2-room-H-HoldsRest g c κs within = omega (arith, g.N.fits)
+pub judge-requires-in-Server-room-H-HoldsRest : goal.judge-requires-in-Server-room-H-HoldsRest
+judge-requires-in-Server-room-H-HoldsRest g c κs within = omega (arith, g.N.fits)
 
-pub judge-requires-2-room-I-HoldsRest : goal.judge-requires-2-room-I-HoldsRest
-judge-requires-2-room-I-HoldsRest g c κs within = omega (arith, g.N.fits)
+pub judge-requires-in-Server-room-I-HoldsRest : goal.judge-requires-in-Server-room-I-HoldsRest
+judge-requires-in-Server-room-I-HoldsRest g c κs within = omega (arith, g.N.fits)

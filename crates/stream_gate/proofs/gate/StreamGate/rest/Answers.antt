@@ -5,5 +5,5 @@ use Rattle.stream_gate.proofs.gate.StreamGate.rest.Goals as goal
 pub rest-requires-room-H-HoldsRest : goal.rest-requires-room-H-HoldsRest
 rest-requires-room-H-HoldsRest g c κs within = omega (arith, g.N.fits)
 
-pub rest-requires-2-room-H-HoldsRest : goal.rest-requires-2-room-H-HoldsRest
-rest-requires-2-room-H-HoldsRest g c κs within = omega (arith, g.N.fits)
+pub rest-requires-in-Server-room-H-HoldsRest : goal.rest-requires-in-Server-room-H-HoldsRest
+rest-requires-in-Server-room-H-HoldsRest g c κs within = omega (arith, g.N.fits)
