@@ -2,9 +2,8 @@
 use Rattle.std.proofs.Common.{◌≤◌, ◌-◌, ℕ, length, arith}
 use Rattle.gate_base.specs.declared.side.Side.{Side}
 use Rattle.gate_settings.specs.declared.settings.Settings.{Settings}
-use Rattle.pcap_files.specs.Capture.{Packet}
-use Rattle.lawful_files.specs.Progress.{carries}
-use Rattle.lawful_files.specs.Wanted.{Wanted, Exactly, Cut}
+use Rattle.pcap_files.specs.Prelude.{Packet}
+use Rattle.lawful_files.specs.Prelude.{carries, Wanted, Exactly, Cut}
 
 less : (n m : ℕ) → n - m ≤ n
 less n m = omega arith

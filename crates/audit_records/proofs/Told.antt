@@ -1,12 +1,10 @@
 -- What is read off what a session hands on, and that each of its pieces fits a datagram.
 use Rattle.std.proofs.Common.{◌≡◌, ◌≤◌, ℕ, ◌+◌, ◌-◌, ◌*◌, ◌/◌, ◌%◌, ◌<◌, Bool, true, false, ◌==◌, refl, ap, ◌∙◌, arith, min, max, length}
 use Rattle.gate_base.specs.declared.host.Host.{Host}
-use Rattle.tcp_segments.specs.Flags.{flags_of, flags_octet, one_if}
-use Rattle.tcp_segments.specs.Tcp.{Tcp}
+use Rattle.tcp_segments.specs.Prelude.{flags_of, flags_octet, one_if, Tcp}
 use Rattle.tcp_segments.specs.declared.flags.Flags.{Flags}
-use Rattle.stream_model.specs.Session.{Session, other, segment_in}
+use Rattle.stream_model.specs.Prelude.{Session, other, segment_in, Sent, session_sent}
 use Rattle.stream_model.proofs.Ways.{session_limit}
-use Rattle.stream_model.specs.Cuts.{Sent, session_sent}
 use Rattle.audit_streams.specs.Sending.{Handed, handed}
 use Rattle.audit_records.specs.Cutting.{told}
 

@@ -2,10 +2,9 @@
 use Rattle.std.specs.Prelude.{◌≡◌, ◌≤◌, ◌+◌, ◌-◌, ℕ, List, length}
 use Rattle.audit_streams.specs.Sending.{Handed}
 use Rattle.ipv4_frames.specs.Ipv4.{Datagram, fields_of}
-use Rattle.tcp_segments.specs.Flags.{flags_of}
-use Rattle.tcp_segments.specs.Tcp.{IsTcpHeader}
-use Rattle.gate_model.specs.Stream.{tcp_of}
-use Rattle.stream_model.specs.Cuts.{Sent}
+use Rattle.tcp_segments.specs.Prelude.{flags_of, IsTcpHeader}
+use Rattle.gate_model.specs.Prelude.{tcp_of}
+use Rattle.stream_model.specs.Prelude.{Sent}
 
 -- the segment's datagram, its addresses in the other realm, and what is sent for it
 pub record Cutting : Type 0 where

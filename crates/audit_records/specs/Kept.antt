@@ -2,7 +2,7 @@
 use Rattle.std.specs.Prelude.{ℕ, List, [], Option, Some, None}
 use Rattle.gate_base.specs.declared.side.Side.{Side}
 use Rattle.lawful_files.specs.Progress as progress
-use Rattle.lawful_files.specs.Wanted.{Wanted, Exactly, Cut}
+use Rattle.lawful_files.specs.Prelude.{Wanted, Exactly, Cut}
 use Rattle.audit_records.specs.Cutting.{Cutting}
 use Rattle.audit_records.specs.Records.{Came}
 use Rattle.audit_records.specs.declared.expected.Progress.{Progress}

@@ -2,8 +2,8 @@
 use Rattle.std.specs.Prelude.{ℕ, Bool, List}
 use Rattle.gate_base.specs.declared.side.Side.{Side}
 use Rattle.gate_settings.specs.declared.settings.Settings.{Settings}
-use Rattle.pcap_files.specs.Capture.{Packet}
-use Rattle.lawful_files.specs.Files.{record_of}
+use Rattle.pcap_files.specs.Prelude.{Packet}
+use Rattle.lawful_files.specs.Prelude.{record_of}
 use Rattle.lawful_files.specs.Progress.{is_record}
 
 -- a record that came, and the realm and the moment to which it is to belong

@@ -2,7 +2,7 @@
 ghost use Rattle.std.specs.Prelude.{◌≡◌, ◌≤◌, ◌<◌, ◌+◌, ◌-◌, ◌^◌, ◌++◌, ◌&&◌, length};
 ghost use Rattle.std.specs.Str.{bytes_eq};
 ghost use Rattle.ether_frames.specs.Ether.{framed_on};
-ghost use Rattle.gate_settings.specs.Cross.{side_settings};
+ghost use Rattle.gate_settings.specs.Prelude.{side_settings};
 ghost use Rattle.lawful_files.specs.Progress.{head_length};
 ghost use Rattle.audit_records.specs.Records.{holds};
 

@@ -1,6 +1,6 @@
 // Whether a record is the next piece of what a session sends.
 ghost use Rattle.std.specs.Prelude.{◌≡◌, ◌≤◌, ◌<◌, ◌+◌, ◌-◌, ◌^◌, ◌%◌, ◌&&◌, ◌||◌, ◌==◌, nat_lt, nat_le, true, false, if◌then◌else◌, length, take, drop};
-ghost use Rattle.gate_model.specs.Stream.{sent_as};
+ghost use Rattle.gate_model.specs.Prelude.{sent_as};
 ghost use Rattle.lawful_files.specs.Progress as progress;
 ghost use Rattle.audit_records.specs.Records.{holds};
 

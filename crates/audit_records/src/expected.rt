@@ -1,10 +1,9 @@
 // What is wanted of an event, and how far its records have come.
 ghost use Rattle.std.specs.Prelude.{◌≡◌, ◌≤◌, ◌<◌, ◌^◌, [], ◌∷◌, Some, None, length, IfOk};
-ghost use Rattle.gate_base.specs.Side.{other};
+ghost use Rattle.gate_base.specs.Prelude.{other};
 ghost use Rattle.gate_base.specs.declared.side.Side.TheVariants.{Left};
 ghost use Rattle.lawful_files.specs.Progress as progress;
-ghost use Rattle.lawful_files.specs.Progress.{begun};
-ghost use Rattle.lawful_files.specs.Wanted.{Exactly, Cut};
+ghost use Rattle.lawful_files.specs.Prelude.{begun, Exactly, Cut};
 ghost use Rattle.audit_records.specs.Kept.{wanted_of, progress_of, carried_by};
 
 use crate::came::Came;

@@ -1,8 +1,8 @@
 // What a session sends for a segment, with the segment.
 ghost use Rattle.std.specs.Prelude.{◌≡◌, ◌≤◌, ◌+◌, ◌-◌, length, IfOk};
 ghost use Rattle.ipv4_frames.specs.Ipv4.{fields_of};
-ghost use Rattle.tcp_segments.specs.Tcp.{IsTcpHeader};
-ghost use Rattle.gate_model.specs.Stream.{tcp_of, sent_as};
+ghost use Rattle.tcp_segments.specs.Prelude.{IsTcpHeader};
+ghost use Rattle.gate_model.specs.Prelude.{tcp_of, sent_as};
 ghost use Rattle.audit_records.specs.Cutting.{told};
 
 use audit_streams::Sent;

@@ -1,22 +1,17 @@
 -- The units that a segment completes end in the held rest of its sender and what goes on behind it.
-use Rattle.std.proofs.Common.{◌≡◌, ℕ, Bool, true, false, cond, List, [], ◌++◌, length, drop, min, None, refl, sym, ◌∙◌, ap, subst, arith}
-use Rattle.std.specs.Prelude.{◌≤◌}
+use Rattle.std.proofs.Common.{◌≡◌, ℕ, Bool, true, false, cond, List, [], ◌++◌, length, drop, min, None, refl, sym, ◌∙◌, ap, subst, arith, ◌≤◌}
 use Rattle.gate_base.specs.declared.host.Host.{Host}
 use Rattle.gate_base.specs.declared.host.Host.TheVariants.{Client, Server}
-use Rattle.dialogue.specs.Learning.{Entry}
-use Rattle.dialogue.specs.Meaning.{is_held}
-use Rattle.dialogue.specs.Stream.{cut}
+use Rattle.dialogue.specs.Prelude.{Entry, is_held, cut}
 use Rattle.dialogue.proofs.CutLemmas.{IsRest-cut}
-use Rattle.dns_stream.specs.Images.{dns_units}
-use Rattle.dns_stream.specs.Lawful.{dns_units-lawful, rests-short}
-use Rattle.stream_model.specs.Session.{Sender, Segment, arrival, start_of, own}
-use Rattle.stream_model.specs.Refusals.{is_data, segment_refusal}
+use Rattle.dns_stream.specs.Prelude.{dns_units, dns_units-lawful, rests-short}
+use Rattle.stream_model.specs.Prelude.{Sender, Segment, arrival, start_of, own, is_data, segment_refusal}
 use Rattle.stream_model.proofs.PassLemmas.{Passes, IsData, passes}
 use Rattle.stream_model.proofs.Lacking.{data_of}
 use Rattle.audit_streams.specs.Hosts.{Heard, sender_by, held_in}
-use Rattle.gate_model.specs.Sessions.{completed}
+use Rattle.gate_model.specs.Prelude.{completed}
 use Rattle.gate_model.proofs.Completing.{held_completed, all_held, drop-min}
-use Rattle.dns_plans.specs.Plans.{whole_units}
+use Rattle.dns_plans.specs.Prelude.{whole_units}
 use Rattle.audit_sessions.specs.Sessions.{DnsHeard, streams_of}
 
 -- what is held of a stream of DNS is its rest, until it ends

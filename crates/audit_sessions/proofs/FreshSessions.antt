@@ -3,9 +3,8 @@ use Rattle.std.proofs.Common.{◌≡◌, ℕ, Option, Some, None, refl, sym, ◌
 use Rattle.gate_base.specs.declared.event.Pair.{Pair}
 use Rattle.gate_base.specs.declared.refusal.Refusal.{Refusal}
 use Rattle.gate_base.specs.declared.host.Host.TheVariants.{Client}
-use Rattle.stream_model.specs.Session.{Segment}
-use Rattle.gate_model.specs.Lists.{Lists}
-use Rattle.gate_model.specs.Sessions.{lists_at}
+use Rattle.stream_model.specs.Prelude.{Segment}
+use Rattle.gate_model.specs.Prelude.{Lists, lists_at}
 use Rattle.audit_sessions.specs.Heard.{heard_rules}
 
 abbrev pub verdict_by : (port : ℕ) (p : Pair) (initial mss : ℕ) (g : Segment) → Option Lists → Pair → Option Refusal

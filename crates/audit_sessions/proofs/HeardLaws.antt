@@ -5,18 +5,13 @@ use Rattle.gate_base.specs.declared.event.Pair.{Pair}
 use Rattle.gate_base.proofs.Hosts.{both}
 use Rattle.gate_base.specs.declared.host.Host.{Host}
 use Rattle.gate_base.specs.declared.host.Host.TheVariants.{Client, Server}
-use Rattle.gate_base.specs.Hosts.{peer}
-use Rattle.dialogue.specs.Learning.{Entry, AllListed}
-use Rattle.dialogue.specs.Meaning.{Meaning}
-use Rattle.dns_stream.specs.Units.{unit_addresses}
-use Rattle.stream_model.specs.Session.{Session, Segment, own}
-use Rattle.stream_model.specs.Steps.{session_next}
+use Rattle.gate_base.specs.Prelude.{peer}
+use Rattle.dialogue.specs.Prelude.{Entry, AllListed, Meaning}
+use Rattle.dns_stream.specs.Prelude.{unit_addresses}
+use Rattle.stream_model.specs.Prelude.{Session, Segment, own, session_next}
 use Rattle.audit_streams.specs.Hosts.{Heard, sender_by}
-use Rattle.gate_model.specs.Held.{HasLists}
-use Rattle.gate_model.specs.Lists.{Lists, addresses_in, entered, most_entries}
-use Rattle.gate_model.specs.Reading.{Reads}
-use Rattle.gate_model.specs.Rules.{whole_rules}
-use Rattle.gate_model.specs.Sessions.{WholeSession, lists_at, meaning_by, entries_by, completed, whole_units, whole_learned, whole_next, with_entries}
+use Rattle.gate_model.specs.Prelude.{HasLists, Lists, addresses_in, entered, most_entries, Reads, whole_rules, WholeSession, lists_at, meaning_by, entries_by, completed, whole_units, whole_learned, whole_next}
+use Rattle.gate_model.specs.Sessions.{with_entries}
 use Rattle.gate_model.proofs.Entering.{listed_units_more}
 use Rattle.gate_model.proofs.ListsWorld.{whole_lists}
 use Rattle.gate_model.proofs.RememberedSessions.{longer, units_next, new_listed, made_each, meaning_step}

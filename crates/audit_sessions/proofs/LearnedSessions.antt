@@ -1,28 +1,19 @@
 -- A connection of DNS that has learned what a segment's units name, and passes the segment.
-use Rattle.std.proofs.Common.{◌≡◌, ◌≤◌, ℕ, true, false, List, [], ◌∷◌, ◌++◌, length, Option, Some, refl, sym, ◌∙◌, ap, subst, arith}
-use Rattle.std.specs.Prelude.{Result, Ok, Err, OnOk}
+use Rattle.std.proofs.Common.{◌≡◌, ◌≤◌, ℕ, true, false, List, [], ◌∷◌, ◌++◌, length, Option, Some, refl, sym, ◌∙◌, ap, subst, arith, Result, Ok, Err, OnOk}
 use Rattle.gate_base.specs.declared.address.Addr.{Addr}
 use Rattle.gate_base.specs.declared.event.Pair.{Pair}
 use Rattle.gate_base.specs.declared.host.Host.{Host}
 use Rattle.gate_base.specs.declared.host.Host.TheVariants.{Client, Server}
-use Rattle.dialogue.specs.Learning.{Entry, is_listed, ReadAlike, AllUnitsListed}
-use Rattle.dialogue.specs.Stream.{cut}
+use Rattle.dialogue.specs.Prelude.{Entry, is_listed, ReadAlike, AllUnitsListed, cut}
 use Rattle.dialogue.proofs.Alike.{learned_alike}
-use Rattle.dns_stream.specs.Units.{unit_addresses}
-use Rattle.dns_stream.specs.Images.{dns_units}
-use Rattle.dns_stream.specs.Lawful.{dns_units-learning}
-use Rattle.stream_model.specs.Cuts.{session_sent}
-use Rattle.stream_model.specs.Session.{Session, Segment}
-use Rattle.stream_model.specs.Steps.{session_next, session_ends}
-use Rattle.stream_model.specs.Refusals.{segment_refusal}
+use Rattle.dns_stream.specs.Prelude.{unit_addresses, dns_units, dns_units-learning}
+use Rattle.stream_model.specs.Prelude.{session_sent, Session, Segment, session_next, session_ends, segment_refusal}
 use Rattle.audit_streams.specs.Hosts.{Heard}
 use Rattle.audit_streams.specs.Sending.{handed}
-use Rattle.gate_model.specs.Lists.{addresses_in}
-use Rattle.gate_model.specs.Sessions.{WholeSession, whole_learned}
+use Rattle.gate_model.specs.Prelude.{addresses_in, WholeSession, whole_learned}
 use Rattle.gate_model.proofs.Entering.{listed_units_more}
 use Rattle.gate_model.proofs.RememberedSessions.{verdict_alike}
-use Rattle.dns_plans.specs.Plans.{beside}
-use Rattle.dns_plans.specs.Steps.{enter_one, entered_all}
+use Rattle.dns_plans.specs.Prelude.{beside, enter_one, entered_all}
 use Rattle.dns_plans.proofs.EnteredLemmas.{all_grown, list_after}
 use Rattle.audit_sessions.specs.Heard.{HeardSession, session_in, heard_of, heard_in, heard_rules, heard_sent, IsSession}
 use Rattle.audit_sessions.specs.Sessions.{DnsHeard, listed_of, streams_of, IsListedSide, with_entered, HasPassed, dns_session}

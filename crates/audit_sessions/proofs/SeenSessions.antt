@@ -1,21 +1,18 @@
 -- A session of either kind as it is seen.
-use Rattle.std.proofs.Common.{◌≡◌, ◌≤◌, ℕ, List, length, Option, None, sym, ◌∙◌, ap, subst, arith, refl}
+use Rattle.std.proofs.Common.{◌≡◌, ◌≤◌, ℕ, List, length, Option, None, sym, ◌∙◌, ap, subst, arith, refl, Result, OnOk}
 use Rattle.std.proofs.lemmas.Result.{on_ok_weaker}
-use Rattle.std.specs.Prelude.{Result, OnOk}
 use Rattle.gate_base.specs.declared.address.Addr.{Addr}
 use Rattle.gate_base.specs.declared.event.Pair.{Pair}
 use Rattle.gate_base.specs.declared.host.Host.{Host}
 use Rattle.gate_base.specs.declared.host.Host.TheVariants.{Client, Server}
-use Rattle.dialogue.specs.Learning.{Entry}
+use Rattle.dialogue.specs.Prelude.{Entry}
 use Rattle.ftp_lines.specs.Renaming.{client_lines, server_lines}
 use Rattle.ftp_lines.specs.declared.lines.ClientLines.{ClientLines}
 use Rattle.ftp_lines.specs.declared.lines.ServerLines.{ServerLines}
-use Rattle.stream_model.specs.Cuts.{session_sent}
-use Rattle.stream_model.specs.Session.{Session, Segment, session}
-use Rattle.stream_model.specs.Steps.{session_next, session_ends}
+use Rattle.stream_model.specs.Prelude.{session_sent, Session, Segment, session, session_next, session_ends}
 use Rattle.audit_streams.specs.Hosts.{HeardStreams, sender_by, session_of}
 use Rattle.audit_streams.specs.Sending.{handed}
-use Rattle.dns_plans.specs.Steps.{entered_all}
+use Rattle.dns_plans.specs.Prelude.{entered_all}
 use Rattle.gate_model.proofs.RememberedSessions.{same_session}
 use Rattle.audit_sessions.specs.Heard.{HeardSession, session_in, heard_in, heard_rules, heard_sent, IsSession}
 use Rattle.audit_sessions.specs.Sessions.{DnsHeard, listed_of, streams_of, IsListedSide, dns_session, session_by, IsOfPair}

@@ -1,21 +1,17 @@
 -- What a session sends for a segment that it takes, by what is seen of it.
-use Rattle.std.proofs.Common.{◌≡◌, ◌≤◌, ◌+◌, ◌-◌, ℕ, Option, Some, List, sym, ap, refl, subst, ◌∙◌, arith}
-use Rattle.std.specs.Prelude.{length, drop}
-use Rattle.std.proofs.lemmas.List.{length-drop}
+use Rattle.std.proofs.Common.{◌≡◌, ◌≤◌, ◌+◌, ◌-◌, ℕ, Option, Some, List, sym, ap, refl, subst, ◌∙◌, arith, length, drop, length-drop}
 use Rattle.gate_base.specs.declared.address.Addr.{Addr}
 use Rattle.gate_base.specs.declared.event.Pair.{Pair}
 use Rattle.gate_base.specs.declared.side.Side.{Side}
 use Rattle.gate_base.specs.declared.host.Host.{Host}
 use Rattle.ipv4_frames.specs.Ipv4.{Datagram, fields_of}
 use Rattle.twice_translate.specs.Renamed.{datagram_of}
-use Rattle.tcp_segments.specs.Tcp.{Tcp}
-use Rattle.dialogue.specs.Learning.{Entry}
-use Rattle.stream_model.specs.Session.{Segment, segment_in}
+use Rattle.tcp_segments.specs.Prelude.{Tcp}
+use Rattle.dialogue.specs.Prelude.{Entry}
+use Rattle.stream_model.specs.Prelude.{Segment, segment_in}
 use Rattle.audit_streams.specs.Sending.{Handed, handed}
-use Rattle.gate_model.specs.Sessions.{whole_learned}
-use Rattle.gate_model.specs.Stream.{tcp_of, segment_of}
-use Rattle.gate_model.specs.World.{Tracked}
-use Rattle.lawful_files.specs.Wanted.{Cut, wanted_segment}
+use Rattle.gate_model.specs.Prelude.{whole_learned, tcp_of, segment_of, Tracked}
+use Rattle.lawful_files.specs.Prelude.{Cut, wanted_segment}
 use Rattle.audit_sessions.specs.Heard.{HeardSession, heard_rules, heard_sent, session_in}
 use Rattle.audit_records.specs.Cutting.{Cutting, told}
 use Rattle.audit_records.proofs.Told.{told_back, fits_is}

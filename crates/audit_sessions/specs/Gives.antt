@@ -1,9 +1,9 @@
 -- What the auditor tells of datagrams: what is wanted.
 use Rattle.std.specs.Prelude.{refl}
 use Rattle.lawful_files.specs.Wanted as wanted
-use Rattle.lawful_files.specs.Wanted.{Wanted, Exactly, wanted_segment}
+use Rattle.lawful_files.specs.Prelude.{Wanted, Exactly, wanted_segment}
 use Rattle.audit_records.specs.Cutting.{Cutting}
-use Rattle.event_steps.specs.Passed.{Tells}
+use Rattle.event_steps.specs.Prelude.{Tells}
 use Rattle.event_engine.specs.Engines.{Gives}
 use Rattle.audit_sessions.specs.Heard.{HeardSession, heard_sent}
 

@@ -3,14 +3,11 @@ use Rattle.std.specs.Prelude.{◌≤◌, ℕ, List, Option, IfSome, length}
 use Rattle.gate_base.specs.declared.event.Pair.{Pair}
 use Rattle.gate_base.specs.declared.host.Host.{Host}
 use Rattle.gate_base.specs.declared.host.Host.TheVariants.{Client, Server}
-use Rattle.dns_stream.specs.Units.{unit_addresses}
-use Rattle.dns_stream.specs.Images.{dns_units}
-use Rattle.stream_model.specs.Session.{Sender, own}
+use Rattle.dns_stream.specs.Prelude.{unit_addresses, dns_units}
+use Rattle.stream_model.specs.Prelude.{Sender, own}
 use Rattle.audit_streams.specs.Hosts.{Heard, sender_by}
-use Rattle.dialogue.specs.Learning.{AllUnitsListed}
-use Rattle.gate_model.specs.Lists.{Lists, list_of, most_entries}
-use Rattle.gate_model.specs.Rules.{SessionRules, whole_rules}
-use Rattle.gate_model.specs.Sessions.{WholeSession, meaning_by}
+use Rattle.dialogue.specs.Prelude.{AllUnitsListed}
+use Rattle.gate_model.specs.Prelude.{Lists, list_of, most_entries, SessionRules, whole_rules, WholeSession, meaning_by}
 use Rattle.lawful_files.specs.Wanted.{Sends, whole_sent}
 
 -- the pair of a session's hosts, its lists where it is one of DNS, and what was heard of both hosts

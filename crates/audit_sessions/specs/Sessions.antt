@@ -3,14 +3,12 @@ use Rattle.std.specs.Prelude.{◌≡◌, Some, None, List}
 use Rattle.gate_base.specs.declared.event.Pair.{Pair}
 use Rattle.gate_base.specs.declared.host.Host.{Host}
 use Rattle.gate_base.specs.declared.host.Host.TheVariants.{Client, Server}
-use Rattle.dialogue.specs.Learning.{Entry, AllUnitsListed}
-use Rattle.dns_stream.specs.Units.{unit_addresses}
-use Rattle.dns_stream.specs.Images.{dns_units}
-use Rattle.stream_model.specs.Session.{Session, Segment, own}
-use Rattle.stream_model.specs.Steps.{session_next}
+use Rattle.dialogue.specs.Prelude.{Entry, AllUnitsListed}
+use Rattle.dns_stream.specs.Prelude.{unit_addresses, dns_units}
+use Rattle.stream_model.specs.Prelude.{Session, Segment, own, session_next}
 use Rattle.audit_streams.specs.Hosts.{HeardStreams, session_of}
 use Rattle.audit_streams.specs.Known.{entries_of}
-use Rattle.dns_plans.specs.Steps.{entered_all}
+use Rattle.dns_plans.specs.Prelude.{entered_all}
 use Rattle.audit_sessions.specs.Heard.{HeardSession}
 use Rattle.audit_sessions.specs.declared.kinds.SessionKind.{SessionKind}
 use Rattle.audit_sessions.specs.declared.kinds.SessionKind.TheVariants.{Lines, Units}

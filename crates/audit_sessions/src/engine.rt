@@ -14,7 +14,7 @@ use std::alloc::Global;
 use tcp_segments::TcpView;
 
 impl Engine for AuditedSession {
-    ghost use Rattle.lawful_files.specs.Wanted.{Wanted};
+    ghost use Rattle.lawful_files.specs.Prelude.{Wanted};
     ghost use Rattle.audit_sessions.specs.Gives.{heard_gives};
 
     type Sent = Pieces;

@@ -3,11 +3,8 @@ ghost use Rattle.std.specs.Prelude.{◌≤◌, ℕ, Option, length};
 ghost use Rattle.gate_base.specs.declared.address.Addr.{Addr};
 ghost use Rattle.gate_base.specs.declared.event.Pair.{Pair};
 ghost use Rattle.gate_base.specs.declared.host.Host.{Host};
-ghost use Rattle.stream_model.specs.Session.{Segment};
-ghost use Rattle.gate_model.specs.Held.{HasLists};
-ghost use Rattle.gate_model.specs.Lists.{addresses_in, entered, most_entries};
-ghost use Rattle.gate_model.specs.Reading.{Reads};
-ghost use Rattle.gate_model.specs.Rules.{whole_rules};
+ghost use Rattle.stream_model.specs.Prelude.{Segment};
+ghost use Rattle.gate_model.specs.Prelude.{HasLists, addresses_in, entered, most_entries, Reads, whole_rules};
 ghost use Rattle.lawful_files.specs.Wanted.{SendAlike};
 ghost use Rattle.audit_sessions.specs.Heard.{HeardSession, session_in, heard_rules, heard_sent, IsSession};
 

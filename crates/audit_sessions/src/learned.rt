@@ -1,13 +1,10 @@
 // A connection of DNS that learns what its units name.
 ghost use Rattle.std.specs.Prelude.{◌≡◌, ◌≤◌, ◌<◌, ◌∷◌, [], false, length, None, IfOk, OnOk};
-ghost use Rattle.dialogue.specs.Learning.{is_listed, AreImages};
-ghost use Rattle.dns_stream.specs.Images.{dns_units};
-ghost use Rattle.stream_model.specs.Refusals.{segment_refusal};
-ghost use Rattle.stream_model.specs.Steps.{session_ends};
-ghost use Rattle.stream_model.specs.Cuts.{session_sent};
+ghost use Rattle.dialogue.specs.Prelude.{is_listed, AreImages};
+ghost use Rattle.dns_stream.specs.Prelude.{dns_units};
+ghost use Rattle.stream_model.specs.Prelude.{segment_refusal, session_ends, session_sent, segment_in};
 ghost use Rattle.audit_streams.specs.Sending.{handed};
-ghost use Rattle.stream_model.specs.Session.{segment_in};
-ghost use Rattle.dns_plans.specs.Steps.{entered_all};
+ghost use Rattle.dns_plans.specs.Prelude.{entered_all};
 ghost use Rattle.audit_sessions.specs.Sessions.{listed_of, streams_of, IsListedSide, with_entered, HasPassed};
 
 use crate::kinds::DnsSession;

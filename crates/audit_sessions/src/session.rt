@@ -1,16 +1,13 @@
 // A session of one of two kinds, over its whole lists.
 ghost use Rattle.std.specs.Prelude.{◌≡◌, ◌≤◌, ◌<◌, [], Option, length, slice_get, Some, None, IfOk, OnOk};
 ghost use Rattle.gate_base.specs.declared.address.Addr.{Addr};
-ghost use Rattle.dialogue.specs.Learning.{AreImages};
-ghost use Rattle.dns_stream.specs.Images.{dns_units};
-ghost use Rattle.stream_model.specs.Session.{own, arrival, segment_in};
-ghost use Rattle.stream_model.specs.Refusals.{is_data, segment_refusal};
+ghost use Rattle.dialogue.specs.Prelude.{AreImages};
+ghost use Rattle.dns_stream.specs.Prelude.{dns_units};
+ghost use Rattle.stream_model.specs.Prelude.{own, arrival, segment_in, is_data, segment_refusal};
 ghost use Rattle.audit_streams.specs.Hosts.{unheard};
 ghost use Rattle.audit_streams.specs.Sending.{handed};
-ghost use Rattle.gate_model.specs.Lists.{addresses_in};
-ghost use Rattle.gate_model.specs.Sessions.{completed};
-ghost use Rattle.dns_plans.specs.Plans.{whole_units, beside};
-ghost use Rattle.dns_plans.specs.Steps.{entered_all};
+ghost use Rattle.gate_model.specs.Prelude.{addresses_in, completed};
+ghost use Rattle.dns_plans.specs.Prelude.{whole_units, beside, entered_all};
 ghost use Rattle.audit_sessions.specs.Heard.{heard_rules, heard_sent};
 ghost use Rattle.audit_sessions.specs.Sessions.{streams_of};
 

@@ -1,16 +1,10 @@
 -- What the lists tell of a host.
-use Rattle.std.proofs.Common.{◌≡◌, ◌≤◌, ◌+◌, ◌-◌, ◌*◌, ℕ, Bool, true, false, List, [], ◌∷◌, ◌++◌, length, refl, sym, ◌∙◌, ap, arith, inl, inr}
-use Rattle.std.specs.Prelude.{◌||◌, cond, None}
-use Rattle.std.specs.List.{flat_map}
-use Rattle.std.proofs.lemmas.List.{length-append, length-drop}
+use Rattle.std.proofs.Common.{◌≡◌, ◌≤◌, ◌-◌, ◌*◌, ℕ, Bool, true, false, List, [], ◌∷◌, ◌++◌, length, refl, sym, ◌∙◌, ap, arith, inl, inr, ◌||◌, cond, None, flat_map, length-append, length-drop}
 use Rattle.std.proofs.lemmas.Bool.{cases_Bool, leb-false, or_parts}
 use Rattle.gate_base.specs.declared.host.Host.{Host}
-use Rattle.dialogue.specs.Meaning.{Meaning, IsLawful, is_held, is_released}
-use Rattle.dialogue.specs.Places.{changed_ends}
-use Rattle.dialogue.specs.Stream.{cut, image, due, due_rest, spans, pushes_of}
+use Rattle.dialogue.specs.Prelude.{Meaning, IsLawful, is_held, is_released, changed_ends, cut, image, due, due_rest, spans, pushes_of}
 use Rattle.stream_model.proofs.FactLemmas.{image_small}
-use Rattle.stream_model.specs.Session.{Sender, Segment, extent, arrival, repeats_unlike}
-use Rattle.stream_model.specs.Refusals.{is_data, refusal_of, segment_refusal}
+use Rattle.stream_model.specs.Prelude.{Sender, Segment, extent, arrival, repeats_unlike, is_data, refusal_of, segment_refusal}
 use Rattle.stream_model.proofs.PassLemmas.{Passes, passes, second_false, data_is}
 use Rattle.audit_streams.specs.Transcripts.{Transcribed, rest_of, IsOf}
 use Rattle.audit_streams.specs.Hosts.{HeardStreams, session_of}

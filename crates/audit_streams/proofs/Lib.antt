@@ -4,3 +4,5 @@ pub mod Places
 pub mod PieceTaken
 pub mod HostLists
 pub mod Longer
+pub mod GoesOut
+pub mod BothHosts

@@ -1,11 +1,6 @@
 -- Streams whose dialogue learns one more entry.
-use Rattle.std.proofs.Common.{◌≡◌, ℕ, Bool, List, [], ◌∷◌, ◌++◌, length, refl, ◌∙◌, ap}
-use Rattle.std.specs.Prelude.{not, ◌&&◌}
-use Rattle.std.specs.List.{flat_map}
-use Rattle.dialogue.specs.Meaning.{Meaning, is_empty, is_released}
-use Rattle.dialogue.specs.Places.{Plain, Push, changed_ends}
-use Rattle.dialogue.specs.Stream.{Cut, cut, pushes_of}
-use Rattle.dialogue.specs.Learning.{ReadAlike}
+use Rattle.std.proofs.Common.{◌≡◌, ℕ, Bool, List, [], ◌∷◌, ◌++◌, length, refl, ◌∙◌, ap, not, ◌&&◌, flat_map}
+use Rattle.dialogue.specs.Prelude.{Meaning, is_empty, is_released, Plain, Push, changed_ends, Cut, cut, pushes_of, ReadAlike}
 use Rattle.dialogue.proofs.Alike.{cut_alike, image_alike, spans_alike, pushes_alike}
 use Rattle.audit_streams.specs.Transcripts.{Transcribed, transcript_of, IsOf}
 use Rattle.audit_streams.proofs.TranscriptLemmas.{made_is}

@@ -1,15 +1,9 @@
 -- A piece of octets more, for the lists of octets.
-use Rattle.std.proofs.Common.{◌≡◌, ◌≤◌, ◌<◌, ◌+◌, ◌-◌, ℕ, Bool, true, false, List, [], ◌∷◌, ◌++◌, length, take, refl, sym, ◌∙◌, ap, subst, arith, inl, inr}
-use Rattle.std.specs.Prelude.{◌^◌, ◌&&◌, not, None, Some}
-use Rattle.std.specs.Option.{option_map}
-use Rattle.std.specs.List.{flat_map}
-use Rattle.std.specs.Str.{bytes_eq}
-use Rattle.std.proofs.lemmas.List.{append-nil, length-append, length-drop, length-take-le}
+use Rattle.std.proofs.Common.{◌≡◌, ◌≤◌, ◌<◌, ◌+◌, ◌-◌, ℕ, Bool, true, false, List, [], ◌∷◌, ◌++◌, length, take, refl, sym, ◌∙◌, ap, subst, arith, inl, inr, ◌^◌, ◌&&◌, not, None, Some, option_map, flat_map, bytes_eq, append-nil, length-append, length-drop, length-take-le}
 use Rattle.std.proofs.lemmas.Bool.{cases_Bool, true≢false}
 use Rattle.std.proofs.lemmas.Slice.Eq.{bytes_eq-Decides}
 use Rattle.std.proofs.Math.Seq.{take-append-add}
-use Rattle.dialogue.specs.Meaning.{Meaning, IsUnit, IsRest, IsReleased, IsLawful, is_released}
-use Rattle.dialogue.specs.Stream.{Cut, cut, image, image_of}
+use Rattle.dialogue.specs.Prelude.{Meaning, IsUnit, IsRest, IsReleased, IsLawful, is_released, Cut, cut, image, image_of}
 use Rattle.dialogue.proofs.CutLemmas.{cut_joined, IsRest-cut, past_rest}
 use Rattle.stream_model.proofs.FactLemmas.{image_small}
 use Rattle.audit_streams.specs.Transcripts.{Transcribed, transcript_of, with_octets, rest_of, rest_at, closed, ended, ended_as, IsOf}

@@ -1,13 +1,11 @@
 -- The places of octets by the changed units among them.
-use Rattle.std.proofs.Common.{◌≡◌, ◌≤◌, ◌<◌, ◌+◌, ◌-◌, ℕ, zero, suc, true, false, List, [], ◌∷◌, ◌++◌, length, get_or, take, drop, refl, sym, ◌∙◌, ap, subst, arith, append_assoc, cond, inl, inr}
-use Rattle.std.specs.Prelude.{◌^◌, map, min, replicate, nat_le, Option, Some, None, IfSome}
-use Rattle.std.specs.List.{slice_get}
+use Rattle.std.proofs.Common.{◌≡◌, ◌≤◌, ◌<◌, ◌+◌, ◌-◌, ℕ, zero, suc, true, false, List, [], ◌∷◌, ◌++◌, length, get_or, take, drop, refl, sym, ◌∙◌, ap, subst, arith, append_assoc, cond, inl, inr, ◌^◌, map, min, replicate, nat_le, Option, Some, None, IfSome, slice_get}
 use Rattle.std.specs.List.Sorted.{IsPartitionPoint, IsPartitionedBy}
 use Rattle.std.proofs.lemmas.List.{append-nil, length-append, length-replicate, length-take-le, map-append, take_at, take-append-le}
 use Rattle.std.proofs.lemmas.Bool.{cases_Bool, cases_lt, leb-true, leb-false, le-leb, lt-leb}
 use Rattle.std.proofs.lemmas.List.Sorted.{IsPartitionedBy-leb}
 use Rattle.std.proofs.lemmas.Option.{same_Some}
-use Rattle.dialogue.specs.Places.{Span, plain_spans, back_in}
+use Rattle.dialogue.specs.Prelude.{Span, plain_spans, back_in}
 use Rattle.dialogue.proofs.PlaceLemmas.{length-plain_spans, plain_spans-add, back_in-plain, back_in-plain_part, back_in-replicate, back_in-stops}
 use Rattle.audit_streams.specs.declared.transcript.ChangedUnit.{ChangedUnit}
 use Rattle.audit_streams.specs.Transcripts.{Transcribed, IsTranscript, places_from, last_by, InOrder, with_octets, changed}

@@ -1,15 +1,10 @@
 -- The lists of a host's octets, with octets that follow.
-use Rattle.std.proofs.Common.{◌≡◌, ◌+◌, ◌-◌, ℕ, true, false, List, [], ◌∷◌, ◌++◌, length, take, drop, refl, sym, ◌∙◌, ap, arith, append_assoc, inl, inr}
-use Rattle.std.specs.Prelude.{map, replicate}
-use Rattle.std.specs.List.{flat_map}
-use Rattle.std.specs.Str.{bytes_eq}
+use Rattle.std.proofs.Common.{◌≡◌, ◌+◌, ◌-◌, ℕ, true, false, List, [], ◌∷◌, ◌++◌, length, take, drop, refl, sym, ◌∙◌, ap, arith, append_assoc, inl, inr, map, replicate, flat_map, bytes_eq}
 use Rattle.std.proofs.lemmas.List.{append-nil, length-append, take_at, take_all, drop_at, drop_all, map-append}
 use Rattle.std.proofs.lemmas.Grind.{flat_map-append}
 use Rattle.std.proofs.lemmas.Bool.{cases_Bool}
 use Rattle.std.proofs.lemmas.Slice.Eq.{bytes_eq-Decides}
-use Rattle.dialogue.specs.Meaning.{Meaning, IsUnit, IsRest, IsLawful}
-use Rattle.dialogue.specs.Places.{Push, Plain, Changed, Span, plain_spans, push_spans, spans_from, end_from, image_len, changed_ends}
-use Rattle.dialogue.specs.Stream.{Cut, cut_at, cut, push_of, push_if, pushes_of, image_of, image}
+use Rattle.dialogue.specs.Prelude.{Meaning, IsUnit, IsRest, IsLawful, Push, Plain, Changed, Span, plain_spans, push_spans, spans_from, end_from, image_len, changed_ends, Cut, cut_at, cut, push_of, push_if, pushes_of, image_of, image}
 use Rattle.dialogue.proofs.PlaceLemmas.{plain_spans-add, spans_from-append}
 use Rattle.dialogue.proofs.CutLemmas.{cut_joined, end_from-map, length-push_spans}
 use Rattle.dialogue.proofs.FirstUnit.{after_units, cut-first, cut-rest, cut-on}

@@ -1,8 +1,7 @@
 -- One host of a session, and both, with the dialogues by which their octets go on.
 use Rattle.std.specs.Prelude.{ℕ, Bool, false, List, [], cond, Option}
-use Rattle.dialogue.specs.Meaning.{Meaning, is_held}
-use Rattle.dialogue.specs.Stream.{cut}
-use Rattle.stream_model.specs.Session.{Sender, Session}
+use Rattle.dialogue.specs.Prelude.{Meaning, is_held, cut}
+use Rattle.stream_model.specs.Prelude.{Sender, Session}
 
 -- what was heard of a host
 pub record Heard : Type 0 where

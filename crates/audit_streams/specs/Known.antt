@@ -1,11 +1,8 @@
 -- A session whose dialogues learn: the entries of both, and streams all of whose addresses are listed.
-use Rattle.std.specs.Prelude.{ℕ, List}
-use Rattle.std.specs.List.{AllByRecursion}
+use Rattle.std.specs.Prelude.{List}
 use Rattle.gate_base.specs.declared.host.Host.{Host}
 use Rattle.gate_base.specs.declared.host.Host.TheVariants.{Client, Server}
-use Rattle.dialogue.specs.Meaning.{Meaning}
-use Rattle.dialogue.specs.Stream.{cut}
-use Rattle.dialogue.specs.Learning.{Entry, AllListed}
+use Rattle.dialogue.specs.Prelude.{Entry}
 use Rattle.audit_streams.specs.Hosts.{HeardStreams}
 
 -- the entries of a host's dialogue

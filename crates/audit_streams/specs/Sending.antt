@@ -1,13 +1,11 @@
 -- What a session sends for a segment, as it is handed on, and by what is known of the sender before the segment.
 use Rattle.std.specs.Prelude.{◌+◌, ◌-◌, ◌^◌, ◌<◌, ℕ, Bool, false, not, ◌&&◌, ◌||◌, cond, nat_lt, min, max, List, [], length, slice_range}
-use Rattle.tcp_segments.specs.Flags.{flags_of, flags_octet}
-use Rattle.tcp_segments.specs.Tcp.{Tcp}
-use Rattle.stream_model.specs.Session.{Sender, Segment, due_in, start_of}
-use Rattle.stream_model.specs.Steps.{sends_end, bare_offset}
-use Rattle.dialogue.specs.Stream.{image, fore, rear, back}
+use Rattle.tcp_segments.specs.Prelude.{flags_octet}
+use Rattle.stream_model.specs.Prelude.{Sender, Segment, due_in, start_of, sends_end, bare_offset, Sent}
+use Rattle.dialogue.specs.Prelude.{image, fore, rear, back}
 use Rattle.stream_model.specs.declared.numbers.Offset.{Offset}
 use Rattle.stream_model.specs.declared.refusals.Extent.{Extent}
-use Rattle.stream_model.specs.Cuts.{Sent, data_sent}
+use Rattle.stream_model.specs.Cuts.{data_sent}
 
 -- a segment with neither SYN nor RST that passes keeps the numbers in their ranges
 pub record CanTake (sender : Sender) (segment : Segment) : Type 0 where

@@ -2,9 +2,7 @@
 use Rattle.std.specs.Prelude.{◌≡◌, ◌≤◌, ◌<◌, ◌+◌, ◌-◌, ◌^◌, ℕ, Bool, true, false, List, [], ◌∷◌, ◌++◌, length, take, drop, replicate}
 use Rattle.std.specs.List.{flat_map}
 use Rattle.std.specs.Str.{bytes_eq}
-use Rattle.dialogue.specs.Meaning.{Meaning, is_released}
-use Rattle.dialogue.specs.Places.{Span, plain_spans, changed_ends}
-use Rattle.dialogue.specs.Stream.{cut, image, spans, pushes_of}
+use Rattle.dialogue.specs.Prelude.{Meaning, is_released, Span, plain_spans, changed_ends, cut, image, spans, pushes_of}
 use Rattle.audit_streams.specs.declared.transcript.Places.{Places}
 use Rattle.audit_streams.specs.declared.transcript.ChangedUnit.{ChangedUnit}
 

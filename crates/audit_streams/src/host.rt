@@ -1,11 +1,7 @@
 // One host of a session over whole lists.
 ghost use Rattle.std.specs.Prelude.{◌≡◌, ◌≤◌, ◌<◌, ◌+◌, ◌-◌, ◌^◌, ◌++◌, ◌∷◌, ◌||◌, ◌&&◌, ◌==◌, ℕ, false, cond, nat_le, List, [], length, max, slice_range, slice_get, Some, IfOk, OnOk};
-ghost use Rattle.dialogue.specs.Repeats.{is_unlike, differ};
-ghost use Rattle.dialogue.specs.Learning.{is_listed, listed_image, ReadAlike, AllUnitsListed, AreImages};
-ghost use Rattle.dialogue.specs.Stream.{image, fore, rear, back};
-ghost use Rattle.stream_model.specs.Numbers.{number_at, number_after, known};
-ghost use Rattle.stream_model.specs.Session.{due_in, recent, extent};
-ghost use Rattle.stream_model.specs.Steps.{acknowledgement_to, bare_offset, inner_by, open_of};
+ghost use Rattle.dialogue.specs.Prelude.{is_unlike, differ, is_listed, listed_image, ReadAlike, AllUnitsListed, AreImages, image, fore, rear, back};
+ghost use Rattle.stream_model.specs.Prelude.{number_at, number_after, known, due_in, recent, extent, acknowledgement_to, bare_offset, inner_by, open_of};
 ghost use Rattle.audit_streams.specs.Hosts.{sender_of, unheard, held_in};
 
 use crate::taking::take_octets;

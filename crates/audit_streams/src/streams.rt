@@ -1,17 +1,13 @@
 // A session over whole lists.
 ghost use Rattle.std.specs.Prelude.{◌≡◌, ◌≤◌, ◌<◌, ◌+◌, ◌-◌, ◌^◌, ◌++◌, ◌∷◌, ℕ, List, slice_get, false, not, ◌||◌, ◌&&◌, ◌==◌, true, cond, nat_lt, is_some, is_none, [], length, drop, min, max, None, Some, IfOk, OnOk};
 ghost use Rattle.gate_base.specs.declared.host.Host.TheVariants.{Client, Server};
-ghost use Rattle.dialogue.specs.Stream.{image, fore, rear, back};
-ghost use Rattle.dialogue.specs.Learning.{is_listed, listed_image, ReadAlike, AllUnitsListed, AreImages};
-ghost use Rattle.tcp_segments.specs.Flags.{flags_of, flags_octet};
-ghost use Rattle.stream_model.specs.Numbers.{number_after, known};
-ghost use Rattle.stream_model.specs.Session.{own, due_in, arrival, extent, start_of, repeats_unlike, segment_in};
-ghost use Rattle.stream_model.specs.Refusals.{refusal_of, segment_refusal};
-ghost use Rattle.stream_model.specs.Steps.{session_next, session_inner, session_open, session_ends, ends_session, taken, acknowledged, own_after, other_after, limit_of, bare_offset, acknowledgement_to};
+ghost use Rattle.dialogue.specs.Prelude.{image, fore, rear, back, is_listed, listed_image, ReadAlike, AllUnitsListed, AreImages};
+ghost use Rattle.tcp_segments.specs.Prelude.{flags_of, flags_octet};
+ghost use Rattle.stream_model.specs.Prelude.{number_after, known, own, due_in, arrival, extent, start_of, repeats_unlike, segment_in, refusal_of, segment_refusal, session_next, session_inner, session_open, session_ends, ends_session, taken, acknowledged, own_after, other_after, limit_of, bare_offset, acknowledgement_to, session_sent};
 ghost use Rattle.audit_streams.specs.Hosts.{sender_of, session_of, unheard, held_in};
 ghost use Rattle.audit_streams.specs.Known.{entries_of};
 ghost use Rattle.audit_streams.specs.Sending.{CanTake, handed, sent_by};
-ghost use Rattle.stream_model.specs.Cuts.{session_sent, sent, reset_sent, other_sent};
+ghost use Rattle.stream_model.specs.Cuts.{sent, reset_sent, other_sent};
 
 use crate::host::WholeStream;
 use crate::sent::Sent;

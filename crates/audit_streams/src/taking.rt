@@ -1,7 +1,7 @@
 // Octets that are taken in pieces: a unit ends with a piece, or the rest goes on.
 ghost use Rattle.std.specs.Prelude.{◌≡◌, ◌≤◌, ◌<◌, ◌+◌, ◌-◌, ◌^◌, ◌++◌, length, take, true, false, IfOk, OnOk, OnErr, IfSome, IfNone};
 ghost use Rattle.std.specs.Str.{bytes_eq};
-ghost use Rattle.dialogue.specs.Meaning.{IsUnit};
+ghost use Rattle.dialogue.specs.Prelude.{IsUnit};
 ghost use Rattle.audit_streams.specs.Transcripts.{IsOf, IsOther, rest_of, with_octets, ended};
 
 use crate::transcript::Transcript;

@@ -2,7 +2,7 @@
 ghost use Rattle.std.specs.Prelude.{◌≡◌, ◌≤◌, ◌<◌, ◌+◌, ◌-◌, ◌^◌, [], length, nat_lt, count_by, OnOk, OnErr};
 ghost use Rattle.std.specs.List.{slice_get};
 ghost use Rattle.std.specs.Option.{option_map};
-ghost use Rattle.dialogue.specs.Places.{fore_in, rear_in, back_in};
+ghost use Rattle.dialogue.specs.Prelude.{fore_in, rear_in, back_in};
 ghost use Rattle.audit_streams.specs.Transcripts.{span_of, rest_of, with_octets, closed, rest_at, changed, last_by};
 
 use gate_base::OutOfMemory;

@@ -1,15 +1,14 @@
 -- What the bindings of a lawful table are to one another.
 use Rattle.std.proofs.Common.{◌≡◌, ◌⊎◌, Bool, true, false, ◌==◌, get_or, Option, Some, None, refl, sym, ◌∙◌, ap, subst, arith, inl, inr}
 use Rattle.std.proofs.lemmas.Bool.{and_parts, and_from, eq-eqb}
-use Rattle.gate_base.specs.Side.{other, same_side}
+use Rattle.gate_base.specs.Prelude.{other, same_side}
 use Rattle.gate_base.specs.declared.address.Addr.{Addr}
 use Rattle.gate_base.specs.declared.side.Side.{Side}
 use Rattle.gate_base.proofs.Sides.{other_other, same_side-true}
 use Rattle.realm_pools.specs.Addresses.{Addresses, least_free}
 use Rattle.binding_table.specs.declared.binding.Binding.{Binding}
 use Rattle.binding_table.specs.declared.binding.Crossing.TheVariants.{Bound}
-use Rattle.binding_table.specs.Bindings.{Bindings, is_same, is_of_host, is_of_alias, in_pool, pool_of, alias_of, host_of, new_or_empty, cross}
-use Rattle.binding_table.specs.Lawful.{IsLawful}
+use Rattle.binding_table.specs.Prelude.{Bindings, is_same, is_of_host, is_of_alias, in_pool, pool_of, alias_of, host_of, new_or_empty, cross, IsLawful}
 use Rattle.binding_table.proofs.Planned.{crossed, cross_is}
 use Rattle.binding_table.proofs.Once.{address_is, alias_alone, find_only, finds, host_found}
 

@@ -3,20 +3,18 @@ use Rattle.std.proofs.Common.{IfSome, ◌≡◌, ◌≤◌, ℕ, ◌<◌, Bool, 
 use Rattle.std.specs.List.{find, list_any}
 use Rattle.std.proofs.lemmas.List.Folds.{list_any_at}
 use Rattle.std.proofs.lemmas.Bool.{cases_Bool}
-use Rattle.gate_base.specs.Side.{other, same_side}
+use Rattle.gate_base.specs.Prelude.{other, same_side}
 use Rattle.gate_base.specs.declared.address.Addr.{Addr}
 use Rattle.gate_base.specs.declared.event.Moment.{Moment}
 use Rattle.gate_base.specs.declared.side.Side.{Side}
 use Rattle.gate_base.proofs.Sides.{other_other}
 use Rattle.realm_pools.specs.Addresses.{Range, is_free, least_free, IsLeastFree}
 use Rattle.realm_pools.proofs.Free.{HasFlags, least_from}
-use Rattle.binding_table.specs.Steps.{CanHold}
+use Rattle.binding_table.specs.Prelude.{CanHold, pool_with, Bindings, is_same, is_of_host, is_of_alias, in_pool, range_of, pool_of, alias_of, host_of, new_or_empty, IsNew, bound, with_binding, needs_binding, IsLawful}
 use Rattle.binding_table.specs.declared.binding.Binding.{Binding}
 use Rattle.binding_table.specs.declared.binding.Crossing.{Crossing}
 use Rattle.binding_table.specs.declared.binding.Crossing.TheVariants.{Same, Bound, New, Unbound, Empty}
-use Rattle.binding_table.specs.Bindings.{pool_with, Bindings, is_same, is_of_host, is_of_alias, in_pool, range_of, pool_of, alias_of, host_of, new_or_empty, cross, IsNew, bound, bound_by, with_binding}
-use Rattle.binding_table.specs.Plan.{needs_binding}
-use Rattle.binding_table.specs.Lawful.{IsLawful}
+use Rattle.binding_table.specs.Bindings.{cross, bound_by}
 use Rattle.binding_table.proofs.Pools.{free_parts}
 use Rattle.binding_table.proofs.Room.{length_taken}
 

@@ -1,17 +1,15 @@
 -- Bindings that are taken out.
-use Rattle.std.proofs.Common.{◌≡◌, ◌<◌, false, List, length, map, Some, None, IsTrue, sym, ◌∙◌, ap, subst, arith}
-use Rattle.std.specs.List.{filter}
+use Rattle.std.proofs.Common.{◌≡◌, ◌<◌, false, List, length, map, Some, None, IsTrue, sym, ◌∙◌, ap, subst, arith, filter}
 use Rattle.std.proofs.lemmas.List.{length-map}
-use Rattle.gate_base.specs.Side.{same_side}
+use Rattle.gate_base.specs.Prelude.{same_side}
 use Rattle.gate_base.specs.declared.event.Moment.{Moment}
 use Rattle.gate_base.specs.declared.side.Side.{Side}
 use Rattle.gate_base.specs.declared.side.Side.TheVariants.{Left, Right}
 use Rattle.expiring_table.specs.declared.row.Row.{Row}
-use Rattle.expiring_table.specs.Rows.{row_of, without, lives, living}
+use Rattle.expiring_table.specs.Prelude.{row_of, without, lives, living}
 use Rattle.realm_pools.specs.Addresses.{Range, is_taken}
 use Rattle.binding_table.specs.declared.binding.Binding.{Binding}
-use Rattle.binding_table.specs.Bindings.{is_live}
-use Rattle.binding_table.specs.Steps.{Aliases, AreKept, AreTaken, aliases_with, changed, entries_in, filed, plain_table}
+use Rattle.binding_table.specs.Prelude.{is_live, Aliases, AreKept, AreTaken, aliases_with, changed, entries_in, filed, plain_table}
 use Rattle.binding_table.proofs.Filed.{entries_are, has_ended, living_filed, others}
 use Rattle.binding_table.proofs.Kept.{aliases_gone, between, live_others, others_fewer, taken_between, taken_filter}
 

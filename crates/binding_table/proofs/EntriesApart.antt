@@ -10,11 +10,12 @@ use Rattle.std.proofs.lemmas.Option.{same_Some}
 use Rattle.std.specs.Map.{lookup}
 use Rattle.gate_base.proofs.Options.{or_none}
 use Rattle.expiring_table.specs.declared.row.Row.{Row}
-use Rattle.expiring_table.specs.Rows.{IsTakenOut, Table, row_of, with_row, without, is_of, lives, living}
+use Rattle.expiring_table.specs.Prelude.{IsTakenOut, Table, row_of, with_row, without, lives, living}
+use Rattle.expiring_table.specs.Rows.{is_of}
 use Rattle.expiring_table.proofs.Taken.{without_none, with_none}
 use Rattle.binding_table.specs.declared.binding.Binding.{Binding}
-use Rattle.binding_table.specs.EntriesInside.{fixed_row, all_rows, AreApart, HaveNoneOf}
-use Rattle.binding_table.specs.Steps.{ending, filed}
+use Rattle.binding_table.specs.Prelude.{all_rows, AreApart, ending, filed}
+use Rattle.binding_table.specs.EntriesInside.{fixed_row, HaveNoneOf}
 
 -- ## Fixed rows
 

@@ -1,18 +1,16 @@
 -- Bindings as rows.
-use Rattle.std.proofs.Common.{◌≡◌, ℕ, Bool, true, false, if◌then◌else◌, cond, not, ◌&&◌, ◌==◌, List, [], ◌∷◌, map, Option, Some, None, option_map, option_and_then, is_some, refl, ap, sym, ◌∙◌, arith, inl, inr}
-use Rattle.std.specs.List.{find, filter}
+use Rattle.std.proofs.Common.{◌≡◌, ℕ, Bool, true, false, if◌then◌else◌, cond, not, ◌&&◌, ◌==◌, List, [], ◌∷◌, map, Option, Some, None, option_map, option_and_then, is_some, refl, ap, sym, ◌∙◌, arith, inl, inr, find, filter}
 use Rattle.std.proofs.lemmas.Bool.{cases_Bool, eqb-true}
 use Rattle.std.proofs.lemmas.Option.{same_Some}
 use Rattle.std.proofs.lemmas.Bool.Decides.{nat_tests}
-use Rattle.gate_base.specs.Side.{same_side}
+use Rattle.gate_base.specs.Prelude.{same_side}
 use Rattle.gate_base.specs.declared.event.Moment.{Moment}
 use Rattle.gate_base.specs.declared.side.Side.{Side}
 use Rattle.gate_base.specs.declared.side.Side.TheVariants.{Left, Right}
 use Rattle.expiring_table.specs.declared.row.Row.{Row}
-use Rattle.expiring_table.specs.Rows.{Table, row_of, with_row, without, lives, living}
+use Rattle.expiring_table.specs.Prelude.{Table, row_of, with_row, without, lives, living}
 use Rattle.binding_table.specs.declared.binding.Binding.{Binding}
-use Rattle.binding_table.specs.Bindings.{is_live, is_of_host}
-use Rattle.binding_table.specs.Steps.{ending, entries_in, filed, moving_row, number_of, unless_fixed}
+use Rattle.binding_table.specs.Prelude.{is_live, is_of_host, ending, entries_in, filed, moving_row, number_of, unless_fixed}
 
 abbrev table_of : {T : Type 0} → ℕ → List (Row T) → Table T
 table_of most rows = record { most = most; rows = rows }

@@ -5,12 +5,11 @@ use Rattle.std.proofs.lemmas.List.{length-map, take_more}
 use Rattle.std.proofs.lemmas.List.Folds.{list_any-append}
 use Rattle.std.proofs.lemmas.Map.Steps.{length-le_from_distinct_below}
 use Rattle.std.proofs.lemmas.Bool.{eq-eqb, or_right, cases_Bool, and_parts, or_parts, or_left, or_cases, not-true, not-false, eqb-true}
-use Rattle.gate_base.specs.Address.{is_unicast_number}
+use Rattle.gate_base.specs.Prelude.{is_unicast_number}
 use Rattle.gate_base.specs.declared.address.Addr.{Addr}
 use Rattle.gate_base.specs.declared.side.Side.{Side}
-use Rattle.gate_settings.specs.Cross.{is_in_same}
-use Rattle.binding_table.specs.Bindings.{Bindings, cross}
-use Rattle.binding_table.specs.Plan.{needs_binding, is_address, is_among, is_fresh, fresh_after, needed}
+use Rattle.gate_settings.specs.Prelude.{is_in_same}
+use Rattle.binding_table.specs.Prelude.{Bindings, cross, needs_binding, is_address, is_among, is_fresh, fresh_after, needed}
 use Rattle.binding_table.proofs.Bind.{fresh_is}
 use Rattle.binding_table.proofs.Opening.{top_of}
 

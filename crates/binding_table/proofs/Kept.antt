@@ -1,6 +1,5 @@
 -- What changes of a table keep.
-use Rattle.std.proofs.Common.{max, ◌⊎◌, ◌==◌, ◌≡◌, ℕ, suc, not, ◌+◌, ◌<◌, ◌≤◌, Bool, true, false, ◌&&◌, ◌||◌, List, [], ◌∷◌, ◌++◌, length, length-append, map, get_or, Some, None, option_map, All, IsTrue, refl, sym, ◌∙◌, ap, subst, arith, inl, inr}
-use Rattle.std.specs.List.{AllPairs, filter, find}
+use Rattle.std.proofs.Common.{max, ◌⊎◌, ◌==◌, ◌≡◌, ℕ, suc, not, ◌+◌, ◌<◌, ◌≤◌, Bool, true, false, ◌&&◌, ◌||◌, List, [], ◌∷◌, ◌++◌, length, length-append, map, get_or, Some, None, option_map, All, IsTrue, refl, sym, ◌∙◌, ap, subst, arith, inl, inr, AllPairs, filter, find}
 use Rattle.std.proofs.Math.Seq.{get_or-append_seam}
 use Rattle.std.proofs.lemmas.List.{get_or_append_left, get_or-append-add, append-nil, get_or-map, length-map}
 use Rattle.std.proofs.lemmas.List.Folds.{list_any_none}
@@ -8,18 +7,16 @@ use Rattle.std.proofs.lemmas.List.Elements.{All-head, All-tail, All-weaker, All-
 use Rattle.std.proofs.lemmas.List.Kept.{AllPairs-filter}
 use Rattle.std.proofs.lemmas.List.Quantifiers.{all_pairs_push}
 use Rattle.std.proofs.lemmas.Bool.{cases_Bool, leb-true}
-use Rattle.gate_base.specs.Side.{other, same_side}
+use Rattle.gate_base.specs.Prelude.{other, same_side}
 use Rattle.gate_base.specs.declared.address.Addr.{Addr}
 use Rattle.gate_base.specs.declared.event.Moment.{Moment}
 use Rattle.gate_base.specs.declared.side.Side.{Side}
 use Rattle.gate_base.proofs.Sides.{same_side-true, other_other}
 use Rattle.realm_pools.specs.Addresses.{Range, is_in, is_free, is_taken}
-use Rattle.binding_table.specs.Steps.{AreTaken, CanHold, aliases_of, aliases_with, changed, filed, lasts, plain_table}
+use Rattle.binding_table.specs.Prelude.{AreTaken, CanHold, aliases_of, aliases_with, changed, filed, lasts, plain_table, Bindings, is_of_host, host_of, is_of_alias, is_used, is_live, in_pool, range_of, pool_with, pool_of, with_binding, expired, extend_through, is_through, lasting, IsLawful, IsInPlace, collides}
 use Rattle.binding_table.proofs.Filed.{found_filed, others}
-use Rattle.expiring_table.specs.Rows.{row_of}
+use Rattle.expiring_table.specs.Prelude.{row_of}
 use Rattle.binding_table.specs.declared.binding.Binding.{Binding}
-use Rattle.binding_table.specs.Bindings.{Bindings, is_of_host, host_of, is_of_alias, is_used, is_live, in_pool, range_of, pool_with, pool_of, with_binding, expired, extend_through, is_through, lasting}
-use Rattle.binding_table.specs.Lawful.{IsLawful, IsInPlace, collides}
 use Rattle.binding_table.proofs.Pools.{IsLone, same_aliases, other_alias, collides-sym, changed_some, changed_none, used_alias, free_alias, taken_alias}
 
 -- where a binding has its place doesn't depend on the others

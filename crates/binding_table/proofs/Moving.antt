@@ -1,18 +1,15 @@
 -- The use of a host whose binding isn't fixed.
-use Rattle.std.proofs.Common.{◌≡◌, Bool, false, List, Option, Some, None, map, option_map, option_and_then, refl, sym, ap, subst, ◌∙◌, ◌==◌}
-use Rattle.std.specs.List.{find}
+use Rattle.std.proofs.Common.{◌≡◌, Bool, false, List, Option, Some, None, map, option_map, option_and_then, refl, sym, ap, subst, ◌∙◌, ◌==◌, find}
 use Rattle.std.proofs.lemmas.Bool.{and_parts}
-use Rattle.gate_base.specs.Side.{same_side}
+use Rattle.gate_base.specs.Prelude.{same_side}
 use Rattle.gate_base.specs.declared.address.Addr.{Addr}
 use Rattle.gate_base.specs.declared.side.Side.{Side}
 use Rattle.gate_base.proofs.Sides.{same_side-true}
 use Rattle.expiring_table.specs.declared.row.Row.{Row}
 use Rattle.binding_table.specs.declared.binding.Binding.{Binding}
 use Rattle.binding_table.specs.declared.binding.Crossing.TheVariants.{Bound}
-use Rattle.binding_table.specs.Bindings.{Bindings, cross, extended, extend_through, in_pool, is_of_host, is_same}
-use Rattle.binding_table.specs.Lawful.{IsInPlace, IsLawful}
-use Rattle.binding_table.specs.Plan.{Use, used, used_by}
-use Rattle.binding_table.specs.Steps.{extended_by, filed, moving_row, number_of, unless_fixed}
+use Rattle.binding_table.specs.Prelude.{Bindings, extended, extend_through, in_pool, is_of_host, is_same, IsInPlace, IsLawful, Use, used, used_by, extended_by, filed, moving_row, number_of, unless_fixed}
+use Rattle.binding_table.specs.Bindings.{cross}
 use Rattle.binding_table.proofs.Filed.{found_moving}
 use Rattle.binding_table.proofs.Once.{address_is, finds, through_moving}
 

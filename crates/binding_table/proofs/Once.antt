@@ -1,19 +1,16 @@
 -- What the bindings of a lawful table are to one another.
-use Rattle.std.proofs.Common.{◌≡◌, ◌≢◌, ℕ, zero, suc, ◌<◌, Bool, true, false, ◌&&◌, ◌||◌, ◌==◌, List, [], ◌∷◌, length, map, get_or, if◌then◌else◌, Option, Some, None, option_map, option_and_then, refl, sym, ◌∙◌, ap, arith, inl, inr}
-use Rattle.std.specs.List.{find}
+use Rattle.std.proofs.Common.{◌≡◌, ◌≢◌, ℕ, zero, suc, ◌<◌, Bool, true, false, ◌&&◌, ◌||◌, ◌==◌, List, [], ◌∷◌, length, map, get_or, if◌then◌else◌, Option, Some, None, option_map, option_and_then, refl, sym, ◌∙◌, ap, arith, inl, inr, find}
 use Rattle.std.proofs.lemmas.Bool.{cases_Bool, cases_eq, cases_lt, and_parts, and_from, or_left, or_right, eqb-true, eq-eqb}
 use Rattle.std.proofs.lemmas.List.{get_or-map, get_or_default, length-map, same_lists}
-use Rattle.gate_base.specs.Side.{other, same_side}
+use Rattle.gate_base.specs.Prelude.{other, same_side}
 use Rattle.gate_base.specs.declared.address.Addr.{Addr}
 use Rattle.gate_base.specs.declared.event.Moment.{Moment}
 use Rattle.gate_base.specs.declared.side.Side.{Side}
 use Rattle.gate_base.proofs.Sides.{same_side-true, same_side-itself}
 use Rattle.expiring_table.specs.declared.row.Row.{Row}
-use Rattle.expiring_table.specs.Rows.{row_of, with_row}
+use Rattle.expiring_table.specs.Prelude.{row_of, with_row}
 use Rattle.binding_table.specs.declared.binding.Binding.{Binding}
-use Rattle.binding_table.specs.Bindings.{Bindings, extend_through, host_of, is_of_alias, is_of_host, is_through, lasting}
-use Rattle.binding_table.specs.Lawful.{IsLawful, collides}
-use Rattle.binding_table.specs.Steps.{extended_by, filed, lasts, number_of, unless_fixed}
+use Rattle.binding_table.specs.Prelude.{Bindings, extend_through, host_of, is_of_alias, is_of_host, is_through, lasting, IsLawful, collides, extended_by, filed, lasts, number_of, unless_fixed}
 use Rattle.binding_table.proofs.Filed.{found_filed, replaced, with_filed}
 use Rattle.binding_table.proofs.Kept.{IsSamePair, lasting_pair, lasting_same}
 

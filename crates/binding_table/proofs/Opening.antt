@@ -3,21 +3,17 @@ use Rattle.std.proofs.Common.{◌≡◌, ℕ, ◌-◌, ◌<◌, ◌≤◌, ◌/�
 use Rattle.std.proofs.lemmas.List.{get_or_default, get_or-take, length-take}
 use Rattle.std.proofs.lemmas.List.Elements.{All-map}
 use Rattle.std.proofs.lemmas.Bool.{cases_Bool, or_parts, or_from, and_parts, and_from, not_from_true, not-false, not-true, not_from_false, leb-true, le-leb, ltb-true, ltb-false, lt-ltb, eqb-false, ne_eqb}
-use Rattle.gate_base.specs.Address.{is_unicast_number}
-use Rattle.gate_base.specs.Side.{other}
+use Rattle.gate_base.specs.Prelude.{is_unicast_number, other}
 use Rattle.gate_base.specs.declared.address.Addr.{Addr}
 use Rattle.gate_base.specs.declared.side.Side.{Side}
 use Rattle.gate_base.specs.declared.side.Side.TheVariants.{Left, Right}
-use Rattle.gate_settings.specs.Cross.{side_settings, is_in_pool, is_in_block, is_in_same, block_end, is_bad_pool, meets_pool, meets_same, host_is_taken, alias_is_outside}
-use Rattle.gate_settings.specs.Forms.{HasForms, HasUnicastPool}
-use Rattle.gate_settings.specs.Sound.{IsSound}
+use Rattle.gate_settings.specs.Prelude.{side_settings, is_in_pool, is_in_block, is_in_same, block_end, is_bad_pool, meets_same, HasForms, HasUnicastPool, IsSound}
+use Rattle.gate_settings.specs.Cross.{meets_pool, host_is_taken, alias_is_outside}
 use Rattle.gate_settings.specs.declared.settings.Block.{Block}
 use Rattle.gate_settings.specs.declared.settings.Fixed.{Fixed}
 use Rattle.gate_settings.specs.declared.settings.Settings.{Settings}
 use Rattle.gate_settings.specs.declared.settings.SideSettings.{SideSettings}
-use Rattle.binding_table.specs.Steps.{CanHold}
-use Rattle.binding_table.specs.Bindings.{range_of, fixed_binding, without_bindings, in_pool, is_same}
-use Rattle.binding_table.specs.Lawful.{IsLawful, collides}
+use Rattle.binding_table.specs.Prelude.{CanHold, range_of, fixed_binding, without_bindings, in_pool, is_same, IsLawful, collides}
 
 -- ## No address of a pool crosses unchanged
 

@@ -1,5 +1,5 @@
 -- Where addresses stand first.
-use Rattle.std.proofs.Common.{◌≡◌, ◌≢◌, ℕ, ◌+◌, ◌<◌, ◌≤◌, Bool, true, false, cond, not, ◌==◌, nat_lt, List, [], ◌∷◌, ◌++◌, length, length-append, position, All, Option, Some, None, IfSome, refl, ap, sym, ◌∙◌, subst, arith, inl, inr}
+use Rattle.std.proofs.Common.{◌≡◌, ◌≢◌, ℕ, ◌+◌, ◌<◌, Bool, true, false, cond, not, ◌==◌, nat_lt, List, [], ◌∷◌, ◌++◌, length, length-append, position, All, Option, Some, None, IfSome, refl, sym, ◌∙◌, subst, arith, inl, inr}
 use Rattle.std.specs.List.{position_or_len}
 use Rattle.std.specs.Option.{option_or, is_some}
 use Rattle.std.proofs.lemmas.Bool.{cases_Bool, eq-eqb, ne_eqb, ltb-true, ltb-false, lt-ltb, le-ltb}
@@ -7,16 +7,14 @@ use Rattle.std.proofs.lemmas.List.Elements.{All-head, All-push, All-tail}
 use Rattle.std.proofs.lemmas.List.Folds.{find-append, list_any_at, position_or_len_push}
 use Rattle.std.proofs.lemmas.List.Quantifiers.{position-Some}
 use Rattle.std.proofs.lemmas.List.Sums.{prefix_len-le-length}
-use Rattle.std.proofs.lemmas.Option.{IfSome_then, none-some}
+use Rattle.std.proofs.lemmas.Option.{none-some}
 use Rattle.gate_base.specs.declared.address.Addr.{Addr}
 use Rattle.expiring_table.specs.declared.row.Row.{Row}
-use Rattle.expiring_table.specs.Rows.{Table, living, no_rows, row_of}
+use Rattle.expiring_table.specs.Prelude.{Table, living, no_rows, row_of}
 use Rattle.realm_pools.specs.Addresses.{Addresses}
 use Rattle.binding_table.specs.declared.binding.Crossing.{Crossing}
 use Rattle.binding_table.specs.declared.binding.Crossing.TheVariants.{Same, Bound, New, Unbound, Empty}
-use Rattle.binding_table.specs.Plan.{is_address, is_among, needs_binding}
-use Rattle.binding_table.specs.Steps.{AreFirsts, EndsAtOnce, given_image, planned_by}
-use Rattle.binding_table.proofs.Once.{address_is}
+use Rattle.binding_table.specs.Prelude.{is_address, is_among, needs_binding, AreFirsts, EndsAtOnce, given_image, planned_by}
 use Rattle.binding_table.proofs.Planned.{none_among}
 
 -- ## The first place

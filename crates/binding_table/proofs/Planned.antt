@@ -8,24 +8,22 @@ use Rattle.std.proofs.lemmas.List.Folds.{list_any_at, list_any-append, list_any_
 use Rattle.std.proofs.lemmas.List.Quantifiers.{position-Some}
 use Rattle.std.proofs.lemmas.List.Sums.{fold_more, fails_before_first, sum_by-le}
 use Rattle.std.proofs.lemmas.Bool.{and_right, cases_Bool, cases_lt, cases_eq, and_parts, and_from, and_left, or_parts, or_cases, not_from_false, eqb-true, eq-eqb, leb-true, le-leb, ltb-false, false≢true}
-use Rattle.gate_base.specs.Address.{is_unicast_number}
-use Rattle.gate_base.specs.Side.{other, same_side}
+use Rattle.gate_base.specs.Prelude.{is_unicast_number, other, same_side}
 use Rattle.gate_base.specs.declared.address.Addr.{Addr}
 use Rattle.gate_base.specs.declared.event.Moment.{Moment}
 use Rattle.gate_base.specs.declared.side.Side.{Side}
 use Rattle.gate_base.specs.declared.side.Side.TheVariants.{Left, Right}
 use Rattle.gate_base.proofs.Sides.{other_other, same_side-itself}
 use Rattle.gate_base.proofs.Options.{or_none}
-use Rattle.gate_settings.specs.Cross.{is_in_same}
+use Rattle.gate_settings.specs.Prelude.{is_in_same}
 use Rattle.gate_settings.specs.declared.settings.Block.{Block}
 use Rattle.realm_pools.specs.Addresses.{Range, Addresses, is_in, least_free, free_from}
 use Rattle.realm_pools.proofs.Free.{from_low}
-use Rattle.binding_table.specs.Steps.{Aliases, given_image, next_alias, planned_by}
+use Rattle.binding_table.specs.Prelude.{Aliases, given_image, next_alias, planned_by, is_settled, Bindings, is_same, is_of_host, is_of_alias, is_used, in_pool, range_of, pool_with, pool_of, alias_of, host_of, known_or, new_or_empty, seen_by, with_binding, extended, extend_through, images_after, Use, AreUsesOf, used, used_by, after_uses, unless_same, image_after, needs_binding, is_address, is_among, is_fresh, fresh_after}
 use Rattle.binding_table.specs.declared.binding.Binding.{Binding}
 use Rattle.binding_table.specs.declared.binding.Crossing.{Crossing}
 use Rattle.binding_table.specs.declared.binding.Crossing.TheVariants.{Same, Bound, New, Unbound, Empty}
-use Rattle.binding_table.specs.Bindings.{is_settled, Bindings, is_same, is_of_host, is_of_alias, is_used, in_pool, range_of, pool_with, pool_of, alias_of, host_of, known_or, new_or_empty, cross, seen_by, with_binding, extended, extend_through}
-use Rattle.binding_table.specs.Plan.{images_after, Use, AreUsesOf, used, used_by, after_uses, unless_same, image_after, needs_binding, is_address, is_among, is_fresh, fresh_after}
+use Rattle.binding_table.specs.Bindings.{cross}
 use Rattle.binding_table.proofs.Pools.{IsLone, numbers, used_elsewhere, used_alias, free_parts, free_alias}
 use Rattle.binding_table.proofs.Kept.{used_map, IsSamePair, same_pair, same_aliasing, found_map, host_map, aliases_map}
 use Rattle.binding_table.proofs.Room.{free_in, free_less}

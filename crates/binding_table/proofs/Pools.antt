@@ -6,16 +6,15 @@ use Rattle.std.proofs.lemmas.List.FromFn.{get_or-map-range_with_len, length-map-
 use Rattle.std.proofs.lemmas.List.Folds.{list_any-append}
 use Rattle.std.proofs.lemmas.Bool.{or_left, and_from, and_left, and_right, eq-eqb, ne_eqb, not-true, cases_Bool, cases_eq, or_parts, and_parts, leb-true}
 use Rattle.std.proofs.lemmas.Bool.Decides.{nat_tests}
-use Rattle.gate_base.specs.Side.{other, same_side}
+use Rattle.gate_base.specs.Prelude.{other, same_side}
 use Rattle.gate_base.specs.declared.address.Addr.{Addr}
 use Rattle.gate_base.specs.declared.side.Side.{Side}
 use Rattle.gate_base.specs.declared.side.Side.TheVariants.{Left, Right}
-use Rattle.gate_base.proofs.Sides.{same_side-true, same_side-itself, same_side-sym, other_other}
+use Rattle.gate_base.proofs.Sides.{same_side-sym}
 use Rattle.realm_pools.specs.Addresses.{Range, is_in, is_free, is_taken}
-use Rattle.binding_table.specs.Steps.{Aliases, aliases_with, changed, host_at, no_hosts, with_host}
+use Rattle.binding_table.specs.Prelude.{Aliases, aliases_with, changed, host_at, host_of, is_of_alias, is_used, pool_with, collides}
+use Rattle.binding_table.specs.Steps.{no_hosts, with_host}
 use Rattle.binding_table.specs.declared.binding.Binding.{Binding}
-use Rattle.binding_table.specs.Bindings.{host_of, is_of_alias, is_used, pool_with}
-use Rattle.binding_table.specs.Lawful.{collides}
 
 -- ## Sides
 

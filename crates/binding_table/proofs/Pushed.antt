@@ -1,19 +1,16 @@
 -- A binding that is put behind the others.
-use Rattle.std.proofs.Common.{◌≡◌, ◌∙◌, ◌++◌, ◌∷◌, [], true, false, if◌then◌else◌, List, map, Some, None, IsSome, IsTrue, All, ap, sym, subst, refl, arith}
+use Rattle.std.proofs.Common.{◌≡◌, ◌∙◌, ◌++◌, ◌∷◌, [], true, false, List, map, Some, None, IsSome, IsTrue, All, ap, sym, subst, refl, arith}
 use Rattle.std.proofs.lemmas.List.{map-append}
 use Rattle.std.proofs.lemmas.List.Elements.{All-map, All-weaker}
-use Rattle.gate_base.specs.Rules.{AreRules}
-use Rattle.gate_base.specs.Side.{same_side}
+use Rattle.gate_base.specs.Prelude.{AreRules, same_side}
 use Rattle.gate_base.specs.declared.side.Side.{Side}
 use Rattle.gate_base.specs.declared.side.Side.TheVariants.{Left, Right}
 use Rattle.realm_pools.specs.Addresses.{is_free}
 use Rattle.expiring_table.specs.declared.row.Row.{Row}
-use Rattle.expiring_table.specs.Rows.{Table, row_of}
+use Rattle.expiring_table.specs.Prelude.{Table, row_of}
 use Rattle.binding_table.specs.declared.binding.Binding.{Binding}
 use Rattle.binding_table.specs.declared.table.Table.TheInside.{Inside}
-use Rattle.binding_table.specs.Bindings.{with_binding}
-use Rattle.binding_table.specs.Inside.{bindings_of, IsWhole}
-use Rattle.binding_table.specs.Steps.{Aliases, CanHold, changed, filed}
+use Rattle.binding_table.specs.Prelude.{with_binding, bindings_of, IsWhole, Aliases, CanHold, changed, filed}
 use Rattle.binding_table.proofs.Kept.{free_for, aliases_push, lawful_push, unfiled}
 use Rattle.binding_table.proofs.Whole.{whole_by, room_of}
 

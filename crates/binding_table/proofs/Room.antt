@@ -1,19 +1,16 @@
 -- Each binding has one address of the pools.
-use Rattle.std.proofs.Common.{◌++◌, ◌≡◌, ℕ, suc, ◌+◌, ◌-◌, ◌<◌, ◌≤◌, Bool, true, false, not, cond, nat_le, List, [], ◌∷◌, length, map, set, get_or, refl, sym, ◌∙◌, ap, arith, inl, inr, ◌⊎◌}
-use Rattle.std.specs.List.{count_by}
+use Rattle.std.proofs.Common.{◌++◌, ◌≡◌, ℕ, suc, ◌+◌, ◌-◌, ◌<◌, ◌≤◌, Bool, true, false, not, cond, nat_le, List, [], ◌∷◌, length, map, set, get_or, refl, sym, ◌∙◌, ap, arith, inl, inr, ◌⊎◌, count_by}
 use Rattle.std.proofs.lemmas.List.FromFn.{length-map-range_with_len}
 use Rattle.std.proofs.lemmas.List.Elements.{All-weaker, All-tail}
 use Rattle.std.proofs.lemmas.List.Folds.{sum_by-replicate}
 use Rattle.std.proofs.lemmas.List.Sums.{sum_by-set}
 use Rattle.std.proofs.lemmas.Bool.{and_parts, leb-true}
-use Rattle.gate_base.specs.Side.{other, same_side}
+use Rattle.gate_base.specs.Prelude.{other, same_side}
 use Rattle.gate_base.specs.declared.side.Side.{Side}
 use Rattle.gate_base.specs.declared.side.Side.TheVariants.{Left, Right}
 use Rattle.realm_pools.specs.Addresses.{Range}
-use Rattle.binding_table.specs.Steps.{Aliases, AreTaken, CanHold, plain_table}
+use Rattle.binding_table.specs.Prelude.{Aliases, AreTaken, CanHold, plain_table, Bindings, is_used, in_pool, pool_with, IsLawful, IsInPlace}
 use Rattle.binding_table.specs.declared.binding.Binding.{Binding}
-use Rattle.binding_table.specs.Bindings.{Bindings, is_used, in_pool, pool_with}
-use Rattle.binding_table.specs.Lawful.{IsLawful, IsInPlace}
 use Rattle.binding_table.proofs.Pools.{IsLone, numbers, flag_at, none_used, changed_some}
 use Rattle.binding_table.proofs.Kept.{lone, lone_between}
 

@@ -6,8 +6,8 @@ use Rattle.gate_base.specs.declared.side.Side.TheVariants.{Left, Right}
 use Rattle.gate_settings.specs.Cross.{block_end}
 use Rattle.binding_table.specs.declared.binding.Binding.{Binding}
 use Rattle.binding_table.specs.declared.binding.Crossing.TheVariants.{Same, Bound, New, Unbound, Empty}
-use Rattle.binding_table.specs.Bindings.{Bindings, cross, seen, bound, extended, expired}
-use Rattle.binding_table.specs.Plan.{Use, needed, images_after}
+use Rattle.binding_table.specs.Prelude.{Bindings, seen, bound, extended, expired, Use, needed, images_after}
+use Rattle.binding_table.specs.Bindings.{cross}
 
 abbrev address : ℕ → ℕ → ℕ → ℕ → Addr
 address a b c d = record { 0 = ((a * 256 + b) * 256 + c) * 256 + d }

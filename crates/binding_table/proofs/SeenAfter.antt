@@ -1,7 +1,7 @@
 -- What is seen after an address was used.
 use Rattle.std.proofs.Common.{◌≡◌, ◌⊎◌, inl, inr, ◌==◌, Bool, true, false, Option, Some, None, refl, sym, ap, ◌∙◌}
 use Rattle.std.proofs.lemmas.Bool.{and_right, false≢true}
-use Rattle.gate_base.specs.Side.{other, same_side}
+use Rattle.gate_base.specs.Prelude.{other, same_side}
 use Rattle.gate_base.specs.declared.address.Addr.{Addr}
 use Rattle.gate_base.specs.declared.event.Moment.{Moment}
 use Rattle.gate_base.specs.declared.side.Side.{Side}
@@ -9,8 +9,7 @@ use Rattle.gate_base.proofs.Options.{or_none}
 use Rattle.realm_pools.specs.Addresses.{Addresses, least_free}
 use Rattle.binding_table.specs.declared.binding.Crossing.{Crossing}
 use Rattle.binding_table.specs.declared.binding.Crossing.TheVariants.{Same, Bound, New, Unbound, Empty}
-use Rattle.binding_table.specs.Bindings.{Bindings, is_same, in_pool, alias_of, host_of, pool_of, seen, seen_by, new_or_empty, extend_through, is_settled}
-use Rattle.binding_table.specs.Plan.{used_by}
+use Rattle.binding_table.specs.Prelude.{Bindings, is_same, in_pool, alias_of, host_of, pool_of, seen, seen_by, new_or_empty, extend_through, is_settled, used_by}
 use Rattle.binding_table.proofs.Kept.{same_pair}
 use Rattle.binding_table.proofs.Planned.{crossed, cross_is, cross_follows, alias_map, alias_push, used_by_follows}
 

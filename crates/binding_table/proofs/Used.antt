@@ -1,24 +1,18 @@
 -- What uses of addresses keep and give.
-use Rattle.std.proofs.Common.{◌≡◌, ◌≢◌, ◌≤◌, ◌<◌, ◌+◌, ℕ, zero, suc, Bool, true, false, not, ◌&&◌, ◌||◌, ◌==◌, cond, List, [], ◌∷◌, map, length, All, IsSome, Option, Some, None, refl, sym, ◌∙◌, ap, subst, arith, inl, inr, get_or, set, take, take_all}
-use Rattle.std.specs.List.{find}
+use Rattle.std.proofs.Common.{◌≡◌, ◌≢◌, ◌≤◌, ◌<◌, ◌+◌, ℕ, zero, suc, Bool, true, false, not, ◌&&◌, ◌||◌, ◌==◌, cond, List, [], ◌∷◌, map, length, All, IsSome, Option, Some, None, refl, sym, ◌∙◌, ap, subst, arith, inl, inr, get_or, set, take, take_all, find, eq-eqb}
 use Rattle.std.specs.Option.{option_or}
-use Rattle.std.proofs.lemmas.Bool.{eq-eqb}
 use Rattle.std.proofs.lemmas.List.{length-map, length-set}
 use Rattle.std.proofs.lemmas.List.Folds.{find-append, list_any_at}
-use Rattle.gate_base.specs.Address.{is_unicast_number}
-use Rattle.gate_base.specs.Side.{other, same_side}
+use Rattle.gate_base.specs.Prelude.{is_unicast_number, other, same_side}
 use Rattle.gate_base.specs.declared.address.Addr.{Addr}
 use Rattle.gate_base.specs.declared.event.Moment.{Moment}
 use Rattle.gate_base.specs.declared.side.Side.{Side}
-use Rattle.gate_settings.specs.Cross.{is_in_same}
+use Rattle.gate_settings.specs.Prelude.{is_in_same}
 use Rattle.gate_settings.specs.declared.settings.Block.{Block}
 use Rattle.binding_table.specs.declared.binding.Binding.{Binding}
 use Rattle.binding_table.specs.declared.binding.Crossing.{Crossing}
 use Rattle.binding_table.specs.declared.binding.Crossing.TheVariants.{Same, Bound, New, Unbound, Empty}
-use Rattle.binding_table.specs.Bindings.{Bindings, is_same, is_settled, is_of_host, in_pool, cross, seen, seen_by, with_binding, extend_through, extended, free}
-use Rattle.binding_table.specs.Lasting.{IsBoundTo, IsKnownAs}
-use Rattle.binding_table.specs.Lawful.{IsLawful}
-use Rattle.binding_table.specs.Plan.{Use, AreUsesOf, used, used_by, after_uses, is_address, needed}
+use Rattle.binding_table.specs.Prelude.{Bindings, is_same, is_settled, is_of_host, in_pool, cross, seen, seen_by, with_binding, extend_through, extended, free, IsBoundTo, IsKnownAs, IsLawful, Use, AreUsesOf, used, used_by, after_uses, is_address, needed}
 use Rattle.binding_table.proofs.Kept.{same_pair, ends_extended}
 use Rattle.binding_table.proofs.Planned.{IsAt, address_of, at_start, at_step, used_follows, planned}
 

@@ -1,7 +1,7 @@
 -- What a table keeps, by its bindings.
 use Rattle.std.proofs.Common.{◌≡◌, ℕ, ◌+◌, ◌-◌, ◌≤◌, List, length, map, sym, ◌∙◌, ap, subst, arith}
 use Rattle.std.proofs.lemmas.List.FromFn.{length-map-range_with_len}
-use Rattle.gate_base.specs.Rules.{AreRules}
+use Rattle.gate_base.specs.Prelude.{AreRules}
 use Rattle.gate_base.specs.declared.rule.OidRule.{OidRule}
 use Rattle.gate_base.specs.declared.side.Side.{Side}
 use Rattle.gate_base.specs.declared.side.Side.TheVariants.{Left, Right}
@@ -9,10 +9,7 @@ use Rattle.gate_settings.specs.declared.settings.Block.{Block}
 use Rattle.realm_pools.specs.Addresses.{Range}
 use Rattle.binding_table.specs.declared.binding.Binding.{Binding}
 use Rattle.binding_table.specs.declared.table.Table.TheInside.{Inside}
-use Rattle.binding_table.specs.Bindings.{Bindings}
-use Rattle.binding_table.specs.Inside.{bindings_of, IsWhole}
-use Rattle.binding_table.specs.Lawful.{IsLawful}
-use Rattle.binding_table.specs.Steps.{Aliases, aliases_of, aliases_with, entries_in, filed, host_at}
+use Rattle.binding_table.specs.Prelude.{Bindings, bindings_of, IsWhole, IsLawful, Aliases, aliases_of, aliases_with, entries_in, filed, host_at}
 use Rattle.binding_table.proofs.Filed.{entries_are}
 
 -- the number of addresses

@@ -1,14 +1,13 @@
 -- A table of bindings, and what addresses are called by it.
 use Rattle.std.specs.Prelude.{ℕ, ◌+◌, ◌-◌, max, Bool, true, false, not, ◌&&◌, ◌||◌, ◌==◌, nat_lt, if◌then◌else◌, List, [], ◌∷◌, ◌++◌, map, Option, Some, None, option_map, count_by}
 use Rattle.std.specs.List.{find, filter, list_any, range_with_len}
-use Rattle.gate_base.specs.Address.{is_unicast_number}
-use Rattle.gate_base.specs.Side.{other, same_side}
+use Rattle.gate_base.specs.Prelude.{is_unicast_number, other, same_side}
 use Rattle.gate_base.specs.declared.address.Addr.{Addr}
 use Rattle.gate_base.specs.declared.event.Moment.{Moment}
 use Rattle.gate_base.specs.declared.rule.OidRule.{OidRule}
 use Rattle.gate_base.specs.declared.side.Side.{Side}
 use Rattle.gate_base.specs.declared.side.Side.TheVariants.{Left, Right}
-use Rattle.gate_settings.specs.Cross.{is_in_same}
+use Rattle.gate_settings.specs.Prelude.{is_in_same}
 use Rattle.gate_settings.specs.declared.settings.Block.{Block}
 use Rattle.gate_settings.specs.declared.settings.Fixed.{Fixed}
 use Rattle.gate_settings.specs.declared.settings.Settings.{Settings}

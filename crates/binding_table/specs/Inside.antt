@@ -1,6 +1,6 @@
 -- What a table keeps.
 use Rattle.std.specs.Prelude.{◌≡◌, ◌+◌, ◌≤◌, length, map}
-use Rattle.gate_base.specs.Rules.{AreRules}
+use Rattle.gate_base.specs.Prelude.{AreRules}
 use Rattle.gate_base.specs.declared.side.Side.TheVariants.{Left, Right}
 use Rattle.binding_table.specs.declared.table.Table.TheInside.{Inside}
 use Rattle.binding_table.specs.Bindings.{Bindings}

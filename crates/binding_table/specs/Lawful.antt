@@ -1,6 +1,6 @@
 -- What is true of every table.
 use Rattle.std.specs.Prelude.{◌≡◌, ◌≤◌, Bool, true, false, ◌&&◌, ◌||◌, ◌==◌, All, AllPairs}
-use Rattle.gate_base.specs.Side.{other, same_side}
+use Rattle.gate_base.specs.Prelude.{other, same_side}
 use Rattle.gate_base.specs.declared.address.Addr.{Addr}
 use Rattle.gate_base.specs.declared.side.Side.{Side}
 use Rattle.binding_table.specs.declared.binding.Binding.{Binding}

@@ -6,3 +6,4 @@ pub mod EntriesInside
 pub mod Inside
 pub mod Plan
 pub mod Steps
+pub mod Prelude

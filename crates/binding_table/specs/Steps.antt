@@ -2,8 +2,8 @@
 use Rattle.std.specs.Prelude.{◌≡◌, ℕ, ◌+◌, ◌-◌, ◌*◌, ◌<◌, length, nat_le, ◌||◌, IfSome, Bool, true, false, if◌then◌else◌, List, [], map, replicate, position, slice_index_or, slice_set, Option, Some, None, is_some, option_and_then, All, AllPairs}
 use Rattle.std.specs.List.{range_with_len}
 use Rattle.expiring_table.specs.declared.row.Row.{Row}
-use Rattle.expiring_table.specs.Rows.{Table, row_of}
-use Rattle.gate_base.specs.Side.{other, same_side}
+use Rattle.expiring_table.specs.Prelude.{Table, row_of}
+use Rattle.gate_base.specs.Prelude.{other, same_side}
 use Rattle.gate_base.specs.declared.address.Addr.{Addr}
 use Rattle.gate_base.specs.declared.event.Moment.{Moment}
 use Rattle.gate_base.specs.declared.side.Side.{Side}

@@ -1,6 +1,6 @@
 // A pool, and the hosts for which its addresses stand.
 ghost use Rattle.std.specs.Prelude.{◌≡◌, true, false, Some, None, slice_index_or, length, IfOk, IsTrue};
-ghost use Rattle.gate_settings.specs.Cross.{is_bad_pool};
+ghost use Rattle.gate_settings.specs.Prelude.{is_bad_pool};
 ghost use Rattle.realm_pools.specs.Addresses.{is_free, is_taken, is_in, place_of};
 ghost use Rattle.binding_table.specs.Steps as steps;
 

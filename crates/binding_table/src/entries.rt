@@ -1,6 +1,6 @@
 // The bindings of a table: fixed ones, and others.
 ghost use Rattle.std.specs.Prelude.{◌≡◌, ◌*◌, ◌<◌, ◌^◌, ◌++◌, ◌∷◌, [], true, None, Some, length, map, option_map, option_and_then, All, IfOk, IfSome, IfNone, IsSome, IsSomeAnd, OnErr, OnOk};
-ghost use Rattle.expiring_table.specs.Rows.{no_rows, row_of, with_row, living, IsTakenOut};
+ghost use Rattle.expiring_table.specs.Prelude.{no_rows, row_of, with_row, living, IsTakenOut};
 ghost use Rattle.binding_table.specs.Steps.{ending, filed};
 
 use crate::binding::{Binding, number_of};
@@ -19,7 +19,7 @@ pub struct Entries {
 }
 
 impl Model for Entries {
-    ghost use Rattle.expiring_table.specs.Rows.{Table};
+    ghost use Rattle.expiring_table.specs.Prelude.{Table};
     ghost use Rattle.binding_table.specs.declared.binding.Binding.{Binding};
 
     ghost Value = { Table Binding };

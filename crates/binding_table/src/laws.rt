@@ -1,6 +1,6 @@
 // What is true of every table.
 ghost use Rattle.std.specs.Prelude.{◌≡◌, ◌≢◌, ◌≤◌, ◌==◌, ◌⊎◌, true, false, ℕ, List, All, IsSome};
-ghost use Rattle.gate_base.specs.Side.{other};
+ghost use Rattle.gate_base.specs.Prelude.{other};
 ghost use Rattle.gate_base.specs.declared.address.Addr.{Addr};
 ghost use Rattle.binding_table.specs.Bindings.{Bindings, cross, free, is_settled, seen};
 ghost use Rattle.binding_table.specs.Lasting.{IsKnownAs};

@@ -1,7 +1,7 @@
 // What addresses will be called once they are used.
 ghost use Rattle.std.specs.Prelude.{◌≡◌, ◌≢◌, ◌≤◌, ◌++◌, ◌∷◌, [], List, length, All, not, nat_lt, true};
-ghost use Rattle.expiring_table.specs.Rows.{no_rows};
-ghost use Rattle.gate_base.specs.Side.{other};
+ghost use Rattle.expiring_table.specs.Prelude.{no_rows};
+ghost use Rattle.gate_base.specs.Prelude.{other};
 ghost use Rattle.binding_table.specs.Bindings as tables;
 ghost use Rattle.binding_table.specs.Plan as plans;
 ghost use Rattle.binding_table.specs.Steps.{AreFirsts, EndsAtOnce, needing, next_alias, planned_by};

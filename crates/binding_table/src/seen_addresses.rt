@@ -1,6 +1,6 @@
 // Where addresses stand first.
 ghost use Rattle.std.specs.Prelude.{◌≡◌, ◌++◌, ◌∷◌, [], true, All, Bool, Some, IfOk, length, position};
-ghost use Rattle.expiring_table.specs.Rows.{no_rows};
+ghost use Rattle.expiring_table.specs.Prelude.{no_rows};
 ghost use Rattle.gate_base.specs.declared.address.Addr.{Addr};
 ghost use Rattle.binding_table.specs.Plan.{is_address};
 ghost use Rattle.binding_table.specs.Steps.{AreFirsts, EndsAtOnce};
@@ -22,7 +22,7 @@ pub struct SeenAddresses {
 
 impl Model for SeenAddresses {
     ghost use Rattle.std.specs.Prelude.{◌≡◌};
-    ghost use Rattle.expiring_table.specs.Rows.{no_rows};
+    ghost use Rattle.expiring_table.specs.Prelude.{no_rows};
 
     ghost Value = { Unit {0} };
 

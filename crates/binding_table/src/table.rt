@@ -6,10 +6,8 @@ ghost use Rattle.binding_table.specs.Steps.{aliases_of, aliases_with, changed, e
 ghost use Rattle.binding_table.specs.Bindings as tables;
 ghost use Rattle.binding_table.specs.Lawful.{IsLawful};
 ghost use Rattle.binding_table.specs.Plan.{used};
-ghost use Rattle.gate_base.specs.Rules.{AreRules};
-ghost use Rattle.gate_settings.specs.Cross.{is_in_same};
-ghost use Rattle.gate_settings.specs.Sound.{IsSound};
-ghost use Rattle.gate_settings.specs.Forms.{HasForms};
+ghost use Rattle.gate_base.specs.Prelude.{AreRules};
+ghost use Rattle.gate_settings.specs.Prelude.{is_in_same, IsSound, HasForms};
 ghost use Rattle.realm_pools.specs.Addresses.{is_free, is_taken};
 
 use crate::aliases::Aliases;

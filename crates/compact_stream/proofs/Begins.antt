@@ -1,14 +1,10 @@
 -- What is kept at the beginning, of no octets.
-use Rattle.std.proofs.Common.{◌≡◌, ℕ, false, List, [], ◌∷◌, length, refl, sym, ap, subst, arith}
-use Rattle.std.specs.Prelude.{min, Option, Some, None}
-use Rattle.dialogue.specs.Meaning.{Meaning, IsLawful}
-use Rattle.dialogue.specs.Places.{Plain}
-use Rattle.dialogue.specs.Stream.{cut}
+use Rattle.std.proofs.Common.{◌≡◌, ℕ, false, List, [], ◌∷◌, length, refl, sym, ap, subst, arith, min, Option, Some, None}
+use Rattle.dialogue.specs.Prelude.{Meaning, IsLawful, Plain, cut}
 use Rattle.dialogue.proofs.CutLemmas.{IsRest-nil}
-use Rattle.shift_ledger.specs.Kept.{Kept, StandsFor}
-use Rattle.stream_model.specs.Steps.{session_made}
-use Rattle.compact_stream.specs.Kept.{CompactSender, KeepsSender, InRange, sent_pushes}
-use Rattle.compact_stream.specs.Sessions.{StandsForSession, kept_made}
+use Rattle.shift_ledger.specs.Prelude.{Kept, StandsFor}
+use Rattle.stream_model.specs.Prelude.{session_made}
+use Rattle.compact_stream.specs.Prelude.{CompactSender, KeepsSender, InRange, sent_pushes, StandsForSession, kept_made}
 
 no_octets : (l : Kept) → StandsFor l [] 0 → StandsFor l (Plain 0 ∷ []) 0
 no_octets l st = record { proper = (tt, tt); octets_in = omega (arith, st.octets_in); octets_out = omega (arith, st.octets_out); changed = st.changed; within = omega arith }

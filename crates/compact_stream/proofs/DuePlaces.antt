@@ -1,17 +1,12 @@
 -- The places of a stream are those of the pushes that are due, as far as they are asked for.
-use Rattle.std.proofs.Common.{◌≡◌, ◌≤◌, ◌+◌, ℕ, zero, suc, false, List, [], ◌∷◌, ◌++◌, length, refl, sym, ◌∙◌, ap, arith, inl, inr}
-use Rattle.std.specs.Prelude.{map}
-use Rattle.std.specs.List.{slice_get, flat_map}
-use Rattle.std.proofs.lemmas.List.{append-nil, length-append}
-use Rattle.dialogue.specs.Meaning.{Meaning, IsLawful}
-use Rattle.dialogue.specs.Places.{Plain, Span, plain_spans, spans_from, end_from, rear_at, fore_in, rear_in, back_in}
-use Rattle.dialogue.specs.Stream.{cut, push_of, pushes_of, due_rest, due, spans, fore, rear, back}
+use Rattle.std.proofs.Common.{◌≡◌, ◌≤◌, ◌+◌, ℕ, zero, suc, false, List, [], ◌∷◌, ◌++◌, length, refl, sym, ◌∙◌, ap, arith, inl, inr, map, slice_get, flat_map, append-nil, length-append}
+use Rattle.dialogue.specs.Prelude.{Meaning, IsLawful, Plain, Span, plain_spans, spans_from, end_from, rear_at, fore_in, rear_in, back_in, cut, push_of, pushes_of, due_rest, due, spans, fore, rear, back}
 use Rattle.dialogue.proofs.PlaceLemmas.{Beyond, back_in-beyond, end_from-append}
 use Rattle.dialogue.proofs.CutLemmas.{IsRest-cut, end_from-map}
 use Rattle.dialogue.proofs.Growth.{due_spans, due_rest_cases, spans-pushes_of}
 use Rattle.dialogue.proofs.Laws.{spans_due}
-use Rattle.shift_ledger.specs.Kept.{fore_of, rear_of, back_of}
-use Rattle.compact_stream.specs.Kept.{sent_pushes}
+use Rattle.shift_ledger.specs.Prelude.{fore_of, rear_of, back_of}
+use Rattle.compact_stream.specs.Prelude.{sent_pushes}
 
 -- the pushes that are due end where what is due ends
 pub end_from-due : (m : Meaning) (s : List ℕ) → end_from 0 (sent_pushes m false (cut m s)) ≡ length (due m false s)

@@ -1,18 +1,12 @@
 -- What is due of an open stream ends where its held rest begins, at Back; and what is sent from there on needs nothing before the rest.
-use Rattle.std.proofs.Common.{◌≡◌, ◌≤◌, ◌+◌, ℕ, zero, suc, Bool, true, false, List, [], ◌∷◌, ◌++◌, length, refl, ◌∙◌, ap, subst, arith}
-use Rattle.std.specs.Prelude.{nat_le, replicate}
-use Rattle.std.specs.List.{flat_map}
+use Rattle.std.proofs.Common.{◌≡◌, ◌≤◌, ◌+◌, ℕ, zero, suc, Bool, true, false, List, [], ◌∷◌, ◌++◌, length, refl, ◌∙◌, ap, subst, arith, nat_le, replicate, flat_map, le-leb}
 use Rattle.std.proofs.lemmas.List.{length-append, length-replicate}
-use Rattle.std.proofs.lemmas.Bool.{le-leb}
-use Rattle.dialogue.specs.Meaning.{Meaning, IsLawful}
-use Rattle.dialogue.specs.Places.{Push, Plain, Changed, Span, plain_spans, spans_from, end_from, back_in}
-use Rattle.dialogue.specs.Stream.{cut, due, due_rest, fore, back}
+use Rattle.dialogue.specs.Prelude.{Meaning, IsLawful, Push, Plain, Changed, Span, plain_spans, spans_from, end_from, back_in, cut, due, due_rest, fore, back}
 use Rattle.dialogue.proofs.PlaceLemmas.{back_in-replicate, end_from-le}
 use Rattle.dialogue.proofs.CutLemmas.{cut_joined, length-spans_from}
 use Rattle.dialogue.proofs.Laws.{back-append, fore-back}
-use Rattle.shift_ledger.specs.Kept.{back_of}
-use Rattle.compact_stream.specs.Kept.{sent_pushes}
-use Rattle.compact_stream.specs.Runs.{held_rest}
+use Rattle.shift_ledger.specs.Prelude.{back_of}
+use Rattle.compact_stream.specs.Prelude.{sent_pushes, held_rest}
 use Rattle.compact_stream.proofs.DuePlaces.{end_from-due, back-due}
 use Rattle.compact_stream.proofs.SenderLemmas.{rest_split}
 

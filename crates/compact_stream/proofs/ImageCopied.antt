@@ -1,25 +1,18 @@
 -- What goes out of an image is copied from the recent octets alone.
-use Rattle.std.proofs.Common.{◌≡◌, ◌≤◌, ◌+◌, ◌-◌, ℕ, Bool, true, false, List, [], ◌∷◌, ◌++◌, length, take, drop, refl, sym, ◌∙◌, ap, subst, arith, append_assoc, inl, inr}
-use Rattle.std.specs.Prelude.{map, min, slice_range, ◌⊎◌}
-use Rattle.std.specs.List.{slice_get, flat_map}
+use Rattle.std.proofs.Common.{◌≡◌, ◌≤◌, ◌+◌, ◌-◌, ℕ, Bool, true, false, List, [], ◌∷◌, ◌++◌, length, take, drop, refl, sym, ◌∙◌, ap, subst, arith, append_assoc, inl, inr, map, min, slice_range, ◌⊎◌, slice_get, flat_map}
 use Rattle.std.proofs.lemmas.List.{length-append, length-drop, drop-append-le, take-append-le, take_all}
 use Rattle.std.proofs.lemmas.Bool.{cases_Bool, cond-true, cond-false, le-leb}
-use Rattle.dialogue.specs.Meaning.{Meaning, IsLawful, is_held}
-use Rattle.dialogue.specs.Places.{Push, Plain, Changed, end_from}
-use Rattle.dialogue.specs.Stream.{cut, due_rest, image, back, push_of, pushes_of}
+use Rattle.dialogue.specs.Prelude.{Meaning, IsLawful, is_held, Push, Plain, Changed, end_from, cut, due_rest, image, back, push_of, pushes_of}
 use Rattle.dialogue.proofs.CutLemmas.{cut_joined}
 use Rattle.dialogue.proofs.Laws.{joined-pushes}
 use Rattle.dialogue.proofs.PlaceLemmas.{end_from-append}
-use Rattle.shift_ledger.specs.Answers.{fore_by, copied_by}
-use Rattle.shift_ledger.specs.Kept.{StandsFor, in_from, fore_of, back_of}
-use Rattle.shift_ledger.specs.Sources.{Source, Written, plain_sources, sources_from, resolve, copied, NeedsOnly, IsPartAt}
+use Rattle.shift_ledger.specs.Prelude.{fore_by, copied_by, StandsFor, in_from, fore_of, back_of, Source, Written, plain_sources, sources_from, resolve, copied, NeedsOnly, IsPartAt}
 use Rattle.shift_ledger.proofs.Copies.{copied-image, needs-above}
 use Rattle.shift_ledger.proofs.CopiedBy.{copied_by-is}
 use Rattle.shift_ledger.proofs.NeededOctets.{slice_get-append_left}
 use Rattle.shift_ledger.proofs.SourceWalk.{length-sources_from}
 use Rattle.shift_ledger.proofs.Walks.{fore_walk-kept, back_walk-kept}
-use Rattle.compact_stream.specs.Kept.{CompactSender, Keeps, sent_pushes, octets_kept, recent_start}
-use Rattle.compact_stream.specs.Outs.{recent_back}
+use Rattle.compact_stream.specs.Prelude.{CompactSender, Keeps, sent_pushes, octets_kept, recent_start, recent_back}
 use Rattle.compact_stream.proofs.SenderLemmas.{octets_are, back-sent, due_is, in_from-pushes}
 
 sources-append : (hs ps : List Push) (start : ℕ) → sources_from start (hs ++ ps) ≡ sources_from start hs ++ sources_from (in_from start hs) ps

@@ -1,19 +1,13 @@
 -- One octet more.
-use Rattle.std.proofs.Common.{◌≡◌, ◌+◌, ℕ, Bool, true, false, List, [], ◌∷◌, ◌++◌, length, refl, sym, ◌∙◌, ap, subst, arith, append_assoc, inl, inr}
-use Rattle.std.specs.Prelude.{Option, Some, None, is_some, map}
-use Rattle.std.specs.Option.{option_map}
-use Rattle.std.specs.Str.{bytes_eq}
+use Rattle.std.proofs.Common.{◌≡◌, ◌+◌, ℕ, Bool, true, false, List, [], ◌∷◌, ◌++◌, length, refl, sym, ◌∙◌, ap, subst, arith, append_assoc, inl, inr, Option, Some, None, is_some, map, option_map, bytes_eq}
 use Rattle.std.proofs.lemmas.List.{length-append, map-append}
 use Rattle.std.proofs.lemmas.Bool.{cases_Bool, false≢true}
 use Rattle.gate_base.proofs.Options.{none_there}
-use Rattle.dialogue.specs.Meaning.{Meaning, IsUnit, IsRest, IsReleased, IsLawful, is_held, is_empty, is_released}
-use Rattle.dialogue.specs.Places.{Push, Plain, Changed}
-use Rattle.dialogue.specs.Stream.{Cut, cut, cut_at, add_octet, due_rest, push_of}
+use Rattle.dialogue.specs.Prelude.{Meaning, IsUnit, IsRest, IsReleased, IsLawful, is_held, is_empty, is_released, Push, Plain, Changed, Cut, cut, cut_at, add_octet, due_rest, push_of}
 use Rattle.dialogue.proofs.CutLemmas.{IsUnit-push}
 use Rattle.dialogue.proofs.Growth.{push_of-kept}
-use Rattle.shift_ledger.specs.Kept.{Kept, StandsFor}
-use Rattle.compact_stream.specs.Kept.{sent_pushes}
-use Rattle.compact_stream.specs.Runs.{held_rest}
+use Rattle.shift_ledger.specs.Prelude.{Kept, StandsFor}
+use Rattle.compact_stream.specs.Prelude.{sent_pushes, held_rest}
 use Rattle.compact_stream.proofs.SamePushes.{IsSame, StandsFor-same, join_plain, plain_unit, changed_unit}
 
 -- a held rest, or else whether there is a released one, and a ledger are kept of octets that are cut so, whose image is acknowledged up to k

@@ -1,16 +1,11 @@
 -- The changed units that a ledger keeps are those that are not acknowledged whole.
-use Rattle.std.proofs.Common.{◌≡◌, ◌≤◌, ◌+◌, ℕ, Bool, cond, List, [], ◌∷◌, ◌++◌, length, refl, sym, ◌∙◌, ap, arith, inl, inr}
-use Rattle.std.specs.Prelude.{map, min, nat_lt, count_by}
-use Rattle.std.specs.List.{fold}
+use Rattle.std.proofs.Common.{◌≡◌, ◌≤◌, ◌+◌, ℕ, Bool, cond, List, [], ◌∷◌, ◌++◌, length, refl, sym, ◌∙◌, ap, arith, inl, inr, map, min, nat_lt, count_by, fold}
 use Rattle.std.proofs.lemmas.Bool.{cases_lt, lt-ltb, le-ltb}
-use Rattle.dialogue.specs.Meaning.{Meaning}
-use Rattle.dialogue.specs.Places.{Push, Plain, Changed, end_from, changed_ends, open_in}
+use Rattle.dialogue.specs.Prelude.{Meaning, Push, Plain, Changed, end_from, changed_ends, open_in, cut, due_rest, push_of, open_units}
 use Rattle.dialogue.proofs.PlaceLemmas.{end_from-le}
-use Rattle.dialogue.specs.Stream.{cut, due_rest, push_of, open_units}
 use Rattle.shift_ledger.proofs.Walks.{open_in-kept}
-use Rattle.stream_model.specs.Session.{Sender}
-use Rattle.stream_model.specs.Steps.{open_of}
-use Rattle.compact_stream.specs.Kept.{sent_pushes, CompactSender, KeepsSender}
+use Rattle.stream_model.specs.Prelude.{Sender, open_of}
+use Rattle.compact_stream.specs.Prelude.{sent_pushes, CompactSender, KeepsSender}
 
 -- plain octets at the end change nothing
 ends_tail : (ps : List Push) (at n k : ℕ) → changed_ends at (ps ++ Plain n ∷ []) ≡ changed_ends at (ps ++ Plain k ∷ [])

@@ -1,16 +1,13 @@
 -- The places that the ledger of what is kept answers are those of the stream.
-use Rattle.std.proofs.Common.{◌≡◌, ◌≤◌, ◌<◌, ◌+◌, ℕ, Bool, List, length, sym, ◌∙◌, ap, arith, inl, inr}
-use Rattle.std.specs.Prelude.{min}
+use Rattle.std.proofs.Common.{◌≡◌, ◌≤◌, ◌<◌, ◌+◌, ℕ, Bool, List, length, sym, ◌∙◌, ap, arith, inl, inr, min}
 use Rattle.std.proofs.lemmas.Bool.{cases_Bool, eq-eqb}
-use Rattle.dialogue.specs.Meaning.{Meaning, IsLawful}
-use Rattle.dialogue.specs.Places.{end_from}
-use Rattle.dialogue.specs.Stream.{cut, image, due, fore, rear, back}
+use Rattle.dialogue.specs.Prelude.{Meaning, IsLawful, end_from, cut, image, due, fore, rear, back}
 use Rattle.dialogue.proofs.Laws.{back-mono, length-due-le}
-use Rattle.shift_ledger.specs.Kept.{StandsFor, fore_of, rear_of, back_of}
-use Rattle.tcp_segments.specs.Flags.{one_if}
+use Rattle.shift_ledger.specs.Prelude.{StandsFor, fore_of, rear_of, back_of}
+use Rattle.tcp_segments.specs.Prelude.{one_if}
 use Rattle.stream_model.proofs.PassLemmas.{one-le}
-use Rattle.stream_model.specs.Session.{Sender}
-use Rattle.compact_stream.specs.Kept.{sent_pushes, CompactSender, Keeps, KeepsSender, InRange}
+use Rattle.stream_model.specs.Prelude.{Sender}
+use Rattle.compact_stream.specs.Prelude.{sent_pushes, CompactSender, Keeps, KeepsSender, InRange}
 use Rattle.compact_stream.proofs.RearBack.{rear_back}
 use Rattle.compact_stream.proofs.SenderLemmas.{octets_are, due_is, fore-sent, rear-sent, back-sent}
 

@@ -1,24 +1,17 @@
 -- What is kept stays in its ranges, whatever it is kept of.
-use Rattle.std.proofs.Common.{◌≡◌, ◌≤◌, ◌<◌, ◌+◌, ◌-◌, ◌*◌, ℕ, Bool, true, false, cond, List, [], ◌∷◌, ◌++◌, length, drop, sym, ◌∙◌, subst, arith, inl, inr}
-use Rattle.std.specs.Prelude.{◌^◌, ◌||◌, max, is_some, None}
-use Rattle.std.specs.Str.{bytes_eq}
-use Rattle.std.proofs.lemmas.List.{length-append, length-drop}
+use Rattle.std.proofs.Common.{◌≡◌, ◌≤◌, ◌<◌, ◌+◌, ◌-◌, ◌*◌, ℕ, Bool, true, false, cond, List, [], ◌∷◌, ◌++◌, length, drop, sym, ◌∙◌, subst, arith, inl, inr, ◌^◌, ◌||◌, max, is_some, None, bytes_eq, length-append, length-drop}
 use Rattle.std.proofs.lemmas.Bool.{cases_Bool, cond-true, cond-false, leb-false, or_parts}
 use Rattle.gate_base.proofs.Options.{none_there}
 use Rattle.gate_base.specs.declared.host.Host.{Host}
-use Rattle.dialogue.specs.Meaning.{Meaning, IsUnit, IsRest, IsLawful}
-use Rattle.dialogue.specs.Places.{Push, Plain, Changed}
-use Rattle.dialogue.specs.Stream.{push_of}
+use Rattle.dialogue.specs.Prelude.{Meaning, IsUnit, IsRest, IsLawful, Push, Plain, Changed, push_of}
 use Rattle.dialogue.proofs.CutLemmas.{IsRest-nil}
-use Rattle.shift_ledger.specs.Kept.{Kept}
-use Rattle.tcp_segments.specs.Flags.{one_if}
-use Rattle.stream_model.specs.Session.{Segment, other, arrival, start_at, place_acknowledged}
-use Rattle.stream_model.specs.Refusals.{is_data, refusal_of}
+use Rattle.shift_ledger.specs.Prelude.{Kept}
+use Rattle.tcp_segments.specs.Prelude.{one_if}
+use Rattle.stream_model.specs.Prelude.{Segment, other, arrival, start_at, place_acknowledged, is_data, refusal_of}
 use Rattle.stream_model.specs.declared.refusals.Extent.{Extent}
 use Rattle.stream_model.proofs.PassLemmas.{second_false, PassesBy, passes_by, data_is, ack_within, one-le}
 use Rattle.stream_model.proofs.RecentFact.{few_added}
-use Rattle.compact_stream.specs.Kept.{CompactSender, extent_kept, recent_start, back_kept, InRange, went_on, closed, taken_kept, own_kept, other_kept}
-use Rattle.compact_stream.specs.Runs.{Run, run, all_pushed, next}
+use Rattle.compact_stream.specs.Prelude.{CompactSender, extent_kept, recent_start, back_kept, InRange, went_on, closed, taken_kept, own_kept, other_kept, Run, run, all_pushed, next}
 use Rattle.compact_stream.proofs.OctetSteps.{unit_here}
 use Rattle.compact_stream.proofs.RunLemmas.{all_pushed-push}
 

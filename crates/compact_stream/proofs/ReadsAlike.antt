@@ -1,15 +1,10 @@
 -- What is kept of a stream is kept of it by each dialogue that reads it alike.
-use Rattle.std.proofs.Common.{◌≡◌, ℕ, Bool, List, [], ◌∷◌, ◌++◌, length, drop, refl, sym, ◌∙◌, ap, subst}
-use Rattle.std.specs.Prelude.{not, ◌&&◌, cond, map, min}
-use Rattle.dialogue.specs.Meaning.{Meaning, is_held, is_empty, is_released}
-use Rattle.dialogue.specs.Places.{Push, Plain}
-use Rattle.dialogue.specs.Stream.{Cut, cut, push_of, due_rest}
-use Rattle.dialogue.specs.Learning.{ReadAlike}
+use Rattle.std.proofs.Common.{◌≡◌, ℕ, Bool, List, [], ◌∷◌, ◌++◌, length, drop, refl, sym, ◌∙◌, ap, subst, not, ◌&&◌, cond, map, min}
+use Rattle.dialogue.specs.Prelude.{Meaning, is_held, is_empty, is_released, Push, Plain, Cut, cut, push_of, due_rest, ReadAlike}
 use Rattle.dialogue.proofs.Alike.{cut_alike, pushes_alike, rest_alike, back_alike}
-use Rattle.shift_ledger.specs.Kept.{StandsFor}
-use Rattle.stream_model.specs.Session.{Sender}
-use Rattle.compact_stream.specs.Kept.{CompactSender, Keeps, KeepsSender, InRange, sent_pushes}
-use Rattle.compact_stream.specs.Runs.{held_rest}
+use Rattle.shift_ledger.specs.Prelude.{StandsFor}
+use Rattle.stream_model.specs.Prelude.{Sender}
+use Rattle.compact_stream.specs.Prelude.{CompactSender, Keeps, KeepsSender, InRange, sent_pushes, held_rest}
 
 held-alike : (m n : Meaning) → ((r : List ℕ) → m.holds r ≡ n.holds r) → (r : List ℕ) → is_held m r ≡ is_held n r
 held-alike m n h [] = refl

@@ -1,18 +1,15 @@
 -- The recent octets, as a stream goes on, ends or is acknowledged.
-use Rattle.std.proofs.Common.{◌≡◌, ◌≤◌, ◌+◌, ◌-◌, ℕ, true, false, List, [], ◌++◌, length, drop, sym, ◌∙◌, ap, arith, inl, inr}
-use Rattle.std.specs.Prelude.{min, nat_le}
+use Rattle.std.proofs.Common.{◌≡◌, ◌≤◌, ◌+◌, ◌-◌, ℕ, true, false, List, [], ◌++◌, length, drop, sym, ◌∙◌, ap, arith, inl, inr, min, nat_le}
 use Rattle.std.proofs.Math.Seq.{drop-nil}
 use Rattle.std.proofs.lemmas.List.{append-nil, length-drop, drop-append-le, drop-drop, drop_all}
 use Rattle.std.proofs.lemmas.List.Sums.{prefix_len-le-length}
 use Rattle.std.proofs.lemmas.Bool.{cases_lt, cond-true, cond-false, le-leb, lt-leb}
-use Rattle.dialogue.specs.Meaning.{Meaning, IsLawful}
-use Rattle.dialogue.specs.Places.{Span}
-use Rattle.dialogue.specs.Stream.{cut, due, image, spans, back}
+use Rattle.dialogue.specs.Prelude.{Meaning, IsLawful, Span, cut, due, image, spans, back}
 use Rattle.dialogue.proofs.Laws.{back-append, back-mono, length-spans, length-due-le}
 use Rattle.shift_ledger.proofs.Walks.{back_walk-kept}
-use Rattle.tcp_segments.specs.Flags.{one_if}
+use Rattle.tcp_segments.specs.Prelude.{one_if}
 use Rattle.stream_model.proofs.PassLemmas.{one-le}
-use Rattle.compact_stream.specs.Kept.{sent_pushes, CompactSender, Keeps, octets_kept, recent_start, back_kept}
+use Rattle.compact_stream.specs.Prelude.{sent_pushes, CompactSender, Keeps, octets_kept, recent_start, back_kept}
 use Rattle.compact_stream.proofs.SenderLemmas.{octets_are, due_is, back-sent}
 use Rattle.compact_stream.proofs.PlacesKept.{back_past}
 

@@ -1,19 +1,14 @@
 -- The machine over what is kept keeps standing for the stream.
-use Rattle.std.proofs.Common.{◌≡◌, ℕ, Bool, true, false, List, [], ◌∷◌, ◌++◌, length, refl, sym, subst, inl, inr}
-use Rattle.std.specs.Prelude.{is_some}
-use Rattle.std.specs.List.{fold}
-use Rattle.std.specs.Str.{bytes_eq}
+use Rattle.std.proofs.Common.{◌≡◌, ℕ, Bool, true, false, List, [], ◌∷◌, ◌++◌, length, refl, sym, subst, inl, inr, is_some, fold, bytes_eq}
 use Rattle.std.proofs.lemmas.List.Sums.{fold_push, fold-append}
 use Rattle.std.proofs.lemmas.Bool.{cases_Bool}
 use Rattle.std.proofs.lemmas.Slice.Eq.{bytes_eq-Decides}
-use Rattle.dialogue.specs.Meaning.{Meaning, IsUnit, IsRest, IsLawful}
-use Rattle.dialogue.specs.Places.{Push, Plain, Changed}
-use Rattle.dialogue.specs.Stream.{Cut, cut, add_octet}
+use Rattle.dialogue.specs.Prelude.{Meaning, IsUnit, IsRest, IsLawful, Push, Plain, Changed, Cut, cut, add_octet}
 use Rattle.dialogue.proofs.CutLemmas.{IsRest-cut, IsRest-add_octet}
-use Rattle.shift_ledger.specs.Kept.{Kept, StandsFor, pushed}
+use Rattle.shift_ledger.specs.Prelude.{Kept, StandsFor, pushed}
 use Rattle.shift_ledger.proofs.Walks.{StandsFor-push_plain, StandsFor-push_changed}
-use Rattle.compact_stream.specs.Kept.{sent_pushes}
-use Rattle.compact_stream.specs.Runs.{Run, next_by, run, all_pushed, next}
+use Rattle.compact_stream.specs.Prelude.{sent_pushes, Run, run, all_pushed, next}
+use Rattle.compact_stream.specs.Runs.{next_by}
 use Rattle.compact_stream.proofs.OctetSteps.{IsKeptOf, IsKept, unit_here, open_rest, free_rest, step_hold, step_release, step_plain_unit, step_changed_unit, step_free, step_free_unit}
 
 pub all_pushed-push : (l : Kept) (ps : List Push) (p : Push) → all_pushed l (ps ++ p ∷ []) ≡ pushed (all_pushed l ps) p

@@ -1,20 +1,13 @@
 -- What is kept of a sender answers for its octets.
-use Rattle.std.proofs.Common.{◌≡◌, ◌≤◌, ◌+◌, ℕ, Bool, true, false, cond, List, [], ◌∷◌, ◌++◌, length, refl, sym, ◌∙◌, ap, subst, arith, append_assoc, inl, inr}
-use Rattle.std.specs.Prelude.{map, min}
-use Rattle.std.specs.List.{flat_map}
-use Rattle.std.specs.Str.{bytes_eq}
-use Rattle.std.proofs.lemmas.List.{length-append}
+use Rattle.std.proofs.Common.{◌≡◌, ◌≤◌, ◌+◌, ℕ, Bool, true, false, cond, List, [], ◌∷◌, ◌++◌, length, refl, sym, ◌∙◌, ap, subst, arith, append_assoc, inl, inr, map, min, flat_map, bytes_eq, length-append}
 use Rattle.std.proofs.lemmas.Bool.{cases_Bool, ne_eqb}
-use Rattle.dialogue.specs.Meaning.{Meaning, IsLawful, is_held}
-use Rattle.dialogue.specs.Places.{Push, Plain, end_from, fore_in, rear_in}
-use Rattle.dialogue.specs.Stream.{Cut, cut, push_of, due_rest, due, image, spans, pushes_of, fore, rear, back}
+use Rattle.dialogue.specs.Prelude.{Meaning, IsLawful, is_held, Push, Plain, end_from, fore_in, rear_in, Cut, cut, push_of, due_rest, due, image, spans, pushes_of, fore, rear, back}
 use Rattle.dialogue.proofs.CutLemmas.{cut_joined}
 use Rattle.dialogue.proofs.Laws.{end_from-pushes}
-use Rattle.shift_ledger.specs.Kept.{Kept, in_from, StandsFor, fore_of, rear_of, back_of}
+use Rattle.shift_ledger.specs.Prelude.{Kept, in_from, StandsFor, fore_of, rear_of, back_of}
 use Rattle.shift_ledger.proofs.Walks.{in_from-append, StandsFor-push_plain}
-use Rattle.stream_model.specs.Session.{extent}
-use Rattle.compact_stream.specs.Kept.{sent_pushes, CompactSender, sender_of, Keeps, extent_kept}
-use Rattle.compact_stream.specs.Runs.{held_rest}
+use Rattle.stream_model.specs.Prelude.{extent}
+use Rattle.compact_stream.specs.Prelude.{sent_pushes, CompactSender, sender_of, Keeps, extent_kept, held_rest}
 use Rattle.compact_stream.proofs.DuePlaces.{end_from-due, fore-due, rear-due, back-due}
 use Rattle.compact_stream.proofs.SamePushes.{StandsFor-same, join_plain}
 

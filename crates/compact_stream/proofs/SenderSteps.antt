@@ -1,22 +1,16 @@
 -- What is kept of a sender goes on as its session does.
-use Rattle.std.proofs.Common.{◌≡◌, ◌≤◌, ◌+◌, ℕ, Bool, true, false, cond, List, [], ◌++◌, length, drop, refl, sym, ◌∙◌, ap, subst, arith, inl, inr}
-use Rattle.std.specs.Prelude.{min, max, ◌||◌}
-use Rattle.std.proofs.lemmas.List.{append-nil, length-append}
+use Rattle.std.proofs.Common.{◌≡◌, ◌≤◌, ◌+◌, ℕ, Bool, true, false, cond, List, [], ◌++◌, length, drop, refl, sym, ◌∙◌, ap, subst, arith, inl, inr, min, max, ◌||◌, append-nil, length-append}
 use Rattle.std.proofs.lemmas.Bool.{cases_Bool, cond-true, cond-false, or_parts, true≢false}
 use Rattle.gate_base.specs.declared.host.Host.{Host}
-use Rattle.dialogue.specs.Meaning.{Meaning, IsLawful}
-use Rattle.dialogue.specs.Places.{Plain}
-use Rattle.dialogue.specs.Stream.{cut, due, back}
+use Rattle.dialogue.specs.Prelude.{Meaning, IsLawful, Plain, cut, due, back}
 use Rattle.dialogue.proofs.Laws.{due-append}
-use Rattle.shift_ledger.specs.Kept.{StandsFor, pushed}
+use Rattle.shift_ledger.specs.Prelude.{StandsFor, pushed}
 use Rattle.shift_ledger.proofs.Walks.{StandsFor-acknowledge}
-use Rattle.tcp_segments.specs.Flags.{one_if}
-use Rattle.stream_model.specs.Session.{Sender, Segment, extent, arrival, start_at, place_acknowledged, start_of, repeats_unlike}
-use Rattle.stream_model.specs.Steps.{taken, own_after, other_after}
+use Rattle.tcp_segments.specs.Prelude.{one_if}
+use Rattle.stream_model.specs.Prelude.{Sender, Segment, extent, arrival, start_at, place_acknowledged, start_of, repeats_unlike, taken, own_after, other_after}
 use Rattle.stream_model.specs.declared.refusals.Extent.{Extent}
 use Rattle.stream_model.proofs.PassLemmas.{Passes, IsData, nothing_past, ack_within, data_is}
-use Rattle.compact_stream.specs.Kept.{sent_pushes, CompactSender, sender_of, Keeps, KeepsSender, extent_kept, went_on, closed, taken_kept, own_kept, acknowledged_kept, other_kept}
-use Rattle.compact_stream.specs.Runs.{held_rest, Run, run}
+use Rattle.compact_stream.specs.Prelude.{sent_pushes, CompactSender, sender_of, Keeps, KeepsSender, extent_kept, went_on, closed, taken_kept, own_kept, acknowledged_kept, other_kept, held_rest, Run, run}
 use Rattle.compact_stream.proofs.DuePlaces.{end_from-due}
 use Rattle.compact_stream.proofs.OctetSteps.{IsKept}
 use Rattle.compact_stream.proofs.RunLemmas.{kept_on}

@@ -1,21 +1,14 @@
 -- What is kept of a session answers for it, and goes on as it does.
-use Rattle.std.proofs.Common.{◌≡◌, ◌≤◌, ◌+◌, Bool, sym, ◌∙◌, ap, subst}
-use Rattle.std.specs.Prelude.{None}
-use Rattle.std.specs.Prelude.{ℕ, List, drop}
+use Rattle.std.proofs.Common.{◌≡◌, ◌≤◌, ◌+◌, Bool, sym, ◌∙◌, ap, subst, None, ℕ, List, drop}
 use Rattle.gate_base.specs.declared.host.Host.{Host}
 use Rattle.gate_base.specs.declared.host.Host.TheVariants.{Client, Server}
-use Rattle.dialogue.specs.Meaning.{Meaning, IsLawful}
-use Rattle.dialogue.specs.Repeats.{is_unlike}
-use Rattle.dialogue.specs.Stream.{back}
-use Rattle.tcp_segments.specs.Flags.{one_if}
-use Rattle.stream_model.specs.Session.{Sender, Session, Segment, extent, arrival, start_at, start_of, repeats_unlike}
-use Rattle.stream_model.specs.Steps.{own_after, other_after, session_next}
-use Rattle.stream_model.specs.Refusals.{refusal_of, segment_refusal}
+use Rattle.dialogue.specs.Prelude.{Meaning, IsLawful, is_unlike, back}
+use Rattle.tcp_segments.specs.Prelude.{one_if}
+use Rattle.stream_model.specs.Prelude.{Sender, Session, Segment, extent, arrival, start_at, start_of, repeats_unlike, own_after, other_after, session_next, refusal_of, segment_refusal}
 use Rattle.stream_model.specs.declared.refusals.Arrival.{Arrival}
 use Rattle.stream_model.specs.declared.refusals.Extent.{Extent}
 use Rattle.stream_model.proofs.PassLemmas.{passes}
-use Rattle.compact_stream.specs.Kept.{CompactSender, sender_of, KeepsSender, extent_kept, unlike_kept, own_kept, other_kept}
-use Rattle.compact_stream.specs.Sessions.{CompactState, StandsForSession, kept_refusal, kept_next}
+use Rattle.compact_stream.specs.Prelude.{CompactSender, sender_of, KeepsSender, extent_kept, unlike_kept, own_kept, other_kept, CompactState, StandsForSession, kept_refusal, kept_next}
 use Rattle.compact_stream.proofs.SenderLemmas.{extent_is}
 use Rattle.compact_stream.proofs.SenderSteps.{own_kept_keeps, other_kept_keeps}
 

@@ -1,13 +1,9 @@
 -- What is kept of a sender, without the octets that will not be sent again.
 use Rattle.std.specs.Prelude.{◌≡◌, ◌≤◌, ◌<◌, ◌+◌, ◌-◌, ◌*◌, ◌^◌, ℕ, Bool, true, false, ◌||◌, cond, nat_le, min, max, List, [], ◌++◌, length, drop, Option, Some}
-use Rattle.dialogue.specs.Meaning.{Meaning, IsRest, is_released}
-use Rattle.dialogue.specs.Places.{Push, Plain}
-use Rattle.dialogue.specs.Repeats.{is_unlike}
-use Rattle.dialogue.specs.Stream.{Cut, cut, due_rest, pushes_of, back}
-use Rattle.shift_ledger.specs.Answers.{back_by}
-use Rattle.shift_ledger.specs.Kept.{Kept, StandsFor, pushed, pruned}
-use Rattle.tcp_segments.specs.Flags.{one_if}
-use Rattle.stream_model.specs.Session.{Sender, Segment, arrival, start_at, place_acknowledged}
+use Rattle.dialogue.specs.Prelude.{Meaning, IsRest, is_released, Push, Plain, is_unlike, Cut, cut, due_rest, pushes_of, back}
+use Rattle.shift_ledger.specs.Prelude.{back_by, Kept, StandsFor, pushed, pruned}
+use Rattle.tcp_segments.specs.Prelude.{one_if}
+use Rattle.stream_model.specs.Prelude.{Sender, Segment, arrival, start_at, place_acknowledged}
 use Rattle.stream_model.specs.declared.refusals.Extent.{Extent}
 use Rattle.compact_stream.specs.Runs.{held_rest, run, all_pushed}
 

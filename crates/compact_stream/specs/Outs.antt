@@ -2,12 +2,10 @@
 use Rattle.std.specs.Prelude.{◌+◌, ◌-◌, ℕ, Bool, true, false, not, ◌&&◌, ◌||◌, cond, nat_lt, nat_le, ◌==◌, min, max, List, [], ◌∷◌, length, map, is_some, is_none, Option, Some, None}
 use Rattle.gate_base.specs.declared.host.Host.{Host}
 use Rattle.gate_base.specs.declared.host.Host.TheVariants.{Client, Server}
-use Rattle.dialogue.specs.Meaning.{Meaning}
-use Rattle.shift_ledger.specs.Answers.{fore_by, rear_by, copied_by}
-use Rattle.tcp_segments.specs.Flags.{one_if}
-use Rattle.stream_model.specs.Numbers.{number_at, number_after, known, place_near}
-use Rattle.stream_model.specs.Session.{Segment, Outgoing, arrival, start_at, place_acknowledged}
-use Rattle.stream_model.specs.Steps.{Piece, pieces, empty_piece, syn_out}
+use Rattle.dialogue.specs.Prelude.{Meaning}
+use Rattle.shift_ledger.specs.Prelude.{fore_by, rear_by, copied_by}
+use Rattle.tcp_segments.specs.Prelude.{one_if}
+use Rattle.stream_model.specs.Prelude.{number_at, number_after, known, place_near, Segment, Outgoing, arrival, start_at, place_acknowledged, Piece, pieces, empty_piece, syn_out}
 use Rattle.stream_model.specs.declared.numbers.Offset.{Offset}
 use Rattle.stream_model.specs.declared.refusals.Extent.{Extent}
 use Rattle.compact_stream.specs.Kept.{CompactSender, extent_kept, octets_kept, recent_start, back_kept, taken_kept}

@@ -1,12 +1,11 @@
 -- What is kept of a session.
 use Rattle.std.specs.Prelude.{ℕ, false, [], Option, Some, None}
-use Rattle.shift_ledger.specs.Kept.{Kept}
+use Rattle.shift_ledger.specs.Prelude.{Kept}
 use Rattle.gate_base.specs.declared.refusal.Refusal.{Refusal}
 use Rattle.gate_base.specs.declared.host.Host.{Host}
 use Rattle.gate_base.specs.declared.host.Host.TheVariants.{Client, Server}
-use Rattle.dialogue.specs.Meaning.{Meaning}
-use Rattle.stream_model.specs.Session.{Session, Segment, arrival}
-use Rattle.stream_model.specs.Refusals.{refusal_of}
+use Rattle.dialogue.specs.Prelude.{Meaning}
+use Rattle.stream_model.specs.Prelude.{Session, Segment, arrival, refusal_of}
 use Rattle.compact_stream.specs.Kept.{CompactSender, KeepsSender, extent_kept, unlike_kept, own_kept, other_kept}
 
 -- what is kept of both hosts

@@ -1,15 +1,10 @@
 // The laws of what is kept, for every lawful dialogue and every stream that it is kept of.
 ghost use Rattle.std.specs.Prelude.{◌≡◌, ◌≤◌, ◌<◌, ◌+◌, ℕ, Bool, false, List, [], ◌++◌, None, length, min, slice_range};
 ghost use Rattle.gate_base.specs.declared.host.Host.{Host};
-ghost use Rattle.dialogue.specs.Meaning.{Meaning, IsLawful};
-ghost use Rattle.dialogue.specs.Stream.{cut, due, image, fore, rear, back};
-ghost use Rattle.dialogue.specs.Learning.{ReadAlike};
-ghost use Rattle.shift_ledger.specs.Answers.{fore_by, copied_by};
-ghost use Rattle.shift_ledger.specs.Kept.{Kept, StandsFor, fore_of, rear_of, back_of};
-ghost use Rattle.tcp_segments.specs.Flags.{one_if};
-ghost use Rattle.stream_model.specs.Session.{Sender, Session, Segment, extent, arrival, repeats_unlike};
-ghost use Rattle.stream_model.specs.Refusals.{refusal_of, segment_refusal};
-ghost use Rattle.stream_model.specs.Steps.{own_after, other_after, session_next, session_made, open_of};
+ghost use Rattle.dialogue.specs.Prelude.{Meaning, IsLawful, cut, due, image, fore, rear, back, ReadAlike};
+ghost use Rattle.shift_ledger.specs.Prelude.{fore_by, copied_by, Kept, StandsFor, fore_of, rear_of, back_of};
+ghost use Rattle.tcp_segments.specs.Prelude.{one_if};
+ghost use Rattle.stream_model.specs.Prelude.{Sender, Session, Segment, extent, arrival, repeats_unlike, refusal_of, segment_refusal, own_after, other_after, session_next, session_made, open_of};
 ghost use Rattle.stream_model.specs.declared.refusals.Extent.{Extent};
 ghost use Rattle.compact_stream.specs.Runs.{held_rest};
 ghost use Rattle.compact_stream.specs.Kept.{CompactSender, Keeps, KeepsSender, InRange, octets_kept, recent_start, sent_pushes, extent_kept, own_kept, other_kept};

@@ -1,8 +1,7 @@
 // The places that what is kept of a sender answers.
 ghost use Rattle.std.specs.Prelude.{◌≡◌, ◌<◌, ◌+◌, ◌^◌, length};
-ghost use Rattle.dialogue.specs.Meaning.{Meaning, IsLawful};
-ghost use Rattle.dialogue.specs.Stream.{back};
-ghost use Rattle.stream_model.specs.Session.{Sender};
+ghost use Rattle.dialogue.specs.Prelude.{Meaning, IsLawful, back};
+ghost use Rattle.stream_model.specs.Prelude.{Sender};
 ghost use Rattle.compact_stream.specs.Kept.{CompactSender, KeepsSender, InRange};
 
 use shift_ledger::Ledger;

@@ -1,11 +1,9 @@
 -- The images that a list gives addresses.
-use Rattle.std.proofs.Common.{◌≡◌, ℕ, true, List, [], ◌∷◌, ◌++◌, refl, ap, ◌∙◌, inl, inr}
-use Rattle.std.specs.Prelude.{Option, Some, None, is_some}
+use Rattle.std.proofs.Common.{◌≡◌, ℕ, List, [], ◌∷◌, ◌++◌, refl, ap, ◌∙◌, inl, inr, Option, Some, None, is_some}
 use Rattle.std.specs.Option.{option_map, option_or}
 use Rattle.std.proofs.lemmas.Bool.{cases_Bool}
 use Rattle.std.proofs.lemmas.List.Folds.{find-append}
-use Rattle.gate_base.specs.declared.address.Addr.{Addr}
-use Rattle.dialogue.specs.Learning.{Entry, is_of, is_listed, listed_image}
+use Rattle.dialogue.specs.Prelude.{Entry, is_of, is_listed, listed_image}
 
 -- a list gives an image to just the addresses of which it has an entry
 pub image_of_listed : (entries : List Entry) (address : ℕ) → is_some (listed_image entries address) ≡ is_listed entries address

@@ -1,12 +1,10 @@
 -- Where a rest and the octets that follow are done.
-use Rattle.std.proofs.Common.{◌≡◌, ◌≤◌, ◌<◌, ◌+◌, ◌-◌, ℕ, true, false, List, [], ◌∷◌, ◌++◌, length, take, drop, sym, ◌∙◌, ap, subst, arith, inl, inr}
-use Rattle.std.specs.Prelude.{Result, Ok, Err, IsOk, OnOk, Option, Some, None, IfSome, min}
-use Rattle.std.proofs.lemmas.List.{append-nil, length-append, length-take, length-take-le, take-append-drop, take-take, take_all}
+use Rattle.std.proofs.Common.{◌≡◌, ◌≤◌, ◌<◌, ◌+◌, ◌-◌, ℕ, true, false, List, [], ◌∷◌, ◌++◌, length, take, drop, sym, ◌∙◌, ap, subst, arith, inl, inr, Result, Ok, Err, IsOk, OnOk, Option, Some, None, IfSome, min, append-nil, length-append, length-take, length-take-le, take-append-drop, take-take, take_all}
 use Rattle.std.proofs.Math.Seq.{take-append-add}
 use Rattle.std.proofs.lemmas.Bool.{cases_Bool, cases_lt}
-use Rattle.dialogue.specs.Meaning.{HoldsAtMost, Meaning, IsRest, IsReleased, IsLawful}
+use Rattle.dialogue.specs.Prelude.{HoldsAtMost, Meaning, IsRest, IsReleased, IsLawful, IsWaiting, IsDone, StaysHeld, EndsAfter, TakesOctets, EndsAt, NoneEnds}
 use Rattle.dialogue.proofs.CutLemmas.{none_or_some, front_rest, past_rest}
-use Rattle.dialogue.specs.Taking.{IsWaiting, IsDone, StaysHeld, EndsAfter, TakesOctets, EndsAt, NoneEnds, IsReleasedAt, NoneReleased}
+use Rattle.dialogue.specs.Taking.{IsReleasedAt, NoneReleased}
 
 -- a front of a rest is a rest
 pub rest-take : (m : Meaning) → IsLawful m → (w : List ℕ) (k : ℕ) → IsRest m w → IsRest m (take k w)

@@ -1,11 +1,9 @@
 -- A message that is cut is short.
-use Rattle.std.proofs.Common.{ℕ, ◌+◌, ◌≤◌, List, [], ◌∷◌, ◌++◌, length, Option, Some, None, arith}
-use Rattle.std.specs.Prelude.{IfSome}
-use Rattle.std.proofs.lemmas.List.{length-append}
+use Rattle.std.proofs.Common.{ℕ, ◌+◌, ◌≤◌, List, [], ◌∷◌, ◌++◌, length, Option, Some, None, arith, IfSome, length-append}
 use Rattle.std.proofs.lemmas.Option.{IfSome_then}
 use Rattle.byteorder.specs.Endian.{big_bytes}
-use Rattle.dns_names.specs.Names.{IsName, spelled}
-use Rattle.dns_names.specs.Spelling.{Start, Added, found, spell_by, spell}
+use Rattle.dns_names.specs.Prelude.{IsName, spelled, Start, Added, found, spell_by}
+use Rattle.dns_names.specs.Spelling.{spell}
 use Rattle.dns_messages.specs.declared.message.Question.{Question}
 use Rattle.dns_messages.specs.declared.message.Message.{Message}
 use Rattle.dns_messages.specs.Writing.{questions_written, spelling}

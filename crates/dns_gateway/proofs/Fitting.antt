@@ -2,7 +2,7 @@
 use Rattle.std.proofs.Common.{◌≡◌, ℕ, ◌+◌, List, [], ◌∷◌, length, Option, Some, None}
 use Rattle.std.specs.List.{AllByRecursion}
 use Rattle.gate_base.specs.declared.address.Addr.{Addr}
-use Rattle.dns_names.specs.Reverse.{full_reverse}
+use Rattle.dns_names.specs.Prelude.{full_reverse}
 use Rattle.dns_messages.specs.declared.form.Form.{Form}
 use Rattle.dns_messages.specs.declared.form.Form.TheVariants as form
 use Rattle.dns_messages.specs.declared.message.Content.{Content}

@@ -1,7 +1,7 @@
 -- The addresses in a message that are renamed.
 use Rattle.std.specs.Prelude.{ℕ, List, [], ◌∷◌, ◌++◌, Option, Some, None}
 use Rattle.std.specs.List.{flat_map}
-use Rattle.dns_names.specs.Reverse.{full_reverse}
+use Rattle.dns_names.specs.Prelude.{full_reverse}
 use Rattle.dns_messages.specs.declared.message.Content.{Content}
 use Rattle.dns_messages.specs.declared.message.Content.TheVariants.{Address}
 use Rattle.dns_messages.specs.declared.message.Question.{Question}

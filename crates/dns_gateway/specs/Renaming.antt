@@ -1,7 +1,7 @@
 -- A message with the images of its addresses.
 use Rattle.std.specs.Prelude.{ℕ, ◌+◌, ◌||◌, if◌then◌else◌, is_some, List, [], ◌∷◌, length, slice_index_or, Option, Some, None}
 use Rattle.gate_base.specs.declared.address.Addr.{Addr}
-use Rattle.dns_names.specs.Reverse.{full_reverse, with_address}
+use Rattle.dns_names.specs.Prelude.{full_reverse, with_address}
 use Rattle.dns_messages.specs.declared.message.Content.{Content}
 use Rattle.dns_messages.specs.declared.message.Content.TheVariants.{Address}
 use Rattle.dns_messages.specs.declared.message.Question.{Question}

@@ -1,6 +1,6 @@
 // What is sent for a message (RFC 1035, 4.1.1 and 4.2.1).
 ghost use Rattle.std.specs.Prelude.{◌≡◌, ◌≤◌, max, length, IfOk, IfSome};
-ghost use Rattle.dns_names.specs.Names.{IsName};
+ghost use Rattle.dns_names.specs.Prelude.{IsName};
 ghost use Rattle.dns_messages.specs.Suits.{MessageSuits};
 ghost use Rattle.dns_messages.specs.Writing.{spelling};
 ghost use Rattle.dns_gateway.specs.Replies.{cut, reply_of};

@@ -1,13 +1,10 @@
 -- What was written is read again.
-use Rattle.std.proofs.Common.{◌≡◌, ℕ, ◌+◌, ◌-◌, ◌≤◌, ◌<◌, ◌^◌, true, false, ltb, eqb, List, [], ◌∷◌, ◌++◌, length, Option, Some, None, refl, sym, ap, subst, append_assoc, arith, inl, inr, add-zero}
-use Rattle.std.specs.Prelude.{◌==◌, if◌then◌else◌, IfSome}
+use Rattle.std.proofs.Common.{◌≡◌, ℕ, ◌+◌, ◌-◌, ◌≤◌, ◌<◌, ◌^◌, true, false, ltb, eqb, List, [], ◌∷◌, ◌++◌, length, Option, Some, None, refl, sym, ap, subst, append_assoc, arith, inl, inr, add-zero, ◌==◌, if◌then◌else◌, IfSome, take_at, append-nil, length-append, length-drop}
 use Rattle.byteorder.specs.Endian.{big_number, big_bytes}
 use Rattle.std.specs.List.{AllByRecursion}
 use Rattle.std.proofs.lemmas.Bool.{le-ltb, cases_Bool, eq-eqb}
-use Rattle.std.proofs.lemmas.List.{take_at, append-nil, length-append, length-drop}
-use Rattle.dns_names.specs.Names.{IsName, spelled}
-use Rattle.dns_names.specs.Walk.{name_at}
-use Rattle.dns_names.specs.Spelling.{Start, Added, spell, spell_by, found}
+use Rattle.dns_names.specs.Prelude.{IsName, spelled, name_at, Start, Added, spell_by, found}
+use Rattle.dns_names.specs.Spelling.{spell}
 use Rattle.dns_names.proofs.Writing.{Holds, Holds-front, Holds-back, AreKnown, AreKnown-later, AreKnown-append, spell-reads}
 use Rattle.dns_names.proofs.Walks.{name_at-finds}
 use Rattle.dns_messages.specs.declared.form.Form.{Form}

@@ -1,10 +1,8 @@
 -- A message without records: its one name is written as it stands.
-use Rattle.std.proofs.Common.{◌≡◌, ℕ, ◌+◌, ◌<◌, ◌^◌, List, [], ◌∷◌, ◌++◌, length, refl, ap, ◌∙◌, sym, append_assoc, arith, Some, None}
-use Rattle.std.specs.Prelude.{IfSome}
-use Rattle.std.proofs.lemmas.List.{append-nil}
+use Rattle.std.proofs.Common.{◌≡◌, ℕ, ◌+◌, ◌<◌, ◌^◌, List, [], ◌∷◌, ◌++◌, length, refl, ap, ◌∙◌, sym, append_assoc, arith, Some, None, IfSome, append-nil}
 use Rattle.byteorder.specs.Endian.{big_bytes}
-use Rattle.dns_names.specs.Names.{spelled}
-use Rattle.dns_names.specs.Spelling.{Added, spell}
+use Rattle.dns_names.specs.Prelude.{spelled, Added}
+use Rattle.dns_names.specs.Spelling.{spell}
 use Rattle.dns_messages.specs.declared.message.Message.{Message}
 use Rattle.dns_messages.specs.declared.message.Question.{Question}
 use Rattle.dns_messages.specs.Suits.{HasNoRecords, QuestionFits, MessageFits}

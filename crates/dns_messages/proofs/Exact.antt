@@ -1,13 +1,9 @@
 -- What reading gives is what the octets are, and no other message is it.
-use Rattle.std.proofs.Common.{◌≡◌, ℕ, zero, suc, ◌+◌, ◌-◌, Bool, true, false, cond, ltb, eqb, List, [], ◌∷◌, length, take, drop, Option, Some, None, refl, sym, ap, subst, ◌∙◌, arith, inl, inr}
-use Rattle.std.specs.Prelude.{IfOk, Result, Ok, Err}
-use Rattle.dns_names.specs.Stops.{ReturnsRead}
+use Rattle.std.proofs.Common.{◌≡◌, ℕ, zero, suc, ◌+◌, ◌-◌, Bool, true, false, cond, ltb, eqb, List, [], ◌∷◌, length, take, drop, Option, Some, None, refl, sym, ap, subst, ◌∙◌, arith, inl, inr, IfOk, Result, Ok, Err, le-ltb, ltb-false, eq-eqb, eqb-true}
+use Rattle.dns_names.specs.Prelude.{ReturnsRead, NameAt, name_at}
 use Rattle.dns_names.specs.declared.stop.NameStop.{NameStop}
 use Rattle.dns_names.specs.declared.stop.NameStop.TheVariants.{BadDns, OutOfMemory}
-use Rattle.std.proofs.lemmas.Bool.{le-ltb, ltb-false, eq-eqb, eqb-true}
 use Rattle.std.proofs.lemmas.Option.{cond_some}
-use Rattle.dns_names.specs.Names.{NameAt}
-use Rattle.dns_names.specs.Walk.{name_at}
 use Rattle.dns_names.proofs.Walking.{chosen}
 use Rattle.dns_names.proofs.Walks.{name_at-finds, name_at-is}
 use Rattle.dns_messages.specs.declared.form.Form.{Form}
@@ -18,7 +14,7 @@ use Rattle.dns_messages.specs.declared.message.Question.{Question}
 use Rattle.dns_messages.specs.declared.message.Resource.{Resource}
 use Rattle.dns_messages.specs.declared.message.Message.{Message}
 use Rattle.byteorder.specs.Endian.{big_number}
-use Rattle.gate_base.specs.Address.{◌>>=◌}
+use Rattle.gate_base.specs.Prelude.{◌>>=◌}
 use Rattle.gate_base.proofs.Quads.{bind_some}
 use Rattle.dns_messages.specs.Forms.{form_at}
 use Rattle.dns_messages.specs.Reading.{number_at, octets_at, ending, content_by, resource_at, resources_at, question_at, questions_at, message_at}
@@ -119,7 +115,7 @@ number-is w m place x e =
     let g = guard_none (ltb (length m) (place + w)) (big_number w (drop place m), place + w) x e in
     (record { within = ltb-false _ _ g.0; is = ap (λ (p : ℕ × ℕ). p.0) (sym g.1) }, ap (λ (p : ℕ × ℕ). p.1) (sym g.1))
 
-octets-is : (m : List ℕ) (place count : ℕ) (x : List ℕ × ℕ) → octets_at m place count ≡ Some x → OctetsAt m place count x.0 × (x.1 ≡ place + count)
+pub octets-is : (m : List ℕ) (place count : ℕ) (x : List ℕ × ℕ) → octets_at m place count ≡ Some x → OctetsAt m place count x.0 × (x.1 ≡ place + count)
 octets-is m place count x e =
     let g = guard_none (ltb (length m) (place + count)) (take count (drop place m), place + count) x e in
     (record { within = ltb-false _ _ g.0; are = ap (λ (p : List ℕ × ℕ). p.0) (sym g.1) }, ap (λ (p : List ℕ × ℕ). p.1) (sym g.1))
@@ -293,7 +289,7 @@ places-made o a b c d e f na nb nc nd ne nf = (
   omega (arith, na.1, nb.1, nc.1, nd.1, ne.1, nf.1),
 )
 
-abbrev body_at : List ℕ → ℕ × ℕ → ℕ × ℕ → ℕ × ℕ → ℕ × ℕ → ℕ × ℕ → ℕ × ℕ → Option Message
+abbrev pub body_at : List ℕ → ℕ × ℕ → ℕ × ℕ → ℕ × ℕ → ℕ × ℕ → ℕ × ℕ → ℕ × ℕ → Option Message
 body_at o id flags asked answered backed added = questions_at asked.0 o added.1 >>= λ question. resources_at answered.0 o question.1 >>= λ answers. resources_at backed.0 o answers.1 >>= λ authority. resources_at added.0 o authority.1 >>= λ additional. cond (eqb additional.1 (length o)) (Some (record { id = id.0; flags = flags.0; question = question.0; answers = answers.0; authority = authority.0; additional = additional.0 })) None
 
 body-is : (o : List ℕ) (id flags asked answered backed added : ℕ × ℕ) (w : Message) → NumberAt 2 o 0 id.0 → NumberAt 2 o 2 flags.0 × NumberAt 2 o 4 asked.0 × NumberAt 2 o 6 answered.0 × NumberAt 2 o 8 backed.0 × NumberAt 2 o 10 added.0 × (added.1 ≡ 12)

@@ -1,9 +1,7 @@
 -- What is read suits its types.
-use Rattle.std.proofs.Common.{◌≡◌, ℕ, ◌+◌, ◌≤◌, List, [], ◌∷◌, length, drop, ap, ◌∙◌, arith, inl, inr}
-use Rattle.std.specs.Prelude.{◌==◌, if◌then◌else◌, IfOk, Result, Ok, Err}
+use Rattle.std.proofs.Common.{◌≡◌, ℕ, ◌+◌, ◌≤◌, List, [], ◌∷◌, length, drop, ap, ◌∙◌, arith, inl, inr, ◌==◌, if◌then◌else◌, IfOk, Result, Ok, Err, eqb-true}
 use Rattle.dns_names.specs.declared.stop.NameStop.{NameStop}
 use Rattle.std.specs.List.{AllByRecursion}
-use Rattle.std.proofs.lemmas.Bool.{eqb-true}
 use Rattle.std.proofs.lemmas.List.{length-take-le, length-drop, nil_from_length}
 use Rattle.dns_messages.specs.declared.form.Form.{Form}
 use Rattle.dns_messages.specs.declared.form.Form.TheVariants as form

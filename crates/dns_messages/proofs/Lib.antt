@@ -5,3 +5,4 @@ pub mod Again
 pub mod Wrote
 pub mod Rows
 pub mod Alone
+pub mod Stopped

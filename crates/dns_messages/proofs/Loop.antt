@@ -1,11 +1,10 @@
 -- Reading records one after the other, as a loop does.
-use Rattle.std.proofs.Common.{◌≡◌, ℕ, suc, ◌-◌, ◌+◌, ◌≤◌, ◌<◌, List, [], ◌∷◌, ◌++◌, Option, Some, None, refl, sym, ap, ◌∙◌, append_assoc, arith}
-use Rattle.std.proofs.lemmas.List.{append-nil}
+use Rattle.std.proofs.Common.{◌≡◌, ℕ, suc, ◌-◌, ◌+◌, ◌≤◌, ◌<◌, List, [], ◌∷◌, ◌++◌, Option, Some, None, refl, sym, ap, ◌∙◌, append_assoc, arith, append-nil}
 use Rattle.dns_names.specs.declared.stop.NameStop.{NameStop}
 use Rattle.dns_names.specs.declared.stop.NameStop.TheVariants.{BadDns, OutOfMemory}
-use Rattle.dns_names.specs.Stops.{Fails}
+use Rattle.dns_names.specs.Prelude.{Fails}
 use Rattle.dns_messages.specs.declared.message.Resource.{Resource}
-use Rattle.gate_base.specs.Address.{◌>>=◌}
+use Rattle.gate_base.specs.Prelude.{◌>>=◌}
 use Rattle.dns_messages.specs.Reading.{resource_at, resources_at}
 
 -- what was read before, and what is still read

@@ -2,8 +2,7 @@
 use Rattle.std.proofs.Common.{◌≡◌, ℕ, ◌+◌, ◌≤◌, ◌<◌, ◌^◌, drop, get_or, List, [], ◌∷◌, ◌++◌, length, sym, ap, subst, ◌∙◌, append_assoc, arith, Result, Ok, Err}
 use Rattle.std.proofs.lemmas.List.{length-append, drop_more}
 use Rattle.byteorder.specs.Endian.{big_bytes}
-use Rattle.dns_names.specs.Spelling.{Start, Text, Added, add}
-use Rattle.dns_names.specs.Texts.{nothing}
+use Rattle.dns_names.specs.Prelude.{Start, Text, Added, add, nothing}
 use Rattle.dns_messages.specs.declared.message.Resource.{Resource}
 use Rattle.dns_messages.specs.declared.message.Message.{Message}
 use Rattle.dns_messages.specs.declared.stop.WriteStop.{WriteStop}

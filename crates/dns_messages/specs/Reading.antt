@@ -1,8 +1,8 @@
 -- Reading from a place on: what stands there, and the place after it.
 use Rattle.std.specs.Prelude.{ℕ, zero, suc, ◌+◌, ◌-◌, ◌==◌, if◌then◌else◌, nat_lt, List, [], ◌∷◌, length, take, drop, Option, Some, None}
 use Rattle.byteorder.specs.Endian.{big_number}
-use Rattle.gate_base.specs.Address.{◌>>=◌}
-use Rattle.dns_names.specs.Walk.{name_at}
+use Rattle.gate_base.specs.Prelude.{◌>>=◌}
+use Rattle.dns_names.specs.Prelude.{name_at}
 use Rattle.dns_messages.specs.declared.form.Form.{Form}
 use Rattle.dns_messages.specs.declared.form.Form.TheVariants as form
 use Rattle.dns_messages.specs.declared.message.Content.{Content}

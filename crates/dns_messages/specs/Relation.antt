@@ -1,7 +1,7 @@
 -- Which message octets are (RFC 1035, 4.1).
 use Rattle.std.specs.Prelude.{◌≡◌, ℕ, ◌+◌, ◌≤◌, List, [], ◌∷◌, length, take, drop, Option, Some, None}
 use Rattle.byteorder.specs.Endian.{big_number}
-use Rattle.dns_names.specs.Names.{NameAt}
+use Rattle.dns_names.specs.Prelude.{NameAt}
 use Rattle.dns_messages.specs.declared.form.Form.{Form}
 use Rattle.dns_messages.specs.declared.form.Form.TheVariants as form
 use Rattle.dns_messages.specs.declared.message.Content.{Content}

@@ -1,7 +1,7 @@
 -- The form that a message needs to be written, and what is known of each message.
 use Rattle.std.specs.Prelude.{◌≡◌, ◌<◌, ◌^◌, [], length, ◌⊎◌, IfSome}
 use Rattle.std.specs.List.{AllByRecursion}
-use Rattle.dns_names.specs.Names.{IsName}
+use Rattle.dns_names.specs.Prelude.{IsName}
 use Rattle.dns_messages.specs.declared.form.Form.{Form}
 use Rattle.dns_messages.specs.declared.form.Form.TheVariants as form
 use Rattle.dns_messages.specs.declared.message.Content.{Content}

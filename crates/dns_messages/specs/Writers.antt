@@ -1,6 +1,6 @@
 -- What a writer holds after more was written.
 use Rattle.std.specs.Prelude.{◌≡◌, ◌+◌, ◌≤◌, ◌^◌, length, Result, Ok, Err}
-use Rattle.dns_names.specs.Spelling.{Text, Added, add}
+use Rattle.dns_names.specs.Prelude.{Text, Added, add}
 use Rattle.dns_messages.specs.Writing.{Writer}
 use Rattle.dns_messages.specs.declared.stop.WriteStop.{WriteStop}
 use Rattle.dns_messages.specs.declared.stop.WriteStop.TheVariants.{TooLong, OutOfMemory}

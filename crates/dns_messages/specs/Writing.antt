@@ -1,7 +1,7 @@
 -- How a message is written.
 use Rattle.std.specs.Prelude.{ℕ, ◌+◌, List, [], ◌∷◌, ◌++◌, length, Option, Some, None}
 use Rattle.byteorder.specs.Endian.{big_bytes}
-use Rattle.dns_names.specs.Spelling.{Start, Added, spell}
+use Rattle.dns_names.specs.Prelude.{Start, Added, spell}
 use Rattle.dns_messages.specs.declared.message.Content.{Content}
 use Rattle.dns_messages.specs.declared.message.Content.TheVariants.{Address, One, Soa, Two, Mx, Octets}
 use Rattle.dns_messages.specs.declared.message.Question.{Question}

@@ -1,6 +1,6 @@
 // Reading messages.
 ghost use Rattle.std.specs.Prelude.{◌≡◌, ◌≤◌, take, drop, IfOk, Err};
-ghost use Rattle.dns_names.specs.Stops.{ReturnsRead};
+ghost use Rattle.dns_names.specs.Prelude.{ReturnsRead};
 ghost use Rattle.dns_messages.specs.declared.message.Message.{Message};
 ghost use Rattle.dns_messages.specs.Relation.{IsMessage};
 ghost use Rattle.dns_messages.specs.Suits.{MessageSuits};

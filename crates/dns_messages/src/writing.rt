@@ -2,8 +2,7 @@
 ghost use Rattle.std.specs.Prelude.{◌≡◌, ◌+◌, ◌<◌, ◌≤◌, ◌^◌, OnOk, IfOk, IfSome, length, Err, true, false};
 ghost use Rattle.std.specs.List.{AllByRecursion};
 ghost use Rattle.byteorder.specs.Endian.{big_bytes};
-ghost use Rattle.dns_names.specs.Names.{IsName};
-ghost use Rattle.dns_names.specs.Texts.{nothing};
+ghost use Rattle.dns_names.specs.Prelude.{IsName, nothing};
 ghost use Rattle.dns_messages.specs.Relation.{IsMessage};
 ghost use Rattle.dns_messages.specs.Suits.{HasNoRecords, MessageSuits, ContentFits, ResourceFits, QuestionFits, MessageFits};
 ghost use Rattle.dns_messages.specs.Writing.{content_written, sized, head_written, resource_written, resources_written, questions_written, header_written, question_count, message_written, spelling, put, name, ◌⨟◌};

@@ -1,14 +1,11 @@
 -- Laws of whatever is written piece by piece.
-use Rattle.std.proofs.Common.{◌≡◌, ℕ, suc, ◌+◌, ◌≤◌, true, false, List, [], ◌∷◌, ◌++◌, length, Option, Some, None, refl, sym, ap, subst, ◌∙◌, append_assoc, arith, inl, inr}
-use Rattle.std.specs.Prelude.{nat_lt}
-use Rattle.std.specs.Str.{bytes_eq}
+use Rattle.std.proofs.Common.{◌≡◌, ℕ, suc, ◌+◌, ◌≤◌, true, false, List, [], ◌∷◌, ◌++◌, length, Option, Some, None, refl, sym, ap, subst, ◌∙◌, append_assoc, arith, inl, inr, nat_lt, bytes_eq, append-nil, length-append}
 use Rattle.std.specs.List.{AllByRecursion}
 use Rattle.std.proofs.lemmas.Bool.{cases_Bool}
-use Rattle.std.proofs.lemmas.List.{append-nil, length-append}
 use Rattle.std.proofs.lemmas.Slice.Eq.{bytes_eq-Decides}
-use Rattle.dns_names.specs.Names.{spelled}
-use Rattle.dns_names.specs.Spelling.{Start, found, Added, with_start, spell_by, spell, Text, put_name}
-use Rattle.dns_names.specs.Texts.{Item, Octets, Name, IsItem, put_item, put_items, written, nothing, NamesReadBack, FoundIsLowest}
+use Rattle.dns_names.specs.Prelude.{spelled, Start, found, Added, with_start, spell_by, Text, put_name, nothing}
+use Rattle.dns_names.specs.Spelling.{spell}
+use Rattle.dns_names.specs.Texts.{Item, Octets, Name, IsItem, put_item, put_items, written, NamesReadBack, FoundIsLowest}
 use Rattle.dns_names.proofs.Walking.{chosen}
 use Rattle.dns_names.proofs.Writing.{Holds, Holds-front, AreKnown, AreKnown-later, put_name-reads}
 

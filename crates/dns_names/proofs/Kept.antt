@@ -1,7 +1,5 @@
 -- The label starts that a writer's map holds.
-use Rattle.std.proofs.Common.{◌≡◌, ℕ, ◌+◌, ◌<◌, ◌≤◌, Bool, true, false, cond, List, [], ◌∷◌, ◌++◌, Option, Some, None, refl, sym, ap, subst, ◌∙◌, arith, inl, inr}
-use Rattle.std.specs.Prelude.{nat_lt, IfSome}
-use Rattle.std.specs.Str.{bytes_eq}
+use Rattle.std.proofs.Common.{◌≡◌, ℕ, ◌+◌, ◌<◌, ◌≤◌, Bool, true, false, cond, List, [], ◌∷◌, ◌++◌, Option, Some, None, refl, sym, ap, subst, ◌∙◌, arith, inl, inr, nat_lt, IfSome, bytes_eq, append-nil}
 use Rattle.std.specs.Ordering.{is_eq, match_ordering}
 use Rattle.std.specs.declared.cmp.Ordering.{Ordering}
 use Rattle.std.specs.declared.cmp.Ordering.TheVariants.{Less, Equal, Greater}
@@ -12,14 +10,11 @@ use Rattle.std.specs.List.{AllByRecursion}
 use Rattle.std.proofs.lemmas.Bool.{cases_Bool, lt-ltb, le-ltb}
 use Rattle.std.specs.Cmp.{eq_by_cmp_equiv}
 use Rattle.std.proofs.lemmas.Slice.Eq.{bytes_eq-Decides}
-use Rattle.std.proofs.lemmas.List.{append-nil}
 use Rattle.dns_names.specs.declared.suffix.Suffix.{Suffix}
-use Rattle.dns_names.specs.Ends.{key_of, end_cmp}
+use Rattle.dns_names.specs.Prelude.{key_of, end_cmp, Start, found, with_start, EndsAt, starts_in, IsIndex}
 use Rattle.dns_names.proofs.Walking.{chosen}
 use Rattle.dns_names.proofs.Endings.{is_eq-end_cmp}
-use Rattle.dns_names.specs.Spelling.{Start, found, with_start}
-use Rattle.dns_names.specs.Longest.{EndsAt}
-use Rattle.dns_names.specs.Writers.{put_start, starts_in, place_in, IsNear, IsIndex}
+use Rattle.dns_names.specs.Writers.{put_start, place_in, IsNear}
 
 -- ---- a map by octets after an insertion, at other octets
 

@@ -1,13 +1,9 @@
 -- The longest end of a name that stands already.
-use Rattle.std.proofs.Common.{◌≡◌, ◌⊎◌, ℕ, zero, suc, ◌+◌, ◌-◌, ◌≤◌, ◌<◌, true, List, [], ◌∷◌, ◌++◌, length, drop, Option, Some, None, refl, sym, ap, subst, ◌∙◌, arith, inl, inr, slice_index_or}
-use Rattle.std.specs.Prelude.{nat_lt}
-use Rattle.std.specs.Str.{bytes_eq}
+use Rattle.std.proofs.Common.{◌≡◌, ◌⊎◌, ℕ, zero, suc, ◌+◌, ◌-◌, ◌≤◌, ◌<◌, true, List, [], ◌∷◌, ◌++◌, length, drop, Option, Some, None, refl, sym, ap, subst, ◌∙◌, arith, inl, inr, slice_index_or, nat_lt, bytes_eq, append-nil, length-drop}
 use Rattle.std.proofs.lemmas.Bool.{cases_Bool, ltb-true, ltb-false}
-use Rattle.std.proofs.lemmas.List.{append-nil, length-drop}
 use Rattle.std.proofs.lemmas.Slice.Eq.{bytes_eq-Decides}
-use Rattle.dns_names.specs.Octets.{behind}
-use Rattle.dns_names.specs.Spelling.{Start, found, with_start}
-use Rattle.dns_names.specs.Longest.{skipped, IsKept, Ends, EndsAt, IsClosed, IsBound, IsLongest, edge_by}
+use Rattle.dns_names.specs.Prelude.{behind, Start, found, with_start, skipped, Ends, EndsAt, IsLongest}
+use Rattle.dns_names.specs.Longest.{IsKept, IsClosed, IsBound, edge_by}
 use Rattle.dns_names.proofs.Walking.{chosen}
 use Rattle.dns_names.proofs.Kept.{found-push}
 

@@ -1,16 +1,12 @@
 -- Writing a name label by label.
-use Rattle.std.proofs.Common.{◌≡◌, ℕ, suc, ◌+◌, ◌≤◌, ◌<◌, false, List, [], ◌∷◌, ◌++◌, length, take, drop, Option, Some, None, refl, sym, ap, subst, ◌∙◌, append_assoc, arith, inl, inr, slice_index_or}
-use Rattle.std.specs.Prelude.{nat_lt}
+use Rattle.std.proofs.Common.{◌≡◌, ℕ, suc, ◌+◌, ◌≤◌, ◌<◌, false, List, [], ◌∷◌, ◌++◌, length, take, drop, Option, Some, None, refl, sym, ap, subst, ◌∙◌, append_assoc, arith, inl, inr, slice_index_or, nat_lt, take_at, drop_at, append-nil, length-append, length-drop, bytes_eq}
 use Rattle.std.specs.List.{AllByRecursion}
 use Rattle.std.proofs.lemmas.Bool.{cases_Bool}
-use Rattle.std.proofs.lemmas.List.{take_at, drop_at, append-nil, length-append, length-drop}
-use Rattle.std.specs.Str.{bytes_eq}
 use Rattle.std.proofs.lemmas.Slice.Eq.{bytes_eq-Decides}
 use Rattle.dns_names.proofs.Kept.{found-with_start}
-use Rattle.dns_names.specs.Names.{spelled, IsLabel}
-use Rattle.dns_names.specs.Spelling.{Start, found, pointer, Added, with_start, Text, spell, put_name, BeginsWith}
-use Rattle.dns_names.specs.Writers.{GrewBy}
-use Rattle.dns_names.specs.Longest.{Ends, EndsAt, ending}
+use Rattle.dns_names.specs.Prelude.{spelled, IsLabel, Start, found, pointer, Added, with_start, Text, put_name, BeginsWith, GrewBy, Ends, EndsAt}
+use Rattle.dns_names.specs.Spelling.{spell}
+use Rattle.dns_names.specs.Longest.{ending}
 use Rattle.dns_names.proofs.Longest.{ends-at}
 
 -- Part of a name was written; its other labels are left.

@@ -1,6 +1,6 @@
 -- What stands at a place decides how a name goes on there.
 use Rattle.std.proofs.Common.{◌≡◌, ℕ, ◌+◌, ◌<◌, List, [], ◌∷◌, length, refl, sym, ap, subst, ◌∙◌}
-use Rattle.dns_names.specs.Names.{Root, Label, Pointer, Nothing, piece_at, Stands, AtRoot, AtLabel, AtPointer}
+use Rattle.dns_names.specs.Prelude.{Root, Label, Pointer, Nothing, piece_at, Stands, AtRoot, AtLabel, AtPointer}
 
 pub record GoesOn (m : List ℕ) (start next : ℕ) (l : List ℕ) (ls : List (List ℕ)) (after : ℕ) : Type 0 where
   pub rest : List (List ℕ)

@@ -1,6 +1,5 @@
 -- Reverse names, and the octets that spell them.
-use Rattle.std.proofs.Common.{◌≡◌, ℕ, ◌+◌, ◌*◌, ◌/◌, ◌%◌, ◌≤◌, ◌<◌, ◌^◌, true, false, cond, List, [], ◌∷◌, ◌++◌, length, map, Option, Some, None, refl, sym, ap, subst, ◌∙◌, arith, decimal, inl, inr}
-use Rattle.std.specs.Prelude.{nat_lt, ◌==◌, IsSome, codes}
+use Rattle.std.proofs.Common.{◌≡◌, ℕ, ◌+◌, ◌*◌, ◌/◌, ◌%◌, ◌≤◌, ◌<◌, ◌^◌, true, false, cond, List, [], ◌∷◌, ◌++◌, length, map, Option, Some, None, refl, sym, ap, subst, ◌∙◌, arith, decimal, inl, inr, nat_lt, ◌==◌, IsSome, codes}
 use Rattle.std.specs.Str.{str_eq_ignore_ascii_case}
 use Rattle.std.specs.Char.{to_ascii_lowercase}
 use Rattle.std.proofs.lemmas.Fmt.{decimal_nonempty, length-decimal-le}
@@ -8,11 +7,11 @@ use Rattle.std.proofs.lemmas.Bool.{cases_Bool, le-ltb, and_parts}
 use Rattle.std.proofs.lemmas.Slice.Eq.{bytes_eq-Decides}
 use Rattle.std.proofs.lemmas.List.{take_at, drop_at, length-append, length-map}
 use Rattle.std.proofs.lemmas.Grind.{flat_map-append}
-use Rattle.gate_base.specs.Address.{◌>>=◌, number_of}
+use Rattle.gate_base.specs.Prelude.{◌>>=◌, number_of}
 use Rattle.gate_base.proofs.Quads.{number_again, bind_some}
-use Rattle.dns_names.specs.Names.{spelled, spelled_label, IsLabel, IsName, IsSpelled, labels_in}
-use Rattle.dns_names.specs.Reverse.{is_zone, full_reverse, numbers, with_address}
-use Rattle.dns_names.specs.Octets.{label_in, behind, reverse_in}
+use Rattle.dns_names.specs.Prelude.{spelled, spelled_label, IsLabel, IsName, IsSpelled, labels_in, numbers, with_address, label_in, behind}
+use Rattle.dns_names.specs.Reverse.{is_zone, full_reverse}
+use Rattle.dns_names.specs.Octets.{reverse_in}
 use Rattle.dns_names.proofs.Walking.{labels_in-spelled}
 
 label_in-spelled : (l : List ℕ) (ls : List (List ℕ)) → label_in (spelled (l ∷ ls)) ≡ Some (l, spelled ls)

@@ -1,9 +1,9 @@
 -- Worked rows of the definitions.
-use Rattle.std.proofs.Common.{◌≡◌, ℕ, List, [], ◌∷◌, Some, None, refl, lit<, lit≤}
-use Rattle.std.specs.Prelude.{codes}
-use Rattle.dns_names.specs.Names.{piece_at, AtRoot, AtLabel, AtPointer, NameAt}
+use Rattle.std.proofs.Common.{◌≡◌, ℕ, List, [], ◌∷◌, Some, None, refl, lit<, lit≤, codes}
+use Rattle.dns_names.specs.Prelude.{AtRoot, AtLabel, AtPointer, NameAt, Text, put_name}
+use Rattle.dns_names.specs.Names.{piece_at}
 use Rattle.dns_names.specs.Walk.{name_at}
-use Rattle.dns_names.specs.Spelling.{Text, spell, put_name}
+use Rattle.dns_names.specs.Spelling.{spell}
 use Rattle.dns_names.specs.Reverse.{full_reverse}
 use Rattle.gate_base.specs.Address.{number_of}
 

@@ -1,12 +1,11 @@
 -- Reading a name piece by piece.
-use Rattle.std.proofs.Common.{◌≡◌, ℕ, zero, suc, ◌+◌, ◌-◌, ◌≤◌, ◌<◌, Bool, true, false, cond, eqb, List, [], ◌∷◌, ◌++◌, length, take, drop, Option, Some, None, refl, sym, ap, subst, ◌∙◌, append_assoc, arith, inl, inr, ◌⊎◌}
-use Rattle.std.specs.Prelude.{nat_lt, ◌==◌}
+use Rattle.std.proofs.Common.{◌≡◌, ℕ, zero, suc, ◌+◌, ◌-◌, ◌≤◌, ◌<◌, Bool, true, false, cond, eqb, List, [], ◌∷◌, ◌++◌, length, take, drop, Option, Some, None, refl, sym, ap, subst, ◌∙◌, append_assoc, arith, inl, inr, ◌⊎◌, nat_lt, ◌==◌, take_at, drop_at, append-nil, drop-drop, length-append, length-take, length-drop, length-take-le}
 use Rattle.std.specs.List.{AllByRecursion}
 use Rattle.std.proofs.lemmas.Bool.{ltb-false, ltb-true, cases_Bool}
 use Rattle.std.proofs.Math.Seq.{take-add}
-use Rattle.std.proofs.lemmas.List.{take_at, drop_at, append-nil, drop-drop, length-append, length-take, length-drop, length-take-le}
 use Rattle.std.proofs.lemmas.Grind.{flat_map-append}
-use Rattle.dns_names.specs.Names.{Root, Label, Pointer, Nothing, piece_at, piece_of, piece_by, label_of, pointer_of, Stands, AtRoot, AtLabel, AtPointer, NameAt, spelled, spelled_label, IsLabel, IsName, split, labels_in, IsSpelled}
+use Rattle.dns_names.specs.Prelude.{Root, Label, Pointer, Nothing, Stands, AtRoot, AtLabel, AtPointer, NameAt, spelled, spelled_label, IsLabel, IsName, IsSpelled}
+use Rattle.dns_names.specs.Names.{piece_at, piece_of, piece_by, label_of, pointer_of, split, labels_in}
 use Rattle.std.specs.Option.{option_or, unwrap_or}
 use Rattle.dns_names.proofs.Reading.{at_label, at_pointer, at_nothing}
 

@@ -1,13 +1,9 @@
 -- The walk finds the name that stands at a place, and no other.
-use Rattle.std.proofs.Common.{◌≡◌, ℕ, zero, suc, ◌+◌, ◌-◌, ◌≤◌, ◌<◌, false, ltb, List, [], ◌∷◌, length, Some, None, refl, sym, ap, subst, arith, inl, inr}
-use Rattle.std.specs.Prelude.{nat_lt}
-use Rattle.std.proofs.lemmas.Bool.{ltb-false, ltb-true, le-ltb, lt-ltb}
-use Rattle.std.proofs.lemmas.List.{length-append}
-use Rattle.dns_names.specs.Names.{Piece, Root, Label, Pointer, Nothing, piece_at, Stands, AtRoot, AtLabel, AtPointer, NameAt, spelled}
+use Rattle.std.proofs.Common.{◌≡◌, ℕ, zero, suc, ◌+◌, ◌-◌, ◌≤◌, ◌<◌, false, ltb, List, [], ◌∷◌, length, Some, None, refl, sym, ap, subst, arith, inl, inr, nat_lt, ltb-false, ltb-true, le-ltb, lt-ltb, length-append, IfOk, Result, Ok, Err}
+use Rattle.dns_names.specs.Prelude.{Root, Label, Pointer, Nothing, piece_at, Stands, AtRoot, AtLabel, AtPointer, NameAt, spelled, ReturnsRead}
+use Rattle.dns_names.specs.Names.{Piece}
 use Rattle.dns_names.specs.Walk.{Walked, with_label, ending_at, walk_on, walk, name_at}
 use Rattle.dns_names.proofs.Walking.{chosen}
-use Rattle.std.specs.Prelude.{IfOk, Result, Ok, Err}
-use Rattle.dns_names.specs.Stops.{ReturnsRead}
 use Rattle.dns_names.specs.declared.stop.NameStop.{NameStop}
 use Rattle.dns_names.specs.declared.stop.NameStop.TheVariants.{BadDns, OutOfMemory}
 

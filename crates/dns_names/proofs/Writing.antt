@@ -1,13 +1,11 @@
 -- What is spelled is read back.
-use Rattle.std.proofs.Common.{◌≡◌, ℕ, suc, ◌+◌, ◌-◌, ◌*◌, ◌/◌, ◌%◌, ◌≤◌, ◌<◌, true, false, ltb, eqb, List, [], ◌∷◌, ◌++◌, length, take, drop, Option, Some, None, refl, sym, ap, subst, ◌∙◌, append_assoc, arith, inl, inr, zero-add}
-use Rattle.std.specs.Prelude.{nat_lt}
-use Rattle.std.specs.Str.{bytes_eq}
+use Rattle.std.proofs.Common.{◌≡◌, ℕ, suc, ◌+◌, ◌-◌, ◌*◌, ◌/◌, ◌%◌, ◌≤◌, ◌<◌, true, false, ltb, eqb, List, [], ◌∷◌, ◌++◌, length, take, drop, Option, Some, None, refl, sym, ap, subst, ◌∙◌, append_assoc, arith, inl, inr, zero-add, nat_lt, bytes_eq, take_at, drop_at, drop-drop, length-append, length-drop}
 use Rattle.std.specs.List.{AllByRecursion}
 use Rattle.std.proofs.lemmas.Bool.{ltb-true, le-ltb, lt-ltb, cases_Bool}
 use Rattle.std.proofs.lemmas.Slice.Eq.{bytes_eq-Decides}
-use Rattle.std.proofs.lemmas.List.{take_at, drop_at, drop-drop, length-append, length-drop}
-use Rattle.dns_names.specs.Names.{Root, Label, Pointer, piece_at, Stands, AtRoot, AtLabel, AtPointer, NameAt, spelled, IsLabel, IsName}
-use Rattle.dns_names.specs.Spelling.{Start, found, pointer, Added, with_start, spell_by, spell, Text, put_name}
+use Rattle.dns_names.specs.Prelude.{Root, Label, Pointer, Stands, AtRoot, AtLabel, AtPointer, NameAt, spelled, IsLabel, IsName, Start, found, pointer, Added, with_start, spell_by, Text, put_name}
+use Rattle.dns_names.specs.Names.{piece_at}
+use Rattle.dns_names.specs.Spelling.{spell}
 use Rattle.dns_names.proofs.Walking.{chosen}
 
 -- octets that stand in a message from a place on

@@ -10,3 +10,4 @@ pub mod Longest
 pub mod Texts
 pub mod Reverse
 pub mod Octets
+pub mod Prelude

@@ -1,6 +1,6 @@
 -- Labels in the octets that spell them.
 use Rattle.std.specs.Prelude.{ℕ, ◌==◌, if◌then◌else◌, nat_lt, List, [], ◌∷◌, length, take, drop, Option, Some, None}
-use Rattle.gate_base.specs.Address.{◌>>=◌}
+use Rattle.gate_base.specs.Prelude.{◌>>=◌}
 use Rattle.dns_names.specs.Reverse.{full_reverse}
 
 -- the label at the front, and what stands behind it

@@ -1,7 +1,7 @@
 -- Full reverse names: the names of addresses (RFC 1035, 3.5).
 use Rattle.std.specs.Prelude.{ℕ, ◌+◌, ◌*◌, ◌/◌, ◌%◌, ◌&&◌, if◌then◌else◌, Bool, List, [], ◌∷◌, ◌++◌, Option, Some, None, codes, decimal}
 use Rattle.std.specs.Str.{str_eq_ignore_ascii_case}
-use Rattle.gate_base.specs.Address.{◌>>=◌, number_of}
+use Rattle.gate_base.specs.Prelude.{◌>>=◌, number_of}
 
 -- the two labels at the end, in any case of their letters
 abbrev pub is_zone : List ℕ → List ℕ → Bool

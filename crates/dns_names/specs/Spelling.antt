@@ -1,7 +1,7 @@
 -- How names are written: label by label, until a suffix stands already (RFC 1035, 4.1.4).
 use Rattle.std.specs.Prelude.{◌≡◌, ℕ, ◌+◌, ◌/◌, ◌%◌, if◌then◌else◌, nat_lt, List, [], ◌∷◌, ◌++◌, length, Option, Some, None}
 use Rattle.std.specs.Str.{bytes_eq}
-use Rattle.gate_base.specs.Fields.{with_u16}
+use Rattle.gate_base.specs.Prelude.{with_u16}
 use Rattle.dns_names.specs.Names.{spelled}
 
 -- a label start that was written, with the labels from there on, written out

@@ -1,6 +1,5 @@
 -- Lists into which addresses are entered.
-use Rattle.std.proofs.Common.{zero, suc, Some, ◌≡◌, ◌≤◌, ◌<◌, ◌+◌, ℕ, Bool, true, false, List, [], ◌∷◌, ◌++◌, length, take, drop, refl, sym, ◌∙◌, ap, subst, arith, inl, inr, append_assoc}
-use Rattle.std.specs.Prelude.{map, Option, ◌==◌, ◌||◌, nat_lt}
+use Rattle.std.proofs.Common.{zero, suc, Some, ◌≡◌, ◌≤◌, ◌<◌, ◌+◌, ℕ, Bool, true, false, List, [], ◌∷◌, ◌++◌, length, take, drop, refl, sym, ◌∙◌, ap, subst, arith, inl, inr, append_assoc, map, Option, ◌==◌, ◌||◌, nat_lt}
 use Rattle.std.specs.List.{list_any, slice_get, slice_index_or}
 use Rattle.std.proofs.lemmas.Bool.{cases_Bool, lt-ltb}
 use Rattle.std.proofs.lemmas.List.{append-nil, length-append, length-map, map-append, take-append-drop}
@@ -8,10 +7,9 @@ use Rattle.std.proofs.lemmas.List.Folds.{list_any-append}
 use Rattle.std.proofs.lemmas.List.Sums.{fold-append}
 use Rattle.std.proofs.lemmas.Option.{slice_get_within}
 use Rattle.gate_base.specs.declared.address.Addr.{Addr}
-use Rattle.dialogue.specs.Learning.{Entry, is_of, is_listed}
-use Rattle.gate_model.specs.Lists.{enter, entered}
-use Rattle.dns_plans.specs.Plans.{beside}
-use Rattle.dns_plans.specs.Steps.{enter_one, entered_all}
+use Rattle.dialogue.specs.Prelude.{Entry, is_of, is_listed}
+use Rattle.gate_model.specs.Prelude.{enter, entered}
+use Rattle.dns_plans.specs.Prelude.{beside, enter_one, entered_all}
 
 -- entering addresses beside what they are called is entering them by it
 pub entered-beside : (called : Addr → Option Addr) (es : List Entry) (names : List Addr) → entered_all es (beside called names) ≡ entered called es names

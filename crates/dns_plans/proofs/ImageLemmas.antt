@@ -1,17 +1,17 @@
 -- The images of units, by the list of their sender once what they name is entered.
-use Rattle.std.proofs.Common.{◌≡◌, ℕ, Bool, false, List, [], ◌∷◌, ◌++◌, sym, ◌∙◌, ap, subst, append_assoc}
-use Rattle.std.specs.Prelude.{map, Option, Some, None, unwrap_or, ◌||◌}
+use Rattle.std.proofs.Common.{◌≡◌, ℕ, Bool, false, List, [], ◌∷◌, ◌++◌, sym, ◌∙◌, ap, subst, append_assoc, map, Option, Some, None, unwrap_or, ◌||◌}
 use Rattle.std.specs.Option.{option_or}
 use Rattle.std.specs.List.{list_any}
 use Rattle.std.proofs.lemmas.List.{map-append}
 use Rattle.std.proofs.lemmas.List.Elements.{All-head, All-tail, All-nil, All-cons, All-append}
 use Rattle.gate_base.specs.declared.address.Addr.{Addr}
-use Rattle.dialogue.specs.Learning.{Entry, AreImages, listed_image}
+use Rattle.dialogue.specs.Prelude.{Entry, AreImages, listed_image}
 use Rattle.dialogue.specs.declared.learns.UnitImage.{UnitImage}
 use Rattle.dialogue.proofs.ListedImages.{image_of_joined}
-use Rattle.dns_stream.specs.Images.{dns_units, image_in}
-use Rattle.gate_model.specs.Lists.{grows_too_much}
-use Rattle.dns_plans.specs.Steps.{AreRead, IsRead, unit_of, image_unit}
+use Rattle.dns_stream.specs.Prelude.{dns_units, image_in}
+use Rattle.gate_model.specs.Prelude.{grows_too_much}
+use Rattle.dns_plans.specs.Prelude.{AreRead, unit_of, image_unit}
+use Rattle.dns_plans.specs.Steps.{IsRead}
 use Rattle.dns_plans.specs.declared.named.ReadUnit.{ReadUnit}
 
 -- ## The image of an address by a list and what is new to it

@@ -1,17 +1,13 @@
 -- The way through the units of octets.
-use Rattle.std.proofs.Common.{◌≡◌, ◌≤◌, ◌+◌, ◌-◌, ℕ, Bool, true, false, List, [], ◌∷◌, ◌++◌, length, take, drop, refl, sym, ◌∙◌, ap, arith, append_assoc}
-use Rattle.std.specs.Prelude.{Some, None, map, ◌||◌}
+use Rattle.std.proofs.Common.{◌≡◌, ◌≤◌, ◌+◌, ℕ, Bool, true, false, List, [], ◌∷◌, ◌++◌, length, take, drop, refl, sym, ◌∙◌, ap, arith, append_assoc, Some, None, map, ◌||◌}
 use Rattle.std.specs.List.{flat_map, list_any}
 use Rattle.std.proofs.lemmas.List.{append-nil, length-drop, drop-drop, map-append}
 use Rattle.gate_base.specs.declared.address.Addr.{Addr}
-use Rattle.dialogue.specs.Stream.{Cut}
-use Rattle.dns_stream.specs.Images.{dns_units}
-use Rattle.dns_stream.specs.Lawful.{dns_units-lawful}
-use Rattle.dns_stream.specs.Units.{unit_end, unit_addresses}
+use Rattle.dialogue.specs.Prelude.{Cut}
+use Rattle.dns_stream.specs.Prelude.{dns_units, dns_units-lawful, unit_end, unit_addresses}
 use Rattle.dialogue.proofs.FirstUnit.{cut-first, cut-rest}
-use Rattle.gate_model.specs.Lists.{addresses_in, is_bad}
-use Rattle.dns_plans.specs.Plans.{whole_units}
-use Rattle.dns_plans.specs.Steps.{AreRead, unit_of}
+use Rattle.gate_model.specs.Prelude.{addresses_in, is_bad}
+use Rattle.dns_plans.specs.Prelude.{whole_units, AreRead, unit_of}
 use Rattle.dns_plans.specs.declared.named.ReadUnit.{ReadUnit}
 
 -- one of the units is bad

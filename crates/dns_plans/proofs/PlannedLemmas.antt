@@ -1,21 +1,17 @@
 -- Addresses that are bound, and what they are called.
-use Rattle.std.proofs.Common.{◌≡◌, ◌≢◌, true, false, List, [], ◌∷◌, length, take, drop, ◌-◌, refl, sym, ◌∙◌, ap, subst, arith, inl, inr}
-use Rattle.std.specs.Prelude.{map, Option, not, All}
+use Rattle.std.proofs.Common.{◌≡◌, ◌≢◌, true, false, List, [], ◌∷◌, length, take, drop, ◌-◌, refl, sym, ◌∙◌, ap, subst, arith, inl, inr, map, Option, not, All, take_all, length-drop}
 use Rattle.std.specs.List.{list_all, list_any}
 use Rattle.std.proofs.lemmas.Bool.{cases_Bool, or_parts, and_parts, not-true, true≢false}
-use Rattle.std.proofs.lemmas.List.{take_all, length-drop}
 use Rattle.std.proofs.lemmas.List.Elements.{All-nil, All-cons, All-head, All-tail}
 use Rattle.gate_base.specs.declared.address.Addr.{Addr}
 use Rattle.gate_base.specs.declared.side.Side.{Side}
-use Rattle.binding_table.specs.Bindings.{Bindings, cross}
+use Rattle.binding_table.specs.Prelude.{Bindings, cross, Use, AreUsesOf, after_uses, image_after, images_after}
 use Rattle.binding_table.specs.declared.binding.Crossing.TheVariants.{Unbound}
-use Rattle.binding_table.specs.Plan.{Use, AreUsesOf, after_uses, image_after, images_after}
 use Rattle.binding_table.proofs.Once.{address_is}
-use Rattle.dialogue.specs.Learning.{Entry, is_of, is_listed}
-use Rattle.gate_model.specs.Names.{is_unbound}
-use Rattle.gate_model.specs.Units.{is_new_unbound}
+use Rattle.dialogue.specs.Prelude.{Entry, is_of, is_listed}
+use Rattle.gate_model.specs.Prelude.{is_unbound, is_new_unbound}
 use Rattle.gate_model.proofs.ListsBound.{not_unbound}
-use Rattle.dns_plans.specs.Plans.{all_addresses, called_after, AreBound, IsListBound}
+use Rattle.dns_plans.specs.Prelude.{all_addresses, called_after, AreBound, IsListBound}
 use Rattle.dns_plans.specs.declared.plan.Endpoints.{Endpoints}
 
 abbrev IsBound : Bindings → Side → Addr → Type 0

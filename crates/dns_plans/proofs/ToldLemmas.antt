@@ -1,19 +1,15 @@
 -- What the tests of units tell.
-use Rattle.std.proofs.Common.{◌≡◌, ◌≤◌, ℕ, true, false, List, [], length, refl, sym, ◌∙◌, ap, arith}
-use Rattle.std.specs.Prelude.{map, nat_lt, Option, Some, None, is_some}
+use Rattle.std.proofs.Common.{◌≡◌, ◌≤◌, ℕ, true, false, List, [], length, refl, sym, ◌∙◌, ap, arith, map, nat_lt, Option, Some, None, is_some}
 use Rattle.std.specs.List.{list_any}
-use Rattle.gate_base.specs.Side.{other}
-use Rattle.gate_base.specs.Tests.{first_that_holds}
+use Rattle.gate_base.specs.Prelude.{other, first_that_holds}
 use Rattle.gate_base.specs.declared.address.Addr.{Addr}
 use Rattle.gate_base.specs.declared.refusal.Refusal.TheVariants.{RenamesFull, PoolEmpty}
-use Rattle.binding_table.specs.Bindings.{Bindings, free}
-use Rattle.binding_table.specs.Plan.{needed}
-use Rattle.dialogue.specs.Learning.{Entry}
-use Rattle.dns_stream.specs.Units.{unit_end}
-use Rattle.gate_model.specs.Lists.{entered, is_bad}
-use Rattle.gate_model.specs.Units.{is_new_unbound}
-use Rattle.dns_plans.specs.Plans.{whole_units, names_in, all_addresses, plan_tests}
-use Rattle.dns_plans.specs.Steps.{entered_all, none_tests}
+use Rattle.binding_table.specs.Prelude.{Bindings, free, needed}
+use Rattle.dialogue.specs.Prelude.{Entry}
+use Rattle.dns_stream.specs.Prelude.{unit_end}
+use Rattle.gate_model.specs.Prelude.{entered, is_bad, is_new_unbound}
+use Rattle.dns_plans.specs.Prelude.{whole_units, names_in, all_addresses, plan_tests, entered_all}
+use Rattle.dns_plans.specs.Steps.{none_tests}
 use Rattle.dns_plans.specs.declared.plan.Endpoints.{Endpoints}
 use Rattle.dns_plans.proofs.EnteredLemmas.{same_count}
 use Rattle.dns_plans.proofs.NamedLemmas.{units-first, units-none}

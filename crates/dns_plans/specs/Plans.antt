@@ -1,19 +1,16 @@
 -- What the whole units in octets do that follow a unit's end.
 use Rattle.std.specs.Prelude.{◌≡◌, ◌≢◌, ℕ, Bool, nat_lt, List, [], ◌∷◌, map, length, Option, Some, All}
 use Rattle.std.specs.List.{list_any}
-use Rattle.gate_base.specs.Side.{other}
+use Rattle.gate_base.specs.Prelude.{other}
 use Rattle.gate_base.specs.declared.address.Addr.{Addr}
 use Rattle.gate_base.specs.declared.refusal.Refusal.{Refusal}
 use Rattle.gate_base.specs.declared.refusal.Refusal.TheVariants.{BadUnit, UnitUnbound, RenamesFull, PoolEmpty, UnitGrows}
 use Rattle.gate_base.specs.declared.side.Side.{Side}
-use Rattle.binding_table.specs.Bindings.{Bindings, cross, free}
+use Rattle.binding_table.specs.Prelude.{Bindings, cross, free, Use, after_uses, image_after, needed}
 use Rattle.binding_table.specs.declared.binding.Crossing.TheVariants.{Unbound}
-use Rattle.binding_table.specs.Plan.{Use, after_uses, image_after, needed}
-use Rattle.dialogue.specs.Learning.{Entry}
-use Rattle.dialogue.specs.Stream.{cut}
-use Rattle.dns_stream.specs.Images.{dns_units}
-use Rattle.gate_model.specs.Lists.{most_entries, addresses_in, entered, is_bad, grows_too_much}
-use Rattle.gate_model.specs.Units.{is_new_unbound}
+use Rattle.dialogue.specs.Prelude.{Entry, cut}
+use Rattle.dns_stream.specs.Prelude.{dns_units}
+use Rattle.gate_model.specs.Prelude.{most_entries, addresses_in, entered, is_bad, grows_too_much, is_new_unbound}
 use Rattle.dns_plans.specs.declared.plan.Endpoints.{Endpoints}
 use Rattle.dns_plans.specs.declared.stop.PlanStop.{PlanStop}
 use Rattle.dns_plans.specs.declared.stop.PlanStop.TheVariants.{Refused, OutOfMemory}

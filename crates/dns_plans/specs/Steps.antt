@@ -1,17 +1,16 @@
 -- Units that are read; entering addresses that stand beside what they are called, and the tests where no unit is whole.
 use Rattle.std.specs.Prelude.{◌≡◌, ◌≤◌, ℕ, Bool, if◌then◌else◌, nat_lt, List, [], ◌∷◌, ◌++◌, length, Some, All}
 use Rattle.std.specs.List.{fold}
-use Rattle.gate_base.specs.Side.{other}
+use Rattle.gate_base.specs.Prelude.{other}
 use Rattle.gate_base.specs.declared.refusal.Refusal.{Refusal}
 use Rattle.gate_base.specs.declared.refusal.Refusal.TheVariants.{RenamesFull, PoolEmpty}
-use Rattle.binding_table.specs.Bindings.{Bindings, free}
-use Rattle.binding_table.specs.Plan.{needed}
-use Rattle.dialogue.specs.Learning.{Entry, is_listed}
+use Rattle.binding_table.specs.Prelude.{Bindings, free, needed}
+use Rattle.dialogue.specs.Prelude.{Entry, is_listed}
 use Rattle.dialogue.specs.declared.learns.UnitImage.{UnitImage}
 use Rattle.dns_messages.specs.Suits.{MessageSuits}
 use Rattle.dns_messages.specs.declared.message.Message.{Message}
-use Rattle.dns_stream.specs.Units.{message_in}
-use Rattle.gate_model.specs.Lists.{most_entries}
+use Rattle.dns_stream.specs.Prelude.{message_in}
+use Rattle.gate_model.specs.Prelude.{most_entries}
 use Rattle.dns_plans.specs.Plans.{all_addresses}
 use Rattle.dns_plans.specs.declared.named.ReadUnit.{ReadUnit}
 use Rattle.dns_plans.specs.declared.plan.Endpoints.{Endpoints}

@@ -1,10 +1,9 @@
 // What the addresses in units are called.
 ghost use Rattle.std.specs.Prelude.{◌≡◌, not, nat_lt, true, List, Option, map, length, IfOk};
-ghost use Rattle.gate_base.specs.Side.{other};
+ghost use Rattle.gate_base.specs.Prelude.{other};
 ghost use Rattle.gate_base.specs.declared.address.Addr.{Addr};
-ghost use Rattle.binding_table.specs.Bindings.{free};
-ghost use Rattle.binding_table.specs.Plan.{Use, AreUsesOf, needed};
-ghost use Rattle.dialogue.specs.Learning.{Entry};
+ghost use Rattle.binding_table.specs.Prelude.{free, Use, AreUsesOf, needed};
+ghost use Rattle.dialogue.specs.Prelude.{Entry};
 ghost use Rattle.dns_plans.specs.Plans.{all_addresses, called_after, beside, AreBound};
 
 use crate::plan::Endpoints;

@@ -1,9 +1,7 @@
 // Addresses that are entered into a list.
 ghost use Rattle.std.specs.Prelude.{◌≡◌, ◌≤◌, ◌++◌, true, not, is_none, nat_lt, length, IfOk, IfSome};
 ghost use Rattle.std.specs.List.{list_any};
-ghost use Rattle.gate_model.specs.Lists.{most_entries};
-ghost use Rattle.gate_model.specs.Names.{is_unbound};
-ghost use Rattle.gate_model.specs.Units.{is_new_unbound};
+ghost use Rattle.gate_model.specs.Prelude.{most_entries, is_unbound, is_new_unbound};
 ghost use Rattle.dns_plans.specs.Steps.{enter_one, entered_all};
 
 use crate::sender::Sender;

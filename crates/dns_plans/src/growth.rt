@@ -1,9 +1,9 @@
 // The images of units, by the list of their sender once what they name is entered.
 ghost use Rattle.std.specs.Prelude.{◌≡◌, ◌++◌, map, is_none, IfOk, IfSome};
 ghost use Rattle.std.specs.List.{list_any};
-ghost use Rattle.dialogue.specs.Learning.{AreImages};
-ghost use Rattle.dns_stream.specs.Images.{dns_units, image_in};
-ghost use Rattle.gate_model.specs.Lists.{grows_too_much};
+ghost use Rattle.dialogue.specs.Prelude.{AreImages};
+ghost use Rattle.dns_stream.specs.Prelude.{dns_units, image_in};
+ghost use Rattle.gate_model.specs.Prelude.{grows_too_much};
 ghost use Rattle.dns_plans.specs.Steps.{AreRead, IsRead, unit_of, image_unit};
 
 use crate::named::ReadUnit;

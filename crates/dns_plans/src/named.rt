@@ -2,7 +2,7 @@
 ghost use Rattle.std.specs.Prelude.{◌≡◌, ◌++◌, ◌∷◌, [], true, false, map, Err, IfOk, OnOk};
 ghost use Rattle.std.specs.List.{list_any};
 ghost use Rattle.dns_stream.specs.declared.stop.UnitStop.TheVariants as stop;
-ghost use Rattle.gate_model.specs.Lists.{addresses_in, is_bad};
+ghost use Rattle.gate_model.specs.Prelude.{addresses_in, is_bad};
 ghost use Rattle.dns_plans.specs.Plans.{whole_units, names_in};
 ghost use Rattle.dns_plans.specs.Steps.{AreRead, IsReadAs, unit_of};
 

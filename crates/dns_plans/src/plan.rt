@@ -1,9 +1,9 @@
 // What units do.
 ghost use Rattle.std.specs.Prelude.{◌≡◌, ◌≢◌, ◌≤◌, List, ◌∷◌, [], None, Err, length, map, IfOk, IfErr};
-ghost use Rattle.dialogue.specs.Learning.{AreImages};
-ghost use Rattle.dns_stream.specs.Images.{dns_units};
-ghost use Rattle.gate_base.specs.Tests.{first_that_holds};
-ghost use Rattle.binding_table.specs.Plan.{Use, AreUsesOf};
+ghost use Rattle.dialogue.specs.Prelude.{AreImages};
+ghost use Rattle.dns_stream.specs.Prelude.{dns_units};
+ghost use Rattle.gate_base.specs.Prelude.{first_that_holds};
+ghost use Rattle.binding_table.specs.Prelude.{Use, AreUsesOf};
 ghost use Rattle.dns_plans.specs.Steps.{entered_all, image_unit, none_tests};
 ghost use Rattle.dns_plans.specs.Plans.{whole_units, names_in, all_addresses, called_after, beside, AreBound, IsListBound, plan_tests, TellsFirst};
 

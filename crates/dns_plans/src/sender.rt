@@ -1,6 +1,6 @@
 // The host of a session that sends a segment.
 ghost use Rattle.std.specs.Prelude.{◌≡◌, ◌≤◌, length};
-ghost use Rattle.dialogue.specs.Learning.{is_listed, listed_image};
+ghost use Rattle.dialogue.specs.Prelude.{is_listed, listed_image};
 
 use crate::session::Session;
 use gate_base::{Addr, Host};

@@ -1,10 +1,9 @@
 // Sessions that are tracked, whatever they keep.
 ghost use Rattle.std.specs.Prelude.{◌≡◌, ◌≤◌, ◌<◌, length, slice_get, None, Some};
-ghost use Rattle.dialogue.specs.Learning.{listed_image};
-ghost use Rattle.stream_model.specs.Session.{segment_in};
+ghost use Rattle.dialogue.specs.Prelude.{listed_image};
+ghost use Rattle.stream_model.specs.Prelude.{segment_in};
 ghost use Rattle.dns_plans.specs.Plans.{whole_units};
-ghost use Rattle.gate_model.specs.Rules.{SessionRules};
-ghost use Rattle.gate_model.specs.World.{host_on};
+ghost use Rattle.gate_model.specs.Prelude.{SessionRules, host_on};
 
 use crate::octets::UnitOctets;
 use dns_stream::Entry;

@@ -1,20 +1,18 @@
 -- What a sorted list says of an address, and what an entry that is put in its place does to it.
-use Rattle.std.proofs.Common.{◌≡◌, ℕ, zero, suc, ◌+◌, ◌-◌, ◌<◌, ◌≤◌, eqb, ◌≢◌, Bool, true, false, cond, List, [], ◌∷◌, ◌++◌, length, get_or, Some, None, Result, Ok, Err, IfOk, IfErr, refl, sym, ◌∙◌, ap, subst, arith}
-use Rattle.std.specs.Prelude.{Option, option_map}
-use Rattle.std.specs.List.{insert, find}
+use Rattle.std.proofs.Common.{◌≡◌, ℕ, zero, suc, ◌+◌, ◌-◌, ◌<◌, ◌≤◌, eqb, ◌≢◌, Bool, true, false, cond, List, [], ◌∷◌, ◌++◌, length, get_or, Some, None, Result, Ok, Err, IfOk, IfErr, refl, sym, ◌∙◌, ap, subst, arith, Option, option_map, insert, find, eqb-true}
 use Rattle.std.specs.Option.{option_or}
 use Rattle.std.specs.List.Sorted.{IsSearchInRange, IsBinarySearchResult, IsNonDecreasingBy}
 use Rattle.std.specs.Ordering.{nat_cmp, ordering_index}
-use Rattle.std.proofs.lemmas.Bool.{eqb-true}
 use Rattle.std.proofs.lemmas.Bool.Decides.{nat_tests}
 use Rattle.std.proofs.lemmas.Cmp.{ranked}
 use Rattle.std.proofs.lemmas.List.{length_push, get_or_read}
 use Rattle.std.proofs.lemmas.List.Sorted.{IsNonDecreasingBy-from_default}
 use Rattle.std.proofs.lemmas.List.Edits.{length-insert, get_or-insert_below, get_or-insert_at, get_or-insert_above}
 use Rattle.gate_base.specs.declared.address.Addr.{Addr}
-use Rattle.dialogue.specs.Learning.{Entry, is_of, listed_image}
+use Rattle.dialogue.specs.Prelude.{Entry, is_of, listed_image}
 use Rattle.dialogue.proofs.ListedImages.{image_of_joined}
-use Rattle.dns_stream.specs.Order.{no_entry, address_at, Rises, IsAt, IsGapFor, AreOneList}
+use Rattle.dns_stream.specs.Prelude.{AreOneList}
+use Rattle.dns_stream.specs.Order.{no_entry, address_at, Rises, IsAt, IsGapFor}
 
 -- ---- a look-up, by an entry at a time
 

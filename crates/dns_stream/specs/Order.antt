@@ -1,6 +1,6 @@
 -- A list of entries, and the same entries in the order of their addresses.
 use Rattle.std.specs.Prelude.{◌≡◌, ℕ, ◌<◌, ◌≤◌, List, length, slice_index_or, None}
-use Rattle.dialogue.specs.Learning.{Entry, listed_image}
+use Rattle.dialogue.specs.Prelude.{Entry, listed_image}
 
 -- stands where a list has no entry
 abbrev pub no_entry : Entry

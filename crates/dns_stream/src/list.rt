@@ -1,6 +1,6 @@
 // The list of addresses by which one direction of a session is renamed.
 ghost use Rattle.std.specs.Prelude.{◌≡◌, ◌≤◌, ◌<◌, ◌+◌, false, List, [], ◌∷◌, ◌++◌, length, take, slice_get, Some, vec_len, vec_capacity, IfOk, IfErr};
-ghost use Rattle.dialogue.specs.Learning.{Entry, is_listed, listed_image};
+ghost use Rattle.dialogue.specs.Prelude.{Entry, is_listed, listed_image};
 ghost use Rattle.dns_stream.specs.Order.{Rises, IsAt, IsGapFor, AreOneList};
 
 use gate_base::{Addr, OutOfMemory};
@@ -24,7 +24,7 @@ pub struct RenameList {
 
 impl Model for RenameList {
     ghost use Rattle.std.specs.Prelude.{◌≤◌, List, vec_capacity};
-    ghost use Rattle.dialogue.specs.Learning.{Entry};
+    ghost use Rattle.dialogue.specs.Prelude.{Entry};
     ghost use Rattle.dns_stream.specs.Order.{AreOneList};
 
     ghost Value = { List Entry };

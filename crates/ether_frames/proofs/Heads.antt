@@ -1,10 +1,9 @@
 -- The head of a frame, written part by part.
-use Rattle.std.proofs.Common.{◌≡◌, ℕ, false, nat_lt, Some, List, [], ◌++◌, take, drop, length, sym, ap, ◌∙◌, append_assoc, append-nil, length-append, arith}
+use Rattle.std.proofs.Common.{◌≡◌, ℕ, false, nat_lt, Some, List, [], ◌++◌, take, drop, length, sym, ap, ◌∙◌, append_assoc, append-nil, length-append, arith, le-ltb}
 use Rattle.std.proofs.lemmas.List.{length-drop, take_at, drop_at, drop_all, drop-drop}
-use Rattle.std.proofs.lemmas.Bool.{le-ltb}
 use borrow.Rule.Slice.PartMut.{put_mid}
 use Rattle.byteorder.specs.Endian.{big_bytes, big_number}
-use Rattle.gate_base.specs.Fields.{with_u16}
+use Rattle.gate_base.specs.Prelude.{with_u16}
 use Rattle.ether_frames.specs.Ether.{Ether, ipv4_head, ipv4_type, read_frame}
 
 -- two addresses and what stands behind them, once the type was put there

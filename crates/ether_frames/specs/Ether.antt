@@ -1,7 +1,7 @@
 -- Ethernet frames (RFC 894).
 use Rattle.std.specs.Prelude.{ℕ, ◌==◌, nat_lt, if◌then◌else◌, List, [], ◌++◌, drop, length, Option, Some, None}
 use Rattle.byteorder.specs.Endian.{big_bytes}
-use Rattle.gate_base.specs.Fields.{u16_at}
+use Rattle.gate_base.specs.Prelude.{u16_at}
 use Rattle.gate_base.specs.declared.side.Link.{Link}
 use Rattle.gate_base.specs.declared.side.Link.TheVariants.{Ethernet, Raw}
 

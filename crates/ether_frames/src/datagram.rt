@@ -1,6 +1,6 @@
 // The datagram that a frame carries (RFC 894).
 ghost use Rattle.std.specs.Prelude.{◌≡◌};
-ghost use Rattle.gate_base.specs.Events.{event_of};
+ghost use Rattle.gate_base.specs.Prelude.{event_of};
 ghost use Rattle.ether_frames.specs.Ether.{read_frame, carried, octets_in};
 
 use crate::head::IPV4;

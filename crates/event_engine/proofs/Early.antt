@@ -1,14 +1,11 @@
 -- The tests of a frame before those of its kind.
 use Rattle.std.proofs.Common.{◌≡◌, Option, None, sym, ap, ◌∙◌}
 use Rattle.std.specs.Option.{option_or}
-use Rattle.gate_base.specs.Events.{Event}
-use Rattle.gate_base.specs.Tests.{first_that_holds}
+use Rattle.gate_base.specs.Prelude.{Event, first_that_holds}
 use Rattle.gate_base.specs.declared.refusal.Refusal.{Refusal}
 use Rattle.gate_frames.specs.Judged.{front_tests}
 use Rattle.gate_frames.proofs.Tests.{first-append}
-use Rattle.gate_model.specs.Frame.{datagram_in}
-use Rattle.gate_model.specs.Verdict.{address_tests}
-use Rattle.gate_model.specs.World.{World}
+use Rattle.gate_model.specs.Prelude.{datagram_in, address_tests, World}
 use Rattle.event_engine.specs.Lost.{early_tests}
 
 -- where none holds of the frame by itself, the first is that of its addresses

@@ -6,20 +6,15 @@ use Rattle.gate_base.specs.declared.refusal.Refusal.{Refusal}
 use Rattle.gate_base.specs.declared.side.Side.{Side}
 use Rattle.gate_base.proofs.Sides.{same_side-itself}
 use Rattle.gate_base.specs.declared.host.Host.TheVariants.{Client, Server}
-use Rattle.binding_table.specs.Bindings.{Bindings}
+use Rattle.binding_table.specs.Prelude.{Bindings}
 use Rattle.ipv4_frames.specs.Ipv4.{Datagram}
-use Rattle.tcp_segments.specs.Tcp.{Tcp}
-use Rattle.tcp_segments.specs.Flags.{flags_of}
-use Rattle.tcp_tracker.specs.Connections.{connection_of}
+use Rattle.tcp_segments.specs.Prelude.{Tcp, flags_of}
+use Rattle.tcp_tracker.specs.Prelude.{connection_of}
 use Rattle.tcp_tracker.specs.declared.connection.ConnKey.{ConnKey}
-use Rattle.stream_model.specs.Session.{segment_in}
-use Rattle.gate_model.specs.Frame.{Stream, is_tracked_port}
-use Rattle.gate_model.specs.Rules.{SessionRules}
-use Rattle.gate_model.specs.Stream.{tcp_of, segment_of, key_in, is_opening, pair_in, made_by, session_refusal, ends_by}
-use Rattle.gate_model.specs.Verdict.{table_after}
-use Rattle.gate_model.specs.World.{World, host_on}
+use Rattle.stream_model.specs.Prelude.{segment_in}
+use Rattle.gate_model.specs.Prelude.{Stream, is_tracked_port, SessionRules, tcp_of, segment_of, key_in, is_opening, pair_in, made_by, session_refusal, ends_by, table_after, World, host_on}
 use Rattle.gate_payloads.specs.declared.addresses.Way.{Way}
-use Rattle.event_steps.specs.Segments.{made_on, pair_on}
+use Rattle.event_steps.specs.Prelude.{made_on, pair_on}
 use Rattle.event_steps.proofs.SegmentTests.{IsFirst, first_is}
 use Rattle.event_engine.specs.Engines.{HasLaws}
 

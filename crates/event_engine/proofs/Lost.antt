@@ -1,15 +1,10 @@
 -- Segments for which memory runs out.
-use Rattle.std.proofs.Common.{◌≡◌, ℕ, true, List, [], Option, Some, None, Result, Ok, Err, refl, sym, inl, inr}
-use Rattle.std.specs.Prelude.{IsErr}
+use Rattle.std.proofs.Common.{◌≡◌, ℕ, true, List, [], Some, None, Result, Ok, Err, refl, sym, inl, inr, IsErr}
 use Rattle.gate_base.specs.declared.event.OutOfMemory.{OutOfMemory}
 use Rattle.gate_base.specs.declared.side.Side.{Side}
 use Rattle.ipv4_frames.specs.Ipv4.{Datagram}
-use Rattle.gate_model.specs.Frame.{Stream}
-use Rattle.gate_model.specs.Rules.{SessionRules}
-use Rattle.gate_model.specs.Stream.{segment_of, found_in, session_in, begins, session_refusal}
-use Rattle.gate_model.specs.World.{Tracked, World, host_on}
-use Rattle.event_steps.specs.SegmentFate.{CompletesUnit}
-use Rattle.event_steps.specs.Segments.{stream_refusal}
+use Rattle.gate_model.specs.Prelude.{Stream, SessionRules, segment_of, found_in, session_in, begins, session_refusal, Tracked, World, host_on}
+use Rattle.event_steps.specs.Prelude.{CompletesUnit, stream_refusal}
 use Rattle.event_engine.specs.Engines.{Gives}
 use Rattle.event_engine.specs.Lost.{IsLost, IsSegmentDone}
 use Rattle.event_engine.specs.declared.taken.Taken.{Taken}

@@ -1,21 +1,15 @@
 -- Datagrams that go out whole, and where memory runs out for them.
-use Rattle.std.proofs.Common.{◌≡◌, ℕ, true, false, List, [], Option, Some, None, refl, sym, ap, ◌∙◌, subst, inl}
-use Rattle.std.proofs.Common.{◌==◌, Result, Ok, Err}
-use Rattle.std.specs.Prelude.{IfOk, OnErr}
+use Rattle.std.proofs.Common.{◌≡◌, ℕ, true, false, List, [], Option, Some, None, refl, sym, ap, ◌∙◌, subst, inl, ◌==◌, Result, Ok, Err, IfOk, OnErr}
 use Rattle.gate_base.specs.declared.event.OutOfMemory.{OutOfMemory}
 use Rattle.gate_base.specs.declared.refusal.Refusal.{Refusal}
 use Rattle.gate_base.specs.declared.side.Side.{Side}
-use Rattle.binding_table.specs.Bindings.{Bindings}
+use Rattle.binding_table.specs.Prelude.{Bindings}
 use Rattle.ipv4_frames.specs.Ipv4.{Datagram}
-use Rattle.gate_base.specs.Tests.{first_that_holds}
-use Rattle.gate_model.specs.Frame.{Kind, Dns, Stream, udp_kind, icmp_kind, kind_of}
-use Rattle.gate_model.specs.Rules.{SessionRules}
-use Rattle.gate_model.specs.Verdict.{address_tests, world_tests}
-use Rattle.gate_model.specs.World.{World}
-use Rattle.gate_payloads.specs.Taken.{IsTaken}
+use Rattle.gate_base.specs.Prelude.{first_that_holds}
+use Rattle.gate_model.specs.Prelude.{Kind, Dns, Stream, udp_kind, icmp_kind, kind_of, SessionRules, address_tests, world_tests, World}
+use Rattle.gate_payloads.specs.Prelude.{IsTaken}
 use Rattle.gate_payloads.specs.declared.addresses.Way.{Way}
-use Rattle.event_steps.specs.Passed.{IsPassed}
-use Rattle.event_steps.specs.Segments.{refusal_as}
+use Rattle.event_steps.specs.Prelude.{IsPassed, refusal_as}
 use Rattle.event_steps.proofs.Taking.{IsAllowed, leaves_connections, taken_as, told_kinds, udp_leaves, icmp_leaves, udp_is, icmp_is, tcp_is}
 use Rattle.event_engine.specs.Engines.{Gives}
 use Rattle.event_engine.specs.Given.{IsGiven, taken_whole, result_whole}

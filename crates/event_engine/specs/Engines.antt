@@ -6,17 +6,12 @@ use Rattle.gate_base.specs.declared.side.Side.{Side}
 use Rattle.gate_base.specs.declared.host.Host.{Host}
 use Rattle.gate_base.specs.declared.host.Host.TheVariants.{Client}
 use Rattle.ipv4_frames.specs.Ipv4.{Datagram}
-use Rattle.tcp_segments.specs.Tcp.{Tcp}
-use Rattle.tcp_segments.specs.Flags.{flags_of}
-use Rattle.stream_model.specs.Session.{Segment, segment_in}
-use Rattle.gate_model.specs.Held.{HasLists}
-use Rattle.gate_model.specs.Rules.{SessionRules}
-use Rattle.gate_model.specs.Stream.{segment_of, is_opening}
-use Rattle.gate_model.specs.World.{Tracked, host_on}
-use Rattle.gate_payloads.specs.Ways.{image_by}
+use Rattle.tcp_segments.specs.Prelude.{Tcp, flags_of}
+use Rattle.stream_model.specs.Prelude.{Segment, segment_in}
+use Rattle.gate_model.specs.Prelude.{HasLists, SessionRules, segment_of, is_opening, Tracked, host_on}
+use Rattle.gate_payloads.specs.Prelude.{image_by}
 use Rattle.gate_payloads.specs.declared.addresses.Way.{Way}
-use Rattle.event_steps.specs.Passed.{Tells}
-use Rattle.event_steps.specs.Segments.{waiting_after}
+use Rattle.event_steps.specs.Prelude.{Tells, waiting_after}
 use Rattle.event_engine.specs.declared.stepped.Stepped.{Stepped}
 
 -- what is told of datagrams that pass; what is told of a segment by what its session handed out and the datagrams that it put; whether all stays as it was where memory runs out for a datagram; and the segments for which a session may want it

@@ -4,10 +4,8 @@ use Rattle.gate_base.specs.declared.event.OutOfMemory.{OutOfMemory}
 use Rattle.gate_base.specs.declared.refusal.Refusal.{Refusal}
 use Rattle.gate_base.specs.declared.side.Side.{Side}
 use Rattle.ipv4_frames.specs.Ipv4.{Datagram}
-use Rattle.gate_model.specs.Frame.{Kind}
-use Rattle.gate_model.specs.Rules.{SessionRules}
-use Rattle.gate_model.specs.World.{World}
-use Rattle.event_steps.specs.Passed.{IsPassed}
+use Rattle.gate_model.specs.Prelude.{Kind, SessionRules, World}
+use Rattle.event_steps.specs.Prelude.{IsPassed}
 use Rattle.event_engine.specs.Engines.{Gives}
 use Rattle.event_engine.specs.declared.taken.Taken.{Taken}
 use Rattle.event_engine.specs.declared.taken.Taken.TheVariants.{Refused, Whole, Cut}

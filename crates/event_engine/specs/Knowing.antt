@@ -1,6 +1,6 @@
 -- What is known from event to event.
-use Rattle.gate_model.specs.World.{World}
-use Rattle.event_steps.specs.Passed.{world_of}
+use Rattle.gate_model.specs.Prelude.{World}
+use Rattle.event_steps.specs.Prelude.{world_of}
 use Rattle.event_engine.specs.declared.state.State.{State}
 
 abbrev pub world_in : {S : Type 0} → State S → World S

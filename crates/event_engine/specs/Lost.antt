@@ -1,18 +1,13 @@
 -- What becomes of a datagram, or where memory runs out for it.
 use Rattle.std.specs.Prelude.{◌≡◌, ◌⊎◌, ◌++◌, ℕ, Bool, true, List, [], Option, Some, None, Result, Ok, Err}
-use Rattle.gate_base.specs.Events.{Event}
+use Rattle.gate_base.specs.Prelude.{Event}
 use Rattle.gate_base.specs.declared.event.OutOfMemory.{OutOfMemory}
 use Rattle.gate_base.specs.declared.refusal.Refusal.{Refusal}
 use Rattle.gate_base.specs.declared.side.Side.{Side}
 use Rattle.ipv4_frames.specs.Ipv4.{Datagram}
 use Rattle.gate_frames.specs.Judged.{front_tests}
-use Rattle.gate_model.specs.Frame.{Kind, Dns, Stream, datagram_in, kind_of}
-use Rattle.gate_model.specs.Rules.{SessionRules}
-use Rattle.gate_model.specs.Stream.{begins, found_in, segment_of, session_in, session_refusal}
-use Rattle.gate_model.specs.Verdict.{address_tests}
-use Rattle.gate_model.specs.World.{Tracked, World, host_on}
-use Rattle.event_steps.specs.SegmentFate.{CompletesUnit}
-use Rattle.event_steps.specs.Segments.{refusal_as}
+use Rattle.gate_model.specs.Prelude.{Kind, Dns, Stream, datagram_in, kind_of, SessionRules, begins, found_in, segment_of, session_in, session_refusal, address_tests, Tracked, World, host_on}
+use Rattle.event_steps.specs.Prelude.{CompletesUnit, refusal_as}
 use Rattle.event_engine.specs.Engines.{Gives}
 use Rattle.event_engine.specs.Given.{IsGiven}
 use Rattle.event_engine.specs.declared.taken.Taken.{Taken}

@@ -2,9 +2,9 @@
 ghost use Rattle.std.specs.Prelude.{◌≡◌, ◌≤◌, Option, [], length, IfOk, OnErr, OnOk};
 ghost use Rattle.gate_base.specs.declared.address.Addr.{Addr};
 ghost use Rattle.gate_base.specs.declared.host.Host.TheVariants.{Client};
-ghost use Rattle.stream_model.specs.Session.{segment_in};
+ghost use Rattle.stream_model.specs.Prelude.{segment_in};
 ghost use Rattle.gate_model.specs.Stream as streams;
-ghost use Rattle.event_steps.specs.Segments.{IsSegmentOf, AreCalled, Enters};
+ghost use Rattle.event_steps.specs.Prelude.{IsSegmentOf, AreCalled, Enters};
 ghost use Rattle.event_engine.specs.Engines.{Gives, IsStepped, IsUnstepped};
 
 use crate::stepped::Stepped;

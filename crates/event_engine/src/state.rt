@@ -1,22 +1,16 @@
 // What is known from event to event, and what a frame changes of it.
 ghost use Rattle.std.specs.Prelude.{◌≡◌, ◌≤◌, false, ◌==◌, [], length, IfOk};
-ghost use Rattle.gate_base.specs.Moments.{IsMoment};
+ghost use Rattle.gate_base.specs.Prelude.{IsMoment, event_of, first_that_holds};
 ghost use Rattle.twice_translate.specs.Renamed.{CanGoOn, datagram_of};
 ghost use Rattle.gate_model.specs.Frame as kinds;
-ghost use Rattle.gate_model.specs.World.{opening_world, at_moment};
-ghost use Rattle.gate_model.specs.Held.{KeepsListed};
-ghost use Rattle.gate_payloads.specs.Taken.{IsWayOf, IsTaken};
+ghost use Rattle.gate_model.specs.Prelude.{opening_world, at_moment, KeepsListed, datagram_in, kind_of, tests, world_tests, address_tests};
+ghost use Rattle.gate_payloads.specs.Prelude.{IsWayOf, IsTaken};
 ghost use Rattle.gate_frames.specs.Frames.{IsJudged};
 ghost use Rattle.event_engine.specs.Engines.{HasLaws};
 ghost use Rattle.event_engine.specs.Knowing.{world_in};
 ghost use Rattle.event_engine.specs.Lost.{early_tests, IsDone};
-ghost use Rattle.gate_base.specs.Events.{event_of};
-ghost use Rattle.gate_settings.specs.Sound.{IsSound};
-ghost use Rattle.gate_settings.specs.Forms.{HasForms};
+ghost use Rattle.gate_settings.specs.Prelude.{IsSound, HasForms};
 ghost use Rattle.udp_icmp.specs.Icmp.{icmp_fields_of};
-ghost use Rattle.gate_base.specs.Tests.{first_that_holds};
-ghost use Rattle.gate_model.specs.Frame.{datagram_in, kind_of};
-ghost use Rattle.gate_model.specs.Verdict.{tests, world_tests, address_tests};
 
 use crate::engine::Engine;
 use crate::taken::{Taken, whole, whole_of};

@@ -1,16 +1,14 @@
 // TCP segments, their connections and their sessions.
 ghost use Rattle.std.specs.Prelude.{◌≡◌, ◌&&◌, [], true, Option, None, Some, IfOk, OnErr, OnOk};
-ghost use Rattle.gate_base.specs.Moments.{IsMoment};
+ghost use Rattle.gate_base.specs.Prelude.{IsMoment};
 ghost use Rattle.gate_base.specs.declared.address.Addr.{Addr};
-ghost use Rattle.tcp_tracker.specs.Connections.{connection_of};
-ghost use Rattle.tcp_tracker.specs.Joined.{replaced};
+ghost use Rattle.tcp_tracker.specs.Prelude.{connection_of, replaced};
 ghost use Rattle.gate_model.specs.Frame as kinds;
 ghost use Rattle.gate_model.specs.Stream as streams;
-ghost use Rattle.gate_model.specs.Held.{KeepsListed};
+ghost use Rattle.gate_model.specs.Prelude.{KeepsListed};
 ghost use Rattle.gate_model.specs.World as worlds;
-ghost use Rattle.gate_payloads.specs.Taken.{IsWayOf};
-ghost use Rattle.event_steps.specs.SegmentFate.{IsPlanOf};
-ghost use Rattle.event_steps.specs.Segments.{IsSegmentOf, AreCalled, Enters, made_on, pair_on};
+ghost use Rattle.gate_payloads.specs.Prelude.{IsWayOf};
+ghost use Rattle.event_steps.specs.Prelude.{IsPlanOf, IsSegmentOf, AreCalled, Enters, made_on, pair_on};
 ghost use Rattle.event_engine.specs.Engines.{HasLaws, IsStepped, IsUnstepped};
 ghost use Rattle.event_engine.specs.Knowing.{world_in};
 ghost use Rattle.event_engine.specs.Lost.{IsSegmentDone};
@@ -169,12 +167,11 @@ impl<S: Engine> State<S> {
             images: mem::replace(&mut plan.units.images, Vec::new(alloc)),
             entries: &plan.units.entries,
         };
+        let taken = SegmentOn { way, key, segment };
         let stepped = step_session(
             &mut self.connections,
             &mut self.workspace,
-            way,
-            key,
-            segment,
+            taken,
             completed,
             outbox,
         )?;
@@ -259,43 +256,59 @@ impl<S: Engine> State<S> {
     }
 }
 
+/// A segment of a connection: its way, the name of the connection, and the segment.
+#[derive(Clone, Copy)]
+struct SegmentOn<'a> {
+    way: &'a Way,
+    key: &'a ConnKey,
+    segment: &'a Segment<'a>,
+}
+
 /// The session of a connection takes a segment, whose units bring these entries and images.
 fn step_session<S: Engine>(
     connections: &mut SessionTable<Tracked<S>>,
     workspace: &mut Workspace,
-    way: &Way,
-    key: &ConnKey,
-    segment: &Segment<'_>,
+    taken: SegmentOn<'_>,
     completed: Completed<'_>,
     outbox: &mut Outbox,
 ) -> Result<Stepped<S::Sent>, OutOfMemory>
     requires enters { (t : worlds.Tracked S)
-        → streams.session_in (connection_of key.now connections.old) ≡ Some t
-        → Enters S.rules way.now.side segment.now.datagram.now t completed.entries.now
-        completed.images.items }
+        → streams.session_in (connection_of taken.key.now connections.old) ≡ Some t
+        → Enters S.rules taken.way.now.side taken.segment.now.datagram.now t
+        completed.entries.now completed.images.items }
     requires empty { outbox.old ≡ [] }
-    requires whole { IsSegmentOf segment.now.octets.now segment.now.datagram.now
-        segment.now.tcp.now }
+    requires whole { IsSegmentOf taken.segment.now.octets.now
+        taken.segment.now.datagram.now taken.segment.now.tcp.now }
     ensures next { (image : Addr → Option Addr) (t : worlds.Tracked S)
-        → streams.session_in (connection_of key.now connections.old) ≡ Some t
-        → AreCalled S.rules image way.now.side segment.now.datagram.now t
-        completed.entry.entries.now
+        → streams.session_in (connection_of taken.entry.key.now connections.old) ≡ Some t
+        → AreCalled S.rules image taken.entry.way.now.side
+        taken.entry.segment.now.datagram.now t completed.entry.entries.now
         → OnOk result (connections.new
-        ≡ replaced connections.old key.now (streams.stepped S.rules image
-        way.now.side segment.now.datagram.now t)) }
+        ≡ replaced connections.old taken.entry.key.now (streams.stepped S.rules image
+        taken.entry.way.now.side taken.entry.segment.now.datagram.now t)) }
     ensures stepped { (image : Addr → Option Addr) (t : worlds.Tracked S)
-        → streams.session_in (connection_of key.now connections.old) ≡ Some t
-        → AreCalled S.rules image way.now.side segment.now.datagram.now t
-        completed.entry.entries.now
-        → IfOk result (λ s. IsStepped S.rules S.gives image way.now
-        segment.now.datagram.now t s outbox.new) }
+        → streams.session_in (connection_of taken.entry.key.now connections.old) ≡ Some t
+        → AreCalled S.rules image taken.entry.way.now.side
+        taken.entry.segment.now.datagram.now t completed.entry.entries.now
+        → IfOk result (λ s. IsStepped S.rules S.gives image taken.entry.way.now
+        taken.entry.segment.now.datagram.now t s outbox.new) }
     ensures lost { (t : worlds.Tracked S)
-        → streams.session_in (connection_of key.now connections.old) ≡ Some t
-        → OnErr result (IsUnstepped S.gives way.now.side segment.now.datagram.now t
-        connections.old connections.new outbox.new) }
+        → streams.session_in (connection_of taken.entry.key.now connections.old) ≡ Some t
+        → OnErr result (IsUnstepped S.gives taken.entry.way.now.side
+        taken.entry.segment.now.datagram.now t connections.old connections.new
+        outbox.new) }
 {
-    match connections.session_mut(key) {
-        Some(tracked) => S::take(tracked, workspace, way, segment, completed, outbox),
+    match connections.session_mut(taken.key) {
+        Some(tracked) => {
+            S::take(
+                tracked,
+                workspace,
+                taken.way,
+                taken.segment,
+                completed,
+                outbox,
+            )
+        }
         None => Err(OutOfMemory),
     }
 }

@@ -1,26 +1,19 @@
 -- ICMP errors, refused for the datagram inside, or passed.
-use Rattle.std.proofs.Common.{◌≡◌, ◌+◌, ℕ, Bool, true, false, not, ◌||◌, List, [], ◌∷◌, ◌++◌, Option, Some, None, Result, Ok, Err, refl, sym, ap, ◌∙◌}
-use Rattle.std.specs.Prelude.{option_and_then, is_none, unwrap_or, if◌then◌else◌}
+use Rattle.std.proofs.Common.{◌≡◌, ◌+◌, ℕ, Bool, true, false, not, ◌||◌, List, [], ◌∷◌, ◌++◌, Option, Some, None, Result, Ok, Err, refl, sym, ap, ◌∙◌, option_and_then, is_none, unwrap_or, if◌then◌else◌}
 use Rattle.gate_base.specs.declared.address.Addr.{Addr}
 use Rattle.gate_base.specs.declared.refusal.Refusal.{Refusal}
 use Rattle.gate_base.specs.declared.refusal.Refusal.TheVariants.{BadInner, InnerUnbound, PoolEmpty}
 use Rattle.gate_base.specs.declared.side.Side.{Side}
-use Rattle.binding_table.specs.Bindings.{Bindings, seen}
-use Rattle.binding_table.specs.Plan.{after_uses}
+use Rattle.binding_table.specs.Prelude.{Bindings, seen, after_uses}
 use Rattle.icmp_errors.specs.Inner.{is_inner, inner_fields, read_inner, inner_with}
 use Rattle.icmp_errors.specs.declared.BadInner.{BadInner as NoInner}
 use Rattle.icmp_errors.specs.declared.Inner.{Inner}
 use Rattle.ipv4_frames.specs.Ipv4.{Datagram}
-use Rattle.gate_base.specs.Tests.{first_that_holds}
+use Rattle.gate_base.specs.Prelude.{first_that_holds}
 use Rattle.twice_translate.specs.Renamed.{renamed}
-use Rattle.gate_model.specs.Frame.{Error}
-use Rattle.gate_model.specs.Inner.{inside, with_inside, inner_number, inner_after, is_unknown, is_inner_unbound}
-use Rattle.gate_model.specs.Verdict.{icmp_timeout, kind_tests, is_pool_empty}
-use Rattle.gate_model.specs.Units.{uses_until}
-use Rattle.gate_model.specs.World.{World, source_of, destination_of, called}
-use Rattle.gate_model.specs.Rules.{SessionRules}
-use Rattle.gate_payloads.specs.Taken.{IsTaken, IsWayOf}
-use Rattle.gate_payloads.specs.Ways.{image_by, is_empty, header_uses}
+use Rattle.gate_model.specs.Prelude.{Error, inside, with_inside, inner_number, is_unknown, is_inner_unbound, icmp_timeout, kind_tests, is_pool_empty, uses_until, World, source_of, destination_of, called, SessionRules}
+use Rattle.gate_model.specs.Inner.{inner_after}
+use Rattle.gate_payloads.specs.Prelude.{IsTaken, IsWayOf, image_by, is_empty, header_uses}
 use Rattle.gate_payloads.specs.declared.addresses.Way.{Way}
 use Rattle.gate_payloads.proofs.HeadersOnly.{are_images, empty_is, uses_are}
 

@@ -1,28 +1,24 @@
 -- What a segment's session lists isn't unbound, nor are both addresses of its header.
-use Rattle.std.proofs.Common.{◌≡◌, ◌≢◌, List, [], ◌∷◌, map, Option, Some, None, sym, ap, subst, ◌∙◌}
-use Rattle.std.specs.Prelude.{IfSome, unwrap_or}
+use Rattle.std.proofs.Common.{◌≡◌, ◌≢◌, List, [], ◌∷◌, map, Option, Some, None, sym, ap, subst, ◌∙◌, IfSome, unwrap_or}
 use Rattle.std.specs.List.{AllByRecursion}
 use Rattle.std.proofs.lemmas.List.Elements.{All-nil, All-cons}
 use Rattle.gate_base.specs.declared.address.Addr.{Addr}
 use Rattle.gate_base.specs.declared.side.Side.{Side}
-use Rattle.binding_table.specs.Bindings.{Bindings, cross, seen_by, is_settled}
+use Rattle.binding_table.specs.Prelude.{Bindings, cross, seen_by, is_settled}
 use Rattle.binding_table.specs.declared.binding.Crossing.TheVariants.{Unbound}
-use Rattle.dialogue.specs.Learning.{Entry}
+use Rattle.dialogue.specs.Prelude.{Entry}
 use Rattle.ipv4_frames.specs.Ipv4.{Datagram}
-use Rattle.tcp_tracker.specs.Connections.{connection_of}
+use Rattle.tcp_tracker.specs.Prelude.{connection_of}
 use Rattle.tcp_tracker.specs.declared.connection.ConnKey.{ConnKey}
 use Rattle.tcp_tracker.specs.declared.connection.Connection.{Connection}
-use Rattle.gate_model.specs.Held.{KeepsListed, ListsCross, EntryCrosses}
-use Rattle.gate_model.specs.Stream.{session_in}
-use Rattle.gate_model.specs.World.{Tracked, World, host_on, source_of}
-use Rattle.gate_model.specs.Rules.{SessionRules}
+use Rattle.gate_model.specs.Prelude.{KeepsListed, ListsCross, EntryCrosses, session_in, Tracked, World, host_on, source_of, SessionRules}
 use Rattle.gate_model.proofs.ListsWorld.{lists_cross, sender_side}
 use Rattle.gate_model.proofs.Tracking.{all_found}
 use Rattle.gate_model.proofs.ListsKept.{known_unbound}
-use Rattle.gate_payloads.specs.Taken.{IsWayOf}
+use Rattle.gate_payloads.specs.Prelude.{IsWayOf}
 use Rattle.gate_payloads.specs.declared.addresses.Way.{Way}
 use Rattle.gate_payloads.proofs.DnsTaken.{settled_bound}
-use Rattle.dns_plans.specs.Plans.{AreBound, IsListBound}
+use Rattle.dns_plans.specs.Prelude.{AreBound, IsListBound}
 
 crosses_bound : (table : Bindings) (side : Side) (entry : Entry) → EntryCrosses table side entry → cross table side entry.0 ≢ Unbound
 crosses_bound table side entry h u = let none : None ≡ Some (unwrap_or entry.1 entry.0) = sym (ap (seen_by entry.0) u) ∙ h in absurd (cc)

@@ -1,26 +1,17 @@
 -- A segment that no session takes, or that begins one: it completes no unit, and uses the addresses of its header alone.
 use Rattle.std.proofs.Common.{◌≡◌, ℕ, ◌+◌, ◌&&◌, not, Bool, true, false, List, [], ◌∷◌, ◌++◌, length, nat_lt, Option, Some, None, refl, ap, ◌∙◌}
-use Rattle.gate_base.specs.Tests.{unless_refused}
+use Rattle.gate_base.specs.Prelude.{unless_refused, other}
 use Rattle.std.specs.List.{list_any}
 use Rattle.std.proofs.lemmas.Bool.{and_parts}
-use Rattle.gate_base.specs.Side.{other}
 use Rattle.gate_base.specs.declared.address.Addr.{Addr}
 use Rattle.gate_base.specs.declared.refusal.Refusal.{Refusal}
 use Rattle.gate_base.specs.declared.refusal.Refusal.TheVariants.{BadUnit, UnitUnbound, RenamesFull, UnitGrows}
 use Rattle.gate_base.specs.declared.side.Side.{Side}
-use Rattle.binding_table.specs.Bindings.{Bindings, free}
-use Rattle.binding_table.specs.Plan.{after_uses, needed}
-use Rattle.dialogue.specs.Learning.{Entry}
+use Rattle.binding_table.specs.Prelude.{Bindings, free, after_uses, needed}
+use Rattle.dialogue.specs.Prelude.{Entry}
 use Rattle.ipv4_frames.specs.Ipv4.{Datagram}
-use Rattle.tcp_segments.specs.Flags.{flags_of}
-use Rattle.gate_model.specs.Frame.{Udp, Stream, is_tracked_port}
-use Rattle.gate_model.specs.Held.{HasLists}
-use Rattle.gate_model.specs.Lists.{most_entries, addresses_in, entered, is_bad, grows_too_much}
-use Rattle.gate_model.specs.Stream.{tcp_of, segment_of, is_opening, found_in, session_in, stream_timeout, made_by, pair_in}
-use Rattle.gate_model.specs.Units.{uses_until, units_in, names_in, entries_in, uses_of_lists, is_new_unbound, unit_tests, growth_tests}
-use Rattle.gate_model.specs.Verdict.{is_pool_empty, table_after}
-use Rattle.gate_model.specs.World.{Tracked, World, addresses_of, host_on}
-use Rattle.gate_model.specs.Rules.{SessionRules}
+use Rattle.tcp_segments.specs.Prelude.{flags_of}
+use Rattle.gate_model.specs.Prelude.{Udp, Stream, is_tracked_port, HasLists, most_entries, addresses_in, entered, is_bad, grows_too_much, tcp_of, segment_of, is_opening, found_in, session_in, stream_timeout, made_by, pair_in, uses_until, units_in, names_in, entries_in, uses_of_lists, is_new_unbound, unit_tests, growth_tests, is_pool_empty, table_after, Tracked, World, addresses_of, host_on, SessionRules}
 
 -- no unit is completed in the session that takes the segment, and nothing is listed
 pub record NamesNothing {S : Type 0} (rules : SessionRules S) (side : Side) (d : Datagram) (taker : Option (Tracked S)) : Type 0 where

@@ -1,20 +1,16 @@
 -- Connections, their sessions and the segments that pass on them.
-use Rattle.std.proofs.Common.{◌≡◌, ℕ, zero, suc, ◌+◌, Bool, true, false, not, ◌&&◌, ◌||◌, cond, List, [], ◌∷◌, set, position, Option, Some, None, option_map, is_some, is_none, refl, sym, ap, ◌∙◌}
-use Rattle.std.specs.Prelude.{option_and_then, slice_get, if◌then◌else◌}
+use Rattle.std.proofs.Common.{◌≡◌, ℕ, zero, suc, ◌+◌, Bool, true, false, not, ◌&&◌, ◌||◌, cond, List, [], ◌∷◌, set, position, Option, Some, None, option_map, is_some, is_none, refl, sym, ap, ◌∙◌, option_and_then, slice_get, if◌then◌else◌, length-set, set-set}
 use Rattle.std.specs.List.{remove, position_or_len}
-use Rattle.std.proofs.lemmas.List.{length-set, set-set}
 use Rattle.gate_base.specs.declared.event.Moment.{Moment}
 use Rattle.gate_base.specs.declared.side.Side.{Side}
 use Rattle.gate_base.specs.declared.side.Side.TheVariants.{Left, Right}
 use Rattle.gate_base.proofs.Lists.{remove_set}
-use Rattle.tcp_segments.specs.Flags.{flags_of}
-use Rattle.tcp_tracker.specs.Connections.{is_of, place_of, connection_of, is_reset, starts_anew, unused, kept, with_flags, held, after, changed, noted, without, timeout_of, timeout_or_short, kept_or_begun, short_timeout, with_session}
+use Rattle.tcp_segments.specs.Prelude.{flags_of}
+use Rattle.tcp_tracker.specs.Prelude.{is_of, place_of, connection_of, is_reset, starts_anew, unused, kept, with_flags, held, after, changed, noted, without, timeout_of, timeout_or_short, kept_or_begun, short_timeout, with_session, replaced}
 use Rattle.tcp_tracker.specs.declared.connection.ConnKey.{ConnKey}
 use Rattle.tcp_tracker.specs.declared.connection.Connection.{Connection}
-use Rattle.tcp_tracker.specs.Joined.{replaced}
 use Rattle.tcp_tracker.proofs.Joining.{place_none}
-use Rattle.gate_model.specs.Stream.{session_in}
-use Rattle.gate_model.specs.World.{Tracked}
+use Rattle.gate_model.specs.Prelude.{session_in, Tracked}
 
 -- ## An element at a place
 

@@ -1,41 +1,28 @@
 -- The tests of a segment in their order, and the session that takes it.
-use Rattle.std.proofs.Common.{◌≡◌, ℕ, Bool, true, false, not, ◌&&◌, ◌||◌, nat_le, ◌<◌, arith, List, [], ◌∷◌, ◌++◌, length, count_by, Option, Some, None, is_some, refl, sym, ap, ◌∙◌}
-use Rattle.std.specs.Prelude.{if◌then◌else◌}
+use Rattle.std.proofs.Common.{◌≡◌, ℕ, Bool, true, false, not, ◌&&◌, ◌||◌, nat_le, ◌<◌, arith, List, [], ◌∷◌, ◌++◌, length, count_by, Option, Some, None, is_some, refl, sym, ap, ◌∙◌, if◌then◌else◌}
 use Rattle.std.specs.Option.{option_or}
 use Rattle.std.proofs.lemmas.Bool.{and_parts, and_right}
 use Rattle.std.proofs.lemmas.List.Elements.{All-nil}
-use Rattle.dialogue.specs.Meaning.{Meaning}
-use Rattle.dialogue.specs.Learning.{AreImages}
+use Rattle.dialogue.specs.Prelude.{Meaning, AreImages}
 use Rattle.dialogue.specs.declared.learns.UnitImage.{UnitImage}
-use Rattle.dns_stream.specs.Images.{dns_units}
+use Rattle.dns_stream.specs.Prelude.{dns_units}
 use Rattle.gate_base.specs.declared.refusal.Refusal.{Refusal}
 use Rattle.gate_base.specs.declared.refusal.Refusal.TheVariants.{NoSession, BadUnit, UnitUnbound, RenamesFull, SessionsFull, PoolEmpty, UnitGrows}
 use Rattle.gate_base.specs.declared.side.Side.{Side}
-use Rattle.binding_table.specs.Bindings.{Bindings}
+use Rattle.binding_table.specs.Prelude.{Bindings}
 use Rattle.ipv4_frames.specs.Ipv4.{Datagram}
-use Rattle.tcp_segments.specs.Tcp.{Tcp}
-use Rattle.tcp_segments.specs.Flags.{flags_of}
-use Rattle.tcp_tracker.specs.Connections.{connection_of, is_tracked}
+use Rattle.tcp_segments.specs.Prelude.{Tcp, flags_of}
+use Rattle.tcp_tracker.specs.Prelude.{connection_of, is_tracked}
 use Rattle.tcp_tracker.specs.declared.connection.ConnKey.{ConnKey}
 use Rattle.tcp_tracker.specs.declared.connection.Connection.{Connection}
-use Rattle.gate_base.specs.Tests.{first_that_holds}
-use Rattle.gate_model.specs.Held.{HasLists}
-use Rattle.gate_model.specs.Frame.{Stream, is_tracked_port}
-use Rattle.gate_model.specs.Step.{taker_in}
-use Rattle.gate_model.specs.Stream.{most_connections, most_sessions, tcp_of, segment_of, key_in, found_in, session_in, is_opening, lacks_session, is_full, made_by, taker_by, session_refusal}
-use Rattle.gate_model.specs.Units.{unit_tests, growth_tests}
-use Rattle.gate_model.specs.Verdict.{refusal_tests, is_pool_empty, late_tests, table_after, image_in}
-use Rattle.gate_model.specs.World.{Tracked, World, host_on}
-use Rattle.gate_payloads.specs.Taken.{IsWayOf}
-use Rattle.gate_payloads.specs.Ways.{is_empty}
+use Rattle.gate_base.specs.Prelude.{first_that_holds}
+use Rattle.gate_model.specs.Prelude.{HasLists, Stream, is_tracked_port, taker_in, most_connections, most_sessions, tcp_of, segment_of, key_in, found_in, session_in, is_opening, lacks_session, is_full, made_by, taker_by, session_refusal, unit_tests, growth_tests, refusal_tests, is_pool_empty, late_tests, table_after, image_in, Tracked, World, host_on, addresses_in, SessionRules}
+use Rattle.gate_payloads.specs.Prelude.{IsWayOf, is_empty}
 use Rattle.gate_payloads.specs.declared.addresses.Way.{Way}
 use Rattle.gate_payloads.proofs.HeadersOnly.{empty_is}
 use Rattle.gate_base.specs.declared.address.Addr.{Addr}
-use Rattle.gate_model.specs.Lists.{addresses_in}
-use Rattle.gate_model.specs.Rules.{SessionRules}
-use Rattle.dns_plans.specs.Plans.{beside}
-use Rattle.dns_plans.specs.Steps.{entered_all}
-use Rattle.event_steps.specs.Segments.{stream_refusal, room_tests, lacks_place, AreCalled, Enters, made_on, pair_on}
+use Rattle.dns_plans.specs.Prelude.{beside, entered_all}
+use Rattle.event_steps.specs.Prelude.{stream_refusal, room_tests, lacks_place, AreCalled, Enters, made_on, pair_on}
 use Rattle.event_steps.proofs.NoUnits.{NamesNothing, none_names, made_names, syn_held, tests_none, growth_none, pool_is}
 
 -- the first test that holds, where no unit is completed

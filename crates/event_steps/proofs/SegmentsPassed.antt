@@ -1,38 +1,26 @@
 -- Segments that pass, and those for which memory runs out.
-use Rattle.std.proofs.Common.{◌≡◌, ℕ, ◌+◌, max, Bool, true, false, ◌&&◌, List, [], ◌∷◌, Option, Some, None, option_map, refl, sym, ap, ◌∙◌, arith}
-use Rattle.std.specs.Prelude.{if◌then◌else◌, unwrap_or}
+use Rattle.std.proofs.Common.{◌≡◌, ℕ, ◌+◌, max, Bool, true, false, ◌&&◌, List, [], ◌∷◌, Option, Some, None, option_map, refl, sym, ap, ◌∙◌, arith, if◌then◌else◌, unwrap_or}
 use Rattle.std.specs.Option.{option_or}
 use Rattle.gate_base.specs.declared.address.Addr.{Addr}
 use Rattle.gate_base.specs.declared.event.Moment.{Moment}
 use Rattle.gate_base.specs.declared.event.Pair.{Pair}
 use Rattle.gate_base.specs.declared.refusal.Refusal.{Refusal}
 use Rattle.gate_base.specs.declared.side.Side.{Side}
-use Rattle.binding_table.specs.Bindings.{Bindings, cross, is_settled}
-use Rattle.binding_table.specs.Plan.{after_uses}
+use Rattle.binding_table.specs.Prelude.{Bindings, cross, is_settled, after_uses}
 use Rattle.ipv4_frames.specs.Ipv4.{Datagram}
-use Rattle.tcp_segments.specs.Tcp.{Tcp}
-use Rattle.tcp_segments.specs.Flags.{flags_of}
-use Rattle.tcp_tracker.specs.Connections.{connection_of, timeout_of, short_timeout, noted, without, changed, place_of, after, with_session}
+use Rattle.tcp_segments.specs.Prelude.{Tcp, flags_of}
+use Rattle.tcp_tracker.specs.Prelude.{connection_of, timeout_of, short_timeout, noted, without, changed, place_of, after, with_session, replaced}
 use Rattle.tcp_tracker.specs.declared.connection.ConnKey.{ConnKey}
 use Rattle.tcp_tracker.specs.declared.connection.Connection.{Connection}
-use Rattle.tcp_tracker.specs.Joined.{replaced}
 use Rattle.twice_translate.specs.Renamed.{datagram_of, renamed}
-use Rattle.gate_base.specs.Tests.{first_that_holds, unless_refused}
-use Rattle.gate_model.specs.Frame.{Stream, is_tracked_port}
-use Rattle.gate_model.specs.Step.{taker_in, with_connection}
-use Rattle.gate_model.specs.Stream.{tcp_of, key_in, found_in, session_in, begins, is_opening, pair_in, made_by, session_refusal, stepped, ends_by, stream_timeout, connection_after, connections_with, pending_by, pending_in}
-use Rattle.gate_model.specs.Verdict.{table_after}
-use Rattle.gate_model.specs.Units.{uses_until}
-use Rattle.gate_model.specs.World.{Tracked, World, called, source_of, destination_of}
-use Rattle.gate_model.specs.Rules.{SessionRules}
-use Rattle.gate_payloads.specs.Taken.{IsWayOf}
-use Rattle.gate_payloads.specs.Ways.{image_by, is_empty, header_uses}
+use Rattle.gate_base.specs.Prelude.{first_that_holds, unless_refused}
+use Rattle.gate_model.specs.Prelude.{Stream, is_tracked_port, taker_in, with_connection, tcp_of, key_in, found_in, session_in, begins, is_opening, pair_in, made_by, session_refusal, stepped, ends_by, stream_timeout, connection_after, connections_with, pending_by, pending_in, table_after, uses_until, Tracked, World, called, source_of, destination_of, SessionRules}
+use Rattle.gate_payloads.specs.Prelude.{IsWayOf, image_by, is_empty, header_uses}
 use Rattle.gate_payloads.specs.declared.addresses.Way.{Way}
 use Rattle.gate_payloads.proofs.Passes.{source_called, destination_called}
 use Rattle.gate_payloads.proofs.HeadersOnly.{of_source_is, of_destination_is, uses_are}
-use Rattle.event_steps.specs.Passed.{world_of, Tells, IsSegmentTaken}
-use Rattle.event_steps.specs.Segments.{stream_refusal, room_tests, lacks_place, waiting_after, pair_on, made_on}
-use Rattle.event_steps.specs.SegmentFate.{image_of}
+use Rattle.event_steps.specs.Prelude.{world_of, Tells, stream_refusal, room_tests, lacks_place, waiting_after, pair_on, made_on, image_of}
+use Rattle.event_steps.specs.Passed.{IsSegmentTaken}
 use Rattle.event_steps.proofs.NotedConnections.{noted_replaced, noted_untracked, noted_begun, without_replaced, session_left, session_begun, none_left}
 use Rattle.event_steps.proofs.NoUnits.{table_is}
 use Rattle.event_steps.proofs.SegmentTests.{IsJoined, joined_refusal, room_none, session_takes}

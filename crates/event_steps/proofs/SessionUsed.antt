@@ -1,40 +1,27 @@
 -- A segment that a session takes by a plan: what it enters, and what is used.
-use Rattle.std.proofs.Common.{◌≡◌, ◌≢◌, ◌≤◌, ◌+◌, ℕ, false, List, [], ◌∷◌, ◌++◌, length, take, Option, Some, refl, sym, ap, subst, ◌∙◌, arith}
-use Rattle.gate_base.specs.Tests.{unless_refused}
-use Rattle.std.specs.List.{All}
-use Rattle.std.proofs.lemmas.Bool.{le-ltb}
-use Rattle.std.proofs.lemmas.List.{length-append}
-use Rattle.gate_base.specs.Side.{other}
+use Rattle.std.proofs.Common.{◌≡◌, ◌≢◌, ◌≤◌, ◌+◌, ℕ, false, List, [], ◌∷◌, ◌++◌, length, take, Option, Some, refl, sym, ap, subst, ◌∙◌, arith, All, le-ltb, length-append}
+use Rattle.gate_base.specs.Prelude.{unless_refused, other}
 use Rattle.gate_base.specs.declared.address.Addr.{Addr}
 use Rattle.gate_base.specs.declared.refusal.Refusal.{Refusal}
 use Rattle.gate_base.specs.declared.side.Side.{Side}
 use Rattle.gate_base.specs.declared.host.Host.{Host}
 use Rattle.gate_base.specs.declared.host.Host.TheVariants.{Client, Server}
-use Rattle.binding_table.specs.Bindings.{Bindings, cross, free}
-use Rattle.binding_table.specs.Lawful.{IsLawful}
-use Rattle.binding_table.specs.Plan.{Use, after_uses, needed}
+use Rattle.binding_table.specs.Prelude.{Bindings, cross, free, IsLawful, Use, after_uses, needed}
 use Rattle.binding_table.specs.declared.binding.Crossing.TheVariants.{Unbound}
-use Rattle.dialogue.specs.Learning.{Entry, AreImages}
+use Rattle.dialogue.specs.Prelude.{Entry, AreImages}
 use Rattle.dialogue.specs.declared.learns.UnitImage.{UnitImage}
-use Rattle.dns_stream.specs.Images.{dns_units}
+use Rattle.dns_stream.specs.Prelude.{dns_units}
 use Rattle.ipv4_frames.specs.Ipv4.{Datagram}
-use Rattle.gate_model.specs.Held.{HasLists}
-use Rattle.gate_model.specs.Lists.{addresses_in, entered, renamed_in}
-use Rattle.gate_model.specs.Stream.{segment_of, stepped, stream_timeout}
-use Rattle.gate_model.specs.Units.{uses_until, names_in, uses_of_lists}
-use Rattle.gate_model.specs.World.{Tracked, World, addresses_of, source_of, destination_of, host_on}
-use Rattle.gate_model.specs.Rules.{SessionRules}
+use Rattle.gate_model.specs.Prelude.{HasLists, addresses_in, entered, renamed_in, segment_of, stepped, stream_timeout, uses_until, names_in, uses_of_lists, Tracked, World, addresses_of, source_of, destination_of, host_on, SessionRules}
 use Rattle.gate_model.proofs.ListsKept.{needed_front, all_front}
 use Rattle.gate_model.proofs.ListsWorld.{lists_grow}
-use Rattle.dns_plans.specs.Plans.{beside}
-use Rattle.dns_plans.specs.Steps.{entered_all}
+use Rattle.dns_plans.specs.Prelude.{beside, entered_all}
 use Rattle.dns_plans.proofs.EnteredLemmas.{entered-beside}
-use Rattle.gate_payloads.specs.Taken.{IsWayOf}
-use Rattle.gate_payloads.specs.Ways.{is_empty}
+use Rattle.gate_payloads.specs.Prelude.{IsWayOf, is_empty}
 use Rattle.gate_payloads.specs.declared.addresses.Way.{Way}
 use Rattle.gate_payloads.proofs.HeadersOnly.{empty_is}
-use Rattle.event_steps.specs.SegmentFate.{image_of, IsPlanOf, uses_planned}
-use Rattle.event_steps.specs.Segments.{AreCalled, Enters}
+use Rattle.event_steps.specs.Prelude.{image_of, IsPlanOf, AreCalled, Enters}
+use Rattle.event_steps.specs.SegmentFate.{uses_planned}
 use Rattle.event_steps.specs.declared.found.SegmentPlan.{SegmentPlan}
 use Rattle.event_steps.proofs.SegmentsPassed.{AreUsed, source_is, destination_is}
 use Rattle.event_steps.proofs.UnitsUsed.{until_of, table_with, header_called}

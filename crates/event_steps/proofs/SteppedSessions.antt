@@ -1,18 +1,14 @@
 -- A session that takes a segment, by what is seen of it.
-use Rattle.std.proofs.Common.{◌≡◌, ℕ, Bool, List, Option, Some, None, sym, ap, ◌∙◌}
-use Rattle.std.specs.Prelude.{if◌then◌else◌}
+use Rattle.std.proofs.Common.{◌≡◌, ℕ, Bool, List, Option, Some, None, sym, ap, ◌∙◌, if◌then◌else◌}
 use Rattle.gate_base.specs.declared.address.Addr.{Addr}
 use Rattle.gate_base.specs.declared.event.Pair.{Pair}
 use Rattle.gate_base.specs.declared.side.Side.{Side}
 use Rattle.gate_base.specs.declared.host.Host.{Host}
-use Rattle.dialogue.specs.Learning.{Entry}
+use Rattle.dialogue.specs.Prelude.{Entry}
 use Rattle.ipv4_frames.specs.Ipv4.{Datagram}
-use Rattle.gate_model.specs.Lists.{addresses_in}
-use Rattle.gate_model.specs.Stream.{segment_of, stepped}
-use Rattle.gate_model.specs.World.{Tracked, host_on}
-use Rattle.gate_model.specs.Rules.{SessionRules}
-use Rattle.dns_plans.specs.Plans.{beside}
-use Rattle.event_steps.specs.Segments.{AreCalled, waiting_after}
+use Rattle.gate_model.specs.Prelude.{addresses_in, segment_of, stepped, Tracked, host_on, SessionRules}
+use Rattle.dns_plans.specs.Prelude.{beside}
+use Rattle.event_steps.specs.Prelude.{AreCalled, waiting_after}
 
 abbrev pub seen_as : {S : Type 0} → Side → Pair → S → Tracked S
 seen_as client pair session = record { client = client; pair = pair; session = session }

@@ -1,15 +1,10 @@
 -- An event, by its first test that holds.
 use Rattle.std.proofs.Common.{◌≡◌, ◌++◌, Option, Some, None, refl, sym, ap, ◌∙◌}
 use Rattle.std.specs.Option.{option_or}
-use Rattle.gate_base.specs.Events.{Event}
+use Rattle.gate_base.specs.Prelude.{Event, first_that_holds}
 use Rattle.gate_base.specs.declared.refusal.Refusal.{Refusal}
-use Rattle.gate_base.specs.Tests.{first_that_holds}
-use Rattle.gate_model.specs.Frame.{datagram_in, header_tests, datagram_tests, transport_tests, kind_of}
-use Rattle.gate_model.specs.Step.{after_kind, next_by}
-use Rattle.gate_model.specs.Verdict.{tests, world_tests, verdict_of}
-use Rattle.gate_model.specs.World.{World}
-use Rattle.gate_model.specs.Rules.{SessionRules}
-use Rattle.event_steps.specs.Passed.{left_as}
+use Rattle.gate_model.specs.Prelude.{datagram_in, header_tests, datagram_tests, transport_tests, kind_of, after_kind, next_by, tests, world_tests, verdict_of, World, SessionRules}
+use Rattle.event_steps.specs.Prelude.{left_as}
 use Rattle.gate_frames.specs.Judged.{front_tests}
 use Rattle.gate_frames.proofs.Tests.{first-append, front_is}
 

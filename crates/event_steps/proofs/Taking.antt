@@ -1,30 +1,20 @@
 -- A datagram of any kind but a segment.
-use Rattle.std.proofs.Common.{◌≡◌, ℕ, Bool, true, false, not, List, [], ◌∷◌, ◌++◌, Option, Some, None, refl, sym, ap, ◌∙◌, subst}
-use Rattle.std.proofs.Common.{if◌then◌else◌, ◌==◌, ◌||◌}
-use Rattle.std.specs.Prelude.{slice_index, Result, IfOk}
+use Rattle.std.proofs.Common.{◌≡◌, ℕ, Bool, true, false, not, List, [], ◌∷◌, ◌++◌, Option, Some, None, refl, sym, ap, ◌∙◌, subst, if◌then◌else◌, ◌==◌, ◌||◌, slice_index, Result, IfOk}
 use Rattle.udp_icmp.specs.Icmp.{is_error_type}
-use Rattle.gate_base.specs.Fields.{u16_at}
+use Rattle.gate_base.specs.Prelude.{u16_at, first_that_holds, unless_refused}
 use Rattle.std.specs.Option.{option_or}
 use Rattle.gate_base.specs.declared.address.Addr.{Addr}
 use Rattle.gate_base.specs.declared.event.Moment.{Moment}
 use Rattle.gate_base.specs.declared.refusal.Refusal.{Refusal}
 use Rattle.gate_base.specs.declared.refusal.Refusal.TheVariants.{SourceInPool, NoBinding, PoolEmpty}
 use Rattle.gate_base.specs.declared.side.Side.{Side}
-use Rattle.binding_table.specs.Bindings.{Bindings, cross, in_pool}
+use Rattle.binding_table.specs.Prelude.{Bindings, cross, in_pool}
 use Rattle.ipv4_frames.specs.Ipv4.{Datagram}
-use Rattle.gate_base.specs.Tests.{first_that_holds, unless_refused}
-use Rattle.gate_model.specs.Frame.{Kind, Udp, Echo, Error, Dns, Snmp, Stream, udp_kind, icmp_kind, kind_of}
-use Rattle.gate_model.specs.Step.{after_kind, out_kind}
-use Rattle.gate_model.specs.Verdict.{is_reachable, address_tests, kind_tests, late_tests, is_pool_empty, world_tests, table_after}
-use Rattle.gate_model.specs.World.{World, source_of, destination_of}
-use Rattle.gate_model.specs.Rules.{SessionRules}
-use Rattle.gate_payloads.specs.Taken.{IsTaken, IsWayOf}
-use Rattle.event_steps.specs.Segments.{refusal_as}
-use Rattle.gate_payloads.specs.Plain.{plain_rules, asks_none}
+use Rattle.gate_model.specs.Prelude.{Kind, Udp, Echo, Error, Dns, Snmp, Stream, udp_kind, icmp_kind, kind_of, after_kind, out_kind, is_reachable, address_tests, kind_tests, late_tests, is_pool_empty, world_tests, table_after, World, source_of, destination_of, SessionRules}
+use Rattle.gate_payloads.specs.Prelude.{IsTaken, IsWayOf, plain_rules, asks_none, way_tests}
+use Rattle.event_steps.specs.Prelude.{refusal_as, plain_world, Tells, told_kind, told_by, left_as, IsPassed}
 use Rattle.gate_payloads.proofs.Alike.{way_like, taken_like}
 use Rattle.event_steps.proofs.UnitsJudged.{by_ok}
-use Rattle.event_steps.specs.Passed.{plain_world, Tells, told_kind, told_by, left_as, IsPassed}
-use Rattle.gate_payloads.specs.Ways.{way_tests}
 use Rattle.gate_payloads.specs.declared.addresses.Way.{Way}
 use Rattle.gate_payloads.proofs.Passes.{reached_settled}
 use Rattle.gate_frames.proofs.Tests.{first-append}

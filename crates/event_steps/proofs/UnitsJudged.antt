@@ -1,44 +1,32 @@
 -- A segment of a session is refused by the plan of its units, and else by nothing.
-use Rattle.std.proofs.Common.{◌≡◌, ◌≢◌, ◌≤◌, ℕ, Bool, true, false, List, [], ◌∷◌, ◌++◌, length, nat_lt, Option, Some, None, Result, Ok, Err, refl, sym, ap, subst, ◌∙◌}
-use Rattle.std.specs.Prelude.{IfOk, IfErr}
+use Rattle.std.proofs.Common.{◌≡◌, ◌≢◌, ◌≤◌, ℕ, Bool, true, false, List, [], ◌∷◌, ◌++◌, length, nat_lt, Option, Some, None, Result, Ok, Err, refl, sym, ap, subst, ◌∙◌, IfOk, IfErr, ltb-false, le-ltb}
 use Rattle.std.specs.List.{All, AllByRecursion, list_any}
-use Rattle.std.proofs.lemmas.Bool.{ltb-false, le-ltb}
-use Rattle.gate_base.specs.Side.{other}
-use Rattle.gate_base.specs.Tests.{first_that_holds, unless_refused}
+use Rattle.gate_base.specs.Prelude.{other, first_that_holds, unless_refused}
 use Rattle.gate_base.specs.declared.address.Addr.{Addr}
 use Rattle.gate_base.specs.declared.refusal.Refusal.{Refusal}
 use Rattle.gate_base.specs.declared.refusal.Refusal.TheVariants.{NoSession, BadUnit, UnitUnbound, RenamesFull, SessionsFull, PoolEmpty, UnitGrows}
 use Rattle.gate_base.specs.declared.side.Side.{Side}
 use Rattle.gate_base.specs.declared.host.Host.{Host}
-use Rattle.binding_table.specs.Bindings.{cross, free}
-use Rattle.binding_table.specs.Plan.{needed, image_after}
+use Rattle.binding_table.specs.Prelude.{cross, free, needed, image_after}
 use Rattle.binding_table.specs.declared.binding.Crossing.TheVariants.{Unbound}
-use Rattle.dialogue.specs.Learning.{Entry, AreImages}
-use Rattle.dns_stream.specs.Images.{dns_units}
+use Rattle.dialogue.specs.Prelude.{Entry, AreImages}
+use Rattle.dns_stream.specs.Prelude.{dns_units}
 use Rattle.ipv4_frames.specs.Ipv4.{Datagram}
-use Rattle.stream_model.specs.Session.{Segment}
-use Rattle.gate_model.specs.Frame.{Stream, Udp}
-use Rattle.gate_model.specs.Lists.{most_entries, addresses_in, entered, is_bad, grows_too_much}
-use Rattle.gate_model.specs.Step.{taker_in}
-use Rattle.gate_model.specs.Stream.{segment_of, found_in, session_in, lacks_session, is_full, session_refusal}
-use Rattle.gate_model.specs.Units.{uses_until, is_new_unbound, units_in, names_in, entries_in, entries_after, unit_tests, growth_tests}
-use Rattle.gate_model.specs.Verdict.{refusal_tests, is_pool_empty}
-use Rattle.gate_model.specs.World.{Tracked, World, addresses_of, source_of, destination_of, host_on}
-use Rattle.gate_model.specs.Rules.{SessionRules}
+use Rattle.stream_model.specs.Prelude.{Segment}
+use Rattle.gate_model.specs.Prelude.{Stream, Udp, most_entries, addresses_in, entered, is_bad, grows_too_much, taker_in, segment_of, found_in, session_in, lacks_session, is_full, session_refusal, uses_until, is_new_unbound, units_in, names_in, entries_in, entries_after, unit_tests, growth_tests, refusal_tests, is_pool_empty, Tracked, World, addresses_of, source_of, destination_of, host_on, SessionRules}
 use Rattle.gate_model.proofs.ListsKept.{table_of}
-use Rattle.gate_payloads.specs.Ways.{is_empty}
+use Rattle.gate_payloads.specs.Prelude.{is_empty}
 use Rattle.gate_payloads.specs.declared.addresses.Way.{Way}
 use Rattle.gate_payloads.proofs.HeadersOnly.{empty_is}
-use Rattle.dns_plans.specs.Plans.{whole_units, called_after, beside, all_addresses, plan_tests, AreBound, IsListBound, TellsFirst}
+use Rattle.dns_plans.specs.Prelude.{whole_units, called_after, beside, all_addresses, plan_tests, AreBound, IsListBound, TellsFirst, entered_all}
 use Rattle.dns_plans.specs.declared.plan.Endpoints.{Endpoints}
 use Rattle.dns_plans.specs.declared.plan.UnitPlan.{UnitPlan}
 use Rattle.dns_plans.specs.declared.stop.PlanStop.{PlanStop}
 use Rattle.dns_plans.specs.declared.stop.PlanStop.TheVariants as stops
-use Rattle.dns_plans.specs.Steps.{entered_all}
 use Rattle.dns_plans.proofs.EnteredLemmas.{entered-beside}
 use Rattle.dns_plans.proofs.PlannedLemmas.{used_bound}
-use Rattle.event_steps.specs.SegmentFate.{image_of, used_by, IsOn, IsUnitPlan, IsStopped, CompletesUnit}
-use Rattle.event_steps.specs.Segments.{stream_refusal}
+use Rattle.event_steps.specs.Prelude.{image_of, used_by, IsStopped, CompletesUnit, stream_refusal}
+use Rattle.event_steps.specs.SegmentFate.{IsOn, IsUnitPlan}
 use Rattle.event_steps.proofs.SegmentTests.{no_images, tests_by, lacks_none, full_none, some_session, session_takes}
 use Rattle.event_steps.proofs.UnitsPlanned.{five, plans_alike, none_told, beside_alike, entered_alike}
 use Rattle.event_steps.proofs.UnitsUsed.{until_of, names_called}

@@ -1,19 +1,14 @@
 -- The refusal of a segment of a session is that of the plan of its units.
-use Rattle.std.proofs.Common.{◌≡◌, ◌≤◌, ℕ, Bool, true, false, List, [], ◌∷◌, length, nat_lt, Option, None, refl, sym, ap, ◌∙◌}
-use Rattle.std.specs.Prelude.{map}
+use Rattle.std.proofs.Common.{◌≡◌, ◌≤◌, ℕ, Bool, true, false, List, [], ◌∷◌, length, nat_lt, Option, None, refl, sym, ap, ◌∙◌, map, ltb-false}
 use Rattle.std.specs.List.{AllByRecursion, list_any}
-use Rattle.std.proofs.lemmas.Bool.{ltb-false}
-use Rattle.gate_base.specs.Side.{other}
-use Rattle.gate_base.specs.Tests.{first_that_holds}
+use Rattle.gate_base.specs.Prelude.{other, first_that_holds}
 use Rattle.gate_base.specs.declared.address.Addr.{Addr}
 use Rattle.gate_base.specs.declared.refusal.Refusal.{Refusal}
 use Rattle.gate_base.specs.declared.refusal.Refusal.TheVariants.{BadUnit, UnitUnbound, RenamesFull, PoolEmpty, UnitGrows}
-use Rattle.binding_table.specs.Bindings.{Bindings, free}
-use Rattle.binding_table.specs.Plan.{needed}
-use Rattle.dialogue.specs.Learning.{Entry}
-use Rattle.gate_model.specs.Lists.{most_entries, addresses_in, enter, entered, is_bad, grows_too_much}
-use Rattle.gate_model.specs.Units.{is_new_unbound}
-use Rattle.dns_plans.specs.Plans.{whole_units, beside, all_addresses, plan_tests}
+use Rattle.binding_table.specs.Prelude.{Bindings, free, needed}
+use Rattle.dialogue.specs.Prelude.{Entry}
+use Rattle.gate_model.specs.Prelude.{most_entries, addresses_in, enter, entered, is_bad, grows_too_much, is_new_unbound}
+use Rattle.dns_plans.specs.Prelude.{whole_units, beside, all_addresses, plan_tests}
 use Rattle.dns_plans.specs.declared.plan.Endpoints.{Endpoints}
 use Rattle.dns_plans.proofs.EnteredLemmas.{same_count, entered-beside}
 

@@ -1,25 +1,17 @@
 -- The bindings after all uses of a segment of a session, and what addresses are called by them.
-use Rattle.std.proofs.Common.{◌≡◌, ◌≢◌, ◌≤◌, ◌+◌, ℕ, List, [], ◌∷◌, ◌++◌, append_assoc, Option, Some, sym, ap, ◌∙◌}
-use Rattle.std.specs.Prelude.{unwrap_or}
+use Rattle.std.proofs.Common.{◌≡◌, ◌≢◌, ◌≤◌, ◌+◌, ℕ, List, [], ◌∷◌, ◌++◌, append_assoc, Option, Some, sym, ap, ◌∙◌, unwrap_or}
 use Rattle.std.specs.List.{All, AllByRecursion}
 use Rattle.std.proofs.lemmas.List.Sums.{fold-append}
-use Rattle.gate_base.specs.Side.{other}
+use Rattle.gate_base.specs.Prelude.{other}
 use Rattle.gate_base.specs.declared.address.Addr.{Addr}
 use Rattle.gate_base.specs.declared.side.Side.{Side}
-use Rattle.binding_table.specs.Bindings.{Bindings, cross, seen, free}
-use Rattle.binding_table.specs.Lawful.{IsLawful}
-use Rattle.binding_table.specs.Plan.{Use, used, after_uses, needed, image_after}
+use Rattle.binding_table.specs.Prelude.{Bindings, cross, seen, free, IsLawful, Use, used, after_uses, needed, image_after}
 use Rattle.binding_table.specs.declared.binding.Crossing.TheVariants.{Unbound}
 use Rattle.ipv4_frames.specs.Ipv4.{Datagram}
-use Rattle.gate_model.specs.Frame.{Stream}
-use Rattle.gate_model.specs.Stream.{found_in, session_in, stream_timeout}
-use Rattle.gate_model.specs.Units.{uses_until, names_in, uses_of_lists}
-use Rattle.gate_model.specs.Verdict.{table_after}
-use Rattle.gate_model.specs.World.{Tracked, World, addresses_of, called, source_of, destination_of}
-use Rattle.gate_model.specs.Rules.{SessionRules}
+use Rattle.gate_model.specs.Prelude.{Stream, found_in, session_in, stream_timeout, uses_until, names_in, uses_of_lists, table_after, Tracked, World, addresses_of, called, source_of, destination_of, SessionRules}
 use Rattle.gate_model.proofs.ListsCalled.{called_alike, images_alike}
 use Rattle.gate_model.proofs.ListsKept.{table_of, uses_append}
-use Rattle.event_steps.specs.SegmentFate.{image_of, used_by}
+use Rattle.event_steps.specs.Prelude.{image_of, used_by}
 
 -- the moment until which the addresses of a segment are held
 abbrev pub until_of : {S : Type 0} (rules : SessionRules S) → World S → Side → Datagram → ℕ

@@ -3,11 +3,9 @@ use Rattle.std.proofs.Common.{◌≡◌, ℕ, Bool, true, false, List, [], ◌�
 use Rattle.std.proofs.lemmas.List.Sums.{fold-append}
 use Rattle.gate_base.specs.declared.address.Addr.{Addr}
 use Rattle.gate_base.specs.declared.side.Side.{Side}
-use Rattle.binding_table.specs.Bindings.{Bindings}
-use Rattle.binding_table.specs.Plan.{used, after_uses}
-use Rattle.dialogue.specs.Learning.{Entry}
-use Rattle.gate_model.specs.Lists.{renamed_in}
-use Rattle.gate_model.specs.Units.{uses_until}
+use Rattle.binding_table.specs.Prelude.{Bindings, used, after_uses}
+use Rattle.dialogue.specs.Prelude.{Entry}
+use Rattle.gate_model.specs.Prelude.{renamed_in, uses_until}
 use Rattle.gate_model.proofs.ListsKept.{uses_append}
 
 renamed-append : (xs ys : List Entry) → renamed_in (xs ++ ys) ≡ renamed_in xs ++ renamed_in ys

@@ -1,3 +1,4 @@
 pub mod Segments
 pub mod SegmentFate
 pub mod Passed
+pub mod Prelude

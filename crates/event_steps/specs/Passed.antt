@@ -3,15 +3,11 @@ use Rattle.std.specs.Prelude.{◌≡◌, ℕ, List, [], ◌∷◌, Option, Some,
 use Rattle.gate_base.specs.declared.address.Addr.{Addr}
 use Rattle.gate_base.specs.declared.refusal.Refusal.{Refusal}
 use Rattle.gate_base.specs.declared.side.Side.{Side}
-use Rattle.binding_table.specs.Bindings.{Bindings}
+use Rattle.binding_table.specs.Prelude.{Bindings}
 use Rattle.ipv4_frames.specs.Ipv4.{Datagram}
 use Rattle.tcp_tracker.specs.declared.connection.Connection.{Connection}
 use Rattle.twice_translate.specs.Renamed.{renamed}
-use Rattle.gate_model.specs.Frame.{Kind, Udp, Echo, Error, Dns, Snmp, Stream}
-use Rattle.gate_model.specs.Rules.{SessionRules}
-use Rattle.gate_model.specs.Step.{after_kind, out_kind, taker_in}
-use Rattle.gate_model.specs.Verdict.{table_after, image_in}
-use Rattle.gate_model.specs.World.{Tracked, World, called, source_of, destination_of}
+use Rattle.gate_model.specs.Prelude.{Kind, Udp, Echo, Error, Dns, Snmp, Stream, SessionRules, after_kind, out_kind, taker_in, table_after, image_in, Tracked, World, called, source_of, destination_of}
 use Rattle.gate_payloads.specs.Plain.{PlainSession}
 use Rattle.event_steps.specs.Segments.{stream_refusal}
 

@@ -3,24 +3,17 @@ use Rattle.std.specs.Prelude.{◌≡◌, ◌≢◌, ◌≤◌, ℕ, true, ◌+�
 use Rattle.std.specs.List.{All}
 use Rattle.gate_base.specs.declared.address.Addr.{Addr}
 use Rattle.gate_base.specs.declared.side.Side.{Side}
-use Rattle.gate_base.specs.Side.{other}
+use Rattle.gate_base.specs.Prelude.{other}
 use Rattle.gate_base.specs.declared.host.Host.TheVariants.{Client, Server}
-use Rattle.binding_table.specs.Bindings.{cross, free}
-use Rattle.binding_table.specs.Lawful.{IsLawful}
-use Rattle.binding_table.specs.Plan.{Use, needed}
+use Rattle.binding_table.specs.Prelude.{cross, free, IsLawful, Use, needed}
 use Rattle.binding_table.specs.declared.binding.Crossing.TheVariants.{Unbound}
 use Rattle.ipv4_frames.specs.Ipv4.{Datagram}
-use Rattle.gate_model.specs.Lists.{most_entries, renamed_in}
-use Rattle.gate_model.specs.Stream.{found_in, session_in, session_refusal}
-use Rattle.gate_model.specs.Units.{uses_until, units_in, names_in, entries_after}
-use Rattle.gate_model.specs.Verdict.{image_in}
-use Rattle.gate_model.specs.World.{Tracked, World, addresses_of}
-use Rattle.gate_model.specs.Rules.{SessionRules}
-use Rattle.gate_payloads.specs.Taken.{IsWayOf}
+use Rattle.gate_model.specs.Prelude.{most_entries, renamed_in, found_in, session_in, session_refusal, uses_until, units_in, names_in, entries_after, image_in, Tracked, World, addresses_of, SessionRules}
+use Rattle.gate_payloads.specs.Prelude.{IsWayOf}
 use Rattle.gate_payloads.specs.declared.addresses.Way.{Way}
-use Rattle.dialogue.specs.Learning.{AreImages}
-use Rattle.dns_stream.specs.Images.{dns_units}
-use Rattle.dns_plans.specs.Plans.{beside}
+use Rattle.dialogue.specs.Prelude.{AreImages}
+use Rattle.dns_stream.specs.Prelude.{dns_units}
+use Rattle.dns_plans.specs.Prelude.{beside}
 use Rattle.dns_plans.specs.declared.plan.UnitPlan.{UnitPlan}
 use Rattle.dns_plans.specs.declared.stop.PlanStop.{PlanStop}
 use Rattle.dns_plans.specs.declared.stop.PlanStop.TheVariants.{Refused as Stopped, OutOfMemory}

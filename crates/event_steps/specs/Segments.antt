@@ -1,28 +1,21 @@
 -- What becomes of a segment.
 use Rattle.std.specs.Prelude.{◌≤◌, ◌≡◌, ◌&&◌, ◌++◌, not, nat_le, ℕ, Bool, List, [], ◌∷◌, length, Option, Some, None, is_none, if◌then◌else◌}
 use Rattle.gate_base.specs.declared.address.Addr.{Addr}
-use Rattle.gate_base.specs.Tests.{first_that_holds}
+use Rattle.gate_base.specs.Prelude.{first_that_holds}
 use Rattle.gate_base.specs.declared.event.Pair.{Pair}
 use Rattle.gate_base.specs.declared.refusal.Refusal.{Refusal}
 use Rattle.gate_base.specs.declared.refusal.Refusal.TheVariants.{PoolEmpty, SessionsFull}
 use Rattle.gate_base.specs.declared.side.Side.{Side}
 use Rattle.ipv4_frames.specs.Ipv4.{Datagram}
-use Rattle.tcp_segments.specs.Tcp.{Tcp}
-use Rattle.tcp_segments.specs.Flags.{flags_of}
+use Rattle.tcp_segments.specs.Prelude.{Tcp, flags_of}
 use Rattle.tcp_tracker.specs.declared.connection.Connection.{Connection}
-use Rattle.gate_model.specs.Frame.{Kind, Stream}
+use Rattle.gate_model.specs.Prelude.{Kind, Stream, tcp_of, segment_of, stepped, ends_by, pending_by, most_connections, kind_tests, late_tests, is_pool_empty, Tracked, World, host_on, addresses_in, SessionRules}
 use Rattle.twice_translate.specs.Renamed.{CanGoOn, datagram_of}
-use Rattle.gate_model.specs.Stream.{tcp_of, segment_of, stepped, ends_by, pending_by, most_connections}
-use Rattle.gate_model.specs.Verdict.{kind_tests, late_tests, is_pool_empty}
-use Rattle.gate_model.specs.World.{Tracked, World, host_on}
-use Rattle.dialogue.specs.Learning.{Entry, AreImages}
+use Rattle.dialogue.specs.Prelude.{Entry, AreImages}
 use Rattle.dialogue.specs.declared.learns.UnitImage.{UnitImage}
-use Rattle.dns_stream.specs.Images.{dns_units}
-use Rattle.gate_model.specs.Lists.{addresses_in}
-use Rattle.gate_model.specs.Rules.{SessionRules}
-use Rattle.dns_plans.specs.Plans.{beside}
-use Rattle.dns_plans.specs.Steps.{entered_all}
-use Rattle.gate_payloads.specs.Ways.{image_by}
+use Rattle.dns_stream.specs.Prelude.{dns_units}
+use Rattle.dns_plans.specs.Prelude.{beside, entered_all}
+use Rattle.gate_payloads.specs.Prelude.{image_by}
 use Rattle.gate_payloads.specs.declared.addresses.Way.{Way}
 
 -- what stands in the octets of a segment, which can go on

@@ -1,13 +1,13 @@
 // What is found of a segment's connection, and what the units of DNS over TCP do that it completes (RFC 2694, RFC 7766).
 ghost use Rattle.std.specs.Prelude.{◌≡◌, ◌≤◌, ◌∷◌, [], length, Some, None, IfOk, IfErr};
 ghost use Rattle.gate_base.specs.declared.host.Host.{Host};
-ghost use Rattle.binding_table.specs.Lawful.{IsLawful};
+ghost use Rattle.binding_table.specs.Prelude.{IsLawful};
 ghost use Rattle.gate_model.specs.Stream as streams;
 ghost use Rattle.gate_model.specs.World as worlds;
-ghost use Rattle.gate_model.specs.World.{World, host_on};
-ghost use Rattle.tcp_tracker.specs.Connections.{connection_of};
-ghost use Rattle.dns_plans.specs.Plans.{AreBound, IsListBound};
-ghost use Rattle.gate_payloads.specs.Taken.{IsWayOf};
+ghost use Rattle.gate_model.specs.Prelude.{World, host_on};
+ghost use Rattle.tcp_tracker.specs.Prelude.{connection_of};
+ghost use Rattle.dns_plans.specs.Prelude.{AreBound, IsListBound};
+ghost use Rattle.gate_payloads.specs.Prelude.{IsWayOf};
 ghost use Rattle.event_steps.specs.SegmentFate.{IsOn, IsUnitPlan, IsStopped, IsFound};
 
 use crate::found::{SegmentFate, SegmentPlan, no_units};

@@ -1,8 +1,7 @@
 // The use of an address in a session's list (RFC 2694).
 ghost use Rattle.std.specs.Prelude.{◌≡◌, ◌∷◌, []};
-ghost use Rattle.binding_table.specs.Plan.{after_uses};
-ghost use Rattle.gate_model.specs.Lists.{renamed_in};
-ghost use Rattle.gate_model.specs.Units.{uses_until};
+ghost use Rattle.binding_table.specs.Prelude.{after_uses};
+ghost use Rattle.gate_model.specs.Prelude.{renamed_in, uses_until};
 
 use binding_table::Table;
 use dns_plans::Entry;

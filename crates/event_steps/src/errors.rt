@@ -1,13 +1,11 @@
 // ICMP errors: the datagram inside, which came from the other realm and goes back.
 ghost use Rattle.std.specs.Prelude.{◌≡◌, ◌≤◌, ◌==◌, true, false, [], drop, length};
-ghost use Rattle.gate_base.specs.Moments.{IsMoment};
-ghost use Rattle.binding_table.specs.Bindings.{is_settled};
+ghost use Rattle.gate_base.specs.Prelude.{IsMoment};
+ghost use Rattle.binding_table.specs.Prelude.{is_settled};
 ghost use Rattle.twice_translate.specs.Renamed.{CanGoOn, datagram_of};
 ghost use Rattle.gate_model.specs.Frame as kinds;
-ghost use Rattle.gate_model.specs.Inner.{inner_number, is_unknown};
-ghost use Rattle.gate_model.specs.World.{World, called};
-ghost use Rattle.gate_payloads.specs.Ways.{IsWay};
-ghost use Rattle.gate_payloads.specs.Taken.{IsTaken, IsWayOf};
+ghost use Rattle.gate_model.specs.Prelude.{inner_number, is_unknown, World, called};
+ghost use Rattle.gate_payloads.specs.Prelude.{IsWay, IsTaken, IsWayOf};
 
 use binding_table::Table;
 use dns_plans::{Session, Tracked};

@@ -1,6 +1,6 @@
 // What is found of a segment's connection (RFC 2694, RFC 7766).
 ghost use Rattle.std.specs.Prelude.{◌≡◌, true, false, [], IfOk, IfErr};
-ghost use Rattle.gate_payloads.specs.Ways.{is_empty};
+ghost use Rattle.gate_payloads.specs.Prelude.{is_empty};
 ghost use Rattle.gate_base.specs.declared.refusal.Refusal.TheVariants as refusals;
 ghost use Rattle.dns_plans.specs.declared.stop.PlanStop.TheVariants as stops;
 

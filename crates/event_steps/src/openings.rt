@@ -2,7 +2,7 @@
 ghost use Rattle.std.specs.Prelude.{◌≡◌, ◌||◌, ◌&&◌, not};
 ghost use Rattle.gate_model.specs.Frame as kinds;
 ghost use Rattle.gate_model.specs.Stream as streams;
-ghost use Rattle.gate_payloads.specs.Ways.{image_by};
+ghost use Rattle.gate_payloads.specs.Prelude.{image_by};
 
 use gate_base::{CONTROL_PORT, DNS_PORT};
 use gate_payloads::{Way, key_of};

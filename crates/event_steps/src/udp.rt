@@ -1,11 +1,11 @@
 // UDP datagrams, by their ports.
 ghost use Rattle.std.specs.Prelude.{◌≡◌, ◌||◌, ◌==◌, [], IfOk, OnErr};
-ghost use Rattle.gate_base.specs.Moments.{IsMoment};
+ghost use Rattle.gate_base.specs.Prelude.{IsMoment};
 ghost use Rattle.twice_translate.specs.Renamed.{datagram_of};
 ghost use Rattle.udp_icmp.specs.Udp.{udp_fields_of};
 ghost use Rattle.gate_model.specs.Frame as kinds;
-ghost use Rattle.gate_payloads.specs.Plain.{plain_rules};
-ghost use Rattle.gate_payloads.specs.Taken.{IsTaken, IsUdpOf, IsWayOf};
+ghost use Rattle.gate_payloads.specs.Prelude.{plain_rules, IsTaken, IsWayOf};
+ghost use Rattle.gate_payloads.specs.Taken.{IsUdpOf};
 ghost use Rattle.event_steps.specs.Passed.{plain_world};
 
 use crate::workspace::Workspace;

@@ -1,15 +1,12 @@
 // Segments that no session takes, and the room for connections.
 ghost use Rattle.std.specs.Prelude.{◌≡◌, ◌≤◌, ◌||◌, ◌&&◌, nat_le, [], ◌∷◌, length, true, false, None, is_none, count_by};
-ghost use Rattle.gate_base.specs.Moments.{IsMoment, IsTimeout};
-ghost use Rattle.binding_table.specs.Bindings.{is_settled};
-ghost use Rattle.binding_table.specs.Plan.{after_uses};
+ghost use Rattle.gate_base.specs.Prelude.{IsMoment, IsTimeout, first_that_holds, unless_refused};
+ghost use Rattle.binding_table.specs.Prelude.{is_settled, after_uses};
 ghost use Rattle.twice_translate.specs.Renamed.{CanGoOn, datagram_of, renamed};
-ghost use Rattle.tcp_segments.specs.Flags.{flags_of};
-ghost use Rattle.tcp_tracker.specs.Connections.{connection_of, timeout_of, noted, is_tracked};
-ghost use Rattle.gate_base.specs.Tests.{first_that_holds, unless_refused};
-ghost use Rattle.gate_model.specs.Stream.{most_connections, most_sessions};
-ghost use Rattle.gate_model.specs.Units.{uses_until};
-ghost use Rattle.gate_payloads.specs.Ways.{IsWay, image_by, is_empty, header_uses};
+ghost use Rattle.tcp_segments.specs.Prelude.{flags_of};
+ghost use Rattle.tcp_tracker.specs.Prelude.{connection_of, timeout_of, noted, is_tracked};
+ghost use Rattle.gate_model.specs.Prelude.{most_connections, most_sessions, uses_until};
+ghost use Rattle.gate_payloads.specs.Prelude.{IsWay, image_by, is_empty, header_uses};
 ghost use Rattle.event_steps.specs.Segments.{room_tests, lacks_place};
 
 use binding_table::Table;

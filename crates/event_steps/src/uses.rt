@@ -1,16 +1,13 @@
 // The uses of a segment of a session (RFC 2694, RFC 3022, 3.1).
 ghost use Rattle.std.specs.Prelude.{◌≡◌, ◌≤◌, ◌++◌, take, length, true, Some};
-ghost use Rattle.gate_base.specs.Moments.{IsMoment, IsTimeout};
+ghost use Rattle.gate_base.specs.Prelude.{IsMoment, IsTimeout, other};
 ghost use Rattle.gate_base.specs.declared.host.Host.TheVariants.{Client, Server};
-ghost use Rattle.gate_base.specs.Side.{other};
-ghost use Rattle.binding_table.specs.Bindings.{is_settled};
-ghost use Rattle.binding_table.specs.Plan.{after_uses};
-ghost use Rattle.gate_model.specs.Lists.{renamed_in};
+ghost use Rattle.binding_table.specs.Prelude.{is_settled, after_uses};
+ghost use Rattle.gate_model.specs.Prelude.{renamed_in, uses_until};
 ghost use Rattle.gate_model.specs.Stream as streams;
-ghost use Rattle.gate_model.specs.Units.{uses_until};
 ghost use Rattle.gate_model.specs.World as worlds;
-ghost use Rattle.tcp_tracker.specs.Connections.{connection_of};
-ghost use Rattle.gate_payloads.specs.Ways.{IsWay};
+ghost use Rattle.tcp_tracker.specs.Prelude.{connection_of};
+ghost use Rattle.gate_payloads.specs.Prelude.{IsWay};
 ghost use Rattle.event_steps.specs.SegmentFate.{uses_planned};
 
 use crate::entries::use_entry;

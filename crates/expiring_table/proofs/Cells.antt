@@ -1,12 +1,10 @@
 -- Rows in cells.
-use Rattle.std.proofs.Common.{◌≡◌, ◌≢◌, ℕ, zero, suc, ◌<◌, true, false, ◌==◌, List, [], ◌∷◌, ◌++◌, length, Option, Some, None, refl, ap, sym, ◌∙◌, arith}
-use Rattle.std.proofs.Common.{◌⊎◌, inl, inr}
+use Rattle.std.proofs.Common.{◌≡◌, ◌≢◌, ℕ, zero, suc, ◌<◌, true, false, ◌==◌, List, [], ◌∷◌, ◌++◌, length, Option, Some, None, refl, ap, sym, ◌∙◌, arith, ◌⊎◌, inl, inr}
 use Rattle.std.proofs.lemmas.Bool.{cases_lt, eq-eqb, ne_eqb}
 use Rattle.std.proofs.lemmas.List.{get_or_past}
 use Rattle.std.proofs.lemmas.Option.{none-some, same_Some}
 use Rattle.expiring_table.specs.declared.row.Row.{Row}
-use Rattle.expiring_table.specs.Rows.{row_of}
-use Rattle.expiring_table.specs.Kept.{rows_in, row_at, AreOnce, IsPlaceOf}
+use Rattle.expiring_table.specs.Prelude.{row_of, rows_in, row_at, AreOnce, IsPlaceOf}
 
 ahead : (place : ℕ) → 0 ≡ suc place → ⊥
 ahead place same = absurd (omega arith)

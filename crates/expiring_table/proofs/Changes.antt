@@ -1,20 +1,13 @@
 -- Rows that change, and rows that go.
-use Rattle.std.proofs.Common.{◌≡◌, ◌≢◌, ◌⊎◌, inl, inr, ℕ, zero, suc, ◌+◌, ◌<◌, ◌≤◌, true, false, nat_le, ◌==◌, ◌&&◌, is_some, List, [], ◌∷◌, length, set, slice_index, Option, Some, None, refl, ap, sym, ◌∙◌, subst, arith}
-use Rattle.std.specs.List.{Contains}
+use Rattle.std.proofs.Common.{◌≡◌, ◌≢◌, ◌⊎◌, inl, inr, ℕ, zero, suc, ◌+◌, ◌<◌, ◌≤◌, true, false, nat_le, ◌==◌, ◌&&◌, is_some, List, [], ◌∷◌, length, set, slice_index, Option, Some, None, refl, ap, sym, ◌∙◌, subst, arith, Contains, eq-eqb, ne_eqb, leb-true, length-set, ◌*◌, ◌/◌, ◌^◌}
 use Rattle.std.specs.declared.cmp.Reverse.{Reverse}
-use Rattle.std.proofs.lemmas.Bool.{eq-eqb, ne_eqb, leb-true}
-use Rattle.std.proofs.lemmas.List.{length-set}
 use Rattle.std.proofs.lemmas.Option.{none-some, same_Some}
 use Rattle.expiring_table.specs.declared.row.Row.{Row}
-use Rattle.expiring_table.specs.Armed.{alarm}
-use Rattle.expiring_table.specs.Chained.{Chained, without_place}
-use Rattle.std.proofs.Common.{◌*◌, ◌/◌, ◌^◌}
+use Rattle.expiring_table.specs.Prelude.{alarm, Chained, without_place, without, with_row, rows_in, row_at, is_watched, bucket_of, AreHashed, AreOnce, AreWatched, IsPlaceOf, IsIndexed}
 use Rattle.std.proofs.Math.Nat.{mul-lt-mul_of_pos_left}
 use Rattle.std.proofs.lemmas.Nat.{div_below}
 use Rattle.expiring_table.specs.Buckets.{hash_of}
 use Rattle.expiring_table.proofs.Links.{stays}
-use Rattle.expiring_table.specs.Rows.{without, with_row}
-use Rattle.expiring_table.specs.Kept.{rows_in, row_at, is_watched, bucket_of, AreHashed, AreOnce, AreWatched, IsPlaceOf, IsIndexed}
 use Rattle.expiring_table.proofs.Cells.{once_tail}
 
 -- a hash drawn down to a number of buckets

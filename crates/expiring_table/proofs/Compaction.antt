@@ -1,13 +1,12 @@
 -- The cells that are not empty.
-use Rattle.std.proofs.Common.{◌≡◌, ℕ, zero, suc, ◌<◌, ◌≤◌, true, false, List, [], ◌∷◌, length, vec_capacity, Option, Some, None, is_some, IsSome, refl, ap, sym, ◌∙◌, subst, arith}
-use Rattle.std.specs.List.{filter}
+use Rattle.std.proofs.Common.{◌≡◌, ℕ, zero, suc, ◌<◌, ◌≤◌, true, false, List, [], ◌∷◌, length, vec_capacity, Option, Some, None, is_some, IsSome, refl, ap, sym, ◌∙◌, subst, arith, filter}
 use Rattle.std.proofs.lemmas.Option.{none-some, same_Some}
 use Rattle.expiring_table.specs.declared.row.Row.{Row}
 use Rattle.expiring_table.specs.declared.seed.Seed.{Seed}
 use Rattle.expiring_table.specs.declared.store.Store.{Store}
 use Rattle.expiring_table.specs.Armed.{silenced}
 use Rattle.expiring_table.specs.Chained.{emptied}
-use Rattle.expiring_table.specs.Kept.{rows_in, row_at, AreOnce, IsPlaceOf, IsWhole, IsListed}
+use Rattle.expiring_table.specs.Prelude.{rows_in, row_at, AreOnce, IsPlaceOf, IsWhole, IsListed}
 use Rattle.expiring_table.proofs.Cells.{once_tail}
 
 module _ {T : Type 0} where

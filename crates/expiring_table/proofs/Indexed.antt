@@ -1,6 +1,5 @@
 -- Rows that can be found.
-use Rattle.std.proofs.Common.{◌≡◌, inl, inr, ℕ, ◌+◌, ◌<◌, ◌≤◌, List, [], ◌∷◌, ◌++◌, length, slice_index, take, vec_capacity, Option, Some, None, IsSome, ap, sym, ◌∙◌, subst, arith, length-append}
-use Rattle.std.specs.List.{Contains}
+use Rattle.std.proofs.Common.{◌≡◌, inl, inr, ℕ, ◌+◌, ◌<◌, ◌≤◌, List, [], ◌∷◌, ◌++◌, length, slice_index, take, vec_capacity, Option, Some, None, IsSome, ap, sym, ◌∙◌, subst, arith, length-append, Contains}
 use Rattle.std.specs.declared.cmp.Reverse.{Reverse}
 use Rattle.std.proofs.lemmas.List.{get_or_append_left, get_or_push, take_more}
 use Rattle.std.proofs.lemmas.List.Elements.{Contains-append_left, Contains-append_right, Contains-push}
@@ -8,9 +7,9 @@ use Rattle.std.proofs.lemmas.List.Sorted.{Contains-permutation, length_permutati
 use Rattle.std.proofs.lemmas.Option.{none-some, same_Some}
 use Rattle.expiring_table.specs.declared.row.Row.{Row}
 use Rattle.expiring_table.specs.declared.store.Store.{Store}
-use Rattle.expiring_table.specs.Armed.{alarm}
-use Rattle.expiring_table.specs.Chained.{Chained, with_place}
-use Rattle.expiring_table.specs.Kept.{rows_in, row_at, bucket_of, first_moment, IsIndexed, AreOnce, IsListed, HasAlarm, IsWhole, IsPlaceOf, CanAppend, HasRoom}
+use Rattle.expiring_table.specs.Prelude.{alarm, Chained, rows_in, row_at, bucket_of, IsIndexed, AreOnce, IsListed, IsWhole, IsPlaceOf, HasRoom}
+use Rattle.expiring_table.specs.Chained.{with_place}
+use Rattle.expiring_table.specs.Kept.{first_moment, HasAlarm, CanAppend}
 use Rattle.expiring_table.proofs.Cells.{push_cases, rows_push, once_push}
 
 -- ## Alarms

@@ -3,7 +3,7 @@ use Rattle.std.proofs.Common.{◌≡◌, ◌≢◌, inl, inr, ℕ, ◌+◌, ◌<
 use Rattle.std.proofs.lemmas.Bool.{cases_lt}
 use Rattle.std.proofs.lemmas.Bool.Decides.{eqb_tells}
 use Rattle.std.proofs.lemmas.List.{get_or-set_same, get_or-set_other, get_or_append_left, get_or_push}
-use Rattle.expiring_table.specs.Chained.{IsLast, IsNext}
+use Rattle.expiring_table.specs.Prelude.{IsLast, IsNext}
 
 -- the places in front of the last stay as they are
 last_same : (bucket : ℕ) (buckets : List ℕ) (new places : ℕ) (at : Option ℕ) → places ≤ length buckets → IsLast bucket buckets places at → IsLast bucket (buckets ++ new ∷ []) places at

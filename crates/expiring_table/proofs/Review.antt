@@ -1,21 +1,16 @@
 -- Alarms that are taken out.
-use Rattle.std.proofs.Common.{◌≡◌, ◌≢◌, ◌⊎◌, inl, inr, ℕ, suc, ◌*◌, ◌<◌, ◌≤◌, true, cond, nat_le, List, [], ◌∷◌, length, set, slice_index, vec_capacity, Option, Some, None, refl, ap, sym, ◌∙◌, subst, arith}
-use Rattle.std.specs.List.{Contains, All}
-use Rattle.std.specs.List.Sorted.{IsPermutation}
+use Rattle.std.proofs.Common.{◌≡◌, ◌≢◌, ◌⊎◌, inl, inr, ℕ, suc, ◌*◌, ◌<◌, ◌≤◌, true, cond, nat_le, List, [], ◌∷◌, length, set, slice_index, vec_capacity, Option, Some, None, refl, ap, sym, ◌∙◌, subst, arith, Contains, All, IsPermutation, get_or-set_same, get_or-set_other, length-set}
 use Rattle.std.specs.declared.cmp.Reverse.{Reverse}
 use Rattle.std.proofs.lemmas.Bool.{lt-ltb, lt-leb, le-leb}
 use Rattle.std.proofs.lemmas.Bool.Decides.{eqb_tells}
-use Rattle.std.proofs.lemmas.List.{get_or-set_same, get_or-set_other, length-set}
 use Rattle.std.proofs.lemmas.List.Elements.{Contains-append_cases, Contains-push_cases, All-contains}
 use Rattle.std.proofs.lemmas.List.Sorted.{Contains-permutation, sum_by_pushed, sum_by_popped, length_permutation}
 use Rattle.std.proofs.lemmas.Option.{same_Some}
 use Rattle.expiring_table.specs.declared.row.Row.{Row}
 use Rattle.expiring_table.specs.declared.store.Store.{Store}
-use Rattle.expiring_table.specs.Armed.{alarm}
-use Rattle.expiring_table.specs.Chained.{Chained}
-use Rattle.expiring_table.specs.Rows.{is_before, lives, living}
+use Rattle.expiring_table.specs.Prelude.{alarm, Chained, is_before, lives, living, rows_in, row_at, count_due, is_watched, AreOnce, AreWatched, IsIndexed, IsPlaceOf, IsWhole, HasRoom}
 use Rattle.std.specs.Vec.{with_item}
-use Rattle.expiring_table.specs.Kept.{rows_in, row_at, count_due, is_watched, AreOnce, AreWatched, IsIndexed, IsPlaceOf, IsWhole, IsOpen, HasRoom}
+use Rattle.expiring_table.specs.Kept.{IsOpen}
 use Rattle.expiring_table.proofs.Changes.{count_set, once_set, indexed_set, watched_then}
 use Rattle.expiring_table.proofs.Indexed.{contains_front, contains_rest}
 

@@ -1,10 +1,9 @@
 -- A row is taken out of distinct ones.
-use Rattle.std.proofs.Common.{◌≡◌, ◌⊎◌, inl, inr, ℕ, ◌+◌, true, false, cond, ◌==◌, List, [], ◌∷◌, length, Option, Some, None, refl, ap, sym, ◌∙◌, subst, arith}
+use Rattle.std.proofs.Common.{◌≡◌, ◌⊎◌, inl, inr, ℕ, ◌+◌, true, false, ◌==◌, List, [], ◌∷◌, length, Option, Some, None, refl, ap, sym, ◌∙◌, subst, arith}
 use Rattle.std.proofs.lemmas.Bool.{cases_Bool}
 use Rattle.std.proofs.lemmas.Option.{none-some, same_Some}
 use Rattle.expiring_table.specs.declared.row.Row.{Row}
-use Rattle.expiring_table.specs.Rows.{row_of, without, lives, living, AreDistinct, with_row}
-use Rattle.expiring_table.specs.Kept.{rows_in, AreOnce}
+use Rattle.expiring_table.specs.Prelude.{row_of, without, AreDistinct, with_row, rows_in, AreOnce}
 use Rattle.expiring_table.proofs.Cells.{once_tail, none_found}
 use Rattle.expiring_table.proofs.Changes.{rest_other}
 

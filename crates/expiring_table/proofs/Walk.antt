@@ -1,12 +1,10 @@
 -- A walk through the places of a bucket.
-use Rattle.std.proofs.Common.{◌≡◌, ℕ, ◌+◌, ◌<◌, ◌≤◌, true, false, List, length, slice_index, Option, Some, None, ap, sym, ◌∙◌, arith, true≢false}
-use Rattle.std.proofs.Common.{inl, inr}
+use Rattle.std.proofs.Common.{◌≡◌, ℕ, ◌+◌, ◌<◌, ◌≤◌, true, false, List, length, slice_index, Option, Some, None, ap, sym, ◌∙◌, arith, true≢false, inl, inr}
 use Rattle.std.proofs.Math.Nat.{eq-or-lt_of_le}
 use Rattle.std.proofs.lemmas.Bool.{cases_lt, eq-eqb, eqb-true}
 use Rattle.expiring_table.specs.declared.row.Row.{Row}
-use Rattle.expiring_table.specs.Chained.{Chained, IsLast}
+use Rattle.expiring_table.specs.Prelude.{Chained, IsLast, row_at, is_cell_of, AreHashed, IsPlaceOf, bucket_of}
 use Rattle.expiring_table.proofs.Cells.{row_within}
-use Rattle.expiring_table.specs.Kept.{row_at, is_cell_of, AreHashed, IsPlaceOf, bucket_of}
 
 -- how many places may be left
 abbrev pub left : Option ℕ → ℕ

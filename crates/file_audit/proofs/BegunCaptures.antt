@@ -1,6 +1,5 @@
 -- The heads of the given captures.
-use Rattle.std.proofs.Common.{◌≡◌, ℕ, List, [], ◌++◌, Result, Ok, Err, Option, Some, None, IfSome, drop, refl, sym, ap, subst, ◌∙◌, arith}
-use Rattle.std.specs.Prelude.{option_map}
+use Rattle.std.proofs.Common.{◌≡◌, ℕ, List, [], ◌++◌, Result, Ok, Err, Option, Some, None, IfSome, drop, refl, sym, ap, subst, ◌∙◌, arith, option_map}
 use Rattle.gate_base.specs.declared.side.Link.{Link}
 use Rattle.gate_desk.specs.declared.slot.Slot.{Slot}
 use Rattle.gate_desk.specs.declared.slot.Slot.TheVariants.{LeftGiven, RightGiven}
@@ -8,11 +7,10 @@ use Rattle.gate_desk.specs.declared.slot.PerSlot.{PerSlot}
 use Rattle.gate_desk.specs.Outside.{Outside, Trace, Takes, told_at, took}
 use Rattle.gate_desk.proofs.Laws.{failed_since, grows_takes, told_at-took_other}
 use Rattle.gate_settings.specs.declared.settings.Settings.{Settings}
-use Rattle.pcap_files.specs.Capture.{Good, Records, capture_of, head_of, records_from}
-use Rattle.pcap_files.specs.Reader.{Reading}
+use Rattle.pcap_files.specs.Prelude.{Good, Records, capture_of, head_of, records_from, Reading}
 use Rattle.pcap_files.specs.declared.form.Form.{Form}
 use Rattle.pcap_files.proofs.Records.{capture-good}
-use Rattle.lawful_files.specs.Files.{Given, HasLink, given_of}
+use Rattle.lawful_files.specs.Prelude.{Given, HasLink, given_of}
 use Rattle.gate_base.specs.declared.side.Side.TheVariants.{Left, Right}
 use Rattle.file_audit.specs.declared.given.GivenFiles.{GivenFiles}
 use Rattle.file_audit.specs.declared.stop.AuditStop.{AuditStop}

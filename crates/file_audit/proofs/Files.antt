@@ -1,12 +1,11 @@
 -- What was taken of the incoming captures and of the given files.
-use Rattle.std.proofs.Common.{◌≡◌, ℕ, ◌+◌, Some, None, refl, sym, ap, ◌∙◌}
-use Rattle.std.proofs.lemmas.List.{drop-drop}
+use Rattle.std.proofs.Common.{◌≡◌, ℕ, ◌+◌, Some, None, refl, sym, ap, ◌∙◌, drop-drop}
 use Rattle.gate_desk.specs.declared.slot.Slot.TheVariants.{LeftIn, RightIn, LeftGiven, RightGiven, ReportGiven}
 use Rattle.gate_desk.specs.Outside.{Outside, Trace, took}
 use Rattle.gate_desk.proofs.Laws.{took-none}
 use Rattle.pcap_merge.specs.declared.stop.MergeStop.{MergeStop}
 use Rattle.pcap_merge.specs.declared.stop.MergeStop.TheVariants as merges
-use Rattle.pcap_merge.specs.Merge.{Merging, Reads, StopsBy}
+use Rattle.pcap_merge.specs.Prelude.{Merging, Reads, StopsBy}
 use Rattle.file_audit.specs.Given.{ReadsGiven, TookFiles}
 
 -- of the incoming captures alone

@@ -2,8 +2,8 @@
 use Rattle.std.proofs.Common.{◌≡◌, ◌<◌, ◌≤◌, ◌+◌, ◌^◌, ℕ, List, ◌++◌, Bool, true, false, inl, inr, Option, Some, None, IfSome, length, take, drop, fold, refl, sym, ap, subst, ◌∙◌, arith, length-append}
 use Rattle.std.proofs.lemmas.List.{length-map, take_at}
 use Rattle.audit_records.specs.Kept.{Expecting}
-use Rattle.frag_join.specs.Arrivals.{Arrival}
-use Rattle.gate_base.specs.Side.{other}
+use Rattle.frag_join.specs.Prelude.{Arrival}
+use Rattle.gate_base.specs.Prelude.{other}
 use Rattle.gate_base.specs.declared.event.Verdict.{Verdict}
 use Rattle.gate_base.specs.declared.side.Side.{Side}
 use Rattle.gate_base.specs.declared.side.Side.TheVariants.{Left, Right}
@@ -13,12 +13,11 @@ use Rattle.gate_report.specs.Counts.{counted}
 use Rattle.gate_report.proofs.Counts.{few_passed, few_refused}
 use Rattle.gate_report.specs.declared.totals.Totals.{Totals}
 use Rattle.gate_settings.specs.declared.settings.Settings.{Settings}
-use Rattle.pcap_files.specs.Capture.{Packet, Records}
-use Rattle.pcap_merge.specs.Given.{with_records}
+use Rattle.pcap_files.specs.Prelude.{Packet, Records}
+use Rattle.pcap_merge.specs.Prelude.{with_records}
 use Rattle.lawful_files.specs.declared.reason.AuditReason.TheVariants as reasons
-use Rattle.lawful_files.specs.Files.{Given, given_at, State, line_of, record_of, HaveMacAddresses}
-use Rattle.lawful_files.specs.Progress.{IsSound, behind, behind_all, is_closed}
-use Rattle.lawful_files.specs.Wanted.{event_in, verdict_of, wanted_of}
+use Rattle.lawful_files.specs.Prelude.{Given, given_at, State, line_of, record_of, HaveMacAddresses, IsSound, behind, is_closed, event_in, verdict_of, wanted_of}
+use Rattle.lawful_files.specs.Progress.{behind_all}
 use Rattle.lawful_files.proofs.Judged.{addresses_of, not_lawful}
 use Rattle.lawful_files.proofs.Progressed.{is_whole}
 use Rattle.file_audit.specs.declared.given.GivenFiles.{GivenFiles}

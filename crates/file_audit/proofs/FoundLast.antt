@@ -9,12 +9,10 @@ use Rattle.gate_report.specs.Counts.{done_line}
 use Rattle.gate_report.specs.declared.line.Line.{Line}
 use Rattle.gate_report.specs.declared.totals.Totals.{Totals}
 use Rattle.gate_settings.specs.declared.settings.Settings.{Settings}
-use Rattle.pcap_files.specs.Capture.{Whole, records_from}
-use Rattle.pcap_files.specs.Reader.{Reading}
-use Rattle.pcap_merge.specs.Events.{Done}
+use Rattle.pcap_files.specs.Prelude.{Whole, records_from, Reading}
+use Rattle.pcap_merge.specs.Prelude.{Done}
 use Rattle.lawful_files.specs.declared.reason.AuditReason.TheVariants as reasons
-use Rattle.lawful_files.specs.Files.{Given, State, IsAtLast, last_line}
-use Rattle.lawful_files.specs.Reasons.{IsFirst}
+use Rattle.lawful_files.specs.Prelude.{Given, State, IsAtLast, last_line, IsFirst}
 use Rattle.file_audit.specs.declared.given.GivenFiles.{GivenFiles}
 use Rattle.file_audit.specs.Given.{Fits, given_told}
 use Rattle.file_audit.specs.Lines.{IsLast, octets_of}

@@ -3,9 +3,7 @@ use Rattle.std.proofs.Common.{◌≡◌, ℕ, List, Some, None, IfSome, refl, sy
 use Rattle.gate_base.specs.declared.side.Side.TheVariants.{Left, Right}
 use Rattle.gate_desk.specs.declared.slot.Slot.TheVariants.{LeftIn, RightIn, LeftGiven, RightGiven, ReportGiven}
 use Rattle.gate_desk.specs.Outside.{Outside, Trace, took, told_at}
-use Rattle.pcap_merge.specs.Merge.{Merging, AtEnds}
-use Rattle.pcap_merge.specs.Order.{is_unread}
-use Rattle.pcap_merge.specs.Sides.{IsSpent}
+use Rattle.pcap_merge.specs.Prelude.{Merging, AtEnds, is_unread, IsSpent}
 
 -- each side of the merge that was read to its end has nothing left
 spent_kept : (P Q : List ℕ → Type 0) (m n k : ℕ) (t : Trace) → IfSome t (λ all. P all.left_in × Q all.right_in) → IfSome (took ReportGiven k (took RightGiven n (took LeftGiven m t))) (λ all. P all.left_in × Q all.right_in)

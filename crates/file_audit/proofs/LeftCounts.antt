@@ -3,8 +3,7 @@ use Rattle.std.proofs.Common.{◌≡◌, Result, Ok, Err, ◌∙◌}
 use Rattle.gate_desk.specs.Outside.{Outside}
 use Rattle.pcap_merge.specs.declared.stop.MergeStop.{MergeStop}
 use Rattle.pcap_merge.specs.declared.stop.MergeStop.TheVariants as merges
-use Rattle.pcap_merge.specs.Merge.{Merging, Advances}
-use Rattle.pcap_merge.specs.Stops.{StopLeavesCounts}
+use Rattle.pcap_merge.specs.Prelude.{Merging, Advances, StopLeavesCounts}
 use Rattle.file_audit.specs.declared.stop.AuditStop.{AuditStop}
 use Rattle.file_audit.specs.declared.stop.AuditStop.TheVariants.{Unlawful, Capture, Desk, OutOfMemory}
 use Rattle.file_audit.specs.Events.{stop_of}

@@ -1,15 +1,13 @@
 -- What is taken of the given files, and what is left of them.
-use Rattle.std.proofs.Common.{◌≡◌, ◌<◌, ◌+◌, ◌-◌, ℕ, List, Bool, true, false, Result, Ok, Err, Option, Some, None, IfSome, length, drop, refl, sym, ap, subst, ◌∙◌, arith}
-use Rattle.std.proofs.lemmas.List.{drop-drop}
+use Rattle.std.proofs.Common.{◌≡◌, ◌<◌, ◌+◌, ◌-◌, ℕ, List, Bool, true, false, Result, Ok, Err, Option, Some, None, IfSome, length, drop, refl, sym, ap, subst, ◌∙◌, arith, drop-drop}
 use Rattle.gate_base.specs.declared.side.Side.TheVariants.{Left, Right}
 use Rattle.gate_desk.specs.declared.desk.Failed.{Failed}
 use Rattle.gate_desk.specs.declared.slot.Slot.TheVariants.{LeftGiven, RightGiven, ReportGiven}
 use Rattle.gate_desk.specs.Outside.{Outside, Trace, Takes, told_at, took}
 use Rattle.gate_desk.proofs.Laws.{grows_takes, grows_on, took-none}
-use Rattle.pcap_files.specs.Capture.{Packet, records_from}
-use Rattle.pcap_files.specs.Reader.{Reading}
-use Rattle.pcap_merge.specs.Given.{with_records}
-use Rattle.lawful_files.specs.Files.{Given}
+use Rattle.pcap_files.specs.Prelude.{Packet, records_from, Reading}
+use Rattle.pcap_merge.specs.Prelude.{with_records}
+use Rattle.lawful_files.specs.Prelude.{Given}
 use Rattle.file_audit.specs.declared.given.GivenFiles.{GivenFiles}
 use Rattle.file_audit.specs.declared.line.LineHead.{LineHead}
 use Rattle.file_audit.specs.declared.stop.AuditStop.{AuditStop}

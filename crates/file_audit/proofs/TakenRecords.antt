@@ -1,21 +1,18 @@
 -- The next records of a given capture.
-use Rattle.std.proofs.Common.{◌≡◌, ℕ, ◌+◌, ◌-◌, ◌*◌, ◌^◌, ◌≤◌, ◌<◌, List, [], ◌∷◌, ◌++◌, true, false, Ok, Err, Option, Some, None, IfSome, drop, length, refl, sym, ap, subst, ◌∙◌, arith, append_assoc, length-append}
-use Rattle.std.specs.Prelude.{option_map}
-use Rattle.std.proofs.lemmas.List.{drop-drop}
+use Rattle.std.proofs.Common.{◌≡◌, ℕ, ◌+◌, ◌-◌, ◌*◌, ◌^◌, ◌≤◌, ◌<◌, List, [], ◌∷◌, ◌++◌, true, false, Ok, Err, Option, Some, None, IfSome, drop, length, refl, sym, ap, subst, ◌∙◌, arith, append_assoc, length-append, option_map, drop-drop}
 use Rattle.std.proofs.lemmas.List.Sums.{fold-append}
-use Rattle.gate_base.specs.Side.{other}
+use Rattle.gate_base.specs.Prelude.{other}
 use Rattle.gate_desk.specs.declared.slot.Slot.{Slot}
 use Rattle.gate_desk.specs.declared.desk.Failed.{Failed}
 use Rattle.gate_desk.specs.Outside.{Outside, Takes, HasFailed, told_at}
 use Rattle.gate_desk.proofs.Laws.{takes_none, takes_on, told_at-took, grows_takes, failed_since}
-use Rattle.pcap_files.specs.Capture.{Packet, Records, size, Ended, Broken, Came, Whole, next_at, records_from}
+use Rattle.pcap_files.specs.Prelude.{Packet, Records, size, Ended, Broken, Came, Whole, next_at, records_from, Reading, Advances}
 use Rattle.pcap_files.specs.Capture as faults
-use Rattle.pcap_files.specs.Reader.{Reading, Advances}
 use Rattle.pcap_files.proofs.Records.{records-came, records-ended, records-broken}
-use Rattle.pcap_merge.specs.Given.{with_records}
+use Rattle.pcap_merge.specs.Prelude.{with_records}
 use Rattle.pcap_files.specs.declared.fault.CaptureFault.{CaptureFault}
 use Rattle.pcap_files.specs.declared.fault.ReadStop.TheVariants.{Fault}
-use Rattle.lawful_files.specs.Progress.{Progress, behind, carries}
+use Rattle.lawful_files.specs.Prelude.{Progress, behind, carries}
 use Rattle.audit_records.proofs.Carried.{carries_few}
 use Rattle.gate_audit.specs.Auditing.{Auditing}
 use Rattle.file_audit.specs.Records.{FindsEnd, Took, judged, TakesSome, TakesRecord, TakesRecords}

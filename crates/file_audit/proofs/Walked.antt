@@ -1,15 +1,13 @@
 -- How far an audit has come: the steps of its loop.
-use Rattle.std.proofs.Common.{◌≡◌, ℕ, ◌+◌, List, [], ◌∷◌, ◌++◌, Ok, Err, Option, Some, None, IfSome, inl, inr, length, refl, sym, ap, subst, ◌∙◌, arith, append_assoc, append-nil, length-append}
-use Rattle.std.specs.Prelude.{option_map}
-use Rattle.frag_join.specs.Arrivals.{Arrival, arrival, arrival_by, arrivals_of, arrivals_from, joined_in, joiner_after, joiner_of, known_joiner, opened, taken_by}
+use Rattle.std.proofs.Common.{◌≡◌, ℕ, ◌+◌, List, [], ◌∷◌, ◌++◌, Ok, Err, Option, Some, None, IfSome, inl, inr, length, refl, sym, ap, subst, ◌∙◌, arith, append_assoc, append-nil, length-append, option_map}
+use Rattle.frag_join.specs.Prelude.{Arrival, arrival, arrival_by, arrivals_of, arrivals_from, joined_in, joiner_after, joiner_of, known_joiner, opened, by_list, by_known, Coverage}
+use Rattle.frag_join.specs.Arrivals.{taken_by}
 use Rattle.frag_join.specs.declared.taken.Taken.{Taken}
 use Rattle.frag_join.specs.declared.taken.Taken.TheVariants.{Plain, Held, Refused}
 use Rattle.frag_join.specs.declared.taken.Taken.TheVariants as takens
-use Rattle.frag_join.specs.Joining.{by_list, by_known}
 use Rattle.frag_join.specs.Joining as joining
-use Rattle.frag_join.specs.Coverage.{Coverage}
 use Rattle.frag_join.proofs.ArrivalSteps.{arrivals-none, arrivals-next, arrivals-one, joiner-one, arrival-known, joiner-known, joined-at, opened-known}
-use Rattle.gate_base.specs.Events.{Event}
+use Rattle.gate_base.specs.Prelude.{Event}
 use Rattle.gate_base.specs.declared.side.Side.{Side}
 use Rattle.gate_base.specs.declared.side.Side.TheVariants.{Left, Right}
 use Rattle.gate_desk.specs.declared.slot.Slot.TheVariants.{LeftIn, RightIn, LeftGiven, RightGiven, ReportGiven}
@@ -17,17 +15,12 @@ use Rattle.gate_desk.specs.Outside.{Outside, Trace, Grows, HasFailed, took}
 use Rattle.gate_desk.proofs.Laws.{grows_on, failed_since}
 use Rattle.gate_report.specs.declared.totals.Totals.{Totals}
 use Rattle.gate_settings.specs.declared.settings.Settings.{Settings}
-use Rattle.pcap_merge.specs.Events.{Merged, Ending, Done, Fault, with_event}
+use Rattle.pcap_merge.specs.Prelude.{Merged, Ending, Done, Fault, with_event, slot_of, TakenFor, Merging, HasGiven, Reads, StopsBy, ComesTo, Finishes}
 use Rattle.pcap_merge.specs.declared.stop.MergeStop.{MergeStop}
 use Rattle.pcap_merge.specs.declared.stop.MergeStop.TheVariants as merges
-use Rattle.pcap_merge.specs.Stops.{slot_of}
-use Rattle.pcap_merge.specs.Given.{TakenFor}
-use Rattle.pcap_merge.specs.Merge.{Merging, HasGiven, Reads, StopsBy, ComesTo, Finishes, ahead}
+use Rattle.pcap_merge.specs.Merge.{ahead}
 use Rattle.lawful_files.specs.declared.reason.AuditReason.{AuditReason}
-use Rattle.lawful_files.specs.Files.{Given, State, opening, after, LawfulFrom, IsAtLast}
-use Rattle.lawful_files.specs.Reasons.{IsFirst}
-use Rattle.lawful_files.specs.Walks.{CameTo}
-use Rattle.lawful_files.specs.Wanted.{event_in}
+use Rattle.lawful_files.specs.Prelude.{Given, State, opening, after, LawfulFrom, IsAtLast, IsFirst, CameTo, event_in}
 use Rattle.lawful_files.proofs.Further.{came_more, lawful_behind, first_behind}
 use Rattle.file_audit.specs.declared.given.GivenFiles.{GivenFiles}
 use Rattle.file_audit.specs.declared.line.LineHead.{LineHead}

@@ -1,29 +1,24 @@
 -- Where memory is wanting.
 use Rattle.std.proofs.Common.{◌≡◌, ℕ, List, Bool, Err, sym, ap, subst, ◌∙◌}
-use Rattle.frag_join.specs.Arrivals.{Arrival}
-use Rattle.gate_base.specs.Events.{Event}
+use Rattle.frag_join.specs.Prelude.{Arrival}
+use Rattle.gate_base.specs.Prelude.{Event}
 use Rattle.gate_base.specs.declared.side.Side.{Side}
 use Rattle.gate_base.specs.declared.side.Side.TheVariants.{Left, Right}
-use Rattle.gate_desk.specs.declared.slot.Slot.TheVariants.{LeftIn, RightIn, ReportGiven}
-use Rattle.gate_desk.specs.Outside.{Outside, Trace, Grows, HasFailed, told_at}
-use Rattle.gate_desk.proofs.Laws.{failed_since}
-use Rattle.gate_settings.specs.declared.settings.Settings.{Settings}
-use Rattle.gate_report.specs.declared.line.Line.{Line}
+use Rattle.gate_desk.specs.declared.slot.Slot.TheVariants.{LeftIn, RightIn}
+use Rattle.gate_desk.specs.Outside.{Outside, Trace, HasFailed, told_at}
 use Rattle.pcap_merge.specs.declared.stop.MergeStop.{MergeStop}
 use Rattle.pcap_merge.specs.declared.stop.MergeStop.TheVariants as merges
-use Rattle.pcap_merge.specs.Given.{TakenFor}
-use Rattle.pcap_merge.specs.Merge.{Merging, HasGiven, StopsBy, TakesFew}
-use Rattle.pcap_merge.specs.Stops.{slot_of}
+use Rattle.pcap_merge.specs.Prelude.{TakenFor, Merging, HasGiven, StopsBy, TakesFew, slot_of}
 use Rattle.pcap_merge.proofs.Given.{taken_later}
-use Rattle.lawful_files.specs.Files.{State}
+use Rattle.lawful_files.specs.Prelude.{State}
 use Rattle.file_audit.specs.declared.given.GivenFiles.{GivenFiles}
 use Rattle.file_audit.specs.declared.line.LineHead.{LineHead}
 use Rattle.file_audit.specs.declared.stop.AuditStop.{AuditStop}
 use Rattle.file_audit.specs.declared.stop.AuditStop.TheVariants.{Unlawful, Capture, Desk, OutOfMemory}
-use Rattle.file_audit.specs.Events.{FindsAt, FindsLast, IsReadInAudit}
+use Rattle.file_audit.specs.Events.{FindsAt, IsReadInAudit}
 use Rattle.file_audit.specs.Given.{ReadsGiven}
 use Rattle.file_audit.proofs.IncomingEnds.{left_kept, right_kept}
-use Rattle.file_audit.specs.Lines.{TakesLast, TakesLine}
+use Rattle.file_audit.specs.Lines.{TakesLine}
 use Rattle.gate_audit.specs.Auditing.{Auditing}
 
 -- a line could not be taken

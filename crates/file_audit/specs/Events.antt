@@ -1,8 +1,7 @@
 -- What is found at an event, and over all of them.
 use Rattle.std.specs.Prelude.{◌≡◌, ◌⊎◌, true, false, ◌+◌, ℕ, List, [], ◌∷◌, ◌++◌, length, Result, Ok, Err, IfSome, option_map}
-use Rattle.frag_join.specs.Arrivals.{Arrival, Reaches, Stopped, arrival, arrivals_of, joiner_of}
-use Rattle.frag_join.specs.Joining.{by_list}
-use Rattle.gate_base.specs.Events.{Event}
+use Rattle.frag_join.specs.Prelude.{Arrival, Reaches, Stopped, arrival, arrivals_of, joiner_of, by_list}
+use Rattle.gate_base.specs.Prelude.{Event}
 use Rattle.gate_base.specs.declared.event.OutOfMemory.{OutOfMemory}
 use Rattle.gate_base.specs.declared.side.Side.{Side}
 use Rattle.gate_desk.specs.declared.slot.Slot.{Slot}
@@ -12,20 +11,14 @@ use Rattle.gate_desk.specs.Outside.{Outside, HasFailed}
 use Rattle.gate_report.specs.declared.totals.Totals.{Totals}
 use Rattle.gate_report.specs.Counts.{nothing_counted}
 use Rattle.gate_settings.specs.declared.settings.Settings.{Settings}
-use Rattle.gate_model.specs.Sessions.{WholeSession}
-use Rattle.gate_model.specs.World.{World, at_moment}
-use Rattle.pcap_merge.specs.Events.{Merged, Ending, Done, Fault}
+use Rattle.gate_model.specs.Prelude.{WholeSession, World, at_moment}
+use Rattle.pcap_merge.specs.Prelude.{Merged, Ending, Done, Fault, TakenFor, Merging, HasGiven, ahead}
 use Rattle.pcap_merge.specs.declared.stop.MergeStop.{MergeStop}
 use Rattle.pcap_merge.specs.declared.stop.MergeStop.TheVariants as merges
-use Rattle.pcap_merge.specs.Given.{TakenFor}
-use Rattle.pcap_merge.specs.Merge.{Merging, HasGiven, ahead}
 use Rattle.lawful_files.specs.declared.reason.AuditReason.{AuditReason}
 use Rattle.lawful_files.specs.declared.reason.AuditReason.TheVariants.{Capture}
-use Rattle.lawful_files.specs.Files.{Given, State, opening, after, given_of, HasLink, IsLawfulAt, LawfulFrom, IsAtLast}
-use Rattle.lawful_files.specs.Progress.{begun, IsSound}
-use Rattle.lawful_files.specs.Reasons.{IsFirst}
-use Rattle.lawful_files.specs.Walks.{CameTo}
-use Rattle.lawful_files.specs.Wanted.{event_in, verdict_of, wanted_of, world_after}
+use Rattle.lawful_files.specs.Prelude.{Given, State, opening, after, given_of, HasLink, IsLawfulAt, LawfulFrom, IsAtLast, begun, IsSound, IsFirst, CameTo, event_in, verdict_of, wanted_of}
+use Rattle.lawful_files.specs.Wanted.{world_after}
 use Rattle.file_audit.specs.declared.line.LineHead.{LineHead}
 use Rattle.file_audit.specs.declared.given.GivenFiles.{GivenFiles}
 use Rattle.file_audit.specs.declared.stop.AuditStop.{AuditStop}

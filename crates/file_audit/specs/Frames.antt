@@ -1,17 +1,16 @@
 -- What is taken of the given captures: a head, and the next records of the one to which an event's frames go.
 use Rattle.std.specs.Prelude.{◌≡◌, ◌≤◌, ◌<◌, ◌+◌, ◌^◌, ℕ, Bool, true, false, List, length, Result, Ok, Err, None, IfSome}
-use Rattle.gate_base.specs.Side.{other}
+use Rattle.gate_base.specs.Prelude.{other}
 use Rattle.gate_base.specs.declared.side.Link.{Link}
 use Rattle.gate_base.specs.declared.side.Side.{Side}
 use Rattle.gate_desk.specs.declared.slot.Slot.{Slot}
 use Rattle.gate_desk.specs.Outside.{Outside, Takes, HasFailed, told_at}
 use Rattle.gate_report.specs.Counts.{frames_to_left, frames_to_right}
-use Rattle.pcap_files.specs.Capture.{Good, Packet, head_of}
-use Rattle.pcap_files.specs.Reader.{Reading}
+use Rattle.pcap_files.specs.Prelude.{Good, Packet, head_of, Reading}
 use Rattle.pcap_files.specs.declared.form.Form.{Form}
-use Rattle.pcap_merge.specs.Given.{with_records}
+use Rattle.pcap_merge.specs.Prelude.{with_records}
 use Rattle.lawful_files.specs.declared.reason.AuditReason.TheVariants as reasons
-use Rattle.lawful_files.specs.Files.{Given, given_at, HasLink}
+use Rattle.lawful_files.specs.Prelude.{Given, given_at, HasLink}
 use Rattle.file_audit.specs.declared.given.GivenFiles.{GivenFiles}
 use Rattle.file_audit.specs.declared.stop.AuditStop.{AuditStop}
 use Rattle.file_audit.specs.declared.stop.AuditStop.TheVariants.{Unlawful, Capture, Desk, OutOfMemory}

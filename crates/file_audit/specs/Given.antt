@@ -7,9 +7,8 @@ use Rattle.gate_desk.specs.declared.slot.Slot.TheVariants.{LeftIn, RightIn, Left
 use Rattle.gate_desk.specs.declared.slot.PerSlot.{PerSlot}
 use Rattle.gate_desk.specs.Outside.{Outside, Trace, Grows, Takes, told_at, took}
 use Rattle.gate_report.specs.declared.totals.Totals.{Totals}
-use Rattle.pcap_files.specs.Capture.{records_from}
-use Rattle.pcap_files.specs.Reader.{Reading}
-use Rattle.lawful_files.specs.Files.{Given}
+use Rattle.pcap_files.specs.Prelude.{records_from}
+use Rattle.lawful_files.specs.Prelude.{Given}
 use Rattle.file_audit.specs.declared.given.GivenFiles.{GivenFiles}
 
 -- the octets that were read ahead are as many as there is room for, or all that are left, and nothing of the report was lost

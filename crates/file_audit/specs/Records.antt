@@ -1,12 +1,11 @@
 -- The next records of a given capture, as they are taken and judged.
 use Rattle.std.specs.Prelude.{◌≡◌, ◌-◌, ◌≤◌, ◌<◌, ◌+◌, ◌^◌, ℕ, Bool, true, false, List, [], ◌∷◌, fold, length, drop, Result, Ok, Err, None, IfSome}
-use Rattle.gate_base.specs.Side.{other}
+use Rattle.gate_base.specs.Prelude.{other}
 use Rattle.gate_desk.specs.Outside.{Outside, Takes, HasFailed, told_at}
 use Rattle.gate_desk.specs.declared.desk.Failed.{Failed}
-use Rattle.pcap_files.specs.Capture.{Packet, Whole, records_from}
-use Rattle.pcap_files.specs.Reader.{Reading}
-use Rattle.pcap_merge.specs.Given.{with_records}
-use Rattle.lawful_files.specs.Progress.{behind}
+use Rattle.pcap_files.specs.Prelude.{Packet, Whole, records_from, Reading}
+use Rattle.pcap_merge.specs.Prelude.{with_records}
+use Rattle.lawful_files.specs.Prelude.{behind}
 use Rattle.gate_audit.specs.Auditing.{Auditing}
 
 -- how far the records of the last event have come behind these

@@ -1,11 +1,10 @@
 // What is found at a frame, and behind the last one.
 ghost use Rattle.std.specs.Prelude.{◌≡◌, ◌<◌, ◌^◌, false, length};
-ghost use Rattle.gate_base.specs.Moments.{IsMoment};
-ghost use Rattle.frag_join.specs.Arrivals.{Arrival};
+ghost use Rattle.gate_base.specs.Prelude.{IsMoment};
+ghost use Rattle.frag_join.specs.Prelude.{Arrival};
 ghost use Rattle.gate_desk.specs.Outside.{CanRead};
 ghost use Rattle.gate_desk.specs.declared.slot.Slot.TheVariants.{LeftGiven, RightGiven, ReportGiven};
-ghost use Rattle.lawful_files.specs.Files.{HaveMacAddresses, State};
-ghost use Rattle.lawful_files.specs.Progress.{begun};
+ghost use Rattle.lawful_files.specs.Prelude.{HaveMacAddresses, State, begun};
 ghost use Rattle.file_audit.specs.Events.{state_of, FindsAt, FindsLast, IsExpecting};
 ghost use Rattle.file_audit.specs.Given.{Fits, IsRunning, ReadsGiven};
 ghost use Rattle.file_audit.specs.Stops.{LeavesFaults};

@@ -1,11 +1,11 @@
 // All events of both captures.
 ghost use Rattle.std.specs.Prelude.{◌≡◌, ◌≤◌, ◌^◌, None, OnOk};
-ghost use Rattle.frag_join.specs.Arrivals.{opened};
+ghost use Rattle.frag_join.specs.Prelude.{opened};
 ghost use Rattle.gate_desk.specs.Outside.{CanRead, Grows, IsAtEnd};
 ghost use Rattle.gate_desk.specs.declared.slot.Slot.TheVariants.{LeftIn, RightIn, LeftGiven, RightGiven, ReportGiven};
 ghost use Rattle.gate_audit.specs.Auditing.{IsOpening};
 ghost use Rattle.gate_report.specs.Counts.{nothing_counted};
-ghost use Rattle.pcap_merge.specs.Merge.{work, AtEnds};
+ghost use Rattle.pcap_merge.specs.Prelude.{work, AtEnds};
 ghost use Rattle.file_audit.specs.Events.{Finds, TookFew};
 ghost use Rattle.file_audit.specs.Given.{Fits, IsRunning};
 ghost use Rattle.file_audit.specs.Stops.{LeavesCounts};

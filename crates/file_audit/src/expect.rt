@@ -1,9 +1,7 @@
 // A frame is expected: as the event that comes to the gate, or as one that stays before it.
 ghost use Rattle.std.specs.Prelude.{◌≡◌, false, OnOk};
-ghost use Rattle.gate_base.specs.Moments.{IsMoment};
-ghost use Rattle.frag_join.specs.Arrivals.{Reaches, Stopped, arrival, joiner_after};
-ghost use Rattle.frag_join.specs.Joining.{by_known};
-ghost use Rattle.gate_base.specs.Events.{event_of};
+ghost use Rattle.gate_base.specs.Prelude.{IsMoment, event_of};
+ghost use Rattle.frag_join.specs.Prelude.{Reaches, Stopped, arrival, joiner_after, by_known};
 ghost use Rattle.file_audit.specs.Events.{Expected};
 
 use crate::line::LineHead;

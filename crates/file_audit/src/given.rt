@@ -2,7 +2,7 @@
 ghost use Rattle.std.specs.Prelude.{◌≡◌, false};
 ghost use Rattle.gate_desk.specs.Outside.{CanRead};
 ghost use Rattle.gate_desk.specs.declared.slot.Slot.TheVariants.{LeftGiven, RightGiven};
-ghost use Rattle.lawful_files.specs.Progress.{begun};
+ghost use Rattle.lawful_files.specs.Prelude.{begun};
 ghost use Rattle.file_audit.specs.Events.{BeginsGiven};
 ghost use Rattle.file_audit.specs.Frames.{BeginsCapture, TakesNext};
 ghost use Rattle.file_audit.specs.Given.{IsRunning, ReadsGiven};

@@ -1,6 +1,6 @@
 // The lines of the given report.
 ghost use Rattle.std.specs.Prelude.{OnErr, true, ◌≡◌, ◌<◌, ◌≤◌, ◌^◌, IfOk, length};
-ghost use Rattle.gate_base.specs.Moments.{IsMoment};
+ghost use Rattle.gate_base.specs.Prelude.{IsMoment};
 ghost use Rattle.gate_desk.specs.declared.slot.Slot.TheVariants.{ReportGiven};
 ghost use Rattle.gate_desk.specs.Outside.{CanRead};
 ghost use Rattle.file_audit.specs.Lines.{agreed, agreement, number_after, with_digit, octets_of, line_with, FindsLine, IsLast, TakesLine, TakesLast};

@@ -1,7 +1,7 @@
 // The next records of a given capture.
 ghost use Rattle.std.specs.Prelude.{◌≡◌, ◌≤◌, ◌*◌, ◌<◌, ◌^◌, false, None, OnOk};
 ghost use Rattle.gate_desk.specs.Outside.{CanRead};
-ghost use Rattle.lawful_files.specs.Progress.{begun};
+ghost use Rattle.lawful_files.specs.Prelude.{begun};
 ghost use Rattle.file_audit.specs.Records.{FindsEnd, TakesRecord, TakesRecords};
 
 use gate_audit::Auditor;

@@ -1,7 +1,7 @@
 // Records of a segment whose session sends 100 octets, at most 88 at a time, and of events of which one datagram or none is wanted.
 ghost use Rattle.std.specs.Prelude.{◌≡◌, ◌≤◌, ◌+◌, ◌*◌, ◌^◌, length, OnOk, IfOk};
-ghost use Rattle.tcp_segments.specs.Tcp.{IsTcpHeader};
-ghost use Rattle.lawful_files.specs.Progress.{begun};
+ghost use Rattle.tcp_segments.specs.Prelude.{IsTcpHeader};
+ghost use Rattle.lawful_files.specs.Prelude.{begun};
 
 use audit_records::{Expected, Pieces};
 use audit_streams::Sent;

@@ -1,18 +1,14 @@
 -- Frames on their way to the gate, one after another.
-use Rattle.std.proofs.Common.{◌≡◌, ℕ, Bool, true, false, cond, List, [], ◌∷◌, ◌++◌, map, Option, Some, None, refl, sym, ap, ◌∙◌}
-use Rattle.std.specs.List.{fold}
+use Rattle.std.proofs.Common.{◌≡◌, ℕ, Bool, true, false, cond, List, [], ◌∷◌, ◌++◌, map, Option, Some, None, refl, sym, ap, ◌∙◌, fold}
 use Rattle.std.proofs.lemmas.List.Sums.{fold-append}
-use Rattle.gate_base.specs.Events.{Event}
-use Rattle.gate_base.specs.Tests.{first_that_holds}
+use Rattle.gate_base.specs.Prelude.{Event, first_that_holds}
 use Rattle.gate_base.specs.declared.event.Verdict.TheVariants as verdicts
 use Rattle.gate_base.specs.declared.refusal.Refusal.{Refusal}
 use Rattle.gate_base.specs.declared.side.Side.{Side}
 use Rattle.frag_join.specs.declared.part.Part.{Part}
 use Rattle.frag_join.specs.declared.taken.Taken.TheVariants.{Plain, Held, Joined}
-use Rattle.frag_join.specs.Fragments.{Fragment, is_fragment, name_in}
-use Rattle.frag_join.specs.Coverage.{Coverage, is_complete, datagram_of}
-use Rattle.frag_join.specs.Joining.{Keeping, State, Step, by_list, by_known, live, part_of, part_or_new, changed, place_of, event_from, fragment_tests, with_fragment, taken_unless, fragment_step}
-use Rattle.frag_join.specs.Arrivals.{Arrival, Reaches, Stopped, ArrivalIs, ArrivalsAre, part_before, fragment_reason, known_with, opened, joiner_after, joined_in, arrival_by, arrival, arrivals_from, arrivals_of, joiner_of, known_joiner, coming}
+use Rattle.frag_join.specs.Prelude.{Fragment, is_fragment, name_in, Coverage, is_complete, datagram_of, Keeping, State, Step, by_list, by_known, live, part_of, part_or_new, changed, place_of, event_from, fragment_tests, with_fragment, taken_unless, fragment_step, Arrival, Reaches, Stopped, ArrivalsAre, opened, joiner_after, joined_in, arrival_by, arrival, arrivals_of, joiner_of, known_joiner}
+use Rattle.frag_join.specs.Arrivals.{ArrivalIs, part_before, fragment_reason, known_with, arrivals_from, coming}
 use Rattle.frag_join.proofs.KeptSteps.{step-known}
 
 -- ## More frames

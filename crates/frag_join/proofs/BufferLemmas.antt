@@ -1,14 +1,11 @@
 -- What a buffer holds.
-use Rattle.std.proofs.Common.{◌≡◌, ℕ, ◌+◌, ◌/◌, ◌%◌, ◌<◌, ◌≤◌, Bool, true, false, ◌&&◌, ◌||◌, eqb, ltb, cond, List, [], ◌++◌, take, drop, length, get_or, Some, None, is_some, unwrap_or, refl, sym, ap, ◌∙◌, arith, replicate, ◌-◌, ◌*◌, ◌⊎◌, inl, inr}
+use Rattle.std.proofs.Common.{◌≡◌, ℕ, ◌+◌, ◌/◌, ◌<◌, ◌≤◌, Bool, true, false, ◌&&◌, ◌||◌, eqb, ltb, cond, List, [], ◌++◌, take, drop, length, get_or, Some, None, is_some, unwrap_or, refl, sym, ap, ◌∙◌, arith, replicate, ◌-◌, ◌*◌, ◌⊎◌, inl, inr}
 use Rattle.std.proofs.lemmas.Bool.{and_parts, cases_lt}
 use Rattle.std.proofs.lemmas.List.{get_or_default, take-append-drop, take-take, drop-take, length-take-le, length-drop, get_or-take, get_or-drop, length-replicate, get_or-replicate}
-use Rattle.frag_join.specs.Places.{table, count_below}
-use Rattle.frag_join.specs.Fragments.{Fragment, end_of}
-use Rattle.frag_join.specs.Coverage.{octet_of, is_other, is_above, ends_otherwise, is_complete, is_covered, whole_head, sealed, spelled, payload_below}
-use Rattle.frag_join.specs.Inside.{octet_inside, known_inside, IsWhole}
+use Rattle.frag_join.specs.Prelude.{table, count_below, Fragment, end_of, octet_of, is_other, is_above, ends_otherwise, is_complete, is_covered, whole_head, sealed, spelled, payload_below, octet_inside, known_inside, IsWhole}
 use Rattle.frag_join.specs.declared.buffer.Buffer.TheInside.{Inside}
 use Rattle.frag_join.proofs.Splices.{splice, length-splice, splice-inside, splice-behind}
-use Rattle.frag_join.proofs.PlaceLemmas.{length-table, at-table, past-table, same-tables, is-table, all-counted, all-each, same-all, same-count}
+use Rattle.frag_join.proofs.PlaceLemmas.{length-table, at-table, past-table, same-tables, is-table, all-counted, all-each, same-all}
 
 -- the octet that is known at a place below the reach
 pub octet-below : (b : Inside) (place : ℕ) → place < b.reach → octet_of (known_inside b) place ≡ octet_inside b place

@@ -1,13 +1,10 @@
 -- The fragments of a datagram are taken, in any order and with repeats.
-use Rattle.std.proofs.Common.{◌≡◌, ◌≢◌, ℕ, ◌+◌, ◌<◌, ◌≤◌, Bool, true, false, ◌&&◌, not, leb, cond, List, [], ◌∷◌, ◌++◌, map, length, get_or, set, Option, Some, None, is_some, refl, sym, ap, ◌∙◌, arith, ◌⊎◌, inl, inr, append_assoc}
-use Rattle.std.specs.Prelude.{slice_get, All}
-use Rattle.std.specs.List.{filter, find}
+use Rattle.std.proofs.Common.{◌≡◌, ◌≢◌, ℕ, ◌+◌, ◌<◌, ◌≤◌, Bool, true, false, ◌&&◌, not, leb, cond, List, [], ◌∷◌, ◌++◌, map, length, get_or, set, Option, Some, None, is_some, refl, sym, ap, ◌∙◌, arith, ◌⊎◌, inl, inr, append_assoc, slice_get, All, filter, find}
 use Rattle.std.proofs.lemmas.Bool.{true≢false, cases_Bool, lt-ltb, and_parts}
 use Rattle.std.proofs.lemmas.List.{append-nil, map-append}
 use Rattle.std.proofs.lemmas.List.Elements.{All-nil, All-cons, All-head, All-tail, All-push}
 use Rattle.std.proofs.lemmas.List.Quantifiers.{position-Some}
-use Rattle.gate_base.specs.Events.{Event}
-use Rattle.gate_base.specs.Tests.{first_that_holds}
+use Rattle.gate_base.specs.Prelude.{Event, first_that_holds}
 use Rattle.gate_base.specs.declared.refusal.Refusal.{Refusal}
 use Rattle.gate_base.specs.declared.refusal.Refusal.TheVariants.{IpOptions, BadFragment, FragmentsFull}
 use Rattle.gate_base.proofs.Lists.{find_passes, find_filter}
@@ -15,10 +12,9 @@ use Rattle.ipv4_frames.specs.Ipv4.{has_options}
 use Rattle.frag_join.specs.declared.part.Name.{Name}
 use Rattle.frag_join.specs.declared.part.Part.{Part}
 use Rattle.frag_join.specs.declared.taken.Taken.TheVariants.{Plain, Held, Refused}
-use Rattle.frag_join.specs.Fragments.{Fragment, is_fragment, name_in, same_name, fragment_in, octets_of}
-use Rattle.frag_join.specs.Coverage.{Coverage, known_by, is_bad, is_complete, datagram_of}
-use Rattle.frag_join.specs.Joining.{State, Step, by_list, by_known, state_known, step_known, limit, timeout, is_live, live, is_of, place_of, part_of, part_or_new, event_from, fragment_tests, settled, with_fragment, taken_unless, fragment_taken, fragment_step, step_by, step, after}
-use Rattle.frag_join.specs.Cuts.{Original, IsCut, is_part_of, Brings, Arrives, Completes, fragments_among, cover}
+use Rattle.frag_join.specs.Prelude.{Fragment, is_fragment, name_in, same_name, fragment_in, octets_of, Coverage, known_by, is_bad, is_complete, datagram_of, State, Step, by_list, by_known, state_known, step_known, limit, is_live, live, is_of, place_of, part_of, part_or_new, event_from, fragment_tests, settled, with_fragment, taken_unless, fragment_taken, fragment_step, step_by, step, after, Original, IsCut, Brings, Arrives, cover}
+use Rattle.frag_join.specs.Joining.{timeout}
+use Rattle.frag_join.specs.Cuts.{is_part_of, Completes, fragments_among}
 use Rattle.frag_join.proofs.NameLemmas.{name-eq, name-same}
 use Rattle.frag_join.proofs.CutLemmas.{cut-good, cover-complete, cover-datagram, open-incomplete, open-less}
 use Rattle.frag_join.proofs.StepLemmas.{step-there, step-new, settled-joined, settled-held}

@@ -1,12 +1,8 @@
 -- The places that a fragment covers.
-use Rattle.std.proofs.Common.{◌≡◌, ℕ, ◌+◌, ◌-◌, ◌<◌, ◌≤◌, Bool, true, false, ◌&&◌, not, ltb, cond, List, ◌++◌, take, drop, length, get_or, Option, Some, None, is_some, refl, sym, ap, ◌∙◌, arith}
+use Rattle.std.proofs.Common.{◌≡◌, ℕ, ◌+◌, ◌-◌, ◌<◌, ◌≤◌, Bool, true, false, ◌&&◌, not, ltb, cond, List, ◌++◌, take, drop, length, get_or, Option, Some, None, is_some, refl, sym, ap, ◌∙◌, arith, take_at, drop_at}
 use Rattle.std.specs.Option.{option_or}
 use Rattle.std.proofs.lemmas.Bool.{lt-ltb, le-ltb, le-leb, lt-leb, eq-eqb}
-use Rattle.std.proofs.lemmas.List.{take_at, drop_at}
-use Rattle.frag_join.specs.Places.{any_below, count_below}
-use Rattle.frag_join.specs.Fragments.{Fragment, end_of, covers, octet_in}
-use Rattle.frag_join.specs.Coverage.{Coverage, octet_of, are_unlike, header_told}
-use Rattle.frag_join.specs.Held.{header_held}
+use Rattle.frag_join.specs.Prelude.{any_below, count_below, Fragment, end_of, covers, octet_in, Coverage, octet_of, are_unlike, header_told, header_held}
 use Rattle.frag_join.proofs.PlaceLemmas.{none-any, none-count}
 
 pub covers-before : (f : Fragment) (place : ℕ) → place < f.start → covers f place ≡ false

@@ -1,19 +1,15 @@
 -- A step on lists of fragments, and on what they tell.
-use Rattle.std.proofs.Common.{◌≡◌, ℕ, Bool, true, false, cond, List, [], ◌∷◌, map, length, Option, Some, None, refl, sym, ap, ◌∙◌}
-use Rattle.std.specs.Prelude.{slice_get}
-use Rattle.std.specs.Option.{option_and_then, option_map}
+use Rattle.std.proofs.Common.{◌≡◌, ℕ, Bool, true, false, cond, List, [], ◌∷◌, map, length, Option, Some, None, refl, sym, ap, ◌∙◌, slice_get, option_and_then, option_map}
 use Rattle.std.proofs.lemmas.List.{map-append, map-set, length-map}
 use Rattle.std.proofs.lemmas.Option.{slice_get-map}
-use Rattle.gate_base.specs.Events.{Event}
-use Rattle.gate_base.specs.Tests.{first_that_holds}
+use Rattle.gate_base.specs.Prelude.{Event, first_that_holds}
 use Rattle.gate_base.specs.declared.refusal.Refusal.{Refusal}
 use Rattle.gate_base.proofs.Lists.{filter_as, position_as, remove_as}
 use Rattle.frag_join.specs.declared.part.Name.{Name}
 use Rattle.frag_join.specs.declared.part.Part.{Part}
 use Rattle.frag_join.specs.declared.taken.Taken.TheVariants.{Plain, Held, Joined}
-use Rattle.frag_join.specs.Fragments.{Fragment, is_fragment, name_in, fragment_in}
-use Rattle.frag_join.specs.Coverage.{Coverage, known_by, is_complete, datagram_of}
-use Rattle.frag_join.specs.Joining.{State, Step, by_list, by_known, is_live, live, is_of, place_of, part_of, part_or_new, changed, event_from, tests_by, fragment_tests, settled, with_fragment, taken_unless, fragment_taken, fragment_step, step_by, step, after, part_known, state_known, step_known}
+use Rattle.frag_join.specs.Prelude.{Fragment, is_fragment, name_in, fragment_in, Coverage, known_by, is_complete, datagram_of, State, Step, by_list, by_known, is_live, live, is_of, place_of, part_of, part_or_new, changed, event_from, fragment_tests, settled, with_fragment, taken_unless, fragment_taken, fragment_step, step_by, step, after, state_known, step_known}
+use Rattle.frag_join.specs.Joining.{tests_by, part_known}
 use Rattle.frag_join.proofs.KnownLemmas.{known-push}
 
 -- ## Parts

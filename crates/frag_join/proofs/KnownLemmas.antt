@@ -3,9 +3,7 @@ use Rattle.std.proofs.Common.{◌≡◌, ℕ, ◌<◌, ◌≤◌, max, List, [],
 use Rattle.std.specs.Option.{option_or}
 use Rattle.std.proofs.lemmas.Bool.{cases_lt}
 use Rattle.gate_base.proofs.Options.{or_none}
-use Rattle.frag_join.specs.Places.{table}
-use Rattle.frag_join.specs.Fragments.{Fragment, end_of, octet_in}
-use Rattle.frag_join.specs.Coverage.{octet_at, reach_of, end_by, end_told, header_by, header_told, known_by, octet_of, added}
+use Rattle.frag_join.specs.Prelude.{table, Fragment, end_of, octet_in, octet_at, reach_of, end_by, end_told, header_by, header_told, known_by, octet_of, added}
 use Rattle.frag_join.proofs.PlaceLemmas.{length-table, at-table, past-table, same-tables}
 use Rattle.frag_join.proofs.FragmentLemmas.{covers-behind, octet-outside}
 

@@ -1,10 +1,10 @@
 -- Names of datagrams.
 use Rattle.std.proofs.Common.{◌≡◌, true, ◌&&◌, eqb, refl}
 use Rattle.std.proofs.lemmas.Bool.{eqb-true, eq-eqb, and_parts, and_from}
-use Rattle.gate_base.specs.Side.{same_side}
+use Rattle.gate_base.specs.Prelude.{same_side}
 use Rattle.gate_base.proofs.Sides.{same_side-true, same_side-itself}
 use Rattle.frag_join.specs.declared.part.Name.{Name}
-use Rattle.frag_join.specs.Fragments.{same_name}
+use Rattle.frag_join.specs.Prelude.{same_name}
 
 -- names that are the same are equal
 pub name-eq : (one other : Name) → same_name one other ≡ true → one ≡ other

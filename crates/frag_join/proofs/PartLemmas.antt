@@ -5,8 +5,7 @@ use Rattle.std.proofs.lemmas.Bool.{le-ltb, ltb-false, not-true, not-false}
 use Rattle.std.proofs.lemmas.List.Edits.{length-remove}
 use Rattle.std.proofs.lemmas.List.Quantifiers.{position-Some}
 use Rattle.std.proofs.lemmas.List.Sums.{fails_before_first}
-use Rattle.frag_join.specs.Fragments.{Fragment, end_of, octet_in}
-use Rattle.frag_join.specs.Coverage.{nothing, is_bad, is_torn, ends_otherwise, are_unlike, octet_of, is_above, is_other}
+use Rattle.frag_join.specs.Prelude.{Fragment, end_of, octet_in, nothing, is_bad, is_torn, ends_otherwise, are_unlike, octet_of, is_above, is_other}
 use Rattle.frag_join.proofs.PlaceLemmas.{none-any}
 
 -- ## Those that live

@@ -3,7 +3,8 @@ use Rattle.std.proofs.Common.{◌≡◌, ℕ, zero, suc, ◌+◌, ◌-◌, ◌<�
 use Rattle.std.proofs.lemmas.Bool.{cases_eq, cases_lt, eq-eqb, ne_eqb, and_parts, and_right, or_parts}
 use Rattle.std.proofs.lemmas.List.{get_or_past}
 use Rattle.std.proofs.lemmas.List.FromFn.{length-map-range_with_len, get_or-map-range_with_len, fill_by_all}
-use Rattle.frag_join.specs.Places.{table, any_below, all_below, count_below}
+use Rattle.frag_join.specs.Prelude.{table, any_below, count_below}
+use Rattle.frag_join.specs.Places.{all_below}
 
 -- ## Tables
 

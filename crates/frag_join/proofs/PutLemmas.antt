@@ -4,11 +4,7 @@ use Rattle.std.specs.Option.{option_or}
 use Rattle.std.proofs.lemmas.Bool.{cases_lt, eqb-true, not-false, ltb-false, or_parts}
 use Rattle.std.proofs.lemmas.List.{get_or-drop, get_or-replicate, length-replicate}
 use Rattle.gate_base.proofs.Options.{or_none}
-use Rattle.frag_join.specs.Places.{table, count_below}
-use Rattle.frag_join.specs.Fragments.{Fragment, end_of, covers, octet_in}
-use Rattle.frag_join.specs.Coverage.{Coverage, octet_of, added, is_bad, is_torn, ends_otherwise, is_unlike, are_unlike, is_other, is_above, header_told}
-use Rattle.frag_join.specs.Held.{header_held}
-use Rattle.frag_join.specs.Inside.{octet_inside, known_inside, IsWhole}
+use Rattle.frag_join.specs.Prelude.{table, count_below, Fragment, end_of, covers, octet_in, Coverage, octet_of, added, is_bad, is_torn, ends_otherwise, is_unlike, are_unlike, is_other, is_above, header_told, header_held, octet_inside, known_inside, IsWhole}
 use Rattle.frag_join.specs.declared.buffer.Buffer.TheInside.{Inside}
 use Rattle.frag_join.proofs.PlaceLemmas.{length-table, same-tables, any-none, count-from, count-sum, same-count}
 use Rattle.frag_join.proofs.Splices.{splice, front-splice, length-splice, splice-before, splice-inside, splice-behind}

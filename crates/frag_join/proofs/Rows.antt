@@ -1,9 +1,7 @@
 -- Rows worked by hand, computed over lists of fragments: whole frames, and what becomes of each.
-use Rattle.std.proofs.Common.{◌≡◌, ℕ, Bool, true, false, List, [], ◌∷◌, ◌++◌, map, Option, Some, None, refl, sym, ◌∙◌, lit<, lit≤}
-use Rattle.std.specs.Option.{option_map}
-use Rattle.std.specs.List.{fold}
+use Rattle.std.proofs.Common.{◌≡◌, ℕ, Bool, true, false, List, [], ◌∷◌, ◌++◌, map, Option, Some, None, refl, sym, ◌∙◌, lit<, lit≤, option_map, fold}
 use Rattle.byteorder.specs.Endian.{big_bytes}
-use Rattle.gate_base.specs.Events.{Event}
+use Rattle.gate_base.specs.Prelude.{Event}
 use Rattle.gate_base.specs.declared.refusal.Refusal.{Refusal}
 use Rattle.gate_base.specs.declared.refusal.Refusal.TheVariants.{IpOptions, BadFragment, FragmentsFull}
 use Rattle.gate_base.specs.declared.side.Link.TheVariants.{Raw}
@@ -13,9 +11,8 @@ use Rattle.ipv4_frames.specs.Ipv4.{read_datagram}
 use Rattle.frag_join.specs.declared.taken.Taken.{Taken}
 use Rattle.frag_join.specs.declared.taken.Taken.TheVariants.{Plain, Held, Joined, Refused}
 use Rattle.std.proofs.lemmas.List.Elements.{All-nil, All-cons}
-use Rattle.frag_join.specs.Fragments.{Fragment, name_in, fragment_in}
-use Rattle.frag_join.specs.Cuts.{Original, IsCut, Brings, Arrives}
-use Rattle.frag_join.specs.Joining.{State, Step, by_list, empty, step}
+use Rattle.frag_join.specs.Prelude.{Fragment, name_in, fragment_in, Original, IsCut, Brings, Arrives, State, Step, by_list, step}
+use Rattle.frag_join.specs.Joining.{empty}
 
 -- so many octets, written in hexadecimal
 abbrev hex : ℕ → ℕ → List ℕ

@@ -1,18 +1,14 @@
 -- A fragment is taken.
-use Rattle.std.proofs.Common.{◌≡◌, ℕ, Bool, true, false, ◌&&◌, not, leb, cond, List, [], ◌∷◌, ◌++◌, length, set, Option, Some, None, IsSome, is_some, refl, ap, ◌∙◌}
-use Rattle.std.specs.Prelude.{slice_get}
-use Rattle.std.specs.Option.{option_and_then}
-use Rattle.gate_base.specs.Events.{Event}
-use Rattle.gate_base.specs.Tests.{first_that_holds}
+use Rattle.std.proofs.Common.{◌≡◌, ℕ, Bool, true, false, ◌&&◌, not, leb, cond, List, [], ◌∷◌, ◌++◌, length, set, Option, Some, None, IsSome, is_some, refl, sym, ap, ◌∙◌, slice_get, option_and_then}
+use Rattle.gate_base.specs.Prelude.{Event, first_that_holds}
 use Rattle.gate_base.specs.declared.refusal.Refusal.{Refusal}
 use Rattle.gate_base.specs.declared.refusal.Refusal.TheVariants.{IpOptions, BadFragment, FragmentsFull}
 use Rattle.ipv4_frames.specs.Ipv4.{has_options}
 use Rattle.frag_join.specs.declared.part.Part.{Part}
-use Rattle.frag_join.specs.declared.taken.Taken.TheVariants.{Held, Joined}
-use Rattle.frag_join.specs.Fragments.{name_in, fragment_in, octets_of}
-use Rattle.frag_join.specs.Coverage.{is_bad, is_complete, datagram_of}
-use Rattle.frag_join.specs.Joining.{Keeping, Step, limit, place_of, part_of, part_or_new, changed, event_from, fragment_tests, settled, with_fragment, taken_unless, fragment_taken, fragment_step}
-use Rattle.frag_join.proofs.PartLemmas.{remove-last, set-last}
+use Rattle.frag_join.specs.declared.taken.Taken.TheVariants.{Plain, Held, Joined, Refused}
+use Rattle.frag_join.specs.Prelude.{Fragment, name_in, is_fragment, fragment_in, octets_of, is_bad, is_complete, datagram_of, Coverage, Keeping, State, Step, live, limit, by_known, place_of, part_of, part_or_new, changed, event_from, fragment_tests, settled, with_fragment, taken_unless, fragment_taken, fragment_step, step, known_at}
+use Rattle.frag_join.specs.Kept.{known_or_nothing}
+use Rattle.frag_join.proofs.PartLemmas.{get-last, remove-last, set-last}
 
 none_holds : (a b c : Bool) (x y z : Refusal) → a ≡ false → b ≡ false → c ≡ false → first_that_holds ((a, x) ∷ (b, y) ∷ (c, z) ∷ []) ≡ None
 none_holds false false false x y z p q r = refl
@@ -43,6 +39,51 @@ step-new keeping parts e options found good room =
     ap (λ p. fragment_taken keeping parts e (part_or_new keeping e p)) is
     ∙ taken-good keeping parts e (part_or_new keeping e None) options good (ap (λ p. not (is_some p) && leb limit (length parts)) found ∙ room)
     ∙ ap (λ p. settled keeping parts p e (with_fragment keeping (part_or_new keeping e None) e)) found
+
+-- one with options is refused
+pub step-options : {K : Type 0} (keeping : Keeping K) (parts : List (Part K)) (e : Event) → has_options (octets_of e) ≡ true → fragment_step keeping parts e ≡ record { answer = Refused IpOptions; state = record { parts = parts; joined = None } }
+step-options keeping parts e options =
+    let part = part_or_new keeping e (part_of (name_in e) parts) in
+    ap (λ b. taken_unless keeping parts e part (first_that_holds ((b, IpOptions) ∷ (is_bad (keeping.known part.kept) (fragment_in e), BadFragment) ∷ (not (is_some (place_of (name_in e) parts)) && leb limit (length parts), FragmentsFull) ∷ []))) options
+
+-- what is known of a datagram that begins is nothing
+known_of : (e : Event) (part : Option (Part Coverage)) → (part_or_new by_known e part).kept ≡ known_or_nothing part
+known_of e None = refl
+known_of e (Some part) = refl
+
+-- which of the three tests is the first that holds
+second_holds : (a b c : Bool) (x y z : Refusal) → a ≡ false → b ≡ true → first_that_holds ((a, x) ∷ (b, y) ∷ (c, z) ∷ []) ≡ Some y
+second_holds false true c x y z p q = refl
+second_holds true b c x y z p q = absurd cc
+second_holds false false c x y z p q = absurd cc
+
+-- and where that is the last
+third_holds : (a b c : Bool) (x y z : Refusal) → a ≡ false → b ≡ false → c ≡ true → first_that_holds ((a, x) ∷ (b, y) ∷ (c, z) ∷ []) ≡ Some z
+third_holds false false true x y z p q r = refl
+third_holds true b c x y z p q r = absurd cc
+third_holds false true c x y z p q r = absurd cc
+third_holds false false false x y z p q r = absurd cc
+
+-- one that contradicts itself or what is known
+pub step-bad : (parts : List (Part Coverage)) (e : Event) (place : Option ℕ) → has_options (octets_of e) ≡ false → place_of (name_in e) parts ≡ place → is_bad (known_at parts place) (fragment_in e) ≡ true → fragment_step by_known parts e ≡ record { answer = Refused BadFragment; state = record { parts = parts; joined = None } }
+step-bad parts e place options found bad =
+    let part = part_or_new by_known e (part_of (name_in e) parts) in
+    ap (taken_unless by_known parts e part)
+    (second_holds (has_options (octets_of e)) (is_bad part.kept (fragment_in e)) (not (is_some (place_of (name_in e) parts)) && leb limit (length parts)) IpOptions BadFragment FragmentsFull options (ap (λ k. is_bad k (fragment_in e)) (known_of e (part_of (name_in e) parts)) ∙ ap (λ p. is_bad (known_at parts p) (fragment_in e)) found ∙ bad))
+
+-- and one that begins where there is no room
+pub step-full : (parts : List (Part Coverage)) (e : Event) (place : Option ℕ) → has_options (octets_of e) ≡ false → place_of (name_in e) parts ≡ place → is_bad (known_at parts place) (fragment_in e) ≡ false → place ≡ None → leb limit (length parts) ≡ true
+    → fragment_step by_known parts e ≡ record { answer = Refused FragmentsFull; state = record { parts = parts; joined = None } }
+step-full parts e place options found good none full =
+    let part = part_or_new by_known e (part_of (name_in e) parts) in
+    ap (taken_unless by_known parts e part)
+    (third_holds (has_options (octets_of e)) (is_bad part.kept (fragment_in e)) (not (is_some (place_of (name_in e) parts)) && leb limit (length parts)) IpOptions BadFragment FragmentsFull options (ap (λ k. is_bad k (fragment_in e)) (known_of e (part_of (name_in e) parts)) ∙ ap (λ p. is_bad (known_at parts p) (fragment_in e)) found ∙ good)
+    (ap (λ p. not (is_some p) && leb limit (length parts)) (found ∙ none) ∙ full))
+
+-- what is good where nothing is known is so for a new datagram at the end of the list
+pub good-last : (parts all : List (Part Coverage)) (place : ℕ) (new : Part Coverage) (f : Fragment) → all ≡ parts ++ new ∷ [] → place ≡ length parts → is_bad new.kept f ≡ false → is_bad (known_at all (Some place)) f ≡ false
+good-last parts all place new f all_is place_is good =
+    ap (λ ps. is_bad (known_at ps (Some place)) f) all_is ∙ ap (λ i. is_bad (known_at (parts ++ new ∷ []) (Some i)) f) place_is ∙ ap (λ o. is_bad (known_or_nothing o) f) (get-last parts new) ∙ good
 
 -- a new datagram at the end of the list settles as one that is none of them
 pub settled-last : {K : Type 0} (keeping : Keeping K) (parts : List (Part K)) (e : Event) (new part : Part K) → settled keeping (parts ++ new ∷ []) (Some (length parts)) e part ≡ settled keeping parts None e part
@@ -82,3 +123,19 @@ pub joined-there : {K : Type 0} (keeping : Keeping K) (parts : List (Part K)) (e
 joined-there keeping parts e is =
     let part = part_or_new keeping e (part_of (name_in e) parts) in
     joined_unless keeping parts e part (first_that_holds (fragment_tests parts e (keeping.known part.kept))) is
+
+-- ## A step after what came too long ago was dropped
+
+-- a fragment is taken
+pub step-some : (was now : State Coverage) (inside kept : List (Part Coverage)) (e : Event) → now ≡ record { parts = was.parts; joined = None } → inside ≡ now.parts → kept ≡ live e.moment inside → is_fragment e ≡ true → fragment_step by_known kept e ≡ step by_known was e
+step-some was now inside kept e now_is inside_is kept_is is =
+    let all : kept ≡ live e.moment was.parts = kept_is ∙ ap (live e.moment) (inside_is ∙ ap (λ s. s.parts) now_is) in
+    ap (λ parts. fragment_step by_known parts e) all
+    ∙ sym (ap (λ b. cond b (fragment_step by_known (live e.moment was.parts) e) (record { answer = Plain; state = record { parts = live e.moment was.parts; joined = None } })) is)
+
+-- and any other frame is plain
+pub step-plain : (was now : State Coverage) (inside kept : List (Part Coverage)) (e : Event) → now ≡ record { parts = was.parts; joined = None } → inside ≡ now.parts → kept ≡ live e.moment inside → is_fragment e ≡ false → record { answer = Plain; state = record { parts = kept; joined = None } } ≡ step by_known was e
+step-plain was now inside kept e now_is inside_is kept_is is =
+    let all : kept ≡ live e.moment was.parts = kept_is ∙ ap (live e.moment) (inside_is ∙ ap (λ s. s.parts) now_is) in
+    ap (λ parts. record { answer = Plain; state = record { parts = parts; joined = None } }) all
+    ∙ sym (ap (λ b. cond b (fragment_step by_known (live e.moment was.parts) e) (record { answer = Plain; state = record { parts = live e.moment was.parts; joined = None } })) is)

@@ -1,7 +1,7 @@
 -- What fragments tell of their datagram: which of its octets, where it ends, and its header (RFC 791, 3.2).
 use Rattle.std.specs.Prelude.{ℕ, ◌+◌, ◌*◌, ◌/◌, ◌%◌, ◌^◌, Bool, false, not, ◌&&◌, ◌||◌, ◌==◌, nat_lt, if◌then◌else◌, max, List, [], ◌∷◌, ◌++◌, length, slice_index_or, Option, Some, None, unwrap_or, is_some}
 use Rattle.std.specs.Option.{option_or}
-use Rattle.gate_base.specs.Fields.{u16_at, with_u16}
+use Rattle.gate_base.specs.Prelude.{u16_at, with_u16}
 use Rattle.inet_sum.specs.Sum.{checksum}
 use Rattle.frag_join.specs.Places.{table, any_below, all_below}
 use Rattle.frag_join.specs.Fragments.{Fragment, end_of, octet_in}

@@ -1,8 +1,6 @@
 -- Fragments of datagrams (RFC 791, 2.3 and 3.2).
 use Rattle.std.specs.Prelude.{ℕ, ◌+◌, ◌-◌, ◌*◌, ◌/◌, ◌%◌, ◌^◌, Bool, true, false, ◌&&◌, ◌==◌, nat_lt, nat_le, if◌then◌else◌, List, take, length, slice_index, slice_range, Option, Some, None, Result, Ok, Err}
-use Rattle.gate_base.specs.Events.{Event}
-use Rattle.gate_base.specs.Fields.{u16_at, u32_at}
-use Rattle.gate_base.specs.Side.{same_side}
+use Rattle.gate_base.specs.Prelude.{Event, u16_at, u32_at, same_side}
 use Rattle.gate_base.specs.declared.side.Side.{Side}
 use Rattle.ether_frames.specs.Ether.{octets_in}
 use Rattle.ipv4_frames.specs.Ipv4.{Datagram, read_datagram, total_length_of}

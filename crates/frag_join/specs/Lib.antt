@@ -7,3 +7,4 @@ pub mod Held
 pub mod Inside
 pub mod Kept
 pub mod Arrivals
+pub mod Prelude

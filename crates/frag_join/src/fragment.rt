@@ -1,6 +1,6 @@
 // Fragments, as views of the frames that carry them.
 ghost use Rattle.std.specs.Prelude.{◌≡◌, ◌≤◌, ◌+◌, ◌%◌, ◌<◌, IfSome, true, false, is_some, length, slice_index};
-ghost use Rattle.gate_base.specs.Events.{event_of};
+ghost use Rattle.gate_base.specs.Prelude.{event_of};
 ghost use Rattle.ipv4_frames.specs.Ipv4.{has_bad_header, has_options, is_fragment as is_part};
 ghost use Rattle.frag_join.specs.Fragments as fragments;
 ghost use Rattle.frag_join.specs.Coverage.{is_torn};

@@ -1,6 +1,6 @@
 // What stands before the gate: fragments are joined, where the settings want it.
 ghost use Rattle.std.specs.Prelude.{◌≡◌, IfOk, IsSome, Some};
-ghost use Rattle.gate_base.specs.Events.{event_of};
+ghost use Rattle.gate_base.specs.Prelude.{event_of};
 ghost use Rattle.frag_join.specs.declared.taken.Taken.TheVariants.{Joined};
 ghost use Rattle.frag_join.specs.Arrivals.{opened, taken_by, joiner_after, joined_in};
 ghost use Rattle.frag_join.specs.Joining.{by_known};

@@ -1,6 +1,6 @@
 // The datagrams that are joined.
 ghost use Rattle.std.specs.Prelude.{◌≡◌, ◌<◌, ◌≤◌, ◌+◌, ◌++◌, ◌∷◌, [], Some, None, IfOk, IfSome, IsSome, true, false, length, slice_get, position, not, vec_capacity};
-ghost use Rattle.gate_base.specs.Events.{event_of};
+ghost use Rattle.gate_base.specs.Prelude.{event_of};
 ghost use Rattle.ipv4_frames.specs.Ipv4.{has_bad_header};
 ghost use Rattle.frag_join.specs.Fragments as fragments;
 ghost use Rattle.frag_join.specs.Coverage as known;

@@ -1,6 +1,6 @@
 // What the steps on what is known say of lists of fragments, for every list of frames.
 ghost use Rattle.std.specs.Prelude.{◌≡◌, ◌∷◌, List};
-ghost use Rattle.gate_base.specs.Events.{Event};
+ghost use Rattle.gate_base.specs.Prelude.{Event};
 ghost use Rattle.frag_join.specs.Fragments.{Fragment};
 ghost use Rattle.std.specs.Prelude.{Bool, false};
 ghost use Rattle.frag_join.specs.Arrivals.{ArrivalsAre, arrivals_of, coming};

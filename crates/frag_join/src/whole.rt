@@ -1,6 +1,6 @@
 // Datagrams that are joined.
 ghost use Rattle.std.specs.Prelude.{◌≡◌, true};
-ghost use Rattle.gate_base.specs.Events.{event_of};
+ghost use Rattle.gate_base.specs.Prelude.{event_of};
 ghost use Rattle.frag_join.specs.Coverage as known;
 ghost use Rattle.frag_join.specs.Joining.{event_from};
 
@@ -18,7 +18,7 @@ pub struct Whole {
 
 impl Model for Whole {
     ghost use Rattle.std.specs.Prelude.{◌≡◌, true};
-    ghost use Rattle.gate_base.specs.Events.{Event};
+    ghost use Rattle.gate_base.specs.Prelude.{Event};
 
     ghost Value = { Event };
 

@@ -1,23 +1,19 @@
 -- An event that is expected, by its first test that holds.
 use Rattle.std.proofs.Common.{◌≡◌, Option, Some, None, List, ℕ, refl, sym, ap, ◌∙◌}
-use Rattle.gate_base.specs.Events.{Event}
+use Rattle.gate_base.specs.Prelude.{Event, first_that_holds}
 use Rattle.gate_base.specs.declared.refusal.Refusal.{Refusal}
 use Rattle.gate_base.specs.declared.side.Side.{Side}
-use Rattle.gate_base.specs.Tests.{first_that_holds}
 use Rattle.ipv4_frames.specs.Ipv4.{Datagram}
-use Rattle.gate_model.specs.Frame.{Kind, Udp, Echo, Error, Dns, Snmp, Stream, datagram_in, kind_of}
-use Rattle.gate_model.specs.Reading.{world_as}
-use Rattle.gate_model.specs.Rules.{whole_rules}
-use Rattle.gate_model.specs.Step.{next, next_by}
-use Rattle.gate_model.specs.Verdict.{tests, verdict, verdict_of}
-use Rattle.gate_model.specs.World.{World, at_moment}
+use Rattle.gate_model.specs.Prelude.{Kind, Udp, Echo, Error, Dns, Snmp, Stream, datagram_in, kind_of, world_as, whole_rules, next, next_by, tests, verdict_of, World, at_moment}
+use Rattle.gate_model.specs.Verdict.{verdict}
 use Rattle.gate_model.proofs.ReadWorlds.{verdict_as}
 use Rattle.gate_model.proofs.ReadSteps.{next_as}
-use Rattle.lawful_files.specs.Wanted.{wanted, wanted_kind, wanted_by, wanted_in}
+use Rattle.lawful_files.specs.Prelude.{wanted}
+use Rattle.lawful_files.specs.Wanted.{wanted_kind, wanted_by, wanted_in}
 use Rattle.lawful_files.proofs.ReadWanted.{wanted_as}
 use Rattle.audit_sessions.specs.Heard.{HeardSession, heard_rules, heard_sent, session_in}
 use Rattle.audit_sessions.proofs.HeardLaws.{reads_whole}
-use Rattle.event_steps.specs.Passed.{told_by, told_kind}
+use Rattle.event_steps.specs.Prelude.{told_by, told_kind}
 use Rattle.event_steps.proofs.Stepping.{left_next}
 use Rattle.audit_records.specs.Cutting.{Cutting}
 use Rattle.audit_sessions.specs.Gives.{audit_tells, heard_gives}

@@ -4,11 +4,10 @@ use Rattle.std.proofs.lemmas.Bool.{and_left}
 use Rattle.gate_base.specs.declared.event.Pair.{Pair}
 use Rattle.gate_base.specs.declared.host.Host.{Host}
 use Rattle.gate_base.specs.declared.host.Host.TheVariants.{Client}
-use Rattle.tcp_segments.specs.Tcp.{Tcp}
-use Rattle.tcp_segments.specs.Flags.{flags_of}
-use Rattle.stream_model.specs.Session.{segment_in}
+use Rattle.tcp_segments.specs.Prelude.{Tcp, flags_of}
+use Rattle.stream_model.specs.Prelude.{segment_in}
 use Rattle.audit_streams.proofs.HostLists.{opens_alone}
-use Rattle.gate_model.specs.Stream.{is_opening}
+use Rattle.gate_model.specs.Prelude.{is_opening}
 use Rattle.audit_sessions.specs.Heard.{HeardSession, heard_rules, session_in}
 use Rattle.audit_sessions.proofs.FreshSessions.{fresh_verdict}
 use Rattle.audit_sessions.proofs.HeardLaws.{heard_lists}

@@ -1,15 +1,9 @@
 -- An event for which memory runs out.
-use Rattle.std.proofs.Common.{◌≡◌, ◌&&◌, ℕ, Bool, true, List, Option, Some, None, inl, inr, option_map, refl, sym, ap, subst, ◌∙◌}
-use Rattle.std.specs.Prelude.{◌⊎◌, is_some, is_none}
-use Rattle.gate_base.specs.Events.{Event}
-use Rattle.gate_base.specs.Tests.{first_that_holds}
+use Rattle.std.proofs.Common.{◌≡◌, ◌&&◌, ℕ, Bool, true, List, Option, Some, None, inl, inr, option_map, refl, sym, ap, subst, ◌∙◌, ◌⊎◌, is_some, is_none}
+use Rattle.gate_base.specs.Prelude.{Event, first_that_holds}
 use Rattle.gate_base.specs.declared.side.Side.{Side}
 use Rattle.ipv4_frames.specs.Ipv4.{Datagram}
-use Rattle.gate_model.specs.Frame.{Dns, Stream, datagram_in, is_tracked_port, kind_of}
-use Rattle.gate_model.specs.Reading.{connection_as, tracked_as, world_as}
-use Rattle.gate_model.specs.Sessions.{WholeSession}
-use Rattle.gate_model.specs.Stream.{begins, found_in, is_opening, session_in, tcp_of}
-use Rattle.gate_model.specs.World.{Tracked, World, at_moment}
+use Rattle.gate_model.specs.Prelude.{Dns, Stream, datagram_in, is_tracked_port, kind_of, connection_as, tracked_as, world_as, WholeSession, begins, found_in, is_opening, session_in, tcp_of, Tracked, World, at_moment}
 use Rattle.gate_model.proofs.ReadWorlds.{found_as, moment_as, session_as}
 use Rattle.audit_sessions.specs.Gives.{heard_gives}
 use Rattle.audit_sessions.specs.Heard.{HeardSession, heard_rules, session_in as whole_of}

@@ -1,19 +1,15 @@
 -- How many datagrams go out whole.
-use Rattle.std.proofs.Common.{◌≡◌, ℕ, List, Option, Some, None, ap}
-use Rattle.std.specs.Prelude.{length, []}
+use Rattle.std.proofs.Common.{◌≡◌, ℕ, List, Option, Some, None, ap, length, []}
 use Rattle.gate_base.specs.declared.address.Addr.{Addr}
 use Rattle.gate_base.specs.declared.refusal.Refusal.{Refusal}
 use Rattle.gate_base.specs.declared.side.Side.{Side}
 use Rattle.ipv4_frames.specs.Ipv4.{Datagram}
-use Rattle.gate_model.specs.Frame.{Kind, Udp, Echo, Error, Dns, Snmp, Stream}
-use Rattle.gate_model.specs.Step.{taker_in}
-use Rattle.gate_model.specs.Verdict.{table_after, image_in}
-use Rattle.gate_model.specs.World.{World, Tracked, called, source_of, destination_of}
-use Rattle.lawful_files.specs.Wanted.{Wanted, Exactly, Cut, wanted_segment}
+use Rattle.gate_model.specs.Prelude.{Kind, Udp, Echo, Error, Dns, Snmp, Stream, taker_in, table_after, image_in, World, Tracked, called, source_of, destination_of}
+use Rattle.lawful_files.specs.Prelude.{Wanted, Exactly, Cut, wanted_segment}
 use Rattle.audit_records.specs.Cutting.{Cutting}
 use Rattle.audit_sessions.specs.Gives.{audit_tells, heard_gives}
 use Rattle.audit_sessions.specs.Heard.{HeardSession, heard_rules, heard_sent}
-use Rattle.event_steps.specs.Passed.{told_kind}
+use Rattle.event_steps.specs.Prelude.{told_kind}
 use Rattle.event_engine.specs.Given.{IsGiven}
 use Rattle.event_engine.specs.declared.taken.Taken.{Taken}
 use Rattle.event_engine.specs.declared.taken.Taken.TheVariants as takes

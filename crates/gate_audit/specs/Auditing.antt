@@ -1,15 +1,10 @@
 -- The auditor: what is kept from event to event.
 use Rattle.std.specs.Prelude.{◌≡◌, Bool, false, []}
-use Rattle.gate_base.specs.Events.{Event}
+use Rattle.gate_base.specs.Prelude.{Event}
 use Rattle.gate_base.specs.declared.side.Side.TheVariants.{Left}
 use Rattle.gate_settings.specs.declared.settings.Settings.{Settings}
-use Rattle.gate_model.specs.Reading.{world_as}
-use Rattle.gate_model.specs.Rules.{whole_rules}
-use Rattle.gate_model.specs.Sessions.{WholeSession}
-use Rattle.gate_model.specs.Step.{next}
-use Rattle.gate_model.specs.World.{World, opening_world}
-use Rattle.lawful_files.specs.Progress.{IsSound, begun}
-use Rattle.lawful_files.specs.Wanted.{Exactly, wanted}
+use Rattle.gate_model.specs.Prelude.{world_as, whole_rules, WholeSession, next, World, opening_world}
+use Rattle.lawful_files.specs.Prelude.{IsSound, begun, Exactly, wanted}
 use Rattle.audit_sessions.specs.Heard.{HeardSession, session_in}
 use Rattle.audit_records.specs.Kept.{Expecting}
 

@@ -1,13 +1,9 @@
 -- On which frames memory may be wanting for the auditor.
 use Rattle.std.specs.Prelude.{◌≡◌, ◌⊎◌, true, None, is_some}
-use Rattle.gate_base.specs.Events.{Event}
-use Rattle.gate_base.specs.Tests.{first_that_holds}
+use Rattle.gate_base.specs.Prelude.{Event, first_that_holds}
 use Rattle.gate_base.specs.declared.side.Side.{Side}
 use Rattle.ipv4_frames.specs.Ipv4.{Datagram}
-use Rattle.gate_model.specs.Frame.{Dns, Stream, datagram_in, kind_of}
-use Rattle.gate_model.specs.Sessions.{WholeSession}
-use Rattle.gate_model.specs.Stream.{begins, found_in, session_in}
-use Rattle.gate_model.specs.World.{World}
+use Rattle.gate_model.specs.Prelude.{Dns, Stream, datagram_in, kind_of, WholeSession, begins, found_in, session_in, World}
 use Rattle.event_engine.specs.Lost.{early_tests}
 
 -- a segment begins a session, or is of a connection that has one

@@ -1,18 +1,12 @@
 // One event of the auditor, and the records that are given for it.
 ghost use Rattle.std.specs.Prelude.{◌≡◌, ◌^◌, ◌<◌, [], true, false, All, IfOk, OnOk, OnErr};
-ghost use Rattle.gate_base.specs.Moments.{IsMoment};
-ghost use Rattle.gate_base.specs.Events.{event_of};
-ghost use Rattle.gate_base.specs.Side.{other};
-ghost use Rattle.gate_settings.specs.Sound.{IsSound};
-ghost use Rattle.gate_settings.specs.Forms.{HasForms};
-ghost use Rattle.gate_model.specs.Rules.{whole_rules};
-ghost use Rattle.gate_model.specs.Verdict.{verdict, verdict_of};
-ghost use Rattle.lawful_files.specs.Progress.{begun, behind, is_closed};
-ghost use Rattle.lawful_files.specs.Wanted.{Exactly};
+ghost use Rattle.gate_base.specs.Prelude.{IsMoment, event_of, other};
+ghost use Rattle.gate_settings.specs.Prelude.{IsSound, HasForms};
+ghost use Rattle.gate_model.specs.Prelude.{whole_rules, verdict, verdict_of, at_moment};
+ghost use Rattle.lawful_files.specs.Prelude.{begun, behind, is_closed, Exactly};
 ghost use Rattle.gate_audit.specs.Auditing.{IsOpening, Expects, whole_world};
 ghost use Rattle.gate_audit.specs.Given.{IsWhole};
 ghost use Rattle.gate_audit.specs.Memory.{MayWant};
-ghost use Rattle.gate_model.specs.World.{at_moment};
 ghost use Rattle.event_engine.specs.Given.{given_by, refusal_of};
 ghost use Rattle.audit_sessions.specs.Gives.{heard_gives};
 
@@ -52,7 +46,7 @@ impl Drop for Auditor {
 
 impl Model for Auditor {
     ghost use Rattle.std.specs.Prelude.{◌≡◌, false};
-    ghost use Rattle.gate_model.specs.Held.{KeepsListed};
+    ghost use Rattle.gate_model.specs.Prelude.{KeepsListed};
     ghost use Rattle.audit_sessions.specs.Heard.{heard_rules};
     ghost use Rattle.gate_audit.specs.Auditing.{Auditing};
     ghost use Rattle.event_engine.specs.Knowing.{world_in};

@@ -1,7 +1,7 @@
 -- What holds of both hosts of a session.
 use Rattle.gate_base.specs.declared.host.Host.{Host}
 use Rattle.gate_base.specs.declared.host.Host.TheVariants.{Client, Server}
-use Rattle.gate_base.specs.Hosts.{peer}
+use Rattle.gate_base.specs.Prelude.{peer}
 
 -- what holds of one host and of the other one holds of each
 pub both : (P : Host → Type 0) (one : Host) → P one → P (peer one) → (host : Host) → P host

@@ -1,6 +1,6 @@
 -- The two realms.
 use Rattle.std.proofs.Common.{◌≡◌, true, refl}
-use Rattle.gate_base.specs.Side.{other, same_side}
+use Rattle.gate_base.specs.Prelude.{other, same_side}
 use Rattle.gate_base.specs.declared.side.Side.{Side}
 use Rattle.gate_base.specs.declared.side.Side.TheVariants.{Left, Right}
 

@@ -5,7 +5,7 @@ ghost use Rattle.std.specs.Prelude.{◌≡◌};
 pub enum Host {
     /// The host that opens the session with the first SYN.
     Client,
-    /// The host that it opens the session to.
+    /// The host to which that SYN goes.
     Server,
 }
 

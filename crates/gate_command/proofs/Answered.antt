@@ -4,10 +4,9 @@ use Rattle.gate_desk.specs.Outside.{Outside}
 use Rattle.gate_report.specs.declared.line.Line.{Line}
 use Rattle.run_setup.specs.declared.status.Status.{Status}
 use Rattle.run_setup.specs.declared.status.Status.TheVariants.{Done}
-use Rattle.run_setup.specs.RunNames.{Names}
-use Rattle.gateway.specs.Answers.{IsRun, Runs, TookForWritten}
+use Rattle.run_setup.specs.Prelude.{Names, Tells, TellsLine}
+use Rattle.gateway.specs.Prelude.{IsRun, Runs, TookForWritten}
 use Rattle.gate_command.specs.Answers.{IsDoneRun, IsToldRun, AnswersRun}
-use Rattle.run_setup.specs.Telling.{Tells, TellsLine}
 use Rattle.gateway.proofs.Promises.{promise_kept}
 use Rattle.gateway.proofs.Runs.{run_of}
 

@@ -4,7 +4,7 @@ use Rattle.gate_desk.specs.Outside.{Outside}
 use Rattle.lawful_files.specs.declared.reason.AuditReason.{AuditReason}
 use Rattle.run_setup.specs.declared.status.Status.{Status}
 use Rattle.run_setup.specs.declared.status.Status.TheVariants.{Done, Unlawful}
-use Rattle.run_setup.specs.Telling.{Tells, TellsLine}
+use Rattle.run_setup.specs.Prelude.{Tells, TellsLine}
 use Rattle.run_setup.specs.AuditNames.{Names}
 use Rattle.gateway_audit.specs.Audits.{IsAudit, TookForEvents}
 use Rattle.gate_command.specs.Answers.{IsToldAudit, AnswersAudit}

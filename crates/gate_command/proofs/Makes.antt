@@ -3,8 +3,8 @@ use Rattle.std.proofs.Common.{◌≡◌, ℕ, List, sym, subst}
 use Rattle.gate_desk.specs.Outside.{Outside}
 use Rattle.run_setup.specs.declared.status.Status.{Status}
 use Rattle.run_setup.specs.declared.status.Status.TheVariants.{Done}
-use Rattle.run_setup.specs.Telling.{Tells, TellsLine}
-use Rattle.gateway.specs.Making.{IsMake}
+use Rattle.run_setup.specs.Prelude.{Tells, TellsLine}
+use Rattle.gateway.specs.Prelude.{IsMake}
 use Rattle.gate_command.specs.Answers.{IsToldMake, AnswersMake}
 
 told_make : (e answer : Status) (number count : ℕ) (report : List ℕ) (a b c : Outside) → IsMake e number count report a b → Tells e answer b c → IsToldMake answer number count report a c

@@ -6,10 +6,8 @@ use Rattle.gate_desk.specs.Outside.{Outside, HasFailed}
 use Rattle.gate_desk.specs.Untold.{Files, told_by, HandsOutAll, all_dropped}
 use Rattle.run_setup.specs.declared.status.Status.{Status}
 use Rattle.run_setup.specs.declared.status.Status.TheVariants.{WriteFault}
-use Rattle.run_setup.specs.Command.{Command}
-use Rattle.run_setup.specs.Status.{code_of}
+use Rattle.run_setup.specs.Prelude.{Command, code_of, TellsLine}
 use Rattle.gate_command.specs.Answers.{Answers}
-use Rattle.run_setup.specs.Telling.{TellsLine}
 
 -- a command was carried out, and this is the code of its status
 pub record IsExit (code : ℕ) (command : Command) (old new : Outside) : Type 0 where

@@ -1,6 +1,6 @@
 // The program over real files.
 ghost use Rattle.std.specs.String.{string_bytes};
-ghost use Rattle.run_setup.specs.Command.{command_of};
+ghost use Rattle.run_setup.specs.Prelude.{command_of};
 ghost use Rattle.std.specs.Prelude.{map};
 ghost use Rattle.gate_command.specs.Exit.{IsExit, IsCode, Finishes, IsFinished};
 

@@ -1,17 +1,13 @@
 -- The laws of the rules by what is kept.
-use Rattle.std.proofs.Common.{◌≡◌, ◌&&◌, ◌||◌, Bool, true, false, None, refl, ap}
-use Rattle.std.specs.Prelude.{◌==◌, is_none}
+use Rattle.std.proofs.Common.{◌≡◌, ◌&&◌, ◌||◌, Bool, true, false, None, refl, ap, ◌==◌, is_none}
 use Rattle.gate_base.specs.declared.host.Host.{Host}
 use Rattle.gate_base.specs.declared.host.Host.TheVariants.{Client}
-use Rattle.tcp_segments.specs.Tcp.{Tcp}
-use Rattle.tcp_segments.specs.Flags.{flags_of}
-use Rattle.compact_stream.specs.Kept.{unlike_kept}
-use Rattle.compact_stream.specs.Sessions.{kept_made, kept_refusal, sender_kept}
-use Rattle.compact_stream.specs.Outs.{start_kept}
-use Rattle.stream_gate.specs.Directions.{nothing_pushed}
+use Rattle.tcp_segments.specs.Prelude.{Tcp, flags_of}
+use Rattle.compact_stream.specs.Prelude.{unlike_kept, kept_made, kept_refusal, sender_kept, start_kept}
+use Rattle.stream_gate.specs.Prelude.{nothing_pushed}
 use Rattle.stream_gate.proofs.GateLemmas.{syn_alone}
-use Rattle.stream_model.specs.Session.{segment_in}
-use Rattle.gate_model.specs.Stream.{is_opening}
+use Rattle.stream_model.specs.Prelude.{segment_in}
+use Rattle.gate_model.specs.Prelude.{is_opening}
 use Rattle.gate_sessions.specs.Compact.{CompactSession, compact_rules}
 use Rattle.gate_sessions.proofs.Listing.{kept_have_lists}
 use Rattle.event_steps.proofs.NoUnits.{syn_held}

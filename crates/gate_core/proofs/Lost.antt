@@ -1,19 +1,16 @@
 -- Segments for which memory runs out.
-use Rattle.std.proofs.Common.{◌≡◌, ℕ, List, [], Option, Some, None, Result, Ok, Err, refl, sym, ap, subst, ◌≤◌, length, inl, inr}
-use Rattle.gate_base.specs.Tests.{unless_refused}
+use Rattle.std.proofs.Common.{◌≡◌, ℕ, List, [], Option, Some, None, refl, sym, ap, subst, ◌≤◌, length, inl, inr}
+use Rattle.gate_base.specs.Prelude.{unless_refused}
 use Rattle.gate_base.specs.declared.refusal.Refusal.{Refusal}
 use Rattle.gate_base.specs.declared.side.Side.{Side}
 use Rattle.ipv4_frames.specs.Ipv4.{Datagram}
-use Rattle.gate_model.specs.Stream.{segment_of, found_in, session_in, session_refusal}
-use Rattle.gate_model.specs.Units.{units_in}
-use Rattle.gate_model.specs.World.{Tracked, World, host_on}
+use Rattle.gate_model.specs.Prelude.{segment_of, found_in, session_in, session_refusal, units_in, Tracked, World, host_on, Lists}
 use Rattle.gate_sessions.specs.Compact.{CompactSession, compact_rules}
-use Rattle.event_steps.specs.Segments.{stream_refusal}
+use Rattle.event_steps.specs.Prelude.{stream_refusal}
 use Rattle.event_engine.specs.Lost as state
 use Rattle.gate_core.specs.Memory.{SegmentMayWant}
 use Rattle.gate_sessions.specs.Gives.{kept_gives}
 use Rattle.gate_sessions.specs.Sessions.{MayWantBy}
-use Rattle.gate_model.specs.Lists.{Lists}
 
 -- by its session
 lost_by : (live : World CompactSession) (side : Side) (d : Datagram) (t : Tracked CompactSession) → session_in (found_in live side d) ≡ Some t → session_refusal compact_rules side d (Some t) ≡ None → None ≡ stream_refusal compact_rules live side d → (lists : Option Lists) → t.session.lists ≡ lists → MayWantBy lists (host_on side t) t.session (segment_of d) → SegmentMayWant live side d

@@ -1,14 +1,11 @@
 -- An event, by its first test that holds, and where memory runs out.
 use Rattle.std.proofs.Common.{◌≡◌, ◌⊎◌, ℕ, List, Option, Some, None, refl, ap, ◌∙◌, inl, inr}
-use Rattle.gate_base.specs.Events.{Event}
+use Rattle.gate_base.specs.Prelude.{Event, first_that_holds}
 use Rattle.gate_base.specs.declared.refusal.Refusal.{Refusal}
 use Rattle.gate_base.specs.declared.side.Side.{Side}
 use Rattle.ipv4_frames.specs.Ipv4.{Datagram}
-use Rattle.gate_base.specs.Tests.{first_that_holds}
-use Rattle.gate_model.specs.Frame.{datagram_in, kind_of}
-use Rattle.gate_model.specs.Step.{out_kind, next, next_by, out, out_by}
-use Rattle.gate_model.specs.Verdict.{tests, verdict, verdict_of}
-use Rattle.gate_model.specs.World.{World, at_moment}
+use Rattle.gate_model.specs.Prelude.{datagram_in, kind_of, out_kind, next, next_by, out, out_by, tests, verdict_of, World, at_moment, Kind, Udp, Echo, Error, Dns, Snmp, Stream}
+use Rattle.gate_model.specs.Verdict.{verdict}
 use Rattle.gate_sessions.specs.Compact.{CompactSession, compact_rules}
 use Rattle.gate_core.specs.Memory.{MayWant, MayWantAs}
 use Rattle.gate_core.proofs.Lost.{segment_wants}
@@ -18,10 +15,8 @@ use Rattle.event_engine.specs.Lost.{early_tests, IsLost}
 use Rattle.event_engine.specs.declared.taken.Taken.{Taken}
 use Rattle.event_engine.specs.declared.taken.Taken.TheVariants as takes
 use Rattle.gate_sessions.specs.Gives.{gate_tells, kept_gives}
-use Rattle.event_steps.specs.Passed.{IsPassed}
+use Rattle.event_steps.specs.Prelude.{IsPassed, told_by, told_kind}
 use Rattle.event_steps.proofs.Stepping.{left_next}
-use Rattle.gate_model.specs.Frame.{Kind, Udp, Echo, Error, Dns, Snmp, Stream}
-use Rattle.event_steps.specs.Passed.{told_by, told_kind}
 
 kind_out : (live : World CompactSession) (side : Side) (d : Datagram) (kind : Kind) → told_kind compact_rules gate_tells live side d kind ≡ out_kind compact_rules live side live.clock d kind
 kind_out live side d Udp = refl

@@ -1,17 +1,13 @@
 -- On which frames memory may be wanting.
 use Rattle.std.specs.Prelude.{◌≡◌, ◌⊎◌, true, Some, None}
-use Rattle.gate_base.specs.Events.{Event}
-use Rattle.gate_base.specs.Tests.{first_that_holds}
+use Rattle.gate_base.specs.Prelude.{Event, first_that_holds}
 use Rattle.gate_base.specs.declared.side.Side.{Side}
 use Rattle.ftp_lines.specs.Renaming.{client_lines, server_lines}
 use Rattle.ipv4_frames.specs.Ipv4.{Datagram}
-use Rattle.stream_gate.specs.Memory.{KeptCompletes}
-use Rattle.gate_model.specs.Frame.{Kind, Dns, Stream, datagram_in, kind_of}
-use Rattle.gate_model.specs.Stream.{begins, found_in, segment_of, session_in}
-use Rattle.gate_model.specs.World.{Tracked, World, host_on}
+use Rattle.stream_gate.specs.Prelude.{KeptCompletes}
+use Rattle.gate_model.specs.Prelude.{Kind, Dns, Stream, datagram_in, kind_of, begins, found_in, segment_of, session_in, Tracked, World, host_on}
 use Rattle.gate_sessions.specs.Compact.{CompactSession, compact_rules}
-use Rattle.event_steps.specs.Segments.{refusal_as}
-use Rattle.event_steps.specs.SegmentFate.{CompletesUnit}
+use Rattle.event_steps.specs.Prelude.{refusal_as, CompletesUnit}
 use Rattle.event_engine.specs.Lost.{early_tests}
 
 -- the segment is of a session of FTP, and completes a line that bears an address

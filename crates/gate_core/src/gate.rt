@@ -1,14 +1,10 @@
 // One event of the gate.
 ghost use Rattle.std.specs.Prelude.{◌≡◌, [], Ok, Err, IfOk, OnErr, OnOk};
-ghost use Rattle.gate_base.specs.Moments.{IsMoment};
-ghost use Rattle.gate_model.specs.World.{opening_world, at_moment};
+ghost use Rattle.gate_base.specs.Prelude.{IsMoment, event_of};
+ghost use Rattle.gate_model.specs.Prelude.{opening_world, at_moment, next, out, verdict, verdict_of};
 ghost use Rattle.gate_sessions.specs.Compact.{compact_rules};
 ghost use Rattle.gate_core.specs.Memory.{MayWant};
-ghost use Rattle.gate_base.specs.Events.{event_of};
-ghost use Rattle.gate_settings.specs.Sound.{IsSound};
-ghost use Rattle.gate_settings.specs.Forms.{HasForms};
-ghost use Rattle.gate_model.specs.Step.{next, out};
-ghost use Rattle.gate_model.specs.Verdict.{verdict, verdict_of};
+ghost use Rattle.gate_settings.specs.Prelude.{IsSound, HasForms};
 ghost use Rattle.event_engine.specs.Given.{refusal_of};
 
 use crate::salt::salt_of;
@@ -41,7 +37,7 @@ impl Drop for Gate {
 }
 
 impl Model for Gate {
-    ghost use Rattle.gate_model.specs.Held.{KeepsListed};
+    ghost use Rattle.gate_model.specs.Prelude.{KeepsListed};
     ghost use Rattle.gate_sessions.specs.Compact.{compact_rules};
     ghost use Rattle.gate_core.specs.Gates.{Gateway};
     ghost use Rattle.event_engine.specs.Knowing.{world_in};

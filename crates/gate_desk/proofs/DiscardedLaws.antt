@@ -1,6 +1,5 @@
 -- What the steps of a desk tell that discards what is written.
-use Rattle.std.proofs.Common.{◌≡◌, ℕ, ◌≤◌, List, Some, take, drop, length, refl, sym, ap, ◌∙◌}
-use Rattle.std.proofs.lemmas.List.{length-take-le}
+use Rattle.std.proofs.Common.{◌≡◌, ℕ, ◌≤◌, List, Some, take, drop, length, refl, sym, ap, ◌∙◌, length-take-le}
 use Rattle.gate_desk.specs.declared.slot.Slot.{Slot}
 use Rattle.gate_desk.specs.declared.slot.Access.{Access}
 use Rattle.gate_desk.specs.declared.slot.PerSlot.{PerSlot}

@@ -1,13 +1,12 @@
 -- What waits on a slot.
-use Rattle.std.proofs.Common.{◌≡◌, ◌<◌, inl, inr, ℕ, List, [], ◌++◌, Option, Some, None, IfErr, IfSome, IsSome, Result, Ok, Err, OnOk, OnErr, false, length, refl, sym, ◌∙◌, ap, subst}
+use Rattle.std.proofs.Common.{◌≡◌, ◌<◌, inl, inr, ℕ, List, [], ◌++◌, Option, Some, None, IfSome, IsSome, Result, Ok, Err, OnOk, OnErr, false, length, refl, sym, ◌∙◌, ap, subst, is_some}
 use Rattle.std.proofs.lemmas.Bool.{false≢true}
-use Rattle.std.specs.Option.{is_some}
 use Rattle.gate_desk.specs.declared.gathered.Gathering.{Gathering}
 use Rattle.gate_desk.specs.declared.gathered.Gathering.TheVariants.{Gathered, NoRoom}
 use Rattle.gate_desk.specs.declared.slot.Slot.{Slot}
 use Rattle.gate_desk.specs.declared.slot.Slot.TheVariants.{Errors}
 use Rattle.gate_desk.specs.declared.slot.PerSlot.{PerSlot}
-use Rattle.gate_desk.specs.Slots.{at, put, each, mapped}
+use Rattle.gate_desk.specs.Slots.{at, put, each}
 use Rattle.gate_desk.specs.declared.place.Place.{Place}
 use Rattle.gate_desk.specs.Gathering.{RefusedWaits, StaysWaiting, Waits, waiting, waiting_in, gathered_after}
 use Rattle.gate_desk.proofs.Laws.{at-each, at-mapped, mapped-put, put-at}
@@ -53,17 +52,6 @@ none_refused (Some slot) waiting e = absurd (false≢true e)
 pub still_waits : (refused : Option Slot) (old new : PerSlot (List ℕ)) → IfSome refused (λ slot. StaysWaiting slot old new) → RefusedWaits refused new
 still_waits None old new h = tt
 still_waits (Some slot) old new h = subst (λ (xs : List ℕ). 0 < length xs) (sym h.1) h.0
-
--- the same value of each slot
-pub alike : {A : Type 0} (p q : PerSlot A) → q.settings ≡ p.settings → q.left_in ≡ p.left_in → q.right_in ≡ p.right_in → q.left_given ≡ p.left_given → q.right_given ≡ p.right_given → q.report_given ≡ p.report_given → q.left_out ≡ p.left_out → q.right_out ≡ p.right_out → q.report ≡ p.report → q.errors ≡ p.errors → q ≡ p
-alike {A = A} p q a b c d e g h i j k =
-    let same : mapped (λ (x : A). x) q ≡ mapped (λ (x : A). x) p = cc in
-    same
-
--- what waits of the slot that was refused stays
-pub refused_last : {A : Type 0} (result : Result A Slot) (s : Slot) (old new : PerSlot (List ℕ)) → IfErr result (λ slot. slot ≡ s) → OnErr result (StaysWaiting s old new) → IfErr result (λ slot. StaysWaiting slot old new)
-refused_last (Ok x) s old new e h = tt
-refused_last (Err y) s old new e h = subst (λ slot. StaysWaiting slot old new) (sym e) h
 
 -- where no slot is refused afterwards, all was handed out, and none was refused before
 pub none_failed : {A E P : Type 0} (result : Result A E) (refused : Option Slot) → OnErr result (IsSome refused) → refused ≡ None → OnOk result P → P

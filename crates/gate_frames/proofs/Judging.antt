@@ -1,14 +1,12 @@
 -- A frame that passes by itself.
-use Rattle.std.proofs.Common.{◌≡◌, ◌≤◌, ◌<◌, ℕ, List, take, None, Ok, sym, ap, ◌∙◌, arith}
-use Rattle.std.specs.Result.{is_ok}
-use Rattle.std.proofs.lemmas.List.{length-take-le}
+use Rattle.std.proofs.Common.{◌≡◌, ◌≤◌, ◌<◌, ℕ, List, take, None, Ok, sym, ap, ◌∙◌, arith, is_ok, length-take-le}
 use Rattle.ipv4_frames.specs.Ipv4.{Datagram, total_length_of, read_datagram}
 use Rattle.twice_translate.specs.Renamed.{IsAccepted, datagram_of}
 use Rattle.twice_translate.specs.Content.{read_content}
 use Rattle.twice_translate.proofs.Accepted.{reads}
 use Rattle.twice_translate.proofs.Cut.{cut_goes_on, cut_same}
-use Rattle.gate_base.specs.Tests.{first_that_holds}
-use Rattle.gate_model.specs.Frame.{datagram_tests, transport_tests}
+use Rattle.gate_base.specs.Prelude.{first_that_holds}
+use Rattle.gate_model.specs.Prelude.{datagram_tests, transport_tests}
 use Rattle.gate_frames.specs.declared.content.Content.{Content}
 use Rattle.gate_frames.specs.Frames.{IsJudged}
 use Rattle.gate_frames.specs.Judged.{IsContentOf}

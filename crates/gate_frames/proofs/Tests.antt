@@ -1,11 +1,9 @@
 -- Tests in their order, and faults as refusals.
-use Rattle.std.proofs.Common.{◌≡◌, ℕ, ◌==◌, nat_lt, Bool, true, false, not, ◌||◌, List, [], ◌∷◌, ◌++◌, Option, Some, None, Result, Ok, Err, IfOk, IsOkAnd, IsErrAnd, MatchResult, length, refl, sym, ap, subst, ◌∙◌}
-use Rattle.std.proofs.Common.{inl, inr}
+use Rattle.std.proofs.Common.{◌≡◌, ℕ, ◌==◌, nat_lt, Bool, true, false, not, ◌||◌, List, [], ◌∷◌, ◌++◌, Option, Some, None, Result, Ok, Err, IfOk, IsOkAnd, IsErrAnd, MatchResult, length, refl, sym, ap, subst, ◌∙◌, inl, inr, is_ok}
 use Rattle.std.specs.Option.{option_or}
-use Rattle.std.specs.Result.{is_ok}
 use Rattle.std.proofs.lemmas.Bool.{cases_Bool, eqb-true}
 use Rattle.twice_translate.specs.Content.{Content, of_icmp, of_udp, of_segment, read_as, read_content}
-use Rattle.gate_base.specs.Events.{Event}
+use Rattle.gate_base.specs.Prelude.{Event, first_that_holds}
 use Rattle.gate_base.specs.declared.refusal.Refusal.{Refusal}
 use Rattle.gate_base.specs.declared.refusal.Refusal.TheVariants as refusals
 use Rattle.ipv4_frames.specs.declared.fault.IpFault.{IpFault}
@@ -17,11 +15,11 @@ use Rattle.ipv4_frames.specs.Ipv4.{Datagram, is_not_ipv4, has_bad_header, has_ba
 use Rattle.udp_icmp.specs.Udp.{Udp, has_bad_length, has_bad_sum, read_udp, udp_fields_of}
 use Rattle.udp_icmp.specs.Icmp.{Icmp, read_icmp, icmp_fields_of}
 use Rattle.inet_sum.specs.Sum.{is_right}
-use Rattle.tcp_segments.specs.Tcp.{Tcp, has_bad_offset, has_bad_options, tcp_covered, read_tcp}
-use Rattle.gate_base.specs.Tests.{first_that_holds}
+use Rattle.tcp_segments.specs.Prelude.{Tcp, has_bad_offset, has_bad_options, tcp_covered}
+use Rattle.tcp_segments.specs.Tcp.{read_tcp}
 use Rattle.ether_frames.specs.Ether.{octets_in}
-use Rattle.gate_model.specs.Frame.{has_other_address, datagram_in, header_tests, datagram_tests, transport_tests}
-use Rattle.gate_model.specs.Stream.{tcp_of}
+use Rattle.gate_model.specs.Prelude.{datagram_in, header_tests, datagram_tests, transport_tests, tcp_of}
+use Rattle.gate_model.specs.Frame.{has_other_address}
 use Rattle.gate_frames.specs.declared.content.Content.{Content as Carried}
 use Rattle.gate_frames.specs.Judged.{ip_refusal, transport_refusal, judged, front_tests, IsContentOf, Carries}
 

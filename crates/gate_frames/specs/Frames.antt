@@ -1,11 +1,10 @@
 -- A frame that is judged by itself.
 use Rattle.std.specs.Prelude.{◌≡◌, ◌≤◌, ℕ, List, length, Some, None, Result, Ok, Err}
-use Rattle.gate_base.specs.Events.{Event}
+use Rattle.gate_base.specs.Prelude.{Event, first_that_holds}
 use Rattle.gate_base.specs.declared.refusal.Refusal.{Refusal}
 use Rattle.ipv4_frames.specs.Ipv4.{Datagram}
-use Rattle.gate_base.specs.Tests.{first_that_holds}
 use Rattle.twice_translate.specs.Renamed.{CanGoOn, datagram_of}
-use Rattle.gate_model.specs.Frame.{datagram_in}
+use Rattle.gate_model.specs.Prelude.{datagram_in}
 use Rattle.gate_frames.specs.Judged.{IsContentOf, front_tests}
 use Rattle.gate_frames.specs.declared.content.Content.{Content}
 use Rattle.gate_frames.specs.declared.judged.Judged.{Judged}

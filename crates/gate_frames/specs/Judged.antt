@@ -1,6 +1,6 @@
 -- A frame by itself, as far as it asks for nothing that is known.
 use Rattle.std.specs.Prelude.{◌≡◌, ◌==◌, Bool, false, List, ◌++◌, Option, Some, None, Result, Ok, Err}
-use Rattle.gate_base.specs.Events.{Event}
+use Rattle.gate_base.specs.Prelude.{Event, first_that_holds}
 use Rattle.gate_base.specs.declared.refusal.Refusal.{Refusal}
 use Rattle.gate_base.specs.declared.refusal.Refusal.TheVariants as refusals
 use Rattle.ipv4_frames.specs.Ipv4.{Datagram}
@@ -10,9 +10,7 @@ use Rattle.ipv4_frames.specs.declared.fault.TransportFault.{TransportFault}
 use Rattle.ipv4_frames.specs.declared.fault.TransportFault.TheVariants.{BadTransport, BadSum}
 use Rattle.udp_icmp.specs.Icmp.{icmp_fields_of}
 use Rattle.udp_icmp.specs.Udp.{udp_fields_of}
-use Rattle.gate_base.specs.Tests.{first_that_holds}
-use Rattle.gate_model.specs.Frame.{datagram_in, header_tests, datagram_tests, transport_tests}
-use Rattle.gate_model.specs.Stream.{tcp_of}
+use Rattle.gate_model.specs.Prelude.{datagram_in, header_tests, datagram_tests, transport_tests, tcp_of}
 use Rattle.gate_frames.specs.declared.content.Content.{Content}
 use Rattle.gate_frames.specs.declared.content.Content.TheVariants.{Udp, Icmp as OfIcmp, Tcp}
 

@@ -1,9 +1,8 @@
 // A frame by itself: the datagram in it, and the reasons to refuse it that ask for nothing that is known.
 ghost use Rattle.std.specs.Prelude.{◌≡◌, ◌≤◌, None, Ok, length, IfOk};
-ghost use Rattle.gate_base.specs.Events.{event_of};
+ghost use Rattle.gate_base.specs.Prelude.{event_of, first_that_holds};
 ghost use Rattle.ether_frames.specs.Ether.{octets_in};
 ghost use Rattle.ipv4_frames.specs.Ipv4.{read_datagram};
-ghost use Rattle.gate_base.specs.Tests.{first_that_holds};
 ghost use Rattle.gate_model.specs.Frame as frame;
 ghost use Rattle.gate_frames.specs.Judged.{ip_refusal, transport_refusal, judged, Carries};
 

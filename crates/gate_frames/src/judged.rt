@@ -1,5 +1,5 @@
 // A frame by itself: judged as far as it asks for nothing that is known.
-ghost use Rattle.gate_base.specs.Events.{event_of};
+ghost use Rattle.gate_base.specs.Prelude.{event_of};
 ghost use Rattle.gate_frames.specs.Frames.{JudgedBy};
 
 use crate::content::{Content, content_of, datagram_in, datagram_refusal};

@@ -1,9 +1,8 @@
 -- Bindings that stay, and last longer by uses.
-use Rattle.std.proofs.Common.{◌≡◌, ◌≤◌, ◌<◌, ◌⊎◌, ℕ, Bool, true, false, ◌||◌, ◌==◌, nat_lt, cond, List, [], ◌∷◌, All, Option, Some, None, option_map, refl, sym, ◌∙◌, ap, subst, arith, inl, inr}
-use Rattle.std.specs.List.{find}
+use Rattle.std.proofs.Common.{◌≡◌, ◌≤◌, ◌<◌, ◌⊎◌, ℕ, Bool, true, false, ◌||◌, ◌==◌, nat_lt, cond, List, [], ◌∷◌, All, Option, Some, None, option_map, refl, sym, ◌∙◌, ap, subst, arith, inl, inr, find}
 use Rattle.std.proofs.lemmas.Bool.{and_parts, or_left, or_right, eqb-true, lt-ltb}
 use Rattle.std.proofs.lemmas.List.Elements.{All-head, All-tail}
-use Rattle.gate_base.specs.Side.{other, same_side}
+use Rattle.gate_base.specs.Prelude.{other, same_side}
 use Rattle.gate_base.specs.declared.address.Addr.{Addr}
 use Rattle.gate_base.specs.declared.event.Moment.{Moment}
 use Rattle.gate_base.specs.declared.side.Side.{Side}
@@ -13,10 +12,8 @@ use Rattle.realm_pools.specs.Addresses.{least_free}
 use Rattle.binding_table.specs.declared.binding.Binding.{Binding}
 use Rattle.binding_table.specs.declared.binding.Crossing.{Crossing}
 use Rattle.binding_table.specs.declared.binding.Crossing.TheVariants.{Same, Bound, New, Unbound, Empty}
-use Rattle.binding_table.specs.Bindings.{Bindings, is_same, is_of_host, in_pool, alias_of, pool_of, cross, seen, seen_by, new_or_empty, extend_through, is_live, expired}
-use Rattle.binding_table.specs.Lasting.{IsBoundTo, IsKnownAs}
-use Rattle.binding_table.specs.Lawful.{IsInPlace, IsLawful}
-use Rattle.binding_table.specs.Plan.{Use, used, used_by, after_uses, needs_binding}
+use Rattle.binding_table.specs.Prelude.{Bindings, is_same, is_of_host, in_pool, alias_of, pool_of, seen, seen_by, new_or_empty, extend_through, is_live, expired, IsBoundTo, IsKnownAs, IsInPlace, IsLawful, Use, used, used_by, after_uses, needs_binding}
+use Rattle.binding_table.specs.Bindings.{cross}
 use Rattle.binding_table.proofs.Kept.{same_pair, lawful_map, lawful_push}
 use Rattle.binding_table.proofs.Bind.{HasNoBinding, fresh_is, unbound_cross, least_is_free, can_bind}
 

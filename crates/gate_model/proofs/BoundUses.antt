@@ -1,11 +1,9 @@
 -- What the uses of a frame's own addresses bind, and for how long.
-use Rattle.std.proofs.Common.{◌≡◌, ◌≤◌, ◌⊎◌, ℕ, ◌+◌, Bool, true, false, not, ◌==◌, nat_lt, cond, List, [], ◌∷◌, ◌++◌, Option, Some, None, option_map, is_some, refl, sym, ◌∙◌, ap, arith, inl, inr}
-use Rattle.std.specs.List.{find}
+use Rattle.std.proofs.Common.{◌≡◌, ◌≤◌, ◌⊎◌, ℕ, ◌+◌, Bool, true, false, not, ◌==◌, nat_lt, cond, List, [], ◌∷◌, ◌++◌, Option, Some, None, option_map, is_some, refl, sym, ◌∙◌, ap, arith, inl, inr, find}
 use Rattle.std.specs.Option.{option_or}
 use Rattle.std.proofs.lemmas.Bool.{cases_Bool, and_parts, and_from, or_right, or_cases, eq-eqb, ltb-false, true≢false}
 use Rattle.std.proofs.lemmas.List.Folds.{find-append}
-use Rattle.gate_base.specs.Address.{is_unicast_number}
-use Rattle.gate_base.specs.Side.{other, same_side}
+use Rattle.gate_base.specs.Prelude.{is_unicast_number, other, same_side}
 use Rattle.gate_base.specs.declared.address.Addr.{Addr}
 use Rattle.gate_base.specs.declared.event.Moment.{Moment}
 use Rattle.gate_base.specs.declared.side.Side.{Side}
@@ -14,18 +12,15 @@ use Rattle.gate_base.proofs.Lists.{find_passes}
 use Rattle.realm_pools.specs.Addresses.{least_free}
 use Rattle.binding_table.specs.declared.binding.Binding.{Binding}
 use Rattle.binding_table.specs.declared.binding.Crossing.TheVariants.{Bound, New, Empty}
-use Rattle.binding_table.specs.Bindings.{Bindings, is_same, is_of_host, is_of_alias, in_pool, alias_of, host_of, pool_of, free, cross, seen, known_or, new_or_empty, lasting, is_through, extend_through, extended}
-use Rattle.binding_table.specs.Lasting.{IsBoundTo, IsKnownAs}
-use Rattle.binding_table.specs.Lawful.{IsInPlace, IsLawful}
-use Rattle.binding_table.specs.Plan.{Use, used, after_uses, is_fresh, needed}
+use Rattle.binding_table.specs.Prelude.{Bindings, is_same, is_of_host, is_of_alias, in_pool, alias_of, host_of, pool_of, free, seen, known_or, new_or_empty, lasting, is_through, extend_through, extended, IsBoundTo, IsKnownAs, IsInPlace, IsLawful, Use, used, after_uses, is_fresh, needed}
+use Rattle.binding_table.specs.Bindings.{cross}
 use Rattle.binding_table.proofs.Kept.{same_pair}
 use Rattle.binding_table.proofs.Bind.{HasNoBinding, unbound_cross}
 use Rattle.binding_table.proofs.Back.{crosses_back}
 use Rattle.binding_table.proofs.Planned.{flags_free}
 use Rattle.binding_table.proofs.Fresh.{fresh_cons}
 use Rattle.binding_table.proofs.Used.{find_map, host_same, known_used, known_after, same_used}
-use Rattle.gate_model.specs.World.{called}
-use Rattle.gate_model.specs.Verdict.{is_reachable}
+use Rattle.gate_model.specs.Prelude.{called, is_reachable}
 use Rattle.gate_model.proofs.BoundTables.{find_all, found_alias, none_alias, host_is, placed, bound_crosses, lawful_used}
 
 abbrev pub use_of : Side → ℕ → ℕ → Use

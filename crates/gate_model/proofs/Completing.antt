@@ -1,23 +1,18 @@
 -- The units that a segment completes, by the rest that is held before it.
-use Rattle.std.proofs.Common.{◌≡◌, ℕ, Bool, true, false, cond, List, [], ◌∷◌, ◌++◌, length, drop, min, refl, sym, ◌∙◌, ap, inl, inr}
-use Rattle.std.specs.Prelude.{not, ◌&&◌}
+use Rattle.std.proofs.Common.{◌≡◌, ℕ, Bool, true, false, cond, List, [], ◌∷◌, ◌++◌, length, drop, min, refl, sym, ◌∙◌, ap, inl, inr, not, ◌&&◌}
 use Rattle.std.proofs.Math.Nat.{min_comm}
 use Rattle.std.proofs.Math.Seq.{drop-append_seam, drop-length}
 use Rattle.std.proofs.lemmas.Bool.{cases_Bool, cond-true, cond-false}
 use Rattle.std.proofs.lemmas.List.{append-nil, drop_min}
 use Rattle.gate_base.specs.declared.host.Host.{Host}
-use Rattle.dialogue.specs.Learning.{Entry}
-use Rattle.dialogue.specs.Meaning.{IsLawful, is_held}
-use Rattle.dialogue.specs.Stream.{Cut, cut}
+use Rattle.dialogue.specs.Prelude.{Entry, IsLawful, is_held, Cut, cut}
 use Rattle.dialogue.proofs.CutLemmas.{IsRest-cut}
 use Rattle.dialogue.proofs.FirstUnit.{cut-on, cut-rest}
-use Rattle.dns_stream.specs.Images.{dns_units}
-use Rattle.stream_model.specs.Session.{Sender, Segment, arrival, start_of}
-use Rattle.stream_model.specs.Refusals.{is_data}
-use Rattle.stream_model.specs.Steps.{opened, taken}
+use Rattle.dns_stream.specs.Prelude.{dns_units}
+use Rattle.stream_model.specs.Prelude.{Sender, Segment, arrival, start_of, is_data, opened, taken}
 use Rattle.stream_model.proofs.Lacking.{own_is}
 use Rattle.stream_model.proofs.PassLemmas.{Passes, IsData, nothing_past}
-use Rattle.gate_model.specs.Sessions.{completed}
+use Rattle.gate_model.specs.Prelude.{completed}
 
 -- a SYN or RST brings no octets
 stays : (x y : Bool) (a : Sender) (g : Segment) → (not x && not y) ≡ false → (cond x (opened a g) (cond y a (taken a g))).octets ≡ a.octets

@@ -1,19 +1,16 @@
 -- What is entered into a list stays, and all that is entered is listed.
-use Rattle.std.proofs.Common.{◌≡◌, ◌*◌, ℕ, Bool, true, false, List, [], ◌∷◌, ◌++◌, length, map, Option, Some, None, refl, sym, ◌∙◌, ap, subst, append_assoc}
-use Rattle.std.specs.Prelude.{if◌then◌else◌, nat_lt, is_none, unwrap_or}
+use Rattle.std.proofs.Common.{◌≡◌, ◌*◌, ℕ, Bool, true, false, List, [], ◌∷◌, ◌++◌, length, map, Option, Some, None, refl, sym, ◌∙◌, ap, subst, append_assoc, if◌then◌else◌, nat_lt, is_none, unwrap_or, append-nil}
 use Rattle.std.specs.List.{flat_map, list_any, AllByRecursion}
-use Rattle.std.proofs.lemmas.List.{append-nil}
 use Rattle.std.proofs.lemmas.List.Folds.{list_any-append}
 use Rattle.std.proofs.lemmas.Bool.{or_left, or_right, or_parts, eq-eqb}
 use Rattle.gate_base.specs.declared.address.Addr.{Addr}
-use Rattle.dialogue.specs.Learning.{Entry, is_of, is_listed, AllListed}
+use Rattle.dialogue.specs.Prelude.{Entry, is_of, is_listed, AllListed}
 use Rattle.dns_messages.specs.declared.message.Message.{Message}
 use Rattle.dns_gateway.specs.Addresses.{message_addresses}
-use Rattle.dns_stream.specs.Units.{message_in, addresses_of, unit_addresses}
-use Rattle.dns_stream.specs.Images.{image_in, renamed, if_small, image_with, image_by, grows_by}
+use Rattle.dns_stream.specs.Prelude.{message_in, addresses_of, unit_addresses, image_in, renamed, grows_by}
+use Rattle.dns_stream.specs.Images.{if_small, image_with, image_by}
 use Rattle.dns_stream.specs.Lawful.{images-stay}
-use Rattle.gate_model.specs.Lists.{enter, entered, is_bad, grows_too_much}
-use Rattle.gate_model.specs.Remembered.{IsRenamed}
+use Rattle.gate_model.specs.Prelude.{enter, entered, is_bad, grows_too_much, IsRenamed}
 
 address : ℕ → Addr
 address number = record { 0 = number }

@@ -1,37 +1,21 @@
 -- Rounds of repeats of a tracked session come to an end.
-use Rattle.std.proofs.Common.{◌≡◌, ◌≤◌, ◌<◌, ◌+◌, ℕ, true, List, [], ◌∷◌, ◌++◌, length, Option, Some, None, option_map, refl, sym, ◌∙◌, ap, subst, arith, inl, inr}
-use Rattle.std.specs.Prelude.{◌⊎◌}
+use Rattle.std.proofs.Common.{◌≡◌, ◌≤◌, ◌+◌, ℕ, true, List, [], ◌∷◌, length, Option, Some, None, option_map, refl, sym, ◌∙◌, ap, subst, arith, inl, inr, ◌⊎◌}
 use Rattle.gate_base.specs.declared.address.Addr.{Addr}
 use Rattle.gate_base.specs.declared.event.Pair.{Pair}
 use Rattle.gate_base.specs.declared.host.Host.{Host}
 use Rattle.gate_base.specs.declared.host.Host.TheVariants.{Client, Server}
-use Rattle.gate_base.specs.Hosts.{peer}
-use Rattle.dialogue.specs.Learning.{Entry, ReadAlike}
-use Rattle.dialogue.specs.Meaning.{Meaning}
+use Rattle.gate_base.specs.Prelude.{peer}
+use Rattle.dialogue.specs.Prelude.{Entry, Meaning}
 use Rattle.dialogue.proofs.Alike.{back_alike}
-use Rattle.dns_stream.specs.Images.{dns_units}
-use Rattle.stream_model.specs.Numbers.{known}
-use Rattle.stream_model.specs.Progress.{acknowledged_of}
-use Rattle.stream_model.specs.Rounds.{Hears, LacksOctets, LacksEnd}
-use Rattle.stream_model.specs.Session.{Sender, Session, Segment, Outgoing, own, other, due_in, extent, arrival, place_acknowledged}
-use Rattle.stream_model.specs.Steps.{own_after, other_after, session_next, session_out, data_out}
-use Rattle.stream_model.specs.Refusals.{is_data, segment_refusal}
+use Rattle.dns_stream.specs.Prelude.{dns_units}
+use Rattle.stream_model.specs.Prelude.{known, acknowledged_of, Hears, LacksOctets, LacksEnd, Sender, Session, Segment, Outgoing, own, due_in, extent, arrival, place_acknowledged, own_after, other_after, session_next, session_out, is_data, segment_refusal}
 use Rattle.stream_model.proofs.Lacking.{data_of, out_is}
 use Rattle.stream_model.proofs.PassLemmas.{Passes, passes}
 use Rattle.stream_model.proofs.RoundsEnd.{Stands, Raised, raised_in}
-use Rattle.gate_model.specs.Frame.{datagram_in}
-use Rattle.gate_model.specs.GoingOn.{streams_of}
-use Rattle.gate_model.specs.Lists.{Lists, with_list, addresses_in, entered}
-use Rattle.gate_model.specs.Remembered.{Remembered, RememberedSession, remembering_rules, stream_of, UnitsAreRenamed, EachTracked}
+use Rattle.gate_model.specs.Prelude.{datagram_in, streams_of, Lists, with_list, addresses_in, entered, Remembered, RememberedSession, remembering_rules, stream_of, UnitsAreRenamed, EachTracked, meaning_by, entries_by, whole_units, next as world_next, segment_of, image_in, Tracked, World, at_moment, host_on}
 use Rattle.gate_model.specs.Rounds.{FrameRound, at_repeat, at_answer, at_end, repeated, answered, IsFrameRound, AllFrameRounds, after_frame_rounds}
-use Rattle.gate_model.specs.Sessions.{meaning_by, entries_by, whole_units, whole_learned}
-use Rattle.gate_model.specs.Step.{next as world_next}
-use Rattle.gate_model.specs.Stream.{segment_of}
-use Rattle.gate_model.specs.Taken.{TakesSegment}
-use Rattle.gate_model.specs.Verdict.{image_in}
-use Rattle.gate_model.specs.World.{Tracked, World, at_moment, host_on}
 use Rattle.gate_model.proofs.RememberedSessions.{with_meaning, Holds, own_same, own_alike, learned, IsLonger, longer, holds_learned, verdict_learned, TrackedHolds, remembered_keeps}
-use Rattle.gate_model.proofs.Tracking.{run_keeps, next_keeps, taken_before, taken_keeps}
+use Rattle.gate_model.proofs.Tracking.{run_keeps, next_keeps, taken_before}
 
 -- ## One round of a session that learns first what the segment's units name
 

@@ -1,26 +1,18 @@
 -- A frame that passes gives a datagram.
-use Rattle.std.proofs.Common.{◌≡◌, ◌≤◌, ℕ, Bool, true, false, cond, nat_lt, ◌+◌, List, length, Option, Some, None, sym, subst, arith}
-use Rattle.std.specs.Prelude.{slice_range}
+use Rattle.std.proofs.Common.{◌≡◌, ◌≤◌, ℕ, Bool, true, false, cond, nat_lt, ◌+◌, List, length, Option, Some, None, sym, subst, arith, slice_range}
 use Rattle.std.proofs.lemmas.List.{length-map}
-use Rattle.gate_base.specs.Events.{Event}
+use Rattle.gate_base.specs.Prelude.{Event}
 use Rattle.gate_base.specs.declared.address.Addr.{Addr}
 use Rattle.gate_base.specs.declared.event.Verdict.{Verdict}
 use Rattle.gate_base.specs.declared.event.Verdict.TheVariants.{Pass}
 use Rattle.gate_base.specs.declared.side.Side.{Side}
 use Rattle.gate_base.specs.declared.host.Host.TheVariants.{Client, Server}
-use Rattle.binding_table.specs.Bindings.{Bindings}
+use Rattle.binding_table.specs.Prelude.{Bindings}
 use Rattle.ipv4_frames.specs.Ipv4.{Datagram}
-use Rattle.stream_model.specs.Session.{Sender, Segment, due_in, start_of}
+use Rattle.stream_model.specs.Prelude.{Sender, Segment, due_in, start_of, pieces, empty_piece, bare_offset, sends_end, bare, low, high, limit_of, taken, syn_out, reset_out, data_out, out as sender_out}
 use Rattle.stream_model.specs.declared.numbers.Offset.{Offset}
-use Rattle.dialogue.specs.Stream.{image}
-use Rattle.stream_model.specs.Steps.{pieces, empty_piece, bare_offset, sends_end, bare, low, high, limit_of, taken, syn_out, reset_out, data_out, out as sender_out}
-use Rattle.gate_model.specs.Frame.{Kind, Udp, Echo, Error, Dns, Snmp, Stream, datagram_in, kind_of}
-use Rattle.gate_model.specs.Rules.{SessionRules, whole_rules}
-use Rattle.gate_model.specs.Sessions.{whole_learned}
-use Rattle.gate_model.specs.World.{Tracked, World, at_moment, called, source_of, destination_of, host_on}
-use Rattle.gate_model.specs.Stream.{segment_of}
-use Rattle.gate_model.specs.Verdict.{table_after, image_in, verdict}
-use Rattle.gate_model.specs.Step.{taker_in, stream_out, out_between, out_by, out}
+use Rattle.dialogue.specs.Prelude.{image}
+use Rattle.gate_model.specs.Prelude.{Kind, Udp, Echo, Error, Dns, Snmp, Stream, datagram_in, kind_of, SessionRules, whole_rules, whole_learned, Tracked, World, at_moment, called, source_of, destination_of, host_on, segment_of, table_after, image_in, verdict, taker_in, stream_out, out_between, out_by, out}
 use Rattle.gate_model.specs.Answers.{Answers}
 
 stream_some : {S : Type 0} (rules : SessionRules S) → Answers rules → (image : Addr → Option Addr) (side : Side) (d : Datagram) (source destination : ℕ) (t : Option (Tracked S)) → 1 ≤ length (stream_out rules image side d source destination t)

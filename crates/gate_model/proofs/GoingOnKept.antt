@@ -1,33 +1,21 @@
 -- Tracked sessions go on.
 use Rattle.std.proofs.Common.{◌≡◌, true, List, length, Option, Some, None, option_map, ◌∙◌, ap, subst, arith}
-use Rattle.std.specs.List.{fold}
-use Rattle.gate_base.specs.Events.{Event}
+use Rattle.gate_base.specs.Prelude.{Event}
 use Rattle.gate_base.specs.declared.address.Addr.{Addr}
 use Rattle.gate_base.specs.declared.event.Pair.{Pair}
 use Rattle.gate_base.specs.declared.host.Host.{Host}
 use Rattle.gate_base.specs.declared.host.Host.TheVariants.{Client, Server}
 use Rattle.gate_settings.specs.declared.settings.Settings.{Settings}
-use Rattle.dialogue.specs.Learning.{Entry, ReadAlike}
-use Rattle.dialogue.specs.Meaning.{Meaning}
+use Rattle.dialogue.specs.Prelude.{Entry, ReadAlike, Meaning}
 use Rattle.dialogue.proofs.Alike.{due_alike, back_alike}
-use Rattle.dns_stream.specs.Images.{dns_units}
-use Rattle.stream_model.specs.Session.{Sender, Session, Segment, Outgoing, own, due_in, arrival}
-use Rattle.stream_model.specs.Refusals.{is_data, segment_refusal}
-use Rattle.stream_model.specs.Progress.{acknowledged_of, Brings, OnlyHeldWaits}
+use Rattle.dns_stream.specs.Prelude.{dns_units}
+use Rattle.stream_model.specs.Prelude.{Sender, Session, Segment, Outgoing, own, due_in, arrival, is_data, segment_refusal, acknowledged_of, Brings}
 use Rattle.stream_model.proofs.Lacking.{session_brings, session_carries}
 use Rattle.stream_model.proofs.RecentFact.{facts_of}
 use Rattle.stream_model.proofs.Waiting.{only_held}
-use Rattle.gate_model.specs.Lists.{Lists, with_list, addresses_in, entered}
-use Rattle.gate_model.specs.Sessions.{meaning_by, entries_by, whole_units, whole_learned}
-use Rattle.gate_model.specs.World.{Tracked, at_moment, host_on, opening_world}
-use Rattle.gate_model.specs.Remembered.{RememberedSession, remembering_rules, stream_of, UnitsAreRenamed, EachTracked}
-use Rattle.gate_model.specs.Frame.{datagram_in}
-use Rattle.gate_model.specs.Stream.{segment_of}
-use Rattle.gate_model.specs.Taken.{TakesSegment, taken_by}
-use Rattle.gate_model.specs.Verdict.{image_in}
-use Rattle.gate_model.specs.Step.{next as world_next}
-use Rattle.gate_model.specs.GoingOn.{streams_of, OnlyRestsWait, HasDataSegment, GoesOn, GoesOnBy}
-use Rattle.gate_model.specs.Promise.{remembered_after}
+use Rattle.gate_model.specs.Prelude.{Lists, with_list, addresses_in, entered, meaning_by, entries_by, whole_units, whole_learned, Tracked, at_moment, host_on, RememberedSession, remembering_rules, stream_of, UnitsAreRenamed, EachTracked, datagram_in, segment_of, TakesSegment, image_in, streams_of, remembered_after}
+use Rattle.gate_model.specs.Taken.{taken_by}
+use Rattle.gate_model.specs.GoingOn.{OnlyRestsWait, HasDataSegment, GoesOn, GoesOnBy}
 use Rattle.gate_model.proofs.Tracking.{taken_before, taken_keeps}
 use Rattle.gate_model.proofs.RememberedSessions.{with_meaning, Holds, own_same, own_alike, learned, IsLonger, longer, holds_learned, verdict_learned, TrackedHolds, remembered_keeps, run_holds, each}
 

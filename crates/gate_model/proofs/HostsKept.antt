@@ -1,13 +1,10 @@
 -- While a connection lives its hosts keep their aliases.
-use Rattle.std.proofs.Common.{◌≡◌, ◌<◌, ℕ, ◌+◌, Bool, true, false, not, ◌&&◌, ◌==◌, nat_lt, if◌then◌else◌, List, [], ◌∷◌, get_or, All, Option, Some, None, option_map, refl, sym, ◌∙◌, ap, subst, inl, inr}
-use Rattle.std.specs.Prelude.{option_and_then, slice_get, IfSome, cond, unwrap_or}
-use Rattle.std.specs.List.{fold}
+use Rattle.std.proofs.Common.{◌≡◌, ◌<◌, ℕ, ◌+◌, Bool, true, false, not, ◌&&◌, ◌==◌, nat_lt, if◌then◌else◌, List, [], ◌∷◌, get_or, All, Option, Some, None, option_map, refl, sym, ◌∙◌, ap, subst, inl, inr, option_and_then, slice_get, IfSome, cond, unwrap_or, fold}
 use Rattle.std.proofs.lemmas.Bool.{and_parts, eq-eqb, eqb-true, ltb-true, not-false}
 use Rattle.std.proofs.lemmas.List.Elements.{All-weaker, All-nil, All-head, All-tail, All-cons, All-get_or}
 use Rattle.std.proofs.lemmas.List.Quantifiers.{position-Some}
 use Rattle.std.proofs.lemmas.Option.{slice_get_within, get_or_from_slice_get}
-use Rattle.gate_base.specs.Events.{Event}
-use Rattle.gate_base.specs.Side.{other}
+use Rattle.gate_base.specs.Prelude.{Event, other}
 use Rattle.gate_base.specs.declared.address.Addr.{Addr}
 use Rattle.gate_base.specs.declared.event.Pair.{Pair}
 use Rattle.gate_base.specs.declared.event.Verdict.{Verdict}
@@ -16,25 +13,17 @@ use Rattle.gate_base.specs.declared.refusal.Refusal.TheVariants.{SourceInPool, N
 use Rattle.gate_base.specs.declared.side.Side.{Side}
 use Rattle.gate_base.specs.declared.side.Side.TheVariants.{Left, Right}
 use Rattle.gate_base.proofs.Sides.{other_other}
-use Rattle.binding_table.specs.Bindings.{Bindings, in_pool, cross, seen, seen_by, expired}
-use Rattle.binding_table.specs.Lawful.{IsLawful}
-use Rattle.binding_table.specs.Lasting.{IsKnownAs}
-use Rattle.binding_table.specs.Plan.{Use, after_uses}
+use Rattle.binding_table.specs.Prelude.{Bindings, in_pool, seen, seen_by, expired, IsLawful, IsKnownAs, Use, after_uses}
+use Rattle.binding_table.specs.Bindings.{cross}
 use Rattle.binding_table.proofs.Used.{known_after}
 use Rattle.binding_table.proofs.Kept.{lawful_expired}
 use Rattle.binding_table.proofs.Back.{crosses_back}
 use Rattle.ipv4_frames.specs.Ipv4.{Datagram}
-use Rattle.tcp_segments.specs.Flags.{flags_of}
-use Rattle.tcp_tracker.specs.Connections.{is_of, place_of, connection_of, is_reset, starts_anew, unused, kept, kept_or_begun, with_flags, held, timeout, timeout_or_short, short_timeout, after, live, with_session}
+use Rattle.tcp_segments.specs.Prelude.{flags_of}
+use Rattle.tcp_tracker.specs.Prelude.{is_of, place_of, connection_of, is_reset, starts_anew, unused, kept, kept_or_begun, with_flags, held, timeout, timeout_or_short, short_timeout, after, live, with_session}
 use Rattle.tcp_tracker.specs.declared.connection.ConnKey.{ConnKey}
 use Rattle.tcp_tracker.specs.declared.connection.Connection.{Connection}
-use Rattle.gate_model.specs.Frame.{Kind, Udp, Echo, Error, Dns, Snmp, Stream, datagram_in, kind_of}
-use Rattle.gate_model.specs.Rules.{SessionRules}
-use Rattle.gate_model.specs.World.{Tracked, World, at_moment, called, source_of, destination_of}
-use Rattle.gate_model.specs.Stream.{tcp_of, key_of, key_in, found_in, session_in, begins, pair_in, made_by, taker_by, stepped, ends_by, stream_timeout, connection_after}
-use Rattle.gate_model.specs.Verdict.{payload_addresses, payload_uses, image_in, uses_of, table_after, is_reachable, verdict}
-use Rattle.gate_model.specs.Step.{taker_in, after_kind, next_by, next}
-use Rattle.gate_model.specs.Held.{host_in, IsPairOf, KeepsHosts}
+use Rattle.gate_model.specs.Prelude.{Kind, Udp, Echo, Error, Dns, Snmp, Stream, datagram_in, kind_of, SessionRules, Tracked, World, at_moment, called, source_of, destination_of, tcp_of, key_of, key_in, found_in, session_in, begins, pair_in, made_by, taker_by, stepped, ends_by, stream_timeout, connection_after, payload_addresses, payload_uses, image_in, uses_of, table_after, is_reachable, verdict, taker_in, after_kind, next_by, next, host_in, IsPairOf, KeepsHosts}
 use Rattle.gate_model.proofs.Passing.{Passes, passes, none_head, none_tail}
 use Rattle.gate_model.proofs.Tracking.{all_changed}
 use Rattle.gate_model.proofs.BoundTables.{known_expired, known_seen, known_once, lawful_after, bound_crosses}

@@ -1,27 +1,22 @@
 -- The bindings of connections, from the opening world on.
-use Rattle.std.proofs.Common.{◌≡◌, ◌≤◌, ℕ, zero, suc, ◌+◌, List, [], ◌∷◌, ◌++◌, length, map, take, get_or, Option, Some, None, sym, ◌∙◌, ap, subst, arith}
-use Rattle.std.specs.Prelude.{IfSome}
+use Rattle.std.proofs.Common.{◌≡◌, ◌≤◌, ℕ, zero, suc, ◌+◌, List, [], ◌∷◌, ◌++◌, length, map, take, get_or, Option, Some, None, sym, ◌∙◌, ap, subst, arith, IfSome}
 use Rattle.std.proofs.Math.Seq.{take-length}
 use Rattle.std.proofs.lemmas.List.{map-append, take_more}
 use Rattle.std.proofs.lemmas.List.Elements.{All-weaker, All-nil}
-use Rattle.gate_base.specs.Side.{other}
+use Rattle.gate_base.specs.Prelude.{other}
 use Rattle.gate_base.specs.declared.address.Addr.{Addr}
 use Rattle.gate_base.specs.declared.side.Side.{Side}
 use Rattle.gate_base.specs.declared.side.Side.TheVariants.{Left}
-use Rattle.gate_settings.specs.Sound.{IsSound}
-use Rattle.gate_settings.specs.Forms.{HasForms}
+use Rattle.gate_settings.specs.Prelude.{IsSound, HasForms}
 use Rattle.gate_settings.specs.declared.settings.Fixed.{Fixed}
 use Rattle.gate_settings.specs.declared.settings.Settings.{Settings}
 use Rattle.binding_table.specs.declared.binding.Binding.{Binding}
-use Rattle.binding_table.specs.Bindings.{Bindings, fixed_binding, without_bindings, opening, with_binding, seen}
-use Rattle.binding_table.specs.Lasting.{IsKnownAs}
-use Rattle.binding_table.specs.Lawful.{IsLawful}
+use Rattle.binding_table.specs.Prelude.{Bindings, fixed_binding, without_bindings, opening, with_binding, seen, IsKnownAs, IsLawful}
 use Rattle.binding_table.proofs.Opening.{opening_lawful, can_open}
 use Rattle.binding_table.proofs.Kept.{lawful_push}
 use Rattle.tcp_tracker.specs.declared.connection.Connection.{Connection}
-use Rattle.gate_model.specs.World.{Tracked, World, opening_world}
-use Rattle.gate_model.specs.Remembered.{EachTracked}
-use Rattle.gate_model.specs.Held.{host_in, IsPairOf, KeepsHosts, PairCrosses}
+use Rattle.gate_model.specs.Prelude.{Tracked, World, opening_world, EachTracked, host_in, IsPairOf, KeepsHosts}
+use Rattle.gate_model.specs.Held.{PairCrosses}
 use Rattle.gate_model.proofs.BoundTables.{known_seen}
 use Rattle.gate_model.proofs.HostsKept.{KeepsAll, known_back}
 

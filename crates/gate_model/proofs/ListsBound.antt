@@ -5,27 +5,23 @@ use Rattle.std.specs.Option.{option_or}
 use Rattle.std.proofs.lemmas.Bool.{cases_Bool, or_parts, eq-eqb, eqb-true, true≢false}
 use Rattle.std.proofs.lemmas.List.Elements.{All-nil, All-cons}
 use Rattle.std.proofs.lemmas.List.Folds.{find-append}
-use Rattle.gate_base.specs.Side.{other}
+use Rattle.gate_base.specs.Prelude.{other}
 use Rattle.gate_base.specs.declared.address.Addr.{Addr}
 use Rattle.gate_base.specs.declared.side.Side.{Side}
 use Rattle.gate_base.proofs.Sides.{other_other, same_side-itself}
 use Rattle.gate_base.proofs.Lists.{find_filter}
 use Rattle.realm_pools.specs.Addresses.{least_free}
-use Rattle.dialogue.specs.Learning.{Entry, is_of, is_listed}
+use Rattle.dialogue.specs.Prelude.{Entry, is_of, is_listed}
 use Rattle.binding_table.specs.declared.binding.Binding.{Binding}
 use Rattle.binding_table.specs.declared.binding.Crossing.{Crossing}
 use Rattle.binding_table.specs.declared.binding.Crossing.TheVariants.{Bound, New, Unbound, Empty}
-use Rattle.binding_table.specs.Bindings.{Bindings, is_same, is_of_host, in_pool, alias_of, host_of, pool_of, cross, seen, seen_by, new_or_empty, is_live, expired}
-use Rattle.binding_table.specs.Lasting.{IsBoundTo}
-use Rattle.binding_table.specs.Lawful.{IsLawful}
-use Rattle.binding_table.specs.Plan.{Use, used, after_uses}
+use Rattle.binding_table.specs.Prelude.{Bindings, is_same, is_of_host, in_pool, alias_of, host_of, pool_of, seen, seen_by, new_or_empty, is_live, expired, IsBoundTo, IsLawful, Use, used, after_uses}
+use Rattle.binding_table.specs.Bindings.{cross}
 use Rattle.binding_table.proofs.Back.{crosses_back}
 use Rattle.binding_table.proofs.Bind.{HasNoBinding, unbound_cross}
 use Rattle.binding_table.proofs.Used.{known_used, same_used}
-use Rattle.gate_model.specs.Held.{IsBoundAs, IsImage, IsEntryBound}
-use Rattle.gate_model.specs.Lists.{renamed_in}
-use Rattle.gate_model.specs.Names.{is_unbound}
-use Rattle.gate_model.specs.Units.{uses_until, is_new_unbound}
+use Rattle.gate_model.specs.Prelude.{IsImage, IsEntryBound, renamed_in, is_unbound, uses_until, is_new_unbound}
+use Rattle.gate_model.specs.Held.{IsBoundAs}
 use Rattle.gate_model.proofs.BoundTables.{none_alias, placed, known_seen, lives, lawful_used}
 use Rattle.gate_model.proofs.BoundUses.{use_of, host_lasts, alias_lasts, bound_from, back_bound}
 use Rattle.gate_model.proofs.HostsKept.{known_back}

@@ -1,14 +1,12 @@
 -- What addresses are called after all uses of a segment: as after those of its header and of its names, whatever is used behind them.
-use Rattle.std.proofs.Common.{◌≡◌, ◌≢◌, ◌≤◌, ℕ, true, List, [], ◌∷◌, ◌++◌, map, Option, Some, refl, sym, ap, ◌∙◌, inl, inr}
+use Rattle.std.proofs.Common.{◌≡◌, ◌≢◌, ◌≤◌, ℕ, List, [], ◌∷◌, sym, ap, ◌∙◌, inl, inr}
 use Rattle.std.specs.List.{All, AllByRecursion}
-use Rattle.gate_base.specs.Side.{other}
+use Rattle.gate_base.specs.Prelude.{other}
 use Rattle.gate_base.specs.declared.address.Addr.{Addr}
 use Rattle.gate_base.specs.declared.side.Side.{Side}
-use Rattle.binding_table.specs.Bindings.{Bindings, cross, seen, seen_by, is_same, free}
-use Rattle.binding_table.specs.Lawful.{IsLawful}
-use Rattle.binding_table.specs.Plan.{Use, after_uses, needed, unless_same, image_after}
+use Rattle.binding_table.specs.Prelude.{Bindings, cross, seen, seen_by, free, IsLawful, Use, after_uses, needed, unless_same, image_after}
 use Rattle.binding_table.specs.declared.binding.Crossing.TheVariants.{Unbound}
-use Rattle.gate_model.specs.Units.{uses_until}
+use Rattle.gate_model.specs.Prelude.{uses_until}
 use Rattle.gate_model.proofs.BoundTables.{lawful_after}
 use Rattle.gate_model.proofs.ListsBound.{Crosses, as_seen, as_after, same_after}
 use Rattle.gate_model.proofs.ListsKept.{same_cross, all_cross, table_of}

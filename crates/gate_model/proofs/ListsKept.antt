@@ -1,25 +1,21 @@
 -- What the lists of a session rename stays bound while its connection lives.
-use Rattle.std.proofs.Common.{◌≡◌, ◌≢◌, ◌≤◌, ◌<◌, ℕ, Bool, true, false, if◌then◌else◌, List, [], ◌∷◌, ◌++◌, length, map, get_or, All, IsSome, Option, Some, None, refl, sym, ◌∙◌, ap, subst, append_assoc, arith, inl, inr}
+use Rattle.std.proofs.Common.{◌≡◌, ◌≢◌, ◌≤◌, ◌<◌, ℕ, Bool, true, false, if◌then◌else◌, List, [], ◌∷◌, ◌++◌, length, map, get_or, All, IsSome, Option, Some, None, refl, sym, ◌∙◌, ap, subst, append_assoc, arith, inl, inr, length-append}
 use Rattle.std.specs.List.{AllByRecursion}
 use Rattle.std.proofs.lemmas.Bool.{cases_Bool}
-use Rattle.std.proofs.lemmas.List.{length-append}
 use Rattle.std.proofs.lemmas.List.Elements.{All-nil, All-head, All-tail, All-cons, All-get_or}
 use Rattle.std.proofs.lemmas.List.Sums.{fold-append}
-use Rattle.gate_base.specs.Side.{other}
+use Rattle.gate_base.specs.Prelude.{other}
 use Rattle.gate_base.specs.declared.address.Addr.{Addr}
 use Rattle.gate_base.specs.declared.side.Side.{Side}
-use Rattle.dialogue.specs.Learning.{Entry, is_listed}
+use Rattle.dialogue.specs.Prelude.{Entry, is_listed}
 use Rattle.binding_table.specs.declared.binding.Crossing.{Crossing}
 use Rattle.binding_table.specs.declared.binding.Crossing.TheVariants.{Same, Bound, New, Unbound, Empty}
-use Rattle.binding_table.specs.Bindings.{Bindings, is_same, in_pool, free, cross, seen, pool_crossing, host_crossing, known_or, new_or_empty, pool_of, host_of, alias_of}
-use Rattle.binding_table.specs.Lawful.{IsLawful}
-use Rattle.binding_table.specs.Plan.{Use, AreUsesOf, used, after_uses, unless_same, image_after, needed, fresh_after}
+use Rattle.binding_table.specs.Prelude.{Bindings, is_same, in_pool, free, seen, known_or, new_or_empty, pool_of, host_of, alias_of, IsLawful, Use, AreUsesOf, used, after_uses, unless_same, image_after, needed, fresh_after}
+use Rattle.binding_table.specs.Bindings.{cross, pool_crossing, host_crossing}
 use Rattle.binding_table.proofs.Fresh.{fresh_cons}
 use Rattle.binding_table.proofs.Used.{all_seen}
-use Rattle.gate_model.specs.Held.{IsImage, IsEntryBound}
+use Rattle.gate_model.specs.Prelude.{IsImage, IsEntryBound, enter, entered, renamed_in, uses_until}
 use Rattle.realm_pools.specs.Addresses.{least_free}
-use Rattle.gate_model.specs.Lists.{enter, entered, renamed_in}
-use Rattle.gate_model.specs.Units.{uses_until}
 use Rattle.gate_model.proofs.BoundTables.{lawful_used, lawful_after}
 use Rattle.gate_model.proofs.BoundUses.{use_of}
 use Rattle.gate_model.proofs.ListsBound.{as_seen, as_differs, same_after, entries_later, entries_last, Crosses, use_crosses, all_cross_later}

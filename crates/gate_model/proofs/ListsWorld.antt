@@ -1,13 +1,9 @@
 -- Over all events: what the lists of sessions rename stays bound while their connections live.
-use Rattle.std.proofs.Common.{◌≡◌, ◌≢◌, ◌≤◌, ◌<◌, ℕ, ◌+◌, Bool, true, false, not, nat_lt, if◌then◌else◌, cond, List, [], ◌∷◌, ◌++◌, length, All, Option, Some, None, option_map, refl, sym, ◌∙◌, ap, subst, arith}
-use Rattle.gate_base.specs.Tests.{unless_refused}
-use Rattle.std.specs.Prelude.{IfSome}
+use Rattle.std.proofs.Common.{◌≡◌, ◌≢◌, ◌≤◌, ◌<◌, ℕ, ◌+◌, Bool, true, false, not, nat_lt, if◌then◌else◌, cond, List, [], ◌∷◌, ◌++◌, length, All, Option, Some, None, option_map, refl, sym, ◌∙◌, ap, subst, arith, IfSome, append-nil}
+use Rattle.gate_base.specs.Prelude.{unless_refused, Event, other, same_side, peer}
 use Rattle.std.specs.List.{fold, list_any, AllByRecursion}
 use Rattle.std.proofs.lemmas.Bool.{and_parts, not-false, ltb-false, ltb-true, and_left}
-use Rattle.std.proofs.lemmas.List.{append-nil}
 use Rattle.std.proofs.lemmas.List.Elements.{All-weaker, All-nil, All-head, All-tail, All-cons}
-use Rattle.gate_base.specs.Events.{Event}
-use Rattle.gate_base.specs.Side.{other, same_side}
 use Rattle.gate_base.specs.declared.address.Addr.{Addr}
 use Rattle.gate_base.specs.declared.event.Verdict.{Verdict}
 use Rattle.gate_base.specs.declared.event.Verdict.TheVariants.{Pass, Refused, Held}
@@ -15,44 +11,30 @@ use Rattle.gate_base.specs.declared.refusal.Refusal.{Refusal}
 use Rattle.gate_base.specs.declared.refusal.Refusal.TheVariants.{SourceInPool, NoBinding}
 use Rattle.gate_base.specs.declared.side.Side.{Side}
 use Rattle.gate_base.specs.declared.side.Side.TheVariants.{Left, Right}
-use Rattle.gate_settings.specs.Forms.{HasForms}
-use Rattle.gate_settings.specs.Sound.{IsSound}
+use Rattle.gate_settings.specs.Prelude.{HasForms, IsSound}
 use Rattle.gate_settings.specs.declared.settings.Settings.{Settings}
-use Rattle.dialogue.specs.Learning.{Entry, is_listed}
+use Rattle.dialogue.specs.Prelude.{Entry, is_listed}
 use Rattle.binding_table.specs.declared.binding.Crossing.TheVariants.{Unbound}
-use Rattle.binding_table.specs.Bindings.{Bindings, in_pool, free, cross, seen_by, expired, opening}
-use Rattle.binding_table.specs.Lawful.{IsLawful}
-use Rattle.binding_table.specs.Plan.{Use, after_uses, image_after, needed}
+use Rattle.binding_table.specs.Prelude.{Bindings, in_pool, free, cross, seen_by, expired, opening, IsLawful, Use, after_uses, image_after, needed}
 use Rattle.binding_table.proofs.Kept.{lawful_expired}
 use Rattle.ipv4_frames.specs.Ipv4.{Datagram}
-use Rattle.stream_model.specs.Session.{Segment, own}
-use Rattle.tcp_segments.specs.Flags.{flags_of}
-use Rattle.tcp_tracker.specs.Connections.{is_of, place_of, live}
+use Rattle.stream_model.specs.Prelude.{Segment, own}
+use Rattle.tcp_segments.specs.Prelude.{flags_of}
+use Rattle.tcp_tracker.specs.Prelude.{is_of, place_of, live}
 use Rattle.tcp_tracker.specs.declared.connection.Connection.{Connection}
-use Rattle.gate_model.specs.Frame.{is_tracked_port, Kind, Udp, Echo, Error, Dns, Snmp, Stream, datagram_in, kind_of}
-use Rattle.gate_model.specs.Held.{IsImage, IsEntryBound, side_of, ListsAreBound, KeepsLists, HasLists, KeepsListed, EntryCrosses, ListsCross, ListsAreFew}
-use Rattle.gate_model.specs.Lists.{Lists, with_list, addresses_in, entered, is_bad, most_entries}
+use Rattle.gate_model.specs.Prelude.{is_tracked_port, Kind, Udp, Echo, Error, Dns, Snmp, Stream, datagram_in, kind_of, IsImage, IsEntryBound, HasLists, KeepsListed, EntryCrosses, ListsCross, Lists, with_list, addresses_in, entered, is_bad, most_entries, SessionRules, whole_rules, entries_by, units_by, completed, Tracked, World, at_moment, called, source_of, destination_of, addresses_of, host_on, opening_world, tcp_of, segment_of, is_opening, key_in, found_in, session_in, begins, made_by, taker_by, session_refusal, stepped, stream_timeout, connection_after, uses_until, units_in, names_in, entries_after, uses_of_lists, is_new_unbound, unit_tests, uses_of, table_after, image_in, is_reachable, verdict, taker_in, after_kind, next_by, next, EachTracked}
+use Rattle.gate_model.specs.Held.{side_of, ListsAreBound, KeepsLists, ListsAreFew}
 use Rattle.gate_base.specs.declared.refusal.Refusal.TheVariants.{BadUnit, UnitUnbound, RenamesFull}
 use Rattle.gate_base.proofs.Hosts.{both}
 use Rattle.gate_base.specs.declared.host.Host.{Host}
 use Rattle.gate_base.specs.declared.host.Host.TheVariants.{Client, Server}
-use Rattle.gate_base.specs.Hosts.{peer}
-use Rattle.gate_model.specs.Rules.{SessionRules, whole_rules}
-use Rattle.gate_model.specs.Sessions.{entries_by, units_by, completed}
-use Rattle.gate_model.specs.World.{Tracked, World, at_moment, called, source_of, destination_of, addresses_of, host_on, opening_world}
-use Rattle.gate_model.specs.Stream.{tcp_of, segment_of, is_opening, key_in, found_in, session_in, begins, made_by, taker_by, session_refusal, stepped, stream_timeout, connection_after}
-use Rattle.gate_model.specs.Units.{uses_until, units_in, names_in, entries_after, uses_of_lists, is_new_unbound, unit_tests}
-use Rattle.gate_model.specs.Verdict.{uses_of, table_after, image_in, is_reachable, verdict}
-use Rattle.gate_model.specs.Step.{taker_in, after_kind, next_by, next}
-use Rattle.gate_model.specs.Remembered.{EachTracked}
 use Rattle.gate_model.proofs.BoundTables.{lawful_after}
 use Rattle.gate_model.proofs.BoundUses.{far_known}
 use Rattle.gate_model.proofs.HostsKept.{IsLeft, left_of, found_is, known_back, table_is}
 use Rattle.gate_model.proofs.HostsOpen.{opening_is_lawful}
 use Rattle.gate_model.proofs.ListsBound.{as_seen, entries_later, entries_expired, names_bound_once, seen_bound}
 use Rattle.gate_model.proofs.Entering.{entered_more}
-use Rattle.dns_stream.specs.Images.{image_in as listed_image}
-use Rattle.dns_stream.specs.Lawful.{image-stays}
+use Rattle.dns_stream.specs.Prelude.{image_in as listed_image, image-stays}
 use Rattle.gate_model.proofs.ListsKept.{Listing, table_with, ListsLast, lists_last, entered_bound, same_cross, known_unbound}
 use Rattle.gate_model.proofs.Passing.{NoneHolds, none_head, none_tail, Passes, passes, StreamPasses, stream_passes}
 use Rattle.gate_model.proofs.Tracking.{all_changed, Keeps, run_keeps}

@@ -1,17 +1,15 @@
 -- What is entered into a list, the new addresses first.
-use Rattle.std.proofs.Common.{◌≡◌, ◌+◌, ℕ, Bool, true, false, not, ◌&&◌, ◌||◌, ◌==◌, if◌then◌else◌, List, [], ◌∷◌, ◌++◌, length, map, Option, None, option_map, refl, sym, ◌∙◌, ap, append_assoc, inl, inr}
-use Rattle.std.specs.Prelude.{unwrap_or}
-use Rattle.std.specs.List.{find}
+use Rattle.std.proofs.Common.{◌≡◌, ◌+◌, ℕ, Bool, true, false, not, ◌&&◌, ◌||◌, ◌==◌, if◌then◌else◌, List, [], ◌∷◌, ◌++◌, length, map, Option, None, option_map, refl, sym, ◌∙◌, ap, append_assoc, inl, inr, unwrap_or, find}
 use Rattle.std.specs.Option.{option_or}
 use Rattle.std.proofs.lemmas.Bool.{cases_Bool, eqb-true, true≢false}
 use Rattle.std.proofs.lemmas.List.{append-nil, map-append, length-append, length-map}
 use Rattle.std.proofs.lemmas.List.Folds.{list_any-append, find-append}
 use Rattle.gate_base.specs.declared.address.Addr.{Addr}
-use Rattle.binding_table.specs.Plan.{is_among}
-use Rattle.dialogue.specs.Learning.{Entry, is_of, is_listed}
-use Rattle.dns_stream.specs.Images.{image_in}
-use Rattle.dns_stream.specs.Lawful.{image-stays}
-use Rattle.gate_model.specs.Lists.{enter, entered, is_new, unlisted_after, unlisted}
+use Rattle.binding_table.specs.Prelude.{is_among}
+use Rattle.dialogue.specs.Prelude.{Entry, is_of, is_listed}
+use Rattle.dns_stream.specs.Prelude.{image_in, image-stays}
+use Rattle.gate_model.specs.Prelude.{enter, entered}
+use Rattle.gate_model.specs.Lists.{is_new, unlisted_after, unlisted}
 use Rattle.gate_model.proofs.Entering.{entered_more}
 
 -- an address with what it is called

@@ -1,19 +1,13 @@
 -- What is known where no test holds.
 use Rattle.std.proofs.Common.{◌≡◌, ℕ, Bool, true, false, List, [], ◌∷◌, ◌++◌, Option, Some, None, refl}
-use Rattle.gate_base.specs.Events.{Event}
+use Rattle.gate_base.specs.Prelude.{Event, first_that_holds}
 use Rattle.gate_base.specs.declared.event.Verdict.TheVariants.{Pass}
 use Rattle.gate_base.specs.declared.refusal.Refusal.{Refusal}
 use Rattle.gate_base.specs.declared.refusal.Refusal.TheVariants.{NoSession, SessionsFull, PoolEmpty}
 use Rattle.gate_base.specs.declared.side.Side.{Side}
 use Rattle.ipv4_frames.specs.Ipv4.{Datagram}
-use Rattle.gate_base.specs.Tests.{first_that_holds}
-use Rattle.gate_model.specs.Frame.{Kind, Stream, datagram_in, header_tests, datagram_tests, transport_tests, kind_of}
-use Rattle.gate_model.specs.Rules.{SessionRules}
-use Rattle.gate_model.specs.Stream.{found_in, lacks_session, session_refusal, is_full}
-use Rattle.gate_model.specs.Verdict.{verdict_of, tests, world_tests, address_tests, kind_tests, late_tests, is_pool_empty, image_in, refusal_tests, verdict}
-use Rattle.gate_model.specs.Step.{taker_in}
-use Rattle.gate_model.specs.Units.{unit_tests}
-use Rattle.gate_model.specs.World.{World, at_moment}
+use Rattle.gate_model.specs.Prelude.{Kind, Stream, datagram_in, header_tests, datagram_tests, transport_tests, kind_of, SessionRules, found_in, lacks_session, session_refusal, is_full, verdict_of, tests, world_tests, address_tests, kind_tests, late_tests, is_pool_empty, image_in, refusal_tests, taker_in, unit_tests, World, at_moment}
+use Rattle.gate_model.specs.Verdict.{verdict}
 
 -- no test holds
 pub record NoneHolds (tests : List (Bool × Refusal)) : Type 0 where

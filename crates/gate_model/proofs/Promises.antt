@@ -1,24 +1,17 @@
 -- What is promised holds for every list of events.
-use Rattle.std.proofs.Common.{◌≡◌, ℕ, List, [], ◌∷◌, None, Ok, refl, sym, ap, ◌∙◌}
-use Rattle.gate_base.specs.Events.{Event}
+use Rattle.std.proofs.Common.{◌≡◌, ℕ, List, [], ◌∷◌, None, refl, sym, ap, ◌∙◌}
+use Rattle.gate_base.specs.Prelude.{Event}
 use Rattle.gate_base.specs.declared.event.Verdict.TheVariants.{Pass, Refused}
 use Rattle.gate_base.specs.declared.side.Side.{Side}
-use Rattle.gate_settings.specs.Forms.{HasForms}
-use Rattle.gate_settings.specs.Sound.{IsSound}
+use Rattle.gate_settings.specs.Prelude.{HasForms, IsSound}
 use Rattle.gate_settings.specs.declared.settings.Settings.{Settings}
-use Rattle.binding_table.specs.Bindings.{Bindings}
+use Rattle.binding_table.specs.Prelude.{Bindings}
 use Rattle.ipv4_frames.specs.Ipv4.{Datagram}
-use Rattle.gate_model.specs.Sessions.{WholeSession}
+use Rattle.gate_model.specs.Prelude.{WholeSession, Kind, Udp, Echo, Error, Dns, Snmp, Stream, datagram_in, kind_of, known_after, remembered_after, Promised, world_as, whole_rules, out, out_by, out_between, stream_out, taker_in, RememberedSession, remembering_rules, table_after, image_in, verdict_of, segment_of, World, at_moment, called, source_of, destination_of, opening_world, host_on}
 use Rattle.twice_translate.specs.Renamed.{renamed}
-use Rattle.gate_model.specs.Frame.{Kind, Udp, Echo, Error, Dns, Snmp, Stream, datagram_in, kind_of}
-use Rattle.gate_model.specs.Promise.{known_after, remembered_after, reason, FrameIs, Promised}
-use Rattle.gate_model.specs.Reading.{world_as}
-use Rattle.gate_model.specs.Rules.{whole_rules}
-use Rattle.gate_model.specs.Step.{out, out_by, out_between, stream_out, taker_in, translated}
-use Rattle.gate_model.specs.Remembered.{RememberedSession, remembering_rules}
-use Rattle.gate_model.specs.Verdict.{table_after, image_in, verdict, verdict_of}
-use Rattle.gate_model.specs.Stream.{segment_of}
-use Rattle.gate_model.specs.World.{World, at_moment, called, source_of, destination_of, opening_world, host_on}
+use Rattle.gate_model.specs.Promise.{reason, FrameIs}
+use Rattle.gate_model.specs.Step.{translated}
+use Rattle.gate_model.specs.Verdict.{verdict}
 use Rattle.gate_model.proofs.GoesOn.{goes_on, whole_answers}
 use Rattle.gate_model.proofs.GoingOnKept.{waits_are, goes_on as session_goes_on}
 use Rattle.gate_model.proofs.Through.{through}

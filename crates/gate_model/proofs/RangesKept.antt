@@ -1,28 +1,20 @@
 -- The most connections and sessions are never passed.
-use Rattle.std.proofs.Common.{◌≡◌, ◌≤◌, ◌<◌, ℕ, zero, suc, Bool, true, false, not, ◌&&◌, ◌||◌, nat_le, if◌then◌else◌, cond, List, [], ◌∷◌, ◌++◌, length, set, Option, Some, None, option_map, is_some, count_by, refl, sym, ◌∙◌, ap, subst, arith}
-use Rattle.std.specs.Prelude.{option_and_then, slice_get, IfSome}
-use Rattle.std.specs.List.{filter, fold, remove}
-use Rattle.std.proofs.lemmas.Bool.{leb-false}
+use Rattle.std.proofs.Common.{◌≡◌, ◌≤◌, ◌<◌, ℕ, zero, suc, Bool, true, false, not, ◌&&◌, ◌||◌, nat_le, if◌then◌else◌, cond, List, [], ◌∷◌, ◌++◌, length, set, Option, Some, None, option_map, is_some, count_by, refl, sym, ◌∙◌, ap, subst, arith, option_and_then, slice_get, IfSome, filter, fold, remove, leb-false}
 use Rattle.std.proofs.lemmas.List.{length-set, length_push, length-append}
 use Rattle.std.proofs.lemmas.List.Sums.{length-filter, count_by-le-length}
 use Rattle.std.proofs.lemmas.List.Elements.{filter-append}
-use Rattle.gate_base.specs.Events.{Event}
+use Rattle.gate_base.specs.Prelude.{Event}
 use Rattle.gate_base.specs.declared.address.Addr.{Addr}
 use Rattle.gate_base.specs.declared.event.Verdict.{Verdict}
 use Rattle.gate_base.specs.declared.event.Verdict.TheVariants.{Pass, Refused, Held}
 use Rattle.gate_base.specs.declared.side.Side.{Side}
 use Rattle.gate_base.proofs.Options.{some_mapped}
 use Rattle.ipv4_frames.specs.Ipv4.{Datagram}
-use Rattle.tcp_segments.specs.Flags.{flags_of}
-use Rattle.tcp_tracker.specs.Connections.{is_of, is_tracked, is_live, place_of, changed, kept_or_begun, held, with_flags, after, live, with_session}
+use Rattle.tcp_segments.specs.Prelude.{flags_of}
+use Rattle.tcp_tracker.specs.Prelude.{is_of, is_tracked, is_live, place_of, changed, kept_or_begun, held, with_flags, after, live, with_session}
 use Rattle.tcp_tracker.specs.declared.connection.Connection.{Connection}
 use Rattle.tcp_tracker.proofs.Joining.{place_within, none_past}
-use Rattle.gate_model.specs.Frame.{Kind, Udp, Echo, Error, Dns, Snmp, Stream, datagram_in, kind_of}
-use Rattle.gate_model.specs.Rules.{SessionRules}
-use Rattle.gate_model.specs.World.{Tracked, World, at_moment}
-use Rattle.gate_model.specs.Stream.{tcp_of, key_in, found_in, begins, made_by, taker_by, stepped, ends_by, is_full, most_connections, most_sessions, connection_after}
-use Rattle.gate_model.specs.Verdict.{table_after, image_in, verdict}
-use Rattle.gate_model.specs.Step.{taker_in, after_kind, next_by, next}
+use Rattle.gate_model.specs.Prelude.{Kind, Udp, Echo, Error, Dns, Snmp, Stream, datagram_in, kind_of, SessionRules, Tracked, World, at_moment, tcp_of, key_in, found_in, begins, made_by, taker_by, stepped, ends_by, is_full, most_connections, most_sessions, connection_after, table_after, image_in, verdict, taker_in, after_kind, next_by, next}
 use Rattle.gate_model.specs.Ranges.{InRange}
 use Rattle.gate_model.proofs.Passing.{Passes, passes, StreamPasses, stream_passes}
 use Rattle.gate_model.proofs.HostsKept.{begun_is}

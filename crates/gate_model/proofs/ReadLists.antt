@@ -1,6 +1,5 @@
 -- Lists of connections whose sessions are read as others.
-use Rattle.std.proofs.Common.{◌≡◌, ℕ, ◌+◌, Bool, true, false, cond, if◌then◌else◌, List, [], ◌∷◌, map, Option, Some, None, option_map, count_by, refl, sym, ◌∙◌, ap}
-use Rattle.std.specs.Prelude.{option_and_then, slice_get, fold}
+use Rattle.std.proofs.Common.{◌≡◌, ℕ, ◌+◌, Bool, true, false, cond, if◌then◌else◌, List, [], ◌∷◌, map, Option, Some, None, option_map, count_by, refl, sym, ◌∙◌, ap, option_and_then, slice_get, fold}
 use Rattle.std.proofs.lemmas.List.{map-append, map-set}
 use Rattle.std.proofs.lemmas.Option.{slice_get-map}
 use Rattle.gate_base.specs.declared.event.Moment.{Moment}
@@ -8,12 +7,11 @@ use Rattle.gate_base.specs.declared.side.Side.{Side}
 use Rattle.gate_base.specs.declared.side.Side.TheVariants.{Left, Right}
 use Rattle.gate_base.proofs.Options.{some_mapped}
 use Rattle.gate_base.proofs.Lists.{filter_as, position_as, remove_as}
-use Rattle.tcp_segments.specs.Flags.{flags_of}
-use Rattle.tcp_tracker.specs.Connections.{is_of, timeout, unused, with_flags, starts_anew, is_reset, kept, kept_or_begun, held, after, timeout_or_short, is_live, is_tracked, place_of, connection_of, timeout_of, changed, live}
+use Rattle.tcp_segments.specs.Prelude.{flags_of}
+use Rattle.tcp_tracker.specs.Prelude.{is_of, timeout, unused, with_flags, starts_anew, is_reset, kept, kept_or_begun, held, after, timeout_or_short, is_live, is_tracked, place_of, connection_of, timeout_of, changed, live}
 use Rattle.tcp_tracker.specs.declared.connection.ConnKey.{ConnKey}
 use Rattle.tcp_tracker.specs.declared.connection.Connection.{Connection}
-use Rattle.gate_model.specs.World.{Tracked}
-use Rattle.gate_model.specs.Reading.{tracked_as, connection_as}
+use Rattle.gate_model.specs.Prelude.{Tracked, tracked_as, connection_as}
 
 -- ## Any lists
 

@@ -1,25 +1,17 @@
 -- Worlds whose sessions are read as others become alike, and send the same.
-use Rattle.std.proofs.Common.{◌≡◌, ℕ, Bool, true, false, if◌then◌else◌, max, List, [], ◌∷◌, map, Option, Some, None, option_map, refl, ◌∙◌, ap}
-use Rattle.std.specs.List.{fold}
-use Rattle.gate_base.specs.Events.{Event}
+use Rattle.std.proofs.Common.{◌≡◌, ℕ, Bool, true, false, if◌then◌else◌, max, List, [], ◌∷◌, map, Option, Some, None, option_map, refl, ◌∙◌, ap, fold}
+use Rattle.gate_base.specs.Prelude.{Event}
 use Rattle.gate_base.specs.declared.address.Addr.{Addr}
 use Rattle.gate_base.specs.declared.event.Verdict.{Verdict}
 use Rattle.gate_base.specs.declared.event.Verdict.TheVariants.{Pass, Refused, Held}
 use Rattle.gate_base.specs.declared.side.Side.{Side}
-use Rattle.binding_table.specs.Bindings.{Bindings}
+use Rattle.binding_table.specs.Prelude.{Bindings}
 use Rattle.icmp_errors.specs.Inner.{inner_fields}
 use Rattle.ipv4_frames.specs.Ipv4.{Datagram}
-use Rattle.stream_model.specs.Session.{Outgoing}
-use Rattle.tcp_tracker.specs.Connections.{after, place_of, changed, with_session}
+use Rattle.stream_model.specs.Prelude.{Outgoing}
+use Rattle.tcp_tracker.specs.Prelude.{after, place_of, changed, with_session}
 use Rattle.tcp_tracker.specs.declared.connection.Connection.{Connection}
-use Rattle.gate_model.specs.Frame.{Kind, Udp, Echo, Error, Dns, Snmp, Stream, datagram_in, kind_of}
-use Rattle.gate_model.specs.Rules.{SessionRules}
-use Rattle.gate_model.specs.World.{Tracked, World, at_moment, called, source_of, destination_of, host_on}
-use Rattle.gate_model.specs.Reading.{tracked_as, connection_as, world_as, Reads}
-use Rattle.gate_model.specs.Stream.{tcp_of, segment_of, key_in, found_in, session_in, session_refusal, stepped, ends_by, connection_after, connections_with, pending_by, pending_in, sent_as}
-use Rattle.gate_model.specs.Inner.{inside}
-use Rattle.gate_model.specs.Verdict.{table_after, image_in, verdict}
-use Rattle.gate_model.specs.Step.{taker_in, with_connection, after_kind, next_by, next, stream_out, out_between, out_kind, out_by, out}
+use Rattle.gate_model.specs.Prelude.{Kind, Udp, Echo, Error, Dns, Snmp, Stream, datagram_in, kind_of, SessionRules, Tracked, World, at_moment, called, source_of, destination_of, host_on, tracked_as, connection_as, world_as, Reads, tcp_of, segment_of, key_in, found_in, session_in, session_refusal, stepped, ends_by, connection_after, connections_with, pending_by, pending_in, sent_as, inside, table_after, image_in, verdict, taker_in, with_connection, after_kind, next_by, next, stream_out, out_between, out_kind, out_by, out}
 use Rattle.gate_model.proofs.ReadLists.{place_of_as, after_as, changed_as}
 use Rattle.gate_model.proofs.ReadWorlds.{found_as, session_as, ends_as, table_as, image_as, taker_as, inner_number_as, moment_as, verdict_as}
 use Rattle.gate_model.proofs.Passing.{Passes, passes, stream_passes}

@@ -1,32 +1,22 @@
 -- Worlds whose sessions are read as others answer alike.
 use Rattle.std.proofs.Common.{◌≡◌, ℕ, Bool, true, false, ◌==◌, if◌then◌else◌, List, [], ◌∷◌, ◌++◌, map, Option, Some, None, option_map, refl, sym, ◌∙◌, ap, nat_lt, ◌+◌}
 use Rattle.std.proofs.lemmas.List.{length-map}
-use Rattle.gate_base.specs.Events.{Event}
-use Rattle.gate_base.specs.Side.{other}
+use Rattle.gate_base.specs.Prelude.{Event, other, first_that_holds, unless_refused}
 use Rattle.gate_base.specs.declared.address.Addr.{Addr}
 use Rattle.gate_base.specs.declared.refusal.Refusal.{Refusal}
 use Rattle.gate_base.specs.declared.refusal.Refusal.TheVariants.{NoSession, SessionsFull, PoolEmpty}
 use Rattle.gate_base.specs.declared.side.Side.{Side}
-use Rattle.binding_table.specs.Bindings.{Bindings, free}
-use Rattle.binding_table.specs.Plan.{Use, needed, after_uses, image_after}
-use Rattle.dialogue.specs.Learning.{Entry}
+use Rattle.binding_table.specs.Prelude.{Bindings, free, Use, needed, after_uses, image_after}
+use Rattle.dialogue.specs.Prelude.{Entry}
 use Rattle.icmp_errors.specs.Inner.{inner_fields}
 use Rattle.icmp_errors.specs.declared.Inner.{Inner}
 use Rattle.ipv4_frames.specs.Ipv4.{Datagram}
-use Rattle.gate_base.specs.Tests.{first_that_holds, unless_refused}
 use Rattle.gate_base.specs.declared.host.Host.TheVariants.{Client, Server}
-use Rattle.tcp_tracker.specs.Connections.{connection_of, short_timeout, timeout_of}
+use Rattle.tcp_tracker.specs.Prelude.{connection_of, short_timeout, timeout_of}
 use Rattle.tcp_tracker.specs.declared.connection.Connection.{Connection}
-use Rattle.gate_model.specs.Frame.{Kind, Udp, Echo, Error, Dns, Snmp, Stream, datagram_in, header_tests, datagram_tests, transport_tests, kind_of}
-use Rattle.gate_model.specs.Lists.{addresses_in, renamed_in}
-use Rattle.gate_model.specs.Rules.{SessionRules}
-use Rattle.gate_model.specs.Units.{uses_until, units_in, names_in, entries_in, uses_of_lists, unit_tests, growth_tests}
-use Rattle.gate_model.specs.World.{Tracked, World, at_moment, called, addresses_of, host_on}
-use Rattle.gate_model.specs.Reading.{tracked_as, connection_as, world_as, Reads}
-use Rattle.gate_model.specs.Stream.{tcp_of, segment_of, key_in, key_of, found_in, session_in, begins, made_by, taker_by, session_refusal, ends_by, lacks_session, is_full, stream_timeout}
-use Rattle.gate_model.specs.Inner.{inside, inner_session, inner_number, is_inner_unbound}
-use Rattle.gate_model.specs.Verdict.{payload_addresses, payload_uses, uses_of, table_after, image_in, is_pool_empty, refusal_tests, address_tests, kind_tests, late_tests, tests, verdict_of, verdict}
-use Rattle.gate_model.specs.Step.{taker_in}
+use Rattle.gate_model.specs.Prelude.{Kind, Udp, Echo, Error, Dns, Snmp, Stream, datagram_in, header_tests, datagram_tests, transport_tests, kind_of, addresses_in, renamed_in, SessionRules, uses_until, units_in, names_in, entries_in, uses_of_lists, unit_tests, growth_tests, Tracked, World, at_moment, called, addresses_of, host_on, tracked_as, connection_as, world_as, Reads, tcp_of, segment_of, key_in, key_of, found_in, session_in, begins, made_by, taker_by, session_refusal, ends_by, lacks_session, is_full, stream_timeout, inside, inner_number, is_inner_unbound, payload_addresses, payload_uses, uses_of, table_after, image_in, is_pool_empty, refusal_tests, address_tests, kind_tests, late_tests, tests, verdict_of, taker_in}
+use Rattle.gate_model.specs.Inner.{inner_session}
+use Rattle.gate_model.specs.Verdict.{verdict}
 use Rattle.gate_model.proofs.ReadLists.{live_as, connection_of_as, tracked_as_many, timeout_as}
 
 -- ## One segment

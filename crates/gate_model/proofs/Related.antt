@@ -1,17 +1,13 @@
 -- Worlds of related sessions answer alike, and stay related.
-use Rattle.std.proofs.Common.{◌≡◌, List, [], ◌∷◌, Option, Some, None, refl, sym, ◌∙◌, ap}
-use Rattle.std.specs.List.{fold}
-use Rattle.gate_base.specs.Events.{Event}
+use Rattle.std.proofs.Common.{◌≡◌, List, [], ◌∷◌, Option, Some, None, refl, sym, ◌∙◌, ap, fold}
+use Rattle.gate_base.specs.Prelude.{Event}
 use Rattle.gate_base.specs.declared.address.Addr.{Addr}
 use Rattle.gate_base.specs.declared.refusal.Refusal.{Refusal}
 use Rattle.gate_base.specs.declared.host.Host.{Host}
 use Rattle.gate_settings.specs.declared.settings.Settings.{Settings}
-use Rattle.stream_model.specs.Session.{Segment}
-use Rattle.gate_model.specs.Rules.{SessionRules}
-use Rattle.gate_model.specs.World.{World, opening_world}
-use Rattle.gate_model.specs.Reading.{Reads, Agree, Both, AreRelated}
-use Rattle.gate_model.specs.Verdict.{verdict}
-use Rattle.gate_model.specs.Step.{next, out}
+use Rattle.stream_model.specs.Prelude.{Segment}
+use Rattle.gate_model.specs.Prelude.{SessionRules, World, opening_world, Reads, Agree, AreRelated, verdict, next, out}
+use Rattle.gate_model.specs.Reading.{Both}
 use Rattle.gate_model.proofs.ReadWorlds.{verdict_as}
 use Rattle.gate_model.proofs.ReadSteps.{next_as, out_as}
 

@@ -1,46 +1,30 @@
 -- What sessions remember is true, and so the laws of streams speak of what the world sent.
-use Rattle.std.proofs.Common.{◌≡◌, ℕ, Bool, true, false, cond, ◌<◌, ◌≤◌, List, [], ◌∷◌, ◌++◌, length, drop, Option, Some, None, option_map, refl, sym, ◌∙◌, ap, subst, arith}
+use Rattle.std.proofs.Common.{◌≡◌, ℕ, Bool, true, false, cond, ◌<◌, ◌≤◌, List, [], ◌∷◌, ◌++◌, length, drop, Option, Some, None, option_map, refl, sym, ◌∙◌, ap, subst, arith, IfSome, ◌^◌, ◌||◌, append-nil}
 use Rattle.std.specs.List.{fold, flat_map, AllByRecursion}
-use Rattle.std.specs.Prelude.{IfSome, ◌^◌, ◌||◌}
-use Rattle.std.proofs.lemmas.List.{append-nil}
 use Rattle.std.proofs.Math.Seq.{drop-append_seam}
 use Rattle.std.proofs.lemmas.List.Elements.{All-weaker, All-nil}
-use Rattle.gate_base.specs.Events.{Event as Frame}
+use Rattle.gate_base.specs.Prelude.{Event as Frame}
 use Rattle.gate_base.specs.declared.address.Addr.{Addr}
 use Rattle.gate_base.specs.declared.event.Pair.{Pair}
 use Rattle.gate_base.specs.declared.side.Side.{Side}
 use Rattle.gate_base.specs.declared.host.Host.{Host}
 use Rattle.gate_base.specs.declared.host.Host.TheVariants.{Client, Server}
 use Rattle.gate_settings.specs.declared.settings.Settings.{Settings}
-use Rattle.dialogue.specs.Learning.{Entry, ReadAlike, AllListed}
-use Rattle.dialogue.specs.Meaning.{Meaning, IsLawful}
-use Rattle.dialogue.specs.Repeats.{is_unlike}
-use Rattle.dialogue.specs.Stream.{Cut, cut}
+use Rattle.dialogue.specs.Prelude.{Entry, ReadAlike, AllListed, Meaning, IsLawful, is_unlike, Cut, cut}
 use Rattle.dialogue.proofs.Alike.{learned_alike, due_alike, back_alike}
 use Rattle.dialogue.proofs.FirstUnit.{cut-on}
-use Rattle.dns_stream.specs.Units.{unit_addresses}
-use Rattle.dns_stream.specs.Images.{dns_units}
-use Rattle.dns_stream.specs.Lawful.{dns_units-lawful, dns_units-learning}
+use Rattle.dns_stream.specs.Prelude.{unit_addresses, dns_units, dns_units-lawful, dns_units-learning}
 use Rattle.ftp_lines.specs.Lawful.{client_lines-lawful, server_lines-lawful}
-use Rattle.stream_model.specs.Numbers.{known, number_at}
-use Rattle.stream_model.specs.Session.{Sender, Session, Segment, Outgoing, own, other, session, due_in, recent, extent, arrival, start_of, repeats_unlike}
-use Rattle.stream_model.specs.Refusals.{segment_refusal, refusal_of}
+use Rattle.stream_model.specs.Prelude.{known, number_at, Sender, Session, Segment, Outgoing, own, other, session, due_in, recent, extent, arrival, start_of, repeats_unlike, segment_refusal, refusal_of, opened, taken, acknowledged, own_after, other_after, session_made, session_next, session_out, if_by, if_to, places_of, numbers_of, SentIs, EachIsBack, Facts}
 use Rattle.stream_model.specs.declared.refusals.Extent.{Extent}
-use Rattle.stream_model.specs.Steps.{opened, taken, acknowledged, own_after, other_after, session_made, session_next, session_out}
-use Rattle.stream_model.specs.History.{if_by, if_to, places_of, numbers_of, SentIs, EachIsBack, Facts}
 use Rattle.stream_model.proofs.SentLaw.{due_nil}
 use Rattle.stream_model.proofs.SessionSent.{SentOf, Silent, sound_step, own_meaning, other_meaning}
 use Rattle.stream_model.proofs.SessionAcked.{Acked, acked_step, made_acked}
 use Rattle.stream_model.proofs.FactLemmas.{short_step}
 use Rattle.stream_model.proofs.RecentFact.{facts_of, few_after}
 use Rattle.tcp_tracker.specs.declared.connection.Connection.{Connection}
-use Rattle.gate_model.specs.Lists.{Lists, list_of, with_list, addresses_in, entered}
-use Rattle.gate_model.specs.Rules.{whole_rules}
-use Rattle.gate_model.specs.Sessions.{lists_at, meaning_by, entries_by, units_by, completed, reads_by, whole_units, whole_learned}
-use Rattle.gate_model.specs.World.{Tracked, opening_world}
-use Rattle.gate_model.specs.Reading.{Reads}
-use Rattle.gate_model.specs.Remembered.{Passed, Remembered, RememberedSession, stream_of, remembered, remembering_rules, begun, step, AllPass, IsRenamed, UnitsAreRenamed, StreamIs, IsRemembered, SessionIs, EachTracked}
-use Rattle.gate_model.specs.Step.{next as world_next}
+use Rattle.gate_model.specs.Prelude.{Lists, list_of, with_list, addresses_in, entered, whole_rules, lists_at, meaning_by, entries_by, units_by, completed, reads_by, whole_units, whole_learned, Tracked, opening_world, Reads, Remembered, RememberedSession, stream_of, remembering_rules, IsRenamed, UnitsAreRenamed, EachTracked, next as world_next}
+use Rattle.gate_model.specs.Remembered.{Passed, remembered, begun, step, AllPass, StreamIs, IsRemembered, SessionIs}
 use Rattle.gate_model.proofs.Entering.{entered_more, entered_all, all_renamed_more, all_renamed, listed_units, all_append, split_listed}
 use Rattle.gate_model.proofs.Tracking.{UnitsFit, Keeps, run_keeps}
 

@@ -1,8 +1,7 @@
 -- The words of worked cases: settings, events, and what each gives.
-use Rattle.std.specs.Prelude.{ℕ, Bool, false, List, [], ◌∷◌, ◌++◌, map}
-use Rattle.std.specs.List.{fold}
+use Rattle.std.proofs.Common.{ℕ, Bool, false, List, [], ◌∷◌, ◌++◌, map, fold}
 use Rattle.byteorder.specs.Endian.{big_bytes}
-use Rattle.gate_base.specs.Events.{Event}
+use Rattle.gate_base.specs.Prelude.{Event}
 use Rattle.gate_base.specs.declared.event.Verdict.{Verdict}
 use Rattle.gate_base.specs.declared.event.Verdict.TheVariants.{Pass, Refused}
 use Rattle.gate_base.specs.declared.rule.OidRule.{OidRule}
@@ -14,11 +13,7 @@ use Rattle.gate_settings.specs.declared.settings.Block.{Block}
 use Rattle.gate_settings.specs.declared.settings.Fixed.{Fixed}
 use Rattle.gate_settings.specs.declared.settings.Settings.{Settings}
 use Rattle.gate_settings.specs.declared.settings.SideSettings.{SideSettings}
-use Rattle.gate_model.specs.Sessions.{WholeSession}
-use Rattle.gate_model.specs.Rules.{whole_rules}
-use Rattle.gate_model.specs.World.{World, opening_world, at_moment}
-use Rattle.gate_model.specs.Verdict.{verdict}
-use Rattle.gate_model.specs.Step.{next_by, out_by}
+use Rattle.gate_model.specs.Prelude.{WholeSession, whole_rules, World, opening_world, at_moment, verdict, next_by, out_by}
 
 -- so many octets, written in hexadecimal
 abbrev pub hex : ℕ → ℕ → List ℕ

@@ -1,24 +1,17 @@
 -- What the world sends for a segment that a session takes is what the session says, and the session goes on by it.
-use Rattle.std.proofs.Common.{◌≡◌, ◌<◌, ℕ, Bool, true, false, nat_lt, cond, List, [], ◌∷◌, length, position, Option, Some, None, option_map, refl, sym, ◌∙◌, ap, subst, arith}
-use Rattle.std.specs.Prelude.{option_and_then, slice_get, IfSome}
+use Rattle.std.proofs.Common.{◌≡◌, ◌<◌, ℕ, Bool, true, false, nat_lt, cond, List, [], ◌∷◌, length, position, Option, Some, None, option_map, refl, sym, ◌∙◌, ap, subst, arith, option_and_then, slice_get, IfSome, ltb-true}
 use Rattle.std.specs.List.{find, position_or_len}
 use Rattle.std.specs.Option.{option_or}
-use Rattle.std.proofs.lemmas.Bool.{ltb-true}
 use Rattle.std.proofs.lemmas.List.Folds.{find-set, find-append}
-use Rattle.gate_base.specs.Events.{Event}
+use Rattle.gate_base.specs.Prelude.{Event}
 use Rattle.gate_base.specs.declared.event.Verdict.{Verdict}
-use Rattle.tcp_tracker.specs.Connections.{is_of, place_of, connection_of, changed}
+use Rattle.tcp_tracker.specs.Prelude.{is_of, place_of, connection_of, changed}
 use Rattle.tcp_tracker.specs.declared.connection.ConnKey.{ConnKey}
 use Rattle.tcp_tracker.specs.declared.connection.Connection.{Connection}
 use Rattle.tcp_tracker.proofs.Names.{find_by_place}
-use Rattle.gate_model.specs.Frame.{Kind, Stream, datagram_in}
-use Rattle.gate_model.specs.Rules.{SessionRules}
-use Rattle.gate_model.specs.World.{Tracked, World, at_moment}
-use Rattle.gate_model.specs.Stream.{key_in, found_in, stepped, connection_after}
-use Rattle.gate_model.specs.Verdict.{table_after, image_in}
-use Rattle.gate_model.specs.Step.{taker_in, stream_out, out_kind, out_by, out, after_kind, next_by, next}
+use Rattle.gate_model.specs.Prelude.{Kind, Stream, datagram_in, SessionRules, Tracked, World, at_moment, key_in, found_in, stepped, connection_after, table_after, image_in, taker_in, stream_out, out_kind, out_by, out, after_kind, next_by, next, TakesSegment}
 use Rattle.gate_model.proofs.HostsKept.{IsLeft, left_of, found_is}
-use Rattle.gate_model.specs.Taken.{TakesSegment, source_after, destination_after, said}
+use Rattle.gate_model.specs.Taken.{source_after, destination_after, said}
 
 kind_out : {S : Type 0} (rules : SessionRules S) (w : World S) (e : Event) (t : Tracked S) → TakesSegment rules w e t → out rules w e ≡ out_kind rules (at_moment w e.moment) e.side e.moment (datagram_in e) Stream
 kind_out rules w e t k = ap (out_by rules (at_moment w e.moment) e) k.passes ∙ ap (out_kind rules (at_moment w e.moment) e.side e.moment (datagram_in e)) k.stream

@@ -1,19 +1,13 @@
 -- A session changes with the segments that it takes alone.
-use Rattle.std.proofs.Common.{◌≡◌, List, Option, Some, None, option_map, refl, inl, inr}
-use Rattle.std.specs.Prelude.{IfSome, Contains}
+use Rattle.std.proofs.Common.{◌≡◌, List, Option, Some, None, option_map, refl, inl, inr, IfSome, Contains}
 use Rattle.std.proofs.lemmas.List.Elements.{All-contains_itself, All-filter, All-weaker}
-use Rattle.gate_base.specs.Events.{Event}
+use Rattle.gate_base.specs.Prelude.{Event}
 use Rattle.gate_base.specs.declared.event.Verdict.{Verdict}
 use Rattle.gate_base.specs.declared.event.Verdict.TheVariants.{Pass, Refused, Held}
-use Rattle.tcp_tracker.specs.Connections.{place_of, is_live}
+use Rattle.tcp_tracker.specs.Prelude.{place_of, is_live}
 use Rattle.tcp_tracker.specs.declared.connection.Connection.{Connection}
-use Rattle.gate_model.specs.Frame.{Kind, Udp, Echo, Error, Dns, Snmp, Stream, datagram_in, kind_of}
+use Rattle.gate_model.specs.Prelude.{Kind, Udp, Echo, Error, Dns, Snmp, Stream, datagram_in, kind_of, RememberedSession, remembering_rules, EachTracked, taker_in, after_kind, next_by, next, key_in, stepped, connection_after, image_in, verdict, Tracked, World, at_moment}
 use Rattle.gate_model.specs.GoingOn.{IsTracked, ComesThrough}
-use Rattle.gate_model.specs.Remembered.{RememberedSession, remembering_rules, EachTracked}
-use Rattle.gate_model.specs.Step.{taker_in, after_kind, next_by, next}
-use Rattle.gate_model.specs.Stream.{key_in, stepped, connection_after}
-use Rattle.gate_model.specs.Verdict.{image_in, verdict}
-use Rattle.gate_model.specs.World.{Tracked, World, at_moment}
 use Rattle.gate_model.proofs.Tracking.{all_changed, after_keeps}
 
 -- each session of a list is tracked there

@@ -1,11 +1,9 @@
 -- What each tracked session keeps.
-use Rattle.std.proofs.Common.{◌≡◌, ℕ, suc, Bool, true, false, if◌then◌else◌, List, [], ◌∷◌, take, drop, All, Option, Some, None, option_map, refl, subst}
-use Rattle.gate_base.specs.Tests.{unless_refused}
-use Rattle.std.specs.Prelude.{option_and_then, slice_get, IfSome, nat_lt, length}
+use Rattle.std.proofs.Common.{◌≡◌, ℕ, suc, Bool, true, false, if◌then◌else◌, List, [], ◌∷◌, take, drop, All, Option, Some, None, option_map, refl, subst, option_and_then, slice_get, IfSome, nat_lt, length}
+use Rattle.gate_base.specs.Prelude.{unless_refused, Event}
 use Rattle.std.specs.List.{fold, list_any}
 use Rattle.std.proofs.lemmas.List.Elements.{All-get_or, All-push, All-set, All-append, All-take, All-drop, All-filter}
 use Rattle.std.proofs.lemmas.Option.{slice_get_within, get_or_from_slice_get}
-use Rattle.gate_base.specs.Events.{Event}
 use Rattle.gate_base.specs.declared.address.Addr.{Addr}
 use Rattle.gate_base.specs.declared.event.Pair.{Pair}
 use Rattle.gate_base.specs.declared.refusal.Refusal.{Refusal}
@@ -14,23 +12,14 @@ use Rattle.gate_base.specs.declared.event.Verdict.{Verdict}
 use Rattle.gate_base.specs.declared.event.Verdict.TheVariants.{Pass, Refused, Held}
 use Rattle.gate_base.specs.declared.side.Side.{Side}
 use Rattle.gate_base.specs.declared.host.Host.{Host}
-use Rattle.binding_table.specs.Bindings.{Bindings}
-use Rattle.dialogue.specs.Learning.{Entry}
+use Rattle.binding_table.specs.Prelude.{Bindings}
+use Rattle.dialogue.specs.Prelude.{Entry}
 use Rattle.ipv4_frames.specs.Ipv4.{Datagram}
-use Rattle.stream_model.specs.Session.{Segment}
-use Rattle.tcp_tracker.specs.Connections.{place_of, connection_of, changed, is_live, after, with_session}
+use Rattle.stream_model.specs.Prelude.{Segment}
+use Rattle.tcp_tracker.specs.Prelude.{place_of, connection_of, changed, is_live, after, with_session}
 use Rattle.tcp_tracker.specs.declared.connection.ConnKey.{ConnKey}
 use Rattle.tcp_tracker.specs.declared.connection.Connection.{Connection}
-use Rattle.gate_model.specs.Frame.{Kind, Udp, Echo, Error, Dns, Snmp, Stream, datagram_in, kind_of}
-use Rattle.gate_model.specs.Lists.{most_entries, addresses_in, entered, is_bad, grows_too_much}
-use Rattle.gate_model.specs.Rules.{SessionRules}
-use Rattle.gate_model.specs.World.{Tracked, World, at_moment, host_on}
-use Rattle.gate_model.specs.Stream.{tcp_of, segment_of, key_in, found_in, begins, made_by, taker_by, session_refusal, stepped, ends_by, connection_after}
-use Rattle.gate_model.specs.Units.{units_in, names_in, entries_in, entries_after, is_new_unbound, unit_tests, growth_tests}
-use Rattle.gate_model.specs.Verdict.{table_after, image_in, verdict}
-use Rattle.gate_model.specs.Step.{taker_in, after_kind, next_by, next}
-use Rattle.gate_model.specs.Taken.{TakesSegment}
-use Rattle.gate_model.specs.Remembered.{EachTracked}
+use Rattle.gate_model.specs.Prelude.{Kind, Udp, Echo, Error, Dns, Snmp, Stream, datagram_in, kind_of, most_entries, addresses_in, entered, is_bad, grows_too_much, SessionRules, Tracked, World, at_moment, host_on, tcp_of, segment_of, key_in, found_in, begins, made_by, taker_by, session_refusal, stepped, ends_by, connection_after, units_in, names_in, entries_in, entries_after, is_new_unbound, unit_tests, growth_tests, table_after, image_in, verdict, taker_in, after_kind, next_by, next, TakesSegment, EachTracked}
 use Rattle.gate_model.proofs.Passing.{NoneHolds, none_head, none_tail, Passes, passes, stream_passes}
 
 -- ## Connections that come and go

@@ -2,7 +2,7 @@
 use Rattle.std.specs.Prelude.{◌≤◌, length, Option}
 use Rattle.gate_base.specs.declared.address.Addr.{Addr}
 use Rattle.gate_base.specs.declared.host.Host.{Host}
-use Rattle.stream_model.specs.Session.{Segment}
+use Rattle.stream_model.specs.Prelude.{Segment}
 use Rattle.gate_model.specs.Rules.{SessionRules}
 
 -- something goes out of each segment

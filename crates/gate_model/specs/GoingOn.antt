@@ -1,11 +1,9 @@
 -- That tracked sessions go on, those of FTP and those of DNS.
-use Rattle.std.specs.Prelude.{◌≡◌, ◌⊎◌, true, List, Option, Some, Contains}
-use Rattle.gate_base.specs.Events.{Event}
+use Rattle.std.specs.Prelude.{◌≡◌, ◌⊎◌, true, List, Some, Contains}
+use Rattle.gate_base.specs.Prelude.{Event}
 use Rattle.gate_base.specs.declared.host.Host.{Host}
-use Rattle.stream_model.specs.Numbers.{number_at, known}
-use Rattle.stream_model.specs.Progress.{acknowledged_of, Brings, EachCarries, OnlyHeldWaits}
-use Rattle.stream_model.specs.Session.{Session, Segment, Outgoing, own, other, arrival}
-use Rattle.stream_model.specs.Refusals.{is_data}
+use Rattle.stream_model.specs.Prelude.{number_at, known, acknowledged_of, Brings, OnlyHeldWaits, Session, Segment, Outgoing, own, other, arrival, is_data}
+use Rattle.stream_model.specs.Progress.{EachCarries}
 use Rattle.tcp_tracker.specs.declared.connection.Connection.{Connection}
 use Rattle.gate_model.specs.Frame.{datagram_in}
 use Rattle.gate_model.specs.Remembered.{RememberedSession, remembering_rules}

@@ -1,22 +1,19 @@
 -- The bindings of connections: while a connection lives its hosts keep their aliases.
 use Rattle.std.specs.Prelude.{◌≡◌, ◌≤◌, ◌⊎◌, ℕ, true, All, [], length, unwrap_or, Option, Some, None, IfSome}
 use Rattle.std.specs.List.{AllByRecursion}
-use Rattle.gate_base.specs.Side.{other}
+use Rattle.gate_base.specs.Prelude.{other, peer}
 use Rattle.gate_base.specs.declared.address.Addr.{Addr}
 use Rattle.gate_base.specs.declared.event.Pair.{Pair}
 use Rattle.gate_base.specs.declared.side.Side.{Side}
 use Rattle.gate_base.specs.declared.side.Side.TheVariants.{Left, Right}
 use Rattle.gate_base.specs.declared.host.Host.{Host}
 use Rattle.gate_base.specs.declared.host.Host.TheVariants.{Client, Server}
-use Rattle.gate_base.specs.Hosts.{peer}
-use Rattle.binding_table.specs.Bindings.{Bindings, is_same, seen}
-use Rattle.binding_table.specs.Lasting.{IsBoundTo, IsKnownAs}
-use Rattle.binding_table.specs.Lawful.{IsLawful}
-use Rattle.dialogue.specs.Learning.{Entry, is_listed}
-use Rattle.dns_stream.specs.Images.{image_in}
+use Rattle.binding_table.specs.Prelude.{Bindings, is_same, seen, IsBoundTo, IsKnownAs, IsLawful}
+use Rattle.dialogue.specs.Prelude.{Entry, is_listed}
+use Rattle.dns_stream.specs.Prelude.{image_in}
 use Rattle.tcp_tracker.specs.declared.connection.ConnKey.{ConnKey}
 use Rattle.tcp_tracker.specs.declared.connection.Connection.{Connection}
-use Rattle.stream_model.specs.Session.{Segment}
+use Rattle.stream_model.specs.Prelude.{Segment}
 use Rattle.gate_model.specs.Lists.{most_entries, addresses_in, entered}
 use Rattle.gate_model.specs.Rules.{SessionRules}
 use Rattle.gate_model.specs.World.{Tracked, World}

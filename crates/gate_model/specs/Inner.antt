@@ -1,12 +1,12 @@
 -- ICMP errors: the datagram inside, which came from the other realm and goes back.
 use Rattle.std.specs.Prelude.{ℕ, Bool, true, false, ◌||◌, ◌==◌, if◌then◌else◌, List, ◌++◌, take, drop, Option, Some, None, option_map, option_and_then, is_none}
-use Rattle.gate_base.specs.Side.{other}
+use Rattle.gate_base.specs.Prelude.{other}
 use Rattle.gate_base.specs.declared.side.Side.{Side}
-use Rattle.binding_table.specs.Bindings.{seen}
+use Rattle.binding_table.specs.Prelude.{seen}
 use Rattle.icmp_errors.specs.Inner.{inner_fields, inner_with}
 use Rattle.icmp_errors.specs.declared.Inner.{Inner}
 use Rattle.ipv4_frames.specs.Ipv4.{Datagram}
-use Rattle.tcp_tracker.specs.Connections.{connection_of}
+use Rattle.tcp_tracker.specs.Prelude.{connection_of}
 use Rattle.gate_model.specs.Rules.{SessionRules}
 use Rattle.gate_model.specs.World.{Tracked, World, called, host_on}
 use Rattle.gate_model.specs.Stream.{key_of, session_in}

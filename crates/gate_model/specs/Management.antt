@@ -1,7 +1,7 @@
 -- SNMP messages (RFC 2962).
 use Rattle.std.specs.Prelude.{ℕ, Bool, nat_lt, List, length, Option, option_map, is_none}
 use Rattle.gate_base.specs.declared.side.Side.{Side}
-use Rattle.binding_table.specs.Bindings.{Bindings, seen}
+use Rattle.binding_table.specs.Prelude.{Bindings, seen}
 use Rattle.ipv4_frames.specs.Ipv4.{Datagram}
 use Rattle.snmp_gateway.specs.Message.{message}
 use Rattle.snmp_oids.specs.Elements.{oid_renamed}

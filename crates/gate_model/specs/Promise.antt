@@ -1,8 +1,7 @@
 -- What is promised of the frames of two realms, whatever they are.
 use Rattle.std.specs.Prelude.{◌≡◌, ◌≤◌, ◌+◌, ℕ, All, List, [], ◌∷◌, ◌++◌, length, Option, Some, None}
 use Rattle.std.specs.List.{fold}
-use Rattle.gate_base.specs.Events.{Event}
-use Rattle.gate_base.specs.Tests.{first_that_holds}
+use Rattle.gate_base.specs.Prelude.{Event, first_that_holds}
 use Rattle.gate_base.specs.declared.event.Verdict.TheVariants.{Pass, Refused}
 use Rattle.gate_base.specs.declared.refusal.Refusal.{Refusal}
 use Rattle.gate_base.specs.declared.host.Host.{Host}
@@ -18,8 +17,7 @@ use Rattle.gate_model.specs.Sessions.{WholeSession}
 use Rattle.gate_model.specs.Step.{next, out, taker_in, translated}
 use Rattle.gate_model.specs.Taken.{TakesSegment, said, taken_by}
 use Rattle.gate_model.specs.Remembered.{RememberedSession, remembering_rules, SessionIs, EachTracked}
-use Rattle.stream_model.specs.Progress.{acknowledged_of}
-use Rattle.stream_model.specs.Session.{own}
+use Rattle.stream_model.specs.Prelude.{acknowledged_of, own}
 use Rattle.gate_model.specs.Verdict.{table_after, tests, verdict}
 use Rattle.gate_model.specs.World.{Tracked, World, at_moment, called, destination_of, opening_world, source_of}
 

@@ -1,6 +1,6 @@
 -- How much a world can hold.
 use Rattle.std.specs.Prelude.{◌≤◌, length, count_by}
-use Rattle.tcp_tracker.specs.Connections.{is_tracked}
+use Rattle.tcp_tracker.specs.Prelude.{is_tracked}
 use Rattle.gate_model.specs.Stream.{most_connections, most_sessions}
 use Rattle.gate_model.specs.World.{World}
 

@@ -3,7 +3,7 @@ use Rattle.std.specs.Prelude.{◌≡◌, ℕ, map, Option, None, option_map}
 use Rattle.gate_base.specs.declared.address.Addr.{Addr}
 use Rattle.gate_base.specs.declared.event.Pair.{Pair}
 use Rattle.gate_base.specs.declared.host.Host.{Host}
-use Rattle.stream_model.specs.Session.{Segment}
+use Rattle.stream_model.specs.Prelude.{Segment}
 use Rattle.tcp_tracker.specs.declared.connection.Connection.{Connection}
 use Rattle.gate_model.specs.Rules.{SessionRules}
 use Rattle.gate_model.specs.World.{World, Tracked}

@@ -5,15 +5,11 @@ use Rattle.gate_base.specs.declared.address.Addr.{Addr}
 use Rattle.gate_base.specs.declared.event.Pair.{Pair}
 use Rattle.gate_base.specs.declared.host.Host.{Host}
 use Rattle.gate_base.specs.declared.host.Host.TheVariants.{Client, Server}
-use Rattle.dialogue.specs.Learning.{Entry, AllListed}
-use Rattle.dialogue.specs.Stream.{cut}
+use Rattle.dialogue.specs.Prelude.{Entry, AllListed, cut}
 use Rattle.dns_messages.specs.declared.message.Message.{Message}
 use Rattle.dns_gateway.specs.Addresses.{message_addresses}
-use Rattle.dns_stream.specs.Units.{message_in}
-use Rattle.dns_stream.specs.Images.{image_in, renamed, dns_units}
-use Rattle.stream_model.specs.Numbers.{known}
-use Rattle.stream_model.specs.Session.{Session, Segment, Outgoing, own, other, due_in}
-use Rattle.stream_model.specs.History.{if_by, if_to, places_of, numbers_of, SentIs, EachIsBack}
+use Rattle.dns_stream.specs.Prelude.{message_in, image_in, renamed, dns_units}
+use Rattle.stream_model.specs.Prelude.{known, Session, Segment, Outgoing, own, other, due_in, if_by, if_to, places_of, numbers_of, SentIs, EachIsBack}
 use Rattle.tcp_tracker.specs.declared.connection.Connection.{Connection}
 use Rattle.gate_model.specs.Lists.{Lists, list_of}
 use Rattle.gate_model.specs.Rules.{SessionRules, whole_rules}

@@ -1,13 +1,9 @@
 -- Rounds of repeats of a tracked session, with other frames in between (RFC 9293, 3.8.1, 3.10.7.4).
 use Rattle.std.specs.Prelude.{◌≡◌, ◌⊎◌, ℕ, List, [], ◌∷◌}
 use Rattle.std.specs.List.{fold}
-use Rattle.gate_base.specs.Events.{Event}
+use Rattle.gate_base.specs.Prelude.{Event, peer}
 use Rattle.gate_base.specs.declared.host.Host.{Host}
-use Rattle.gate_base.specs.Hosts.{peer}
-use Rattle.stream_model.specs.Numbers.{known}
-use Rattle.stream_model.specs.Progress.{acknowledged_of}
-use Rattle.stream_model.specs.Rounds.{Hears, LacksOctets, LacksEnd}
-use Rattle.stream_model.specs.Session.{own, due_in, extent, arrival, place_acknowledged}
+use Rattle.stream_model.specs.Prelude.{known, acknowledged_of, Hears, LacksOctets, LacksEnd, own, due_in, extent, arrival, place_acknowledged}
 use Rattle.gate_model.specs.Frame.{datagram_in}
 use Rattle.gate_model.specs.GoingOn.{streams_of, HasDataSegment}
 use Rattle.gate_model.specs.Remembered.{RememberedSession, remembering_rules}

@@ -4,10 +4,8 @@ use Rattle.gate_base.specs.declared.address.Addr.{Addr}
 use Rattle.gate_base.specs.declared.event.Pair.{Pair}
 use Rattle.gate_base.specs.declared.refusal.Refusal.{Refusal}
 use Rattle.gate_base.specs.declared.host.Host.{Host}
-use Rattle.dialogue.specs.Learning.{Entry}
-use Rattle.stream_model.specs.Session.{Segment, Outgoing}
-use Rattle.stream_model.specs.Refusals.{segment_refusal}
-use Rattle.stream_model.specs.Steps.{session_ends, session_inner, session_open}
+use Rattle.dialogue.specs.Prelude.{Entry}
+use Rattle.stream_model.specs.Prelude.{Segment, Outgoing, segment_refusal, session_ends, session_inner, session_open}
 use Rattle.gate_model.specs.Sessions.{WholeSession, whole_made, whole_units, whole_listed, whole_next, whole_out}
 
 -- the answers of sessions of one representation; where a segment is taken, it is told which host sends it, and what an address that it names first is called

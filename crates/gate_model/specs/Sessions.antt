@@ -4,13 +4,10 @@ use Rattle.gate_base.specs.declared.address.Addr.{Addr}
 use Rattle.gate_base.specs.declared.event.Pair.{Pair}
 use Rattle.gate_base.specs.declared.host.Host.{Host}
 use Rattle.gate_base.specs.declared.host.Host.TheVariants.{Client, Server}
-use Rattle.dialogue.specs.Learning.{Entry}
-use Rattle.dialogue.specs.Meaning.{Meaning}
-use Rattle.dialogue.specs.Stream.{cut}
-use Rattle.dns_stream.specs.Images.{dns_units}
+use Rattle.dialogue.specs.Prelude.{Entry, Meaning, cut}
+use Rattle.dns_stream.specs.Prelude.{dns_units}
 use Rattle.ftp_lines.specs.Renaming.{client_lines, server_lines}
-use Rattle.stream_model.specs.Session.{Sender, Session, Segment, Outgoing, own, other, session}
-use Rattle.stream_model.specs.Steps.{session_made, session_next, session_out, own_after}
+use Rattle.stream_model.specs.Prelude.{Sender, Session, Segment, Outgoing, own, other, session, session_made, session_next, session_out, own_after}
 use Rattle.gate_model.specs.Frame.{dns_port}
 use Rattle.gate_model.specs.Lists.{Lists, list_of, with_list, addresses_in, entered}
 

@@ -5,12 +5,11 @@ use Rattle.gate_base.specs.declared.event.Pair.{Pair}
 use Rattle.gate_base.specs.declared.refusal.Refusal.{Refusal}
 use Rattle.gate_base.specs.declared.side.Side.{Side}
 use Rattle.gate_base.specs.declared.side.Side.TheVariants.{Left, Right}
-use Rattle.binding_table.specs.Bindings.{Bindings}
+use Rattle.binding_table.specs.Prelude.{Bindings}
 use Rattle.ipv4_frames.specs.Ipv4.{Datagram}
-use Rattle.tcp_segments.specs.Flags.{flags_of, flags_octet}
-use Rattle.stream_model.specs.Session.{Segment, Outgoing, segment_in}
-use Rattle.tcp_segments.specs.Tcp.{Tcp, tcp_fields_of, tcp_header_length_of, spelled_segment, datagram_of}
-use Rattle.tcp_tracker.specs.Connections.{is_tracked, place_of, connection_of, timeout_of, short_timeout, after, changed, with_session}
+use Rattle.tcp_segments.specs.Prelude.{flags_of, flags_octet, Tcp, tcp_fields_of, tcp_header_length_of, spelled_segment, datagram_of}
+use Rattle.stream_model.specs.Prelude.{Segment, Outgoing, segment_in}
+use Rattle.tcp_tracker.specs.Prelude.{is_tracked, place_of, connection_of, timeout_of, short_timeout, after, changed, with_session}
 use Rattle.tcp_tracker.specs.declared.connection.ConnKey.{ConnKey}
 use Rattle.tcp_tracker.specs.declared.connection.Connection.{Connection}
 use Rattle.gate_model.specs.Frame.{is_tracked_port}

@@ -1,8 +1,8 @@
 -- A segment that a session takes.
 use Rattle.std.specs.Prelude.{◌≡◌, ℕ, List, Some, map}
-use Rattle.gate_base.specs.Events.{Event}
+use Rattle.gate_base.specs.Prelude.{Event}
 use Rattle.gate_base.specs.declared.event.Verdict.TheVariants.{Pass}
-use Rattle.stream_model.specs.Session.{Outgoing}
+use Rattle.stream_model.specs.Prelude.{Outgoing}
 use Rattle.gate_model.specs.Frame.{Stream, datagram_in, kind_of}
 use Rattle.gate_model.specs.Rules.{SessionRules}
 use Rattle.gate_model.specs.Step.{taker_in}

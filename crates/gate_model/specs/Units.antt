@@ -1,14 +1,12 @@
 -- What the units of a DNS session over TCP name, for how long its lists keep bindings alive, and how units are tested.
 use Rattle.std.specs.Prelude.{ℕ, Bool, not, ◌&&◌, nat_lt, List, [], ◌∷◌, ◌++◌, map, length, Option, Some, None}
-use Rattle.gate_base.specs.Tests.{unless_refused}
+use Rattle.gate_base.specs.Prelude.{unless_refused, other}
 use Rattle.std.specs.List.{list_any}
-use Rattle.gate_base.specs.Side.{other}
 use Rattle.gate_base.specs.declared.address.Addr.{Addr}
 use Rattle.gate_base.specs.declared.refusal.Refusal.{Refusal}
 use Rattle.gate_base.specs.declared.side.Side.{Side}
-use Rattle.binding_table.specs.Bindings.{Bindings, cross}
-use Rattle.binding_table.specs.Plan.{Use}
-use Rattle.dialogue.specs.Learning.{Entry, is_listed}
+use Rattle.binding_table.specs.Prelude.{Bindings, cross, Use}
+use Rattle.dialogue.specs.Prelude.{Entry, is_listed}
 use Rattle.ipv4_frames.specs.Ipv4.{Datagram}
 use Rattle.gate_model.specs.Lists.{most_entries, addresses_in, entered, renamed_in, is_bad, grows_too_much}
 use Rattle.gate_model.specs.Names.{is_unbound}

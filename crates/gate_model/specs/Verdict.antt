@@ -1,19 +1,16 @@
 -- What becomes of a frame: the first refusal that holds, or it passes.
 use Rattle.std.specs.Prelude.{ℕ, ◌+◌, ◌*◌, Bool, true, not, ◌&&◌, ◌||◌, nat_lt, List, [], ◌∷◌, ◌++◌, Option, Some, None, is_some, is_none}
-use Rattle.gate_base.specs.Events.{Event}
-use Rattle.gate_base.specs.Side.{other}
+use Rattle.gate_base.specs.Prelude.{Event, other, first_that_holds}
 use Rattle.gate_base.specs.declared.address.Addr.{Addr}
 use Rattle.gate_base.specs.declared.event.Verdict.{Verdict}
 use Rattle.gate_base.specs.declared.event.Verdict.TheVariants.{Pass, Refused}
 use Rattle.gate_base.specs.declared.refusal.Refusal.{Refusal}
 use Rattle.gate_base.specs.declared.refusal.Refusal.TheVariants.{SourceInPool, NoBinding, BadInner, InnerUnbound, BadDns, DnsUnbound, BadSnmp, NoSession, SessionsFull, PoolEmpty, SnmpTooLong}
 use Rattle.gate_base.specs.declared.side.Side.{Side}
-use Rattle.gate_settings.specs.Cross.{is_in_same}
-use Rattle.binding_table.specs.Bindings.{Bindings, in_pool, free, seen}
-use Rattle.binding_table.specs.Plan.{Use, needed, after_uses, image_after}
+use Rattle.gate_settings.specs.Prelude.{is_in_same}
+use Rattle.binding_table.specs.Prelude.{Bindings, in_pool, free, seen, Use, needed, after_uses, image_after}
 use Rattle.icmp_errors.specs.Inner.{is_inner, inner_fields}
 use Rattle.ipv4_frames.specs.Ipv4.{Datagram}
-use Rattle.gate_base.specs.Tests.{first_that_holds}
 use Rattle.gate_model.specs.Frame.{Kind, Udp, Echo, Error, Dns, Snmp, Stream, datagram_in, header_tests, datagram_tests, transport_tests, kind_of}
 use Rattle.gate_model.specs.Inner.{inside, is_inner_unbound}
 use Rattle.gate_model.specs.Management.{is_bad_snmp, is_snmp_too_long}

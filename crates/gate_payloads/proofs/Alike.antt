@@ -2,13 +2,11 @@
 use Rattle.std.proofs.Common.{◌≡◌, ℕ, true, List, Option}
 use Rattle.gate_base.specs.declared.refusal.Refusal.{Refusal}
 use Rattle.gate_base.specs.declared.side.Side.{Side}
-use Rattle.binding_table.specs.Bindings.{Bindings}
+use Rattle.binding_table.specs.Prelude.{Bindings}
 use Rattle.ipv4_frames.specs.Ipv4.{Datagram}
-use Rattle.gate_model.specs.Frame.{Kind, Udp, Echo, Error, Dns, Snmp, Stream}
-use Rattle.gate_model.specs.Rules.{SessionRules}
-use Rattle.gate_model.specs.World.{World}
-use Rattle.gate_payloads.specs.Plain.{plain_rules, like, asks_none}
-use Rattle.gate_payloads.specs.Taken.{IsTaken, IsWayOf}
+use Rattle.gate_model.specs.Prelude.{Kind, Udp, Echo, Error, Dns, Snmp, Stream, SessionRules, World}
+use Rattle.gate_payloads.specs.Prelude.{plain_rules, asks_none, IsTaken, IsWayOf}
+use Rattle.gate_payloads.specs.Plain.{like}
 use Rattle.gate_payloads.specs.declared.addresses.Way.{Way}
 
 pub way_like : {S : Type 0} (live : World S) (side : Side) (d : Datagram) (way : Way) → IsWayOf live side d way → IsWayOf (like live) side d way

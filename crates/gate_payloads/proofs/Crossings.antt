@@ -1,8 +1,7 @@
 -- Uses of two addresses, and what they are called afterwards.
 use Rattle.std.proofs.Common.{◌≡◌, true, sym, ap, ◌∙◌}
 use Rattle.gate_base.specs.declared.address.Addr.{Addr}
-use Rattle.binding_table.specs.Bindings.{Bindings, cross, is_settled}
-use Rattle.binding_table.specs.Plan.{Use, used}
+use Rattle.binding_table.specs.Prelude.{Bindings, cross, is_settled, Use, used}
 use Rattle.binding_table.specs.declared.binding.Crossing.{Crossing}
 use Rattle.binding_table.proofs.Planned.{settled_stays, used_follows}
 

@@ -1,20 +1,15 @@
 -- Datagrams with a DNS message.
-use Rattle.std.proofs.Common.{Fits, w8, ◌≡◌, ◌≢◌, ℕ, ◌+◌, ◌-◌, ◌/◌, ◌%◌, ◌≤◌, ◌==◌, Bool, true, false, not, ◌&&◌, ◌||◌, nat_lt, cond, if◌then◌else◌, List, [], ◌∷◌, ◌++◌, length, map, take, drop, get_or, All, Option, Some, None, Result, Ok, Err, refl, sym, ap, subst, ◌∙◌, arith, eq-eqb, length-drop}
-use Rattle.std.specs.Prelude.{IfOk, is_none}
-use Rattle.std.specs.Result.{is_ok}
+use Rattle.std.proofs.Common.{Fits, w8, ◌≡◌, ◌≢◌, ℕ, ◌+◌, ◌-◌, ◌/◌, ◌%◌, ◌≤◌, ◌==◌, Bool, true, false, not, ◌&&◌, ◌||◌, nat_lt, cond, if◌then◌else◌, List, [], ◌∷◌, ◌++◌, length, map, take, drop, get_or, All, Option, Some, None, Result, Ok, Err, refl, sym, ap, subst, ◌∙◌, arith, eq-eqb, length-drop, IfOk, is_none, is_ok, take_all, take-append-drop, length-take, get_or-drop}
 use Rattle.std.proofs.lemmas.Bool.{true≢false, ltb-false, le-ltb, or_parts}
 use Rattle.std.proofs.lemmas.Bool.Decides.{nat_tests}
-use Rattle.std.proofs.lemmas.List.{take_all, take-append-drop, length-take, get_or-drop}
 use Rattle.std.proofs.lemmas.List.Elements.{All-nil, All-cons}
-use Rattle.gate_base.specs.Fields.{u16_at, with_u16}
-use Rattle.gate_base.specs.Side.{other}
+use Rattle.gate_base.specs.Prelude.{u16_at, with_u16, other, first_that_holds, unless_refused}
 use Rattle.gate_base.specs.declared.address.Addr.{Addr}
 use Rattle.gate_base.specs.declared.event.Moment.{Moment}
 use Rattle.gate_base.specs.declared.side.Side.{Side}
 use Rattle.binding_table.specs.declared.binding.Crossing.{Crossing}
 use Rattle.binding_table.specs.declared.binding.Crossing.TheVariants.{Unbound}
-use Rattle.binding_table.specs.Bindings.{Bindings, cross, in_pool, free, is_settled}
-use Rattle.binding_table.specs.Plan.{Use, AreUsesOf, used, after_uses, image_after, images_after, needed, needs_binding}
+use Rattle.binding_table.specs.Prelude.{Bindings, cross, in_pool, free, is_settled, Use, AreUsesOf, used, after_uses, image_after, images_after, needed, needs_binding}
 use Rattle.binding_table.proofs.Fresh.{fresh_cons}
 use Rattle.dns_messages.specs.declared.message.Message.{Message}
 use Rattle.ipv4_frames.specs.Ipv4.{Datagram, total_length_of}
@@ -24,20 +19,12 @@ use Rattle.twice_translate.specs.Content.{of_udp, read_content}
 use Rattle.twice_translate.specs.Renamed.{CanGoOn, datagram_of, renamed, rebuilt}
 use Rattle.twice_translate.proofs.Accepted.{ok_as, reads_udp}
 use Rattle.udp_icmp.proofs.Sealed.{long_segment}
-use Rattle.gate_base.specs.Tests.{first_that_holds, unless_refused}
 use Rattle.gate_base.specs.declared.refusal.Refusal.{Refusal}
 use Rattle.gate_base.specs.declared.refusal.Refusal.TheVariants.{BadDns, DnsUnbound, PoolEmpty}
-use Rattle.gate_model.specs.Frame.{Dns, Udp}
-use Rattle.gate_model.specs.Names.{carried, message_in, named_in, is_unbound, has_unbound, reply_by, names_after}
-use Rattle.gate_model.specs.Verdict.{udp_timeout, named_timeout}
-use Rattle.gate_model.specs.Units.{uses_until}
-use Rattle.gate_model.specs.World.{World, source_of, destination_of, called}
-use Rattle.gate_model.specs.Rules.{SessionRules}
+use Rattle.gate_model.specs.Prelude.{Dns, Udp, carried, message_in, named_in, is_unbound, has_unbound, reply_by, names_after, udp_timeout, named_timeout, uses_until, World, source_of, destination_of, called, SessionRules}
 use Rattle.gate_model.proofs.ListsKept.{known_unbound}
 use Rattle.gate_model.proofs.ListsBound.{not_unbound}
-use Rattle.gate_payloads.specs.Named.{named_uses}
-use Rattle.gate_payloads.specs.Taken.{IsTaken, IsWayOf}
-use Rattle.gate_payloads.specs.Ways.{image_by, is_empty}
+use Rattle.gate_payloads.specs.Prelude.{named_uses, IsTaken, IsWayOf, image_by, is_empty}
 use Rattle.gate_payloads.specs.declared.addresses.Way.{Way}
 use Rattle.gate_payloads.proofs.Passes.{of_crossing, used_called, still_after, called_is, free_is}
 use Rattle.gate_payloads.proofs.HeadersOnly.{of_source_is, of_destination_is}

@@ -1,24 +1,16 @@
 -- Datagrams of which only the header is renamed.
-use Rattle.std.proofs.Common.{◌≡◌, ◌+◌, ℕ, Bool, true, false, List, [], ◌∷◌, Option, refl, sym, ap, ◌∙◌}
+use Rattle.std.proofs.Common.{◌≡◌, ◌+◌, ℕ, Bool, true, false, List, [], ◌∷◌, Option, refl, sym, ap, ◌∙◌, ◌||◌, ◌==◌, slice_index}
 use Rattle.gate_base.specs.declared.address.Addr.{Addr}
 use Rattle.gate_base.specs.declared.refusal.Refusal.{Refusal}
 use Rattle.gate_base.specs.declared.refusal.Refusal.TheVariants.{PoolEmpty}
 use Rattle.gate_base.specs.declared.side.Side.{Side}
-use Rattle.binding_table.specs.Bindings.{Bindings, cross, is_settled}
-use Rattle.binding_table.specs.Plan.{Use, after_uses}
+use Rattle.binding_table.specs.Prelude.{Bindings, cross, is_settled, Use, after_uses}
 use Rattle.ipv4_frames.specs.Ipv4.{Datagram}
 use Rattle.twice_translate.specs.Renamed.{renamed}
-use Rattle.gate_base.specs.Tests.{first_that_holds, unless_refused}
-use Rattle.std.proofs.Common.{◌||◌, ◌==◌, slice_index}
-use Rattle.gate_base.specs.Fields.{u16_at}
+use Rattle.gate_base.specs.Prelude.{first_that_holds, unless_refused, u16_at}
 use Rattle.udp_icmp.specs.Icmp.{is_error_type}
-use Rattle.gate_model.specs.Frame.{Udp, Echo, udp_kind, icmp_kind}
-use Rattle.gate_model.specs.Verdict.{udp_timeout, icmp_timeout, is_pool_empty}
-use Rattle.gate_model.specs.Units.{uses_until}
-use Rattle.gate_model.specs.World.{World, source_of, destination_of, called}
-use Rattle.gate_model.specs.Rules.{SessionRules}
-use Rattle.gate_payloads.specs.Taken.{IsTaken, IsWayOf}
-use Rattle.gate_payloads.specs.Ways.{image_by, is_empty, header_uses}
+use Rattle.gate_model.specs.Prelude.{Udp, Echo, udp_kind, icmp_kind, udp_timeout, icmp_timeout, is_pool_empty, uses_until, World, source_of, destination_of, called, SessionRules}
+use Rattle.gate_payloads.specs.Prelude.{IsTaken, IsWayOf, image_by, is_empty, header_uses}
 use Rattle.gate_payloads.specs.declared.addresses.Way.{Way}
 use Rattle.gate_payloads.proofs.Passes.{pool_empty_is, source_called, destination_called}
 

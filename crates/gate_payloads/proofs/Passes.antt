@@ -1,31 +1,27 @@
 -- What both addresses of a datagram that passes are called, and when a pool is empty.
-use Rattle.std.proofs.Common.{◌≡◌, ◌≢◌, inl, inr, ℕ, ◌+◌, Bool, true, false, not, ◌||◌, nat_lt, if◌then◌else◌, List, [], ◌∷◌, ◌++◌, length, Option, Some, None, option_map, is_some, count_by, position, drop, refl, sym, ap, subst, ◌∙◌, arith}
+use Rattle.std.proofs.Common.{◌≡◌, ◌≢◌, inl, inr, ℕ, ◌+◌, Bool, true, false, not, ◌||◌, nat_lt, if◌then◌else◌, List, [], ◌∷◌, ◌++◌, length, Option, Some, None, option_map, is_some, count_by, position, drop, refl, sym, ap, subst, ◌∙◌, arith, unwrap_or}
 use Rattle.std.specs.List.{filter, position_or_len}
-use Rattle.std.specs.Prelude.{unwrap_or}
 use Rattle.std.proofs.lemmas.Bool.{cases_Bool, cases_lt, false≢true, le-ltb, eq-eqb, or_cases, and_parts}
 use Rattle.std.proofs.lemmas.List.Sums.{length-filter}
-use Rattle.gate_base.specs.Address.{is_unicast_number}
-use Rattle.gate_base.specs.Side.{other}
+use Rattle.gate_base.specs.Prelude.{is_unicast_number, other}
 use Rattle.gate_base.specs.declared.address.Addr.{Addr}
 use Rattle.gate_base.specs.declared.event.Moment.{Moment}
 use Rattle.gate_base.specs.declared.side.Side.{Side}
 use Rattle.gate_base.proofs.Sides.{same_side-itself}
 use Rattle.gate_base.proofs.Options.{none_mapped}
-use Rattle.gate_settings.specs.Cross.{is_in_same}
+use Rattle.gate_settings.specs.Prelude.{is_in_same}
 use Rattle.realm_pools.specs.Addresses.{least_free}
 use Rattle.binding_table.specs.declared.binding.Binding.{Binding}
 use Rattle.binding_table.specs.declared.binding.Crossing.{Crossing}
 use Rattle.binding_table.specs.declared.binding.Crossing.TheVariants.{Same, Bound, New, Unbound, Empty}
-use Rattle.binding_table.specs.Bindings.{Bindings, is_same, in_pool, is_of_host, alias_of, host_of, pool_of, free, cross, seen, seen_by, known_or, new_or_empty, with_binding, extended, IsNew, is_settled}
-use Rattle.binding_table.specs.Plan.{Use, used, used_by, after_uses, needed, needs_binding}
+use Rattle.binding_table.specs.Prelude.{Bindings, is_same, in_pool, is_of_host, alias_of, host_of, pool_of, free, seen, seen_by, known_or, new_or_empty, with_binding, extended, IsNew, is_settled, Use, used, used_by, after_uses, needed, needs_binding}
+use Rattle.binding_table.specs.Bindings.{cross}
 use Rattle.binding_table.proofs.Bind.{HasNoBinding, unbound_of}
 use Rattle.binding_table.proofs.Planned.{settled_stays, extended_follows, used_follows, flags_free}
-use Rattle.gate_model.specs.Verdict.{is_reachable}
-use Rattle.gate_model.specs.Units.{uses_until}
-use Rattle.gate_model.specs.World.{called}
+use Rattle.gate_model.specs.Prelude.{is_reachable, uses_until, called}
 use Rattle.gate_model.proofs.BoundTables.{new_is_least}
 use Rattle.gate_model.proofs.ListsKept.{known_unbound}
-use Rattle.gate_payloads.specs.Ways.{image_by, is_empty}
+use Rattle.gate_payloads.specs.Prelude.{image_by, is_empty}
 
 -- ## After a use
 

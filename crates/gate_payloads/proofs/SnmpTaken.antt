@@ -1,6 +1,5 @@
 -- Datagrams with an SNMP message, refused or passed.
-use Rattle.std.proofs.Common.{◌≡◌, ◌≤◌, ◌+◌, ◌==◌, inl, inr, nat_lt, length, ℕ, Bool, true, false, not, List, [], ◌∷◌, ◌++◌, Option, Some, None, refl, sym, ap, subst, ◌∙◌, arith}
-use Rattle.std.specs.Prelude.{option_map, is_some, is_none, IsSome}
+use Rattle.std.proofs.Common.{◌≡◌, ◌≤◌, ◌+◌, ◌==◌, inl, inr, nat_lt, length, ℕ, Bool, true, false, not, List, [], ◌∷◌, ◌++◌, Option, Some, None, refl, sym, ap, subst, ◌∙◌, arith, option_map, is_some, is_none, IsSome}
 use Rattle.std.proofs.lemmas.Bool.{cases_Bool, eqb-true, eq-eqb, false≢true, le-ltb}
 use Rattle.gate_base.specs.declared.address.Addr.{Addr}
 use Rattle.gate_base.specs.declared.refusal.Refusal.{Refusal}
@@ -10,8 +9,7 @@ use Rattle.gate_base.specs.declared.event.Moment.{Moment}
 use Rattle.gate_base.specs.declared.rule.OidRule.{OidRule}
 use Rattle.binding_table.specs.declared.binding.Crossing.{Crossing}
 use Rattle.binding_table.specs.declared.binding.Crossing.TheVariants.{Same, Bound, New, Unbound, Empty}
-use Rattle.binding_table.specs.Bindings.{Bindings, cross, seen, is_settled}
-use Rattle.binding_table.specs.Plan.{Use, after_uses, used, used_by}
+use Rattle.binding_table.specs.Prelude.{Bindings, cross, seen, is_settled, Use, after_uses, used, used_by}
 use Rattle.binding_table.proofs.Planned.{settled_stays, used_follows}
 use Rattle.binding_table.proofs.SeenAfter.{seen_kept}
 use Rattle.ipv4_frames.specs.Ipv4.{Datagram}
@@ -21,18 +19,12 @@ use Rattle.snmp_gateway.specs.declared.message.SnmpKind.{SnmpKind}
 use Rattle.snmp_oids.specs.Elements.{oid_renamed}
 use Rattle.snmp_oids.proofs.Lengths.{message_length}
 use Rattle.snmp_oids.proofs.Messages.{no_rule}
-use Rattle.gate_base.specs.Tests.{first_that_holds, unless_refused}
+use Rattle.gate_base.specs.Prelude.{first_that_holds, unless_refused}
 use Rattle.twice_translate.specs.Renamed.{rebuilt}
-use Rattle.gate_model.specs.Frame.{Snmp}
-use Rattle.gate_model.specs.Management.{number_seen, management_after, is_bad_snmp, is_snmp_too_long}
-use Rattle.gate_model.specs.Names.{carried}
-use Rattle.gate_model.specs.Verdict.{udp_timeout, kind_tests, late_tests, is_pool_empty, table_after}
-use Rattle.gate_model.specs.Units.{uses_until}
-use Rattle.gate_model.specs.World.{World, source_of, destination_of, called}
-use Rattle.gate_model.specs.Rules.{SessionRules}
+use Rattle.gate_model.specs.Prelude.{Snmp, number_seen, management_after, is_snmp_too_long, carried, udp_timeout, kind_tests, late_tests, is_pool_empty, table_after, uses_until, World, source_of, destination_of, called, SessionRules}
+use Rattle.gate_model.specs.Management.{is_bad_snmp}
 use Rattle.gate_model.proofs.ListsKept.{known_unbound}
-use Rattle.gate_payloads.specs.Taken.{IsTaken, IsWayOf}
-use Rattle.gate_payloads.specs.Ways.{image_by, is_empty, header_uses}
+use Rattle.gate_payloads.specs.Prelude.{IsTaken, IsWayOf, image_by, is_empty, header_uses}
 use Rattle.gate_payloads.specs.declared.addresses.Way.{Way}
 use Rattle.gate_payloads.specs.Planned.{number_planned}
 use Rattle.gate_payloads.proofs.HeadersOnly.{are_images, empty_is, uses_are, of_source_is, of_destination_is}

@@ -3,3 +3,4 @@ pub mod Taken
 pub mod Named
 pub mod Plain
 pub mod Planned
+pub mod Prelude

@@ -2,9 +2,8 @@
 use Rattle.std.specs.Prelude.{ℕ, ◌+◌, List, [], ◌∷◌, ◌++◌}
 use Rattle.gate_base.specs.declared.address.Addr.{Addr}
 use Rattle.gate_base.specs.declared.side.Side.{Side}
-use Rattle.binding_table.specs.Plan.{Use}
-use Rattle.gate_model.specs.Verdict.{udp_timeout, named_timeout}
-use Rattle.gate_model.specs.Units.{uses_until}
+use Rattle.binding_table.specs.Prelude.{Use}
+use Rattle.gate_model.specs.Prelude.{udp_timeout, named_timeout, uses_until}
 
 -- the uses of both addresses by the header, and of those in the message
 abbrev pub named_uses : Side → ℕ → Addr → Addr → List Addr → List Use

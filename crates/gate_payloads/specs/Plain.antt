@@ -1,8 +1,6 @@
 -- A world without sessions, over which it is said what becomes of a datagram that no session takes.
 use Rattle.std.specs.Prelude.{Bool, true, false, [], None}
-use Rattle.gate_model.specs.Frame.{Kind, Udp, Echo, Error, Dns, Snmp, Stream}
-use Rattle.gate_model.specs.Rules.{SessionRules}
-use Rattle.gate_model.specs.World.{World}
+use Rattle.gate_model.specs.Prelude.{Kind, Udp, Echo, Error, Dns, Snmp, Stream, SessionRules, World}
 
 -- a session that knows nothing
 abbrev pub PlainSession : Type 0

@@ -1,7 +1,7 @@
 -- What addresses are called once both of a header are used.
 use Rattle.std.specs.Prelude.{ℕ, ◌==◌, if◌then◌else◌, Option, Some}
-use Rattle.binding_table.specs.Bindings.{Bindings}
-use Rattle.gate_model.specs.Management.{number_seen}
+use Rattle.binding_table.specs.Prelude.{Bindings}
+use Rattle.gate_model.specs.Prelude.{number_seen}
 use Rattle.gate_payloads.specs.Ways.{image_by}
 use Rattle.gate_payloads.specs.declared.addresses.Way.{Way}
 

@@ -3,16 +3,11 @@ use Rattle.std.specs.Prelude.{[], ◌≡◌, ◌≤◌, ℕ, length, false, true
 use Rattle.gate_base.specs.declared.refusal.Refusal.{Refusal}
 use Rattle.gate_base.specs.declared.refusal.Refusal.TheVariants.{PoolEmpty}
 use Rattle.gate_base.specs.declared.side.Side.{Side}
-use Rattle.binding_table.specs.Bindings.{Bindings, in_pool, is_settled}
+use Rattle.binding_table.specs.Prelude.{Bindings, in_pool, is_settled}
 use Rattle.ipv4_frames.specs.Ipv4.{Datagram}
-use Rattle.gate_base.specs.Tests.{first_that_holds, unless_refused}
+use Rattle.gate_base.specs.Prelude.{first_that_holds, unless_refused}
 use Rattle.twice_translate.specs.Renamed.{CanGoOn, datagram_of}
-use Rattle.gate_model.specs.Frame.{Kind}
-use Rattle.gate_model.specs.Names.{carried}
-use Rattle.gate_model.specs.Step.{out_kind}
-use Rattle.gate_model.specs.Verdict.{kind_tests, late_tests, is_pool_empty, table_after}
-use Rattle.gate_model.specs.World.{World, source_of, destination_of}
-use Rattle.gate_model.specs.Rules.{SessionRules}
+use Rattle.gate_model.specs.Prelude.{Kind, carried, out_kind, kind_tests, late_tests, is_pool_empty, table_after, World, source_of, destination_of, SessionRules}
 use Rattle.gate_payloads.specs.Ways.{IsWay}
 use Rattle.gate_payloads.specs.declared.addresses.Way.{Way}
 

@@ -3,12 +3,10 @@ use Rattle.std.specs.Prelude.{◌≡◌, ℕ, ◌+◌, Bool, true, false, not, L
 use Rattle.gate_base.specs.declared.address.Addr.{Addr}
 use Rattle.gate_base.specs.declared.refusal.Refusal.{Refusal}
 use Rattle.gate_base.specs.declared.refusal.Refusal.TheVariants.{SourceInPool, NoBinding}
-use Rattle.binding_table.specs.Bindings.{Bindings, cross, in_pool}
+use Rattle.binding_table.specs.Prelude.{Bindings, cross, in_pool, Use}
 use Rattle.binding_table.specs.declared.binding.Crossing.{Crossing}
 use Rattle.binding_table.specs.declared.binding.Crossing.TheVariants.{Bound, New, Empty}
-use Rattle.binding_table.specs.Plan.{Use}
-use Rattle.gate_model.specs.Units.{uses_until}
-use Rattle.gate_model.specs.Verdict.{is_reachable}
+use Rattle.gate_model.specs.Prelude.{uses_until, is_reachable}
 use Rattle.gate_payloads.specs.declared.addresses.Way.{Way}
 
 -- the crossings are those of a table

@@ -1,11 +1,8 @@
 // The addresses of a datagram: what they are called in the other realm, and what a use of them changes.
 ghost use Rattle.std.specs.Prelude.{◌≡◌, None, true};
-ghost use Rattle.gate_base.specs.Moments.{IsMoment, IsTimeout};
-ghost use Rattle.binding_table.specs.Bindings.{cross, seen, is_settled};
-ghost use Rattle.binding_table.specs.Plan.{used, used_by, after_uses};
-ghost use Rattle.gate_base.specs.Tests.{first_that_holds};
-ghost use Rattle.gate_model.specs.Verdict.{is_reachable};
-ghost use Rattle.gate_model.specs.Units.{uses_until};
+ghost use Rattle.gate_base.specs.Prelude.{IsMoment, IsTimeout, first_that_holds};
+ghost use Rattle.binding_table.specs.Prelude.{cross, seen, is_settled, used, used_by, after_uses};
+ghost use Rattle.gate_model.specs.Prelude.{is_reachable, uses_until};
 ghost use Rattle.gate_payloads.specs.Ways.{IsWay, image_by, is_empty, way_tests, header_uses};
 
 use binding_table::{Crossing, Table};

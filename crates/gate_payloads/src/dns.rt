@@ -1,18 +1,14 @@
 // DNS messages over UDP (RFC 2694).
 ghost use Rattle.std.specs.Prelude.{◌≡◌, ◌≢◌, ◌+◌, ◌≤◌, [], ◌∷◌, List, drop, length, option_map, unwrap_or, true, false, All, IfOk, IfSome, OnErr, is_some, is_none, nat_lt};
 ghost use Rattle.std.specs.List.{list_any};
-ghost use Rattle.gate_base.specs.Moments.{IsMoment};
-ghost use Rattle.gate_base.specs.Side.{other};
-ghost use Rattle.binding_table.specs.Bindings.{cross, in_pool, free, is_settled};
-ghost use Rattle.binding_table.specs.Plan.{Use, AreUsesOf, needed, after_uses, images_after};
+ghost use Rattle.gate_base.specs.Prelude.{IsMoment, other};
+ghost use Rattle.binding_table.specs.Prelude.{cross, in_pool, free, is_settled, Use, AreUsesOf, needed, after_uses, images_after};
 ghost use Rattle.dns_gateway.specs.Addresses.{message_addresses};
 ghost use Rattle.dns_messages.specs.Reading.{message_at};
 ghost use Rattle.dns_messages.specs.Suits.{MessageSuits};
 ghost use Rattle.twice_translate.specs.Renamed.{CanGoOn, datagram_of, rebuilt};
 ghost use Rattle.gate_model.specs.Frame as kinds;
-ghost use Rattle.gate_model.specs.Names.{carried, message_in, named_in, is_unbound, has_unbound, reply_by};
-ghost use Rattle.gate_model.specs.Units.{uses_until};
-ghost use Rattle.gate_model.specs.World.{World};
+ghost use Rattle.gate_model.specs.Prelude.{carried, message_in, named_in, is_unbound, has_unbound, reply_by, uses_until, World};
 ghost use Rattle.gate_payloads.specs.Ways.{IsWay, image_by};
 ghost use Rattle.gate_payloads.specs.Named.{named_uses};
 ghost use Rattle.gate_payloads.specs.Plain.{PlainSession, plain_rules};
@@ -224,32 +220,41 @@ fn take_unnamed(table: &mut Table, way: &Way, octets: &[u8], outbox: &mut Outbox
     take_plain(table, way, UDP_TIMEOUT, octets, outbox)
 }
 
+/// A UDP datagram, and its way.
+#[derive(Clone, Copy)]
+struct Received<'a> {
+    way: &'a Way,
+    datagram: &'a UdpDatagram<'a>,
+}
+
 /// Takes a datagram with this message, which may have images of its addresses then.
 fn take_message(
     alloc: Global,
     message: &mut Message,
     table: &mut Table,
     seen_addresses: &mut SeenAddresses,
-    way: &Way,
-    datagram: &UdpDatagram<'_>,
+    received: Received<'_>,
     outbox: &mut Outbox,
 ) -> Result<Option<Refusal>, OutOfMemory>
-    requires way { IsWay table.old way.now }
-    requires outside { in_pool table.old way.now.side way.now.source ≡ false }
-    requires settled { is_settled way.now.of_destination ≡ true }
-    requires moment { IsMoment way.now.moment.0 }
+    requires way { IsWay table.old received.way.now }
+    requires outside { in_pool table.old received.way.now.side received.way.now.source ≡ false }
+    requires settled { is_settled received.way.now.of_destination ≡ true }
+    requires moment { IsMoment received.way.now.moment.0 }
     requires empty { outbox.old ≡ [] }
-    requires whole { IsUdpOf datagram.now.octets.now datagram.now.payload.now }
-    requires message { message_at datagram.now.payload.now ≡ Some message.old }
+    requires whole { IsUdpOf received.datagram.now.octets.now received.datagram.now.payload.now }
+    requires message { message_at received.datagram.now.payload.now ≡ Some message.old }
     requires suits { MessageSuits message.old }
     ensures taken { (live : World PlainSession)
         → live.table ≡ table.old
-        → IsWayOf live way.now.side (datagram_of datagram.now.octets.now) way.now
-        → IfOk result (λ r. IsTaken plain_rules live way.now.side
-        (datagram_of datagram.now.octets.now) (kinds.Dns) r table.new
+        → IsWayOf live received.entry.way.now.side
+        (datagram_of received.entry.datagram.now.octets.now) received.entry.way.now
+        → IfOk result (λ r. IsTaken plain_rules live received.entry.way.now.side
+        (datagram_of received.entry.datagram.now.octets.now) (kinds.Dns) r table.new
         outbox.new) }
     ensures memory { OnErr result ((table.new ≡ table.old) × (outbox.new ≡ [])) }
 {
+    let way = received.way;
+    let datagram = received.datagram;
     let named = named_in(alloc, message)?;
     if named.is_empty() {
         return Ok(take_unnamed(table, way, datagram.octets, outbox));
@@ -293,15 +298,8 @@ pub fn take_dns(
     match message_in(alloc, datagram.payload)? {
         None => Ok(Some(Refusal::BadDns)),
         Some(mut message) => {
-            take_message(
-                alloc,
-                &mut message,
-                table,
-                seen_addresses,
-                way,
-                datagram,
-                outbox,
-            )
+            let received = Received { way, datagram };
+            take_message(alloc, &mut message, table, seen_addresses, received, outbox)
         }
     }
 }

@@ -1,6 +1,6 @@
 // The name of a connection.
 ghost use Rattle.std.specs.Prelude.{◌≡◌};
-ghost use Rattle.gate_model.specs.Stream.{key_of};
+ghost use Rattle.gate_model.specs.Prelude.{key_of};
 
 use gate_base::{Addr, Side};
 use tcp_tracker::ConnKey;

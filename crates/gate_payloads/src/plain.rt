@@ -1,12 +1,10 @@
 // Datagrams of which only the header is renamed: other UDP, echoes, and segments that no session takes.
 ghost use Rattle.std.specs.Prelude.{◌≡◌, ◌≤◌, [], ◌∷◌, None, length, true};
-ghost use Rattle.gate_base.specs.Moments.{IsMoment, IsTimeout};
-ghost use Rattle.binding_table.specs.Plan.{after_uses};
-ghost use Rattle.binding_table.specs.Bindings.{is_settled};
-ghost use Rattle.gate_base.specs.Tests.{first_that_holds, unless_refused};
+ghost use Rattle.gate_base.specs.Prelude.{IsMoment, IsTimeout, first_that_holds, unless_refused};
+ghost use Rattle.binding_table.specs.Prelude.{after_uses, is_settled};
 ghost use Rattle.twice_translate.specs.Renamed.{CanGoOn, datagram_of, renamed};
 ghost use Rattle.gate_base.specs.declared.refusal.Refusal.TheVariants.{PoolEmpty};
-ghost use Rattle.gate_model.specs.Units.{uses_until};
+ghost use Rattle.gate_model.specs.Prelude.{uses_until};
 ghost use Rattle.gate_payloads.specs.Ways.{IsWay, image_by, is_empty, header_uses};
 
 use crate::addresses::{Way, lacks_alias};

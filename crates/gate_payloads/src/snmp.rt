@@ -1,16 +1,11 @@
 // SNMP messages (RFC 2962).
 ghost use Rattle.std.specs.Prelude.{◌≡◌, nat_lt, true, [], ◌∷◌, length, IsSome};
-ghost use Rattle.gate_base.specs.Moments.{IsMoment};
-ghost use Rattle.binding_table.specs.Bindings.{is_settled};
-ghost use Rattle.binding_table.specs.Plan.{after_uses};
+ghost use Rattle.gate_base.specs.Prelude.{IsMoment, first_that_holds, unless_refused};
+ghost use Rattle.binding_table.specs.Prelude.{is_settled, after_uses};
 ghost use Rattle.twice_translate.specs.Renamed.{datagram_of, rebuilt};
-ghost use Rattle.gate_base.specs.Tests.{first_that_holds, unless_refused};
 ghost use Rattle.gate_base.specs.declared.refusal.Refusal.TheVariants.{SnmpTooLong};
 ghost use Rattle.gate_model.specs.Frame as kinds;
-ghost use Rattle.gate_model.specs.Management.{number_seen};
-ghost use Rattle.gate_model.specs.Verdict.{udp_timeout};
-ghost use Rattle.gate_model.specs.Units.{uses_until};
-ghost use Rattle.gate_model.specs.World.{World};
+ghost use Rattle.gate_model.specs.Prelude.{number_seen, udp_timeout, uses_until, World};
 ghost use Rattle.snmp_gateway.specs.Message.{message};
 ghost use Rattle.snmp_oids.specs.Elements.{oid_renamed};
 ghost use Rattle.gate_payloads.specs.Planned.{number_planned};
@@ -34,7 +29,7 @@ struct Seen<'a> {
 }
 
 impl<'a> Lookup for Seen<'a> {
-    ghost use Rattle.gate_model.specs.Management.{number_seen};
+    ghost use Rattle.gate_model.specs.Prelude.{number_seen};
 
     ghost image_of = { λ it address. number_seen it.table.now it.side address };
 

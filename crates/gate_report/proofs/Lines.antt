@@ -6,8 +6,7 @@ use Rattle.gate_base.specs.declared.event.Verdict.{Verdict}
 use Rattle.gate_base.specs.declared.event.Verdict.TheVariants.{Pass, Refused, Held}
 use Rattle.gate_base.specs.declared.refusal.Refusal.{Refusal}
 use Rattle.gate_base.specs.declared.refusal.Refusal.TheVariants as refusals
-use Rattle.gate_base.specs.Side.{name_of}
-use Rattle.gate_base.specs.Refusal.{verdict_name}
+use Rattle.gate_base.specs.Prelude.{name_of, verdict_name}
 use Rattle.gate_base.specs.Refusal as refusal
 
 pub side_short : (side : Side) → length (name_of side) ≤ 5

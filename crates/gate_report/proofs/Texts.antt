@@ -9,9 +9,8 @@ use Rattle.gate_base.specs.declared.refusal.Refusal.{Refusal}
 use Rattle.gate_base.specs.declared.refusal.Refusal.TheVariants as refusals
 use Rattle.gate_base.specs.declared.side.Side.{Side}
 use Rattle.gate_base.specs.declared.side.Side.TheVariants.{Left, Right}
-use Rattle.gate_base.specs.Refusal.{verdict_name}
+use Rattle.gate_base.specs.Prelude.{verdict_name, name_of}
 use Rattle.gate_base.specs.Refusal as refusal
-use Rattle.gate_base.specs.Side.{name_of}
 use Rattle.gate_report.specs.declared.line.Line.{Line}
 use Rattle.gate_report.specs.declared.line.Line.TheVariants.{Event, Done}
 use Rattle.gate_report.specs.Lines.{event_json, done_json, json_of}

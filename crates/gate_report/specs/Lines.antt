@@ -2,8 +2,7 @@
 use Rattle.std.specs.Prelude.{ℕ, List, ◌++◌, codes, decimal}
 use Rattle.gate_base.specs.declared.event.Verdict.{Verdict}
 use Rattle.gate_base.specs.declared.side.Side.{Side}
-use Rattle.gate_base.specs.Refusal.{verdict_name}
-use Rattle.gate_base.specs.Side.{name_of}
+use Rattle.gate_base.specs.Prelude.{verdict_name, name_of}
 use Rattle.gate_report.specs.declared.line.Line.{Line}
 use Rattle.gate_report.specs.declared.line.Line.TheVariants.{Event, Done}
 

@@ -5,6 +5,7 @@ ghost use Rattle.gate_report.specs.Lines.{json_of};
 ghost use Rattle.gate_report.specs.Values.{value_of, event_value, done_value};
 
 use crate::line::Line;
+use crate::totals::Totals;
 use gate_base::{Side, Verdict};
 use serde::{Described, Serialize, Serializer};
 use std::alloc::{AllocError, Global};
@@ -42,7 +43,16 @@ impl Serialize for Line {
                 to_left,
                 to_right,
                 pending,
-            } => send_done(out, events, passed, refused, to_left, to_right, pending),
+            } => {
+                let totals = Totals {
+                    events,
+                    passed,
+                    refused,
+                    to_left,
+                    to_right,
+                };
+                send_done(out, totals, pending)
+            }
         }
     }
 }
@@ -75,33 +85,26 @@ fn send_event<S: Serializer>(
 }
 
 // The last line, key by key.
-fn send_done<S: Serializer>(
-    out: &mut S,
-    events: u64,
-    passed: u64,
-    refused: u64,
-    to_left: u64,
-    to_right: u64,
-    pending: u64,
-) -> Result<(), S::Error>
-    ensures { OnOk result (SendsValue
-        (done_value events passed refused to_left to_right pending)
+fn send_done<S: Serializer>(out: &mut S, totals: Totals, pending: u64) -> Result<(), S::Error>
+    ensures { let t = totals in
+        OnOk result (SendsValue
+        (done_value t.events t.passed t.refused t.to_left t.to_right pending)
         (S.written out.old) (S.written out.new)) }
 {
     out.begin_map(Some(7))?;
     out.key("done")?;
     out.bool(true)?;
     out.key("events")?;
-    out.u64(events)?;
+    out.u64(totals.events)?;
     out.key("passed")?;
-    out.u64(passed)?;
+    out.u64(totals.passed)?;
     out.key("pending")?;
     out.u64(pending)?;
     out.key("refused")?;
-    out.u64(refused)?;
+    out.u64(totals.refused)?;
     out.key("to_left")?;
-    out.u64(to_left)?;
+    out.u64(totals.to_left)?;
     out.key("to_right")?;
-    out.u64(to_right)?;
+    out.u64(totals.to_right)?;
     out.end_map()
 }

@@ -1,10 +1,10 @@
 // Lines in text.
 ghost use Rattle.std.specs.Prelude.{◌≡◌, ◌+◌, ◌≤◌, ◌++◌, drop, length, decimal};
-ghost use Rattle.gate_base.specs.Refusal.{verdict_name};
-ghost use Rattle.gate_base.specs.Side.{name_of};
+ghost use Rattle.gate_base.specs.Prelude.{verdict_name, name_of};
 ghost use Rattle.gate_report.specs.Lines.{text_of, event_text, done_text};
 
 use crate::line::Line;
+use crate::totals::Totals;
 use gate_base::{Side, Verdict};
 use itoa::write_digits;
 
@@ -32,7 +32,16 @@ pub fn text_line(line: &Line, room: &mut [u8]) -> usize
             to_left,
             to_right,
             pending,
-        } => put_done(room, events, passed, refused, to_left, to_right, pending),
+        } => {
+            let totals = Totals {
+                events,
+                passed,
+                refused,
+                to_left,
+                to_right,
+            };
+            put_done(room, totals, pending)
+        }
     }
 }
 
@@ -111,27 +120,20 @@ fn put_word_before(room: &mut [u8], end: usize, word: &str) -> usize
 }
 
 /// Puts the last line at the end of the room, its last piece first, and answers where it begins.
-fn put_done(
-    room: &mut [u8],
-    events: u64,
-    passed: u64,
-    refused: u64,
-    to_left: u64,
-    to_right: u64,
-    pending: u64,
-) -> usize
+fn put_done(room: &mut [u8], totals: Totals, pending: u64) -> usize
     requires { length room.old ≡ LINE }
     ensures begin { result ≤ LINE }
-    ensures line { drop result room.new
-        ≡ done_text events passed refused to_left to_right pending }
+    ensures line { let t = totals in
+        drop result room.new
+        ≡ done_text t.events t.passed t.refused t.to_left t.to_right pending }
 {
     let end = put_word_before(room, LINE, "\n");
     let end = put_field_before(room, end, " pending=", pending);
-    let end = put_field_before(room, end, " to_right=", to_right);
-    let end = put_field_before(room, end, " to_left=", to_left);
-    let end = put_field_before(room, end, " refused=", refused);
-    let end = put_field_before(room, end, " passed=", passed);
-    put_field_before(room, end, "done events=", events)
+    let end = put_field_before(room, end, " to_right=", totals.to_right);
+    let end = put_field_before(room, end, " to_left=", totals.to_left);
+    let end = put_field_before(room, end, " refused=", totals.refused);
+    let end = put_field_before(room, end, " passed=", totals.passed);
+    put_field_before(room, end, "done events=", totals.events)
 }
 
 /// Puts a label and a number before a place, and answers where they begin.

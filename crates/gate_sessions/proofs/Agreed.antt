@@ -1,35 +1,25 @@
 -- What is kept of a session answers as it does, and goes on as it does.
-use Rattle.std.proofs.Common.{◌≡◌, ℕ, List, [], length, max, Option, Some, None, option_map, refl, sym, ◌∙◌, ap, subst, arith}
-use Rattle.std.specs.List.{fold}
-use Rattle.gate_base.specs.Events.{Event}
+use Rattle.std.proofs.Common.{◌≡◌, ℕ, List, [], length, max, Option, Some, None, option_map, refl, sym, ◌∙◌, ap, subst, arith, fold}
+use Rattle.gate_base.specs.Prelude.{Event}
 use Rattle.gate_base.specs.declared.address.Addr.{Addr}
 use Rattle.gate_base.specs.declared.event.Pair.{Pair}
 use Rattle.gate_base.specs.declared.host.Host.{Host}
 use Rattle.gate_base.specs.declared.host.Host.TheVariants.{Client, Server}
 use Rattle.gate_settings.specs.declared.settings.Settings.{Settings}
-use Rattle.dialogue.specs.Learning.{Entry, AllListed}
-use Rattle.dialogue.specs.Meaning.{Meaning, IsLawful}
-use Rattle.dns_stream.specs.Units.{unit_addresses}
-use Rattle.shift_ledger.specs.Kept.{StandsFor as Stands}
-use Rattle.stream_model.specs.Session.{Sender, Session, Segment, own}
-use Rattle.stream_model.specs.Steps.{session_next, open_of}
-use Rattle.stream_model.specs.Refusals.{segment_refusal}
+use Rattle.dialogue.specs.Prelude.{Entry, AllListed, Meaning, IsLawful}
+use Rattle.dns_stream.specs.Prelude.{unit_addresses}
+use Rattle.shift_ledger.specs.Prelude.{StandsFor as Stands}
+use Rattle.stream_model.specs.Prelude.{Sender, Session, Segment, own, session_next, open_of, segment_refusal}
 use Rattle.stream_model.proofs.PassLemmas.{passes}
-use Rattle.compact_stream.specs.Kept.{InRange, extent_kept, unlike_kept}
-use Rattle.compact_stream.specs.Outs.{kept_out}
-use Rattle.compact_stream.specs.Sessions.{CompactState, StandsForSession, kept_refusal, kept_next}
+use Rattle.compact_stream.specs.Prelude.{InRange, extent_kept, unlike_kept, kept_out, CompactState, StandsForSession, kept_refusal, kept_next}
 use Rattle.compact_stream.proofs.Begins.{session_begins, ranges_begin}
 use Rattle.compact_stream.proofs.OpenLines.{open_is}
 use Rattle.compact_stream.proofs.RangeLemmas.{own_in_range, other_in_range}
 use Rattle.compact_stream.proofs.SessionLemmas.{verdict_is, goes_on}
 use Rattle.stream_gate.proofs.OutLaw.{session_out_is, session_ends_is, session_inner_is}
-use Rattle.stream_gate.specs.Directions.{nothing_pushed}
-use Rattle.gate_model.specs.Lists.{Lists, with_list, addresses_in, entered}
-use Rattle.gate_model.specs.Reading.{Agree, AreRelated}
-use Rattle.gate_model.specs.Rules.{whole_rules}
-use Rattle.gate_model.specs.Sessions.{WholeSession, lists_at, meaning_by, entries_by, units_by, completed, whole_units, whole_next, whole_out}
-use Rattle.gate_model.specs.Step.{next}
-use Rattle.gate_model.specs.World.{World, opening_world}
+use Rattle.stream_gate.specs.Prelude.{nothing_pushed}
+use Rattle.gate_model.specs.Prelude.{Lists, with_list, addresses_in, entered, Agree, AreRelated, whole_rules, WholeSession, lists_at, meaning_by, entries_by, units_by, completed, whole_units, whole_next, next, World, opening_world}
+use Rattle.gate_model.specs.Sessions.{whole_out}
 use Rattle.gate_model.proofs.Entering.{listed_units_more}
 use Rattle.gate_model.proofs.Related.{related_run, opening_related}
 use Rattle.gate_model.proofs.RememberedSessions.{IsLonger, longer, learned, meaning_lawful, units_next, new_listed, made_each}

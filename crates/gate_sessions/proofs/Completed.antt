@@ -2,20 +2,15 @@
 use Rattle.std.proofs.Common.{◌≡◌, ℕ, Bool, cond, List, [], ◌++◌, drop, sym, ◌∙◌, ap, subst, inl, inr}
 use Rattle.std.proofs.lemmas.Bool.{cases_Bool, cond-true, cond-false}
 use Rattle.gate_base.specs.declared.host.Host.{Host}
-use Rattle.dialogue.specs.Learning.{Entry}
-use Rattle.dialogue.specs.Meaning.{Meaning, IsLawful}
-use Rattle.dialogue.specs.Stream.{cut}
-use Rattle.dns_stream.specs.Images.{dns_units}
-use Rattle.dns_stream.specs.Lawful.{dns_units-lawful}
-use Rattle.stream_model.specs.Session.{Sender, Segment, arrival, start_at, start_of}
-use Rattle.stream_model.specs.Refusals.{is_data}
+use Rattle.dialogue.specs.Prelude.{Entry, Meaning, IsLawful, cut}
+use Rattle.dns_stream.specs.Prelude.{dns_units, dns_units-lawful}
+use Rattle.stream_model.specs.Prelude.{Sender, Segment, arrival, start_at, start_of, is_data}
 use Rattle.stream_model.specs.declared.refusals.Extent.{Extent}
 use Rattle.stream_model.proofs.Lacking.{data_of}
 use Rattle.stream_model.proofs.PassLemmas.{Passes, IsData}
-use Rattle.compact_stream.specs.Kept.{CompactSender, KeepsSender}
-use Rattle.compact_stream.specs.Outs.{start_kept}
+use Rattle.compact_stream.specs.Prelude.{CompactSender, KeepsSender, start_kept}
 use Rattle.compact_stream.proofs.SessionLemmas.{extent_of_sender}
-use Rattle.gate_model.specs.Sessions.{completed}
+use Rattle.gate_model.specs.Prelude.{completed}
 use Rattle.gate_model.proofs.Completing.{none_completed, held_completed, all_held}
 use Rattle.gate_sessions.specs.Compact.{kept_completed}
 

@@ -1,15 +1,12 @@
 -- What goes out of a segment that a session takes.
-use Rattle.std.proofs.Common.{◌≡◌, ℕ, List, Option, Some, ap, ◌∙◌}
-use Rattle.std.specs.Prelude.{map}
+use Rattle.std.proofs.Common.{◌≡◌, ℕ, List, Option, Some, ap, ◌∙◌, map}
 use Rattle.gate_base.specs.declared.address.Addr.{Addr}
 use Rattle.gate_base.specs.declared.event.Pair.{Pair}
 use Rattle.gate_base.specs.declared.side.Side.{Side}
 use Rattle.gate_base.specs.declared.host.Host.{Host}
-use Rattle.dialogue.specs.Learning.{Entry}
+use Rattle.dialogue.specs.Prelude.{Entry}
 use Rattle.ipv4_frames.specs.Ipv4.{Datagram}
-use Rattle.gate_model.specs.Stream.{segment_of, sent_as}
-use Rattle.gate_model.specs.Step.{stream_out}
-use Rattle.gate_model.specs.World.{Tracked}
+use Rattle.gate_model.specs.Prelude.{segment_of, sent_as, stream_out, Tracked}
 use Rattle.gate_sessions.specs.Compact.{CompactSession, compact_rules}
 use Rattle.event_steps.proofs.SteppedSessions.{IsSeen}
 

@@ -1,26 +1,20 @@
 -- Lists that grow, and forget what they grew by.
-use Rattle.std.proofs.Common.{◌≡◌, ◌≤◌, ℕ, List, ◌++◌, length, take, refl, sym, ◌∙◌, ap, subst, arith}
+use Rattle.std.proofs.Common.{◌≡◌, ◌≤◌, ℕ, List, ◌++◌, length, take, refl, sym, ◌∙◌, ap, subst, arith, take_at}
 use Rattle.std.specs.List.{AllByRecursion}
-use Rattle.std.proofs.lemmas.List.{take_at}
-use Rattle.dialogue.specs.Stream.{Cut, cut}
-use Rattle.dialogue.specs.Learning.{Entry, AllListed, ReadAlike}
+use Rattle.dialogue.specs.Prelude.{Cut, cut, Entry, AllListed, ReadAlike}
 use Rattle.dialogue.proofs.Alike.{cut_alike, learned_alike}
-use Rattle.dns_stream.specs.Units.{unit_addresses}
-use Rattle.dns_stream.specs.Images.{dns_units}
-use Rattle.dns_stream.specs.Lawful.{dns_units-learning}
-use Rattle.compact_stream.specs.Kept.{CompactSender}
-use Rattle.compact_stream.specs.Sessions.{CompactState, sender_kept}
+use Rattle.dns_stream.specs.Prelude.{unit_addresses, dns_units, dns_units-learning}
+use Rattle.compact_stream.specs.Prelude.{CompactSender, CompactState, sender_kept}
 use Rattle.compact_stream.proofs.ReadsAlike.{keeps_alike}
-use Rattle.stream_gate.specs.Listed.{IsListedStream as IsStreamBy}
+use Rattle.stream_gate.specs.Prelude.{IsListedStream as IsStreamBy, entries_of}
 use Rattle.gate_model.proofs.Entering.{listed_units_more}
 use Rattle.gate_sessions.specs.Compact.{IsListedStream}
-use Rattle.dns_plans.specs.Steps.{entered_all}
+use Rattle.dns_plans.specs.Prelude.{entered_all}
 use Rattle.dns_plans.proofs.EnteredLemmas.{all_grown}
 use Rattle.gate_base.specs.declared.event.Pair.{Pair}
 use Rattle.gate_base.specs.declared.host.Host.{Host}
 use Rattle.gate_base.specs.declared.host.Host.TheVariants.{Client, Server}
-use Rattle.gate_base.specs.Hosts.{peer}
-use Rattle.stream_gate.specs.Listed.{entries_of}
+use Rattle.gate_base.specs.Prelude.{peer}
 use Rattle.gate_sessions.specs.Directions.{DnsKept, listed_of, IsListedSide, dns_session}
 use Rattle.gate_sessions.specs.Sessions.{IsSession}
 

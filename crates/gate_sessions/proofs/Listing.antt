@@ -1,14 +1,10 @@
 -- What is kept of sessions has lists.
 use Rattle.std.proofs.Common.{◌≡◌, true, [], refl}
 use Rattle.std.proofs.lemmas.Bool.{cond-false}
-use Rattle.dialogue.specs.Meaning.{Meaning}
-use Rattle.stream_model.specs.Session.{Segment, arrival}
-use Rattle.stream_model.specs.Refusals.{is_data}
-use Rattle.compact_stream.specs.Kept.{CompactSender}
-use Rattle.compact_stream.specs.Sessions.{sender_kept}
-use Rattle.gate_model.specs.Held.{HasLists}
-use Rattle.gate_model.specs.Lists.{addresses_in, entered}
-use Rattle.gate_model.specs.Sessions.{entries_by, meaning_by}
+use Rattle.dialogue.specs.Prelude.{Meaning}
+use Rattle.stream_model.specs.Prelude.{Segment, arrival, is_data}
+use Rattle.compact_stream.specs.Prelude.{CompactSender, sender_kept}
+use Rattle.gate_model.specs.Prelude.{HasLists, addresses_in, entered, entries_by, meaning_by}
 use Rattle.gate_model.proofs.ListsWorld.{made_at, own_at, other_at, no_units}
 use Rattle.gate_sessions.specs.Compact.{kept_completed, kept_units, compact_rules}
 

@@ -1,20 +1,12 @@
 -- What is kept of a session is kept of the session that has learned more.
-use Rattle.std.proofs.Common.{◌≡◌, ℕ, Bool, true, false, cond, List, [], ◌∷◌, ◌++◌, length, map, drop, refl, sym, ◌∙◌, ap, subst}
-use Rattle.std.specs.Prelude.{min}
+use Rattle.std.proofs.Common.{◌≡◌, ℕ, Bool, true, false, cond, List, [], ◌∷◌, ◌++◌, length, map, drop, refl, sym, ◌∙◌, ap, subst, min, bytes_eq}
 use Rattle.std.specs.List.{AllByRecursion}
-use Rattle.std.specs.Str.{bytes_eq}
-use Rattle.dialogue.specs.Learning.{Entry, AllListed, ReadAlike}
-use Rattle.dialogue.specs.Places.{Push, Plain}
-use Rattle.dialogue.specs.Stream.{cut, due_rest, push_if, push_of}
+use Rattle.dialogue.specs.Prelude.{Entry, AllListed, ReadAlike, Push, Plain, cut, due_rest, push_if, push_of, is_released}
 use Rattle.dialogue.proofs.Alike.{learned_alike, back_alike}
-use Rattle.dns_stream.specs.Units.{unit_addresses}
-use Rattle.dns_stream.specs.Images.{dns_units}
-use Rattle.dns_stream.specs.Lawful.{dns_units-learning}
-use Rattle.shift_ledger.specs.Kept.{StandsFor}
-use Rattle.stream_model.specs.Session.{Sender}
-use Rattle.compact_stream.specs.Kept.{CompactSender, KeepsSender, InRange}
-use Rattle.compact_stream.specs.Runs.{held_rest}
-use Rattle.dialogue.specs.Meaning.{is_released}
+use Rattle.dns_stream.specs.Prelude.{unit_addresses, dns_units, dns_units-learning}
+use Rattle.shift_ledger.specs.Prelude.{StandsFor}
+use Rattle.stream_model.specs.Prelude.{Sender}
+use Rattle.compact_stream.specs.Prelude.{CompactSender, KeepsSender, InRange, held_rest}
 
 pushes_alike : (es fs : List Entry) (us : List (List ℕ)) → AllByRecursion (λ u. (dns_units es).image u ≡ (dns_units fs).image u) us → map (push_of (dns_units es)) us ≡ map (push_of (dns_units fs)) us
 pushes_alike es fs [] h = refl

@@ -1,29 +1,22 @@
 -- The datagrams of a segment have at most 65,535 octets each.
-use Rattle.std.proofs.Common.{◌≡◌, ◌≤◌, ◌<◌, ◌+◌, ◌-◌, ◌*◌, ℕ, zero, suc, Bool, true, false, cond, List, [], ◌∷◌, ◌++◌, length, take, drop, slice_range, refl, sym, ap, subst, ◌∙◌, arith, length-append, length-drop, append_assoc}
-use Rattle.std.specs.Prelude.{◌/◌, min, max, map, nat_lt, Result, Ok, Err, OnOk, OnErr}
-use Rattle.std.specs.List.{flat_map}
-use Rattle.std.proofs.lemmas.List.{take_at, drop_at}
+use Rattle.std.proofs.Common.{◌≡◌, ◌≤◌, ◌<◌, ◌+◌, ◌-◌, ◌*◌, ℕ, zero, suc, Bool, true, false, cond, List, [], ◌∷◌, ◌++◌, length, take, drop, slice_range, refl, sym, ap, subst, ◌∙◌, arith, length-append, length-drop, append_assoc, ◌/◌, min, max, map, nat_lt, Result, Ok, Err, OnOk, OnErr, flat_map, take_at, drop_at}
 use Rattle.std.proofs.Math.Nat.{lt-div-mul-add}
 use Rattle.gate_base.specs.declared.host.Host.{Host}
 use Rattle.gate_base.specs.declared.host.Host.TheVariants.{Client, Server}
-use Rattle.dialogue.specs.Meaning.{Meaning}
+use Rattle.dialogue.specs.Prelude.{Meaning}
 use Rattle.ipv4_frames.specs.Ipv4.{Datagram, spelled_head}
 use Rattle.ipv4_frames.proofs.Heads.{head_long}
-use Rattle.tcp_segments.specs.Tcp.{Tcp, IsTcpHeader, spelled_segment}
+use Rattle.tcp_segments.specs.Prelude.{Tcp, IsTcpHeader, spelled_segment, flags_octet}
 use Rattle.tcp_segments.proofs.Written.{segment_long}
-use Rattle.tcp_segments.specs.Flags.{flags_octet}
-use Rattle.stream_model.specs.Session.{Segment, Outgoing, arrival, place_acknowledged, segment_in}
-use Rattle.stream_model.specs.Steps.{Piece, pieces, empty_piece, syn_out}
+use Rattle.stream_model.specs.Prelude.{Segment, Outgoing, arrival, place_acknowledged, segment_in, Piece, pieces, empty_piece, syn_out}
 use Rattle.stream_model.proofs.Cutting.{pieces_from, pieces_are}
 use Rattle.stream_model.specs.declared.numbers.Offset.{Offset}
 use Rattle.stream_model.specs.declared.refusals.Extent.{Extent}
-use Rattle.compact_stream.specs.Kept.{CompactSender, extent_kept, taken_kept}
-use Rattle.compact_stream.specs.Outs.{start_kept, low_kept, high_kept, sends_end_kept, bare_offset_kept, pieces_kept, acknowledgement_kept, limit_kept, outgoing_kept, reset_kept, data_kept, sender_out, kept_out}
-use Rattle.compact_stream.specs.Sessions.{CompactState}
-use Rattle.stream_gate.specs.Segments.{Headers, datagram, datagram_ends}
+use Rattle.compact_stream.specs.Prelude.{CompactSender, extent_kept, taken_kept, start_kept, low_kept, high_kept, sends_end_kept, bare_offset_kept, pieces_kept, acknowledgement_kept, limit_kept, outgoing_kept, reset_kept, data_kept, sender_out, kept_out, CompactState}
+use Rattle.stream_gate.specs.Prelude.{Headers, datagram, datagram_ends}
 use Rattle.stream_gate.proofs.PiecesInOrder.{flat-map}
 use Rattle.resegment.specs.Datagrams.{ends_from}
-use Rattle.gate_model.specs.Stream.{tcp_of, segment_of, sent_as}
+use Rattle.gate_model.specs.Prelude.{tcp_of, segment_of, sent_as}
 use Rattle.gate_outbox.specs.Outboxes.{datagrams_from, AreEnds, IsOutbox}
 
 -- ## Datagrams by their ends

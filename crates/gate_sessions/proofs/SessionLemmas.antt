@@ -6,22 +6,18 @@ use Rattle.gate_base.specs.declared.event.Pair.{Pair}
 use Rattle.gate_base.proofs.Hosts.{both}
 use Rattle.gate_base.specs.declared.host.Host.{Host}
 use Rattle.gate_base.specs.declared.host.Host.TheVariants.{Client, Server}
-use Rattle.gate_base.specs.Hosts.{peer}
-use Rattle.dialogue.specs.Stream.{cut}
-use Rattle.dns_stream.specs.Images.{dns_units}
-use Rattle.stream_model.specs.Session.{Segment, arrival}
-use Rattle.stream_model.specs.Refusals.{is_data}
-use Rattle.compact_stream.specs.Outs.{start_kept}
-use Rattle.compact_stream.specs.Sessions.{sender_kept}
+use Rattle.gate_base.specs.Prelude.{peer}
+use Rattle.dialogue.specs.Prelude.{cut}
+use Rattle.dns_stream.specs.Prelude.{dns_units}
+use Rattle.stream_model.specs.Prelude.{Segment, arrival, is_data}
+use Rattle.compact_stream.specs.Prelude.{start_kept, sender_kept}
 use Rattle.compact_stream.proofs.SessionLemmas.{verdict_is}
-use Rattle.gate_model.specs.Lists.{addresses_in, entered, most_entries}
-use Rattle.gate_model.specs.Rules.{whole_rules}
-use Rattle.gate_model.specs.Sessions.{meaning_by, whole_next}
+use Rattle.gate_model.specs.Prelude.{addresses_in, entered, most_entries, whole_rules, meaning_by, whole_next}
 use Rattle.gate_model.proofs.Completing.{drop-min}
 use Rattle.gate_sessions.specs.Compact.{CompactSession, compact_rules, kept_units, IsOfSome}
 use Rattle.gate_sessions.proofs.Agreed.{made_stands, next_stands}
 use Rattle.gate_sessions.proofs.Listing.{kept_have_lists}
-use Rattle.dns_plans.specs.Plans.{whole_units}
+use Rattle.dns_plans.specs.Prelude.{whole_units}
 use Rattle.gate_sessions.specs.Directions.{DnsKept, dns_session}
 use Rattle.gate_sessions.specs.Sessions.{IsSession}
 

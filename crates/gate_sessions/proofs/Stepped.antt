@@ -1,35 +1,26 @@
 -- A session that takes a segment.
-use Rattle.std.proofs.Common.{◌≡◌, ◌≤◌, ℕ, List, [], ◌∷◌, ◌++◌, length, drop, Option, None, sym, ◌∙◌, ap, subst, arith, inl, inr}
-use Rattle.std.specs.Prelude.{map, Result, Ok, Err, OnOk, OnErr}
+use Rattle.std.proofs.Common.{◌≡◌, ◌≤◌, ℕ, List, [], ◌∷◌, ◌++◌, length, drop, Option, None, sym, ◌∙◌, ap, subst, arith, inl, inr, map, Result, Ok, Err, OnOk, OnErr}
 use Rattle.std.proofs.lemmas.Bool.{cases_Bool, cond-true, cond-false}
 use Rattle.std.proofs.lemmas.Result.{on_ok_weaker}
 use Rattle.gate_base.specs.declared.address.Addr.{Addr}
 use Rattle.gate_base.specs.declared.event.Pair.{Pair}
 use Rattle.gate_base.specs.declared.host.Host.{Host}
 use Rattle.gate_base.specs.declared.host.Host.TheVariants.{Client, Server}
-use Rattle.dialogue.specs.Learning.{Entry}
-use Rattle.dialogue.specs.Stream.{cut}
+use Rattle.dialogue.specs.Prelude.{Entry, cut}
 use Rattle.dialogue.proofs.CutLemmas.{none_or_some}
-use Rattle.dns_stream.specs.Images.{dns_units}
-use Rattle.dns_stream.specs.Lawful.{dns_units-lawful}
-use Rattle.dns_stream.specs.Units.{unit_end}
+use Rattle.dns_stream.specs.Prelude.{dns_units, dns_units-lawful, unit_end}
 use Rattle.ftp_lines.specs.Renaming.{client_lines, server_lines}
 use Rattle.ftp_lines.specs.declared.lines.ClientLines.{ClientLines}
 use Rattle.ftp_lines.specs.declared.lines.ServerLines.{ServerLines}
-use Rattle.stream_model.specs.Session.{Segment, Outgoing, arrival}
-use Rattle.stream_model.specs.Refusals.{is_data}
+use Rattle.stream_model.specs.Prelude.{Segment, Outgoing, arrival, is_data}
 use Rattle.stream_model.proofs.PassLemmas.{data_is}
-use Rattle.compact_stream.specs.Kept.{CompactSender}
-use Rattle.compact_stream.specs.Outs.{start_kept}
-use Rattle.compact_stream.specs.Sessions.{CompactState, kept_next}
-use Rattle.stream_gate.specs.Gates.{GateKept}
-use Rattle.stream_gate.specs.Memory.{OneBears, units_behind, CompletesBy}
+use Rattle.compact_stream.specs.Prelude.{CompactSender, start_kept, CompactState, kept_next}
+use Rattle.stream_gate.specs.Prelude.{GateKept, OneBears, units_behind, CompletesBy}
 use Rattle.stream_gate.proofs.MemoryLemmas.{released_none}
-use Rattle.gate_model.specs.Lists.{addresses_in, entered}
+use Rattle.gate_model.specs.Prelude.{addresses_in, entered}
 use Rattle.gate_sessions.specs.Compact.{CompactSession, compact_rules, kept_units, kept_completed, IsListedStream}
 use Rattle.gate_sessions.proofs.Witness.{streams_listed}
-use Rattle.dns_plans.specs.Plans.{beside}
-use Rattle.dns_plans.specs.Steps.{entered_all}
+use Rattle.dns_plans.specs.Prelude.{beside, entered_all}
 use Rattle.dns_plans.proofs.EnteredLemmas.{list_after}
 use Rattle.dns_plans.proofs.NamedLemmas.{units-first}
 use Rattle.gate_sessions.specs.Directions.{DnsKept, IsListedSide, with_entered, dns_next, dns_out, DnsCompletes, dns_session}

@@ -1,23 +1,16 @@
 -- What is kept of a tracked session is that of some session, whatever events come.
-use Rattle.std.proofs.Common.{List, Option, Some, None, sym, ◌∙◌}
-use Rattle.std.specs.List.{fold}
+use Rattle.std.proofs.Common.{List, Option, Some, None, sym, ◌∙◌, fold, IfSome}
 use Rattle.std.proofs.lemmas.List.Elements.{All-nil}
-use Rattle.std.specs.Prelude.{IfSome}
-use Rattle.gate_base.specs.Events.{Event}
+use Rattle.gate_base.specs.Prelude.{Event}
 use Rattle.gate_settings.specs.declared.settings.Settings.{Settings}
 use Rattle.tcp_tracker.specs.declared.connection.Connection.{Connection}
 use Rattle.gate_base.specs.declared.event.Pair.{Pair}
 use Rattle.gate_base.specs.declared.host.Host.{Host}
 use Rattle.gate_base.specs.declared.host.Host.TheVariants.{Client, Server}
-use Rattle.stream_model.specs.Session.{Session, own}
-use Rattle.compact_stream.specs.Sessions.{CompactState, StandsForSession, sender_kept}
+use Rattle.stream_model.specs.Prelude.{Session, own}
+use Rattle.compact_stream.specs.Prelude.{CompactState, StandsForSession, sender_kept}
 use Rattle.compact_stream.proofs.SessionLemmas.{verdict_is}
-use Rattle.gate_model.specs.Lists.{Lists, list_of}
-use Rattle.gate_model.specs.Rules.{whole_rules}
-use Rattle.gate_model.specs.Sessions.{meaning_by, whole_next}
-use Rattle.gate_model.specs.Step.{next}
-use Rattle.gate_model.specs.Remembered.{EachTracked}
-use Rattle.gate_model.specs.World.{Tracked, World, opening_world}
+use Rattle.gate_model.specs.Prelude.{Lists, list_of, whole_rules, meaning_by, whole_next, next, EachTracked, Tracked, World, opening_world}
 use Rattle.gate_model.proofs.Tracking.{Keeps, next_keeps, run_keeps}
 use Rattle.gate_sessions.specs.Compact.{CompactSession, compact_rules, IsOfSome, IsListedStream, AllNamesListed}
 use Rattle.gate_sessions.proofs.Agreed.{made_stands, next_stands}

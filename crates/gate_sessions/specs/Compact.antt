@@ -1,25 +1,15 @@
 -- Sessions by what is kept of them.
 use Rattle.std.specs.Prelude.{◌≡◌, ℕ, cond, List, [], ◌++◌, drop, max, length, Option, IfSome, option_map}
-use Rattle.std.specs.List.{AllByRecursion}
 use Rattle.gate_base.specs.declared.address.Addr.{Addr}
 use Rattle.gate_base.specs.declared.event.Pair.{Pair}
 use Rattle.gate_base.specs.declared.host.Host.{Host}
 use Rattle.gate_base.specs.declared.host.Host.TheVariants.{Client, Server}
-use Rattle.dialogue.specs.Learning.{Entry, AllListed, AllUnitsListed}
-use Rattle.dialogue.specs.Meaning.{Meaning}
-use Rattle.dialogue.specs.Stream.{cut}
-use Rattle.dns_stream.specs.Units.{unit_addresses}
-use Rattle.dns_stream.specs.Images.{dns_units}
-use Rattle.stream_model.specs.Session.{Segment, arrival, own}
-use Rattle.stream_model.specs.Refusals.{is_data}
-use Rattle.compact_stream.specs.Kept.{CompactSender, Keeps, InRange}
-use Rattle.compact_stream.specs.Outs.{start_kept, kept_out, kept_ends, inner_kept}
-use Rattle.compact_stream.specs.Sessions.{CompactState, StandsForSession, sender_kept, kept_made, kept_refusal, kept_next}
-use Rattle.stream_gate.specs.Directions.{nothing_pushed}
-use Rattle.gate_model.specs.Lists.{Lists, list_of, with_list, addresses_in, entered}
-use Rattle.gate_model.specs.Rules.{SessionRules}
-use Rattle.gate_model.specs.Sessions.{WholeSession, lists_at, meaning_by, entries_by, units_by}
-use Rattle.stream_gate.specs.Listed.{IsListedStream as IsStreamListed}
+use Rattle.dialogue.specs.Prelude.{Entry, AllUnitsListed, Meaning, cut}
+use Rattle.dns_stream.specs.Prelude.{unit_addresses, dns_units}
+use Rattle.stream_model.specs.Prelude.{Segment, arrival, own, is_data}
+use Rattle.compact_stream.specs.Prelude.{CompactSender, InRange, start_kept, kept_out, kept_ends, inner_kept, CompactState, StandsForSession, sender_kept, kept_made, kept_refusal, kept_next}
+use Rattle.stream_gate.specs.Prelude.{nothing_pushed, IsListedStream as IsStreamListed}
+use Rattle.gate_model.specs.Prelude.{Lists, list_of, with_list, addresses_in, entered, SessionRules, WholeSession, lists_at, meaning_by, entries_by, units_by}
 
 -- the pair of a session's hosts, the lists of a DNS session, and what is kept of both hosts
 pub record CompactSession : Type 0 where

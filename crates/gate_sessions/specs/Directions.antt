@@ -3,15 +3,13 @@ use Rattle.std.specs.Prelude.{Some, List}
 use Rattle.gate_base.specs.declared.event.Pair.{Pair}
 use Rattle.gate_base.specs.declared.host.Host.{Host}
 use Rattle.gate_base.specs.declared.host.Host.TheVariants.{Client, Server}
-use Rattle.dialogue.specs.Learning.{Entry}
-use Rattle.dns_stream.specs.Images.{dns_units}
-use Rattle.stream_model.specs.Session.{Segment, Outgoing}
-use Rattle.compact_stream.specs.Outs.{kept_out}
-use Rattle.compact_stream.specs.Sessions.{sender_kept, kept_next}
-use Rattle.stream_gate.specs.Gates.{GateKept}
-use Rattle.stream_gate.specs.Memory.{KeptCompletes}
+use Rattle.dialogue.specs.Prelude.{Entry}
+use Rattle.dns_stream.specs.Prelude.{dns_units}
+use Rattle.stream_model.specs.Prelude.{Segment, Outgoing}
+use Rattle.compact_stream.specs.Prelude.{kept_out, sender_kept, kept_next}
+use Rattle.stream_gate.specs.Prelude.{GateKept, KeptCompletes}
 use Rattle.gate_sessions.specs.Compact.{CompactSession, IsListedStream}
-use Rattle.dns_plans.specs.Steps.{entered_all}
+use Rattle.dns_plans.specs.Prelude.{entered_all}
 
 -- the dialogues are the lists
 abbrev pub DnsKept : Type 0

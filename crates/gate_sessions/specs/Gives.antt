@@ -1,8 +1,8 @@
 -- What the gate tells of datagrams: those that go out.
 use Rattle.std.specs.Prelude.{ℕ, List, refl}
-use Rattle.gate_model.specs.Step.{stream_out}
+use Rattle.gate_model.specs.Prelude.{stream_out}
 use Rattle.gate_sessions.specs.Compact.{CompactSession, compact_rules}
-use Rattle.event_steps.specs.Passed.{Tells}
+use Rattle.event_steps.specs.Prelude.{Tells}
 use Rattle.event_engine.specs.Engines.{Gives}
 use Rattle.gate_sessions.specs.Sessions.{MayWantIn}
 

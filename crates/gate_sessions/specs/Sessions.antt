@@ -3,10 +3,9 @@ use Rattle.std.specs.Prelude.{◌≡◌, ◌≤◌, Option, Some, None, length}
 use Rattle.gate_base.specs.declared.event.Pair.{Pair}
 use Rattle.gate_base.specs.declared.host.Host.{Host}
 use Rattle.ftp_lines.specs.Renaming.{client_lines, server_lines}
-use Rattle.stream_model.specs.Session.{Segment}
-use Rattle.stream_gate.specs.Memory.{KeptCompletes}
-use Rattle.gate_model.specs.Lists.{Lists, most_entries}
-use Rattle.gate_model.specs.Sessions.{entries_by}
+use Rattle.stream_model.specs.Prelude.{Segment}
+use Rattle.stream_gate.specs.Prelude.{KeptCompletes}
+use Rattle.gate_model.specs.Prelude.{Lists, most_entries, entries_by}
 use Rattle.gate_sessions.specs.Compact.{CompactSession, kept_units, IsOfSome}
 use Rattle.gate_sessions.specs.Directions.{dns_session}
 use Rattle.gate_sessions.specs.declared.kinds.SessionKind.{SessionKind}

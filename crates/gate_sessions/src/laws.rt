@@ -1,20 +1,12 @@
 // The laws of worlds by what is kept. The functions do nothing: their clauses are proved.
 ghost use Rattle.std.specs.Prelude.{◌≡◌, List, IfSome};
 ghost use Rattle.std.specs.List.{fold};
-ghost use Rattle.gate_base.specs.Events.{Event};
+ghost use Rattle.gate_base.specs.Prelude.{Event};
 ghost use Rattle.gate_base.specs.declared.host.Host.{Host};
 ghost use Rattle.gate_settings.specs.declared.settings.Settings.{Settings};
-ghost use Rattle.gate_model.specs.Sessions.{WholeSession};
-ghost use Rattle.gate_model.specs.Held.{HasLists};
-ghost use Rattle.gate_model.specs.Reading.{Agree, AreRelated};
-ghost use Rattle.gate_model.specs.Rules.{whole_rules};
-ghost use Rattle.gate_model.specs.Step.{next, out};
-ghost use Rattle.gate_model.specs.Verdict.{verdict};
-ghost use Rattle.gate_model.specs.World.{World, opening_world};
+ghost use Rattle.gate_model.specs.Prelude.{WholeSession, HasLists, Agree, AreRelated, whole_rules, next, out, verdict, World, opening_world, list_of, EachTracked};
 ghost use Rattle.gate_sessions.specs.Compact.{CompactSession, compact_rules, StandsFor, IsOfSome, IsListedStream};
-ghost use Rattle.gate_model.specs.Lists.{list_of};
-ghost use Rattle.compact_stream.specs.Sessions.{sender_kept};
-ghost use Rattle.gate_model.specs.Remembered.{EachTracked};
+ghost use Rattle.compact_stream.specs.Prelude.{sender_kept};
 
 /// Whatever events come, what is kept of sessions decides the verdict on each event and what goes out, as the sessions over
 /// whole lists do.

@@ -1,12 +1,11 @@
 // A connection of DNS that learns what its units name.
 ghost use Rattle.std.specs.Prelude.{◌≡◌, ◌≤◌, ◌<◌, [], false, length, map, None, IfOk, OnOk, OnErr};
-ghost use Rattle.gate_base.specs.Hosts.{peer};
-ghost use Rattle.dialogue.specs.Learning.{is_listed, AreImages};
-ghost use Rattle.dns_stream.specs.Images.{dns_units};
-ghost use Rattle.gate_model.specs.Stream.{segment_of, sent_as, tcp_of};
-ghost use Rattle.compact_stream.specs.Outs.{kept_ends};
-ghost use Rattle.compact_stream.specs.Sessions.{kept_refusal};
-ghost use Rattle.dns_plans.specs.Steps.{enter_one, entered_all};
+ghost use Rattle.gate_base.specs.Prelude.{peer};
+ghost use Rattle.dialogue.specs.Prelude.{is_listed, AreImages};
+ghost use Rattle.dns_stream.specs.Prelude.{dns_units};
+ghost use Rattle.gate_model.specs.Prelude.{segment_of, sent_as, tcp_of};
+ghost use Rattle.compact_stream.specs.Prelude.{kept_ends, kept_refusal};
+ghost use Rattle.dns_plans.specs.Prelude.{enter_one, entered_all};
 ghost use Rattle.gate_sessions.specs.Directions.{listed_of, IsListedSide, with_entered, dns_next, dns_out, DnsCompletes};
 
 use crate::kinds::DnsSession;

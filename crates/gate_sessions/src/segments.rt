@@ -1,9 +1,8 @@
 // What a session of either kind puts into the outbox.
 ghost use Rattle.std.specs.Prelude.{◌≡◌, ◌≤◌, [], map, None, IfOk, OnOk, OnErr};
-ghost use Rattle.compact_stream.specs.Outs.{kept_out, kept_ends};
-ghost use Rattle.compact_stream.specs.Sessions.{kept_refusal, kept_next};
-ghost use Rattle.stream_gate.specs.Memory.{KeptCompletes};
-ghost use Rattle.gate_model.specs.Stream.{tcp_of, segment_of, sent_as};
+ghost use Rattle.compact_stream.specs.Prelude.{kept_out, kept_ends, kept_refusal, kept_next};
+ghost use Rattle.stream_gate.specs.Prelude.{KeptCompletes};
+ghost use Rattle.gate_model.specs.Prelude.{tcp_of, segment_of, sent_as};
 
 use crate::session::Passing;
 use dialogue::Dialogue;

@@ -1,17 +1,14 @@
 // A session of one of two kinds.
 ghost use Rattle.std.specs.Prelude.{◌≡◌, ◌≤◌, ◌<◌, ℕ, Option, true, [], length, map, slice_get, Some, None, IfOk, OnOk, OnErr};
 ghost use Rattle.gate_base.specs.declared.address.Addr.{Addr};
-ghost use Rattle.dialogue.specs.Learning.{AreImages};
-ghost use Rattle.dns_stream.specs.Images.{dns_units};
-ghost use Rattle.stream_model.specs.Session.{segment_in, arrival};
-ghost use Rattle.stream_gate.specs.Directions.{nothing_pushed};
-ghost use Rattle.compact_stream.specs.Sessions.{kept_made};
-ghost use Rattle.stream_model.specs.Refusals.{is_data};
-ghost use Rattle.gate_model.specs.Lists.{addresses_in};
-ghost use Rattle.gate_model.specs.Stream.{segment_of, sent_as, tcp_of};
+ghost use Rattle.dialogue.specs.Prelude.{AreImages};
+ghost use Rattle.dns_stream.specs.Prelude.{dns_units};
+ghost use Rattle.stream_model.specs.Prelude.{segment_in, arrival, is_data};
+ghost use Rattle.stream_gate.specs.Prelude.{nothing_pushed};
+ghost use Rattle.compact_stream.specs.Prelude.{kept_made};
+ghost use Rattle.gate_model.specs.Prelude.{addresses_in, segment_of, sent_as, tcp_of};
 ghost use Rattle.gate_sessions.specs.Compact.{compact_rules};
-ghost use Rattle.dns_plans.specs.Plans.{whole_units, beside};
-ghost use Rattle.dns_plans.specs.Steps.{entered_all};
+ghost use Rattle.dns_plans.specs.Prelude.{whole_units, beside, entered_all};
 ghost use Rattle.gate_sessions.specs.Sessions.{MayWantIn};
 
 use crate::kinds::{DnsSession, FtpSession, SessionKind};
@@ -26,7 +23,7 @@ use shift_ledger::Recent;
 use std::alloc::Global;
 use std::boxed::Box;
 use std::marker::Model;
-use stream_gate::StreamGate;
+use stream_gate::{FirstSyn, StreamGate};
 use tcp_segments::{TcpView, flags_of};
 
 /// A segment that passes: which host sends it, and the addresses between which it goes on.
@@ -71,8 +68,7 @@ fn ftp_session(alloc: Global, pair: Pair, initial: u32, mss: u16) -> Result<FtpS
         alloc,
         ClientLines { pair },
         ServerLines { pair },
-        initial,
-        mss,
+        FirstSyn { initial, mss },
         from_client,
         from_server,
     ))
@@ -94,8 +90,7 @@ fn dns_session(alloc: Global, initial: u32, mss: u16) -> Result<DnsSession, OutO
         alloc,
         client,
         server,
-        initial,
-        mss,
+        FirstSyn { initial, mss },
         from_client,
         from_server,
     ))

@@ -1,6 +1,5 @@
 -- Blocks in the order of their first addresses make ranges that rise, and one of these decides where an address lies.
-use Rattle.std.proofs.Common.{◌≡◌, ◌≤◌, ◌<◌, ◌-◌, ℕ, zero, suc, max, Bool, true, false, List, [], ◌∷◌, length, get_or, refl, sym, ◌∙◌, ap, arith, ◌&&◌, ◌||◌, ◌⊎◌, inl, inr}
-use Rattle.std.specs.Prelude.{nat_le}
+use Rattle.std.proofs.Common.{◌≡◌, ◌≤◌, ◌<◌, ◌-◌, ℕ, zero, suc, max, Bool, true, false, List, [], ◌∷◌, length, get_or, refl, sym, ◌∙◌, ap, arith, ◌&&◌, ◌||◌, ◌⊎◌, inl, inr, nat_le}
 use Rattle.std.specs.List.{list_any}
 use Rattle.std.specs.List.Sorted.{IsNonDecreasingBy, IsPartitionPoint, IsPermutation}
 use Rattle.std.proofs.lemmas.Bool.{cases_lt, leb-true, le-leb}
@@ -10,8 +9,8 @@ use Rattle.std.proofs.lemmas.List.Folds.{list_any_none, list_any_at}
 use Rattle.std.proofs.lemmas.List.Sorted.{list_any-IsPermutation}
 use Rattle.gate_settings.specs.declared.settings.Block.{Block}
 use Rattle.gate_settings.specs.declared.same.SameRange.{SameRange}
-use Rattle.gate_settings.specs.Cross.{block_end, is_in_block, is_in_same}
-use Rattle.gate_settings.specs.Ranges.{is_in_range, ranges_from, AreRanges, Rise}
+use Rattle.gate_settings.specs.Prelude.{block_end, is_in_block, is_in_same, ranges_from, AreRanges}
+use Rattle.gate_settings.specs.Ranges.{is_in_range, Rise}
 
 -- ## The order of what blocks make
 

@@ -1,7 +1,6 @@
 -- The forms of what settings hold.
 use Rattle.std.specs.Prelude.{◌≡◌, ◌-◌, ◌^◌, ◌≤◌, ◌%◌, true, All}
-use Rattle.gate_base.specs.Address.{is_unicast_number}
-use Rattle.gate_base.specs.Rules.{AreRules}
+use Rattle.gate_base.specs.Prelude.{is_unicast_number, AreRules}
 use Rattle.gate_base.specs.declared.address.Addr.{Addr}
 use Rattle.gate_settings.specs.declared.settings.Block.{Block}
 use Rattle.gate_settings.specs.declared.settings.Fixed.{Fixed}

@@ -2,3 +2,4 @@ pub mod Cross
 pub mod Forms
 pub mod Ranges
 pub mod Sound
+pub mod Prelude

@@ -4,7 +4,8 @@ use Rattle.std.proofs.lemmas.Fmt.{length-decimal-le}
 use Rattle.ipv4_frames.specs.Ipv4.{spelled_head, head_with}
 use Rattle.udp_icmp.specs.Udp.{sealed_udp}
 use Rattle.tcp_segments.specs.Options.{options_within}
-use Rattle.tcp_segments.specs.Tcp.{sealed_tcp, tcp_header_with, spelled_segment}
+use Rattle.tcp_segments.specs.Prelude.{spelled_segment}
+use Rattle.tcp_segments.specs.Tcp.{sealed_tcp, tcp_header_with}
 use Rattle.gate_workload.specs.declared.flow.Flow.{Flow}
 use Rattle.gate_workload.specs.Datagrams.{ip_model, udp_header, udp_datagram, tcp_model, tcp_datagram}
 use Rattle.gate_workload.specs.Payloads.{segment_size, port_line}

@@ -2,8 +2,7 @@
 use Rattle.std.proofs.Common.{◌≡◌, ℕ, zero, suc, ◌+◌, ◌*◌, ◌/◌, ◌%◌, ◌^◌, ◌<◌, ◌≤◌, ◌==◌, cond, List, [], ◌∷◌, ◌++◌, length, map, decimal, true, false, refl, sym, ap, ◌∙◌, append_assoc, append-nil, length-append, arith}
 use Rattle.std.proofs.lemmas.Fmt.{length-decimal-le}
 use Rattle.pcap_files.specs.declared.form.Order.TheVariants.{Little}
-use Rattle.pcap_files.specs.Capture.{Records, Whole}
-use Rattle.pcap_files.specs.Spelled.{Entry, spelled, all_spelled, packet_from, AreGood, IsCapture}
+use Rattle.pcap_files.specs.Prelude.{Records, Whole, Entry, spelled, all_spelled, packet_from, AreGood, IsCapture}
 use Rattle.gate_workload.specs.Captures.{capture_head, record_of, capture_form}
 use Rattle.gate_workload.specs.Datagrams.{udp_datagram, tcp_datagram}
 use Rattle.gate_workload.specs.Draws.{drawn}

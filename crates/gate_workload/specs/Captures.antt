@@ -4,7 +4,7 @@ use Rattle.gate_base.specs.declared.side.Link.TheVariants.{Raw}
 use Rattle.pcap_files.specs.declared.form.Form.{Form}
 use Rattle.pcap_files.specs.declared.form.Order.TheVariants.{Little}
 use Rattle.pcap_files.specs.declared.form.Precision.TheVariants.{Microseconds}
-use Rattle.pcap_files.specs.Spelling.{spelled_head, spelled_numbers}
+use Rattle.pcap_files.specs.Prelude.{spelled_head, spelled_numbers}
 
 -- the head of a capture: version 2.4, zone 0, accuracy 0, records of at most 262,144 octets
 abbrev pub capture_head : List ℕ

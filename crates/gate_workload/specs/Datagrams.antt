@@ -3,8 +3,7 @@ use Rattle.std.specs.Prelude.{◌≡◌, ℕ, ◌+◌, ◌*◌, ◌/◌, ◌%◌
 use Rattle.byteorder.specs.Endian.{big_bytes}
 use Rattle.ipv4_frames.specs.Ipv4.{Datagram, read_datagram}
 use Rattle.udp_icmp.specs.Udp.{sealed_udp, read_udp}
-use Rattle.tcp_segments.specs.Options.{are_options}
-use Rattle.tcp_segments.specs.Tcp.{spelled_segment, datagram_of}
+use Rattle.tcp_segments.specs.Prelude.{are_options, spelled_segment, datagram_of}
 use Rattle.gate_workload.specs.declared.flow.Flow.{Flow}
 
 -- an IPv4 header without options of this protocol, whose other fields are still to come

@@ -1,6 +1,6 @@
 -- A whole workload.
 use Rattle.std.specs.Prelude.{◌≡◌, ℕ, List, ◌++◌, codes}
-use Rattle.pcap_files.specs.Capture.{Good, Whole, head_of, capture_of}
+use Rattle.pcap_files.specs.Prelude.{Good, Whole, head_of, capture_of}
 use Rattle.gate_workload.specs.declared.workload.Workload.{Workload}
 use Rattle.gate_workload.specs.Captures.{capture_form}
 use Rattle.gate_workload.specs.Rounds.{made}

@@ -1,6 +1,6 @@
 // Datagrams with identification 0, DF, lifetime 64 and right sums.
 ghost use Rattle.std.specs.Prelude.{◌≡◌, ◌+◌, ◌*◌, ◌^◌, ◌<◌, ◌≤◌, [], ◌∷◌, ◌++◌, length, take, OnOk, IfOk};
-ghost use Rattle.gate_base.specs.Fields.{u16_at};
+ghost use Rattle.gate_base.specs.Prelude.{u16_at};
 ghost use Rattle.ipv4_frames.specs.Ipv4.{spelled_head};
 ghost use Rattle.udp_icmp.specs.Udp.{udp_sum_of, sealed_udp};
 ghost use Rattle.gate_workload.specs.Captures.{record_head, record_of};

@@ -18,12 +18,11 @@ use Rattle.gate_workload.specs.Captures.{capture_form}
 use Rattle.gate_workload.specs.Workloads.{settings, workload, IsWhole}
 use Rattle.gate_workload.proofs.Whole.{left_whole, right_whole}
 use Rattle.pcap_files.specs.declared.fault.CaptureFault.{CaptureFault}
-use Rattle.pcap_files.specs.Capture.{Packet, Ending as CaptureEnding, Whole, Fault as CaptureEndsFaulty, capture_of}
-use Rattle.pcap_merge.specs.Events.{Ending, Fault as EndsFaulty}
-use Rattle.pcap_merge.specs.Picks.{EndsBy}
+use Rattle.pcap_files.specs.Prelude.{Packet, Ending as CaptureEnding, Whole, Fault as CaptureEndsFaulty, capture_of}
+use Rattle.pcap_merge.specs.Prelude.{Ending, Fault as EndsFaulty, EndsBy}
 use Rattle.pcap_merge.proofs.Weave.{merges}
-use Rattle.gateway.specs.Making.{workload_in}
-use Rattle.run_setup.specs.Beginning.{events_in}
+use Rattle.gateway.specs.Prelude.{workload_in}
+use Rattle.run_setup.specs.Prelude.{events_in}
 
 abbrev zeros : List ℕ
 zeros = 0 ∷ 0 ∷ 0 ∷ 0 ∷ 0 ∷ 0 ∷ []

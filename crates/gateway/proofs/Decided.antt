@@ -8,15 +8,13 @@ use Rattle.settings_file.specs.Accepting.{settings_of}
 use Rattle.settings_file.specs.declared.fault.SettingsFault.{SettingsFault}
 use Rattle.gate_settings.specs.declared.settings.Settings.{Settings as GateSettings}
 use Rattle.pcap_files.specs.declared.fault.CaptureFault.{CaptureFault}
-use Rattle.pcap_merge.specs.Events.{Done as BothEnded, Fault as EndsFaulty}
+use Rattle.pcap_merge.specs.Prelude.{Done as BothEnded, Fault as EndsFaulty}
 use Rattle.run_setup.specs.declared.status.Status.{Status}
 use Rattle.run_setup.specs.declared.status.Status.TheVariants.{Done, Usage, SettingsRefused, CaptureRefused, ReadFault, WriteFault, OpenFault, OutOfMemory, Unlawful}
-use Rattle.run_setup.specs.Beginning.{IsAccepted, events_in}
-use Rattle.run_setup.specs.Decided.{NoneRose, IsUnlessMemory}
-use Rattle.run_setup.specs.RunNames.{Names}
+use Rattle.run_setup.specs.Prelude.{IsAccepted, events_in, NoneRose, IsUnlessMemory, Names}
 use Rattle.run_setup.proofs.Beginning.{at_told, no_fault, same_fault, no_end, same_end}
 use Rattle.gateway.specs.Decided.{IsRunOf}
-use Rattle.gateway.specs.Making.{IsMake}
+use Rattle.gateway.specs.Prelude.{IsMake}
 
 pub settings_decide : (all : PerSlot (List ℕ)) (status : Status) (names : Names) (old new : Outside) (fault : SettingsFault) → IsRunOf all status names old new → settings_of all.settings ≡ Err fault → IsUnlessMemory (SettingsRefused fault) status
 settings_decide all Done names old new fault h e = let v = at_told old.left all _ h.told h.run.ends.cause.0 in absurd (no_fault all v.0 fault v.1 e)

@@ -12,12 +12,9 @@ use Rattle.gate_workload.specs.declared.workload.Workload.{Workload}
 use Rattle.gate_workload.specs.Workloads.{workload}
 use Rattle.run_setup.specs.declared.status.Status.{Status}
 use Rattle.run_setup.specs.declared.status.Status.TheVariants.{Done, SettingsRefused, CaptureRefused, ReadFault, WriteFault, OpenFault, OutOfMemory}
-use Rattle.run_setup.specs.RunNames.{Names, make_starts}
-use Rattle.run_setup.specs.Causes.{StartsAll}
-use Rattle.gateway.specs.Causes.{WritesPieces}
-use Rattle.gateway.specs.Pieces.{wrote_pieces, WritesAll, IsFront}
-use Rattle.gateway.specs.Making.{workload_in, made_piece, IsLineOf, IsMake}
-use Rattle.gateway.specs.Answers.{Runs}
+use Rattle.run_setup.specs.Prelude.{Names, make_starts, StartsAll}
+use Rattle.gateway.specs.Prelude.{WritesPieces, wrote_pieces, WritesAll, IsFront, workload_in, IsLineOf, IsMake, Runs}
+use Rattle.gateway.specs.Making.{made_piece}
 use Rattle.gateway.proofs.Accepted.{never_refused, never_faulty}
 
 -- no count of a desk that discards rises

@@ -1,13 +1,12 @@
 -- What a run keeps of what is promised.
-use Rattle.std.proofs.Common.{◌≡◌, ℕ, ◌+◌, List, [], ◌∷◌, ◌++◌, length, true, Result, Ok, Some, None, inl, inr, refl, sym, ap, subst, ◌∙◌, append_assoc, arith}
-use Rattle.std.specs.Prelude.{IfSome}
-use Rattle.std.specs.List.{fold}
+use Rattle.std.proofs.Common.{◌≡◌, ℕ, ◌+◌, List, [], ◌∷◌, ◌++◌, length, true, Result, Ok, Some, None, inl, inr, refl, sym, ap, subst, ◌∙◌, append_assoc, arith, IfSome, fold}
 use Rattle.std.proofs.lemmas.Bool.{cases_Bool}
 use Rattle.std.proofs.lemmas.Option.{IfSome_then}
-use Rattle.gate_base.specs.Side.{other}
+use Rattle.gate_base.specs.Prelude.{other}
 use Rattle.gate_base.specs.declared.side.Side.{Side}
 use Rattle.gate_base.specs.declared.side.Side.TheVariants.{Left, Right}
-use Rattle.frag_join.specs.Arrivals.{Arrival, Reaches, Stopped, coming}
+use Rattle.frag_join.specs.Prelude.{Arrival, Reaches, Stopped}
+use Rattle.frag_join.specs.Arrivals.{coming}
 use Rattle.frag_join.proofs.ArrivalSteps.{arrivals_are}
 use Rattle.gate_desk.specs.declared.slot.PerSlot.{PerSlot}
 use Rattle.gate_desk.specs.declared.slot.Slot.TheVariants.{LeftIn, RightIn}
@@ -15,23 +14,18 @@ use Rattle.gate_desk.specs.Outside.{Outside, Trace}
 use Rattle.settings_file.specs.Accepting.{settings_of}
 use Rattle.gate_settings.specs.declared.settings.Settings.{Settings as GateSettings}
 use Rattle.settings_file.proofs.Accepted.{accepted as accepted_settings}
-use Rattle.pcap_files.specs.Capture.{Head, Good, Bad, head_of}
-use Rattle.pcap_merge.specs.Events.{Merged, Done as BothEnded, are_good, have_good_heads, events_of, by_heads}
-use Rattle.gate_model.specs.Rules.{whole_rules}
-use Rattle.gate_model.specs.Sessions.{WholeSession}
-use Rattle.gate_model.specs.Step.{next, out}
-use Rattle.gate_model.specs.Verdict.{verdict}
-use Rattle.gate_model.specs.World.{World}
+use Rattle.pcap_files.specs.Prelude.{Head, Good, Bad, head_of}
+use Rattle.pcap_merge.specs.Prelude.{Merged, Done as BothEnded, are_good, by_heads}
+use Rattle.pcap_merge.specs.Events.{have_good_heads, events_of}
+use Rattle.gate_model.specs.Prelude.{whole_rules, WholeSession, next, out, verdict, World}
 use Rattle.gate_model.proofs.Promises.{promised}
 use Rattle.run_setup.specs.declared.status.Status.{Status}
 use Rattle.run_setup.specs.declared.status.Status.TheVariants.{Done, CaptureRefused, ReadFault, WriteFault, OutOfMemory}
-use Rattle.run_setup.specs.RunNames.{Names}
-use Rattle.gateway.specs.Pieces.{Piece, IsFront, wrote_pieces}
-use Rattle.gateway.specs.Machine.{State, opening, after_one, after, arrivals_by, sent, event_piece, given_by, given_by_all, given_by_merged, ended_by, heads, files}
+use Rattle.run_setup.specs.Prelude.{Names, IsAccepted, events_in}
+use Rattle.gateway.specs.Prelude.{Piece, IsFront, wrote_pieces, State, opening, after_one, after, arrivals_by, sent, event_piece, given_by, given_by_all, ended_by, heads, files, Wants, outputs_of, IsRun, IsPromised}
+use Rattle.gateway.specs.Machine.{given_by_merged}
 use Rattle.gateway.specs.Promise.{promised_of, EachStands, KeepsPromise}
-use Rattle.run_setup.specs.Beginning.{IsAccepted, events_in}
-use Rattle.gateway.specs.Ends.{Wants, outputs_of}
-use Rattle.gateway.specs.Answers.{HasWritten, IsRun, IsPromised, StopsAtCapture, WantsMemory}
+use Rattle.gateway.specs.Answers.{HasWritten, StopsAtCapture, WantsMemory}
 use Rattle.gateway.proofs.Pieces.{is_front_none, is_front_all, is_front_more, is_front_on}
 use Rattle.gateway.proofs.Progress.{given_all-append, given_all-cons, front_of_first, front_of_line}
 use Rattle.gateway.proofs.Runs.{good_outputs, bad_outputs}

@@ -1,31 +1,24 @@
 -- What a run took of the captures.
 use Rattle.std.proofs.Common.{◌≡◌, inl, inr, List, [], ◌∷◌, Bool, Result, Ok, Err, Option, Some, None, IfSome, option_map, refl, sym, ap, subst, ◌∙◌}
 use Rattle.std.proofs.lemmas.Option.{IfSome_then}
-use Rattle.gate_base.specs.Events.{Event}
-use Rattle.frag_join.specs.Arrivals.{Arrival}
+use Rattle.gate_base.specs.Prelude.{Event}
+use Rattle.frag_join.specs.Prelude.{Arrival}
 use Rattle.gate_desk.specs.Outside.{Outside, Trace, Start, told_at}
 use Rattle.gate_report.specs.declared.line.Line.{Line}
 use Rattle.gate_settings.specs.declared.settings.Settings.{Settings as GateSettings}
 use Rattle.pcap_merge.specs.declared.stop.MergeStop.{MergeStop}
 use Rattle.pcap_merge.specs.declared.stop.MergeStop.TheVariants as merges
-use Rattle.pcap_merge.specs.Events.{Merged}
-use Rattle.pcap_merge.specs.Given.{TakenFor}
-use Rattle.pcap_merge.specs.Merge.{Merging, ComesTo, Finishes as FinishesMerge, Reads, StopsBy, TakesFew, ahead}
-use Rattle.pcap_merge.specs.Stops.{slot_of}
+use Rattle.pcap_merge.specs.Prelude.{Merged, TakenFor, Merging, ComesTo, Finishes as FinishesMerge, Reads, StopsBy, TakesFew, ahead, slot_of}
 use Rattle.pcap_merge.proofs.Given.{given_few, taken_later}
 use Rattle.gate_sessions.specs.Compact.{CompactSession, compact_rules}
 use Rattle.gate_core.specs.Gates.{Gateway}
 use Rattle.gate_report.specs.declared.totals.Totals.{Totals}
 use Rattle.run_setup.specs.declared.status.Status.{Status}
 use Rattle.run_setup.specs.declared.status.Status.TheVariants.{Done, Usage, SettingsRefused, CaptureRefused, ReadFault, WriteFault, OpenFault, OutOfMemory, Unlawful}
-use Rattle.gateway.specs.Answers.{TookForWritten}
-use Rattle.gateway.specs.Causes.{WritesPieces}
-use Rattle.run_setup.specs.RunNames.{Names, first_starts, output_starts}
-use Rattle.gateway.specs.Machine.{State, frames_of, heads, line_piece}
+use Rattle.gateway.specs.Prelude.{TookForWritten, WritesPieces, State, frames_of, heads, line_piece, Prepared, Readied, WritesLastLine, Handles, OfEvents, state_of, Piece, IsFront, wrote_pieces}
+use Rattle.run_setup.specs.Prelude.{Names, first_starts, output_starts, TookInputs}
 use Rattle.gateway.specs.Ends.{StandWritten}
-use Rattle.gateway.specs.Phases.{Prepared, Readied, TookFew, WritesLastLine, Handles, OfEvents, state_of}
-use Rattle.gateway.specs.Pieces.{Piece, IsFront, wrote_pieces}
-use Rattle.run_setup.specs.Beginning.{TookInputs}
+use Rattle.gateway.specs.Phases.{TookFew}
 use Rattle.run_setup.proofs.Inputs.{captures_later, captures_read, inputs_later, inputs_on}
 use Rattle.gateway.proofs.Pieces.{is_front_all, is_front_none, wrote_pieces-nil}
 use Rattle.gateway.proofs.Progress.{Progress, Joiner, with_front, given_first, given_kept, failed_only}

@@ -1,24 +1,18 @@
 -- What is kept of sessions gives what the sessions over whole lists give.
 use Rattle.std.proofs.Common.{◌≡◌, ℕ, ◌+◌, List, [], ◌∷◌, ◌++◌, length, refl, ap, ◌∙◌}
-use Rattle.gate_base.specs.Events.{Event}
-use Rattle.gate_base.specs.Side.{other}
-use Rattle.frag_join.specs.Arrivals.{Arrival, Reaches, Stopped}
+use Rattle.gate_base.specs.Prelude.{Event, other}
+use Rattle.frag_join.specs.Prelude.{Arrival, Reaches, Stopped}
 use Rattle.gate_base.specs.declared.event.Verdict.{Verdict}
 use Rattle.gate_settings.specs.declared.settings.Settings.{Settings as GateSettings}
-use Rattle.pcap_merge.specs.Events.{Ending, Done, Fault}
-use Rattle.gate_model.specs.Reading.{AreRelated}
-use Rattle.gate_model.specs.Rules.{whole_rules}
-use Rattle.gate_model.specs.Sessions.{WholeSession}
-use Rattle.gate_model.specs.Step.{out}
-use Rattle.gate_model.specs.Verdict.{verdict}
+use Rattle.pcap_merge.specs.Prelude.{Ending, Done, Fault}
+use Rattle.gate_model.specs.Prelude.{AreRelated, whole_rules, WholeSession, out, verdict}
 use Rattle.gate_model.proofs.Related.{related_verdict, related_out, related_next, opening_related}
 use Rattle.gate_sessions.specs.Compact.{CompactSession, compact_rules, StandsFor}
 use Rattle.gate_sessions.proofs.Agreed.{agreed, pending_related}
 use Rattle.gate_report.specs.declared.line.Line.{Line}
 use Rattle.gate_report.specs.declared.totals.Totals.{Totals}
-use Rattle.gateway.specs.Pieces.{Piece}
+use Rattle.gateway.specs.Prelude.{Piece, State, opening, after_one, after, sent, event_piece, frames_of, given_by, ended_by, line_piece, line_after}
 use Rattle.gate_report.specs.Counts.{counted, done_line}
-use Rattle.gateway.specs.Machine.{State, opening, after_one, after, sent, event_piece, frames_of, given_by, ended_by, line_piece, line_after}
 
 -- the world of what is kept stands for the other, and both are counted alike
 pub record AreAlike (v : State CompactSession) (w : State WholeSession) : Type 0 where

@@ -1,25 +1,21 @@
 -- How a run ends: the cause of each status, and what stands written then.
 use Rattle.std.specs.Prelude.{◌≡◌, ◌⊎◌, ℕ, List, [], ◌∷◌, ◌++◌, if◌then◌else◌, true, Err, IfSome}
-use Rattle.gate_base.specs.Events.{Event}
+use Rattle.gate_base.specs.Prelude.{Event}
 use Rattle.gate_desk.specs.declared.slot.Slot.TheVariants.{LeftIn, RightIn}
 use Rattle.gate_desk.specs.declared.slot.PerSlot.{PerSlot}
 use Rattle.gate_desk.specs.Outside.{Outside, Trace, Grows, NoneFailed, IsAtEnd}
 use Rattle.gate_settings.specs.declared.settings.Settings.{Settings as GateSettings}
 use Rattle.settings_file.specs.Accepting.{settings_of}
-use Rattle.pcap_merge.specs.Events.{Merged, Ending, Done as BothEnded, Fault as EndsFaulty, have_good_heads}
+use Rattle.pcap_merge.specs.Prelude.{Merged, Ending, Done as BothEnded, Fault as EndsFaulty, have_good_heads}
 use Rattle.run_setup.specs.declared.status.Status.{Status}
 use Rattle.run_setup.specs.declared.status.Status.TheVariants.{Done, Usage, SettingsRefused, CaptureRefused, ReadFault, WriteFault, OpenFault, OutOfMemory, Unlawful}
-use Rattle.run_setup.specs.Beginning.{IsAccepted, events_in}
+use Rattle.run_setup.specs.Prelude.{IsAccepted, events_in, Causes}
 use Rattle.gateway.specs.Pieces.{Piece, wrote_pieces, IsFront}
-use Rattle.run_setup.specs.Causes.{Causes}
 use Rattle.gate_core.specs.Memory.{MayWant}
-use Rattle.gate_model.specs.Rules.{whole_rules}
-use Rattle.gate_model.specs.World.{World, at_moment}
+use Rattle.gate_model.specs.Prelude.{whole_rules, World, at_moment}
 use Rattle.gate_sessions.specs.Compact.{CompactSession, compact_rules}
-use Rattle.frag_join.specs.Arrivals.{Reaches, arrival, joiner_of}
-use Rattle.frag_join.specs.Joining.{by_list}
+use Rattle.frag_join.specs.Prelude.{Reaches, arrival, joiner_of, by_list}
 use Rattle.gateway.specs.Machine.{after, arrivals_by, frames_of, given_by_all, files, opening}
-use Rattle.run_setup.specs.Beginning.{IsAccepted, events_in}
 
 -- the gate may want memory for an event
 abbrev pub MayWantAt : World CompactSession → Event → Type 0

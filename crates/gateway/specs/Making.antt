@@ -7,14 +7,12 @@ use Rattle.gate_desk.specs.Outside.{Outside, Grows, NoneFailed, HasFailed, HasFa
 use Rattle.gate_settings.specs.declared.settings.Settings.{Settings as GateSettings}
 use Rattle.gate_report.specs.declared.line.Line.{Line}
 use Rattle.gate_workload.specs.Workloads.{workload}
-use Rattle.pcap_merge.specs.Events.{Done as BothEnded}
+use Rattle.pcap_merge.specs.Prelude.{Done as BothEnded}
 use Rattle.run_setup.specs.declared.status.Status.{Status}
 use Rattle.run_setup.specs.declared.status.Status.TheVariants.{Done, WriteFault, OpenFault, OutOfMemory}
-use Rattle.run_setup.specs.RunNames.{make_starts}
-use Rattle.run_setup.specs.Causes.{started_all}
+use Rattle.run_setup.specs.Prelude.{make_starts, started_all, IsAccepted, events_in}
 use Rattle.gateway.specs.Pieces.{Piece, wrote_pieces, IsFront}
 use Rattle.gateway.specs.Machine.{line_piece, line_of}
-use Rattle.run_setup.specs.Beginning.{IsAccepted, events_in}
 
 -- the workload, as a run reads it
 abbrev pub workload_in : ℕ → ℕ → PerSlot (List ℕ)

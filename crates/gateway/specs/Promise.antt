@@ -1,14 +1,11 @@
 -- Where the frames and the line of each event stand in what a run writes.
 use Rattle.std.specs.Prelude.{◌≡◌, ◌+◌, List, [], ◌∷◌, ◌++◌, length}
-use Rattle.gate_base.specs.Side.{other}
+use Rattle.gate_base.specs.Prelude.{other}
 use Rattle.gate_settings.specs.declared.settings.Settings.{Settings}
-use Rattle.frag_join.specs.Arrivals.{Arrival, ArrivalsAre, Reaches, Stopped, coming}
+use Rattle.frag_join.specs.Prelude.{Arrival, ArrivalsAre, Reaches, Stopped, coming}
 use Rattle.gate_desk.specs.Outside.{Trace}
-use Rattle.pcap_merge.specs.Events.{Merged}
-use Rattle.gate_model.specs.Promise.{Promised, known_after}
-use Rattle.gate_model.specs.Rules.{whole_rules}
-use Rattle.gate_model.specs.Step.{out}
-use Rattle.gate_model.specs.Verdict.{verdict}
+use Rattle.pcap_merge.specs.Prelude.{Merged}
+use Rattle.gate_model.specs.Prelude.{Promised, known_after, whole_rules, out, verdict}
 use Rattle.gateway.specs.Pieces.{Piece, IsFront, wrote_pieces}
 use Rattle.gateway.specs.Machine.{arrivals_by, opening, sent, event_piece, given_by_all, given_by_merged, files}
 use Rattle.run_setup.specs.declared.status.Status.{Status}

@@ -1,11 +1,9 @@
 // One frame: it is judged, and what it gives is written.
 ghost use Rattle.std.specs.Prelude.{◌≡◌, ◌<◌, ◌≤◌, ◌^◌, ◌++◌, [], ◌∷◌, length, IfSome, IsSome};
-ghost use Rattle.gate_base.specs.Moments.{IsMoment};
-ghost use Rattle.gate_base.specs.Events.{event_of};
+ghost use Rattle.gate_base.specs.Prelude.{IsMoment, event_of};
 ghost use Rattle.gate_desk.specs.declared.slot.Slot.TheVariants.{LeftOut, RightOut, Report};
 ghost use Rattle.gate_desk.specs.Outside.{CanWrite};
-ghost use Rattle.frag_join.specs.Arrivals.{Reaches, Stopped, arrival, joiner_after, joined_in};
-ghost use Rattle.frag_join.specs.Joining.{by_known};
+ghost use Rattle.frag_join.specs.Prelude.{Reaches, Stopped, arrival, joiner_after, joined_in, by_known};
 ghost use Rattle.ether_frames.specs.Ether.{ipv4_head};
 ghost use Rattle.gateway.specs.Machine.{out_slot, frame_piece, sent};
 ghost use Rattle.gateway.specs.Causes.{WritesPieces};
@@ -21,7 +19,6 @@ use gate_report::Line;
 use gate_settings::{Settings, SideSettings};
 use pcap_files::write_packet;
 use run_setup::Status;
-use std::alloc::Global;
 
 /// The octets of an Ethernet head.
 const HEAD: usize = 14;
@@ -116,7 +113,6 @@ fn send_all<D: Desk>(
 /// Takes an event that comes to the gate: its frame goes on, if it passes, then its line is written, and it is counted.
 #[inline(always)]
 fn handle<D: Desk>(
-    alloc: Global,
     desk: &mut D,
     gate: &mut Gate,
     outbox: &mut Outbox,
@@ -144,7 +140,13 @@ fn handle<D: Desk>(
         verdict,
         frames,
     };
-    put_line(alloc, desk, &mut reporter.room, settings.json, &line)?;
+    put_line(
+        reporter.alloc,
+        desk,
+        &mut reporter.room,
+        settings.json,
+        &line,
+    )?;
     reporter.totals = reporter.totals.count(event.side, verdict, frames);
     Ok(())
 }
@@ -152,7 +154,6 @@ fn handle<D: Desk>(
 /// Takes a frame that doesn't come to the gate: its line is written, and it is counted.
 #[inline(never)]
 fn leave<D: Desk>(
-    alloc: Global,
     desk: &mut D,
     gate: &Gate,
     reporter: &mut Reporter,
@@ -173,7 +174,13 @@ fn leave<D: Desk>(
         verdict,
         frames: 0,
     };
-    put_line(alloc, desk, &mut reporter.room, gate.settings().json, &line)?;
+    put_line(
+        reporter.alloc,
+        desk,
+        &mut reporter.room,
+        gate.settings().json,
+        &line,
+    )?;
     reporter.totals = reporter.totals.count(event.side, verdict, 0);
     Ok(())
 }
@@ -181,7 +188,6 @@ fn leave<D: Desk>(
 /// Takes the datagram that the last frame completed, as an event that comes to the gate.
 #[inline(never)]
 fn handle_joined<D: Desk>(
-    alloc: Global,
     desk: &mut D,
     joiner: &Option<Joiner>,
     gate: &mut Gate,
@@ -199,12 +205,11 @@ fn handle_joined<D: Desk>(
         (counting reporter.new.totals result) gate.old gate.new reporter.old.totals
         (Reaches e) (D.outside desk.old) (D.outside desk.new)) }
 {
-    handle(alloc, desk, gate, outbox, reporter, joined(joiner))
+    handle(desk, gate, outbox, reporter, joined(joiner))
 }
 
 /// Takes a frame: it comes to the gate as it is, or as the datagram that it completes, or its line alone is written.
 pub fn take<D: Desk>(
-    alloc: Global,
     desk: &mut D,
     joiner: &mut Option<Joiner>,
     gate: &mut Gate,
@@ -225,12 +230,12 @@ pub fn take<D: Desk>(
         ≡ joiner_after by_known joiner.old (event_of event.entry) }
 {
     match ask(joiner, &event) {
-        Taken::Plain => handle(alloc, desk, gate, outbox, reporter, event),
-        Taken::Joined => handle_joined(alloc, desk, joiner, gate, outbox, reporter),
-        Taken::Held => leave(alloc, desk, gate, reporter, event, Verdict::Held),
+        Taken::Plain => handle(desk, gate, outbox, reporter, event),
+        Taken::Joined => handle_joined(desk, joiner, gate, outbox, reporter),
+        Taken::Held => leave(desk, gate, reporter, event, Verdict::Held),
         Taken::Refused(refusal) => {
             let verdict = Verdict::Refused(refusal);
-            leave(alloc, desk, gate, reporter, event, verdict)
+            leave(desk, gate, reporter, event, verdict)
         }
     }
 }

@@ -2,9 +2,9 @@
 ghost use Rattle.std.specs.Prelude.{◌≡◌, ◌≤◌, ◌^◌, None, length};
 ghost use Rattle.gate_desk.specs.declared.slot.Slot.TheVariants.{LeftIn, RightIn, LeftOut, RightOut, Report};
 ghost use Rattle.gate_desk.specs.Outside.{CanRead, CanWrite, Grows};
-ghost use Rattle.pcap_merge.specs.Merge.{work, AtEnds};
-ghost use Rattle.frag_join.specs.Arrivals.{opened};
-ghost use Rattle.gate_model.specs.World.{opening_world};
+ghost use Rattle.pcap_merge.specs.Prelude.{work, AtEnds};
+ghost use Rattle.frag_join.specs.Prelude.{opened};
+ghost use Rattle.gate_model.specs.Prelude.{opening_world};
 ghost use Rattle.gateway.specs.Phases.{Forwards, WritesLastLine, TookFew};
 
 use crate::event::take;
@@ -63,6 +63,7 @@ pub fn forward<D: Desk>(
     ensures counts { Grows (D.outside desk.old) (D.outside desk.new) }
 {
     let mut reporter = Reporter {
+        alloc,
         totals: Totals {
             events: 0,
             passed: 0,
@@ -78,14 +79,6 @@ pub fn forward<D: Desk>(
             let line = reporter.totals.last_line(gate.pending());
             return finish(alloc, desk, &mut reporter.room, gate.settings().json, line);
         }
-        take(
-            alloc,
-            desk,
-            joiner,
-            gate,
-            outbox,
-            &mut reporter,
-            merge.event(),
-        )?;
+        take(desk, joiner, gate, outbox, &mut reporter, merge.event())?;
     }
 }

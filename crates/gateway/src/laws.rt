@@ -7,12 +7,10 @@ ghost use Rattle.settings_file.specs.Accepting.{settings_of};
 ghost use Rattle.settings_file.specs.declared.fault.SettingsFault.{SettingsFault};
 ghost use Rattle.gate_settings.specs.declared.settings.Settings.{Settings as GateSettings};
 ghost use Rattle.pcap_files.specs.declared.fault.CaptureFault.{CaptureFault};
-ghost use Rattle.pcap_merge.specs.Events.{Done as BothEnded, Fault as EndsFaulty};
+ghost use Rattle.pcap_merge.specs.Prelude.{Done as BothEnded, Fault as EndsFaulty};
 ghost use Rattle.run_setup.specs.declared.status.Status.{Status};
 ghost use Rattle.run_setup.specs.declared.status.Status.TheVariants.{Done, SettingsRefused, CaptureRefused};
-ghost use Rattle.run_setup.specs.Beginning.{IsAccepted, events_in};
-ghost use Rattle.run_setup.specs.Decided.{NoneRose, IsUnlessMemory};
-ghost use Rattle.run_setup.specs.RunNames.{Names};
+ghost use Rattle.run_setup.specs.Prelude.{IsAccepted, events_in, NoneRose, IsUnlessMemory, Names};
 ghost use Rattle.gateway.specs.Decided.{IsRunOf};
 ghost use Rattle.gateway.specs.Making.{IsMake};
 

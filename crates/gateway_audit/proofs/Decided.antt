@@ -1,6 +1,6 @@
 -- Where no count rose, the files decide the status of an audit, but for want of memory.
 use Rattle.std.proofs.Common.{◌≡◌, ℕ, List, true, Err, inl, inr, refl, ◌∙◌, ap, subst}
-use Rattle.frag_join.specs.Arrivals.{arrivals_of}
+use Rattle.frag_join.specs.Prelude.{arrivals_of}
 use Rattle.gate_base.specs.declared.side.Side.{Side}
 use Rattle.gate_desk.specs.declared.slot.PerSlot.{PerSlot}
 use Rattle.gate_desk.specs.Outside.{Outside}
@@ -8,15 +8,14 @@ use Rattle.settings_file.specs.Accepting.{settings_of}
 use Rattle.settings_file.specs.declared.fault.SettingsFault.{SettingsFault}
 use Rattle.gate_settings.specs.declared.settings.Settings.{Settings as GateSettings}
 use Rattle.pcap_files.specs.declared.fault.CaptureFault.{CaptureFault}
-use Rattle.pcap_merge.specs.Events.{Done as BothEnded, Fault as EndsFaulty, have_good_heads}
+use Rattle.pcap_merge.specs.Prelude.{Done as BothEnded, Fault as EndsFaulty, have_good_heads}
 use Rattle.lawful_files.specs.declared.reason.AuditReason.{AuditReason}
 use Rattle.lawful_files.proofs.ReasonsApart.{no_reason, one_reason}
 use Rattle.run_setup.specs.declared.status.Status.{Status}
 use Rattle.run_setup.specs.declared.status.Status.TheVariants.{Done, Usage, SettingsRefused, CaptureRefused, ReadFault, WriteFault, OpenFault, OutOfMemory, Unlawful}
 use Rattle.run_setup.specs.AuditNames.{Names}
-use Rattle.run_setup.specs.Beginning.{IsAccepted, events_in}
+use Rattle.run_setup.specs.Prelude.{IsAccepted, events_in, IsUnlessMemory}
 use Rattle.gateway_audit.specs.Causes.{AreLawful, IsFirstReason}
-use Rattle.run_setup.specs.Decided.{IsUnlessMemory}
 use Rattle.run_setup.proofs.Beginning.{at_told, no_fault, same_fault, no_end, same_end}
 use Rattle.gateway_audit.specs.Decided.{IsAuditOf}
 

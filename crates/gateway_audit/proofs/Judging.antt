@@ -1,8 +1,7 @@
 -- A whole audit, by its parts.
-use Rattle.std.proofs.Common.{◌≡◌, ◌+◌, ◌++◌, ℕ, List, [], true, Option, Some, None, Result, Ok, Err, IfSome, OnOk, option_map, take, length, inl, inr, refl, sym, ap, subst, ◌∙◌}
-use Rattle.std.specs.Prelude.{◌⊎◌}
+use Rattle.std.proofs.Common.{◌≡◌, ◌+◌, ◌++◌, ℕ, List, [], true, Option, Some, None, Result, Ok, Err, IfSome, OnOk, option_map, take, length, inl, inr, refl, sym, ap, subst, ◌∙◌, ◌⊎◌}
 use Rattle.std.proofs.lemmas.Option.{IfSome_then}
-use Rattle.gate_base.specs.Events.{Event}
+use Rattle.gate_base.specs.Prelude.{Event}
 use Rattle.gate_base.specs.declared.side.Side.{Side}
 use Rattle.gate_base.specs.declared.side.Side.TheVariants.{Left, Right}
 use Rattle.gate_desk.specs.declared.slot.Slot.{Slot}
@@ -12,16 +11,13 @@ use Rattle.gate_desk.specs.declared.slot.Access.TheVariants.{Read}
 use Rattle.gate_desk.specs.Outside.{Outside, Trace, Grows, NoneFailed, IsAtEnd, HasFailed, Writes, WritesPart, took, told_at, wrote}
 use Rattle.gate_desk.proofs.Laws.{grows_on, none_failed_on, grows_writes, failed_since, failed_to_start_since, took-none}
 use Rattle.gate_settings.specs.declared.settings.Settings.{Settings as GateSettings}
-use Rattle.frag_join.specs.Arrivals.{arrivals_of}
-use Rattle.pcap_merge.specs.Events.{Merged, Done as BothEnded, Fault as EndsFaulty, have_good_heads}
-use Rattle.pcap_merge.specs.Given.{TakenFor}
-use Rattle.pcap_merge.specs.Merge.{Merging, all_events, ahead}
-use Rattle.pcap_merge.specs.Stops.{slot_of}
+use Rattle.frag_join.specs.Prelude.{arrivals_of}
+use Rattle.pcap_merge.specs.Prelude.{Merged, Done as BothEnded, Fault as EndsFaulty, have_good_heads, TakenFor, Merging, ahead, slot_of}
+use Rattle.pcap_merge.specs.Merge.{all_events}
 use Rattle.pcap_merge.proofs.Given.{given_few, taken_later}
 use Rattle.pcap_merge.proofs.Steps.{both as with_some}
 use Rattle.lawful_files.specs.declared.reason.AuditReason.TheVariants.{Capture}
-use Rattle.lawful_files.specs.Files.{Given, HasLink, LawfulFrom, opening}
-use Rattle.lawful_files.specs.Reasons.{IsFirst}
+use Rattle.lawful_files.specs.Prelude.{Given, HasLink, LawfulFrom, opening, IsFirst}
 use Rattle.file_audit.specs.declared.given.GivenFiles.{GivenFiles}
 use Rattle.file_audit.specs.declared.stop.AuditStop.{AuditStop}
 use Rattle.file_audit.specs.declared.stop.AuditStop.TheVariants as stops
@@ -34,14 +30,13 @@ use Rattle.file_audit.proofs.Files.{files_given, files_later, files_more, files_
 use Rattle.file_audit.proofs.Walked.{ahead_kept}
 use Rattle.run_setup.specs.declared.status.Status.{Status}
 use Rattle.run_setup.specs.declared.status.Status.TheVariants.{CaptureRefused, ReadFault, WriteFault, OpenFault, OutOfMemory}
-use Rattle.run_setup.specs.Beginning.{IsAccepted, TookInputs, events_in}
-use Rattle.run_setup.specs.Causes.{started_all}
+use Rattle.run_setup.specs.Prelude.{IsAccepted, TookInputs, events_in, started_all, given_starts, plan}
 use Rattle.run_setup.proofs.Causes.{all_on, before_on, access_of}
 use Rattle.run_setup.proofs.Beginning.{told_heads}
 use Rattle.gateway_audit.specs.declared.verdict.AuditVerdict.{AuditVerdict}
 use Rattle.gateway_audit.specs.declared.verdict.AuditVerdict.TheVariants.{Lawful, Unlawful}
 use Rattle.gateway_audit.specs.Stops.{verdict_of}
-use Rattle.run_setup.specs.AuditNames.{Names, first_starts, given_starts, plan}
+use Rattle.run_setup.specs.AuditNames.{Names, first_starts}
 use Rattle.gateway_audit.specs.Lines.{answer_line}
 use Rattle.gateway_audit.specs.Causes.{AreLawful, IsRead, IsVerdict, MayHaveWanted}
 use Rattle.gateway_audit.specs.Audits.{IsAudit, HasStartedToRead, HasAnswered, TookForEvents, TookRead, refused_starts}

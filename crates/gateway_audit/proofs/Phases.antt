@@ -7,20 +7,16 @@ use Rattle.gate_desk.specs.declared.slot.Slot.TheVariants.{LeftIn, RightIn, Left
 use Rattle.gate_desk.specs.Outside.{Outside, Trace, Start, took, told_at}
 use Rattle.gate_desk.proofs.Laws.{grows_on, none_failed_on, failed_since, failed_to_start_since}
 use Rattle.gate_settings.specs.declared.settings.Settings.{Settings as GateSettings}
-use Rattle.pcap_merge.specs.Events.{Merged, Fault as EndsFaulty, have_good_heads}
-use Rattle.pcap_merge.specs.Merge.{Merging, HeadsAre, all_events}
-use Rattle.pcap_merge.specs.Given.{TakenFor}
-use Rattle.pcap_merge.specs.Stops.{slot_of}
+use Rattle.pcap_merge.specs.Prelude.{Merged, Fault as EndsFaulty, have_good_heads, Merging, HeadsAre, all_events, TakenFor, slot_of}
 use Rattle.file_audit.specs.declared.given.GivenFiles.{GivenFiles}
 use Rattle.file_audit.specs.Given.{ReadsGiven, given_told}
 use Rattle.file_audit.proofs.Wanting.{incoming_kept}
 use Rattle.run_setup.specs.declared.status.Status.{Status}
 use Rattle.run_setup.specs.declared.status.Status.TheVariants.{SettingsRefused, CaptureRefused, ReadFault, OpenFault, OutOfMemory}
-use Rattle.run_setup.specs.Beginning.{IsAccepted, events_in, settings_start, inputs_start, Settled, EndsAtSettings, Begun, EndsAtHeads}
-use Rattle.run_setup.specs.Causes.{started_all, StartsAll, Stops, Opens}
+use Rattle.run_setup.specs.Prelude.{IsAccepted, events_in, settings_start, inputs_start, Settled, EndsAtSettings, Begun, EndsAtHeads, started_all, StartsAll, Stops, Opens, given_starts, answer_start}
 use Rattle.run_setup.proofs.Causes.{all_on, before_more, before_on}
 use Rattle.run_setup.proofs.Beginning.{all_events-took_settings, heads_before, accepted_and, given_since, settled_stops, told_before, told_heads}
-use Rattle.run_setup.specs.AuditNames.{Names, first_starts, given_starts, answer_start}
+use Rattle.run_setup.specs.AuditNames.{Names, first_starts}
 use Rattle.gateway_audit.specs.Causes.{AreLawful}
 use Rattle.gateway_audit.specs.Audits.{IsAudit, refused_starts}
 use Rattle.gateway_audit.specs.Phases.{Prepared, HaveLinks, HeadsGiven, Begins, Readied, StopsAtGiven, given_in}

@@ -1,22 +1,20 @@
 -- The cause of each status of an audit, by what the desk tells of its files as it begins.
 use Rattle.std.specs.Prelude.{◌≡◌, ◌⊎◌, ℕ, List, [], true, IfSome, IsTrue, Err, length}
-use Rattle.frag_join.specs.Arrivals.{arrivals_of}
+use Rattle.frag_join.specs.Prelude.{arrivals_of}
 use Rattle.gate_desk.specs.declared.slot.Slot.{Slot}
 use Rattle.gate_desk.specs.declared.slot.Slot.TheVariants.{Settings, LeftIn, RightIn, LeftGiven, RightGiven, ReportGiven, Report}
 use Rattle.gate_desk.specs.declared.slot.PerSlot.{PerSlot}
 use Rattle.gate_desk.specs.Outside.{Outside, NoneFailed, IsAtEnd, HasFailed, HasFailedToStart}
 use Rattle.gate_settings.specs.declared.settings.Settings.{Settings as GateSettings}
 use Rattle.settings_file.specs.Accepting.{settings_of}
-use Rattle.pcap_merge.specs.Events.{Done as BothEnded, Fault as EndsFaulty, have_good_heads}
-use Rattle.pcap_merge.specs.Given.{TakenFor}
+use Rattle.pcap_merge.specs.Prelude.{Done as BothEnded, Fault as EndsFaulty, have_good_heads, TakenFor}
 use Rattle.lawful_files.specs.declared.reason.AuditReason.{AuditReason}
-use Rattle.lawful_files.specs.Files.{LawfulFor, given_of}
+use Rattle.lawful_files.specs.Prelude.{LawfulFor, given_of}
 use Rattle.file_audit.specs.Events.{WantsAt}
 use Rattle.lawful_files.specs.Reasons.{FirstReason}
 use Rattle.run_setup.specs.declared.status.Status.{Status}
 use Rattle.run_setup.specs.declared.status.Status.TheVariants.{Done, Usage, SettingsRefused, CaptureRefused, ReadFault, WriteFault, OpenFault, OutOfMemory, Unlawful}
-use Rattle.run_setup.specs.Beginning.{IsAccepted, events_in}
-use Rattle.run_setup.specs.Causes.{is_started}
+use Rattle.run_setup.specs.Prelude.{IsAccepted, events_in, is_started}
 use Rattle.gateway_audit.specs.declared.verdict.AuditVerdict.{AuditVerdict}
 use Rattle.gateway_audit.specs.declared.verdict.AuditVerdict.TheVariants as verdicts
 

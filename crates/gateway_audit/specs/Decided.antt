@@ -4,7 +4,7 @@ use Rattle.gate_desk.specs.declared.slot.PerSlot.{PerSlot}
 use Rattle.gate_desk.specs.Outside.{Outside}
 use Rattle.run_setup.specs.declared.status.Status.{Status}
 use Rattle.run_setup.specs.AuditNames.{Names}
-use Rattle.run_setup.specs.Decided.{NoneRose}
+use Rattle.run_setup.specs.Prelude.{NoneRose}
 use Rattle.gateway_audit.specs.Audits.{IsAudit}
 
 -- an audit ended so over a desk that told these octets as it began, and no count rose

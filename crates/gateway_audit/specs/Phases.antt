@@ -6,22 +6,19 @@ use Rattle.gate_desk.specs.declared.slot.PerSlot.{PerSlot}
 use Rattle.gate_desk.specs.Outside.{Outside, Grows, NoneFailed, IsAtEnd, CanRead, HasFailed, HasFailedToStart, Writes, WritesPart, took, told_at}
 use Rattle.gate_report.specs.Counts.{nothing_counted}
 use Rattle.gate_settings.specs.declared.settings.Settings.{Settings as GateSettings}
-use Rattle.gate_settings.specs.Sound.{IsSound}
-use Rattle.gate_settings.specs.Forms.{HasForms}
-use Rattle.pcap_merge.specs.Merge.{Merging, HasGiven, HeadsAre, all_events, ahead, work, AtEnds}
-use Rattle.pcap_merge.specs.Stops.{slot_of}
-use Rattle.lawful_files.specs.Files.{Given, HasLink, given_of}
+use Rattle.gate_settings.specs.Prelude.{IsSound, HasForms}
+use Rattle.pcap_merge.specs.Prelude.{Merging, HasGiven, HeadsAre, all_events, ahead, work, AtEnds, slot_of}
+use Rattle.lawful_files.specs.Prelude.{Given, HasLink, given_of}
 use Rattle.file_audit.specs.declared.given.GivenFiles.{GivenFiles}
 use Rattle.file_audit.specs.declared.stop.AuditStop.TheVariants as stops
 use Rattle.file_audit.specs.Events.{Finds}
 use Rattle.file_audit.specs.Given.{Fits, IsRunning, given_slot, given_told}
 use Rattle.run_setup.specs.declared.status.Status.{Status}
 use Rattle.run_setup.specs.declared.status.Status.TheVariants.{Done, CaptureRefused, ReadFault, WriteFault, OpenFault, OutOfMemory, Unlawful}
-use Rattle.run_setup.specs.Beginning.{IsAccepted}
-use Rattle.run_setup.specs.Causes.{started_all, StartsBefore, is_started}
+use Rattle.run_setup.specs.Prelude.{IsAccepted, started_all, StartsBefore, is_started, given_starts, answer_start, plan}
 use Rattle.gateway_audit.specs.declared.verdict.AuditVerdict.{AuditVerdict}
 use Rattle.gateway_audit.specs.declared.verdict.AuditVerdict.TheVariants as verdicts
-use Rattle.run_setup.specs.AuditNames.{Names, first_starts, given_starts, answer_start, plan}
+use Rattle.run_setup.specs.AuditNames.{Names, first_starts}
 use Rattle.gateway_audit.specs.Lines.{answer_line}
 use Rattle.gateway_audit.specs.Causes.{IsVerdict}
 use Rattle.gateway_audit.specs.Audits.{IsAudit}

@@ -7,14 +7,13 @@ ghost use Rattle.settings_file.specs.Accepting.{settings_of};
 ghost use Rattle.settings_file.specs.declared.fault.SettingsFault.{SettingsFault};
 ghost use Rattle.gate_settings.specs.declared.settings.Settings.{Settings};
 ghost use Rattle.pcap_files.specs.declared.fault.CaptureFault.{CaptureFault};
-ghost use Rattle.pcap_merge.specs.Events.{Done as BothEnded, Fault as EndsFaulty, have_good_heads};
+ghost use Rattle.pcap_merge.specs.Prelude.{Done as BothEnded, Fault as EndsFaulty, have_good_heads};
 ghost use Rattle.lawful_files.specs.declared.reason.AuditReason.{AuditReason};
 ghost use Rattle.run_setup.specs.declared.status.Status.{Status};
 ghost use Rattle.run_setup.specs.declared.status.Status.TheVariants.{Done, SettingsRefused, CaptureRefused, Unlawful};
 ghost use Rattle.run_setup.specs.AuditNames.{Names};
-ghost use Rattle.run_setup.specs.Beginning.{IsAccepted, events_in};
+ghost use Rattle.run_setup.specs.Prelude.{IsAccepted, events_in, IsUnlessMemory};
 ghost use Rattle.gateway_audit.specs.Causes.{AreLawful, IsFirstReason};
-ghost use Rattle.run_setup.specs.Decided.{IsUnlessMemory};
 ghost use Rattle.gateway_audit.specs.Decided.{IsAuditOf};
 
 /// Where no count rose, the files decide the status of an audit, but for want of memory. It is done exactly where both incoming

@@ -1,6 +1,6 @@
 -- The front of a datagram inside an ICMP error (RFC 792).
 use Rattle.std.specs.Prelude.{ℕ, ◌/◌, ◌%◌, ◌^◌, Bool, ◌&&◌, ◌==◌, nat_le, if◌then◌else◌, List, take, length, slice_index, Option, Some, None, unwrap_or, Result, Ok, Err}
-use Rattle.gate_base.specs.Fields.{u16_at, u32_at, with_u16, with_u32}
+use Rattle.gate_base.specs.Prelude.{u16_at, u32_at, with_u16, with_u32}
 use Rattle.inet_sum.specs.Sum.{checksum}
 use Rattle.icmp_errors.specs.declared.BadInner.{BadInner}
 use Rattle.icmp_errors.specs.declared.Inner.{Inner}

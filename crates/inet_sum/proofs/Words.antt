@@ -1,10 +1,9 @@
 -- The sums of joined octets.
-use Rattle.std.proofs.Common.{◌==◌, take, append_assoc, length-append, length-drop, zero, suc, get_or, drop, ◌≡◌, ℕ, ◌+◌, ◌-◌, ◌*◌, ◌/◌, ◌%◌, ◌^◌, ◌<◌, ◌≤◌, List, [], ◌∷◌, ◌++◌, length, sum, refl, ap, ◌∙◌, sym, arith}
+use Rattle.std.proofs.Common.{◌==◌, take, append_assoc, length-append, length-drop, zero, suc, get_or, drop, ◌≡◌, ℕ, ◌+◌, ◌-◌, ◌*◌, ◌/◌, ◌%◌, ◌^◌, ◌<◌, ◌≤◌, List, [], ◌∷◌, ◌++◌, length, sum, refl, ap, ◌∙◌, sym, arith, take-append-drop, drop-drop, length-take-le}
 use Rattle.std.proofs.lemmas.Bool.Decides.{nat_tests}
 use Rattle.std.proofs.lemmas.List.Sums.{sum_by-append, sum_by-cons}
-use Rattle.std.proofs.lemmas.List.{take-append-drop, drop-drop, length-take-le}
 use Rattle.byteorder.specs.Endian.{big_number, big_bytes, little_number, little_from}
-use Rattle.gate_base.specs.Fields.{u16_at, with_u16}
+use Rattle.gate_base.specs.Prelude.{u16_at, with_u16}
 use Rattle.inet_sum.specs.Sum.{is_right, checksum, IsRight, pseudo_header, words, total, fold_of}
 
 pub total_pair : (high low : ℕ) (rest : List ℕ) → total (high ∷ low ∷ rest) ≡ (high * 256 + low) + total rest

@@ -2,7 +2,7 @@
 #![tactic(auto)]
 
 ghost use Rattle.std.specs.Prelude.{◌≡◌, ◌==◌, ◌+◌, ◌*◌, ◌/◌, ◌%◌, ◌^◌, ◌<◌, ◌≤◌, ◌++◌, length, IsPermutation};
-ghost use Rattle.gate_base.specs.Fields.{u16_at, with_u16};
+ghost use Rattle.gate_base.specs.Prelude.{u16_at, with_u16};
 ghost use Rattle.inet_sum.specs.Sum.{words, total, fold_of, checksum, IsRight, is_right, pseudo_header};
 
 use byteorder::{ByteOrder, LittleEndian};

@@ -1,8 +1,7 @@
 -- Headers that were written, and how they read back.
-use Rattle.std.proofs.Common.{◌≡◌, ℕ, ◌+◌, ◌*◌, ◌/◌, ◌%◌, ◌^◌, ◌<◌, ◌≤◌, List, [], ◌∷◌, ◌++◌, length, take, drop, slice_index, slice_range, true, false, Ok, refl, ap, ◌∙◌, sym, subst, arith}
+use Rattle.std.proofs.Common.{◌≡◌, ℕ, ◌+◌, ◌*◌, ◌/◌, ◌%◌, ◌^◌, ◌<◌, ◌≤◌, List, [], ◌∷◌, ◌++◌, length, take, drop, slice_index, slice_range, true, false, Ok, refl, ap, ◌∙◌, sym, subst, arith, ◌==◌, ◌-◌, not, Result, length-append, length-drop, eq-eqb}
 use Rattle.std.proofs.lemmas.Bool.Decides.{nat_tests}
-use Rattle.gate_base.specs.Fields.{u16_at, u32_at}
-use Rattle.std.proofs.Common.{◌==◌, ◌-◌, not, Result, length-append, length-drop, eq-eqb}
+use Rattle.gate_base.specs.Prelude.{u16_at, u32_at}
 use Rattle.std.proofs.Math.ListN.{get_or-append}
 use Rattle.std.proofs.lemmas.List.{take_at, drop_at, drop_all, drop-append-le}
 use Rattle.std.proofs.Math.Seq.{take-length}

@@ -1,6 +1,6 @@
 -- IPv4 datagrams (RFC 791, 3.1).
 use Rattle.std.specs.Prelude.{◌≡◌, ℕ, ◌*◌, ◌/◌, ◌%◌, ◌^◌, Bool, not, ◌||◌, ◌==◌, nat_lt, List, [], ◌∷◌, take, length, slice_index, slice_range, slice_set, Result}
-use Rattle.gate_base.specs.Fields.{u16_at, u32_at, with_u16, with_u32}
+use Rattle.gate_base.specs.Prelude.{u16_at, u32_at, with_u16, with_u32}
 use Rattle.inet_sum.specs.Sum.{is_right, checksum}
 use Rattle.ipv4_frames.specs.declared.fault.IpFault.{IpFault}
 use Rattle.ipv4_frames.specs.declared.fault.IpFault.TheVariants.{NotIpv4, BadHeader, BadHeaderSum, Fragment, IpOptions}

@@ -1,5 +1,5 @@
 -- Worked cases, computed: whole files, and the first reason against them.
-use Rattle.std.proofs.Common.{◌≡◌, ℕ, true, List, [], ◌∷◌, ◌++◌, Option, Some, None, refl}
+use Rattle.std.proofs.Common.{◌≡◌, ℕ, true, List, [], ◌∷◌, ◌++◌, Option, Some, None, refl, map, codes, take}
 use Rattle.gate_base.specs.declared.side.Side.TheVariants.{Left, Right}
 use Rattle.gate_settings.specs.declared.settings.Settings.{Settings}
 use Rattle.ether_frames.specs.Ether.{read_frame}
@@ -32,13 +32,14 @@ use Rattle.ftp_lines.specs.Grammar.{port, eprt, delimited, passive, client_text,
 use Rattle.ftp_lines.specs.Renaming.{spelled}
 use Rattle.std.specs.Fmt.{digits}
 use Rattle.gate_model.specs.Verdict.{verdict}
-use Rattle.std.specs.Prelude.{map, codes, take}
 use Rattle.gate_base.specs.Refusal.{name_of as refusal_name}
 use Rattle.gate_base.specs.declared.side.Link.TheVariants.{Ethernet, Raw}
 use Rattle.gate_report.specs.Lines.{event_text, event_json, done_text, done_json}
 use Rattle.pcap_files.specs.Capture.{capture_of, head_of, next_at, up_to, records_from}
-use Rattle.pcap_files.specs.Spelling.{head_octets, record_octets}
-use Rattle.pcap_merge.specs.Events.{Merged, up_to as merge_up_to, merge_from, events_of}
+use Rattle.pcap_files.specs.Prelude.{head_octets}
+use Rattle.pcap_files.specs.Spelling.{record_octets}
+use Rattle.pcap_merge.specs.Prelude.{Merged}
+use Rattle.pcap_merge.specs.Events.{up_to as merge_up_to, merge_from, events_of}
 use Rattle.frag_join.specs.Arrivals.{arrivals_from}
 use Rattle.gate_model.proofs.RowWords.{hex, fixed, pool, set}
 use Rattle.lawful_files.specs.declared.reason.AuditReason.{AuditReason}

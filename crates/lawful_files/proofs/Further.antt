@@ -1,8 +1,8 @@
 -- What is found behind lawful events is found of all of them.
 use Rattle.std.proofs.Common.{◌≡◌, ℕ, List, [], ◌∷◌, ◌++◌, length, refl, sym, subst, inr}
-use Rattle.frag_join.specs.Arrivals.{Arrival}
+use Rattle.frag_join.specs.Prelude.{Arrival}
 use Rattle.gate_settings.specs.declared.settings.Settings.{Settings}
-use Rattle.pcap_merge.specs.Events.{Ending}
+use Rattle.pcap_merge.specs.Prelude.{Ending}
 use Rattle.lawful_files.specs.declared.reason.AuditReason.{AuditReason}
 use Rattle.lawful_files.specs.Files.{Given, State, after, IsLawfulAt, LawfulFrom}
 use Rattle.lawful_files.specs.Reasons.{IsFirst}

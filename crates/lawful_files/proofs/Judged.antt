@@ -1,26 +1,23 @@
 -- The function finds the first reason, and none exactly where the files are lawful.
-use Rattle.std.proofs.Common.{◌≡◌, ◌≤◌, ◌<◌, ◌+◌, ◌^◌, ℕ, Bool, true, false, cond, List, [], ◌∷◌, ◌++◌, length, take, drop, Option, Some, None, refl, sym, ◌∙◌, ap, subst, arith, inl, inr}
-use Rattle.std.specs.Prelude.{map, not, ◌&&◌, ◌==◌, nat_lt, if◌then◌else◌, codes, decimal}
+use Rattle.std.proofs.Common.{◌≡◌, ◌≤◌, ◌<◌, ◌+◌, ◌^◌, ℕ, Bool, true, false, cond, List, [], ◌∷◌, ◌++◌, length, take, drop, Option, Some, None, refl, sym, ◌∙◌, ap, subst, arith, inl, inr, map, not, ◌&&◌, ◌==◌, nat_lt, if◌then◌else◌, codes, decimal, bytes_eq}
 use Rattle.std.specs.Char.{digit_value}
-use Rattle.std.specs.Str.{bytes_eq}
 use Rattle.std.specs.Str.Parse.{AllDigits, digits_value}
 use Rattle.std.proofs.lemmas.Bool.{and_parts, and_from, eqb-true, true≢false, false≢true, lt-ltb, le-ltb, ltb-true, ltb-false}
 use Rattle.std.proofs.lemmas.Fmt.{decimal_is_IsNumeral}
 use Rattle.std.proofs.lemmas.List.{take_at, drop_at, take-append-drop, length-take-le, length-map, nil_from_length}
 use Rattle.std.proofs.lemmas.Slice.Eq.{bytes_eq-Decides}
-use Rattle.frag_join.specs.Arrivals.{Arrival, Reaches, Stopped}
-use Rattle.gate_base.specs.Refusal.{verdict_name}
-use Rattle.gate_base.specs.Side.{name_of, other}
+use Rattle.frag_join.specs.Prelude.{Arrival, Reaches, Stopped}
+use Rattle.gate_base.specs.Prelude.{verdict_name, name_of, other}
 use Rattle.gate_base.specs.declared.event.Verdict.{Verdict}
 use Rattle.gate_report.specs.Lines.{event_text, event_json}
 use Rattle.gate_base.specs.declared.side.Link.{Link}
 use Rattle.gate_base.specs.declared.side.Link.TheVariants.{Ethernet, Raw}
 use Rattle.gate_base.specs.declared.side.Side.{Side}
 use Rattle.gate_base.specs.declared.side.Side.TheVariants as sides
-use Rattle.gate_settings.specs.Cross.{side_settings}
+use Rattle.gate_settings.specs.Prelude.{side_settings}
 use Rattle.gate_settings.specs.declared.settings.Settings.{Settings}
-use Rattle.pcap_files.specs.Capture.{Packet, Records, Ending as CaptureEnding, Whole, Fault as CaptureEndsFaulty, Head, Good, Bad, head_of}
-use Rattle.pcap_merge.specs.Events.{Ending, Done, Fault}
+use Rattle.pcap_files.specs.Prelude.{Packet, Records, Ending as CaptureEnding, Whole, Fault as CaptureEndsFaulty, Head, Good, Bad, head_of}
+use Rattle.pcap_merge.specs.Prelude.{Ending, Done, Fault}
 use Rattle.lawful_files.specs.declared.reason.AuditReason.{AuditReason}
 use Rattle.lawful_files.specs.declared.reason.AuditReason.TheVariants.{Capture, Line, Missing, Frame, Left}
 use Rattle.lawful_files.specs.Files.{Given, given_at, given_of, State, opening, after, line_of, last_line, record_of, HasLink, HaveMacAddresses, HasMacAddresses, IsLawfulAt, IsAtLast, LawfulFrom, Lawful}

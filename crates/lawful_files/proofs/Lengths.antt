@@ -7,11 +7,10 @@ use Rattle.gate_base.specs.declared.side.Link.TheVariants.{Ethernet, Raw}
 use Rattle.gate_settings.specs.declared.settings.SideSettings.{SideSettings}
 use Rattle.ipv4_frames.specs.Ipv4.{Datagram, spelled_head}
 use Rattle.ipv4_frames.proofs.Heads.{head_long}
-use Rattle.stream_model.specs.Session.{Outgoing}
-use Rattle.tcp_segments.specs.Flags.{flags_octet}
-use Rattle.tcp_segments.specs.Tcp.{spelled_segment}
+use Rattle.stream_model.specs.Prelude.{Outgoing}
+use Rattle.tcp_segments.specs.Prelude.{flags_octet, spelled_segment}
 use Rattle.tcp_segments.proofs.Written.{segment_long}
-use Rattle.gate_model.specs.Stream.{tcp_of, sent_as}
+use Rattle.gate_model.specs.Prelude.{tcp_of, sent_as}
 use Rattle.lawful_files.specs.Files.{HasMacAddresses}
 use Rattle.lawful_files.specs.Progress.{HasHeads, head_length}
 

@@ -1,15 +1,13 @@
 -- A line of the report tells its number of frames, and where it ends.
-use Rattle.std.proofs.Common.{◌≡◌, ◌≤◌, ◌<◌, ◌+◌, ◌^◌, ℕ, Bool, true, false, cond, List, [], ◌∷◌, ◌++◌, refl, sym, ◌∙◌, ap, subst, arith, append_assoc}
-use Rattle.std.specs.Prelude.{codes, decimal}
+use Rattle.std.proofs.Common.{◌≡◌, ◌≤◌, ◌<◌, ◌+◌, ◌^◌, ℕ, Bool, true, false, cond, List, [], ◌∷◌, ◌++◌, refl, sym, ◌∙◌, ap, subst, arith, append_assoc, codes, decimal}
 use Rattle.std.specs.Char.{digit_value}
 use Rattle.std.specs.Str.Parse.{AllDigits}
 use Rattle.std.proofs.lemmas.Fmt.{decimal_is_IsNumeral, decimal_injective}
 use Rattle.std.proofs.lemmas.List.{append_cancel_left}
-use Rattle.frag_join.specs.Arrivals.{Arrival}
+use Rattle.frag_join.specs.Prelude.{Arrival}
 use Rattle.gate_base.specs.declared.event.Verdict.{Verdict}
 use Rattle.gate_base.specs.declared.side.Side.{Side}
-use Rattle.gate_base.specs.Refusal.{verdict_name}
-use Rattle.gate_base.specs.Side.{name_of}
+use Rattle.gate_base.specs.Prelude.{verdict_name, name_of}
 use Rattle.gate_report.specs.Lines.{event_text, event_json}
 use Rattle.gate_settings.specs.declared.settings.Settings.{Settings}
 use Rattle.lawful_files.specs.Wanted.{event_in, verdict_of}

@@ -1,22 +1,18 @@
 -- Records taken one by one are right exactly as long as they are the front of a lawful list's.
-use Rattle.std.proofs.Common.{◌≡◌, ◌≤◌, ◌<◌, ◌+◌, ◌-◌, ℕ, Bool, true, false, cond, ◌&&◌, ◌==◌, List, [], ◌∷◌, ◌++◌, length, take, drop, refl, sym, ◌∙◌, ap, subst, arith, inl, inr, length-append, length-drop}
-use Rattle.std.specs.Prelude.{◌||◌, map, nat_lt, nat_le, slice_index_or}
-use Rattle.std.specs.List.{fold}
-use Rattle.std.specs.Str.{bytes_eq}
+use Rattle.std.proofs.Common.{◌≡◌, ◌≤◌, ◌<◌, ◌+◌, ◌-◌, ℕ, Bool, true, false, cond, ◌&&◌, ◌==◌, List, [], ◌∷◌, ◌++◌, length, take, drop, refl, sym, ◌∙◌, ap, subst, arith, inl, inr, length-append, length-drop, ◌||◌, map, nat_lt, nat_le, slice_index_or, fold, bytes_eq}
 use Rattle.std.proofs.lemmas.Bool.{cases_Bool, and_parts, and_from, and_left, eqb-true, eq-eqb, true≢false, false≢true, or_cases, or_right}
 use Rattle.std.proofs.lemmas.Bool.Decides.{nat_tests}
 use Rattle.std.proofs.lemmas.List.{take_at, drop_at, drop_all, drop_more, drop-drop, take-append-drop, length-take-le, map-append, append-nil, length-map, nil_from_length}
 use Rattle.std.proofs.lemmas.List.Sums.{fold-append}
 use Rattle.std.proofs.lemmas.Slice.Eq.{bytes_eq-Decides}
 use Rattle.gate_base.specs.declared.side.Side.{Side}
-use Rattle.gate_settings.specs.Cross.{side_settings}
+use Rattle.gate_settings.specs.Prelude.{side_settings}
 use Rattle.gate_settings.specs.declared.settings.Settings.{Settings}
 use Rattle.ipv4_frames.specs.Ipv4.{Datagram}
-use Rattle.pcap_files.specs.Capture.{Packet}
-use Rattle.stream_model.specs.Session.{Outgoing}
-use Rattle.stream_model.specs.Steps.{Piece, pieces}
-use Rattle.gate_model.specs.Stream.{sent_as}
-use Rattle.stream_model.specs.Cuts.{Sent, IsPiece, ArePieces, segment_with, alone, MaySend}
+use Rattle.pcap_files.specs.Prelude.{Packet}
+use Rattle.stream_model.specs.Prelude.{Outgoing, Piece, pieces, Sent, ArePieces, segment_with, alone, MaySend}
+use Rattle.gate_model.specs.Prelude.{sent_as}
+use Rattle.stream_model.specs.Cuts.{IsPiece}
 use Rattle.lawful_files.specs.Wanted.{Wanted, Exactly, Cut}
 use Rattle.lawful_files.specs.Files.{record_of, HasMacAddresses}
 use Rattle.lawful_files.specs.Progress.{Progress, HasHeads, IsSound, begun, before_octets, is_record, piece_behind, carries_piece, is_next_piece, is_alone, is_right, behind, is_closed, AreLawful, behind_all, AreFront}

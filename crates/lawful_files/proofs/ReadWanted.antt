@@ -1,22 +1,14 @@
 -- What is wanted is the same, however sessions are represented.
 use Rattle.std.proofs.Common.{◌≡◌, ℕ, Option, Some, None, option_map, refl, ◌∙◌, ap}
-use Rattle.gate_base.specs.Events.{Event}
+use Rattle.gate_base.specs.Prelude.{Event}
 use Rattle.gate_base.specs.declared.address.Addr.{Addr}
 use Rattle.gate_base.specs.declared.event.Verdict.{Verdict}
 use Rattle.gate_base.specs.declared.event.Verdict.TheVariants.{Pass, Refused, Held}
 use Rattle.gate_base.specs.declared.side.Side.{Side}
-use Rattle.binding_table.specs.Bindings.{Bindings}
+use Rattle.binding_table.specs.Prelude.{Bindings}
 use Rattle.icmp_errors.specs.Inner.{inner_fields}
 use Rattle.ipv4_frames.specs.Ipv4.{Datagram}
-use Rattle.gate_model.specs.Frame.{Kind, Udp, Echo, Error, Dns, Snmp, Stream, datagram_in, kind_of}
-use Rattle.gate_model.specs.Inner.{inside}
-use Rattle.gate_model.specs.Reading.{tracked_as, world_as, Reads}
-use Rattle.gate_model.specs.Rules.{SessionRules, whole_rules}
-use Rattle.gate_model.specs.Sessions.{WholeSession}
-use Rattle.gate_model.specs.Step.{taker_in}
-use Rattle.gate_model.specs.Stream.{segment_of, session_refusal}
-use Rattle.gate_model.specs.Verdict.{table_after, image_in, verdict}
-use Rattle.gate_model.specs.World.{World, Tracked, at_moment, called, source_of, destination_of, host_on}
+use Rattle.gate_model.specs.Prelude.{Kind, Udp, Echo, Error, Dns, Snmp, Stream, datagram_in, kind_of, inside, tracked_as, world_as, Reads, SessionRules, whole_rules, WholeSession, taker_in, segment_of, session_refusal, table_after, image_in, verdict, World, Tracked, at_moment, called, source_of, destination_of, host_on}
 use Rattle.gate_model.proofs.Passing.{Passes, passes, stream_passes}
 use Rattle.gate_model.proofs.ReadWorlds.{table_as, image_as, taker_as, inner_number_as, moment_as, verdict_as}
 use Rattle.lawful_files.specs.Wanted.{Wanted, Cut, Sends, SendAlike, whole_sent, wanted_segment, wanted_kind, wanted_by, wanted, wanted_in}

@@ -1,14 +1,13 @@
 -- Where files are lawful there is no reason against them, and there is one first reason at most.
-use Rattle.std.proofs.Common.{◌≡◌, ◌≤◌, ◌+◌, ℕ, List, [], ◌∷◌, ◌++◌, length, drop, refl, sym, ◌∙◌, ap, subst, arith, inl, inr, length-append}
-use Rattle.std.specs.Prelude.{map}
+use Rattle.std.proofs.Common.{◌≡◌, ◌≤◌, ◌+◌, ℕ, List, [], ◌∷◌, ◌++◌, length, drop, refl, sym, ◌∙◌, ap, subst, arith, inl, inr, length-append, map}
 use Rattle.std.proofs.lemmas.List.{drop_at, length-map}
-use Rattle.frag_join.specs.Arrivals.{Arrival}
-use Rattle.gate_base.specs.Side.{other}
+use Rattle.frag_join.specs.Prelude.{Arrival}
+use Rattle.gate_base.specs.Prelude.{other}
 use Rattle.gate_base.specs.declared.side.Side.{Side}
 use Rattle.gate_base.specs.declared.side.Side.TheVariants as sides
 use Rattle.gate_settings.specs.declared.settings.Settings.{Settings}
-use Rattle.pcap_files.specs.Capture.{Packet, Records, Ending as CaptureEnding}
-use Rattle.pcap_merge.specs.Events.{Ending, Done, Fault}
+use Rattle.pcap_files.specs.Prelude.{Packet, Records, Ending as CaptureEnding}
+use Rattle.pcap_merge.specs.Prelude.{Ending, Done, Fault}
 use Rattle.lawful_files.specs.declared.reason.AuditReason.{AuditReason}
 use Rattle.lawful_files.specs.declared.reason.AuditReason.TheVariants.{Line, Missing, Frame, Left}
 use Rattle.lawful_files.specs.Wanted.{event_in}

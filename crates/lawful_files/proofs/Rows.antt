@@ -1,5 +1,5 @@
 -- Worked cases, computed: records, taken one by one, of a segment whose octets may be cut. Each pair says whether all are the front of a lawful list, and whether they are a whole one.
-use Rattle.std.proofs.Common.{◌≡◌, Bool, true, false, List, [], ◌∷◌, refl}
+use Rattle.std.proofs.Common.{◌≡◌, Bool, true, false, List, [], ◌∷◌, refl, fold, ℕ, map}
 use Rattle.gate_base.specs.declared.side.Link.TheVariants.{Raw}
 use Rattle.gate_base.specs.declared.side.Side.TheVariants.{Left, Right}
 use Rattle.gate_settings.specs.declared.settings.Settings.{Settings}
@@ -33,14 +33,9 @@ use Rattle.ftp_lines.specs.Grammar.{port, eprt, delimited, passive, client_text,
 use Rattle.ftp_lines.specs.Renaming.{spelled}
 use Rattle.std.specs.Fmt.{digits}
 use Rattle.gate_model.specs.Verdict.{verdict}
-use Rattle.std.specs.List.{fold}
-use Rattle.std.specs.Prelude.{ℕ, map}
-use Rattle.gate_base.specs.Events.{Event}
-use Rattle.gate_base.specs.Side.{other}
-use Rattle.pcap_files.specs.Capture.{Packet}
-use Rattle.gate_model.specs.Rules.{whole_rules}
-use Rattle.gate_model.specs.Step.{next}
-use Rattle.gate_model.specs.World.{opening_world}
+use Rattle.gate_base.specs.Prelude.{Event, other}
+use Rattle.pcap_files.specs.Prelude.{Packet}
+use Rattle.gate_model.specs.Prelude.{whole_rules, next, opening_world}
 use Rattle.gate_model.proofs.RowWords.{hex, fixed, pool, set, event}
 use Rattle.lawful_files.specs.Wanted.{Wanted, wanted}
 use Rattle.lawful_files.specs.Progress.{Progress, behind_all, is_closed}

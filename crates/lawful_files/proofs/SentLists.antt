@@ -1,11 +1,10 @@
 -- What goes out at an event is a lawful list for it.
-use Rattle.std.proofs.Common.{◌≤◌, ◌<◌, ◌-◌, ℕ, Bool, true, false, cond, List, [], length, take, drop, All, Option, Some, None, refl, arith, inl, inr, length-drop, length-take}
-use Rattle.std.specs.Prelude.{slice_index, nat_lt, ◌==◌}
+use Rattle.std.proofs.Common.{◌≤◌, ◌<◌, ◌-◌, ℕ, Bool, true, false, cond, List, [], length, take, drop, All, Option, Some, None, refl, arith, inl, inr, length-drop, length-take, slice_index, nat_lt, ◌==◌}
 use Rattle.std.proofs.lemmas.Bool.{cases_lt}
 use Rattle.std.proofs.lemmas.List.{get_or_past}
 use Rattle.std.proofs.lemmas.List.Elements.{All-take, All-drop, All-nil}
 use Rattle.ether_frames.specs.Ether.{octets_in, read_frame, fields_of, carried, ipv4_type}
-use Rattle.gate_base.specs.Events.{Event}
+use Rattle.gate_base.specs.Prelude.{Event}
 use Rattle.gate_base.specs.declared.event.Verdict.{Verdict}
 use Rattle.gate_base.specs.declared.address.Addr.{Addr}
 use Rattle.gate_base.specs.declared.event.Verdict.TheVariants.{Pass, Refused, Held}
@@ -13,17 +12,10 @@ use Rattle.gate_base.specs.declared.side.Link.{Link}
 use Rattle.gate_base.specs.declared.side.Link.TheVariants.{Ethernet, Raw}
 use Rattle.gate_base.specs.declared.side.Side.{Side}
 use Rattle.ipv4_frames.specs.Ipv4.{Datagram, total_length_of}
-use Rattle.stream_model.specs.Session.{Sender, Segment, other}
-use Rattle.stream_model.specs.Steps.{session_out, limit_of}
-use Rattle.tcp_segments.specs.Tcp.{tcp_header_length_of}
-use Rattle.gate_model.specs.Frame.{Kind, Udp, Echo, Error, Dns, Snmp, Stream, datagram_in, kind_of}
+use Rattle.stream_model.specs.Prelude.{Sender, Segment, other, session_out, limit_of}
+use Rattle.tcp_segments.specs.Prelude.{tcp_header_length_of}
+use Rattle.gate_model.specs.Prelude.{Kind, Udp, Echo, Error, Dns, Snmp, Stream, datagram_in, kind_of, whole_rules, WholeSession, whole_learned, out, out_by, out_kind, stream_out, taker_in, segment_of, table_after, image_in, verdict, World, Tracked, at_moment, called, source_of, destination_of, host_on}
 use Rattle.twice_translate.specs.Renamed.{datagram_of}
-use Rattle.gate_model.specs.Rules.{whole_rules}
-use Rattle.gate_model.specs.Sessions.{WholeSession, whole_learned}
-use Rattle.gate_model.specs.Step.{out, out_by, out_kind, stream_out, taker_in}
-use Rattle.gate_model.specs.Stream.{segment_of}
-use Rattle.gate_model.specs.Verdict.{table_after, image_in, verdict}
-use Rattle.gate_model.specs.World.{World, Tracked, at_moment, called, source_of, destination_of, host_on}
 use Rattle.lawful_files.specs.Wanted.{whole_sent, wanted_segment, wanted_kind, wanted_by, wanted, IsLawfulList}
 use Rattle.stream_model.proofs.Ways.{session_lawful}
 

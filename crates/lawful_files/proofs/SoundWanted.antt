@@ -1,11 +1,8 @@
 -- What is wanted of an event has headers, and its pieces may have octets.
-use Rattle.std.proofs.Common.{◌≡◌, ◌≤◌, ◌*◌, ◌/◌, ℕ, Bool, true, false, List, [], ◌∷◌, ◌++◌, length, take, drop, Option, Some, None, refl, sym, ◌∙◌, ap, arith}
-use Rattle.std.specs.Prelude.{not, ◌||◌, ◌==◌, nat_lt, slice_index, if◌then◌else◌}
+use Rattle.std.proofs.Common.{◌≡◌, ◌≤◌, ◌*◌, ◌/◌, ℕ, Bool, true, false, List, [], ◌∷◌, ◌++◌, length, take, drop, Option, Some, None, refl, sym, ◌∙◌, ap, arith, not, ◌||◌, ◌==◌, nat_lt, slice_index, if◌then◌else◌, get_or-take, length-take-le}
 use Rattle.std.proofs.lemmas.Bool.{or_parts, not-false}
 use Rattle.std.proofs.lemmas.Bool.Decides.{nat_tests}
-use Rattle.std.proofs.lemmas.List.{get_or-take, length-take-le}
-use Rattle.gate_base.specs.Events.{Event}
-use Rattle.gate_base.specs.Tests.{first_that_holds}
+use Rattle.gate_base.specs.Prelude.{Event, first_that_holds}
 use Rattle.gate_base.specs.declared.event.Verdict.{Verdict}
 use Rattle.gate_base.specs.declared.address.Addr.{Addr}
 use Rattle.gate_base.specs.declared.event.Verdict.TheVariants.{Pass, Refused, Held}
@@ -14,18 +11,13 @@ use Rattle.gate_base.specs.declared.refusal.Refusal.TheVariants.{Snapped, NotIpv
 use Rattle.gate_base.specs.declared.side.Side.{Side}
 use Rattle.ether_frames.specs.Ether.{octets_in}
 use Rattle.ipv4_frames.specs.Ipv4.{Datagram, header_length_of, total_length_of, is_not_ipv4, has_bad_header, has_bad_header_sum, is_fragment, has_options}
-use Rattle.stream_model.specs.Session.{other}
-use Rattle.tcp_segments.specs.Options.{are_options}
-use Rattle.tcp_segments.specs.Tcp.{IsTcpHeader, tcp_header_length_of, has_bad_offset, has_bad_options}
+use Rattle.stream_model.specs.Prelude.{other}
+use Rattle.tcp_segments.specs.Prelude.{are_options, IsTcpHeader, tcp_header_length_of, has_bad_offset, has_bad_options}
 use Rattle.udp_icmp.specs.Udp.{has_bad_length}
-use Rattle.gate_model.specs.Frame.{Kind, Udp, Echo, Error, Dns, Snmp, Stream, datagram_in, kind_of, udp_kind, icmp_kind, is_bad_transport, is_bad_sum, header_tests, datagram_tests, transport_tests, has_port, dns_port, snmp_port, trap_port}
+use Rattle.gate_model.specs.Prelude.{Kind, Udp, Echo, Error, Dns, Snmp, Stream, datagram_in, kind_of, udp_kind, icmp_kind, header_tests, datagram_tests, transport_tests, whole_rules, WholeSession, whole_learned, taker_in, segment_of, tests, world_tests, World, Tracked, at_moment, host_on}
+use Rattle.gate_model.specs.Frame.{is_bad_transport, is_bad_sum, has_port, dns_port, snmp_port, trap_port}
 use Rattle.udp_icmp.specs.Icmp.{is_error_type}
-use Rattle.gate_model.specs.Rules.{whole_rules}
-use Rattle.gate_model.specs.Sessions.{WholeSession, whole_learned}
-use Rattle.gate_model.specs.Step.{taker_in}
-use Rattle.gate_model.specs.Stream.{segment_of}
-use Rattle.gate_model.specs.Verdict.{tests, world_tests, verdict}
-use Rattle.gate_model.specs.World.{World, Tracked, at_moment, host_on}
+use Rattle.gate_model.specs.Verdict.{verdict}
 use Rattle.gate_model.proofs.Passing.{NoneHolds, none_head, none_tail, none_left, none_right, pass_is}
 use Rattle.lawful_files.specs.Wanted.{whole_sent, wanted_segment, wanted_kind, wanted_by, wanted}
 use Rattle.lawful_files.specs.Progress.{HasHeads, IsSound}

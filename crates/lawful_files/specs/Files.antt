@@ -1,22 +1,21 @@
 -- Which files are lawful for two captures: outgoing captures and a report that some gateway could have made of them.
 use Rattle.std.specs.Prelude.{◌≡◌, ◌<◌, ◌+◌, ◌^◌, ℕ, true, List, [], ◌∷◌, ◌++◌, if◌then◌else◌, length, map}
 use Rattle.ether_frames.specs.Ether.{framed_on}
-use Rattle.frag_join.specs.Arrivals.{Arrival, arrivals_of}
-use Rattle.gate_base.specs.Side.{other}
+use Rattle.frag_join.specs.Prelude.{Arrival, arrivals_of}
+use Rattle.gate_base.specs.Prelude.{other}
 use Rattle.gate_base.specs.declared.side.Link.{Link}
 use Rattle.gate_base.specs.declared.side.Side.{Side}
 use Rattle.gate_base.specs.declared.side.Side.TheVariants.{Left, Right}
 use Rattle.gate_report.specs.Counts.{nothing_counted, counted, done_line}
 use Rattle.gate_report.specs.Lines.{event_text, event_json, text_of, json_of}
 use Rattle.gate_report.specs.declared.totals.Totals.{Totals}
-use Rattle.gate_settings.specs.Cross.{side_settings}
+use Rattle.gate_settings.specs.Prelude.{side_settings}
 use Rattle.gate_settings.specs.declared.settings.Settings.{Settings}
 use Rattle.gate_settings.specs.declared.settings.SideSettings.{SideSettings}
-use Rattle.pcap_files.specs.Capture.{Packet, Records, Whole, Good, head_of, capture_of}
+use Rattle.pcap_files.specs.Prelude.{Packet, Records, Whole, Good, head_of, capture_of}
 use Rattle.pcap_files.specs.declared.form.Form.{Form}
-use Rattle.pcap_merge.specs.Events.{Merged, Ending, Done, Fault}
-use Rattle.gate_model.specs.Sessions.{WholeSession}
-use Rattle.gate_model.specs.World.{World, opening_world}
+use Rattle.pcap_merge.specs.Prelude.{Merged, Ending, Done, Fault}
+use Rattle.gate_model.specs.Prelude.{WholeSession, World, opening_world}
 use Rattle.lawful_files.specs.Wanted.{IsLawfulList, event_in, verdict_of, wanted_of, world_after}
 
 -- ## What is given

@@ -3,16 +3,15 @@ use Rattle.std.specs.Prelude.{ℕ, ◌+◌, ◌^◌, ◌<◌, Bool, true, false,
 use Rattle.std.specs.Char.{is_digit}
 use Rattle.std.specs.Str.{bytes_eq}
 use Rattle.std.specs.Str.Parse.{digits_value}
-use Rattle.frag_join.specs.Arrivals.{Arrival, Reaches, Stopped, arrivals_of}
-use Rattle.gate_base.specs.Refusal.{verdict_name}
-use Rattle.gate_base.specs.Side.{name_of, other}
+use Rattle.frag_join.specs.Prelude.{Arrival, Reaches, Stopped, arrivals_of}
+use Rattle.gate_base.specs.Prelude.{verdict_name, name_of, other}
 use Rattle.gate_base.specs.declared.side.Link.{Link}
 use Rattle.gate_base.specs.declared.side.Link.TheVariants.{Ethernet, Raw}
 use Rattle.gate_base.specs.declared.side.Side.{Side}
 use Rattle.gate_base.specs.declared.side.Side.TheVariants as sides
 use Rattle.gate_settings.specs.declared.settings.Settings.{Settings}
-use Rattle.pcap_files.specs.Capture.{Records, Ending as CaptureEnding, Whole, Fault as CaptureEndsFaulty, Head, Good, Bad, head_of}
-use Rattle.pcap_merge.specs.Events.{Merged, Ending, Done, Fault}
+use Rattle.pcap_files.specs.Prelude.{Records, Ending as CaptureEnding, Whole, Fault as CaptureEndsFaulty, Head, Good, Bad, head_of}
+use Rattle.pcap_merge.specs.Prelude.{Merged, Ending, Done, Fault}
 use Rattle.lawful_files.specs.declared.reason.AuditReason.{AuditReason}
 use Rattle.lawful_files.specs.declared.reason.AuditReason.TheVariants.{Capture, Line, Missing, Frame, Left}
 use Rattle.lawful_files.specs.Files.{Given, given_at, given_of, State, opening, after, line_of, last_line}

@@ -4,3 +4,4 @@ pub mod Reasons
 pub mod Progress
 pub mod Judging
 pub mod Walks
+pub mod Prelude

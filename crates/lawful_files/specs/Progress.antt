@@ -5,14 +5,13 @@ use Rattle.std.specs.Str.{bytes_eq}
 use Rattle.gate_base.specs.declared.side.Link.{Link}
 use Rattle.gate_base.specs.declared.side.Link.TheVariants.{Ethernet, Raw}
 use Rattle.gate_base.specs.declared.side.Side.{Side}
-use Rattle.gate_settings.specs.Cross.{side_settings}
+use Rattle.gate_settings.specs.Prelude.{side_settings}
 use Rattle.gate_settings.specs.declared.settings.Settings.{Settings}
 use Rattle.ipv4_frames.specs.Ipv4.{Datagram}
-use Rattle.pcap_files.specs.Capture.{Packet}
-use Rattle.stream_model.specs.Steps.{Piece}
-use Rattle.tcp_segments.specs.Tcp.{IsTcpHeader}
-use Rattle.gate_model.specs.Stream.{tcp_of, sent_as}
-use Rattle.stream_model.specs.Cuts.{Sent, segment_with, alone}
+use Rattle.pcap_files.specs.Prelude.{Packet}
+use Rattle.stream_model.specs.Prelude.{Piece, Sent, segment_with, alone}
+use Rattle.tcp_segments.specs.Prelude.{IsTcpHeader}
+use Rattle.gate_model.specs.Prelude.{tcp_of, sent_as}
 use Rattle.lawful_files.specs.Wanted.{Wanted, Exactly, Cut, IsLawfulList}
 use Rattle.lawful_files.specs.Files.{record_of}
 

@@ -1,9 +1,9 @@
 -- The first reason for which given files aren't lawful, and the number of its event.
 use Rattle.std.specs.Prelude.{◌≡◌, ◌⊎◌, ◌<◌, ◌≤◌, ◌+◌, ◌^◌, ℕ, List, [], ◌∷◌, ◌++◌, length}
-use Rattle.frag_join.specs.Arrivals.{Arrival}
-use Rattle.gate_base.specs.Side.{other}
+use Rattle.frag_join.specs.Prelude.{Arrival}
+use Rattle.gate_base.specs.Prelude.{other}
 use Rattle.gate_settings.specs.declared.settings.Settings.{Settings}
-use Rattle.pcap_merge.specs.Events.{Ending, Done, Fault}
+use Rattle.pcap_merge.specs.Prelude.{Ending, Done, Fault}
 use Rattle.lawful_files.specs.declared.reason.AuditReason.{AuditReason}
 use Rattle.lawful_files.specs.declared.reason.AuditReason.TheVariants.{Capture, Line, Missing, Frame, Left}
 use Rattle.lawful_files.specs.Wanted.{event_in}

@@ -1,6 +1,6 @@
 -- How far an audit has come.
 use Rattle.std.specs.Prelude.{◌≡◌, List, [], ◌∷◌, length}
-use Rattle.frag_join.specs.Arrivals.{Arrival}
+use Rattle.frag_join.specs.Prelude.{Arrival}
 use Rattle.gate_settings.specs.declared.settings.Settings.{Settings}
 use Rattle.lawful_files.specs.Files.{Given, State, after, IsLawfulAt}
 

@@ -1,23 +1,17 @@
 -- What is wanted of an event: the datagrams that go out for it, or octets that may be cut; and the lists of datagrams that are lawful for it.
 use Rattle.std.specs.Prelude.{◌≡◌, ℕ, List, [], ◌∷◌, map, Option, Some, None}
-use Rattle.gate_base.specs.Events.{Event}
+use Rattle.gate_base.specs.Prelude.{Event}
 use Rattle.gate_base.specs.declared.address.Addr.{Addr}
 use Rattle.gate_base.specs.declared.event.Verdict.{Verdict}
 use Rattle.gate_base.specs.declared.event.Verdict.TheVariants.{Pass, Refused, Held}
 use Rattle.gate_base.specs.declared.side.Side.{Side}
 use Rattle.gate_base.specs.declared.host.Host.{Host}
-use Rattle.frag_join.specs.Arrivals.{Arrival, Reaches, Stopped}
+use Rattle.frag_join.specs.Prelude.{Arrival, Reaches, Stopped}
 use Rattle.ipv4_frames.specs.Ipv4.{Datagram}
-use Rattle.stream_model.specs.Session.{Segment, Outgoing}
+use Rattle.stream_model.specs.Prelude.{Segment, Outgoing, Sent, session_sent}
 use Rattle.twice_translate.specs.Renamed.{renamed}
-use Rattle.gate_model.specs.Frame.{Kind, Udp, Echo, Error, Dns, Snmp, Stream, datagram_in, kind_of}
-use Rattle.gate_model.specs.Rules.{SessionRules, whole_rules}
-use Rattle.gate_model.specs.Sessions.{WholeSession, whole_learned}
-use Rattle.gate_model.specs.Step.{next, out_kind, taker_in}
-use Rattle.gate_model.specs.Stream.{segment_of, sent_as}
-use Rattle.gate_model.specs.Verdict.{table_after, image_in, verdict}
-use Rattle.gate_model.specs.World.{World, Tracked, at_moment, called, source_of, destination_of, host_on}
-use Rattle.stream_model.specs.Cuts.{Sent, session_sent, IsLawfulWay}
+use Rattle.gate_model.specs.Prelude.{Kind, Udp, Echo, Error, Dns, Snmp, Stream, datagram_in, kind_of, SessionRules, whole_rules, WholeSession, whole_learned, next, out_kind, taker_in, segment_of, sent_as, table_after, image_in, verdict, World, Tracked, at_moment, called, source_of, destination_of, host_on}
+use Rattle.stream_model.specs.Cuts.{IsLawfulWay}
 
 -- ## What is wanted of an event
 

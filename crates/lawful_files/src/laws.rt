@@ -1,17 +1,13 @@
 // What holds of lawful lists and files. The functions do nothing: their clauses are proved.
 ghost use Rattle.std.specs.Prelude.{◌≡◌, ◌≤◌, ◌<◌, ℕ, Bool, true, List, [], ◌∷◌, ◌++◌, length, Some, None, All};
-ghost use Rattle.frag_join.specs.Arrivals.{Arrival};
-ghost use Rattle.gate_base.specs.Events.{Event};
+ghost use Rattle.frag_join.specs.Prelude.{Arrival};
+ghost use Rattle.gate_base.specs.Prelude.{Event};
 ghost use Rattle.gate_base.specs.declared.side.Side.{Side};
-ghost use Rattle.gate_model.specs.Reading.{Reads, world_as};
-ghost use Rattle.gate_model.specs.Rules.{SessionRules, whole_rules};
-ghost use Rattle.gate_model.specs.Sessions.{WholeSession};
-ghost use Rattle.gate_model.specs.Step.{out};
-ghost use Rattle.gate_model.specs.World.{World};
-ghost use Rattle.gate_settings.specs.Cross.{side_settings};
+ghost use Rattle.gate_model.specs.Prelude.{Reads, world_as, SessionRules, whole_rules, WholeSession, out, World};
+ghost use Rattle.gate_settings.specs.Prelude.{side_settings};
 ghost use Rattle.gate_settings.specs.declared.settings.Settings.{Settings};
-ghost use Rattle.pcap_files.specs.Capture.{Packet};
-ghost use Rattle.pcap_merge.specs.Events.{Ending};
+ghost use Rattle.pcap_files.specs.Prelude.{Packet};
+ghost use Rattle.pcap_merge.specs.Prelude.{Ending};
 ghost use Rattle.lawful_files.specs.declared.reason.AuditReason.{AuditReason};
 ghost use Rattle.lawful_files.specs.Files.{HaveMacAddresses, HasMacAddresses, Given, State, after, IsLawfulAt, LawfulFrom, Lawful};
 ghost use Rattle.lawful_files.specs.Wanted.{IsLawfulList, SendAlike, Sends, Wanted, wanted, wanted_in};

@@ -1,6 +1,5 @@
 -- What the steps of a desk in memory tell.
-use Rattle.std.proofs.Common.{◌≡◌, ℕ, ◌+◌, ◌≤◌, List, [], ◌∷◌, ◌++◌, Some, min, take, drop, length, refl, sym, ap, subst, ◌∙◌, arith, length-append}
-use Rattle.std.proofs.lemmas.List.{length-take-le, take_all}
+use Rattle.std.proofs.Common.{◌≡◌, ℕ, ◌+◌, ◌≤◌, List, [], ◌∷◌, ◌++◌, Some, min, take, drop, length, refl, sym, ap, subst, ◌∙◌, arith, length-append, length-take-le, take_all}
 use Rattle.gate_desk.specs.declared.slot.Slot.{Slot}
 use Rattle.gate_desk.specs.declared.slot.Access.{Access}
 use Rattle.gate_desk.specs.declared.slot.PerSlot.{PerSlot}

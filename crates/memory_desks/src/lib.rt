@@ -7,4 +7,4 @@ mod memory_desk;
 mod sink;
 
 pub use counted_desk::CountedDesk;
-pub use memory_desk::MemoryDesk;
+pub use memory_desk::{Given, MemoryDesk};

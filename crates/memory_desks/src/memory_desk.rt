@@ -28,6 +28,17 @@ pub struct MemoryDesk {
     start_faults: PerSlot<u64>,
 }
 
+/// What an audit is to judge: the captures that were given, and the report.
+#[derive(Drop)]
+pub struct Given {
+    /// The capture of the left realm.
+    pub left: Vec<u8>,
+    /// The capture of the right realm.
+    pub right: Vec<u8>,
+    /// The report.
+    pub report: Vec<u8>,
+}
+
 impl Model for MemoryDesk {
     ghost use Rattle.memory_desks.specs.Memory.{Memory};
 
@@ -60,24 +71,27 @@ impl MemoryDesk {
         MemoryDesk::over(alloc, PerSlot::inputs(alloc, settings, left, right))
     }
 
-    /// The same with two captures and a report besides, which are to be audited.
+    /// The same with what an audit is to judge besides.
     pub fn make_audit(
         alloc: Global,
         settings: Vec<u8>,
         left: Vec<u8>,
         right: Vec<u8>,
-        left_given: Vec<u8>,
-        right_given: Vec<u8>,
-        report_given: Vec<u8>,
+        given: Given,
     ) -> Result<MemoryDesk, OutOfMemory>
         ensures { IfOk result (λ d. d
             ≡ opening_of (audit_inputs settings.items left.items right.items
-            left_given.items right_given.items report_given.items)) }
+            given.left.items given.right.items given.report.items)) }
     {
         let mut sources = PerSlot::inputs(alloc, settings, left, right);
-        sources.left_given = Source::new(left_given);
-        sources.right_given = Source::new(right_given);
-        sources.report_given = Source::new(report_given);
+        let Given {
+            left,
+            right,
+            report,
+        } = given;
+        sources.left_given = Source::new(left);
+        sources.right_given = Source::new(right);
+        sources.report_given = Source::new(report);
         MemoryDesk::over(alloc, sources)
     }
 

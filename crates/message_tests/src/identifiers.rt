@@ -1,5 +1,5 @@
 ghost use Rattle.std.specs.Prelude.{◌≡◌, IfOk};
-ghost use Rattle.gate_base.specs.Rules.{AreRules};
+ghost use Rattle.gate_base.specs.Prelude.{AreRules};
 
 use gate_base::{Addr, Arcs, OidRule, OutOfMemory};
 use oid_rules::SortedRules;

@@ -1,5 +1,5 @@
 ghost use Rattle.std.specs.Prelude.{◌≡◌, IfOk};
-ghost use Rattle.dns_stream.specs.Images.{dns_units};
+ghost use Rattle.dns_stream.specs.Prelude.{dns_units};
 
 use dialogue::{Dialogue, Learns, UnitImage};
 use dns_gateway::addresses_of;

@@ -7,15 +7,14 @@ use Rattle.gate_base.specs.declared.side.Side.TheVariants.{Left, Right}
 use Rattle.gate_base.specs.Address.{number_of}
 use Rattle.gate_settings.specs.Cross.{block_end}
 use Rattle.gate_settings.specs.declared.settings.Settings.{Settings}
-use Rattle.binding_table.specs.Bindings.{opening, cross}
+use Rattle.binding_table.specs.Prelude.{opening}
+use Rattle.binding_table.specs.Bindings.{cross}
 use Rattle.ether_frames.specs.Ether.{read_frame}
 use Rattle.inet_sum.specs.Sum.{words, fold_of}
 use Rattle.ipv4_frames.specs.Ipv4.{head_with}
 use Rattle.tcp_segments.specs.Options.{options_within}
-use Rattle.gate_model.specs.Sessions.{WholeSession}
+use Rattle.gate_model.specs.Prelude.{WholeSession, whole_rules, Tracked, World}
 use Rattle.tcp_tracker.specs.declared.connection.Connection.{Connection}
-use Rattle.gate_model.specs.Rules.{whole_rules}
-use Rattle.gate_model.specs.World.{Tracked, World}
 use Rattle.gate_model.specs.Verdict.{verdict}
 use Rattle.gate_model.proofs.RowWords.{hex, fixed, pool, set, event}
 

@@ -13,9 +13,10 @@ use Rattle.gate_base.specs.declared.side.Side.{Side}
 use Rattle.gate_base.specs.declared.side.Side.TheVariants.{Left, Right}
 use Rattle.gate_settings.specs.Cross.{block_end}
 use Rattle.gate_settings.specs.declared.settings.Settings.{Settings}
-use Rattle.binding_table.specs.Bindings.{opening, cross}
+use Rattle.binding_table.specs.Prelude.{opening}
+use Rattle.binding_table.specs.Bindings.{cross}
 use Rattle.binding_table.specs.declared.binding.Binding.{Binding}
-use Rattle.dialogue.specs.Learning.{Entry}
+use Rattle.dialogue.specs.Prelude.{Entry}
 use Rattle.dns_names.specs.Names.{piece_at}
 use Rattle.dns_names.specs.Octets.{reverse_in}
 use Rattle.dns_names.specs.Reverse.{full_reverse}
@@ -23,20 +24,17 @@ use Rattle.dns_names.specs.Spelling.{spell}
 use Rattle.dns_names.specs.Walk.{name_at}
 use Rattle.dns_messages.specs.Reading.{content_by, resource_at, resources_at, question_at, questions_at, message_at}
 use Rattle.dns_messages.specs.Writing.{spelling}
-use Rattle.dns_stream.specs.Images.{renamed, dns_units}
+use Rattle.dns_stream.specs.Prelude.{dns_units}
+use Rattle.dns_stream.specs.Images.{renamed}
 use Rattle.ether_frames.specs.Ether.{read_frame}
 use Rattle.inet_sum.specs.Sum.{words, fold_of}
 use Rattle.ipv4_frames.specs.Ipv4.{head_with}
 use Rattle.tcp_segments.specs.Options.{options_within}
 use Rattle.tcp_segments.specs.Tcp.{sealed_tcp, tcp_header_with}
-use Rattle.stream_model.specs.Session.{Session}
+use Rattle.stream_model.specs.Prelude.{Session}
 use Rattle.tcp_tracker.specs.declared.connection.Connection.{Connection}
-use Rattle.gate_model.specs.Lists.{Lists}
-use Rattle.gate_model.specs.Rules.{whole_rules}
-use Rattle.gate_model.specs.Sessions.{WholeSession}
-use Rattle.gate_model.specs.World.{Tracked, World}
+use Rattle.gate_model.specs.Prelude.{Lists, whole_rules, WholeSession, Tracked, World, next, out}
 use Rattle.gate_model.specs.Verdict.{verdict}
-use Rattle.gate_model.specs.Step.{next, out}
 use Rattle.gate_model.proofs.RowWords.{hex, fixed, pool, set, event}
 
 abbrev settings : Settings

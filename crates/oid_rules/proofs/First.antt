@@ -9,7 +9,7 @@ use Rattle.gate_base.specs.declared.address.Addr.{Addr}
 use Rattle.gate_base.specs.declared.rule.OidRule.{OidRule}
 use Rattle.oid_rules.specs.declared.sorted.Compared.TheVariants.{Begins}
 use Rattle.oid_rules.specs.declared.sorted.Numbered.{Numbered}
-use Rattle.gate_base.specs.Rules.{is_rule, AreRules}
+use Rattle.gate_base.specs.Prelude.{is_rule, AreRules}
 use Rattle.oid_rules.specs.Sorted.{compared, first_begun, numbered, rule_at, AllRules, AreSorted, BeginsAt, InOrder, IsEarly, IsFirst, IsFound, IsLast}
 use Rattle.oid_rules.proofs.Prefixes.{starts_begins, begins_starts, begins_goes_on}
 use Rattle.oid_rules.proofs.Halving.{arcs_at, none_between}

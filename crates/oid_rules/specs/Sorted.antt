@@ -8,7 +8,7 @@ use Rattle.gate_base.specs.declared.rule.OidRule.{OidRule}
 use Rattle.oid_rules.specs.declared.sorted.Compared.{Compared}
 use Rattle.oid_rules.specs.declared.sorted.Compared.TheVariants.{Before, Begins, Behind}
 use Rattle.oid_rules.specs.declared.sorted.Numbered.{Numbered}
-use Rattle.gate_base.specs.Rules.{is_rule}
+use Rattle.gate_base.specs.Prelude.{is_rule}
 
 -- how an arc stands to another one that differs
 abbrev pub order_of : ℕ → ℕ → Compared

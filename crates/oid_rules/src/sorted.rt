@@ -1,6 +1,6 @@
 // Rules, sorted by their arcs.
 ghost use Rattle.std.specs.Prelude.{◌≡◌, ◌<◌, ◌≤◌, ◌==◌, ℕ, Some, length, option_map, List, Option, IfOk, IfSome, IsSome, IsTrue};
-ghost use Rattle.gate_base.specs.Rules.{is_rule, AreRules};
+ghost use Rattle.gate_base.specs.Prelude.{is_rule, AreRules};
 ghost use Rattle.oid_rules.specs.Sorted.{compared, numbered, rule_at, first_begun, order_of, AllRules, AreOuter, AreSorted, BeginsAt, Halves, InOrder, IsEarly, IsFound, IsLast};
 
 use gate_base::{Addr, OidRule, OutOfMemory};

@@ -1,7 +1,6 @@
 -- A capture that is read can be cut into the spellings of its records and a rest.
-use Rattle.std.proofs.Common.{◌≡◌, ℕ, zero, suc, ◌+◌, ◌*◌, ◌^◌, ◌<◌, ◌≤◌, List, [], ◌∷◌, ◌++◌, All, Bool, true, false, cond, Option, Some, None, nat_lt, nat_le, ◌==◌, map, take, drop, length, refl, sym, ap, subst, ◌∙◌, append_assoc, add_assoc, add-zero, arith, length-append, length-drop}
+use Rattle.std.proofs.Common.{◌≡◌, ℕ, zero, suc, ◌+◌, ◌*◌, ◌^◌, ◌<◌, ◌≤◌, List, [], ◌∷◌, ◌++◌, All, Bool, true, false, cond, Option, Some, None, nat_lt, nat_le, ◌==◌, map, take, drop, length, refl, sym, ap, subst, ◌∙◌, append_assoc, add_assoc, add-zero, arith, length-append, length-drop, eqb-true}
 use Rattle.std.proofs.lemmas.List.{take-append-drop, drop-drop, length-take-le, nil_from_length}
-use Rattle.std.proofs.lemmas.Bool.{eqb-true}
 use Rattle.std.proofs.lemmas.Bool.Decides.{nat_tests}
 use Rattle.gate_base.specs.declared.side.Link.{Link}
 use Rattle.gate_base.specs.declared.side.Link.TheVariants.{Ethernet, Raw}
@@ -11,9 +10,8 @@ use Rattle.pcap_files.specs.declared.fault.CaptureFault.TheVariants.{NoHead, Mag
 use Rattle.pcap_files.specs.declared.form.Order.{Order}
 use Rattle.pcap_files.specs.declared.form.Precision.{Precision}
 use Rattle.pcap_files.specs.declared.form.Form.{Form}
-use Rattle.pcap_files.specs.Capture.{Packet, size, Next, Ended, Broken, Came, next_at, tested, record_tests, packet_at, number_at, unit, magic, link_number, Head, Good, Bad, head_of, layout_at, layouts, link_of, by_layout, by_link, Records, Ending, Whole, Fault, records_from, capture_of}
-use Rattle.pcap_files.specs.Spelling.{number_octets, spelled_head}
-use Rattle.pcap_files.specs.Spelled.{Entry, spelled, all_spelled, packet_from, IsGood, AreGood, first_fault, EndsWith, IsCapture}
+use Rattle.pcap_files.specs.Prelude.{Packet, size, Next, Ended, Broken, Came, tested, record_tests, packet_at, number_at, unit, magic, link_number, Head, Good, Bad, layout_at, link_of, by_layout, by_link, Records, Ending, Whole, Fault, records_from, capture_of, number_octets, spelled_head, Entry, spelled, all_spelled, packet_from, IsGood, AreGood, first_fault, EndsWith, IsCapture}
+use Rattle.pcap_files.specs.Capture.{next_at, head_of, layouts}
 use Rattle.pcap_files.proofs.Numbers.{AreOctets, octets_of, octets-drop, number-small, number_octets-number}
 use Rattle.pcap_files.proofs.Joined.{number_at-drop, length-spelled}
 use Rattle.pcap_files.proofs.Records.{came_from_some, ended_is_empty, records-came, records-ended, records-broken, capture-good}

@@ -1,6 +1,5 @@
 -- A capture that joins the spellings of its records is read as these records.
-use Rattle.std.proofs.Common.{◌≡◌, ℕ, suc, ◌+◌, ◌*◌, ◌^◌, ◌<◌, ◌≤◌, List, [], ◌∷◌, ◌++◌, Bool, true, false, cond, Option, Some, None, nat_lt, nat_le, ◌==◌, map, take, drop, length, refl, sym, ap, subst, ◌∙◌, append_assoc, add-zero, arith, length-append}
-use Rattle.std.proofs.lemmas.List.{take_at}
+use Rattle.std.proofs.Common.{◌≡◌, ℕ, suc, ◌+◌, ◌*◌, ◌^◌, ◌<◌, ◌≤◌, List, [], ◌∷◌, ◌++◌, Bool, true, false, cond, Option, Some, None, nat_lt, nat_le, ◌==◌, map, take, drop, length, refl, sym, ap, subst, ◌∙◌, append_assoc, add-zero, arith, length-append, take_at}
 use Rattle.std.proofs.Math.Seq.{drop-append_seam}
 use Rattle.std.proofs.lemmas.Bool.Decides.{nat_tests}
 use Rattle.std.proofs.lemmas.Option.{none-some}
@@ -13,9 +12,8 @@ use Rattle.pcap_files.specs.declared.form.Order.TheVariants.{Little, Big}
 use Rattle.pcap_files.specs.declared.form.Precision.{Precision}
 use Rattle.pcap_files.specs.declared.form.Precision.TheVariants.{Microseconds, Nanoseconds}
 use Rattle.pcap_files.specs.declared.form.Form.{Form}
-use Rattle.pcap_files.specs.Capture.{Packet, size, Ended, Broken, Came, next_at, tested, record_tests, packet_at, number_at, unit, magic, link_number, Good, Bad, head_of, layout_at, link_of, by_layout, by_link, Records, Ending, Whole, Fault, records_from, capture_of}
-use Rattle.pcap_files.specs.Spelling.{number_octets, spelled_head}
-use Rattle.pcap_files.specs.Spelled.{Entry, spelled, all_spelled, packet_from, IsGood, AreGood, first_fault, EndsWith, IsCapture}
+use Rattle.pcap_files.specs.Prelude.{Packet, size, Ended, Broken, Came, tested, record_tests, packet_at, number_at, unit, magic, link_number, Good, Bad, layout_at, link_of, by_layout, by_link, Records, Ending, Whole, Fault, records_from, capture_of, number_octets, spelled_head, Entry, spelled, all_spelled, packet_from, IsGood, AreGood, first_fault, EndsWith, IsCapture}
+use Rattle.pcap_files.specs.Capture.{next_at, head_of}
 use Rattle.pcap_files.proofs.Numbers.{number-number_octets}
 use Rattle.pcap_files.proofs.Records.{nothing_is_ended, records-came, records-ended, records-broken, capture-good}
 

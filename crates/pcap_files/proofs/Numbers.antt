@@ -3,8 +3,7 @@ use Rattle.std.proofs.Common.{◌≡◌, ℕ, zero, suc, ◌+◌, ◌*◌, ◌^�
 use Rattle.byteorder.specs.Numbers.{little_number-reads_back, big_number-reads_back, little_from-lt, big_from-lt}
 use Rattle.pcap_files.specs.declared.form.Order.{Order}
 use Rattle.pcap_files.specs.declared.form.Order.TheVariants.{Little, Big}
-use Rattle.pcap_files.specs.Capture.{number_at}
-use Rattle.pcap_files.specs.Spelling.{number_octets}
+use Rattle.pcap_files.specs.Prelude.{number_at, number_octets}
 
 -- a spelled number reads back
 pub number-number_octets : (order : Order) (n : ℕ) (rest : List ℕ) → n < 2 ^ 32 → number_at order 0 (number_octets order n ++ rest) ≡ n

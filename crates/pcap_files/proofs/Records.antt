@@ -3,7 +3,8 @@ use Rattle.std.proofs.Common.{◌≡◌, ℕ, zero, suc, ◌+◌, ◌<◌, List,
 use Rattle.std.proofs.lemmas.Bool.Decides.{nat_tests}
 use Rattle.pcap_files.specs.declared.fault.CaptureFault.{CaptureFault}
 use Rattle.pcap_files.specs.declared.form.Form.{Form}
-use Rattle.pcap_files.specs.Capture.{Packet, size, Next, Ended, Broken, Came, next_at, tested, record_tests, packet_at, Records, Whole, Fault, goes_on, up_to, records_from, Head, Good, head_of, by_head, capture_of}
+use Rattle.pcap_files.specs.Prelude.{Packet, size, Next, Ended, Broken, Came, tested, record_tests, packet_at, Records, Whole, Fault, Head, Good, head_of}
+use Rattle.pcap_files.specs.Capture.{next_at, goes_on, up_to, records_from, by_head, capture_of}
 
 -- no octets are the end
 pub nothing_is_ended : (form : Form) (place : ℕ) (octets : List ℕ) → length octets ≡ 0 → next_at form place octets ≡ Ended

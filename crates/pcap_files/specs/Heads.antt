@@ -1,6 +1,6 @@
 -- What is read of a capture's head and of a record.
 use Rattle.std.specs.Prelude.{◌≡◌, ℕ, ◌+◌, ◌*◌, ◌^◌, ◌<◌, ◌≤◌, List, Bool, Option, Some, None, Result, Ok, Err, IfSome, if◌then◌else◌, nat_lt, nat_le, take, drop, length}
-use Rattle.gate_base.specs.Moments.{IsMoment}
+use Rattle.gate_base.specs.Prelude.{IsMoment}
 use Rattle.gate_desk.specs.declared.slot.Slot.{Slot}
 use Rattle.gate_desk.specs.Outside.{Outside, Takes, HasFailed, told_at}
 use Rattle.pcap_files.specs.declared.fault.CaptureFault.{CaptureFault}

@@ -5,3 +5,4 @@ pub mod Spelling
 pub mod Spelled
 pub mod Packets
 pub mod Faults
+pub mod Prelude

@@ -1,6 +1,6 @@
 // Captures, written to a desk's slot: little-endian, fractions in nanoseconds.
 ghost use Rattle.std.specs.Prelude.{◌≡◌, ◌+◌, ◌≤◌, ◌++◌, length, take, OnOk, OnErr};
-ghost use Rattle.gate_base.specs.Moments.{IsMoment};
+ghost use Rattle.gate_base.specs.Prelude.{IsMoment};
 ghost use Rattle.gate_desk.specs.Outside.{Writes, WritesPart, HasFailed, CanWrite};
 ghost use Rattle.pcap_files.specs.Capture.{link_number};
 ghost use Rattle.pcap_files.specs.Spelling.{head_octets, record_octets, record_head};

@@ -7,7 +7,8 @@ use Rattle.pcap_files.specs.declared.fault.ReadStop.TheVariants as reads
 use Rattle.pcap_files.specs.Reader as reader
 use Rattle.pcap_merge.specs.declared.stop.MergeStop.{MergeStop}
 use Rattle.pcap_merge.specs.declared.stop.MergeStop.TheVariants.{Fault, Desk, OutOfMemory}
-use Rattle.pcap_merge.specs.Stops.{LeavesCounts, StopLeavesCounts, stop_of}
+use Rattle.pcap_merge.specs.Prelude.{StopLeavesCounts, stop_of}
+use Rattle.pcap_merge.specs.Stops.{LeavesCounts}
 
 -- a side's reader stopped
 pub leaves_stopped : (side : Side) (stop : ReadStop) (a b : Outside) → reader.StopLeavesCounts stop a b → StopLeavesCounts (stop_of side stop) a b

@@ -1,28 +1,22 @@
 -- The records that were taken whole of each side, and the events that were given for them.
-use Rattle.std.proofs.Common.{◌≡◌, inl, inr, ◌≤◌, ℕ, ◌+◌, ◌-◌, List, [], ◌∷◌, ◌++◌, Bool, true, false, cond, Option, Some, None, IfSome, IsSome, option_map, nat_le, drop, length, refl, sym, ap, subst, ◌∙◌, append_assoc, length-append, zero-add, arith}
-use Rattle.std.specs.Prelude.{◌^◌}
+use Rattle.std.proofs.Common.{◌≡◌, inl, inr, ◌≤◌, ℕ, ◌+◌, ◌-◌, List, [], ◌∷◌, ◌++◌, Bool, true, false, cond, Option, Some, None, IfSome, IsSome, option_map, nat_le, drop, length, refl, sym, ap, subst, ◌∙◌, append_assoc, length-append, zero-add, arith, ◌^◌, drop-drop}
 use Rattle.std.proofs.lemmas.Bool.{false≢true, le-leb, lt-leb}
-use Rattle.std.proofs.lemmas.List.{drop-drop}
 use Rattle.std.proofs.lemmas.List.Sums.{sum_by-append}
 use Rattle.gate_base.specs.declared.side.Side.{Side}
 use Rattle.gate_base.specs.declared.side.Side.TheVariants.{Left, Right}
-use Rattle.gate_base.specs.Side.{same_side}
-use Rattle.gate_base.specs.Events.{Event}
+use Rattle.gate_base.specs.Prelude.{same_side, Event}
 use Rattle.gate_desk.specs.Outside.{Outside, Takes, told_at}
 use Rattle.gate_desk.specs.declared.slot.Slot.TheVariants.{LeftIn, RightIn}
 use Rattle.gate_desk.proofs.Laws.{told_at-took, told_at-took_other}
 use Rattle.pcap_files.specs.declared.form.Form.{Form}
-use Rattle.pcap_files.specs.Capture.{Packet, Records, Next, Ended, Broken, Came, size, next_at, Good, head_of, capture_of, records_from}
-use Rattle.pcap_files.specs.Reader.{Reading, TakesNoRecord, TakesToFailure}
+use Rattle.pcap_files.specs.Prelude.{Packet, Records, Next, Ended, Broken, Came, size, next_at, Good, head_of, capture_of, records_from, Reading, TakesNoRecord, TakesToFailure}
 use Rattle.pcap_files.proofs.Records.{records-came, records-ended, records-broken, capture-good}
 use Rattle.pcap_merge.specs.declared.order.Last.{Last}
 use Rattle.pcap_merge.specs.declared.order.Last.TheVariants.{Nothing, Event as LastEvent}
 use Rattle.pcap_merge.specs.declared.stop.MergeStop.{MergeStop}
-use Rattle.pcap_merge.specs.Order.{is_unread}
-use Rattle.pcap_merge.specs.Given.{whole_in, whole_records, count_of_side, EndsOn, EndsAtTaken, HasTakenFew, TakenFor, total, with_records, one_held, HasRead, IsLast}
-use Rattle.pcap_merge.specs.Sides.{Readies, ComesTo, held_size, one_for}
-use Rattle.pcap_merge.specs.Stops.{slot_of}
-use Rattle.pcap_merge.specs.Merge.{Merging, merging, event_given, reading_of, HasGiven, TakesFew}
+use Rattle.pcap_merge.specs.Prelude.{is_unread, count_of_side, EndsAtTaken, TakenFor, with_records, HasRead, Readies, one_for, slot_of, Merging, merging, event_given, reading_of, HasGiven, TakesFew}
+use Rattle.pcap_merge.specs.Given.{whole_in, whole_records, EndsOn, HasTakenFew, total, one_held, IsLast}
+use Rattle.pcap_merge.specs.Sides.{ComesTo, held_size}
 
 -- ## Records that lie whole in so many octets
 

@@ -3,8 +3,9 @@ use Rattle.std.proofs.Common.{◌≡◌, ℕ, zero, suc, ◌+◌, ◌<◌, List,
 use Rattle.gate_base.specs.declared.side.Side.{Side}
 use Rattle.gate_base.specs.declared.side.Side.TheVariants.{Left, Right}
 use Rattle.pcap_files.specs.declared.fault.CaptureFault.{CaptureFault}
-use Rattle.pcap_files.specs.Capture.{Packet, Ending as CaptureEnding, Whole, Fault as CaptureEndsFaulty}
-use Rattle.pcap_merge.specs.Events.{Done, Fault, Merged, Ahead, Turn, Gives, Ends, Stops, Front, front_of, front_by, turn_of, turn_at, AtRecord, AtEnd, AtFault, after, without_first, event_at, link_at, with_event, goes_on, up_to, merge_from}
+use Rattle.pcap_files.specs.Prelude.{Packet, Ending as CaptureEnding, Whole, Fault as CaptureEndsFaulty}
+use Rattle.pcap_merge.specs.Prelude.{Done, Fault, Merged, Ahead, Turn, Gives, Ends, Stops, front_of, front_by, turn_of, turn_at, after, without_first, event_at, link_at, with_event, goes_on}
+use Rattle.pcap_merge.specs.Events.{Front, AtRecord, AtEnd, AtFault, up_to, merge_from}
 
 same_after : (a : Ahead) (x : Turn) (f g : Side → Packet → Merged) → ((side : Side) (p : Packet) → x ≡ Gives side p → f side p ≡ g side p) → goes_on a x f ≡ goes_on a x g
 same_after a (Gives side p) f g h = ap (with_event (event_at side (max a.clock p.stamp) (link_at side a) p)) (h side p refl)

@@ -8,11 +8,10 @@ use Rattle.gate_desk.proofs.Laws.{takes_none}
 use Rattle.pcap_files.specs.declared.fault.ReadStop.{ReadStop}
 use Rattle.pcap_files.specs.declared.fault.ReadStop.TheVariants.{Fault, Desk, OutOfMemory}
 use Rattle.pcap_files.specs.declared.fault.CaptureFault.{CaptureFault}
-use Rattle.pcap_files.specs.Capture.{Packet, Next, Ended, Broken, Came, size, next_at, Records, Fault as EndsFaulty, records_from}
-use Rattle.pcap_files.specs.Reader.{Reading, IsSmall, Advances, TakesNoRecord, TakesToFault, TakesToFailure}
+use Rattle.pcap_files.specs.Prelude.{Packet, Next, Ended, Broken, Came, size, next_at, Records, Fault as EndsFaulty, records_from, Reading, IsSmall, Advances, TakesNoRecord, TakesToFailure}
+use Rattle.pcap_files.specs.Reader.{TakesToFault}
 use Rattle.pcap_files.proofs.Records.{records-came, records-ended, records-broken, ended_is_empty}
-use Rattle.pcap_merge.specs.Sides.{Readies, ReadsSide, records_ahead, IsSpent, side_work, one_for}
-use Rattle.pcap_merge.specs.Stops.{slot_of, stop_of}
+use Rattle.pcap_merge.specs.Prelude.{Readies, ReadsSide, records_ahead, IsSpent, side_work, one_for, slot_of, stop_of}
 use Rattle.pcap_merge.proofs.Given.{one_for_some}
 
 same_records : (unread : Bool) (r : Reading) (o : Option (List ℕ)) → IfSome o (λ octets. records_ahead unread r octets ≡ records_ahead unread r (drop 0 octets))

@@ -8,14 +8,13 @@ use Rattle.pcap_files.specs.declared.fault.CaptureFault.{CaptureFault}
 use Rattle.pcap_files.specs.declared.fault.ReadStop.{ReadStop}
 use Rattle.pcap_files.specs.declared.fault.ReadStop.TheVariants.{Fault, Desk, OutOfMemory}
 use Rattle.pcap_files.specs.declared.form.Form.{Form}
-use Rattle.pcap_files.specs.Capture.{Head, Good, Bad, head_of, capture_of, Records, Packet, records_from}
-use Rattle.pcap_files.specs.Reader.{Reading, Begins as BeginsReader}
+use Rattle.pcap_files.specs.Prelude.{Head, Good, Bad, head_of, capture_of, Records, Packet, records_from, Reading}
+use Rattle.pcap_files.specs.Reader.{Begins as BeginsReader}
 use Rattle.pcap_files.proofs.Records.{capture-good}
 use Rattle.pcap_merge.specs.declared.order.Last.TheVariants.{Nothing}
-use Rattle.pcap_merge.specs.Stops.{stop_of}
-use Rattle.pcap_merge.specs.Events.{Merged, Fault as EndsFaulty, merge_from, are_good, have_good_heads, events_of, by_heads}
-use Rattle.pcap_merge.specs.Merge.{Merging, merging, all_events, ahead, sides_ahead, HasBegun, Begins}
-use Rattle.pcap_merge.specs.Sides.{IsSpent}
+use Rattle.pcap_merge.specs.Prelude.{stop_of, Merged, Fault as EndsFaulty, merge_from, are_good, by_heads, Merging, merging, sides_ahead, Begins, IsSpent}
+use Rattle.pcap_merge.specs.Events.{have_good_heads, events_of}
+use Rattle.pcap_merge.specs.Merge.{all_events, ahead, HasBegun}
 use Rattle.pcap_merge.proofs.Reading.{one_at_most}
 use Rattle.pcap_merge.proofs.Given.{given_none, heads_few}
 use Rattle.pcap_merge.proofs.Steps.{reads_of, left_told, right_told, both, sides}

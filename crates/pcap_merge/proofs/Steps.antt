@@ -5,23 +5,21 @@ use Rattle.std.proofs.lemmas.Option.{none-some}
 use Rattle.gate_base.specs.declared.side.Side.{Side}
 use Rattle.gate_base.specs.declared.side.Side.TheVariants.{Left, Right}
 use Rattle.gate_base.specs.declared.side.Link.{Link}
-use Rattle.gate_base.specs.Side.{same_side}
-use Rattle.gate_base.specs.Events.{Event}
+use Rattle.gate_base.specs.Prelude.{same_side, Event}
 use Rattle.gate_desk.specs.declared.slot.Slot.TheVariants.{LeftIn, RightIn}
 use Rattle.gate_desk.specs.Outside.{Outside, Trace, Takes, HasFailed, told_at, took}
 use Rattle.gate_desk.proofs.Laws.{takes_none, grows_on, grows_takes, failed_since}
 use Rattle.pcap_files.specs.declared.fault.CaptureFault.{CaptureFault}
 use Rattle.pcap_files.specs.declared.form.Form.{Form}
-use Rattle.pcap_files.specs.Capture.{Packet, Records, Fault as CaptureEndsFaulty, records_from}
-use Rattle.pcap_files.specs.Reader.{Reading, IsSmall}
+use Rattle.pcap_files.specs.Prelude.{Packet, Records, Fault as CaptureEndsFaulty, records_from, Reading, IsSmall}
 use Rattle.pcap_merge.specs.declared.order.Last.{Last}
 use Rattle.pcap_merge.specs.declared.order.Last.TheVariants.{Nothing, Event as LastEvent, End}
 use Rattle.pcap_merge.specs.declared.stop.MergeStop.{MergeStop}
 use Rattle.pcap_merge.specs.declared.stop.MergeStop.TheVariants.{Fault, Desk, OutOfMemory}
-use Rattle.pcap_merge.specs.Order.{is_unread, earlier}
-use Rattle.pcap_merge.specs.Events.{Merged, Done, Fault as EndsFaulty, Ahead, Gives, Stops, front_of, turn_of, behind_first, event_at, with_event, merge_from}
-use Rattle.pcap_merge.specs.Sides.{Readies, ReadsSide, ReadsSides, records_ahead, held_before, IsSpent, side_work}
-use Rattle.pcap_merge.specs.Merge.{Merging, merging, event_given, HoldsLast, IsSound, Reads, ahead, sides_ahead, ComesTo, Finishes, StopsBy, Advances}
+use Rattle.pcap_merge.specs.Prelude.{is_unread, earlier, Merged, Done, Fault as EndsFaulty, Ahead, Gives, Stops, front_of, turn_of, event_at, with_event, merge_from, Readies, ReadsSide, records_ahead, IsSpent, side_work, Merging, merging, event_given, Reads, sides_ahead, ComesTo, Finishes, StopsBy, Advances}
+use Rattle.pcap_merge.specs.Events.{behind_first}
+use Rattle.pcap_merge.specs.Sides.{ReadsSides, held_before}
+use Rattle.pcap_merge.specs.Merge.{HoldsLast, IsSound, ahead}
 use Rattle.pcap_merge.proofs.Merged.{merge-gives, merge-ends, merge-stops}
 use Rattle.pcap_merge.proofs.Given.{same_right, given_more, ends_taken, both_ready, left_stopped, right_stopped}
 

@@ -5,13 +5,13 @@ use Rattle.std.specs.List.Sorted.{IsNonDecreasingBy}
 use Rattle.gate_base.specs.declared.side.Side.{Side}
 use Rattle.gate_base.specs.declared.side.Side.TheVariants.{Left, Right}
 use Rattle.gate_base.specs.declared.side.Link.{Link}
-use Rattle.gate_base.specs.Events.{Event}
-use Rattle.gate_base.specs.Side.{other}
+use Rattle.gate_base.specs.Prelude.{Event, other}
 use Rattle.pcap_files.specs.declared.fault.CaptureFault.{CaptureFault}
 use Rattle.pcap_files.specs.declared.form.Form.{Form}
-use Rattle.pcap_files.specs.Capture.{Packet, Records, Ending as CaptureEnding, Whole, Fault as CaptureEndsFaulty, Head, Good, Bad, head_of, capture_of}
-use Rattle.pcap_merge.specs.Events.{Ending, Done, Fault, Merged, Ahead, Turn, Gives, Ends, Stops, front_by, turn_of, turn_at, after, without_first, event_at, link_at, with_event, merge_from, by_heads, events_of}
-use Rattle.pcap_merge.specs.Picks.{Pick, by_side, taken, events_from, ComesBefore, EndsBy, IsMerge}
+use Rattle.pcap_files.specs.Prelude.{Packet, Records, Ending as CaptureEnding, Whole, Fault as CaptureEndsFaulty, Head, Good, Bad, head_of, capture_of}
+use Rattle.pcap_merge.specs.Prelude.{Ending, Done, Fault, Merged, Ahead, Turn, Gives, Ends, Stops, front_by, turn_of, turn_at, after, without_first, event_at, link_at, with_event, merge_from, by_heads, EndsBy}
+use Rattle.pcap_merge.specs.Events.{events_of}
+use Rattle.pcap_merge.specs.Picks.{Pick, by_side, taken, events_from, ComesBefore, IsMerge}
 use Rattle.pcap_merge.proofs.Merged.{left_has_none, right_has_none, count, one_gone, merge-gives, merge-ends, merge-stops}
 
 -- the links and the records of both sides

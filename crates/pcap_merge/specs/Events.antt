@@ -3,9 +3,9 @@ use Rattle.std.specs.Prelude.{Bool, true, false, ℕ, ◌+◌, List, [], ◌∷�
 use Rattle.gate_base.specs.declared.side.Side.{Side}
 use Rattle.gate_base.specs.declared.side.Side.TheVariants.{Left, Right}
 use Rattle.gate_base.specs.declared.side.Link.{Link}
-use Rattle.gate_base.specs.Events.{Event}
+use Rattle.gate_base.specs.Prelude.{Event}
 use Rattle.pcap_files.specs.declared.fault.CaptureFault.{CaptureFault}
-use Rattle.pcap_files.specs.Capture.{Packet, Records, Ending as CaptureEnding, Whole, Fault as CaptureEndsFaulty, Head, Good, Bad, head_of, capture_of}
+use Rattle.pcap_files.specs.Prelude.{Packet, Records, Ending as CaptureEnding, Whole, Fault as CaptureEndsFaulty, Head, Good, Bad, head_of, capture_of}
 
 -- how the events end: both captures are at their ends, or that of a side is faulty at a place
 pub data Ending : Type 0 where

@@ -1,11 +1,9 @@
 -- Which records of each side were taken whole, and which events were given for them.
 use Rattle.std.specs.Prelude.{◌≡◌, ◌≤◌, ◌⊎◌, ℕ, ◌+◌, ◌-◌, ◌^◌, List, [], ◌∷◌, ◌++◌, Bool, true, false, Option, Some, None, IfSome, if◌then◌else◌, nat_le, option_map, drop, length, count_by}
 use Rattle.gate_base.specs.declared.side.Side.{Side}
-use Rattle.gate_base.specs.Side.{same_side}
-use Rattle.gate_base.specs.Events.{Event}
+use Rattle.gate_base.specs.Prelude.{same_side, Event}
 use Rattle.gate_desk.specs.Outside.{Outside, told_at}
-use Rattle.pcap_files.specs.Capture.{Packet, Records, size, capture_of, records_from}
-use Rattle.pcap_files.specs.Reader.{Reading}
+use Rattle.pcap_files.specs.Prelude.{Packet, Records, size, capture_of, records_from, Reading}
 use Rattle.pcap_merge.specs.Stops.{slot_of}
 use Rattle.pcap_merge.specs.Sides.{one_for}
 

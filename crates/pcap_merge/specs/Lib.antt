@@ -5,3 +5,4 @@ pub mod Sides
 pub mod Given
 pub mod Merge
 pub mod Picks
+pub mod Prelude

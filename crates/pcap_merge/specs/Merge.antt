@@ -1,14 +1,12 @@
 -- A merge of two captures, and what its calls answer.
-use Rattle.std.specs.Prelude.{◌≡◌, ℕ, ◌+◌, ◌*◌, ◌^◌, ◌<◌, ◌≤◌, List, [], ◌∷◌, ◌++◌, Bool, true, false, Option, Some, None, Result, Ok, Err, IfSome, IsSome, option_map, drop, length}
-use Rattle.gate_base.specs.Moments.{IsMoment}
+use Rattle.std.specs.Prelude.{◌≡◌, ℕ, ◌+◌, ◌^◌, ◌<◌, ◌≤◌, List, [], ◌∷◌, ◌++◌, Bool, true, false, Option, Some, None, Result, Ok, Err, IfSome, IsSome, option_map, drop, length}
+use Rattle.gate_base.specs.Prelude.{IsMoment, Event}
 use Rattle.gate_base.specs.declared.side.Side.{Side}
 use Rattle.gate_base.specs.declared.side.Side.TheVariants.{Left, Right}
-use Rattle.gate_base.specs.Events.{Event}
 use Rattle.gate_desk.specs.declared.slot.Slot.TheVariants.{LeftIn, RightIn}
 use Rattle.gate_desk.specs.declared.slot.PerSlot.{PerSlot}
 use Rattle.gate_desk.specs.Outside.{Outside, Trace, told_at, took, HasFailed, Grows, IsAtEnd}
-use Rattle.pcap_files.specs.Capture.{Packet}
-use Rattle.pcap_files.specs.Reader.{Reading, IsSmall}
+use Rattle.pcap_files.specs.Prelude.{Packet, Reading, IsSmall}
 use Rattle.pcap_merge.specs.declared.order.Last.{Last}
 use Rattle.pcap_merge.specs.declared.order.Last.TheVariants.{Nothing, Event as LastEvent, End}
 use Rattle.pcap_merge.specs.declared.stop.MergeStop.{MergeStop}

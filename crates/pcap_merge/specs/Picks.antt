@@ -3,9 +3,8 @@ use Rattle.std.specs.Prelude.{◌≡◌, ℕ, ◌<◌, ◌≤◌, List, [], ◌�
 use Rattle.gate_base.specs.declared.side.Side.{Side}
 use Rattle.gate_base.specs.declared.side.Side.TheVariants.{Left, Right}
 use Rattle.gate_base.specs.declared.side.Link.{Link}
-use Rattle.gate_base.specs.Events.{Event}
-use Rattle.gate_base.specs.Side.{other, same_side}
-use Rattle.pcap_files.specs.Capture.{Packet, Records, Ending as CaptureEnding, Whole, Fault as CaptureEndsFaulty}
+use Rattle.gate_base.specs.Prelude.{Event, other, same_side}
+use Rattle.pcap_files.specs.Prelude.{Packet, Records, Ending as CaptureEnding, Whole, Fault as CaptureEndsFaulty}
 use Rattle.pcap_merge.specs.Events.{Ending, Done, Fault, Merged, event_at}
 
 -- the value of a side

@@ -3,8 +3,7 @@ use Rattle.std.specs.Prelude.{◌≡◌, ◌⊎◌, ℕ, ◌+◌, ◌-◌, ◌^�
 use Rattle.gate_base.specs.declared.side.Side.{Side}
 use Rattle.gate_base.specs.declared.side.Side.TheVariants.{Left, Right}
 use Rattle.gate_desk.specs.Outside.{Outside, Takes, HasFailed, told_at}
-use Rattle.pcap_files.specs.Capture.{Packet, Records, Whole, Fault as EndsFaulty, Ended, Came, size, next_at, records_from}
-use Rattle.pcap_files.specs.Reader.{Reading, IsSmall, TakesToFailure}
+use Rattle.pcap_files.specs.Prelude.{Packet, Records, Whole, Fault as EndsFaulty, Ended, Came, size, next_at, records_from, Reading, IsSmall, TakesToFailure}
 use Rattle.pcap_merge.specs.declared.order.Last.{Last}
 use Rattle.pcap_merge.specs.declared.stop.MergeStop.{MergeStop}
 use Rattle.pcap_merge.specs.declared.stop.MergeStop.TheVariants.{Fault, Desk, OutOfMemory}

@@ -2,7 +2,7 @@
 ghost use Rattle.std.specs.Prelude.{◌≡◌, ℕ, List};
 ghost use Rattle.std.specs.List.Sorted.{IsNonDecreasingBy};
 ghost use Rattle.pcap_files.specs.declared.form.Form.{Form};
-ghost use Rattle.pcap_files.specs.Capture.{Head, Good, head_of, capture_of};
+ghost use Rattle.pcap_files.specs.Prelude.{Head, Good, head_of, capture_of};
 ghost use Rattle.pcap_merge.specs.Events.{events_of};
 ghost use Rattle.pcap_merge.specs.Picks.{IsMerge, by_side};
 

@@ -1,6 +1,6 @@
 // The events of two captures, one by one.
 ghost use Rattle.std.specs.Prelude.{◌≡◌, Some, None, Err, IfSome, IsSome};
-ghost use Rattle.gate_base.specs.Events.{event_of};
+ghost use Rattle.gate_base.specs.Prelude.{event_of};
 ghost use Rattle.gate_desk.specs.Outside.{CanRead};
 ghost use Rattle.pcap_merge.specs.Merge.{Begins, Advances};
 ghost use Rattle.pcap_merge.specs.Stops.{LeavesCounts};

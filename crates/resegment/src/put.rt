@@ -1,8 +1,7 @@
 // Pieces as datagrams.
 ghost use Rattle.std.specs.Prelude.{◌≡◌, ◌≤◌, ◌<◌, ◌+◌, ◌-◌, ◌*◌, ◌^◌, ℕ, List, [], ◌∷◌, ◌++◌, length, vec_capacity};
 ghost use Rattle.std.specs.List.{flat_map};
-ghost use Rattle.tcp_segments.specs.Flags.{flags_octet};
-ghost use Rattle.tcp_segments.specs.Tcp.{IsTcpHeader, spelled_segment, datagram_of};
+ghost use Rattle.tcp_segments.specs.Prelude.{flags_octet, IsTcpHeader, spelled_segment, datagram_of};
 ghost use Rattle.resegment.specs.Pieces.{piece_count};
 ghost use Rattle.resegment.specs.Datagrams.{datagrams, ends_from, room_for, piece_flags};
 

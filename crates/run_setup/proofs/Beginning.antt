@@ -1,7 +1,6 @@
 -- The settings and the heads of both captures.
-use Rattle.std.proofs.Common.{◌≡◌, ℕ, ◌<◌, List, [], ◌++◌, Bool, true, false, nat_lt, Result, Ok, Err, IfOk, IsTrue, Option, Some, None, IfSome, option_map, take, drop, length, refl, sym, ap, subst, ◌∙◌, arith, inl, inr}
+use Rattle.std.proofs.Common.{◌≡◌, ℕ, ◌<◌, List, [], ◌++◌, Bool, true, false, nat_lt, Result, Ok, Err, IfOk, IsTrue, Option, Some, None, IfSome, option_map, take, drop, length, refl, sym, ap, subst, ◌∙◌, arith, inl, inr, take_all, length-take-le}
 use Rattle.std.proofs.lemmas.Bool.{cases_Bool, false≢true}
-use Rattle.std.proofs.lemmas.List.{take_all, length-take-le}
 use Rattle.std.proofs.lemmas.Option.{IfSome_then}
 use borrow.Author.Tests.{ltb-true, ltb-false, lt-ltb}
 use Rattle.gate_desk.specs.declared.slot.Slot.{Slot}
@@ -20,24 +19,18 @@ use Rattle.settings_file.specs.declared.fault.ReadSettings.TheVariants as reads
 use Rattle.settings_file.specs.Firsts.{ReturnsFound}
 use Rattle.settings_file.specs.Document.{keys_of}
 use Rattle.settings_file.specs.Accepting.{settings_of}
-use Rattle.gate_settings.specs.Sound.{IsSound}
-use Rattle.gate_settings.specs.Forms.{HasForms}
+use Rattle.gate_settings.specs.Prelude.{IsSound, HasForms}
 use Rattle.pcap_files.specs.declared.fault.CaptureFault.{CaptureFault}
 use Rattle.pcap_merge.specs.declared.stop.MergeStop.{MergeStop}
 use Rattle.pcap_merge.specs.declared.stop.MergeStop.TheVariants as merges
-use Rattle.pcap_merge.specs.Events.{Merged, Ending, Done as BothEnded, Fault as EndsFaulty, have_good_heads}
-use Rattle.pcap_merge.specs.Order.{is_unread}
-use Rattle.pcap_merge.specs.Given.{HasRead, count_of_side}
-use Rattle.pcap_merge.specs.Merge.{Merging, HeadsAre, HasGiven, Reads, Begins, all_events, count_of, reading_of}
-use Rattle.pcap_merge.specs.Stops.{StopLeavesCounts, slot_of}
-use Rattle.gate_base.specs.Events.{Event}
+use Rattle.pcap_merge.specs.Prelude.{Merged, Ending, Done as BothEnded, Fault as EndsFaulty, have_good_heads, is_unread, HasRead, count_of_side, Merging, HeadsAre, HasGiven, Reads, Begins, reading_of, StopLeavesCounts, slot_of}
+use Rattle.pcap_merge.specs.Merge.{all_events, count_of}
+use Rattle.gate_base.specs.Prelude.{Event}
 use Rattle.gate_base.specs.declared.side.Side.{Side}
 use Rattle.gate_base.specs.declared.side.Side.TheVariants.{Left, Right}
 use Rattle.run_setup.specs.declared.status.Status.{Status}
 use Rattle.run_setup.specs.declared.status.Status.TheVariants.{ReadFault, OpenFault, OutOfMemory, CaptureRefused}
-use Rattle.run_setup.specs.Stops.{status_of_take, status_of_settings, status_of_merge}
-use Rattle.run_setup.specs.Causes.{Causes, StartsAll, StartedBy, Stops, Opens, is_read}
-use Rattle.run_setup.specs.Beginning.{IsAccepted, IsBeforeHead, events_in, Settled, Settles, EndsAtSettings, Begun, EndsAtHeads}
+use Rattle.run_setup.specs.Prelude.{status_of_take, status_of_settings, status_of_merge, Causes, StartsAll, StartedBy, Stops, Opens, is_read, IsAccepted, IsBeforeHead, events_in, Settled, Settles, EndsAtSettings, Begun, EndsAtHeads}
 use Rattle.run_setup.proofs.Causes.{causes_since, stops_on}
 
 -- what is told

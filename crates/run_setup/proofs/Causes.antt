@@ -8,7 +8,8 @@ use Rattle.gate_desk.specs.Outside.{Outside, Start, Starts, FailsToStart, Grows,
 use Rattle.gate_desk.proofs.Laws.{grows_on, grows_starts, grows_fails_to_start, none_failed_on, failed_since, failed_to_start_since}
 use Rattle.run_setup.specs.declared.status.Status.{Status}
 use Rattle.run_setup.specs.declared.status.Status.TheVariants.{ReadFault, WriteFault, OpenFault, OutOfMemory}
-use Rattle.run_setup.specs.Causes.{Causes, started_all, StartsAll, StartsBefore, StartedBy, Stops, Opens, is_started}
+use Rattle.run_setup.specs.Prelude.{Causes, StartsAll, StartsBefore, StartedBy, Stops, Opens, is_started}
+use Rattle.run_setup.specs.Causes.{started_all}
 
 -- what a `?` hands on
 pub handed_on : {T E : Type 0} (Goal : Result T E → Type 0) (r : Result T E) (e : E) → IsErrAnd r (λ y. y ≡ e) → Goal (Err e) → Goal r

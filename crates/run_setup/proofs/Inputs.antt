@@ -1,13 +1,13 @@
 -- What was taken of the settings and of both captures.
-use Rattle.std.proofs.Common.{◌≡◌, ℕ, ◌+◌, ◌≤◌, List, Result, Ok, Err, Some, None, IfSome, length, take, refl, sym, ap, ◌∙◌, arith}
-use Rattle.std.proofs.lemmas.List.{drop-drop, length-take}
+use Rattle.std.proofs.Common.{◌≡◌, ℕ, ◌+◌, ◌≤◌, List, Result, Ok, Err, Some, None, IfSome, length, take, refl, sym, ap, ◌∙◌, arith, drop-drop, length-take}
 use Rattle.gate_desk.specs.declared.slot.Slot.TheVariants.{Settings, LeftIn, RightIn}
 use Rattle.gate_desk.specs.Outside.{Outside, Trace, AreUpTo, Takes, took, told_at}
 use Rattle.gate_desk.proofs.Laws.{took-none}
 use Rattle.pcap_merge.specs.declared.stop.MergeStop.{MergeStop}
 use Rattle.pcap_merge.specs.declared.stop.MergeStop.TheVariants as merges
-use Rattle.pcap_merge.specs.Merge.{Merging, Begins, Reads}
-use Rattle.run_setup.specs.Beginning.{TookCaptures, TookInputs, TookSettings}
+use Rattle.pcap_merge.specs.Prelude.{Merging, Begins, Reads}
+use Rattle.run_setup.specs.Prelude.{TookCaptures, TookInputs}
+use Rattle.run_setup.specs.Beginning.{TookSettings}
 
 -- ## The settings
 

@@ -5,11 +5,9 @@ use Rattle.gate_desk.specs.Outside.{Outside, Trace, Start, Takes, told_at}
 use Rattle.gate_settings.specs.declared.settings.Settings.{Settings as GateSettings}
 use Rattle.pcap_merge.specs.declared.stop.MergeStop.{MergeStop}
 use Rattle.pcap_merge.specs.declared.stop.MergeStop.TheVariants as merges
-use Rattle.pcap_merge.specs.Given.{TakenFor}
-use Rattle.pcap_merge.specs.Merge.{Begins}
-use Rattle.pcap_merge.specs.Stops.{slot_of}
+use Rattle.pcap_merge.specs.Prelude.{TakenFor, Begins, slot_of}
 use Rattle.pcap_merge.proofs.Given.{taken_none, taken_since}
-use Rattle.run_setup.specs.Beginning.{Settled}
+use Rattle.run_setup.specs.Prelude.{Settled}
 use Rattle.run_setup.proofs.Beginning.{told_before}
 
 -- nothing was read

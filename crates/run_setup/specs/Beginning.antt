@@ -6,14 +6,11 @@ use Rattle.gate_desk.specs.declared.slot.PerSlot.{PerSlot}
 use Rattle.gate_desk.specs.Outside.{Outside, Grows, NoneFailed, told_at, Start, took}
 use Rattle.gate_settings.specs.declared.settings.Settings.{Settings as GateSettings}
 use Rattle.settings_file.specs.Accepting.{settings_of}
-use Rattle.pcap_merge.specs.Events.{Merged, Fault as EndsFaulty, events_of}
+use Rattle.pcap_merge.specs.Prelude.{Merged, Fault as EndsFaulty, events_of, slot_of, Merging, HeadsAre, HasGiven, all_events, ahead, work, AtEnds}
 use Rattle.run_setup.specs.declared.status.Status.{Status}
 use Rattle.run_setup.specs.declared.status.Status.TheVariants.{SettingsRefused, CaptureRefused, ReadFault, OpenFault, OutOfMemory}
 use Rattle.gate_base.specs.declared.side.Side.{Side}
-use Rattle.gate_settings.specs.Sound.{IsSound}
-use Rattle.gate_settings.specs.Forms.{HasForms}
-use Rattle.pcap_merge.specs.Stops.{slot_of}
-use Rattle.pcap_merge.specs.Merge.{Merging, HeadsAre, HasGiven, all_events, ahead, work, AtEnds}
+use Rattle.gate_settings.specs.Prelude.{IsSound, HasForms}
 use Rattle.run_setup.specs.Causes.{started_all, Stops}
 use Rattle.gate_desk.specs.declared.slot.Access.TheVariants.{Read}
 

@@ -1,7 +1,7 @@
 -- The words of a command.
 use Rattle.std.specs.Prelude.{ℕ, ◌+◌, ◌*◌, ◌≤◌, nat_lt, nat_le, length, slice_index, List, [], ◌∷◌, Bool, false, not, ◌&&◌, ◌||◌, ◌==◌, if◌then◌else◌, Option, Some, None, codes}
 use Rattle.std.specs.Str.{bytes_eq}
-use Rattle.gate_base.specs.Address.{◌>>=◌, digit_of}
+use Rattle.gate_base.specs.Prelude.{◌>>=◌, digit_of}
 use Rattle.run_setup.specs.RunNames.{Names, names_of}
 use Rattle.run_setup.specs.AuditNames.{Names as AuditNames, names_of as audit_names_of}
 use Rattle.run_setup.specs.declared.command.Command.{Command as Words}

@@ -7,3 +7,4 @@ pub mod Telling
 pub mod RunNames
 pub mod AuditNames
 pub mod Command
+pub mod Prelude

@@ -1,6 +1,6 @@
 -- The exit status, and the line about what went wrong.
 use Rattle.std.specs.Prelude.{ℕ, List, [], ◌++◌, codes, decimal}
-use Rattle.gate_base.specs.Side.{name_of}
+use Rattle.gate_base.specs.Prelude.{name_of}
 use Rattle.gate_desk.specs.Slots.{name_of as slot_name}
 use Rattle.settings_file.specs.Faults.{text_of}
 use Rattle.pcap_files.specs.Faults.{name_of as fault_name}

@@ -1,6 +1,6 @@
 // The settings, and the heads of both captures.
 ghost use Rattle.std.specs.Prelude.{◌≡◌, [], OnErr};
-ghost use Rattle.pcap_merge.specs.Given.{TakenFor};
+ghost use Rattle.pcap_merge.specs.Prelude.{TakenFor};
 ghost use Rattle.run_setup.specs.Causes.{Opens};
 ghost use Rattle.run_setup.specs.Beginning.{Settles, Merges, TookCaptures, TookSettings, settings_start, inputs_start};
 

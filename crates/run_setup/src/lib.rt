@@ -11,7 +11,7 @@ mod status;
 mod stops;
 
 pub use command::{Command, read_words};
-pub use errors::write_error_line;
+pub use errors::{ErrorLine, write_error_line};
 pub use heads::{begin, read_settings_file};
 pub use names::{AuditNames, FileNames};
 pub use open::start_slot;

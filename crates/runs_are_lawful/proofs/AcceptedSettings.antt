@@ -1,6 +1,5 @@
 -- Accepted settings have Ethernet addresses of six octets.
-use Rattle.std.proofs.Common.{◌≡◌, ℕ, Bool, true, false, List, [], length, Option, Some, None, refl, subst}
-use Rattle.std.specs.Prelude.{◌&&◌, ◌==◌, nat_lt, if◌then◌else◌, Ok, Err, IfOk, IfSome, unwrap_or, ok_or}
+use Rattle.std.proofs.Common.{◌≡◌, ℕ, Bool, true, false, List, [], length, Option, Some, None, refl, subst, ◌&&◌, ◌==◌, nat_lt, if◌then◌else◌, Ok, Err, IfOk, IfSome, unwrap_or, ok_or}
 use Rattle.toml.specs.Data.{Data, Members}
 use Rattle.gate_base.specs.declared.side.Side.{Side}
 use Rattle.gate_base.specs.declared.side.Side.TheVariants.{Left, Right}
@@ -16,7 +15,7 @@ use Rattle.settings_file.specs.Document as document
 use Rattle.settings_file.specs.Firsts.{◌>>=◌, Found}
 use Rattle.settings_file.specs.Texts.{hex_pair, has_colons, six_pairs, mac_text}
 use Rattle.settings_file.proofs.Forms.{bind, given, after, spelled, optional}
-use Rattle.lawful_files.specs.Files.{HasMacAddresses, HaveMacAddresses}
+use Rattle.lawful_files.specs.Prelude.{HasMacAddresses, HaveMacAddresses}
 
 -- ## An Ethernet address
 

@@ -1,6 +1,5 @@
 -- What comes to the gate of frames that are octets is octets, and comes at their moments.
-use Rattle.std.proofs.Common.{◌≡◌, ◌<◌, ◌+◌, ◌-◌, ℕ, suc, Bool, true, false, List, [], ◌∷◌, ◌++◌, length, take, drop, All, Option, Some, None, refl, sym, subst, arith, inl, inr}
-use Rattle.std.specs.Prelude.{IfSome, ◌==◌, ◌/◌, ◌%◌, if◌then◌else◌, slice_get, slice_index, option_and_then, unwrap_or}
+use Rattle.std.proofs.Common.{◌≡◌, ◌<◌, ◌+◌, ◌-◌, ℕ, suc, Bool, true, false, List, [], ◌∷◌, ◌++◌, length, take, drop, All, Option, Some, None, refl, sym, subst, arith, inl, inr, IfSome, ◌==◌, ◌/◌, ◌%◌, if◌then◌else◌, slice_get, slice_index, option_and_then, unwrap_or}
 use Rattle.std.specs.List.{range_with_len}
 use Rattle.std.specs.Option.{option_or}
 use Rattle.std.proofs.lemmas.Bool.{cases_lt}
@@ -8,22 +7,18 @@ use Rattle.std.proofs.lemmas.List.{get_or_past}
 use Rattle.std.proofs.lemmas.List.Elements.{All-nil, All-cons, All-take, All-drop, All-append, All-push, All-set, All-map, All-filter, All-get_or}
 use Rattle.std.proofs.lemmas.Option.{slice_get_within, get_or_from_slice_get}
 use Rattle.byteorder.specs.Endian.{big_bytes}
-use Rattle.gate_base.specs.Events.{Event}
-use Rattle.gate_base.specs.Fields.{with_u16}
-use Rattle.gate_base.specs.Tests.{first_that_holds}
+use Rattle.gate_base.specs.Prelude.{Event, with_u16, first_that_holds}
 use Rattle.gate_base.specs.declared.refusal.Refusal.{Refusal}
 use Rattle.gate_base.specs.declared.side.Link.TheVariants.{Raw}
 use Rattle.inet_sum.specs.Sum.{checksum}
 use Rattle.ipv4_frames.specs.Ipv4.{total_length_of}
-use Rattle.frag_join.specs.Arrivals.{Arrival, opened, joiner_after, arrival_by, arrival, arrivals_from, arrivals_of}
-use Rattle.frag_join.specs.Fragments.{Fragment, is_fragment, name_in, fragment_in, octet_in, covers, octets_of}
-use Rattle.frag_join.specs.Joining.{Step, State, by_list, live, is_live, changed, place_of, part_of, part_or_new, fragment_tests, with_fragment, settled, taken_unless, fragment_step, step_by, step}
-use Rattle.frag_join.specs.Coverage.{octet_at, octet_of, reach_of, header_told, header_by, known_by, is_complete, cleared_head, whole_head, payload_below, datagram_of}
-use Rattle.frag_join.specs.Places.{table}
+use Rattle.frag_join.specs.Prelude.{Arrival, opened, joiner_after, arrival_by, arrival, arrivals_of, Fragment, is_fragment, name_in, fragment_in, octet_in, covers, octets_of, Step, State, by_list, live, is_live, changed, place_of, part_of, part_or_new, fragment_tests, with_fragment, settled, taken_unless, fragment_step, step_by, step, octet_at, octet_of, reach_of, header_told, header_by, known_by, is_complete, whole_head, payload_below, datagram_of, table}
+use Rattle.frag_join.specs.Arrivals.{arrivals_from}
+use Rattle.frag_join.specs.Coverage.{cleared_head}
 use Rattle.frag_join.specs.declared.part.Part.{Part}
 use Rattle.frag_join.specs.declared.taken.Taken.{Taken}
 use Rattle.frag_join.specs.declared.taken.Taken.TheVariants as taken
-use Rattle.lawful_files.specs.Wanted.{event_in}
+use Rattle.lawful_files.specs.Prelude.{event_in}
 use Rattle.lawful_files.proofs.SentLists.{AreOctets, octet_at as octet_within, in_octets}
 use Rattle.runs_are_lawful.proofs.EventsRead.{IsRead, AreRead}
 

@@ -1,13 +1,11 @@
 -- How many datagrams an event gives.
-use Rattle.std.proofs.Common.{◌≡◌, ◌≤◌, ◌<◌, ◌+◌, ◌-◌, ◌/◌, ◌^◌, ℕ, zero, suc, Bool, true, false, cond, List, length, drop, Option, Some, None, refl, sym, ap, subst, arith, length-take, length-drop}
-use Rattle.std.specs.Prelude.{IfSome, nat_lt, slice_range, if◌then◌else◌}
+use Rattle.std.proofs.Common.{◌≡◌, ◌≤◌, ◌<◌, ◌+◌, ◌-◌, ◌/◌, ◌^◌, ℕ, zero, suc, Bool, true, false, cond, List, length, drop, Option, Some, None, refl, sym, ap, subst, arith, length-take, length-drop, IfSome, nat_lt, slice_range, if◌then◌else◌}
 use Rattle.std.proofs.Math.Nat.{div-le_self}
 use Rattle.std.proofs.lemmas.List.{length-map}
 use Rattle.std.proofs.lemmas.List.Elements.{All-filter}
-use Rattle.dialogue.specs.Meaning.{Meaning, IsLawful}
-use Rattle.dialogue.specs.Stream.{image}
-use Rattle.dns_stream.specs.Lawful.{dns_units-lawful}
-use Rattle.gate_base.specs.Events.{Event}
+use Rattle.dialogue.specs.Prelude.{Meaning, IsLawful, image}
+use Rattle.dns_stream.specs.Prelude.{dns_units-lawful}
+use Rattle.gate_base.specs.Prelude.{Event}
 use Rattle.gate_base.specs.declared.address.Addr.{Addr}
 use Rattle.gate_base.specs.declared.event.Pair.{Pair}
 use Rattle.gate_base.specs.declared.event.Verdict.{Verdict}
@@ -15,25 +13,15 @@ use Rattle.gate_base.specs.declared.event.Verdict.TheVariants.{Pass, Refused, He
 use Rattle.gate_base.specs.declared.side.Side.{Side}
 use Rattle.gate_base.specs.declared.host.Host.{Host}
 use Rattle.gate_base.specs.declared.host.Host.TheVariants.{Client, Server}
-use Rattle.binding_table.specs.Bindings.{Bindings}
+use Rattle.binding_table.specs.Prelude.{Bindings}
 use Rattle.ipv4_frames.specs.Ipv4.{Datagram}
-use Rattle.stream_model.specs.Session.{Sender, Session, Segment, own, other, session, due_in, start_of}
-use Rattle.stream_model.specs.Refusals.{segment_refusal}
-use Rattle.stream_model.specs.Steps.{pieces, limit_of, taken, acknowledged, sends_end, low, high, empty_piece, bare_offset, acknowledgement_to, outgoing, pieces_for, syn_out, reset_out, data_out, out as sender_out, session_out, session_next, session_made, own_after}
+use Rattle.stream_model.specs.Prelude.{Sender, Session, Segment, own, other, session, due_in, start_of, segment_refusal, pieces, limit_of, taken, acknowledged, sends_end, low, high, empty_piece, bare_offset, acknowledgement_to, outgoing, pieces_for, syn_out, reset_out, data_out, out as sender_out, session_out, session_next, session_made, own_after}
 use Rattle.stream_model.specs.declared.numbers.Offset.{Offset}
 use Rattle.stream_model.proofs.Cutting.{pieces_from, pieces_are}
 use Rattle.stream_model.proofs.FactLemmas.{image_small, short_step}
-use Rattle.tcp_tracker.specs.Connections.{is_live}
+use Rattle.tcp_tracker.specs.Prelude.{is_live}
 use Rattle.tcp_tracker.specs.declared.connection.Connection.{Connection}
-use Rattle.gate_model.specs.Frame.{Kind, Udp, Echo, Error, Dns, Snmp, Stream, datagram_in, kind_of}
-use Rattle.gate_model.specs.Lists.{Lists, list_of}
-use Rattle.gate_model.specs.Rules.{whole_rules}
-use Rattle.gate_model.specs.Sessions.{WholeSession, lists_at, meaning_by, reads_by, whole_learned}
-use Rattle.gate_model.specs.Step.{out, out_by, out_kind, stream_out, taker_in}
-use Rattle.gate_model.specs.Stream.{tcp_of, segment_of, sent_as, found_in, key_in, begins, made_by, taker_by, session_refusal}
-use Rattle.gate_model.specs.Remembered.{EachTracked}
-use Rattle.gate_model.specs.Verdict.{table_after, image_in, kind_tests, verdict}
-use Rattle.gate_model.specs.World.{World, Tracked, at_moment, called, source_of, destination_of, host_on}
+use Rattle.gate_model.specs.Prelude.{Kind, Udp, Echo, Error, Dns, Snmp, Stream, datagram_in, kind_of, Lists, list_of, whole_rules, WholeSession, lists_at, meaning_by, reads_by, whole_learned, out, out_by, out_kind, stream_out, taker_in, tcp_of, segment_of, sent_as, found_in, key_in, begins, made_by, taker_by, session_refusal, EachTracked, table_after, image_in, kind_tests, verdict, World, Tracked, at_moment, called, source_of, destination_of, host_on}
 use Rattle.gate_model.proofs.Passing.{NoneHolds, passes, stream_passes}
 use Rattle.gate_model.proofs.RememberedSessions.{meaning_lawful, meaning_step}
 use Rattle.gate_model.proofs.Tracking.{Keeps, all_found}

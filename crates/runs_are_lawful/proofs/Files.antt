@@ -1,34 +1,28 @@
 -- The files of a run, put together.
-use Rattle.std.proofs.Common.{◌≡◌, ◌≤◌, ◌<◌, ◌*◌, ◌/◌, ◌%◌, ◌^◌, ℕ, List, [], ◌∷◌, ◌++◌, length, refl, sym, ◌∙◌, ap, subst, arith, length-append}
-use Rattle.std.specs.Prelude.{map, IfSome}
-use Rattle.std.proofs.lemmas.List.{append-nil}
+use Rattle.std.proofs.Common.{◌≡◌, ◌≤◌, ◌<◌, ◌*◌, ◌/◌, ◌%◌, ◌^◌, ℕ, List, [], ◌∷◌, ◌++◌, length, refl, sym, ◌∙◌, ap, subst, arith, length-append, map, IfSome, append-nil}
 use Rattle.std.proofs.lemmas.List.Elements.{All-nil}
 use Rattle.byteorder.specs.Endian.{big_bytes}
-use Rattle.frag_join.specs.Arrivals.{Arrival, Reaches, Stopped}
+use Rattle.frag_join.specs.Prelude.{Arrival, Reaches, Stopped}
 use Rattle.ether_frames.specs.Ether.{framed_on}
-use Rattle.gate_base.specs.Side.{other}
+use Rattle.gate_base.specs.Prelude.{other}
 use Rattle.gate_base.specs.declared.side.Link.{Link}
 use Rattle.gate_base.specs.declared.side.Link.TheVariants.{Ethernet, Raw}
 use Rattle.gate_base.specs.declared.side.Side.{Side}
 use Rattle.gate_base.specs.declared.side.Side.TheVariants.{Left, Right}
 use Rattle.gate_desk.specs.declared.slot.Slot.TheVariants.{LeftOut, RightOut, Report}
-use Rattle.gate_settings.specs.Cross.{side_settings}
+use Rattle.gate_settings.specs.Prelude.{side_settings}
 use Rattle.gate_settings.specs.declared.settings.Settings.{Settings}
 use Rattle.gate_settings.specs.declared.settings.SideSettings.{SideSettings}
-use Rattle.pcap_files.specs.Capture.{Packet, Records, Whole, head_of, capture_of}
+use Rattle.pcap_files.specs.Prelude.{Packet, Records, Whole, head_of, capture_of, Entry, all_spelled, head_octets}
 use Rattle.pcap_files.specs.declared.form.Order.TheVariants.{Little}
-use Rattle.pcap_files.specs.Spelled.{Entry, all_spelled}
-use Rattle.pcap_files.specs.Spelling.{head_octets}
-use Rattle.pcap_merge.specs.Events.{Merged, Ending, Done, Fault}
-use Rattle.gate_model.specs.Sessions.{WholeSession}
-use Rattle.gate_model.specs.Rules.{whole_rules}
-use Rattle.gate_model.specs.Remembered.{EachTracked}
-use Rattle.gate_model.specs.World.{Tracked}
+use Rattle.pcap_merge.specs.Prelude.{Merged, Ending, Done, Fault}
+use Rattle.gate_model.specs.Prelude.{WholeSession, whole_rules, EachTracked, Tracked}
 use Rattle.tcp_tracker.specs.declared.connection.Connection.{Connection}
 use Rattle.gate_model.proofs.Tracking.{next_keeps}
-use Rattle.gateway.specs.Machine.{State, opening, after, after_one, arrivals_by, files, heads, given_by_merged, given_by_all, ended_by, framed, out_slot}
-use Rattle.lawful_files.specs.Wanted.{event_in, wanted_of, IsLawfulList}
-use Rattle.lawful_files.specs.Files.{Given, Lawful, HasLink, LawfulFrom, HasMacAddresses, HaveMacAddresses}
+use Rattle.gateway.specs.Prelude.{State, opening, after, after_one, arrivals_by, files, heads, given_by_all, ended_by, framed, out_slot}
+use Rattle.gateway.specs.Machine.{given_by_merged}
+use Rattle.lawful_files.specs.Prelude.{event_in, wanted_of, IsLawfulList, Given, HasLink, LawfulFrom, HasMacAddresses, HaveMacAddresses}
+use Rattle.lawful_files.specs.Files.{Lawful}
 use Rattle.lawful_files.proofs.SentLists.{own_lawful}
 use Rattle.lawful_files.proofs.Judged.{addresses_of}
 use Rattle.runs_are_lawful.specs.Outputs.{octets_to}

@@ -1,31 +1,18 @@
 -- What goes out at an event can be written as records.
-use Rattle.std.proofs.Common.{◌≡◌, ◌≤◌, ◌+◌, ℕ, false, List, [], ◌∷◌, ◌++◌, length, take, drop, Option, Some, None, refl, sym, ap, subst, arith}
-use Rattle.std.specs.Prelude.{map, option_and_then}
-use Rattle.std.proofs.lemmas.Bool.{ltb-false}
-use Rattle.gate_base.specs.Events.{Event}
+use Rattle.std.proofs.Common.{◌≡◌, ◌≤◌, ◌+◌, ℕ, false, List, [], ◌∷◌, ◌++◌, length, take, drop, Option, Some, None, refl, sym, ap, subst, arith, map, option_and_then, ltb-false}
+use Rattle.gate_base.specs.Prelude.{Event}
 use Rattle.gate_base.specs.declared.event.Verdict.{Verdict}
 use Rattle.gate_base.specs.declared.address.Addr.{Addr}
 use Rattle.gate_base.specs.declared.event.Verdict.TheVariants.{Pass, Refused, Held}
 use Rattle.gate_base.specs.declared.refusal.Refusal.TheVariants.{SnmpTooLong}
 use Rattle.gate_base.specs.declared.side.Side.{Side}
 use Rattle.icmp_errors.specs.Inner.{inner_fields, inner_with}
-use Rattle.binding_table.specs.Bindings.{Bindings}
+use Rattle.binding_table.specs.Prelude.{Bindings}
 use Rattle.ipv4_frames.specs.Ipv4.{Datagram}
-use Rattle.stream_model.specs.Session.{Sender, Segment, Outgoing, other}
-use Rattle.stream_model.specs.Steps.{Piece, limit_of, session_out}
+use Rattle.stream_model.specs.Prelude.{Sender, Segment, Outgoing, other, Piece, limit_of, session_out, Sent, session_sent, ArePieces, segment_with, MaySend}
 use Rattle.twice_translate.specs.Renamed.{with_payload}
-use Rattle.gate_model.specs.Frame.{Kind, Udp, Echo, Error, Dns, Snmp, Stream, datagram_in, kind_of}
-use Rattle.gate_model.specs.Inner.{inside, inner_number}
-use Rattle.gate_model.specs.Management.{management_after, is_snmp_too_long}
-use Rattle.gate_model.specs.Names.{names_after}
-use Rattle.gate_model.specs.Rules.{whole_rules}
-use Rattle.gate_model.specs.Sessions.{WholeSession, whole_learned}
-use Rattle.gate_model.specs.Step.{out, out_by, out_kind, stream_out, taker_in}
-use Rattle.gate_model.specs.Stream.{segment_of, sent_as}
-use Rattle.gate_model.specs.Verdict.{table_after, image_in, verdict}
-use Rattle.gate_model.specs.World.{World, Tracked, at_moment, called, source_of, destination_of, host_on}
+use Rattle.gate_model.specs.Prelude.{Kind, Udp, Echo, Error, Dns, Snmp, Stream, datagram_in, kind_of, inside, inner_number, management_after, is_snmp_too_long, names_after, whole_rules, WholeSession, whole_learned, out, out_by, out_kind, stream_out, taker_in, segment_of, sent_as, table_after, image_in, verdict, World, Tracked, at_moment, called, source_of, destination_of, host_on}
 use Rattle.gate_model.proofs.Passing.{Passes, none_head, passes}
-use Rattle.stream_model.specs.Cuts.{Sent, session_sent, ArePieces, segment_with, MaySend}
 use Rattle.lawful_files.proofs.SentLists.{AreOctets, event_options, limit_some}
 use Rattle.runs_are_lawful.proofs.ShortNames.{names_short}
 use Rattle.runs_are_lawful.proofs.Shorts.{IsShort, event_short, renamed_short, sent_short, error_short, rebuilt_short}

@@ -1,7 +1,5 @@
 -- What stands written, and the law over what a desk tells.
-use Rattle.std.proofs.Common.{◌≡◌, ℕ, true, List, [], ◌∷◌, ◌++◌, Some, refl, sym, ◌∙◌, ap, subst, append_assoc}
-use Rattle.std.specs.Prelude.{if◌then◌else◌}
-use Rattle.std.proofs.lemmas.List.{append-nil}
+use Rattle.std.proofs.Common.{◌≡◌, ℕ, true, List, [], ◌∷◌, ◌++◌, Some, refl, sym, ◌∙◌, ap, subst, append_assoc, if◌then◌else◌, append-nil}
 use Rattle.gate_desk.specs.Outside.{wrote, told_at}
 use Rattle.gate_desk.specs.Slots.{at, put, same_slot}
 use Rattle.gate_desk.proofs.Laws.{at-put_append}
@@ -9,16 +7,16 @@ use Rattle.gate_desk.specs.declared.slot.PerSlot.{PerSlot}
 use Rattle.gate_desk.specs.declared.slot.Slot.{Slot}
 use Rattle.gate_desk.specs.declared.slot.Slot.TheVariants as slots
 use Rattle.gate_settings.specs.declared.settings.Settings.{Settings}
-use Rattle.pcap_files.specs.Capture.{Head, Good, Bad, head_of}
-use Rattle.pcap_merge.specs.Events.{Done, are_good, by_heads, have_good_heads, events_of}
-use Rattle.gateway.specs.Machine.{files}
-use Rattle.run_setup.specs.Beginning.{IsAccepted, events_in}
-use Rattle.gateway.specs.Ends.{outputs_of}
-use Rattle.gateway.specs.Pieces.{Piece, wrote_pieces}
+use Rattle.pcap_files.specs.Prelude.{Head, Good, Bad, head_of}
+use Rattle.pcap_merge.specs.Prelude.{Done, are_good, by_heads}
+use Rattle.pcap_merge.specs.Events.{have_good_heads, events_of}
+use Rattle.gateway.specs.Prelude.{files, outputs_of, Piece}
+use Rattle.run_setup.specs.Prelude.{IsAccepted, events_in}
+use Rattle.gateway.specs.Pieces.{wrote_pieces}
 use Rattle.gateway.proofs.Runs.{good_outputs}
 use Rattle.runs_are_lawful.proofs.AcceptedSettings.{accepted_have}
 use Rattle.runs_are_lawful.proofs.EventsRead.{events_are_read}
-use Rattle.lawful_files.specs.Files.{LawfulFor}
+use Rattle.lawful_files.specs.Prelude.{LawfulFor}
 use Rattle.runs_are_lawful.specs.Outputs.{octets_to, IsOctets, OutputsFit}
 use Rattle.runs_are_lawful.proofs.Files.{files_lawful}
 

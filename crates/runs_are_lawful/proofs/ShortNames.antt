@@ -1,15 +1,12 @@
 -- Messages of DNS over UDP that go on are no longer than a datagram may be.
-use Rattle.std.proofs.Common.{◌≡◌, ◌≤◌, ◌+◌, ◌/◌, ◌%◌, ℕ, zero, suc, Bool, true, false, List, [], ◌∷◌, ◌++◌, length, Option, Some, None, refl, arith, length-append, length-drop}
-use Rattle.std.specs.Prelude.{map, max, nat_lt, ◌==◌, ◌||◌, if◌then◌else◌, is_some, IfSome, decimal}
+use Rattle.std.proofs.Common.{◌≡◌, ◌≤◌, ◌+◌, ◌/◌, ◌%◌, ℕ, zero, suc, Bool, true, false, List, [], ◌∷◌, ◌++◌, length, Option, Some, None, refl, arith, length-append, length-drop, map, max, nat_lt, ◌==◌, ◌||◌, if◌then◌else◌, is_some, IfSome, decimal}
 use Rattle.std.specs.List.{list_any}
 use Rattle.std.specs.Fmt.{digits, digits_onto, digit_glyph}
 use Rattle.std.proofs.lemmas.Bool.Decides.{nat_tests}
 use Rattle.gate_base.specs.declared.address.Addr.{Addr}
 use Rattle.gate_base.specs.declared.side.Side.{Side}
-use Rattle.binding_table.specs.Bindings.{Bindings}
-use Rattle.binding_table.specs.Plan.{image_after}
-use Rattle.dns_names.specs.Names.{spelled_label, spelled}
-use Rattle.dns_names.specs.Reverse.{full_reverse, numbers, with_address}
+use Rattle.binding_table.specs.Prelude.{Bindings, image_after}
+use Rattle.dns_names.specs.Prelude.{spelled_label, spelled, full_reverse, numbers, with_address}
 use Rattle.dns_messages.specs.declared.message.Question.{Question}
 use Rattle.dns_messages.specs.declared.message.Message.{Message}
 use Rattle.dns_messages.specs.Reading.{message_at}
@@ -20,7 +17,7 @@ use Rattle.dns_gateway.proofs.Cutting.{cut-within}
 use Rattle.dns_gateway.specs.Replies.{cut, reply_of}
 use Rattle.dns_gateway.specs.Renaming.{name_to, image_of, question_renamed, message_renamed}
 use Rattle.ipv4_frames.specs.Ipv4.{Datagram}
-use Rattle.gate_model.specs.Names.{carried, message_in, named_in, reply_by, names_after}
+use Rattle.gate_model.specs.Prelude.{carried, message_in, named_in, reply_by, names_after}
 
 -- ## Names
 

@@ -1,28 +1,22 @@
 -- No datagram that goes out is longer than a record may be.
-use Rattle.std.proofs.Common.{◌≡◌, ◌≤◌, ◌<◌, ◌+◌, ◌-◌, ℕ, Bool, true, false, List, [], ◌∷◌, ◌++◌, length, take, drop, Option, Some, None, arith, inl, inr, length-append, length-drop, length-take}
-use Rattle.std.specs.Prelude.{◌==◌, slice_set, unwrap_or, if◌then◌else◌, is_some}
-use Rattle.std.specs.List.{flat_map}
+use Rattle.std.proofs.Common.{◌≡◌, ◌≤◌, ◌<◌, ◌+◌, ◌-◌, ℕ, Bool, true, false, List, [], ◌++◌, length, take, drop, Option, Some, None, arith, inl, inr, length-append, length-drop, length-take, ◌==◌, slice_set, unwrap_or, if◌then◌else◌, is_some, flat_map, length-set}
 use Rattle.std.proofs.lemmas.Bool.{cases_Bool, true≢false}
 use Rattle.std.proofs.lemmas.List.Elements.{All-drop}
-use Rattle.std.proofs.lemmas.List.{length-set}
 use Rattle.byteorder.specs.Endian.{big_bytes}
 use Rattle.byteorder.specs.Numbers.{big_from-lt}
-use Rattle.gate_base.specs.Fields.{u16_at, with_u16, with_u32}
-use Rattle.gate_base.specs.Events.{Event}
+use Rattle.gate_base.specs.Prelude.{u16_at, with_u16, with_u32, Event}
 use Rattle.inet_sum.specs.Sum.{checksum}
 use Rattle.ether_frames.specs.Ether.{octets_in}
 use Rattle.ipv4_frames.specs.Ipv4.{Datagram, total_length_of, head_with, spelled_head}
 use Rattle.udp_icmp.specs.Udp.{sealed_udp, udp_sum_of, udp_covered}
 use Rattle.udp_icmp.specs.Icmp.{sealed_icmp}
-use Rattle.tcp_segments.specs.Tcp.{tcp_covered, sealed_tcp, tcp_header_with, spelled_segment, tcp_header_length_of}
-use Rattle.tcp_segments.specs.Options.{options_of, are_options, blank, blanked}
+use Rattle.tcp_segments.specs.Prelude.{tcp_covered, spelled_segment, tcp_header_length_of, options_of, are_options, blank, blanked, flags_octet}
+use Rattle.tcp_segments.specs.Tcp.{sealed_tcp, tcp_header_with}
 use Rattle.tcp_segments.proofs.Blanking.{blanks}
-use Rattle.tcp_segments.specs.Flags.{flags_octet}
 use Rattle.twice_translate.specs.Renamed.{with_addresses, renamed, sealed_payload, with_payload, datagram_of}
 use Rattle.icmp_errors.specs.Inner.{addressed, numbered, inner_with}
-use Rattle.stream_model.specs.Session.{Outgoing}
-use Rattle.gate_model.specs.Frame.{datagram_in}
-use Rattle.gate_model.specs.Stream.{tcp_of, sent_as}
+use Rattle.stream_model.specs.Prelude.{Outgoing}
+use Rattle.gate_model.specs.Prelude.{datagram_in, tcp_of, sent_as}
 use Rattle.lawful_files.proofs.SentLists.{AreOctets, octet_at, in_octets, payload_octets}
 
 -- ## Fields that are put in their places

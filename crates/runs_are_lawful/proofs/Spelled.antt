@@ -1,11 +1,9 @@
 -- The outgoing captures as spellings of records, and what is read of them.
-use Rattle.std.proofs.Common.{◌≡◌, ◌≤◌, ◌<◌, ◌+◌, ◌*◌, ◌/◌, ◌%◌, ◌^◌, ℕ, Bool, true, List, [], ◌∷◌, ◌++◌, length, refl, sym, ◌∙◌, ap, arith, append_assoc, length-append}
-use Rattle.std.specs.Prelude.{map, nat_le, if◌then◌else◌}
+use Rattle.std.proofs.Common.{◌≡◌, ◌≤◌, ◌<◌, ◌+◌, ◌*◌, ◌/◌, ◌%◌, ◌^◌, ℕ, Bool, true, List, [], ◌∷◌, ◌++◌, length, refl, sym, ◌∙◌, ap, arith, append_assoc, length-append, map, nat_le, if◌then◌else◌, div-add-mod'}
 use Rattle.std.proofs.lemmas.List.{append-nil, map-append}
-use Rattle.std.proofs.lemmas.Nat.{div-add-mod'}
 use Rattle.std.proofs.lemmas.Bool.Decides.{nat_tests}
-use Rattle.frag_join.specs.Arrivals.{Arrival, Reaches, Stopped}
-use Rattle.gate_base.specs.Side.{other}
+use Rattle.frag_join.specs.Prelude.{Arrival, Reaches, Stopped}
+use Rattle.gate_base.specs.Prelude.{other}
 use Rattle.gate_base.specs.declared.side.Side.{Side}
 use Rattle.gate_base.specs.declared.side.Side.TheVariants.{Left, Right}
 use Rattle.gate_base.specs.declared.side.Link.{Link}
@@ -15,17 +13,13 @@ use Rattle.gate_settings.specs.declared.settings.Settings.{Settings}
 use Rattle.pcap_files.specs.declared.form.Order.TheVariants.{Little}
 use Rattle.pcap_files.specs.declared.form.Precision.TheVariants.{Nanoseconds}
 use Rattle.pcap_files.specs.declared.form.Form.{Form}
-use Rattle.pcap_files.specs.Capture.{Packet, Whole, Good, head_of, capture_of}
-use Rattle.pcap_files.specs.Spelled.{Entry, spelled, all_spelled, packet_from, AreGood}
-use Rattle.pcap_files.specs.Spelling.{head_octets, record_octets}
+use Rattle.pcap_files.specs.Prelude.{Packet, Whole, Good, head_of, capture_of, Entry, spelled, all_spelled, packet_from, AreGood, head_octets}
+use Rattle.pcap_files.specs.Spelling.{record_octets}
 use Rattle.pcap_files.proofs.Joined.{reads, length-spelled}
-use Rattle.gateway.specs.Machine.{State, framed, out_slot, sent, event_piece, after_one, given_by, given_by_all}
-use Rattle.gateway.specs.Pieces.{Piece}
-use Rattle.gate_model.specs.Rules.{whole_rules}
-use Rattle.gate_model.specs.Sessions.{WholeSession}
-use Rattle.gate_model.specs.Step.{out}
-use Rattle.lawful_files.specs.Files.{record_of}
-use Rattle.lawful_files.specs.Wanted.{event_in, verdict_of}
+use Rattle.gateway.specs.Prelude.{State, framed, out_slot, sent, event_piece, after_one, given_by, Piece}
+use Rattle.gateway.specs.Machine.{given_by_all}
+use Rattle.gate_model.specs.Prelude.{whole_rules, WholeSession, out}
+use Rattle.lawful_files.specs.Prelude.{record_of, event_in, verdict_of}
 use Rattle.runs_are_lawful.specs.Outputs.{octets_to}
 
 -- ## What a frame gives

@@ -1,23 +1,19 @@
 -- A run's files go on as lawful files do, event by event.
-use Rattle.std.proofs.Common.{◌≡◌, ◌<◌, ◌^◌, ℕ, Bool, true, false, cond, List, [], ◌∷◌, ◌++◌, length, refl, sym, ◌∙◌, ap, subst, append_assoc}
-use Rattle.std.specs.Prelude.{map}
-use Rattle.std.proofs.lemmas.List.{append-nil}
-use Rattle.frag_join.specs.Arrivals.{Arrival, Reaches, Stopped}
-use Rattle.gate_base.specs.Side.{other}
+use Rattle.std.proofs.Common.{◌≡◌, ◌<◌, ◌^◌, ℕ, Bool, true, false, cond, List, [], ◌∷◌, ◌++◌, length, refl, sym, ◌∙◌, ap, subst, append_assoc, map, append-nil}
+use Rattle.frag_join.specs.Prelude.{Arrival, Reaches, Stopped}
+use Rattle.gate_base.specs.Prelude.{other}
 use Rattle.gate_base.specs.declared.side.Side.{Side}
 use Rattle.gate_base.specs.declared.side.Side.TheVariants.{Left, Right}
 use Rattle.gate_desk.specs.declared.slot.Slot.TheVariants.{Report}
 use Rattle.gate_settings.specs.declared.settings.Settings.{Settings}
 use Rattle.gate_report.specs.Counts.{done_line}
 use Rattle.gate_report.specs.Lines.{text_of, json_of}
-use Rattle.pcap_files.specs.Capture.{Packet, Records, Whole}
-use Rattle.pcap_merge.specs.Events.{Ending, Done, Fault}
-use Rattle.gate_model.specs.Rules.{whole_rules}
-use Rattle.gate_model.specs.Sessions.{WholeSession}
-use Rattle.gateway.specs.Machine.{State, sent, after_one, after, given_by_all, ended_by, last_line as written_last}
-use Rattle.lawful_files.specs.Wanted.{event_in, wanted_of, IsLawfulList}
-use Rattle.lawful_files.specs.Files.{Given, given_at, State as AuditState, after as after_lawful, record_of, line_of, last_line, IsLawfulAt, LawfulFrom}
-use Rattle.gateway.specs.Pieces.{Piece}
+use Rattle.pcap_files.specs.Prelude.{Packet, Records, Whole}
+use Rattle.pcap_merge.specs.Prelude.{Ending, Done, Fault}
+use Rattle.gate_model.specs.Prelude.{whole_rules, WholeSession}
+use Rattle.gateway.specs.Prelude.{State, sent, after_one, after, ended_by, last_line as written_last, Piece}
+use Rattle.gateway.specs.Machine.{given_by_all}
+use Rattle.lawful_files.specs.Prelude.{event_in, wanted_of, IsLawfulList, Given, given_at, State as AuditState, after as after_lawful, record_of, line_of, last_line, IsLawfulAt, LawfulFrom}
 use Rattle.runs_are_lawful.specs.Outputs.{octets_to}
 use Rattle.runs_are_lawful.proofs.Spelled.{outs_of, line_piece_of, gives, to_it, to_other, packets_to, octets-append}
 

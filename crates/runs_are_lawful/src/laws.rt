@@ -6,11 +6,10 @@ ghost use Rattle.gate_desk.specs.declared.slot.PerSlot.{PerSlot};
 ghost use Rattle.gate_desk.specs.declared.slot.Slot.{Slot};
 ghost use Rattle.gate_desk.specs.declared.slot.Slot.TheVariants.{LeftOut, RightOut, Report};
 ghost use Rattle.gate_settings.specs.declared.settings.Settings.{Settings};
-ghost use Rattle.pcap_merge.specs.Events.{Done, have_good_heads};
-ghost use Rattle.run_setup.specs.Beginning.{IsAccepted, events_in};
-ghost use Rattle.gateway.specs.Ends.{outputs_of};
-ghost use Rattle.gateway.specs.Pieces.{Piece, wrote_pieces};
-ghost use Rattle.lawful_files.specs.Files.{LawfulFor};
+ghost use Rattle.pcap_merge.specs.Prelude.{Done, have_good_heads};
+ghost use Rattle.run_setup.specs.Prelude.{IsAccepted, events_in};
+ghost use Rattle.gateway.specs.Prelude.{outputs_of, Piece, wrote_pieces};
+ghost use Rattle.lawful_files.specs.Prelude.{LawfulFor};
 ghost use Rattle.runs_are_lawful.specs.Outputs.{octets_to, IsOctets, OutputsFit};
 
 /// For accepted settings and captures of octets, the files that a run writes are lawful for the captures, where neither

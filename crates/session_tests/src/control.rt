@@ -1,5 +1,5 @@
 ghost use Rattle.std.specs.Prelude.{◌≡◌};
-ghost use Rattle.dialogue.specs.Meaning.{HoldsAtMost};
+ghost use Rattle.dialogue.specs.Prelude.{HoldsAtMost};
 
 use dialogue::{Dialogue, Holder};
 use ftp_lines::{ClientLines, ServerLines, rests_are_short};

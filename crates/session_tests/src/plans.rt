@@ -1,8 +1,8 @@
 ghost use Rattle.std.specs.Prelude.{◌≡◌, true, not, IfOk};
 ghost use Rattle.std.specs.List.{list_all};
 ghost use Rattle.gate_base.specs.declared.side.Side.TheVariants as sides;
-ghost use Rattle.binding_table.specs.Bindings.{cross};
-ghost use Rattle.gate_model.specs.Names.{is_unbound};
+ghost use Rattle.binding_table.specs.Prelude.{cross};
+ghost use Rattle.gate_model.specs.Prelude.{is_unbound};
 
 use binding_table::{Crossing, SeenAddresses, Table};
 use dialogue::UnitImage;
@@ -79,7 +79,7 @@ struct OneList {
 
 impl Model for OneList {
     ghost use Rattle.std.specs.Prelude.{List};
-    ghost use Rattle.dialogue.specs.Learning.{Entry};
+    ghost use Rattle.dialogue.specs.Prelude.{Entry};
 
     ghost Value = { List Entry };
 

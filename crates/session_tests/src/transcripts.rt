@@ -1,5 +1,5 @@
 ghost use Rattle.std.specs.Prelude.{◌≡◌, ◌≤◌, length, Some, None, IfOk};
-ghost use Rattle.tcp_segments.specs.Tcp.{IsTcpHeader};
+ghost use Rattle.tcp_segments.specs.Prelude.{IsTcpHeader};
 ghost use Rattle.audit_streams.specs.Hosts.{unheard};
 
 use audit_streams::{Sent, WholeStreams};

@@ -3,8 +3,7 @@ use Rattle.std.proofs.Common.{◌≡◌, ℕ, List, Option, Some, None, Ok, Err,
 use Rattle.settings_file.specs.Accepting.{first_fault, settings_of, unless}
 use Rattle.settings_file.specs.Document.{keys_of}
 use Rattle.settings_file.specs.Firsts.{◌>>=◌, Found}
-use Rattle.gate_settings.specs.Forms.{HasForms}
-use Rattle.gate_settings.specs.Sound.{IsSound}
+use Rattle.gate_settings.specs.Prelude.{HasForms, IsSound}
 use Rattle.settings_file.specs.declared.fault.SettingsFault.{SettingsFault}
 use Rattle.settings_file.specs.declared.given.Given.{Given}
 use Rattle.gate_settings.specs.declared.settings.Settings.{Settings}

@@ -1,13 +1,12 @@
 -- Prefixes that are read arc by arc.
-use Rattle.std.proofs.Common.{◌≡◌, ℕ, suc, ◌+◌, ◌-◌, ◌*◌, ◌<◌, ◌≤◌, ◌^◌, Bool, true, false, length, nat_le, ◌&&◌, ◌||◌, ◌==◌, List, [], ◌∷◌, ◌++◌, get_or, Option, Some, None, option_map, Result, Ok, Err, IfOk, refl, ◌∙◌, sym, arith, append_assoc}
-use Rattle.std.proofs.lemmas.Bool.{le-leb}
+use Rattle.std.proofs.Common.{◌≡◌, ℕ, suc, ◌+◌, ◌-◌, ◌*◌, ◌<◌, ◌≤◌, ◌^◌, Bool, true, false, length, nat_le, ◌&&◌, ◌||◌, ◌==◌, List, [], ◌∷◌, ◌++◌, get_or, Option, Some, None, option_map, Result, Ok, Err, IfOk, refl, ◌∙◌, sym, arith, append_assoc, le-leb}
 use Rattle.std.proofs.lemmas.Bool.Decides.{nat_tests}
 use Rattle.std.proofs.lemmas.List.Elements.{All-from_get_or}
 use Rattle.std.proofs.lemmas.List.Sums.{list_all-from_AllPass}
 use Rattle.std.proofs.lemmas.Option.{same_Some}
 use Rattle.std.specs.List.{list_all}
-use Rattle.gate_base.specs.Address.{◌>>=◌, cut_at, number_of}
-use Rattle.gate_base.specs.Rules.{greatest, is_prefix}
+use Rattle.gate_base.specs.Prelude.{◌>>=◌, cut_at, greatest, is_prefix}
+use Rattle.gate_base.specs.Address.{number_of}
 use Rattle.settings_file.specs.Prefixes.{arc_behind, arc_text, arcs_by, arcs_text}
 
 -- ## An arc, digit by digit

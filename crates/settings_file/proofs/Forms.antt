@@ -6,13 +6,13 @@ use Rattle.std.proofs.lemmas.List.Sums.{list_all-from_AllPass}
 use Rattle.std.specs.List.{AllByRecursion}
 use Rattle.toml.specs.Data.{Data, Items, no_items, item, Members, get_member, as_integer}
 use Rattle.gate_base.specs.Address as addresses
-use Rattle.gate_base.specs.Address.{quad, number_of, cut_at, is_unicast_number}
-use Rattle.gate_base.specs.Rules.{is_prefix, is_rule}
+use Rattle.gate_base.specs.Prelude.{quad, number_of, cut_at, is_unicast_number, is_prefix, is_rule}
 use Rattle.gate_base.specs.declared.rule.OidRule.{OidRule}
 use Rattle.settings_file.specs.declared.key.Key.{Key}
 use Rattle.settings_file.specs.declared.fault.SettingsFault.{SettingsFault}
 use Rattle.settings_file.specs.Firsts.{◌>>=◌, Found}
-use Rattle.gate_settings.specs.Forms.{IsBlock, IsUnicast, IsUnicastPair, HasUnicastPool, HasForms}
+use Rattle.gate_settings.specs.Prelude.{HasUnicastPool, HasForms}
+use Rattle.gate_settings.specs.Forms.{IsBlock, IsUnicast, IsUnicastPair}
 use Rattle.settings_file.specs.Texts.{address_text, block_text}
 use Rattle.settings_file.specs.Prefixes.{arcs_text, prefix_text}
 use Rattle.settings_file.specs.Document as document

@@ -1,7 +1,6 @@
 -- Settings without a fault fit one another.
-use Rattle.std.proofs.Common.{◌≡◌, ℕ, ◌+◌, ◌<◌, Bool, false, List, [], ◌∷◌, ◌++◌, length, get_or, Option, Some, None, refl, arith, All, inl, inr, nat_lt, append_assoc}
+use Rattle.std.proofs.Common.{◌≡◌, ℕ, ◌+◌, ◌<◌, Bool, false, List, [], ◌∷◌, ◌++◌, length, get_or, Option, Some, None, refl, arith, All, inl, inr, nat_lt, append_assoc, append-nil}
 use Rattle.std.proofs.lemmas.Bool.{cases_Bool}
-use Rattle.std.proofs.lemmas.List.{append-nil}
 use Rattle.std.proofs.lemmas.List.Folds.{list_any_at}
 use Rattle.std.proofs.lemmas.List.Quantifiers.{all_pairs_push}
 use Rattle.std.proofs.lemmas.List.Sums.{fails_before_first}
@@ -15,9 +14,8 @@ use Rattle.settings_file.specs.declared.fault.SettingsFault.{SettingsFault}
 use Rattle.settings_file.specs.declared.fault.SettingsFault.TheVariants.{PoolSize, SameInPool, HostInPool, StaticOutsidePool}
 use Rattle.gate_settings.specs.declared.settings.Fixed.{Fixed}
 use Rattle.settings_file.specs.declared.given.Given.{Given}
-use Rattle.gate_settings.specs.Cross.{collides, is_bad_pool, meets_same, host_is_taken, alias_is_outside, side_settings}
+use Rattle.gate_settings.specs.Prelude.{collides, is_bad_pool, meets_same, host_is_taken, alias_is_outside, side_settings, IsSound}
 use Rattle.settings_file.specs.Accepting.{first_side, first_static, first_repeated, first_fault, pool_size, same_in_pool, host_in_pool, static_outside_pool, static_repeated, mac_missing}
-use Rattle.gate_settings.specs.Sound.{IsSound}
 
 -- where no line has a fault, each line has none
 no_line : (line : Option SettingsFault) (lines : List (Option SettingsFault)) → fold option_or line lines ≡ None → AllByRecursion (λ l. l ≡ None) (line ∷ lines)

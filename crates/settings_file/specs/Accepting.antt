@@ -4,7 +4,7 @@ use Rattle.std.specs.List.{fold, list_any}
 use Rattle.std.specs.Option.{option_or}
 use Rattle.gate_base.specs.declared.side.Side.{Side}
 use Rattle.gate_base.specs.declared.side.Side.TheVariants.{Left, Right}
-use Rattle.gate_settings.specs.Cross.{side_settings, is_bad_pool, meets_same, host_is_taken, alias_is_outside, collides}
+use Rattle.gate_settings.specs.Prelude.{side_settings, is_bad_pool, meets_same, host_is_taken, alias_is_outside, collides}
 use Rattle.gate_settings.specs.declared.settings.Fixed.{Fixed}
 use Rattle.gate_settings.specs.declared.settings.Settings.{Settings}
 use Rattle.settings_file.specs.declared.fault.SettingsFault.{SettingsFault}

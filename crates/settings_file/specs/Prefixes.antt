@@ -1,7 +1,6 @@
 -- The prefixes of rules about object identifiers, as texts.
 use Rattle.std.specs.Prelude.{ℕ, zero, suc, ◌+◌, ◌*◌, ◌&&◌, ◌||◌, ◌==◌, nat_lt, nat_le, Bool, if◌then◌else◌, List, [], ◌∷◌, length, slice_index, Option, Some, None}
-use Rattle.gate_base.specs.Address.{◌>>=◌, cut_at, digit_of}
-use Rattle.gate_base.specs.Rules.{greatest, is_prefix}
+use Rattle.gate_base.specs.Prelude.{◌>>=◌, cut_at, digit_of, greatest, is_prefix}
 
 -- the number that digits write behind those of another, where none on the way is above the greatest arc
 unfoldable pub arc_behind : ℕ → List ℕ → Option ℕ

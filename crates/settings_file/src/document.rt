@@ -4,8 +4,7 @@ ghost use Rattle.toml.specs.View.{table_view};
 ghost use Rattle.settings_file.specs.Firsts.{ReturnsFound, ReturnsFoundBy};
 ghost use Rattle.settings_file.specs.Document.{document_of, keys_of};
 ghost use Rattle.settings_file.specs.Accepting.{settings_of};
-ghost use Rattle.gate_settings.specs.Forms.{HasForms};
-ghost use Rattle.gate_settings.specs.Sound.{IsSound};
+ghost use Rattle.gate_settings.specs.Prelude.{HasForms, IsSound};
 ghost use Rattle.settings_file.specs.declared.fault.SettingsFault.TheVariants.{NotToml};
 
 use crate::cross::first_fault;

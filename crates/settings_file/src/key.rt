@@ -7,7 +7,7 @@ use gate_base::Side;
 use itoa::Buffer;
 use std::fmt;
 
-/// Room for a key from the top of the document.
+/// The text of a key. It has at most 60 octets.
 pub type KeyText = ArrayString<60>;
 
 /// A key of the settings document. Entries of `static` and of `oid` are numbered from 1.

@@ -1,8 +1,7 @@
 // What is true of all settings.
 ghost use Rattle.std.specs.Prelude.{◌≡◌, ℕ, List, Ok};
 ghost use Rattle.settings_file.specs.Accepting.{settings_of};
-ghost use Rattle.gate_settings.specs.Forms.{HasForms};
-ghost use Rattle.gate_settings.specs.Sound.{IsSound};
+ghost use Rattle.gate_settings.specs.Prelude.{HasForms, IsSound};
 ghost use Rattle.gate_settings.specs.declared.settings.Settings.{Settings};
 
 /// Settings that octets give fit one another, and their blocks, addresses and rules have their forms.

@@ -12,6 +12,6 @@ mod texts;
 mod values;
 
 pub use document::read_settings;
-pub use fault::{ReadSettings, SettingsFault};
-pub use key::Key;
+pub use fault::{FaultText, ReadSettings, SettingsFault};
+pub use key::{Key, KeyText};
 pub use laws::accepted_settings;

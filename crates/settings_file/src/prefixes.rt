@@ -1,6 +1,6 @@
 // The prefixes of rules about object identifiers, as texts.
 ghost use Rattle.std.specs.Prelude.{◌≡◌, ◌==◌, ◌&&◌, ◌||◌, nat_le, ◌++◌, ◌∷◌, [], option_map, IfOk};
-ghost use Rattle.gate_base.specs.Rules.{is_prefix};
+ghost use Rattle.gate_base.specs.Prelude.{is_prefix};
 ghost use Rattle.settings_file.specs.Prefixes.{arc_behind, arc_text, arcs_text, prefix_text};
 
 use gate_base::{Arcs, OutOfMemory, cut, read_number};

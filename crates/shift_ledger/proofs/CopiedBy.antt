@@ -1,13 +1,11 @@
 -- The image octets that a ledger gives by what it keeps are those of the list of pushes.
-use Rattle.std.proofs.Common.{◌≡◌, ◌≤◌, ◌+◌, ◌-◌, ℕ, true, false, List, [], ◌∷◌, length, get_or, refl, sym, ◌∙◌, ap, arith, inl, inr}
-use Rattle.std.specs.Prelude.{nat_lt, Some, None, slice_index}
+use Rattle.std.proofs.Common.{◌≡◌, ◌≤◌, ◌+◌, ◌-◌, ℕ, true, false, List, [], ◌∷◌, length, get_or, refl, sym, ◌∙◌, ap, arith, inl, inr, nat_lt, Some, None, slice_index}
 use Rattle.std.proofs.lemmas.List.FromFn.{get_or-map-range_with_len, length-map-range_with_len}
 use Rattle.std.proofs.lemmas.Bool.{cases_lt, lt-ltb, le-ltb}
 use Rattle.std.proofs.lemmas.Option.{same_Some}
-use Rattle.dialogue.specs.Places.{Push}
-use Rattle.shift_ledger.specs.Answers.{octet_walk, copied_by}
-use Rattle.shift_ledger.specs.Kept.{KeptUnit, Kept, StandsFor, fore_of, back_of}
-use Rattle.shift_ledger.specs.Sources.{Source, Sent, Written, resolve, copied}
+use Rattle.dialogue.specs.Prelude.{Push}
+use Rattle.shift_ledger.specs.Prelude.{copied_by, KeptUnit, Kept, StandsFor, fore_of, back_of, Source, Sent, Written, resolve, copied}
+use Rattle.shift_ledger.specs.Answers.{octet_walk}
 use Rattle.shift_ledger.proofs.SourceWalk.{source_walk, source_walk-none, source_walk-before, source_walk-in, source_walk-after, sent_before, sent_before-is, sent_before-none, source_walk-kept, source_at, copied_is}
 
 sent_resolves : (n before start : ℕ) (octets : List ℕ) (x : Source) → sent_before n before ≡ Some x → slice_index octets (n - before - start) ≡ resolve start octets x

@@ -1,13 +1,10 @@
 -- Units that lie one behind the other, and the point from which a walk over them stops.
-use Rattle.std.proofs.Common.{◌≡◌, ◌≤◌, ◌<◌, ◌+◌, ℕ, zero, suc, Bool, true, false, not, cond, List, [], ◌∷◌, ◌++◌, length, drop, get_or, refl, sym, ◌∙◌, ap, arith, inl, inr}
-use Rattle.std.specs.Prelude.{map, filter, nat_lt, nat_le}
+use Rattle.std.proofs.Common.{◌≡◌, ◌≤◌, ◌<◌, ◌+◌, ℕ, zero, suc, Bool, true, false, not, cond, List, [], ◌∷◌, ◌++◌, length, drop, get_or, refl, sym, ◌∙◌, ap, arith, inl, inr, map, filter, nat_lt, nat_le}
 use Rattle.std.specs.List.Sorted.{IsNonDecreasingBy, IsPartitionPoint}
 use Rattle.std.proofs.lemmas.Bool.{cases_lt, cases_Bool, lt-ltb, le-ltb, le-leb, lt-leb}
 use Rattle.std.proofs.lemmas.List.{drop_more, drop_all, drop-map}
 use Rattle.shift_ledger.specs.declared.ledger.ChangedUnit.{ChangedUnit}
-use Rattle.shift_ledger.specs.Inside.{unit_of}
-use Rattle.shift_ledger.specs.Kept.{KeptUnit}
-use Rattle.shift_ledger.specs.Order.{AreInOrder}
+use Rattle.shift_ledger.specs.Prelude.{unit_of, KeptUnit, AreInOrder}
 
 -- they may begin earlier and end later
 pub AreInOrder-within : (us : List KeptUnit) (s a i o s' a' i' o' : ℕ) → s' ≤ s → a' ≤ a → i ≤ i' → o ≤ o' → AreInOrder s a us i o → AreInOrder s' a' us i' o'

@@ -4,3 +4,4 @@ pub mod Room
 pub mod Kept
 pub mod Order
 pub mod Sources
+pub mod Prelude

@@ -1,7 +1,7 @@
 // What was pushed, so far as it is needed.
 ghost use Rattle.std.specs.Prelude.{◌≡◌, ◌≤◌, ◌<◌, ◌+◌, ◌^◌, ◌-◌, ◌⊎◌, vec_capacity, ℕ, List, [], ◌∷◌, ◌++◌, length, take, drop, filter, nat_lt, nat_le, max, OnOk, OnErr};
 ghost use Rattle.std.specs.VecDeque.{deque_capacity, deque_len};
-ghost use Rattle.dialogue.specs.Places.{Push, open_in};
+ghost use Rattle.dialogue.specs.Prelude.{Push, open_in};
 ghost use Rattle.dialogue.specs.Places as places;
 ghost use Rattle.shift_ledger.specs.Kept.{StandsFor, is_open, fore_of, rear_of, back_of, pushed, pruned, IsButForSpare};
 ghost use Rattle.shift_ledger.specs.Answers.{fore_by, rear_by, back_by};

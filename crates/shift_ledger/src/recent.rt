@@ -1,6 +1,6 @@
 // The octets of a stream that may be sent again.
 ghost use Rattle.std.specs.Prelude.{◌≡◌, ◌≤◌, ◌+◌, [], ◌++◌, length, drop, IfOk, vec_capacity};
-ghost use Rattle.dialogue.specs.Repeats.{is_unlike, differ};
+ghost use Rattle.dialogue.specs.Prelude.{is_unlike, differ};
 
 use gate_base::OutOfMemory;
 use std::alloc::Global;

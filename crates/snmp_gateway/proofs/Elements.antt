@@ -1,9 +1,8 @@
 -- What an element's first octets decide.
-use Rattle.std.proofs.Common.{◌≡◌, ℕ, zero, suc, ◌+◌, ◌-◌, ◌<◌, ◌≤◌, true, ◌&&◌, nat_lt, nat_le, List, [], ◌∷◌, get_or, take, drop, length, Option, Some, None, option_and_then, inl, inr, refl, ap, ◌∙◌, sym, arith, length-drop}
+use Rattle.std.proofs.Common.{◌≡◌, ℕ, zero, suc, ◌+◌, ◌-◌, ◌<◌, ◌≤◌, true, ◌&&◌, nat_lt, nat_le, List, [], ◌∷◌, get_or, take, drop, length, Option, Some, None, option_and_then, inl, inr, refl, ap, ◌∙◌, sym, arith, length-drop, length-take-le}
 use Rattle.std.proofs.lemmas.Bool.{cases_Bool}
 use Rattle.std.proofs.lemmas.Bool.Decides.{nat_tests}
 use Rattle.std.proofs.lemmas.Option.{same_Some}
-use Rattle.std.proofs.lemmas.List.{length-take-le}
 use Rattle.byteorder.specs.Endian.{big_from}
 use Rattle.snmp_gateway.specs.Element.{Element, is_long_form, length_at, element_with, element_at}
 

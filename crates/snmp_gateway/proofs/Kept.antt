@@ -3,8 +3,7 @@ use Rattle.std.proofs.Common.{◌≡◌, ℕ, zero, suc, ◌+◌, ◌-◌, ◌<�
 use Rattle.std.proofs.lemmas.Bool.Decides.{nat_tests}
 use Rattle.std.proofs.lemmas.Option.{same_Some}
 use Rattle.std.proofs.lemmas.List.{length-take-le, get_or-take, get_or-drop, get_or_append_left, get_or-append_right}
-use Rattle.gate_base.specs.Address.{◌>>=◌}
-use Rattle.gate_base.specs.Fields.{u32_at, with_u32}
+use Rattle.gate_base.specs.Prelude.{◌>>=◌, u32_at, with_u32}
 use Rattle.byteorder.specs.Endian.{big_bytes}
 use Rattle.snmp_gateway.specs.Element.{element_at}
 use Rattle.snmp_gateway.proofs.Elements.{element_room, element_alike}

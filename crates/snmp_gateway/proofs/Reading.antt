@@ -1,10 +1,9 @@
 -- One element or one binding, and those that follow it.
-use Rattle.std.proofs.Common.{◌≡◌, ℕ, zero, suc, ◌+◌, ◌-◌, ◌<◌, ◌≤◌, ◌==◌, Bool, true, false, List, [], ◌∷◌, ◌++◌, get_or, take, drop, length, Option, Some, None, option_map, option_to_list, refl, ap, ◌∙◌, sym, arith, length-drop, drop-cons, add-one, if◌then◌else◌}
-use Rattle.std.proofs.lemmas.Bool.{eqb-true}
+use Rattle.std.proofs.Common.{◌≡◌, ℕ, zero, suc, ◌+◌, ◌-◌, ◌<◌, ◌≤◌, ◌==◌, Bool, true, false, List, [], ◌∷◌, ◌++◌, get_or, take, drop, length, Option, Some, None, option_map, option_to_list, refl, ap, ◌∙◌, sym, arith, length-drop, drop-cons, add-one, if◌then◌else◌, eqb-true}
 use Rattle.std.proofs.lemmas.Bool.Decides.{nat_tests}
 use Rattle.std.proofs.lemmas.Option.{same_Some}
 use Rattle.std.proofs.lemmas.List.{length-take-le, drop_all}
-use Rattle.gate_base.specs.Address.{◌>>=◌}
+use Rattle.gate_base.specs.Prelude.{◌>>=◌}
 use Rattle.snmp_gateway.specs.Element.{Element, element_at}
 use Rattle.snmp_gateway.proofs.Elements.{element_room}
 use Rattle.snmp_gateway.specs.declared.message.SnmpKind.{SnmpKind}

@@ -1,7 +1,7 @@
 -- The walk over the addresses of a message.
 use Rattle.std.proofs.Common.{◌≡◌, ℕ, ◌-◌, ◌≤◌, Bool, true, false, List, [], ◌∷◌, ◌++◌, length, Option, Some, None, option_map, option_to_list, unwrap_or, IsSome, inr, refl, ap, subst, ◌∙◌, sym, arith, append-nil, if◌then◌else◌}
 use Rattle.std.proofs.lemmas.Option.{same_Some}
-use Rattle.gate_base.specs.Address.{◌>>=◌}
+use Rattle.gate_base.specs.Prelude.{◌>>=◌}
 use Rattle.snmp_gateway.specs.declared.message.SnmpKind.{SnmpKind}
 use Rattle.snmp_gateway.specs.declared.outline.Outline.{Outline}
 use Rattle.snmp_gateway.specs.declared.part.Part.{Part}

@@ -1,6 +1,6 @@
 -- Elements in a message, by their places.
 use Rattle.std.specs.Prelude.{ℕ, ◌-◌, Bool, true, ◌&&◌, ◌||◌, ◌==◌, nat_lt, nat_le, if◌then◌else◌, List, [], ◌∷◌, take, drop, length, Option, Some, None}
-use Rattle.gate_base.specs.Address.{◌>>=◌}
+use Rattle.gate_base.specs.Prelude.{◌>>=◌}
 use Rattle.snmp_gateway.specs.Element.{Element, element_at}
 use Rattle.snmp_gateway.specs.declared.part.Part.{Part}
 use Rattle.snmp_gateway.specs.declared.part.Piece.{Piece}

@@ -1,6 +1,6 @@
 -- The renaming of addresses in place (RFC 2962).
 use Rattle.std.specs.Prelude.{ℕ, List, [], ◌∷◌, Option, option_map, unwrap_or}
-use Rattle.gate_base.specs.Fields.{u32_at, with_u32}
+use Rattle.gate_base.specs.Prelude.{u32_at, with_u32}
 
 -- the octets, with the image of the address at a place in its stead, if it has one
 abbrev pub renamed_at : (ℕ → Option ℕ) → ℕ → List ℕ → List ℕ

@@ -1,9 +1,7 @@
 -- The length of a message that no rule changes.
-use Rattle.std.proofs.Common.{◌≡◌, ℕ, zero, suc, ◌-◌, ◌==◌, Bool, true, false, if◌then◌else◌, List, [], ◌++◌, take, length, Option, Some, None, option_map, unwrap_or, inl, inr, refl, ap, ◌∙◌, arith, length-append}
-use Rattle.std.specs.Prelude.{option_and_then}
+use Rattle.std.proofs.Common.{◌≡◌, ℕ, zero, suc, ◌-◌, ◌==◌, Bool, true, false, if◌then◌else◌, List, [], ◌++◌, take, length, Option, Some, None, option_map, unwrap_or, inl, inr, refl, ap, ◌∙◌, arith, length-append, option_and_then, length-take-le}
 use Rattle.std.proofs.lemmas.Bool.{cases_Bool, eqb-true}
 use Rattle.std.proofs.lemmas.Bool.Decides.{nat_tests}
-use Rattle.std.proofs.lemmas.List.{length-take-le}
 use Rattle.snmp_gateway.specs.Element.{Element, element_at}
 use Rattle.snmp_gateway.proofs.Elements.{element_room}
 use Rattle.snmp_gateway.specs.declared.message.SnmpKind.{SnmpKind}

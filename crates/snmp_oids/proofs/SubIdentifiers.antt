@@ -2,8 +2,7 @@
 use Rattle.std.proofs.Common.{◌≡◌, ℕ, ◌+◌, ◌-◌, ◌*◌, ◌%◌, ◌<◌, ◌≤◌, ◌==◌, Bool, true, false, nat_lt, if◌then◌else◌, List, [], ◌∷◌, get_or, take, drop, length, ◌||◌, Option, Some, None, option_map, unwrap_or, is_some, IsSome, IfNone, refl, ap, sym, ◌∙◌, arith, drop-cons, add-one}
 use Rattle.std.proofs.lemmas.Bool.Decides.{nat_tests}
 use Rattle.std.proofs.lemmas.List.{drop_all, take_rest}
-use Rattle.gate_base.specs.Address.{◌>>=◌}
-use Rattle.gate_base.specs.Rules.{greatest}
+use Rattle.gate_base.specs.Prelude.{◌>>=◌, greatest}
 use Rattle.snmp_oids.specs.Arcs.{joined, numbers_from, numbers_of}
 
 -- numbers go on with one more octet

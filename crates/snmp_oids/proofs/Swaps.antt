@@ -6,7 +6,7 @@ use Rattle.std.proofs.lemmas.Option.{same_Some}
 use Rattle.std.proofs.lemmas.List.{take-append-drop, take_at, drop_at, drop_all}
 use Rattle.byteorder.specs.Endian.{big_bytes, big_number}
 use Rattle.byteorder.specs.Numbers.{big_from-append, length-bytes_high_first}
-use Rattle.gate_base.specs.Fields.{u32_at, with_u32}
+use Rattle.gate_base.specs.Prelude.{u32_at, with_u32}
 use Rattle.snmp_gateway.specs.Element.{Element, element_at, element_with, length_at, is_long_form}
 use Rattle.snmp_gateway.specs.Renaming.{renamed_at, renamed}
 use Rattle.snmp_oids.specs.Elements.{head_of}

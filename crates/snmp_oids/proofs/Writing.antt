@@ -1,7 +1,6 @@
 -- Octets written one behind another.
-use Rattle.std.proofs.Common.{◌≡◌, ℕ, ◌+◌, ◌≤◌, List, [], ◌++◌, take, drop, length, refl, ap, ◌∙◌, arith, append_assoc, append-nil, length-append, take-take, sym, ◌-◌, if◌then◌else◌}
+use Rattle.std.proofs.Common.{◌≡◌, ℕ, ◌+◌, ◌≤◌, List, [], ◌++◌, take, drop, length, refl, ap, ◌∙◌, arith, append_assoc, append-nil, length-append, take-take, sym, ◌-◌, if◌then◌else◌, ne_eqb}
 use Rattle.std.proofs.lemmas.List.{length-take-le, take_at, drop_at, drop-drop, take-append-le}
-use Rattle.std.proofs.lemmas.Bool.{ne_eqb}
 use Rattle.std.proofs.Math.Seq.{drop-append-add}
 use Rattle.snmp_oids.specs.Elements.{head_for, shortest}
 use Rattle.snmp_oids.specs.Written.{with_octets}

@@ -2,8 +2,7 @@
 use Rattle.std.specs.Prelude.{ℕ, ◌+◌, ◌-◌, ◌*◌, ◌%◌, ◌==◌, nat_eq, ◌&&◌, ◌||◌, nat_lt, nat_le, if◌then◌else◌, List, [], ◌∷◌, drop, length, Option, Some, None, option_map, option_and_then, unwrap_or}
 use Rattle.std.specs.List.{starts_with}
 use Rattle.std.specs.Option.{option_or}
-use Rattle.gate_base.specs.Address.{◌>>=◌}
-use Rattle.gate_base.specs.Rules.{greatest}
+use Rattle.gate_base.specs.Prelude.{◌>>=◌, greatest}
 use Rattle.gate_base.specs.declared.rule.OidRule.{OidRule}
 
 -- a sub-identifier's number with the seven bits of one more octet behind it; so_far is 0 where a sub-identifier begins, which it doesn't with the octet 128 (X.690, 8.19.2)

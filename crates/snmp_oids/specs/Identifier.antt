@@ -2,7 +2,7 @@
 use Rattle.std.specs.Prelude.{ℕ, zero, suc, ◌+◌, ◌-◌, ◌/◌, ◌%◌, nat_lt, if◌then◌else◌, List, [], ◌∷◌, ◌++◌, take, drop, Option, Some, option_map, unwrap_or}
 use Rattle.std.specs.List.{flat_map}
 use Rattle.byteorder.specs.Endian.{big_bytes}
-use Rattle.gate_base.specs.Address.{◌>>=◌}
+use Rattle.gate_base.specs.Prelude.{◌>>=◌}
 use Rattle.gate_base.specs.declared.rule.OidRule.{OidRule}
 use Rattle.snmp_oids.specs.declared.identifier.Change.{Change}
 use Rattle.snmp_oids.specs.Arcs.{named_in}

@@ -1,7 +1,7 @@
 // The elements of a message, with the images of the addresses in them (X.690, 8.1).
 ghost use Rattle.std.specs.Prelude.{◌≡◌, ◌+◌, ◌*◌, ◌^◌, ◌<◌, ◌≤◌, length, option_map, IfSome};
 ghost use Rattle.snmp_gateway.specs.Element.{Element, element_at};
-ghost use Rattle.gate_base.specs.Rules.{AreRules};
+ghost use Rattle.gate_base.specs.Prelude.{AreRules};
 ghost use Rattle.snmp_oids.specs.Elements.{is_constructed, address_renamed, primitive_renamed, content_renamed, elements_renamed};
 ghost use Rattle.snmp_oids.specs.Written.{with_octets};
 

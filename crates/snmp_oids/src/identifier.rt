@@ -1,7 +1,7 @@
 // Object identifiers, the addresses in them, and other addresses in their place (RFC 2962, 4.2).
 ghost use Rattle.std.specs.Prelude.{◌≡◌, ◌+◌, ◌*◌, ◌^◌, ◌<◌, ◌≤◌, length, drop, option_map, option_and_then, IfSome};
 ghost use Rattle.snmp_oids.specs.Arcs.{address_of, arcs_of, named_in};
-ghost use Rattle.gate_base.specs.Rules.{AreRules};
+ghost use Rattle.gate_base.specs.Prelude.{AreRules};
 ghost use Rattle.snmp_oids.specs.Identifier.{place_behind, arc_octets, address_octets, change_at, change_of, changed, identifier_renamed};
 ghost use Rattle.snmp_oids.specs.Written.{with_octets};
 

@@ -1,7 +1,7 @@
 // The renaming of a message.
 ghost use Rattle.std.specs.Prelude.{◌≡◌, ◌*◌, ◌≤◌, ◌++◌, length, drop, IsSome};
 ghost use Rattle.snmp_gateway.specs.Message.{kind_of};
-ghost use Rattle.gate_base.specs.Rules.{AreRules};
+ghost use Rattle.gate_base.specs.Prelude.{AreRules};
 ghost use Rattle.snmp_oids.specs.Elements.{oid_renamed};
 
 use crate::elements::put_elements;

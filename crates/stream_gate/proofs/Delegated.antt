@@ -1,7 +1,7 @@
 -- What is said of one host by what its direction says.
 use Rattle.std.proofs.Common.{◌≡◌, sym, subst}
 use Rattle.gate_base.specs.declared.host.Host.{Host}
-use Rattle.stream_gate.specs.Gates.{GateKept}
+use Rattle.stream_gate.specs.Prelude.{GateKept}
 
 -- what holds of this host by what the fields keep holds of the host that is meant
 pub at_host : {C S : Type 0} (P : Host → GateKept C S → Type 0) (one host : Host) (a d : GateKept C S) → host ≡ one → a ≡ d → P one a → P host d

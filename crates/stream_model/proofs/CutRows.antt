@@ -1,8 +1,6 @@
 -- The definitions at worked rows: what a session sends for a segment, computed, and ways to cut it that are lawful or not.
-use Rattle.std.proofs.Common.{◌≡◌, ◌≤◌, ℕ, true, false, List, [], ◌∷◌, ◌++◌, length, take, drop, refl, sym, ◌∙◌, ap, subst, arith, ◌&&◌, ◌==◌}
-use Rattle.std.specs.Prelude.{codes, replicate, map}
+use Rattle.std.proofs.Common.{◌≡◌, ◌≤◌, ℕ, true, false, List, [], ◌∷◌, ◌++◌, length, take, drop, refl, sym, ◌∙◌, ap, subst, arith, ◌&&◌, ◌==◌, codes, replicate, map, length-append}
 use Rattle.std.specs.Fmt.{digits}
-use Rattle.std.proofs.lemmas.List.{length-append}
 use Rattle.std.proofs.lemmas.Bool.{false≢true}
 use Rattle.gate_base.specs.declared.host.Host.TheVariants.{Client}
 use Rattle.ftp_lines.specs.Numbers.{number, four, six}

@@ -1,17 +1,13 @@
 -- What goes out for a segment brings what is lacking.
-use Rattle.std.proofs.Common.{◌≡◌, ◌≤◌, ◌<◌, ◌+◌, ◌-◌, ◌*◌, ℕ, zero, suc, Bool, true, false, cond, List, [], ◌∷◌, ◌++◌, length, map, drop, refl, sym, ◌∙◌, ap, subst, arith, inl, inr}
-use Rattle.std.specs.Prelude.{not, ◌&&◌, ◌||◌, ◌==◌, ◌/◌, ◌⊎◌, nat_lt, min, max, slice_range, Some, None}
-use Rattle.std.specs.List.{slice_get}
+use Rattle.std.proofs.Common.{◌≡◌, ◌≤◌, ◌<◌, ◌+◌, ◌-◌, ◌*◌, ℕ, zero, suc, Bool, true, false, cond, List, [], ◌∷◌, ◌++◌, length, map, drop, refl, sym, ◌∙◌, ap, subst, arith, inl, inr, not, ◌&&◌, ◌||◌, ◌==◌, ◌/◌, ◌⊎◌, nat_lt, min, max, slice_range, Some, None, slice_get}
 use Rattle.std.proofs.lemmas.List.{length-append, length-drop, drop_all}
 use Rattle.std.proofs.lemmas.Bool.{cases_Bool, cases_lt, ltb-true, ltb-false, le-ltb, le-leb, lt-leb, cond-false, or_parts, or_right, or_from, and_parts, and_from, and_left, and_right, eqb-true, eq-eqb, ne_eqb, not-false, true≢false, not-true}
 use Rattle.std.proofs.lemmas.Option.{slice_get_past}
 use Rattle.gate_base.specs.declared.host.Host.{Host}
 use Rattle.gate_base.specs.declared.host.Host.TheVariants.{Client, Server}
-use Rattle.dialogue.specs.Meaning.{Meaning, IsLawful}
-use Rattle.dialogue.specs.Places.{Span, back_in}
-use Rattle.dialogue.specs.Stream.{cut, pushes_of, image, due, spans, fore, rear, back}
+use Rattle.dialogue.specs.Prelude.{Meaning, IsLawful, Span, back_in, cut, pushes_of, image, due, spans, fore, rear, back}
 use Rattle.dialogue.proofs.Laws.{fore-back, length-due-le, length-spans}
-use Rattle.tcp_segments.specs.Flags.{one_if}
+use Rattle.tcp_segments.specs.Prelude.{one_if}
 use Rattle.stream_model.specs.Numbers.{number_after, known}
 use Rattle.stream_model.specs.Session.{Sender, Session, Segment, Outgoing, own, other, due_in, extent, arrival, start_of}
 use Rattle.stream_model.specs.Refusals.{is_data, past_end_at, segment_refusal}

@@ -1,12 +1,11 @@
 -- What a segment that is not refused is like.
-use Rattle.std.proofs.Common.{◌≡◌, ◌≤◌, ◌+◌, ℕ, Bool, true, false, cond, List, [], ◌∷◌, length, drop, refl, sym, ◌∙◌, ap, arith, inl, inr}
-use Rattle.std.specs.Prelude.{not, ◌&&◌, nat_lt, Option, Some, None, is_some, is_none, ◌⊎◌}
+use Rattle.std.proofs.Common.{◌≡◌, ◌≤◌, ◌+◌, ℕ, Bool, true, false, cond, List, [], ◌∷◌, length, drop, refl, sym, ◌∙◌, ap, arith, inl, inr, not, ◌&&◌, nat_lt, Option, Some, None, is_some, is_none, ◌⊎◌}
 use Rattle.std.proofs.lemmas.List.{drop_all}
 use Rattle.std.proofs.lemmas.Bool.{cases_Bool, ltb-false, or_parts, or_cases, and_parts, and_cases, and_left, and_from, cond-false, not-false, eqb-true, true≢false}
-use Rattle.tcp_segments.specs.Flags.{one_if}
+use Rattle.tcp_segments.specs.Prelude.{one_if}
 use Rattle.stream_model.specs.Numbers.{is_number}
 use Rattle.stream_model.specs.Session.{Sender, Segment, extent, arrival, acknowledged_at, place_acknowledged, start_of, repeats_unlike}
-use Rattle.gate_base.specs.Tests.{first_that_holds}
+use Rattle.gate_base.specs.Prelude.{first_that_holds}
 use Rattle.stream_model.specs.Refusals.{is_data, no_session, syn_data, opens, syn_in_session, no_ack, gap, past_end_at, past_end, ack_ahead, stream_limit, backlog, tests}
 use Rattle.stream_model.specs.declared.numbers.Offset.{Offset}
 use Rattle.stream_model.specs.declared.refusals.Arrival.{Arrival}

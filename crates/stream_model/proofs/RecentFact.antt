@@ -1,14 +1,11 @@
 -- At most 65,536 octets are recent.
-use Rattle.std.proofs.Common.{◌≡◌, ◌≤◌, ◌<◌, ◌+◌, ◌-◌, ℕ, Bool, true, false, List, [], ◌∷◌, length, drop, sym, subst, arith, inl, inr}
-use Rattle.std.specs.Prelude.{◌^◌, max, nat_lt, ◌&&◌, ◌||◌, None}
-use Rattle.std.proofs.lemmas.List.{length-append, length-drop}
+use Rattle.std.proofs.Common.{◌≡◌, ◌≤◌, ◌<◌, ◌+◌, ◌-◌, ℕ, Bool, true, false, List, [], ◌∷◌, length, drop, sym, subst, arith, inl, inr, ◌^◌, max, nat_lt, ◌&&◌, ◌||◌, None, length-append, length-drop}
 use Rattle.std.proofs.lemmas.Bool.{cases_Bool, cond-true, cond-false, and_cases, ltb-false, or_parts}
 use Rattle.gate_base.specs.declared.host.Host.{Host}
 use Rattle.gate_base.specs.declared.host.Host.TheVariants.{Client, Server}
-use Rattle.dialogue.specs.Meaning.{IsLawful}
-use Rattle.dialogue.specs.Stream.{image, due, back}
+use Rattle.dialogue.specs.Prelude.{IsLawful, image, due, back}
 use Rattle.dialogue.proofs.Laws.{back-mono, length-due-le}
-use Rattle.tcp_segments.specs.Flags.{one_if}
+use Rattle.tcp_segments.specs.Prelude.{one_if}
 use Rattle.stream_model.specs.Session.{Sender, Session, Segment, own, recent, due_in, extent, arrival, start_of, place_acknowledged}
 use Rattle.stream_model.specs.Refusals.{is_data, segment_refusal}
 use Rattle.stream_model.specs.Steps.{taken, acknowledged, other_after, session_next}

@@ -1,14 +1,12 @@
 -- Each round in which something is lacking raises what is acknowledged, so that there are no more of them than octets.
-use Rattle.std.proofs.Common.{◌≡◌, ◌≤◌, ◌<◌, ◌+◌, ℕ, true, List, [], ◌∷◌, length, sym, ◌∙◌, subst, arith, inl, inr}
-use Rattle.std.specs.Prelude.{◌⊎◌, max}
+use Rattle.std.proofs.Common.{◌≡◌, ◌≤◌, ◌<◌, ◌+◌, ℕ, true, List, [], ◌∷◌, length, sym, ◌∙◌, subst, arith, inl, inr, ◌⊎◌, max}
 use Rattle.std.proofs.lemmas.Bool.{cases_lt}
 use Rattle.gate_base.specs.declared.host.Host.{Host}
 use Rattle.gate_base.specs.declared.host.Host.TheVariants.{Client, Server}
-use Rattle.gate_base.specs.Hosts.{peer}
-use Rattle.dialogue.specs.Meaning.{IsLawful}
-use Rattle.dialogue.specs.Stream.{image, back}
+use Rattle.gate_base.specs.Prelude.{peer}
+use Rattle.dialogue.specs.Prelude.{IsLawful, image, back}
 use Rattle.dialogue.proofs.Laws.{back-mono, length-due-le}
-use Rattle.tcp_segments.specs.Flags.{one_if}
+use Rattle.tcp_segments.specs.Prelude.{one_if}
 use Rattle.stream_model.specs.Numbers.{known}
 use Rattle.stream_model.specs.Session.{Sender, Session, Segment, Outgoing, own, due_in, extent, arrival, place_acknowledged, repeats_unlike}
 use Rattle.stream_model.specs.Refusals.{is_data}

@@ -1,6 +1,5 @@
 -- The definitions at worked rows, computed: sessions of the lines of FTP, a segment and what goes out for it on each line.
-use Rattle.std.proofs.Common.{◌≡◌, ℕ, true, false, List, [], ◌∷◌, ◌++◌, take, drop, refl}
-use Rattle.std.specs.Prelude.{◌+◌, ◌-◌, ◌^◌, Option, Some, None, codes, replicate, map}
+use Rattle.std.proofs.Common.{◌≡◌, ℕ, true, false, List, [], ◌∷◌, ◌++◌, take, drop, refl, ◌+◌, ◌-◌, ◌^◌, Option, Some, None, codes, replicate, map}
 use Rattle.std.specs.Fmt.{digits}
 use Rattle.gate_base.specs.declared.refusal.Refusal.{Refusal}
 use Rattle.gate_base.specs.declared.refusal.Refusal.TheVariants.{NoSession, SynData, SynInSession, NoAck, Gap, PastEnd, AckAhead, Unlike, StreamLimit, Backlog}

@@ -1,11 +1,9 @@
 -- The places of the octets of pushes rise, so that what reaches past Back reaches past its place.
-use Rattle.std.proofs.Common.{◌≡◌, ◌≤◌, ◌<◌, ◌+◌, ◌-◌, ℕ, zero, suc, true, false, List, [], ◌∷◌, ◌++◌, length, refl, sym, ◌∙◌, ap, subst, arith, inl, inr}
-use Rattle.std.specs.Prelude.{nat_le, replicate, min, ◌⊎◌, Some}
-use Rattle.std.specs.List.{slice_get}
+use Rattle.std.proofs.Common.{◌≡◌, ◌≤◌, ◌<◌, ◌+◌, ◌-◌, ℕ, zero, suc, true, false, List, [], ◌∷◌, ◌++◌, length, refl, sym, ◌∙◌, ap, subst, arith, inl, inr, nat_le, replicate, min, ◌⊎◌, Some, slice_get}
 use Rattle.std.proofs.lemmas.List.{length-append, length-replicate}
 use Rattle.std.proofs.lemmas.Bool.{cases_Bool, cases_lt, le-leb, lt-leb, leb-false}
 use Rattle.std.proofs.lemmas.Option.{none-some, same_Some}
-use Rattle.dialogue.specs.Places.{Push, Plain, Changed, AllProper, Span, plain_spans, spans_from, end_from, fore_in, rear_at, rear_in, back_in}
+use Rattle.dialogue.specs.Prelude.{Push, Plain, Changed, AllProper, Span, plain_spans, spans_from, end_from, fore_in, rear_at, rear_in, back_in}
 use Rattle.dialogue.proofs.PlaceLemmas.{length-plain_spans, back_in-plain, back_in-plain_part, back_in-replicate, end_from-le}
 
 -- both ends of spans rise, from these on

@@ -1,13 +1,8 @@
 -- Of a stream nothing waits but a held rest.
-use Rattle.std.proofs.Common.{◌≡◌, ◌≤◌, ◌<◌, ◌+◌, ℕ, Bool, true, false, cond, List, [], ◌∷◌, ◌++◌, length, refl, sym, ◌∙◌, ap, subst, arith, append_assoc, inl, inr}
-use Rattle.std.specs.Prelude.{map, ◌&&◌, ◌==◌, ◌⊎◌}
-use Rattle.std.specs.List.{flat_map}
-use Rattle.std.proofs.lemmas.List.{append-nil, length-append}
+use Rattle.std.proofs.Common.{◌≡◌, ◌≤◌, ◌<◌, ◌+◌, ℕ, Bool, true, false, cond, List, [], ◌∷◌, ◌++◌, length, refl, sym, ◌∙◌, ap, subst, arith, append_assoc, inl, inr, map, ◌&&◌, ◌==◌, ◌⊎◌, flat_map, append-nil, length-append}
 use Rattle.std.proofs.lemmas.List.Sums.{prefix_len-le-length}
 use Rattle.std.proofs.lemmas.Bool.{cases_Bool, cases_lt, ne_eqb, eq-eqb, and_right}
-use Rattle.dialogue.specs.Meaning.{Meaning, IsRest, IsLawful, is_held}
-use Rattle.dialogue.specs.Places.{Plain, Span, end_from, back_in, AllProper}
-use Rattle.dialogue.specs.Stream.{cut, due_rest, push_of, pushes_of, image, due, spans, back}
+use Rattle.dialogue.specs.Prelude.{Meaning, IsRest, IsLawful, is_held, Plain, Span, end_from, back_in, AllProper, cut, due_rest, push_of, pushes_of, image, due, spans, back}
 use Rattle.dialogue.proofs.PlaceLemmas.{Beyond, back_in-beyond, end_from-append, AllProper-append}
 use Rattle.dialogue.proofs.CutLemmas.{IsRest-nil, IsRest-cut, cut_joined, end_from-map, length-spans_from, AllUnits-cut, AllProper-map}
 use Rattle.dialogue.proofs.Growth.{due_spans}

@@ -1,12 +1,10 @@
 -- What a session says goes out is what is sent, in pieces of the limit, and that is a lawful way.
-use Rattle.std.proofs.Common.{◌≡◌, ◌≤◌, ◌<◌, ◌+◌, ◌-◌, ◌*◌, ◌/◌, ◌%◌, ◌^◌, ℕ, zero, suc, Bool, true, false, cond, ◌&&◌, ◌==◌, List, [], ◌∷◌, length, take, drop, refl, sym, ◌∙◌, ap, subst, arith}
-use Rattle.std.specs.Prelude.{map, nat_lt, slice_range}
+use Rattle.std.proofs.Common.{◌≡◌, ◌≤◌, ◌<◌, ◌+◌, ◌-◌, ◌*◌, ◌/◌, ◌%◌, ◌^◌, ℕ, zero, suc, Bool, true, false, cond, ◌&&◌, ◌==◌, List, [], ◌∷◌, length, take, drop, refl, sym, ◌∙◌, ap, subst, arith, map, nat_lt, slice_range, append-nil, take-append-drop, length-drop, length-take-le}
 use Rattle.std.proofs.Math.Nat.{div-mul-le_self, lt-div-mul-add, zero-div}
-use Rattle.std.proofs.lemmas.List.{append-nil, take-append-drop, length-drop, length-take-le}
 use Rattle.std.proofs.lemmas.Bool.Decides.{nat_tests}
 use Rattle.std.proofs.lemmas.Bool.{false≢true}
 use Rattle.gate_base.specs.declared.host.Host.{Host}
-use Rattle.dialogue.specs.Stream.{image}
+use Rattle.dialogue.specs.Prelude.{image}
 use Rattle.stream_model.specs.Numbers.{number_after, known}
 use Rattle.stream_model.specs.Session.{Sender, Session, Segment, Outgoing, own, other, due_in, start_of}
 use Rattle.stream_model.specs.declared.numbers.Offset.{Offset}

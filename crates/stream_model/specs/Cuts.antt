@@ -1,7 +1,7 @@
 -- What goes out for a segment of a session, before it is cut into pieces, and the ways in which it may be cut (RFC 9293, 3.7.1).
 use Rattle.std.specs.Prelude.{◌≡◌, ◌≤◌, ◌+◌, ◌%◌, ◌^◌, ℕ, Bool, true, false, ◌&&◌, ◌==◌, cond, nat_lt, List, [], ◌∷◌, ◌++◌, length, map, slice_range, is_some}
 use Rattle.gate_base.specs.declared.host.Host.{Host}
-use Rattle.dialogue.specs.Stream.{image}
+use Rattle.dialogue.specs.Prelude.{image}
 use Rattle.tcp_segments.specs.declared.flags.Flags.{Flags}
 use Rattle.stream_model.specs.Numbers.{number_after, known}
 use Rattle.stream_model.specs.Session.{Sender, Session, Segment, Outgoing, own, other, due_in, start_of}

@@ -1,6 +1,6 @@
 -- Segments of hosts that keep to their own streams and to what they were sent: none of them is refused.
 use Rattle.std.specs.Prelude.{◌≡◌, ◌≤◌, ◌<◌, ◌+◌, ◌-◌, ◌^◌, ◌⊎◌, true, false, length, is_some}
-use Rattle.tcp_segments.specs.Flags.{one_if}
+use Rattle.tcp_segments.specs.Prelude.{one_if}
 use Rattle.stream_model.specs.Session.{Sender, Segment, extent, arrival, start_of, repeats_unlike}
 use Rattle.stream_model.specs.Refusals.{is_data, past_end, ack_ahead}
 use Rattle.stream_model.specs.Progress.{acknowledged_of, BeginsBy}

@@ -1,9 +1,7 @@
 -- That a session goes on: nothing that is due is kept back, what is sent again brings what is lacking, and what was acknowledged is acknowledged again.
 use Rattle.std.specs.Prelude.{◌≡◌, ◌≤◌, ◌<◌, ◌+◌, ◌⊎◌, ℕ, Bool, true, false, cond, List, [], ◌∷◌, ◌++◌, length, Some}
 use Rattle.std.specs.List.{slice_get}
-use Rattle.dialogue.specs.Meaning.{Meaning, IsRest, is_held}
-use Rattle.dialogue.specs.Places.{Span}
-use Rattle.dialogue.specs.Stream.{cut, image, spans, back}
+use Rattle.dialogue.specs.Prelude.{Meaning, IsRest, is_held, Span, cut, image, spans, back}
 use Rattle.stream_model.specs.Numbers.{number_at, number_after, known}
 use Rattle.stream_model.specs.Session.{Sender, Segment, Outgoing, due_in, start_of}
 use Rattle.stream_model.specs.History.{OneShows}

@@ -1,11 +1,11 @@
 -- The first reason for which a segment of a session is refused (RFC 9293, 3.10.7), by what is known of its sender, its receiver and itself.
 use Rattle.std.specs.Prelude.{◌+◌, ◌-◌, ◌^◌, Bool, not, ◌&&◌, ◌||◌, cond, nat_lt, nat_le, ◌==◌, List, [], ◌∷◌, Option, is_some, is_none}
-use Rattle.gate_base.specs.Tests.{first_that_holds}
+use Rattle.gate_base.specs.Prelude.{first_that_holds}
 use Rattle.gate_base.specs.declared.refusal.Refusal.{Refusal}
 use Rattle.gate_base.specs.declared.refusal.Refusal.TheVariants.{NoSession, SynData, SynInSession, NoAck, Gap, PastEnd, AckAhead, Unlike, StreamLimit, Backlog}
 use Rattle.gate_base.specs.declared.host.Host.{Host}
 use Rattle.gate_base.specs.declared.host.Host.TheVariants.{Client, Server}
-use Rattle.tcp_segments.specs.Flags.{one_if}
+use Rattle.tcp_segments.specs.Prelude.{one_if}
 use Rattle.stream_model.specs.Numbers.{number_at, known, is_number}
 use Rattle.stream_model.specs.Session.{Session, Segment, own, other, extent, arrival, start_at, acknowledged_at, repeats_unlike}
 use Rattle.stream_model.specs.declared.numbers.Offset.{Offset}

@@ -1,7 +1,7 @@
 -- Two hosts that do what every host does: one sends again from the first octet that it has no acknowledgement of, and the other takes what goes on from what it has, and acknowledges what it has (RFC 9293, 3.8.1, 3.10.7.4).
 use Rattle.std.specs.Prelude.{◌≡◌, ◌≤◌, ◌<◌, ◌⊎◌, ℕ, true, List, [], ◌∷◌, length, None}
 use Rattle.gate_base.specs.declared.host.Host.{Host}
-use Rattle.gate_base.specs.Hosts.{peer}
+use Rattle.gate_base.specs.Prelude.{peer}
 use Rattle.stream_model.specs.Numbers.{known}
 use Rattle.stream_model.specs.Session.{Sender, Session, Segment, Outgoing, own, due_in, extent, arrival, place_acknowledged}
 use Rattle.stream_model.specs.Refusals.{is_data, segment_refusal}

@@ -1,14 +1,11 @@
 -- A connection that doesn't live goes.
-use Rattle.std.proofs.Common.{◌≡◌, ◌<◌, ℕ, zero, suc, Bool, true, false, cond, List, [], ◌∷◌, length, All, Option, Some, None, option_map, refl, sym, ◌∙◌, ap, subst, arith}
-use Rattle.std.specs.Prelude.{option_and_then, slice_get, IfSome, IsSome}
-use Rattle.std.specs.List.{remove}
+use Rattle.std.proofs.Common.{◌≡◌, ◌<◌, ℕ, zero, suc, Bool, true, false, cond, List, [], ◌∷◌, length, All, Option, Some, None, option_map, refl, sym, ◌∙◌, ap, subst, arith, option_and_then, slice_get, IfSome, IsSome, remove}
 use Rattle.std.proofs.lemmas.List.Edits.{length-remove}
 use Rattle.gate_base.specs.declared.event.Moment.{Moment}
-use Rattle.tcp_tracker.specs.Connections.{is_of, is_live, live, place_of, connection_of, changed, without, IsEnded}
+use Rattle.tcp_tracker.specs.Prelude.{is_of, is_live, live, place_of, connection_of, changed, without, IsEnded, inline, joined, IsKept}
 use Rattle.tcp_tracker.specs.declared.connection.ConnKey.{ConnKey}
 use Rattle.tcp_tracker.specs.declared.connection.Connection.{Connection}
 use Rattle.slab.specs.Slab.{Slab, get}
-use Rattle.tcp_tracker.specs.Joined.{inline, joined, IsKept}
 use Rattle.tcp_tracker.proofs.Joining.{place_within, connection_joined, found_kept}
 use Rattle.tcp_tracker.proofs.Replacing.{IsWithout}
 

@@ -1,8 +1,6 @@
 -- Connections with their sessions inline.
-use Rattle.std.proofs.Common.{◌≡◌, ◌≢◌, ◌≤◌, ◌<◌, ℕ, zero, suc, ◌+◌, Bool, true, false, not, ◌&&◌, ◌||◌, cond, nat_lt, if◌then◌else◌, List, [], ◌∷◌, ◌++◌, length, take, drop, set, get_or, All, AllPairs, position, Option, Some, None, option_map, is_some, refl, sym, ◌∙◌, ap, subst, arith}
-use Rattle.std.specs.Prelude.{option_and_then, slice_get, IfSome, IsSome}
+use Rattle.std.proofs.Common.{◌≡◌, ◌≢◌, ◌≤◌, ◌<◌, ℕ, zero, suc, ◌+◌, Bool, true, false, not, ◌&&◌, ◌||◌, cond, nat_lt, if◌then◌else◌, List, [], ◌∷◌, ◌++◌, length, take, drop, set, get_or, All, AllPairs, position, Option, Some, None, option_map, is_some, refl, sym, ◌∙◌, ap, subst, arith, option_and_then, slice_get, IfSome, IsSome, option_to_list}
 use Rattle.std.specs.List.{filter, remove, position_or_len}
-use Rattle.std.specs.Prelude.{option_to_list}
 use Rattle.std.proofs.lemmas.Bool.{and_parts, ltb-true, true≢false}
 use Rattle.std.proofs.lemmas.List.{length-append, append-nil, map-append, map-set, take-map, drop-map}
 use Rattle.std.proofs.lemmas.List.Elements.{All-nil, All-cons, All-push, All-set, All-append, All-take, All-drop, All-weaker, All-head, All-tail, All-get_or}
@@ -15,12 +13,11 @@ use Rattle.gate_base.specs.declared.side.Side.TheVariants.{Left, Right}
 use Rattle.gate_base.proofs.Options.{none_mapped}
 use Rattle.gate_base.proofs.Lists.{position_as}
 use Rattle.slab.specs.Slab.{Slab, get, slab_len, Updates}
-use Rattle.tcp_segments.specs.Flags.{flags_of}
-use Rattle.tcp_tracker.specs.Connections.{is_of, is_reset, starts_anew, kept, timeout, timeout_or_short, timeout_of, unused, with_flags, held, after, kept_or_begun, is_tracked, place_of, connection_of, changed, noted, seen_as}
+use Rattle.tcp_segments.specs.Prelude.{flags_of}
+use Rattle.tcp_tracker.specs.Prelude.{is_of, is_reset, starts_anew, kept, timeout, timeout_or_short, timeout_of, unused, with_flags, held, after, kept_or_begun, is_tracked, place_of, connection_of, changed, noted, seen_as, inline, joined, IsKept, slots_of, IsJoined}
 use Rattle.tcp_tracker.specs.declared.connection.ConnKey.{ConnKey}
 use Rattle.tcp_tracker.specs.declared.connection.Conn.{Conn}
 use Rattle.tcp_tracker.specs.declared.connection.Connection.{Connection}
-use Rattle.tcp_tracker.specs.Joined.{inline, joined, IsKept, slots_of, IsJoined}
 
 pub place_joined : {X : Type 0} (slots : Slab X) (key : ConnKey) (all : List (Connection ℕ)) → place_of key (joined slots all) ≡ place_of key all
 place_joined slots key all = position_as (inline slots) (is_of key) (is_of key) (λ c. refl) all

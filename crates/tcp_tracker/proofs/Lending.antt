@@ -1,14 +1,11 @@
 -- A session that is lent.
-use Rattle.std.proofs.Common.{◌≡◌, ℕ, zero, suc, List, [], ◌∷◌, length, set, Option, Some, None, is_some, refl, sym, ◌∙◌, ap, subst}
+use Rattle.std.proofs.Common.{◌≡◌, ℕ, zero, suc, List, [], ◌∷◌, length, set, Option, Some, None, is_some, refl, sym, ◌∙◌, ap, subst, filter, option_and_then, slice_index_or, IsSome, IfSome}
 use Rattle.std.proofs.lemmas.List.Sums.{length-filter}
-use Rattle.std.specs.List.{filter}
-use Rattle.std.specs.Prelude.{option_and_then, slice_index_or, IsSome, IfSome}
 use Rattle.slab.specs.Slab.{Slab, get, slab_len, with_value}
 use Rattle.slab.proofs.SlabLemmas.{Updates-with_value}
-use Rattle.tcp_tracker.specs.Connections.{connection_of}
+use Rattle.tcp_tracker.specs.Prelude.{connection_of, joined, replaced, IsKept, IsJoined}
 use Rattle.tcp_tracker.specs.declared.connection.ConnKey.{ConnKey}
 use Rattle.tcp_tracker.specs.declared.connection.Connection.{Connection}
-use Rattle.tcp_tracker.specs.Joined.{joined, replaced, IsKept, IsJoined}
 use Rattle.tcp_tracker.proofs.Joining.{found_kept}
 use Rattle.tcp_tracker.proofs.Replacing.{replaced_is, replaced_joined}
 

@@ -1,16 +1,14 @@
 -- Rows that live, and one that is taken out.
-use Rattle.std.proofs.Common.{◌≡◌, inl, inr, ℕ, ◌==◌, List, [], ◌∷◌, Some, refl, ap, sym, ◌∙◌, subst}
-use Rattle.std.specs.Prelude.{option_map}
-use Rattle.std.specs.List.{All}
+use Rattle.std.proofs.Common.{◌≡◌, inl, inr, ℕ, ◌==◌, List, [], ◌∷◌, Some, refl, ap, sym, ◌∙◌, subst, option_map, All}
 use Rattle.std.proofs.lemmas.Bool.{cases_Bool}
 use Rattle.std.proofs.lemmas.List.Elements.{All-head, All-tail, All-filter}
 use Rattle.std.proofs.lemmas.Option.{none-some, same_Some}
 use Rattle.gate_base.specs.declared.event.Moment.{Moment}
 use Rattle.expiring_table.specs.declared.row.Row.{Row}
-use Rattle.expiring_table.specs.Rows.{row_of, without, lives, living, is_before, AreDistinct, IsEnded as IsRowEnded}
+use Rattle.expiring_table.specs.Prelude.{row_of, without, lives, living, is_before, AreDistinct}
+use Rattle.expiring_table.specs.Rows.{IsEnded as IsRowEnded}
 use Rattle.tcp_tracker.specs.declared.connection.Connection.{Connection}
-use Rattle.tcp_tracker.specs.Connections.{is_live, live, IsEnded}
-use Rattle.tcp_tracker.specs.Filed.{IsFiled}
+use Rattle.tcp_tracker.specs.Prelude.{is_live, live, IsEnded, IsFiled}
 use Rattle.tcp_tracker.proofs.Names.{connections_in, found_named, dropped_named}
 
 lives_is : (now : Moment) (row : Row (Connection ℕ)) → IsFiled row → lives now.0 row ≡ is_live now row.value

@@ -7,7 +7,7 @@ use Rattle.std.proofs.lemmas.List.Elements.{All-head, All-tail, All-nil, All-con
 use Rattle.std.proofs.lemmas.List.Folds.{find_at}
 use Rattle.std.proofs.lemmas.Option.{none-some, slice_get_past}
 use Rattle.expiring_table.specs.declared.row.Row.{Row}
-use Rattle.expiring_table.specs.Rows.{row_of, with_row, without, AreDistinct}
+use Rattle.expiring_table.specs.Prelude.{row_of, with_row, without, AreDistinct}
 use Rattle.expiring_table.proofs.Taken.{without_none, with_none}
 use Rattle.tcp_tracker.specs.declared.connection.ConnKey.{ConnKey}
 use Rattle.tcp_tracker.specs.declared.connection.Connection.{Connection}
@@ -15,9 +15,9 @@ use Rattle.gate_base.specs.declared.event.Moment.{Moment}
 use Rattle.gate_base.specs.declared.side.Side.{Side}
 use Rattle.gate_base.specs.declared.side.Side.TheVariants.{Left, Right}
 use Rattle.gate_base.proofs.Options.{some_mapped}
-use Rattle.tcp_segments.specs.Flags.{flags_of}
-use Rattle.tcp_tracker.specs.Connections.{is_of, place_of, connection_of, AreNamedOnce, changed, after, held, with_flags, unused, is_reset, starts_anew, timeout_or_short, kept, kept_or_begun}
-use Rattle.tcp_tracker.specs.Filed.{IsKey, IsFiled, number_of, filed}
+use Rattle.tcp_segments.specs.Prelude.{flags_of}
+use Rattle.tcp_tracker.specs.Prelude.{is_of, place_of, connection_of, AreNamedOnce, changed, after, held, with_flags, unused, is_reset, starts_anew, timeout_or_short, kept, kept_or_begun, IsFiled}
+use Rattle.tcp_tracker.specs.Filed.{IsKey, number_of, filed}
 
 -- ## Names and numbers
 

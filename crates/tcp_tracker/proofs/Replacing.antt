@@ -1,17 +1,14 @@
 -- The session of one connection becomes another.
-use Rattle.std.proofs.Common.{◌≡◌, ◌≢◌, ◌<◌, ℕ, zero, suc, ◌+◌, List, [], ◌∷◌, ◌++◌, length, set, take, drop, get_or, All, AllPairs, Option, Some, None, option_map, is_some, refl, sym, ◌∙◌, ap, subst, arith, inl, inr}
-use Rattle.std.specs.Prelude.{option_and_then, option_to_list, slice_get, IfSome, IsSome}
-use Rattle.std.specs.List.{remove}
+use Rattle.std.proofs.Common.{◌≡◌, ◌≢◌, ◌<◌, ℕ, zero, suc, ◌+◌, List, [], ◌∷◌, ◌++◌, length, set, take, drop, get_or, All, AllPairs, Option, Some, None, option_map, is_some, refl, sym, ◌∙◌, ap, subst, arith, inl, inr, option_and_then, option_to_list, slice_get, IfSome, IsSome, remove}
 use Rattle.std.proofs.lemmas.List.{length-append, map-append, take-map, drop-map}
 use Rattle.std.proofs.lemmas.List.Edits.{length-remove}
 use Rattle.std.proofs.lemmas.List.Quantifiers.{all_pairs_remove}
 use Rattle.std.proofs.lemmas.List.Elements.{All-head, All-tail, All-cons, All-nil, All-weaker, All-append, All-take, All-drop}
 use Rattle.std.proofs.lemmas.Bool.{cases_eq}
 use Rattle.slab.specs.Slab.{Slab, get, slab_len, Updates}
-use Rattle.tcp_tracker.specs.Connections.{is_of, place_of, connection_of, changed, without, with_session}
+use Rattle.tcp_tracker.specs.Prelude.{is_of, place_of, connection_of, changed, without, with_session, inline, joined, IsKept, slots_of, IsJoined, replaced}
 use Rattle.tcp_tracker.specs.declared.connection.ConnKey.{ConnKey}
 use Rattle.tcp_tracker.specs.declared.connection.Connection.{Connection}
-use Rattle.tcp_tracker.specs.Joined.{inline, joined, IsKept, slots_of, IsJoined, replaced}
 use Rattle.tcp_tracker.proofs.Joining.{place_joined, connection_joined, slots_removed, place_within, none_past}
 
 pub head_apart : (s : ℕ) (ys : List ℕ) → AllPairs (λ one two. one ≢ two) (s ∷ ys) → All (λ y. s ≢ y) ys

@@ -1,7 +1,7 @@
 -- How connections are kept under numbers.
 use Rattle.std.specs.Prelude.{◌≡◌, ℕ, ◌+◌, ◌*◌, ◌^◌, ◌<◌, All, Some}
 use Rattle.expiring_table.specs.declared.row.Row.{Row}
-use Rattle.expiring_table.specs.Rows.{Table}
+use Rattle.expiring_table.specs.Prelude.{Table}
 use Rattle.tcp_tracker.specs.declared.connection.ConnKey.{ConnKey}
 use Rattle.tcp_tracker.specs.declared.connection.Connection.{Connection}
 

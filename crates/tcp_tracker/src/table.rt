@@ -2,10 +2,10 @@
 ghost use Rattle.std.specs.Prelude.{◌≡◌, ◌<◌, ◌+◌, None, Some, [], length, option_copied, option_map, option_and_then, is_some, count_by, IfOk, IsSome, true, false};
 ghost use Rattle.std.specs.Borrow.{sem};
 ghost use Rattle.std.specs.Option.{option_copied_mut};
-ghost use Rattle.gate_base.specs.Moments.{IsMoment};
+ghost use Rattle.gate_base.specs.Prelude.{IsMoment};
 ghost use Rattle.tcp_tracker.specs.Lends.{lends_session};
 ghost use Rattle.slab.specs.Slab.{get, slab_len, Updates};
-ghost use Rattle.tcp_segments.specs.Flags.{flags_of};
+ghost use Rattle.tcp_segments.specs.Prelude.{flags_of};
 ghost use Rattle.tcp_tracker.specs.Connections.{connection_of, place_of, timeout_of, noted, without, live, is_tracked};
 
 use crate::{ConnKey, Tracker};

@@ -2,7 +2,7 @@
 use Rattle.std.proofs.Common.{Fits, w8, ◌||◌, get_or-drop, nat_lt, inl, inr, length-drop, ◌≡◌, ◌≢◌, ℕ, ◌+◌, ◌-◌, ◌*◌, ◌/◌, ◌%◌, ◌^◌, ◌<◌, ◌≤◌, ◌==◌, Bool, true, false, not, ◌&&◌, List, ◌++◌, get_or, length, drop, Ok, refl, ap, ◌∙◌, sym, subst, arith, eq-eqb}
 use Rattle.std.proofs.lemmas.Bool.{cases_Bool}
 use Rattle.std.proofs.lemmas.Bool.Decides.{nat_tests}
-use Rattle.gate_base.specs.Fields.{u16_at, with_u16}
+use Rattle.gate_base.specs.Prelude.{u16_at, with_u16}
 use Rattle.inet_sum.specs.Sum.{total, fold_of, is_right, checksum, pseudo_header}
 use Rattle.inet_sum.proofs.Words.{right_again, total_at, total_with, total_pseudo}
 use Rattle.ipv4_frames.proofs.Items.{items, front_items}

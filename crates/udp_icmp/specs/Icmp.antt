@@ -1,6 +1,6 @@
 -- ICMP (RFC 792).
 use Rattle.std.specs.Prelude.{ℕ, Bool, not, ◌||◌, ◌==◌, nat_lt, List, [], ◌∷◌, drop, length, slice_index, Result}
-use Rattle.gate_base.specs.Fields.{with_u16}
+use Rattle.gate_base.specs.Prelude.{with_u16}
 use Rattle.inet_sum.specs.Sum.{is_right, checksum}
 use Rattle.ipv4_frames.specs.declared.fault.TransportFault.{TransportFault}
 use Rattle.ipv4_frames.specs.declared.fault.TransportFault.TheVariants.{BadTransport, BadSum}

@@ -1,6 +1,6 @@
 -- UDP (RFC 768).
 use Rattle.std.specs.Prelude.{ℕ, Bool, not, ◌&&◌, ◌||◌, ◌==◌, nat_lt, if◌then◌else◌, List, [], ◌∷◌, ◌++◌, drop, length, Result}
-use Rattle.gate_base.specs.Fields.{u16_at, with_u16}
+use Rattle.gate_base.specs.Prelude.{u16_at, with_u16}
 use Rattle.inet_sum.specs.Sum.{is_right, checksum, pseudo_header}
 use Rattle.ipv4_frames.specs.declared.fault.TransportFault.{TransportFault}
 use Rattle.ipv4_frames.specs.declared.fault.TransportFault.TheVariants.{BadTransport, BadSum}

@@ -1,7 +1,7 @@
 // Audits of the files of worked cases, as they are or with one octet changed.
 use crate::case::{read_part, run_gate, words_of};
 use gate_desk::Slot;
-use memory_desks::MemoryDesk;
+use memory_desks::{Given, MemoryDesk};
 use std::alloc::AllocError;
 use std::io;
 
@@ -58,15 +58,12 @@ fn desk_of(rt: &HostRuntime, incoming: Files, given: Files) -> io::Result<Memory
         second: right_given,
         third: report_given,
     } = given;
-    match MemoryDesk::make_audit(
-        rt.alloc(),
-        settings,
-        left,
-        right,
-        left_given,
-        right_given,
-        report_given,
-    ) {
+    let given = Given {
+        left: left_given,
+        right: right_given,
+        report: report_given,
+    };
+    match MemoryDesk::make_audit(rt.alloc(), settings, left, right, given) {
         Ok(desk) => Ok(desk),
         Err(_) => Err(io::Error::from(AllocError)),
     }

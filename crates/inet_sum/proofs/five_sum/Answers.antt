@@ -1,5 +1,4 @@
-use Rattle.std.proofs.Common.{◌≡◌, ℕ, ◌+◌, ◌*◌, ◌%◌, ◌≤◌, List, length, take, drop, refl, ap, sym, ◌∙◌, arith, length-drop}
-use Rattle.std.proofs.lemmas.List.{take-append-drop, drop-drop, length-take-le}
+use Rattle.std.proofs.Common.{◌≡◌, ℕ, ◌+◌, ◌*◌, ◌%◌, ◌≤◌, List, length, take, drop, refl, ap, sym, ◌∙◌, arith, length-drop, take-append-drop, drop-drop, length-take-le}
 use Rattle.inet_sum.specs.Sum.{total, fold_of}
 use Rattle.inet_sum.proofs.Words.{part_more, no_octet}
 use Rattle.inet_sum.proofs.five_sum.Goals as goal

@@ -1,5 +1,5 @@
 use Rattle.std.proofs.Common.{◌≡◌, ◌++◌, ◌+◌, ◌-◌, ap, ◌∙◌, sym, arith, length, take, drop}
-use Rattle.gate_base.specs.Fields.{u16_at, with_u16}
+use Rattle.gate_base.specs.Prelude.{u16_at, with_u16}
 use Rattle.inet_sum.specs.Sum.{fold_of, pseudo_header, total}
 use Rattle.inet_sum.proofs.Words.{total_pseudo, total_at, total_with, fold_moved, length-with_u16}
 use Rattle.inet_sum.proofs.moved_sum.Goals as goal

@@ -1,6 +1,6 @@
 use Rattle.std.proofs.Common.{◌∙◌, ◌+◌, ◌%◌, ◌^◌, ◌==◌, ◌&&◌, ℕ, Bool, List, length, take, drop, ap}
 use Rattle.tcp_segments.specs.declared.flags.Flags.{Flags}
-use Rattle.gate_model.specs.Stream.{sent_as}
+use Rattle.gate_model.specs.Prelude.{sent_as}
 use Rattle.audit_records.specs.Records.{holds}
 use Rattle.audit_records.proofs.cutting.is_piece.Goals as goal
 

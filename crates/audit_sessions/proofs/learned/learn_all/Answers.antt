@@ -1,6 +1,5 @@
-use Rattle.std.proofs.Common.{◌≡◌, ◌<◌, suc, false, List, None, length, take, drop, sym, subst, rules, tests}
-use Rattle.std.specs.List.{slice_index_or}
-use Rattle.dialogue.specs.Learning.{Entry, is_listed}
+use Rattle.std.proofs.Common.{◌≡◌, ◌<◌, suc, false, List, None, length, take, drop, sym, subst, rules, tests, slice_index_or}
+use Rattle.dialogue.specs.Prelude.{Entry, is_listed}
 use Rattle.dns_plans.proofs.EnteredLemmas.{room_for, drop-next}
 use Rattle.audit_sessions.specs.Sessions.{DnsHeard, listed_of, IsListedSide}
 use Rattle.audit_sessions.proofs.LearnedSessions.{with_listed, side_longer}

@@ -1,14 +1,10 @@
-use Rattle.std.proofs.Common.{◌≡◌, List, sym, ◌∙◌, ap, subst}
-use Rattle.dialogue.specs.Learning.{Entry, AreImages}
+use Rattle.std.proofs.Common.{◌≡◌, List, sym, ◌∙◌, ap, subst, IfOk}
+use Rattle.dialogue.specs.Prelude.{Entry, AreImages}
 use Rattle.dialogue.specs.declared.learns.UnitImage.{UnitImage}
-use Rattle.dns_stream.specs.Images.{dns_units}
-use Rattle.std.specs.Prelude.{IfOk}
+use Rattle.dns_stream.specs.Prelude.{dns_units}
 use Rattle.gate_base.specs.declared.host.Host.{Host}
 use Rattle.audit_streams.specs.Sending.{handed}
-use Rattle.stream_model.specs.Session.{segment_in}
-use Rattle.stream_model.specs.Cuts.{session_sent}
-use Rattle.stream_model.specs.Steps.{session_ends}
-use Rattle.stream_model.specs.Refusals.{segment_refusal}
+use Rattle.stream_model.specs.Prelude.{segment_in, session_sent, session_ends, segment_refusal}
 use Rattle.audit_sessions.specs.Sessions.{DnsHeard, listed_of, streams_of, with_entered}
 use Rattle.audit_sessions.proofs.LearnedSessions.{still_passes, has_passed, with_listed}
 use Rattle.audit_sessions.proofs.learned.step_units.Goals as goal

@@ -1,8 +1,8 @@
 use Rattle.std.proofs.Common.{◌≡◌, ◌++◌, ℕ, List, length, drop, min, ap, sym, ◌∙◌, arith}
 use Rattle.std.proofs.lemmas.List.{take_rest}
-use Rattle.stream_model.specs.Session.{own, start_of, segment_in}
+use Rattle.stream_model.specs.Prelude.{own, start_of, segment_in}
 use Rattle.gate_model.proofs.Completing.{none_completed}
-use Rattle.dns_plans.specs.Plans.{whole_units}
+use Rattle.dns_plans.specs.Prelude.{whole_units}
 use Rattle.audit_sessions.specs.Sessions.{streams_of}
 use Rattle.audit_sessions.proofs.CompletedUnits.{joined_completed, rest_is_short}
 use Rattle.audit_sessions.proofs.session.put_units.Goals as goal

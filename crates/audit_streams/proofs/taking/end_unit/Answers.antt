@@ -1,6 +1,4 @@
-use Rattle.std.proofs.Common.{◌≡◌, true, false, length, sym, ◌∙◌, ap, subst, arith, rules}
-use Rattle.std.specs.Prelude.{OnOk}
-use Rattle.std.specs.Str.{bytes_eq}
+use Rattle.std.proofs.Common.{◌≡◌, true, false, length, sym, ◌∙◌, ap, subst, arith, rules, OnOk, bytes_eq}
 use Rattle.audit_streams.specs.Transcripts.{Transcribed, IsOther, with_octets, closed, changed}
 use Rattle.audit_streams.proofs.PieceTaken.{extend_short, unit_some, unit_short, ended_is}
 use Rattle.audit_streams.proofs.taking.end_unit.Goals as goal

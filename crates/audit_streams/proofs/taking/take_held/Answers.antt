@@ -1,7 +1,5 @@
-use Rattle.std.proofs.Common.{◌≤◌, ◌-◌, ◌++◌, Bool, List, ℕ, length, take, sym, ◌∙◌, ap, subst, arith}
-use Rattle.std.specs.Prelude.{not}
-use Rattle.std.proofs.lemmas.List.{length-append}
-use Rattle.dialogue.specs.Meaning.{IsUnit, IsRest}
+use Rattle.std.proofs.Common.{◌≤◌, ◌-◌, ◌++◌, Bool, List, ℕ, length, take, sym, ◌∙◌, ap, subst, arith, not, length-append}
+use Rattle.dialogue.specs.Prelude.{IsUnit, IsRest}
 use Rattle.audit_streams.specs.Transcripts.{rest_of, IsOf}
 use Rattle.audit_streams.proofs.PieceTaken.{extend_short, ends_behind, unit_ends, rest_goes, some_released}
 use Rattle.audit_streams.proofs.taking.take_held.Goals as goal

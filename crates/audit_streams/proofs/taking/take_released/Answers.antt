@@ -1,5 +1,4 @@
-use Rattle.std.proofs.Common.{length, take, sym, ◌∙◌, arith}
-use Rattle.std.proofs.lemmas.List.{length-take}
+use Rattle.std.proofs.Common.{length, take, sym, ◌∙◌, arith, length-take}
 use Rattle.audit_streams.proofs.PieceTaken.{extend_short, free_goes, free_ends}
 use Rattle.audit_streams.proofs.taking.take_released.Goals as goal
 

@@ -1,4 +1,4 @@
-use Rattle.binding_table.specs.Bindings.{cross}
+use Rattle.binding_table.specs.Prelude.{cross}
 use Rattle.binding_table.proofs.SeenAfter.{seen_kept}
 use Rattle.binding_table.proofs.laws.keeps_others.Goals as goal
 

@@ -1,6 +1,6 @@
 use Rattle.std.proofs.Common.{◌≡◌, ℕ, ◌++◌, ◌∷◌, [], Some, None, length, subst, sym, ap, ◌∙◌, arith}
-use Rattle.expiring_table.specs.Rows.{Table, row_of}
-use Rattle.binding_table.specs.Steps.{AreFirsts}
+use Rattle.expiring_table.specs.Prelude.{Table, row_of}
+use Rattle.binding_table.specs.Prelude.{AreFirsts}
 use Rattle.binding_table.proofs.Places.{firsts_noted}
 use Rattle.binding_table.proofs.seen_addresses.first_place.Goals as goal
 

@@ -1,8 +1,8 @@
 use Rattle.std.proofs.Common.{◌∙◌, ap, sym, subst, arith, All, length, ℕ}
 use Rattle.std.proofs.lemmas.List.Elements.{All-filter}
-use Rattle.expiring_table.specs.Rows.{Table, living, no_rows}
+use Rattle.expiring_table.specs.Prelude.{Table, living, no_rows}
 use Rattle.expiring_table.proofs.Taken.{taken_fewer}
-use Rattle.binding_table.specs.Steps.{EndsAtOnce}
+use Rattle.binding_table.specs.Prelude.{EndsAtOnce}
 use Rattle.binding_table.proofs.Filed.{same_table}
 use Rattle.binding_table.proofs.Places.{none_left}
 use Rattle.binding_table.proofs.seen_addresses.forget.Goals as goal

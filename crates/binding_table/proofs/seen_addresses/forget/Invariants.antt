@@ -1,5 +1,5 @@
 use Rattle.std.proofs.Common.{◌≡◌, All, length}
-use Rattle.binding_table.specs.Steps.{EndsAtOnce}
+use Rattle.binding_table.specs.Prelude.{EndsAtOnce}
 use Rattle.binding_table.proofs.seen_addresses.forget.Given as goal
 
 -- what is left is taken out too

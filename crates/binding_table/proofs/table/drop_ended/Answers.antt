@@ -1,12 +1,10 @@
-use Rattle.std.proofs.Common.{◌≡◌, ◌∙◌, List, map, ap, sym}
-use Rattle.std.specs.List.{filter}
+use Rattle.std.proofs.Common.{◌≡◌, ◌∙◌, List, map, ap, sym, filter}
 use Rattle.gate_base.specs.declared.event.Moment.{Moment}
 use Rattle.gate_base.specs.declared.side.Side.TheVariants.{Left, Right}
 use Rattle.expiring_table.specs.declared.row.Row.{Row}
-use Rattle.expiring_table.specs.Rows.{Table, living}
+use Rattle.expiring_table.specs.Prelude.{Table, living}
 use Rattle.binding_table.specs.declared.binding.Binding.{Binding}
-use Rattle.binding_table.specs.Bindings.{is_live}
-use Rattle.binding_table.specs.Steps.{entries_in, filed}
+use Rattle.binding_table.specs.Prelude.{is_live, entries_in, filed}
 use Rattle.binding_table.proofs.Dropped.{dropped, rows_left, same_with}
 use Rattle.binding_table.proofs.Filed.{entries_are, same_table}
 use Rattle.binding_table.proofs.table.drop_ended.Goals as goal

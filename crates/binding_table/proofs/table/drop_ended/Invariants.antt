@@ -1,7 +1,5 @@
-use Rattle.std.proofs.Common.{◌≡◌, length}
-use Rattle.std.specs.List.{filter}
-use Rattle.binding_table.specs.Bindings.{is_live}
-use Rattle.binding_table.specs.Steps.{entries_in, AreKept}
+use Rattle.std.proofs.Common.{◌≡◌, length, filter}
+use Rattle.binding_table.specs.Prelude.{is_live, entries_in, AreKept}
 use Rattle.binding_table.proofs.table.drop_ended.Given as goal
 
 -- the rows that are left are kept, and those that live are all left

@@ -1,8 +1,7 @@
-use Rattle.std.proofs.Common.{◌≡◌, ◌+◌, arith, sym, ap, subst}
-use Rattle.std.specs.Prelude.{min}
-use Rattle.dialogue.specs.Stream.{cut}
-use Rattle.shift_ledger.specs.Kept.{Kept, StandsFor}
-use Rattle.compact_stream.specs.Kept.{sent_pushes}
+use Rattle.std.proofs.Common.{◌≡◌, ◌+◌, arith, sym, ap, subst, min}
+use Rattle.dialogue.specs.Prelude.{cut}
+use Rattle.shift_ledger.specs.Prelude.{Kept, StandsFor}
+use Rattle.compact_stream.specs.Prelude.{sent_pushes}
 use Rattle.compact_stream.proofs.PlacesKept.{sender_back, sender_back_end}
 use Rattle.compact_stream.proofs.places.back_acknowledged.Goals as goal
 

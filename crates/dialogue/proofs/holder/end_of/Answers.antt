@@ -1,7 +1,5 @@
-use Rattle.std.proofs.Common.{◌≡◌, ◌-◌, length, take, arith, sym, refl, ◌∙◌}
-use Rattle.std.specs.Prelude.{Some}
-use Rattle.std.proofs.lemmas.List.{length-take-le, take-take}
-use Rattle.dialogue.specs.Meaning.{IsRest}
+use Rattle.std.proofs.Common.{◌≡◌, ◌-◌, length, take, arith, sym, refl, ◌∙◌, Some, length-take-le, take-take}
+use Rattle.dialogue.specs.Prelude.{IsRest}
 use Rattle.dialogue.proofs.TakingLemmas.{rest-take, rest-below, ends-released, ends-released-if, ends-unit}
 use Rattle.dialogue.proofs.holder.end_of.Goals as goal
 

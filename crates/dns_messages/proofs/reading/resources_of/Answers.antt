@@ -1,6 +1,6 @@
 use Rattle.std.proofs.Common.{◌≡◌, ◌∙◌, Some, ℕ, List, subst}
 use Rattle.std.proofs.lemmas.Result.{err_from_is_err_and}
-use Rattle.dns_names.specs.Stops.{Fails}
+use Rattle.dns_names.specs.Prelude.{Fails}
 use Rattle.dns_messages.specs.Reading.{resource_at, resources_at}
 use Rattle.dns_messages.proofs.Loop.{goes_on, ends, is_done}
 use Rattle.dns_messages.proofs.reading.resources_of.Goals as goal

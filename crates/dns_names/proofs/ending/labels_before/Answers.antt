@@ -1,8 +1,6 @@
-use Rattle.std.proofs.Common.{◌≡◌, ◌<◌, ℕ, length, ap, sym, subst, ◌∙◌, arith, inl, inr, rules}
-use Rattle.std.specs.Prelude.{nat_lt}
+use Rattle.std.proofs.Common.{◌≡◌, ◌<◌, ℕ, length, ap, sym, subst, ◌∙◌, arith, inl, inr, rules, nat_lt}
 use Rattle.std.proofs.lemmas.Bool.{cases_Bool, ltb-true, ltb-false}
-use Rattle.dns_names.specs.Octets.{behind}
-use Rattle.dns_names.specs.Longest.{skipped}
+use Rattle.dns_names.specs.Prelude.{behind, skipped}
 use Rattle.dns_names.proofs.Longest.{skipped-more, behind-shorter, no-end}
 use Rattle.dns_names.proofs.ending.labels_before.Goals as goal
 

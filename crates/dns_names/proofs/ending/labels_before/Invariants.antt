@@ -1,5 +1,5 @@
 use Rattle.std.proofs.Common.{◌≡◌, ◌+◌, ◌<◌, ◌≤◌, ℕ, length}
-use Rattle.dns_names.specs.Longest.{skipped}
+use Rattle.dns_names.specs.Prelude.{skipped}
 use Rattle.dns_names.proofs.ending.labels_before.Given as goal
 
 abbrev pub invariant-labels : goal.invariant-labels

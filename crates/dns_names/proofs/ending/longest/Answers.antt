@@ -1,6 +1,6 @@
 use Rattle.std.proofs.Common.{rules, ap}
 use Rattle.std.proofs.lemmas.List.{nil_from_length}
-use Rattle.dns_names.specs.Writers.{starts_in}
+use Rattle.dns_names.specs.Prelude.{starts_in}
 use Rattle.dns_names.proofs.Longest.{empty, longest-root, longest-none}
 use Rattle.dns_names.proofs.ending.longest.Goals as goal
 

@@ -1,7 +1,5 @@
 use Rattle.std.proofs.Common.{◌≡◌, ◌+◌, ◌-◌, ◌≤◌, ℕ, [], length, sym, ap, subst, ◌∙◌, arith, rules}
-use Rattle.dns_names.specs.Spelling.{found}
-use Rattle.dns_names.specs.Longest.{skipped, EndsAt}
-use Rattle.dns_names.specs.Writers.{starts_in}
+use Rattle.dns_names.specs.Prelude.{found, skipped, EndsAt, starts_in}
 use Rattle.dns_names.proofs.Longest.{skipped-add, empty, longest-is}
 use Rattle.dns_names.proofs.ending.longest_part.Goals as goal
 

@@ -1,7 +1,5 @@
 use Rattle.std.proofs.Common.{◌≡◌, ◌+◌, ◌≤◌, None, length}
-use Rattle.dns_names.specs.Spelling.{found}
-use Rattle.dns_names.specs.Longest.{skipped, EndsAt}
-use Rattle.dns_names.specs.Writers.{starts_in}
+use Rattle.dns_names.specs.Prelude.{found, skipped, EndsAt, starts_in}
 use Rattle.dns_names.proofs.ending.longest_part.Given as goal
 
 abbrev pub invariant-ends : goal.invariant-ends

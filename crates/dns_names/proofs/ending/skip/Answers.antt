@@ -1,5 +1,5 @@
 use Rattle.std.proofs.Common.{◌≡◌, ◌+◌, ◌-◌, ℕ, suc, sym, ap, ◌∙◌, arith}
-use Rattle.dns_names.specs.Longest.{skipped}
+use Rattle.dns_names.specs.Prelude.{skipped}
 use Rattle.dns_names.proofs.ending.skip.Goals as goal
 
 pub loop-preserved : goal.loop-preserved

@@ -1,5 +1,5 @@
 use Rattle.std.proofs.Common.{◌≡◌, ◌-◌}
-use Rattle.dns_names.specs.Longest.{skipped}
+use Rattle.dns_names.specs.Prelude.{skipped}
 use Rattle.dns_names.proofs.ending.skip.Given as goal
 
 abbrev pub invariant-loop : goal.invariant-loop

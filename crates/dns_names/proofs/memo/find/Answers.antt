@@ -1,9 +1,6 @@
-use Rattle.std.proofs.Common.{◌≡◌, ◌-◌, ◌≤◌, ◌++◌, ◌∷◌, [], ℕ, List, length, cond, refl, sym, ap, subst, ◌∙◌, arith, append_assoc, true}
-use Rattle.std.specs.Prelude.{nat_lt}
-use Rattle.std.proofs.lemmas.Bool.{lt-ltb}
+use Rattle.std.proofs.Common.{◌≡◌, ◌-◌, ◌≤◌, ◌++◌, ◌∷◌, [], ℕ, List, length, cond, refl, sym, ap, subst, ◌∙◌, arith, append_assoc, true, nat_lt, lt-ltb}
 use Rattle.std.proofs.lemmas.List.{nil_from_length}
-use Rattle.dns_names.specs.Names.{piece_at}
-use Rattle.dns_names.specs.Memo.{octets_of, known_by, AreKnown, IsMemo, Joins, Leads}
+use Rattle.dns_names.specs.Prelude.{piece_at, octets_of, known_by, AreKnown, IsMemo, Joins, Leads}
 use Rattle.dns_names.specs.declared.known.Known.{Known}
 use Rattle.dns_names.specs.declared.memo.Memo.{Memo}
 use Rattle.dns_names.proofs.Trails.{SteppedBack, stepped-back, are-known-more, below-back, joined, here}

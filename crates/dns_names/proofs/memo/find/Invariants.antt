@@ -1,5 +1,5 @@
 use Rattle.std.proofs.Common.{◌≡◌, length}
-use Rattle.dns_names.specs.Memo.{IsMemo, Leads}
+use Rattle.dns_names.specs.Prelude.{IsMemo, Leads}
 use Rattle.dns_names.proofs.memo.find.Given as goal
 
 abbrev pub invariant-back : goal.invariant-back

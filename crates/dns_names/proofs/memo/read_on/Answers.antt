@@ -1,6 +1,5 @@
 use Rattle.std.proofs.Common.{◌≡◌, ◌+◌, ◌-◌, ℕ, List, take, drop, sym, ap, subst, ◌∙◌, arith}
-use Rattle.dns_names.specs.Names.{NameAt, spelled}
-use Rattle.dns_names.specs.Memo.{Here}
+use Rattle.dns_names.specs.Prelude.{NameAt, spelled, Here}
 use Rattle.dns_names.specs.declared.known.Known.{Known}
 use Rattle.dns_names.proofs.Walking.{labels_in-spelled, IsSpelled-spelled}
 use Rattle.dns_names.proofs.memo.read_on.Goals as goal

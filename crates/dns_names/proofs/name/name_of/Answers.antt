@@ -1,5 +1,4 @@
-use Rattle.std.proofs.Common.{◌≡◌, ℕ, ◌+◌, ◌≤◌, ◌++◌, ◌∷◌, List, Option, length, subst, ap, ◌∙◌, arith, sym, append_assoc}
-use Rattle.std.proofs.lemmas.List.{append-nil, length-append}
+use Rattle.std.proofs.Common.{◌≡◌, ℕ, ◌+◌, ◌≤◌, ◌++◌, ◌∷◌, List, Option, length, subst, ap, ◌∙◌, arith, sym, append_assoc, append-nil, length-append}
 use Rattle.dns_names.proofs.Walking.{run, run-length, run-label, run-none, Reads, Reads-name, Reads-root, Reads-label, Reads-pointer, Reads-nothing, Reads-up, Reads-long}
 use Rattle.dns_names.proofs.name.name_of.Goals as goal
 

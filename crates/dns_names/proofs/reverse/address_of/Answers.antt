@@ -1,5 +1,5 @@
 use Rattle.std.proofs.Common.{◌∙◌, ap}
-use Rattle.dns_names.specs.Octets.{reverse_in}
+use Rattle.dns_names.specs.Prelude.{reverse_in}
 use Rattle.dns_names.proofs.Reversing.{reverse_in-spelled}
 use Rattle.dns_names.proofs.reverse.address_of.Goals as goal
 

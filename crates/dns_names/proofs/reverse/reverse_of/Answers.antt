@@ -1,7 +1,5 @@
 use Rattle.std.proofs.Common.{◌≡◌, ◌∙◌, ◌++◌, ℕ, List, sym, ap, subst, arith}
-use Rattle.dns_names.specs.Names.{spelled, IsSpelled}
-use Rattle.dns_names.specs.Reverse.{numbers, full_reverse, with_address}
-use Rattle.dns_names.specs.Octets.{behind}
+use Rattle.dns_names.specs.Prelude.{spelled, IsSpelled, numbers, full_reverse, with_address, behind}
 use Rattle.dns_names.proofs.Reversing.{Names, renames}
 use Rattle.dns_names.proofs.reverse.reverse_of.Goals as goal
 

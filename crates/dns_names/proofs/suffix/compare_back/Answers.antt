@@ -1,7 +1,5 @@
-use Rattle.std.proofs.Common.{◌≡◌, ℕ, List, length, take, drop, ◌++◌, sym, ap, ◌∙◌, arith}
-use Rattle.std.specs.Ordering.{nat_cmp}
-use Rattle.std.proofs.lemmas.List.{take-append-drop, length-append}
-use Rattle.dns_names.specs.Ends.{worth}
+use Rattle.std.proofs.Common.{◌≡◌, ℕ, List, length, take, drop, ◌++◌, sym, ap, ◌∙◌, arith, nat_cmp, take-append-drop, length-append}
+use Rattle.dns_names.specs.Prelude.{worth}
 use Rattle.dns_names.proofs.Endings.{goes-on, ends}
 use Rattle.dns_names.proofs.suffix.compare_back.Goals as goal
 

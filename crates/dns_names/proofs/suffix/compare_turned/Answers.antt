@@ -1,7 +1,5 @@
-use Rattle.std.proofs.Common.{◌≡◌, ℕ, List, length, take, drop, ◌++◌, sym, ap, ◌∙◌, arith}
-use Rattle.std.specs.Ordering.{nat_cmp}
-use Rattle.std.proofs.lemmas.List.{length-take, take_all}
-use Rattle.dns_names.specs.Ends.{turned, worth}
+use Rattle.std.proofs.Common.{◌≡◌, ℕ, List, length, take, drop, ◌++◌, sym, ap, ◌∙◌, arith, nat_cmp, length-take, take_all}
+use Rattle.dns_names.specs.Prelude.{turned, worth}
 use Rattle.dns_names.proofs.Endings.{goes-on, ends}
 use Rattle.dns_names.proofs.suffix.compare_turned.Goals as goal
 

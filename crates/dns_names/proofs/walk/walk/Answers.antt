@@ -1,7 +1,5 @@
-use Rattle.std.proofs.Common.{◌≡◌, ℕ, ◌+◌, ◌≤◌, ◌<◌, ◌++◌, ◌∷◌, [], List, length, refl, sym, ap, ◌∙◌, append_assoc, arith, inl, inr}
-use Rattle.std.proofs.lemmas.List.{append-nil, length-append}
-use Rattle.dns_names.specs.Names.{Label, Pointer, piece_at}
-use Rattle.dns_names.specs.Memo.{Knows, Joins}
+use Rattle.std.proofs.Common.{◌≡◌, ℕ, ◌+◌, ◌≤◌, ◌<◌, ◌++◌, ◌∷◌, [], List, length, refl, sym, ap, ◌∙◌, append_assoc, arith, inl, inr, append-nil, length-append}
+use Rattle.dns_names.specs.Prelude.{Label, Pointer, piece_at, Knows, Joins}
 use Rattle.dns_names.specs.declared.known.Known.{Known}
 use Rattle.dns_names.proofs.Walking.{run, run-label, run-none}
 use Rattle.dns_names.proofs.Trails.{none-high, none-long, none-label, none-up, none-nothing, says-root, way-label, way-pointer}

@@ -1,5 +1,5 @@
 use Rattle.std.proofs.Common.{◌≡◌, ◌+◌, ◌-◌, ◌≤◌, ◌++◌, ◌⊎◌, ℕ, List, length, reverse}
-use Rattle.dns_names.specs.Memo.{Trail}
+use Rattle.dns_names.specs.Prelude.{Trail}
 use Rattle.dns_names.proofs.Walking.{run}
 use Rattle.dns_names.proofs.walk.walk.Given as goal
 

@@ -2,10 +2,7 @@ use Rattle.std.proofs.Common.{◌≡◌, ◌∙◌, ◌-◌, ◌≤◌, ℕ, suc
 use Rattle.dns_names.proofs.Kept.{ends-near, IsIndex-later}
 use Rattle.dns_names.proofs.Longest.{longest-new, longest-step, longest-ends, closing-put, closing-ends, behind-is}
 use Rattle.dns_names.proofs.Putting.{Left-ends, Left-closed, Left-new, Left-within, Left-label, grew_more, grew_octets}
-use Rattle.dns_names.specs.Octets.{behind}
-use Rattle.dns_names.specs.Spelling.{with_start}
-use Rattle.dns_names.specs.Longest.{IsLongest}
-use Rattle.dns_names.specs.Writers.{starts_in}
+use Rattle.dns_names.specs.Prelude.{behind, with_start, IsLongest, starts_in}
 use Rattle.dns_names.proofs.writer.put_labels.Goals as goal
 use Rattle.dns_names.proofs.writer.put_labels.Goals.{then-labels-test+else-not-is_empty, else-labels-test}
 

@@ -1,7 +1,5 @@
 use Rattle.std.proofs.Common.{length}
-use Rattle.dns_names.specs.Names.{labels_in}
-use Rattle.dns_names.specs.Longest.{IsLongest}
-use Rattle.dns_names.specs.Writers.{starts_in, GrewBy, IsIndex}
+use Rattle.dns_names.specs.Prelude.{labels_in, IsLongest, starts_in, GrewBy, IsIndex}
 use Rattle.dns_names.proofs.Longest.{Closing}
 use Rattle.dns_names.proofs.Putting.{Puts}
 use Rattle.dns_names.proofs.writer.put_labels.Given as goal

@@ -1,8 +1,7 @@
-use Rattle.std.proofs.Common.{◌≡◌, take}
-use Rattle.std.specs.Prelude.{map, Option}
+use Rattle.std.proofs.Common.{◌≡◌, take, map, Option}
 use Rattle.gate_base.specs.declared.address.Addr.{Addr}
-use Rattle.dialogue.specs.Learning.{Entry}
-use Rattle.dns_plans.specs.Plans.{beside}
+use Rattle.dialogue.specs.Prelude.{Entry}
+use Rattle.dns_plans.specs.Prelude.{beside}
 use Rattle.dns_plans.proofs.called.beside.Given as goal
 
 abbrev pub invariant-loop-place : goal.invariant-loop-place

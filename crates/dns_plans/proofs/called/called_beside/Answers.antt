@@ -1,8 +1,7 @@
-use Rattle.std.proofs.Common.{◌≡◌, List, length, drop, sym, ◌∙◌, ap, subst, rules}
-use Rattle.std.proofs.lemmas.List.{take_at}
+use Rattle.std.proofs.Common.{◌≡◌, List, length, drop, sym, ◌∙◌, ap, subst, rules, take_at}
 use Rattle.gate_base.specs.declared.address.Addr.{Addr}
-use Rattle.binding_table.specs.Plan.{AreUsesOf, images_after}
-use Rattle.dns_plans.specs.Plans.{all_addresses, called_after}
+use Rattle.binding_table.specs.Prelude.{AreUsesOf, images_after}
+use Rattle.dns_plans.specs.Prelude.{all_addresses, called_after}
 use Rattle.dns_plans.proofs.PlannedLemmas.{behind_two, images_behind_are}
 use Rattle.dns_plans.proofs.called.called_beside.Goals as goal
 

@@ -1,12 +1,9 @@
-use Rattle.std.proofs.Common.{◌≡◌, ◌<◌, ◌++◌, ◌∷◌, [], true, false, List, length, refl, sym, ◌∙◌, ap, arith}
-use Rattle.std.specs.Prelude.{not, nat_lt, is_some, ◌||◌}
-use Rattle.std.proofs.lemmas.Bool.{le-ltb, lt-ltb}
-use Rattle.std.proofs.lemmas.List.{length-append}
-use Rattle.dialogue.specs.Learning.{Entry, is_listed}
+use Rattle.std.proofs.Common.{◌≡◌, ◌<◌, ◌++◌, ◌∷◌, [], true, false, List, length, refl, sym, ◌∙◌, ap, arith, not, nat_lt, is_some, ◌||◌, le-ltb, lt-ltb, length-append}
+use Rattle.dialogue.specs.Prelude.{Entry, is_listed}
 use Rattle.dialogue.proofs.ListedImages.{image_of_listed}
-use Rattle.gate_model.specs.Lists.{most_entries}
+use Rattle.gate_model.specs.Prelude.{most_entries}
 use Rattle.dns_plans.proofs.EnteredLemmas.{enters_none, enters_new}
-use Rattle.dns_plans.specs.Steps.{enter_one}
+use Rattle.dns_plans.specs.Prelude.{enter_one}
 use Rattle.dns_plans.proofs.entered.enter_one.Goals as goal
 use Rattle.dns_plans.proofs.entered.enter_one.Goals.{then-knows-via-then-knows, then-knows-via-else-knows+then-is_some}
 

@@ -1,9 +1,7 @@
-use Rattle.std.proofs.Common.{◌≡◌, ◌<◌, ◌++◌, suc, true, None, List, length, take, drop, sym, ◌∙◌, subst, rules, tests}
-use Rattle.std.specs.Prelude.{nat_lt}
-use Rattle.std.specs.List.{slice_index_or}
+use Rattle.std.proofs.Common.{◌≡◌, ◌<◌, ◌++◌, suc, true, None, List, length, take, drop, sym, ◌∙◌, subst, rules, tests, nat_lt, slice_index_or}
 use Rattle.std.proofs.lemmas.Bool.{ltb-true, not-false}
-use Rattle.dialogue.specs.Learning.{Entry}
-use Rattle.dns_plans.specs.Steps.{enter_one, entered_all}
+use Rattle.dialogue.specs.Prelude.{Entry}
+use Rattle.dns_plans.specs.Prelude.{enter_one, entered_all}
 use Rattle.dns_plans.proofs.EnteredLemmas.{full_with, drop-next}
 use Rattle.dns_plans.proofs.entered.new_entries.Goals as goal
 

@@ -1,5 +1,5 @@
 use Rattle.std.proofs.Common.{◌≡◌, ◌≤◌, ◌++◌, length, take}
-use Rattle.dns_plans.specs.Steps.{entered_all}
+use Rattle.dns_plans.specs.Prelude.{entered_all}
 use Rattle.dns_plans.proofs.entered.new_entries.Given as goal
 
 abbrev pub invariant-loop-one : goal.invariant-loop-one

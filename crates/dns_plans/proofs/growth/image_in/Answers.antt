@@ -1,5 +1,4 @@
-use Rattle.std.proofs.Common.{◌∙◌, ap, sym}
-use Rattle.std.specs.Prelude.{None, unwrap_or}
+use Rattle.std.proofs.Common.{◌∙◌, ap, sym, None, unwrap_or}
 use Rattle.dns_plans.proofs.ImageLemmas.{image_of_first, image_of_new}
 use Rattle.dns_plans.proofs.growth.image_in.Goals as goal
 

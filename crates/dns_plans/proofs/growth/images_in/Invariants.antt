@@ -1,5 +1,5 @@
 use Rattle.std.specs.Prelude.{◌≡◌, ◌++◌, map, take}
-use Rattle.dns_stream.specs.Images.{image_in}
+use Rattle.dns_stream.specs.Prelude.{image_in}
 use Rattle.dns_plans.proofs.growth.images_in.Given as goal
 
 abbrev pub invariant-loop-address : goal.invariant-loop-address

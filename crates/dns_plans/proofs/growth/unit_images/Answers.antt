@@ -1,10 +1,9 @@
-use Rattle.std.proofs.Common.{◌≡◌, ◌++◌, List, sym, ◌∙◌, ap, subst}
-use Rattle.std.specs.Prelude.{Option, is_none, IfSome}
+use Rattle.std.proofs.Common.{◌≡◌, ◌++◌, List, sym, ◌∙◌, ap, subst, Option, is_none, IfSome}
 use Rattle.std.specs.Vec.Iter.{into_iter_items}
-use Rattle.dialogue.specs.Learning.{Entry}
+use Rattle.dialogue.specs.Prelude.{Entry}
 use Rattle.dialogue.specs.declared.learns.UnitImage.{UnitImage}
-use Rattle.dns_stream.specs.Images.{dns_units}
-use Rattle.dns_plans.specs.Steps.{unit_of}
+use Rattle.dns_stream.specs.Prelude.{dns_units}
+use Rattle.dns_plans.specs.Prelude.{unit_of}
 use Rattle.dns_plans.proofs.ImageLemmas.{images_on}
 use Rattle.dns_plans.proofs.growth.unit_images.Goals as goal
 

@@ -1,6 +1,6 @@
 use Rattle.std.proofs.Common.{List, ◌++◌, ◌∙◌, ap, sym}
 use Rattle.gate_base.specs.declared.address.Addr.{Addr}
-use Rattle.dns_stream.specs.Units.{addresses_of}
+use Rattle.dns_stream.specs.Prelude.{addresses_of}
 use Rattle.dns_plans.proofs.NamedLemmas.{of_unit}
 use Rattle.dns_plans.proofs.named.add_unit.Goals as goal
 

@@ -1,13 +1,12 @@
-use Rattle.std.proofs.Common.{◌≡◌, ◌+◌, ◌-◌, ◌++◌, ◌∷◌, [], ℕ, true, false, List, take, drop, sym, ◌∙◌, ap, subst, arith}
-use Rattle.std.specs.Prelude.{Some, None, Err, map}
+use Rattle.std.proofs.Common.{◌≡◌, ◌+◌, ◌-◌, ◌++◌, ◌∷◌, [], ℕ, true, false, List, take, drop, sym, ◌∙◌, ap, subst, arith, Some, None, Err, map}
 use Rattle.std.proofs.lemmas.Result.{err_from_is_err_and}
 use Rattle.std.proofs.lemmas.List.{take_rest}
 use Rattle.dns_stream.specs.declared.stop.UnitStop.TheVariants as stop
 use Rattle.dns_stream.specs.Ends.{within}
-use Rattle.dns_stream.specs.Units.{unit_end}
-use Rattle.gate_model.specs.Lists.{is_bad, addresses_in}
+use Rattle.dns_stream.specs.Prelude.{unit_end}
+use Rattle.gate_model.specs.Prelude.{is_bad, addresses_in}
 use Rattle.dns_plans.proofs.NamedLemmas.{goes_on, all_named, all_good, one_bad, reads_on, all_read}
-use Rattle.dns_plans.specs.Steps.{unit_of}
+use Rattle.dns_plans.specs.Prelude.{unit_of}
 use Rattle.dns_plans.proofs.named.read_units.Goals as goal
 
 pub loop-end-preserved : goal.loop-end-preserved

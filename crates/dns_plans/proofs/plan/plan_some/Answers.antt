@@ -1,16 +1,13 @@
-use Rattle.std.proofs.Common.{◌≡◌, ◌++◌, true, false, List, length, sym, ◌∙◌, ap, subst}
-use Rattle.std.specs.Prelude.{map, not, nat_lt, is_none, Option, IfSome}
+use Rattle.std.proofs.Common.{◌≡◌, ◌++◌, true, false, List, length, sym, ◌∙◌, ap, subst, map, not, nat_lt, is_none, Option, IfSome}
 use Rattle.std.specs.List.{list_any}
 use Rattle.std.proofs.lemmas.Bool.{not-false}
-use Rattle.gate_base.specs.Side.{other}
+use Rattle.gate_base.specs.Prelude.{other}
 use Rattle.gate_base.specs.declared.address.Addr.{Addr}
-use Rattle.binding_table.specs.Bindings.{free}
-use Rattle.binding_table.specs.Plan.{needed}
-use Rattle.dialogue.specs.Learning.{Entry, AreImages}
-use Rattle.dns_stream.specs.Images.{dns_units}
-use Rattle.gate_model.specs.Units.{is_new_unbound}
-use Rattle.dns_plans.specs.Plans.{names_in, all_addresses, called_after, AreBound}
-use Rattle.dns_plans.specs.Steps.{entered_all}
+use Rattle.binding_table.specs.Prelude.{free, needed}
+use Rattle.dialogue.specs.Prelude.{Entry, AreImages}
+use Rattle.dns_stream.specs.Prelude.{dns_units}
+use Rattle.gate_model.specs.Prelude.{is_new_unbound}
+use Rattle.dns_plans.specs.Prelude.{names_in, all_addresses, called_after, AreBound, entered_all}
 use Rattle.dns_plans.proofs.PlannedLemmas.{used_bound}
 use Rattle.dns_plans.proofs.ToldLemmas.{full_told, empty_told}
 use Rattle.dns_plans.proofs.plan.plan_some.Goals as goal

@@ -1,11 +1,9 @@
-use Rattle.std.proofs.Common.{◌≡◌, ℕ, List, [], map, sym, ◌∙◌, ap, subst}
-use Rattle.std.specs.Prelude.{Option, None, Result, Ok, Err, IfOk, IfErr, is_some}
+use Rattle.std.proofs.Common.{◌≡◌, ℕ, List, [], map, sym, ◌∙◌, ap, subst, Option, None, Result, Ok, Err, IfOk, IfErr, is_some}
 use Rattle.gate_base.specs.declared.address.Addr.{Addr}
 use Rattle.gate_base.proofs.Options.{none_there}
 use Rattle.gate_base.specs.declared.refusal.Refusal.{Refusal}
-use Rattle.dns_stream.specs.Units.{unit_end}
-use Rattle.dns_plans.specs.Plans.{called_after, beside, TellsFirst}
-use Rattle.dns_plans.specs.Steps.{image_unit}
+use Rattle.dns_stream.specs.Prelude.{unit_end}
+use Rattle.dns_plans.specs.Prelude.{called_after, beside, TellsFirst, image_unit}
 use Rattle.dns_plans.specs.declared.plan.UnitPlan.{UnitPlan}
 use Rattle.dns_plans.specs.declared.stop.PlanStop.{PlanStop}
 use Rattle.dns_plans.proofs.NamedLemmas.{units-none}

@@ -1,6 +1,6 @@
 use Rattle.std.proofs.Common.{rules}
 use Rattle.std.proofs.lemmas.List.Sorted.{answers_always}
-use Rattle.dialogue.specs.Learning.{Entry}
+use Rattle.dialogue.specs.Prelude.{Entry}
 use Rattle.dns_stream.proofs.Order.{searched}
 use Rattle.dns_stream.proofs.list.place_of.Goals as goal
 

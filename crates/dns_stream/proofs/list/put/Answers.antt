@@ -1,7 +1,5 @@
-use Rattle.std.proofs.Common.{◌≡◌, ◌∙◌, if◌then◌else◌, ap, sym, subst, ◌++◌, ◌∷◌, []}
-use Rattle.std.specs.Prelude.{Bool}
-use Rattle.std.specs.List.{insert}
-use Rattle.dns_stream.specs.Order.{AreOneList}
+use Rattle.std.proofs.Common.{◌≡◌, ◌∙◌, if◌then◌else◌, ap, sym, subst, ◌++◌, ◌∷◌, [], Bool, insert}
+use Rattle.dns_stream.specs.Prelude.{AreOneList}
 use Rattle.dns_stream.proofs.Order.{put_new, put_known}
 use Rattle.dns_stream.proofs.list.put.Goals as goal
 

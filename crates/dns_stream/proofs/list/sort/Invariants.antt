@@ -1,5 +1,5 @@
 use Rattle.std.proofs.Common.{◌≤◌, take, vec_capacity}
-use Rattle.dns_stream.specs.Order.{AreOneList}
+use Rattle.dns_stream.specs.Prelude.{AreOneList}
 use Rattle.dns_stream.proofs.list.sort.Given as goal
 
 abbrev pub invariant-loop-entry : goal.invariant-loop-entry

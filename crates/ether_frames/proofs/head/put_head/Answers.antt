@@ -1,5 +1,4 @@
-use Rattle.std.proofs.Common.{List, ℕ, ◌++◌, take, drop, ap}
-use Rattle.std.proofs.lemmas.List.{length-take-le}
+use Rattle.std.proofs.Common.{List, ℕ, ◌++◌, take, drop, ap, length-take-le}
 use Rattle.ether_frames.proofs.Heads.{head_written}
 use Rattle.ether_frames.proofs.head.put_head.Goals as goal
 

@@ -1,8 +1,8 @@
 use Rattle.std.proofs.Common.{length, sym, ap, subst, ◌∙◌}
 use Rattle.gate_base.specs.declared.host.Host.TheVariants.{Client, Server}
-use Rattle.gate_model.specs.World.{Tracked}
+use Rattle.gate_model.specs.Prelude.{Tracked}
 use Rattle.dns_plans.specs.declared.stop.PlanStop.{PlanStop}
-use Rattle.event_steps.specs.SegmentFate.{IsStopped}
+use Rattle.event_steps.specs.Prelude.{IsStopped}
 use Rattle.event_steps.proofs.connection.judge_session.Goals as goal
 
 pub returns-in-Ok : goal.returns-in-Ok

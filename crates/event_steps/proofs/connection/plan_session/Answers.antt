@@ -1,16 +1,14 @@
 use Rattle.std.proofs.Common.{◌≡◌, ◌∙◌, [], ◌∷◌, Err, ap, sym, subst, refl}
-use Rattle.gate_base.specs.Tests.{first_that_holds}
+use Rattle.gate_base.specs.Prelude.{first_that_holds}
 use Rattle.gate_base.proofs.Options.{none_there}
 use Rattle.gate_base.specs.declared.refusal.Refusal.TheVariants.{PoolEmpty}
-use Rattle.binding_table.specs.Bindings.{Bindings}
+use Rattle.binding_table.specs.Prelude.{Bindings}
 use Rattle.gate_model.proofs.ListsKept.{uses_are}
-use Rattle.gate_model.specs.Lists.{addresses_in}
-use Rattle.gate_model.specs.Units.{uses_until}
-use Rattle.gate_model.specs.World.{Tracked, host_on}
-use Rattle.stream_model.specs.Session.{segment_in}
+use Rattle.gate_model.specs.Prelude.{addresses_in, uses_until, Tracked, host_on}
+use Rattle.stream_model.specs.Prelude.{segment_in}
 use Rattle.dns_plans.proofs.NamedLemmas.{units-none}
-use Rattle.dns_plans.specs.Plans.{whole_units, all_addresses, called_after, beside, plan_tests, AreBound, IsListBound, TellsFirst}
-use Rattle.event_steps.specs.SegmentFate.{IsStopped}
+use Rattle.dns_plans.specs.Prelude.{whole_units, all_addresses, called_after, beside, plan_tests, AreBound, IsListBound, TellsFirst}
+use Rattle.event_steps.specs.Prelude.{IsStopped}
 use Rattle.event_steps.proofs.UnitsJudged.{ready_is, way_ends, none_stopped, none_planned, some_planned, is_stopped, by_ok, by_four, by_err}
 use Rattle.event_steps.proofs.UnitsUsed.{until_of}
 use Rattle.event_steps.proofs.connection.plan_session.Goals as goal

@@ -1,15 +1,11 @@
-use Rattle.std.proofs.Common.{◌≡◌, ◌+◌, [], ◌∷◌, Some, None, refl, sym, ap, ◌∙◌, ℕ, List, Option}
-use Rattle.std.specs.Prelude.{◌||◌, is_none, option_and_then, unwrap_or}
+use Rattle.std.proofs.Common.{◌≡◌, ◌+◌, [], ◌∷◌, Some, None, refl, sym, ap, ◌∙◌, ℕ, List, Option, ◌||◌, is_none, option_and_then, unwrap_or}
 use Rattle.std.specs.Option.{option_flatten}
 use Rattle.gate_base.specs.declared.address.Addr.{Addr}
-use Rattle.binding_table.specs.Bindings.{Bindings, seen}
-use Rattle.binding_table.specs.Plan.{after_uses}
+use Rattle.binding_table.specs.Prelude.{Bindings, seen, after_uses}
 use Rattle.twice_translate.specs.Renamed.{datagram_of, renamed}
 use Rattle.icmp_errors.specs.Inner.{read_inner, inner_with}
-use Rattle.gate_model.specs.Inner.{inside, with_inside}
-use Rattle.gate_model.specs.Verdict.{icmp_timeout}
-use Rattle.gate_model.specs.Units.{uses_until}
-use Rattle.gate_payloads.specs.Ways.{image_by}
+use Rattle.gate_model.specs.Prelude.{inside, with_inside, icmp_timeout, uses_until}
+use Rattle.gate_payloads.specs.Prelude.{image_by}
 use Rattle.event_steps.proofs.ErrorsTaken.{IsKnown, inner_read, error_bad, error_unseen, error_unknown, error_empty, error_passes}
 use Rattle.event_steps.proofs.errors.take_error.Goals as goal
 

@@ -1,12 +1,10 @@
-use Rattle.std.proofs.Common.{◌≡◌, ◌∙◌, ◌||◌, ◌==◌, true, ap, refl, subst, sym}
-use Rattle.std.specs.Prelude.{IfOk}
+use Rattle.std.proofs.Common.{◌≡◌, ◌∙◌, ◌||◌, ◌==◌, true, ap, refl, subst, sym, IfOk}
 use Rattle.std.proofs.lemmas.Bool.{or_left, or_right}
-use Rattle.gate_model.specs.Frame.{Kind}
+use Rattle.gate_model.specs.Prelude.{Kind}
 use Rattle.twice_translate.specs.Renamed.{datagram_of}
-use Rattle.gate_payloads.specs.Plain.{plain_rules}
-use Rattle.gate_payloads.specs.Taken.{IsTaken}
+use Rattle.gate_payloads.specs.Prelude.{plain_rules, IsTaken}
 use Rattle.gate_payloads.proofs.HeadersOnly.{udp_taken, udp_plain}
-use Rattle.event_steps.specs.Passed.{plain_world}
+use Rattle.event_steps.specs.Prelude.{plain_world}
 use Rattle.event_steps.proofs.Taking.{udp_dns, udp_snmp}
 use Rattle.event_steps.proofs.udp.take_udp.Goals as goal
 use Rattle.event_steps.proofs.udp.take_udp.Goals.{then-has_port-2-via-then-has_port-2, then-has_port-2-via-else-has_port-2+then-has_port-3}

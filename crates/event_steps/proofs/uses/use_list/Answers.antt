@@ -1,9 +1,7 @@
 use Rattle.std.proofs.Common.{◌∙◌, ap, sym, List, take, [], ◌∷◌}
-use Rattle.binding_table.specs.Bindings.{Bindings}
-use Rattle.binding_table.specs.Plan.{after_uses}
-use Rattle.dialogue.specs.Learning.{Entry}
-use Rattle.gate_model.specs.Lists.{renamed_in}
-use Rattle.gate_model.specs.Units.{uses_until}
+use Rattle.binding_table.specs.Prelude.{Bindings, after_uses}
+use Rattle.dialogue.specs.Prelude.{Entry}
+use Rattle.gate_model.specs.Prelude.{renamed_in, uses_until}
 use Rattle.dns_plans.proofs.EnteredLemmas.{take-next}
 use Rattle.event_steps.proofs.UsesListed.{next_used}
 use Rattle.event_steps.proofs.uses.use_list.Goals as goal

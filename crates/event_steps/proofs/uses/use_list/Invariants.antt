@@ -1,7 +1,6 @@
 use Rattle.std.specs.Prelude.{◌≡◌, take}
-use Rattle.binding_table.specs.Plan.{after_uses}
-use Rattle.gate_model.specs.Lists.{renamed_in}
-use Rattle.gate_model.specs.Units.{uses_until}
+use Rattle.binding_table.specs.Prelude.{after_uses}
+use Rattle.gate_model.specs.Prelude.{renamed_in, uses_until}
 use Rattle.event_steps.proofs.uses.use_list.Given as goal
 
 abbrev pub invariant-loop-place : goal.invariant-loop-place

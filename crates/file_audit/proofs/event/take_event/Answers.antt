@@ -1,6 +1,6 @@
 use Rattle.std.proofs.Common.{ℕ, Bool, Option, Ok, ap, sym, subst, ◌∙◌}
 use Rattle.gate_settings.specs.declared.settings.Settings.{Settings}
-use Rattle.lawful_files.specs.Files.{HaveMacAddresses}
+use Rattle.lawful_files.specs.Prelude.{HaveMacAddresses}
 use Rattle.file_audit.specs.declared.given.GivenFiles.{GivenFiles}
 use Rattle.file_audit.specs.Frames.{TakesNext}
 use Rattle.file_audit.specs.Lines.{TakesLine}

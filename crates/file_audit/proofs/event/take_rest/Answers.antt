@@ -1,4 +1,4 @@
-use Rattle.std.proofs.Common.{Bool, true, false, Ok, ℕ, ap, refl, subst, ◌∙◌, ◌++◌}
+use Rattle.std.proofs.Common.{Bool, true, false, Ok, ℕ, ap, refl, subst, ◌∙◌, ◌++◌, IfSome}
 use Rattle.gate_desk.specs.declared.slot.Slot.TheVariants.{LeftGiven, RightGiven, ReportGiven}
 use Rattle.gate_report.specs.Counts.{done_line}
 use Rattle.gate_settings.specs.declared.settings.Settings.{Settings}
@@ -7,7 +7,6 @@ use Rattle.file_audit.specs.Lines.{IsLast, TakesLast}
 use Rattle.file_audit.specs.Records.{FindsEnd}
 use Rattle.file_audit.proofs.FoundLast.{IsUsedUp, beside, done_short, last_is, left_over, not_used_up, nothing_left, report_over, right_over, used_up}
 use Rattle.file_audit.proofs.TakenFiles.{end_some, reads_on, some_left, some_right}
-use Rattle.std.specs.Option.{IfSome}
 use Rattle.file_audit.proofs.event.take_rest.Goals as goal
 
 pub returns-in-Ok-false-clause-answer : goal.returns-in-Ok-false-clause-answer

@@ -1,18 +1,16 @@
 use Rattle.std.proofs.Common.{◌≡◌, ◌+◌, ℕ, List, Option, length, IfSome, Ok, Err, Bool, refl, sym, ap, subst, ◌∙◌, arith, rules}
-use Rattle.frag_join.specs.Arrivals.{arrival}
-use Rattle.frag_join.specs.Joining.{by_known}
-use Rattle.gate_base.specs.Events.{event_of}
+use Rattle.frag_join.specs.Prelude.{arrival, by_known}
+use Rattle.gate_base.specs.Prelude.{event_of}
 use Rattle.gate_desk.proofs.Laws.{grows_on, grows_not}
 use Rattle.gate_desk.specs.Outside.{Trace, told_at}
 use Rattle.gate_desk.specs.declared.slot.Slot.TheVariants.{LeftIn, RightIn}
 use Rattle.gate_report.specs.Counts.{nothing_counted}
 use Rattle.gate_report.specs.declared.totals.Totals.{Totals}
 use Rattle.gate_settings.specs.declared.settings.Settings.{Settings}
-use Rattle.gate_model.specs.Sessions.{WholeSession}
-use Rattle.gate_model.specs.World.{World}
-use Rattle.pcap_merge.specs.Merge.{Advances}
+use Rattle.gate_model.specs.Prelude.{WholeSession, World}
+use Rattle.pcap_merge.specs.Prelude.{Advances}
 use Rattle.pcap_merge.proofs.Steps.{came_to}
-use Rattle.lawful_files.specs.Files.{State}
+use Rattle.lawful_files.specs.Prelude.{State}
 use Rattle.file_audit.specs.Events.{Expected, Finds, FindsLast, state_of, stop_of}
 use Rattle.file_audit.specs.Stops.{LeavesCounts}
 use Rattle.file_audit.proofs.IncomingEnds.{ends_kept, left_kept, right_kept}

@@ -1,6 +1,6 @@
 use Rattle.std.proofs.Common.{◌≡◌, None, ◌+◌, ◌^◌, ◌≤◌, false}
 use Rattle.gate_desk.specs.Outside.{Grows}
-use Rattle.pcap_merge.specs.Merge.{work, AtEnds}
+use Rattle.pcap_merge.specs.Prelude.{work, AtEnds}
 use Rattle.file_audit.specs.Given.{Fits, IsRunning, TookFiles}
 use Rattle.file_audit.specs.Events.{state_of}
 use Rattle.file_audit.proofs.Walked.{Walked}

@@ -1,7 +1,6 @@
 use Rattle.std.proofs.Common.{◌∙◌, sym, ap, arith}
-use Rattle.gate_base.specs.Events.{event_of}
-use Rattle.frag_join.specs.Arrivals.{joined_in}
-use Rattle.frag_join.specs.Joining.{by_known}
+use Rattle.gate_base.specs.Prelude.{event_of}
+use Rattle.frag_join.specs.Prelude.{joined_in, by_known}
 use Rattle.frag_join.proofs.ArrivalSteps.{joined-at}
 use Rattle.file_audit.proofs.expect.expect.Goals as goal
 

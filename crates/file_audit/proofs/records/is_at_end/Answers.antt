@@ -1,5 +1,5 @@
 use Rattle.std.proofs.Common.{Ok, Err, subst}
-use Rattle.pcap_files.specs.Reader.{Advances}
+use Rattle.pcap_files.specs.Prelude.{Advances}
 use Rattle.file_audit.proofs.TakenRecords.{end_more, end_ended, end_broken}
 use Rattle.file_audit.proofs.records.is_at_end.Goals as goal
 

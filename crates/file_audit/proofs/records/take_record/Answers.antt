@@ -1,6 +1,6 @@
 use Rattle.std.proofs.Common.{Ok, Err, subst}
 use Rattle.pcap_files.specs.Packets.{packet_of}
-use Rattle.pcap_files.specs.Reader.{Advances}
+use Rattle.pcap_files.specs.Prelude.{Advances}
 use Rattle.file_audit.proofs.TakenRecords.{take_one, take_end, take_fault}
 use Rattle.file_audit.proofs.records.take_record.Goals as goal
 

@@ -2,7 +2,7 @@ use Rattle.std.proofs.Common.{arith, refl, sym, ap, subst, ◌∙◌, [], ◌∷
 use Rattle.std.proofs.lemmas.Result.{err_from_is_err_and}
 use Rattle.gate_desk.specs.Outside.{CanRead}
 use Rattle.gate_desk.proofs.Laws.{can_read_same}
-use Rattle.lawful_files.specs.Progress.{Progress}
+use Rattle.lawful_files.specs.Prelude.{Progress}
 use Rattle.file_audit.specs.Records.{TakesRecord, TakesRecords}
 use Rattle.file_audit.proofs.TakenRecords.{took_none, took_on, took_fewer, took_failed, counted_one}
 use Rattle.file_audit.proofs.records.take_records.Goals as goal

@@ -1,5 +1,5 @@
 use Rattle.std.proofs.Common.{◌≡◌, ◌-◌, ◌*◌, ◌≤◌, List, length, false}
-use Rattle.pcap_files.specs.Capture.{Packet}
+use Rattle.pcap_files.specs.Prelude.{Packet}
 use Rattle.gate_desk.specs.Outside.{CanRead}
 use Rattle.file_audit.specs.Records.{Took}
 use Rattle.file_audit.proofs.records.take_records.Given as goal

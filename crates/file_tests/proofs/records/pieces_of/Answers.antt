@@ -2,8 +2,9 @@ use Rattle.std.proofs.Common.{◌≡◌, ◌∙◌, ℕ, Bool, true, false, List
 use Rattle.ipv4_frames.specs.Ipv4.{Datagram}
 use Rattle.ipv4_frames.specs.Judged.{first_fault_or}
 use Rattle.ipv4_frames.specs.declared.fault.TransportFault.TheVariants.{BadTransport, BadSum}
-use Rattle.tcp_segments.specs.Tcp.{Tcp, has_bad_offset, has_bad_options, read_tcp}
-use Rattle.gate_model.specs.Stream.{tcp_of}
+use Rattle.tcp_segments.specs.Prelude.{Tcp, has_bad_offset, has_bad_options}
+use Rattle.tcp_segments.specs.Tcp.{read_tcp}
+use Rattle.gate_model.specs.Prelude.{tcp_of}
 use Rattle.file_tests.proofs.records.pieces_of.Goals as goal
 
 given : (a b e : Bool) (x y : Tcp) → Ok y ≡ first_fault_or ((a, BadTransport) ∷ (b, BadTransport) ∷ (e, BadSum) ∷ []) x → y ≡ x

@@ -1,6 +1,5 @@
-use Rattle.std.proofs.Common.{ap, ◌∙◌}
-use Rattle.std.specs.Prelude.{take}
-use Rattle.frag_join.specs.Coverage.{whole_head}
+use Rattle.std.proofs.Common.{ap, ◌∙◌, take}
+use Rattle.frag_join.specs.Prelude.{whole_head}
 use Rattle.frag_join.proofs.FragmentLemmas.{front-put, header-rest}
 use Rattle.frag_join.proofs.buffer.seal_head.Goals as goal
 

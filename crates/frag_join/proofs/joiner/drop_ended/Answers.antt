@@ -1,7 +1,6 @@
-use Rattle.std.proofs.Common.{◌≡◌, not, Some, length, ap, ◌∙◌, sym, arith}
-use Rattle.std.specs.List.{position}
+use Rattle.std.proofs.Common.{◌≡◌, not, Some, length, ap, ◌∙◌, sym, arith, position}
 use Rattle.std.proofs.lemmas.List.{length_push}
-use Rattle.frag_join.specs.Joining.{is_live, live}
+use Rattle.frag_join.specs.Prelude.{is_live, live}
 use Rattle.frag_join.proofs.PartLemmas.{ended-goes, ended-count, none-ended}
 use Rattle.frag_join.proofs.joiner.drop_ended.Goals as goal
 

@@ -1,5 +1,5 @@
 use Rattle.std.proofs.Common.{◌≡◌, ◌+◌, length, vec_capacity}
-use Rattle.frag_join.specs.Joining.{live}
+use Rattle.frag_join.specs.Prelude.{live}
 use Rattle.frag_join.proofs.joiner.drop_ended.Given as goal
 
 -- those that live are the same, and the buffers go from one list to the other

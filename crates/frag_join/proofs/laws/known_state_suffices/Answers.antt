@@ -1,6 +1,5 @@
 use Rattle.std.proofs.Common.{refl, ap}
-use Rattle.frag_join.specs.Coverage.{Coverage}
-use Rattle.frag_join.specs.Joining.{Step}
+use Rattle.frag_join.specs.Prelude.{Coverage, Step}
 use Rattle.frag_join.proofs.KeptSteps.{step-known, after-known}
 use Rattle.frag_join.proofs.laws.known_state_suffices.Goals as goal
 

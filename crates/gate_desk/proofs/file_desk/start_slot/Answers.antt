@@ -1,8 +1,7 @@
 use Rattle.std.proofs.Common.{ℕ, List, [], Option, Some, ap, ◌∙◌}
-use Rattle.gate_desk.proofs.Gathering.{still_waits}
 use Rattle.gate_desk.specs.declared.slot.PerSlot.{PerSlot}
 use Rattle.gate_desk.specs.declared.slot.Access.{Access}
-use Rattle.gate_desk.specs.Gathering.{ahead, ahead_in, unread, unread_in, waiting, waiting_in, access_of, accesses_in}
+use Rattle.gate_desk.specs.Gathering.{ahead, ahead_in, unread, unread_in, waiting, access_of, accesses_in}
 use Rattle.gate_desk.specs.Slots.{put}
 use Rattle.gate_desk.proofs.Laws.{at-mapped, at-put, mapped-put, mapped-put_only}
 use Rattle.gate_desk.proofs.Unread.{put_behind}
@@ -32,6 +31,3 @@ returns-in-Ok-clause-unread g c =
     let remaining = g.R.File.Read.remaining in
     put_behind (unread_in remaining c.args.places.now) (unread_in remaining c.hand_out.new.places) (unread_in remaining (put c.hand_out.new.places c.args.slot c.in-Ok.place)) c.args.slot
     c.hand_out.ensures.unread (mapped-put_only (unread remaining) c.hand_out.new.places c.args.slot c.in-Ok.place)
-
-pub returns-in_err-hand_out-clause-still : goal.returns-in_err-hand_out-clause-still
-returns-in_err-hand_out-clause-still g c = λ waits. still_waits c.hand_out.new.refused (waiting_in c.args.places.now) (waiting_in c.hand_out.new.places) (c.hand_out.ensures.stays waits)

@@ -1,5 +1,4 @@
-use Rattle.std.proofs.Common.{◌≡◌, ◌++◌, ◌∙◌, arith, take, length, ap, sym, subst, OnOk, OnErr}
-use Rattle.std.proofs.lemmas.Bool.{eqb-true}
+use Rattle.std.proofs.Common.{◌≡◌, ◌++◌, ◌∙◌, arith, take, length, ap, sym, subst, OnOk, OnErr, eqb-true}
 use Rattle.std.proofs.lemmas.List.{take_all, take_rest, take-append-drop, nil_from_length}
 use Rattle.std.proofs.lemmas.Result.{err_from_is_err_and, on_ok_weaker, on_err_weaker}
 use Rattle.gate_desk.specs.Outside.{Writes, WritesPart}

@@ -1,8 +1,7 @@
-use Rattle.std.proofs.Common.{◌==◌, refl, sym, ap, ◌∙◌}
-use Rattle.std.proofs.lemmas.Bool.{ne_eqb}
+use Rattle.std.proofs.Common.{◌==◌, refl, sym, ap, ◌∙◌, ne_eqb}
 use Rattle.udp_icmp.specs.Udp.{udp_fields_of}
 use Rattle.udp_icmp.specs.Icmp.{icmp_fields_of}
-use Rattle.gate_model.specs.Stream.{tcp_of}
+use Rattle.gate_model.specs.Prelude.{tcp_of}
 use Rattle.gate_frames.specs.declared.content.Content.TheVariants.{Udp, Icmp, Tcp}
 use Rattle.gate_frames.proofs.Tests.{udp_read, tcp_read, icmp_read, carries}
 use Rattle.gate_frames.proofs.content.content_of.Goals as goal

@@ -1,5 +1,5 @@
 use Rattle.std.proofs.Common.{◌≡◌, Ok, IfOk, ap, subst, ◌∙◌}
-use Rattle.gate_base.specs.Events.{event_of}
+use Rattle.gate_base.specs.Prelude.{event_of}
 use Rattle.ipv4_frames.specs.Ipv4.{read_datagram}
 use Rattle.gate_frames.proofs.Tests.{refused, refused_is, was_read, read_is}
 use Rattle.gate_frames.proofs.content.datagram_in.Goals as goal

@@ -1,15 +1,12 @@
-use Rattle.std.proofs.Common.{◌≡◌, ℕ, List, take, sym, ap, subst, ◌∙◌, arith}
-use Rattle.std.proofs.lemmas.List.{length-take-le}
+use Rattle.std.proofs.Common.{◌≡◌, ℕ, List, take, sym, ap, subst, ◌∙◌, arith, length-take-le, is_ok}
 use Rattle.ipv4_frames.specs.Ipv4.{Datagram, total_length_of}
 use Rattle.twice_translate.specs.Renamed.{datagram_of}
 use Rattle.gate_frames.specs.Frames.{IsJudged}
 use Rattle.std.specs.Option.{option_or}
-use Rattle.std.specs.Result.{is_ok}
 use Rattle.std.proofs.lemmas.Result.{err_from_is_err_and}
-use Rattle.gate_base.specs.Events.{event_of}
-use Rattle.gate_base.specs.Tests.{first_that_holds}
+use Rattle.gate_base.specs.Prelude.{event_of, first_that_holds}
 use Rattle.twice_translate.proofs.Accepted.{reads}
-use Rattle.gate_model.specs.Frame.{datagram_in, header_tests, datagram_tests, transport_tests}
+use Rattle.gate_model.specs.Prelude.{datagram_in, header_tests, datagram_tests, transport_tests}
 use Rattle.gate_frames.proofs.Judging.{is_judged}
 use Rattle.gate_frames.proofs.Tests.{front_is, judged_err, judged_ok}
 use Rattle.gate_frames.proofs.judged.judge.Goals as goal

@@ -1,5 +1,5 @@
 use Rattle.std.proofs.Common.{arith}
-use Rattle.gate_model.specs.World.{opening_world}
+use Rattle.gate_model.specs.Prelude.{opening_world}
 use Rattle.gate_model.proofs.RangesKept.{next_range, run_range}
 use Rattle.gate_model.proofs.laws.connections_in_range.Goals as goal
 

@@ -1,4 +1,4 @@
-use Rattle.gate_model.specs.World.{opening_world}
+use Rattle.gate_model.specs.Prelude.{opening_world}
 use Rattle.gate_model.proofs.HostsKept.{run_hosts, known_stays}
 use Rattle.gate_model.proofs.HostsOpen.{opening_hosts, pairs_cross}
 use Rattle.gate_model.proofs.laws.connections_keep_aliases.Goals as goal

@@ -1,4 +1,4 @@
-use Rattle.gate_model.specs.World.{opening_world}
+use Rattle.gate_model.specs.Prelude.{opening_world}
 use Rattle.gate_model.proofs.ListsWorld.{whole_lists, next_lists, run_lists, opening_lists, lists_cross, lists_grow, images_stay, lists_few}
 use Rattle.gate_model.proofs.laws.lists_stay_bound.Goals as goal
 

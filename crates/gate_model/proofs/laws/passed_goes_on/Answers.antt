@@ -1,4 +1,4 @@
-use Rattle.gate_model.specs.Rules.{whole_rules}
+use Rattle.gate_model.specs.Prelude.{whole_rules}
 use Rattle.gate_model.proofs.GoesOn.{goes_on, whole_answers}
 use Rattle.gate_model.proofs.laws.passed_goes_on.Goals as goal
 

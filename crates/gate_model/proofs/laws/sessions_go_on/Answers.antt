@@ -2,7 +2,7 @@ use Rattle.gate_model.proofs.FrameRounds.{frame_rounds_raise}
 use Rattle.gate_model.proofs.GoingOnKept.{waits_are, goes_on}
 use Rattle.gate_model.proofs.RememberedSessions.{run_holds}
 use Rattle.gate_model.proofs.Through.{through}
-use Rattle.gate_model.specs.Promise.{remembered_after}
+use Rattle.gate_model.specs.Prelude.{remembered_after}
 use Rattle.gate_model.proofs.laws.sessions_go_on.Goals as goal
 
 pub returns-clause-waits : goal.returns-clause-waits

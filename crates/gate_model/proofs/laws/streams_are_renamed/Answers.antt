@@ -1,7 +1,5 @@
 use Rattle.std.proofs.Common.{sym}
-use Rattle.gate_model.specs.Rules.{whole_rules}
-use Rattle.gate_model.specs.Remembered.{RememberedSession, remembering_rules}
-use Rattle.gate_model.specs.World.{opening_world}
+use Rattle.gate_model.specs.Prelude.{whole_rules, RememberedSession, remembering_rules, opening_world}
 use Rattle.gate_model.proofs.ReadWorlds.{verdict_as}
 use Rattle.gate_model.proofs.ReadSteps.{out_as, run_as}
 use Rattle.gate_model.proofs.RememberedSessions.{remembered_reads, streams_are, facts_are}

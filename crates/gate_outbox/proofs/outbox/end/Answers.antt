@@ -1,4 +1,4 @@
-use Rattle.std.proofs.Common.{sym, refl, arith, length, ap}
+use Rattle.std.proofs.Common.{arith, length, ap}
 use Rattle.gate_outbox.proofs.Boxes.{ended}
 use Rattle.gate_outbox.proofs.outbox.end.Goals as goal
 

@@ -1,10 +1,7 @@
-use Rattle.std.proofs.Common.{◌+◌, [], ◌∷◌}
-use Rattle.gate_payloads.specs.Ways.{header_uses}
+use Rattle.gate_payloads.specs.Prelude.{header_uses, plain_rules}
 use Rattle.twice_translate.specs.Renamed.{datagram_of}
-use Rattle.gate_model.specs.Verdict.{udp_timeout}
-use Rattle.gate_model.specs.Units.{uses_until}
+use Rattle.gate_model.specs.Prelude.{udp_timeout}
 use Rattle.gate_payloads.proofs.DnsTaken.{nothing_named, rebuilt_same}
-use Rattle.gate_payloads.specs.Plain.{plain_rules}
 use Rattle.gate_payloads.proofs.HeadersOnly.{udp_taken, over_table}
 use Rattle.gate_payloads.proofs.dns.take_unnamed.Goals as goal
 

@@ -1,6 +1,5 @@
-use Rattle.std.proofs.Common.{◌≡◌, take}
-use Rattle.std.specs.List.{fold}
-use Rattle.binding_table.specs.Plan.{used}
+use Rattle.std.proofs.Common.{◌≡◌, take, fold}
+use Rattle.binding_table.specs.Prelude.{used}
 use Rattle.gate_payloads.proofs.dns.use_all.Given as goal
 
 -- those so far are used

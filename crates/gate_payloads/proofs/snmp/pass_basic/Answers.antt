@@ -3,9 +3,8 @@ use Rattle.gate_base.specs.declared.address.Addr.{Addr}
 use Rattle.snmp_gateway.specs.Message.{places_of}
 use Rattle.snmp_gateway.specs.Renaming.{renamed as renamed_message}
 use Rattle.twice_translate.specs.Renamed.{datagram_of, rebuilt}
-use Rattle.gate_model.specs.Management.{number_seen}
-use Rattle.gate_model.specs.Names.{carried}
-use Rattle.gate_payloads.specs.Ways.{image_by}
+use Rattle.gate_model.specs.Prelude.{number_seen, carried}
+use Rattle.gate_payloads.specs.Prelude.{image_by}
 use Rattle.gate_payloads.proofs.SnmpTaken.{basic_is}
 use Rattle.gate_payloads.proofs.snmp.pass_basic.Goals as goal
 

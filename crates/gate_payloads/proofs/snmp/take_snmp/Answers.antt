@@ -1,7 +1,7 @@
 use Rattle.std.proofs.Common.{◌≡◌, ◌∙◌, true, sym, arith}
 use Rattle.twice_translate.specs.Renamed.{datagram_of}
 use Rattle.gate_payloads.proofs.DnsTaken.{short_payload}
-use Rattle.gate_payloads.specs.Plain.{plain_rules}
+use Rattle.gate_payloads.specs.Prelude.{plain_rules}
 use Rattle.gate_payloads.proofs.SnmpTaken.{good_is, message_empty, taken_by_rules, taken_basic, no_items}
 use Rattle.gate_payloads.proofs.snmp.take_snmp.Goals as goal
 

@@ -1,4 +1,4 @@
-use Rattle.gate_model.specs.Rules.{whole_rules}
+use Rattle.gate_model.specs.Prelude.{whole_rules}
 use Rattle.gate_model.proofs.Related.{related_verdict, related_out, related_next}
 use Rattle.gate_sessions.specs.Compact.{compact_rules, StandsFor}
 use Rattle.gate_sessions.proofs.Agreed.{agreed, run_related, pending_related}

@@ -1,6 +1,5 @@
-use Rattle.std.proofs.Common.{◌≡◌, ◌<◌, suc, false, List, None, length, drop, sym, subst, rules, tests}
-use Rattle.std.specs.List.{slice_index_or}
-use Rattle.dialogue.specs.Learning.{Entry, is_listed}
+use Rattle.std.proofs.Common.{◌≡◌, ◌<◌, suc, false, List, None, length, drop, sym, subst, rules, tests, slice_index_or}
+use Rattle.dialogue.specs.Prelude.{Entry, is_listed}
 use Rattle.gate_sessions.specs.Directions.{listed_of}
 use Rattle.dns_plans.proofs.EnteredLemmas.{room_for, drop-next}
 use Rattle.gate_sessions.proofs.learned.learn_all.Goals as goal

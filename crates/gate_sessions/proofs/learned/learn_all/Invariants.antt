@@ -1,5 +1,5 @@
 use Rattle.std.proofs.Common.{take}
-use Rattle.gate_base.specs.Hosts.{peer}
+use Rattle.gate_base.specs.Prelude.{peer}
 use Rattle.gate_sessions.proofs.ListedLemmas.{LearnedTo}
 use Rattle.gate_sessions.proofs.learned.learn_all.Given as goal
 

@@ -1,13 +1,12 @@
 use Rattle.std.proofs.Common.{◌≡◌, ◌≤◌, List, length, take, ◌∙◌, ap, sym, subst, arith}
 use Rattle.gate_base.specs.declared.host.Host.{Host}
-use Rattle.gate_base.specs.Hosts.{peer}
-use Rattle.dialogue.specs.Learning.{Entry, AreImages}
+use Rattle.gate_base.specs.Prelude.{peer}
+use Rattle.dialogue.specs.Prelude.{Entry, AreImages}
 use Rattle.dialogue.specs.declared.learns.UnitImage.{UnitImage}
-use Rattle.dns_stream.specs.Units.{unit_addresses}
-use Rattle.dns_stream.specs.Images.{dns_units}
-use Rattle.compact_stream.specs.Sessions.{sender_kept}
-use Rattle.stream_gate.specs.Listed.{IsListedStream}
-use Rattle.dns_plans.specs.Steps.{entered_all}
+use Rattle.dns_stream.specs.Prelude.{unit_addresses, dns_units}
+use Rattle.compact_stream.specs.Prelude.{sender_kept}
+use Rattle.stream_gate.specs.Prelude.{IsListedStream}
+use Rattle.dns_plans.specs.Prelude.{entered_all}
 use Rattle.gate_sessions.specs.Directions.{DnsKept, listed_of}
 use Rattle.dns_plans.proofs.EnteredLemmas.{all-more}
 use Rattle.gate_sessions.proofs.ListedLemmas.{can_forget, front_of, other_same, forgotten_is}

@@ -1,9 +1,7 @@
-use Rattle.std.proofs.Common.{◌≡◌, ℕ, List, [], length, ap, sym, subst, ◌∙◌, arith, rules}
-use Rattle.std.specs.Prelude.{None, Result, Ok, Err, IfOk, OnErr}
-use Rattle.tcp_segments.specs.Tcp.{Tcp}
-use Rattle.stream_model.specs.Session.{Segment, Outgoing, segment_in}
-use Rattle.compact_stream.specs.Outs.{kept_out, kept_ends}
-use Rattle.compact_stream.specs.Sessions.{kept_refusal}
+use Rattle.std.proofs.Common.{◌≡◌, ℕ, List, [], length, ap, sym, subst, ◌∙◌, arith, rules, None, Result, Ok, Err, IfOk, OnErr}
+use Rattle.tcp_segments.specs.Prelude.{Tcp}
+use Rattle.stream_model.specs.Prelude.{Segment, Outgoing, segment_in}
+use Rattle.compact_stream.specs.Prelude.{kept_out, kept_ends, kept_refusal}
 use Rattle.gate_outbox.specs.Outboxes.{datagrams_from}
 use Rattle.gate_outbox.proofs.Boxes.{no_ends, no_octets}
 use Rattle.gate_sessions.proofs.Sent.{way_by, heads_of, sent_short, sends, sent_box, sent_view, sent_same}
@@ -30,7 +28,7 @@ invariant_of-outbox g c =
     let short = sent_short (g.C.Dialogue.meaning session.client_dialogue) (g.S.Dialogue.meaning session.server_dialogue) c.args.passing.now.from session.kept way (segment_in tcp) heads in
     let all = sends c.step.result c.step.new.outbox.items c.step.new.ends.items octets ends way (out (segment_in tcp)) (no_octets octets ends c.outbox.invariant.bounds empty) (no_ends octets ends empty) short c.step.ensures.out c.step.ensures.ends in
     sent_box c.step.result c.step.new.outbox.items c.step.new.ends.items octets ends _ _ _ all c.step.ensures.nothing c.step.ensures.none c.outbox.invariant.bounds
-    (omega (arith, c.step.ensures.few, ap length (no_ends octets ends empty))) (omega (arith, c.outbox.invariant.room, c.step.ensures.outbox_room)) (omega (arith, c.outbox.invariant.places, c.step.ensures.ends_room))
+    (omega (arith, c.step.ensures.room.few, ap length (no_ends octets ends empty))) (omega (arith, c.outbox.invariant.room, c.step.ensures.room.octets_room)) (omega (arith, c.outbox.invariant.places, c.step.ensures.room.ends_room))
 
 pub returns-clause-out : goal.returns-clause-out
 returns-clause-out g c =

@@ -1,6 +1,4 @@
-use Rattle.std.proofs.Common.{◌-◌, ◌∙◌, ap, sym, subst, get_or, arith, rules, tests}
-use Rattle.std.specs.Prelude.{nat_le}
-use Rattle.std.proofs.lemmas.Bool.{le-ltb}
+use Rattle.std.proofs.Common.{◌-◌, ◌∙◌, ap, sym, subst, get_or, arith, rules, tests, nat_le, le-ltb}
 use Rattle.std.proofs.lemmas.List.Sorted.{IsPartitionPoint-from_clause, IsPartitionedBy-leb}
 use Rattle.gate_settings.specs.declared.same.SameRange.{SameRange}
 use Rattle.gate_settings.proofs.Rising.{IsPoint, none_begun, last_decides}

@@ -1,5 +1,5 @@
 use Rattle.std.proofs.Common.{◌≡◌, ◌++◌, drop}
-use Rattle.gate_settings.specs.Ranges.{ranges_from}
+use Rattle.gate_settings.specs.Prelude.{ranges_from}
 use Rattle.gate_settings.proofs.same.ranges_from.Given as goal
 
 abbrev pub invariant-loop-block : goal.invariant-loop-block

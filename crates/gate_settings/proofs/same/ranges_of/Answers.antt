@@ -3,7 +3,7 @@ use Rattle.std.proofs.lemmas.List.Sorted.{IsNonDecreasingBy-from_sort_by_key}
 use Rattle.std.proofs.lemmas.Result.{IfOk-weaker}
 use Rattle.gate_settings.specs.declared.settings.Block.{Block}
 use Rattle.gate_settings.specs.declared.same.SameRange.{SameRange}
-use Rattle.gate_settings.specs.Ranges.{ranges_from, AreRanges}
+use Rattle.gate_settings.specs.Prelude.{ranges_from, AreRanges}
 use Rattle.gate_settings.proofs.Rising.{are_ranges}
 use Rattle.gate_settings.proofs.same.ranges_of.Goals as goal
 

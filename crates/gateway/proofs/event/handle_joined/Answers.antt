@@ -1,7 +1,7 @@
 use Rattle.std.proofs.Common.{Option, IfSome, ◌<◌, ◌*◌, ◌^◌, sym, subst}
-use Rattle.gate_base.specs.Events.{Event}
-use Rattle.frag_join.specs.Arrivals.{Reaches}
-use Rattle.gateway.specs.Phases.{Handles, counting}
+use Rattle.gate_base.specs.Prelude.{Event}
+use Rattle.frag_join.specs.Prelude.{Reaches}
+use Rattle.gateway.specs.Prelude.{Handles, counting}
 use Rattle.gateway.proofs.event.handle_joined.Goals as goal
 
 pub handle-requires-clause-early : goal.handle-requires-clause-early

@@ -1,9 +1,7 @@
 use Rattle.std.proofs.Common.{Err, ◌+◌, [], ◌∷◌, subst}
-use Rattle.gate_base.specs.Events.{event_of}
-use Rattle.frag_join.specs.Arrivals.{Stopped}
-use Rattle.gateway.specs.Machine.{event_piece}
-use Rattle.gateway.specs.Causes.{WritesReportLine}
-use Rattle.gateway.specs.Phases.{Handles, counting}
+use Rattle.gate_base.specs.Prelude.{event_of}
+use Rattle.frag_join.specs.Prelude.{Stopped}
+use Rattle.gateway.specs.Prelude.{event_piece, WritesReportLine, Handles, counting}
 use Rattle.run_setup.proofs.Causes.{handed_on}
 use Rattle.gateway.proofs.Events.{left_fails}
 use Rattle.gateway.proofs.event.leave.Goals as goal

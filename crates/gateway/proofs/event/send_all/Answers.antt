@@ -1,7 +1,6 @@
 use Rattle.std.proofs.Common.{arith}
 use Rattle.gate_desk.specs.declared.slot.Slot.TheVariants.{LeftOut, RightOut}
-use Rattle.gateway.specs.Causes.{WritesPieces}
-use Rattle.gateway.specs.Machine.{sent}
+use Rattle.gateway.specs.Prelude.{WritesPieces, sent}
 use Rattle.run_setup.proofs.Causes.{handed_on}
 use Rattle.gateway.proofs.Events.{sends_next, sending_fails, can_still_write}
 use Rattle.gateway.proofs.Pieces.{writes_none}

@@ -1,8 +1,7 @@
 use Rattle.std.proofs.Common.{take}
 use Rattle.gate_desk.specs.declared.slot.Slot.TheVariants.{LeftOut, RightOut}
 use Rattle.gate_desk.specs.Outside.{CanWrite}
-use Rattle.gateway.specs.Machine.{sent}
-use Rattle.gateway.specs.Pieces.{WritesAll}
+use Rattle.gateway.specs.Prelude.{sent, WritesAll}
 use Rattle.gateway.proofs.event.send_all.Given as goal
 
 abbrev pub invariant-loop-place : goal.invariant-loop-place

@@ -1,6 +1,6 @@
 use Rattle.std.proofs.Common.{◌≡◌, MatchResult, refl}
 use Rattle.run_setup.specs.declared.status.Status.TheVariants.{OutOfMemory}
-use Rattle.gateway.specs.Making.{IsLineOf}
+use Rattle.gateway.specs.Prelude.{IsLineOf}
 use Rattle.run_setup.proofs.Causes.{handed_on}
 use Rattle.gateway.proofs.Makes.{holds_workload, rehearses}
 use Rattle.gateway.proofs.making.rehearse.Goals as goal

@@ -1,5 +1,5 @@
 use Rattle.run_setup.specs.RunNames.{names_of}
-use Rattle.gateway.specs.Answers.{Runs}
+use Rattle.gateway.specs.Prelude.{Runs}
 use Rattle.run_setup.proofs.Causes.{handed_on}
 use Rattle.gateway.proofs.Runs.{run_unwritten}
 use Rattle.gateway.proofs.Took.{took_unwritten}

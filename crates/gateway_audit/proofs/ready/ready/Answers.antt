@@ -2,11 +2,11 @@ use Rattle.std.proofs.Common.{refl, ap}
 use Rattle.gate_desk.specs.declared.slot.Slot.TheVariants.{LeftGiven, RightGiven}
 use Rattle.gate_desk.specs.declared.slot.Access.TheVariants.{Read}
 use Rattle.run_setup.proofs.Causes.{handed_on, access_of}
-use Rattle.run_setup.specs.AuditNames.{names_of, given_starts}
+use Rattle.run_setup.specs.Prelude.{names_of, given_starts}
 use Rattle.gateway_audit.specs.Phases.{Readies}
 use Rattle.gateway_audit.proofs.Phases.{not_opened, not_begun, no_report, readied}
 use Rattle.gate_desk.specs.Outside.{Trace, told_at}
-use Rattle.pcap_merge.specs.Stops.{slot_of}
+use Rattle.pcap_merge.specs.Prelude.{slot_of}
 use Rattle.gateway_audit.proofs.Judging.{incoming_on, files_ready}
 use Rattle.file_audit.proofs.Files.{files_none}
 use Rattle.gateway_audit.proofs.ready.ready.Goals as goal

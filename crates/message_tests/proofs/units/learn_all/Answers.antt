@@ -1,5 +1,4 @@
-use Rattle.std.proofs.Common.{not, sym, ◌∙◌, ap}
-use Rattle.std.specs.Prelude.{is_some}
+use Rattle.std.proofs.Common.{not, sym, ◌∙◌, ap, is_some}
 use Rattle.dialogue.proofs.ListedImages.{image_of_listed}
 use Rattle.message_tests.proofs.units.learn_all.Goals as goal
 

@@ -1,6 +1,6 @@
 use Rattle.std.proofs.Common.{◌≡◌, refl, arith}
 use Rattle.gate_desk.specs.Outside.{told_at}
-use Rattle.pcap_files.specs.Capture.{Good, Bad}
+use Rattle.pcap_files.specs.Prelude.{Good, Bad}
 use Rattle.pcap_files.proofs.Steps.{no_capture_head, by_capture_head}
 use Rattle.pcap_files.proofs.head.read_capture_head.Goals as goal
 

@@ -1,6 +1,5 @@
-use Rattle.std.proofs.Common.{◌≡◌, ℕ, ◌+◌, ◌≤◌, List, ◌++◌, take, drop, length, subst, arith, ap, ◌∙◌}
-use Rattle.std.proofs.lemmas.List.{take_at, length-take-le}
-use Rattle.pcap_files.specs.Heads.{after_head, body_of}
+use Rattle.std.proofs.Common.{◌≡◌, ℕ, ◌+◌, ◌≤◌, List, ◌++◌, take, drop, length, subst, arith, ap, ◌∙◌, take_at, length-take-le}
+use Rattle.pcap_files.specs.Prelude.{after_head, body_of}
 use Rattle.pcap_files.proofs.Steps.{whole_ahead}
 use Rattle.pcap_files.proofs.record.copy_record.Goals as goal
 

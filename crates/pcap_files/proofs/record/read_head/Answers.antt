@@ -1,7 +1,6 @@
 use Rattle.std.proofs.Common.{◌≡◌, take, length, subst, refl, arith, IfSome}
 use Rattle.gate_desk.specs.Outside.{told_at}
-use Rattle.pcap_files.specs.Capture.{Broken}
-use Rattle.pcap_files.specs.Heads.{body_of}
+use Rattle.pcap_files.specs.Prelude.{Broken, body_of}
 use Rattle.pcap_files.proofs.Steps.{ended, torn_head, by_the_head, all_left, enough_left, some_is}
 use Rattle.pcap_files.proofs.record.read_head.Goals as goal
 

@@ -1,5 +1,4 @@
-use Rattle.std.proofs.Common.{◌≡◌, ◌+◌, ◌++◌, [], ℕ, List, length, OnOk, OnErr, ap, ◌∙◌, sym, subst, append_assoc, length-append}
-use Rattle.std.proofs.lemmas.Bool.{eqb-true}
+use Rattle.std.proofs.Common.{◌≡◌, ◌+◌, ◌++◌, [], ℕ, List, length, OnOk, OnErr, ap, ◌∙◌, sym, subst, append_assoc, length-append, eqb-true}
 use Rattle.std.proofs.lemmas.List.{nil_from_length}
 use Rattle.gate_desk.specs.Outside.{Writes, WritesPart}
 use Rattle.pcap_files.specs.Spelling.{record_octets, record_head}

@@ -1,6 +1,5 @@
 use Rattle.std.proofs.Common.{Err, subst, sym}
-use Rattle.pcap_merge.specs.Sides.{Readies, ReadsSide}
-use Rattle.pcap_merge.specs.Stops.{StopLeavesCounts, stop_of}
+use Rattle.pcap_merge.specs.Prelude.{Readies, ReadsSide, StopLeavesCounts, stop_of}
 use Rattle.pcap_merge.proofs.Counts.{leaves_stopped}
 use Rattle.pcap_merge.proofs.Reading.{not_read, was_read, has_stopped}
 use Rattle.pcap_merge.proofs.sides.read_side.Goals as goal

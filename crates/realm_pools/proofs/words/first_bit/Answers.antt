@@ -1,5 +1,4 @@
-use Rattle.std.proofs.Common.{rules, ◌+◌, ◌/◌, ◌^◌, ◌<◌, subst, ℕ, Option, slice_index, arith}
-use Rattle.std.specs.Int.{w64}
+use Rattle.std.proofs.Common.{rules, ◌+◌, ◌/◌, ◌^◌, ◌<◌, subst, ℕ, Option, slice_index, arith, w64}
 use Rattle.std.proofs.lemmas.Nat.Bits.{bit_at-trailing_zeros}
 use Rattle.realm_pools.specs.Places.{any_in, IsFirst}
 use Rattle.realm_pools.proofs.Bits.{one_any, word_within, next_word}

@@ -1,7 +1,5 @@
-use Rattle.std.proofs.Common.{rules, ◌≡◌, ◌-◌, ◌++◌, length, take, drop, refl, sym, ap, subst, ◌∙◌, append_assoc, ◌≤◌}
-use Rattle.std.proofs.lemmas.List.{take_at, drop_at}
-use Rattle.tcp_segments.specs.Flags.{flags_octet}
-use Rattle.tcp_segments.specs.Tcp.{IsTcpHeader, spelled_segment, datagram_of}
+use Rattle.std.proofs.Common.{rules, ◌≡◌, ◌-◌, ◌++◌, length, take, drop, refl, sym, ap, subst, ◌∙◌, append_assoc, ◌≤◌, take_at, drop_at}
+use Rattle.tcp_segments.specs.Prelude.{flags_octet, IsTcpHeader, spelled_segment, datagram_of}
 use Rattle.resegment.proofs.PieceLemmas.{parts_behind, written_behind}
 use Rattle.resegment.proofs.put.put_datagram.Goals as goal
 

@@ -1,6 +1,5 @@
-use Rattle.std.proofs.Common.{sym, ap, ◌∙◌, arith}
-use Rattle.std.proofs.lemmas.Bool.{le-leb}
-use Rattle.run_setup.specs.Command.{number_behind}
+use Rattle.std.proofs.Common.{sym, ap, ◌∙◌, arith, le-leb}
+use Rattle.run_setup.specs.Prelude.{number_behind}
 use Rattle.run_setup.proofs.Numbers.{no_digits, other_octet, above_limit, one_digit, more_than}
 use Rattle.run_setup.proofs.command.+number_behind.Goals as goal
 

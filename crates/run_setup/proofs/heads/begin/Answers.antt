@@ -1,9 +1,9 @@
 use Rattle.std.proofs.Common.{Ok, Err, OnErr, [], refl}
-use Rattle.pcap_merge.specs.Given.{TakenFor}
+use Rattle.pcap_merge.specs.Prelude.{TakenFor}
 use Rattle.gate_desk.specs.declared.slot.Slot.TheVariants.{LeftIn, RightIn}
 use Rattle.gate_desk.specs.declared.slot.Access.TheVariants.{Read}
-use Rattle.run_setup.specs.Beginning.{inputs_start, Merges}
-use Rattle.run_setup.specs.Stops.{status_of_merge}
+use Rattle.run_setup.specs.Prelude.{inputs_start, status_of_merge}
+use Rattle.run_setup.specs.Beginning.{Merges}
 use Rattle.run_setup.proofs.Causes.{handed_on, access_of}
 use Rattle.run_setup.proofs.Beginning.{begins, begin_stops, at_heads}
 use Rattle.run_setup.proofs.Untaken.{kept_left, not_begun_few}

@@ -1,8 +1,7 @@
 use Rattle.std.proofs.Common.{[], ◌∷◌}
 use Rattle.gate_desk.specs.declared.slot.Slot.TheVariants.{LeftIn, RightIn}
 use Rattle.gate_desk.specs.declared.slot.Access.TheVariants.{Read}
-use Rattle.run_setup.specs.Beginning.{inputs_start}
-use Rattle.run_setup.specs.Causes.{Opens}
+use Rattle.run_setup.specs.Prelude.{inputs_start, Opens}
 use Rattle.run_setup.proofs.Causes.{handed_on, opens_on, opens_more}
 use Rattle.run_setup.proofs.heads.open_inputs.Goals as goal
 

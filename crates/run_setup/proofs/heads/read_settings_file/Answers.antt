@@ -1,11 +1,10 @@
 use Rattle.std.proofs.Common.{Ok, Err, OnErr, [], length, subst, refl, arith}
-use Rattle.pcap_merge.specs.Given.{TakenFor}
+use Rattle.pcap_merge.specs.Prelude.{TakenFor}
 use Rattle.gate_desk.specs.declared.slot.Slot.TheVariants.{Settings}
 use Rattle.gate_desk.specs.declared.slot.Access.TheVariants.{Read}
 use Rattle.settings_file.specs.Firsts.{ReturnsFound}
 use Rattle.settings_file.specs.Accepting.{settings_of}
-use Rattle.run_setup.specs.Beginning.{settings_start, Settles}
-use Rattle.run_setup.specs.Stops.{status_of_settings, status_of_take}
+use Rattle.run_setup.specs.Prelude.{settings_start, Settles, status_of_settings, status_of_take}
 use Rattle.run_setup.proofs.Causes.{handed_on, access_of}
 use Rattle.run_setup.proofs.Beginning.{at_settings, settle_stops, settles}
 use Rattle.run_setup.proofs.Untaken.{kept_left, settings_only}

@@ -1,5 +1,4 @@
-use Rattle.std.proofs.Common.{sym, ◌∙◌, ap}
-use Rattle.std.specs.Prelude.{is_some}
+use Rattle.std.proofs.Common.{sym, ◌∙◌, ap, is_some}
 use Rattle.dialogue.proofs.ListedImages.{image_of_listed}
 use Rattle.session_tests.proofs.plans.session_with.Goals as goal
 

@@ -1,9 +1,9 @@
 use Rattle.std.proofs.Common.{◌≡◌, true, not}
 use Rattle.std.specs.List.{list_all}
 use Rattle.gate_base.specs.declared.side.Side.TheVariants.{Left}
-use Rattle.binding_table.specs.Bindings.{cross}
-use Rattle.dialogue.specs.Learning.{Entry}
-use Rattle.gate_model.specs.Names.{is_unbound}
+use Rattle.binding_table.specs.Prelude.{cross}
+use Rattle.dialogue.specs.Prelude.{Entry}
+use Rattle.gate_model.specs.Prelude.{is_unbound}
 use Rattle.session_tests.proofs.plans.session_with.Given as goal
 
 abbrev pub invariant-loop-address : goal.invariant-loop-address

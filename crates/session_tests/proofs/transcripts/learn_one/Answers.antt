@@ -1,10 +1,8 @@
-use Rattle.std.proofs.Common.{List, sym, ◌∙◌, ap, subst}
-use Rattle.std.specs.Prelude.{is_some}
-use Rattle.dns_stream.specs.Units.{unit_addresses}
-use Rattle.dns_stream.specs.Images.{dns_units}
+use Rattle.std.proofs.Common.{List, sym, ◌∙◌, ap, subst, is_some}
+use Rattle.dns_stream.specs.Prelude.{unit_addresses, dns_units}
 use Rattle.audit_streams.specs.Hosts.{Heard}
 use Rattle.audit_streams.specs.Known.{entries_of}
-use Rattle.dialogue.specs.Learning.{Entry, AllUnitsListed}
+use Rattle.dialogue.specs.Prelude.{Entry, AllUnitsListed}
 use Rattle.dialogue.proofs.ListedImages.{image_of_listed}
 use Rattle.session_tests.proofs.transcripts.learn_one.Goals as goal
 

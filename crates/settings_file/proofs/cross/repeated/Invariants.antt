@@ -1,7 +1,6 @@
-use Rattle.std.proofs.Common.{◌≡◌, ◌==◌, ℕ, [], drop, take}
+use Rattle.std.proofs.Common.{◌≡◌, ◌==◌, ℕ, [], drop, take, nat_cmp}
 use Rattle.std.specs.BTreeSet.{contains}
 use Rattle.std.specs.List.{list_any}
-use Rattle.std.specs.Ordering.{nat_cmp}
 use Rattle.settings_file.specs.Accepting.{first_repeated}
 use Rattle.settings_file.specs.Numbers.{host_number, alias_number}
 use Rattle.settings_file.proofs.cross.repeated.Given as goal

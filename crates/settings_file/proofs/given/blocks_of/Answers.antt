@@ -1,4 +1,4 @@
-use Rattle.std.proofs.Common.{◌≡◌, sym, ◌∙◌}
+use Rattle.std.proofs.Common.{sym, ◌∙◌}
 use Rattle.settings_file.specs.Document.{block}
 use Rattle.settings_file.specs.declared.key.Key.TheVariants.{Same}
 use Rattle.settings_file.proofs.Lists.{read_next}

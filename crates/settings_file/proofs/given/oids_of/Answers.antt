@@ -1,4 +1,4 @@
-use Rattle.std.proofs.Common.{◌≡◌, arith, sym, ◌∙◌}
+use Rattle.std.proofs.Common.{arith, sym, ◌∙◌}
 use Rattle.settings_file.specs.Document.{oid_entry}
 use Rattle.settings_file.proofs.Lists.{read_next}
 use Rattle.settings_file.proofs.given.oids_of.Goals as goal

@@ -1,4 +1,4 @@
-use Rattle.std.proofs.Common.{◌≡◌, ℕ, ◌+◌, length, arith, length-append, sym, ◌∙◌}
+use Rattle.std.proofs.Common.{arith, length-append, sym, ◌∙◌}
 use Rattle.gate_settings.specs.declared.settings.Fixed.{Fixed}
 use Rattle.settings_file.specs.Document.{static_entry}
 use Rattle.settings_file.proofs.Lists.{read_next}

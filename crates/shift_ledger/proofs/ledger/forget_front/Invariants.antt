@@ -1,5 +1,4 @@
-use Rattle.std.proofs.Common.{◌≡◌, ◌≤◌, drop}
-use Rattle.std.specs.VecDeque.{deque_capacity, deque_len}
+use Rattle.std.proofs.Common.{◌≡◌, ◌≤◌, drop, deque_capacity, deque_len}
 use Rattle.shift_ledger.proofs.ledger.forget_front.Given as goal
 
 abbrev pub invariant-loop : goal.invariant-loop

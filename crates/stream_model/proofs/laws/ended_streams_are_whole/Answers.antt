@@ -1,5 +1,5 @@
 use Rattle.std.proofs.Common.{Bool, [], subst}
-use Rattle.dialogue.specs.Stream.{due}
+use Rattle.dialogue.specs.Prelude.{due}
 use Rattle.stream_model.specs.Numbers.{known}
 use Rattle.stream_model.specs.Session.{own}
 use Rattle.stream_model.specs.Steps.{session_made}

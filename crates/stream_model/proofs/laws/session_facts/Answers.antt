@@ -1,8 +1,7 @@
-use Rattle.std.proofs.Common.{◌<◌, ◌≤◌, ℕ, [], length, arith}
-use Rattle.std.specs.Prelude.{◌^◌}
+use Rattle.std.proofs.Common.{◌<◌, ◌≤◌, ℕ, [], length, arith, ◌^◌}
 use Rattle.gate_base.specs.declared.host.Host.{Host}
 use Rattle.gate_base.specs.declared.host.Host.TheVariants.{Client, Server}
-use Rattle.dialogue.specs.Meaning.{Meaning}
+use Rattle.dialogue.specs.Prelude.{Meaning}
 use Rattle.stream_model.specs.Session.{own, recent}
 use Rattle.stream_model.specs.Steps.{session_made}
 use Rattle.stream_model.specs.History.{after}

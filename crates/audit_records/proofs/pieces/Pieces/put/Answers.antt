@@ -1,6 +1,6 @@
 use Rattle.std.proofs.Common.{◌∙◌, ◌-◌, ℕ, List, ap}
-use Rattle.tcp_segments.specs.Tcp.{spelled_segment, datagram_of}
-use Rattle.gate_model.specs.Stream.{tcp_of}
+use Rattle.tcp_segments.specs.Prelude.{spelled_segment, datagram_of}
+use Rattle.gate_model.specs.Prelude.{tcp_of}
 use Rattle.audit_records.proofs.pieces.Pieces.put.Goals as goal
 
 pub returns : goal.returns

@@ -1,8 +1,6 @@
-use Rattle.std.proofs.Common.{ℕ, ap, ◌∙◌}
-use Rattle.stream_model.specs.Session.{segment_in}
-use Rattle.stream_model.specs.Refusals.{segment_refusal}
+use Rattle.std.proofs.Common.{ℕ, ap, ◌∙◌, Some, None}
+use Rattle.stream_model.specs.Prelude.{segment_in, segment_refusal}
 use Rattle.audit_streams.specs.Hosts.{unheard}
-use Rattle.std.specs.Prelude.{Some, None}
 use Rattle.gate_base.specs.declared.host.Host.TheVariants.{Client}
 use Rattle.audit_sessions.proofs.SeenSessions.{FtpHeard, lines_of}
 use Rattle.audit_sessions.proofs.FreshSessions.{lines_verdict}

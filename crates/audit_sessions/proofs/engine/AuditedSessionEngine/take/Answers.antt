@@ -1,17 +1,14 @@
 use Rattle.std.proofs.Common.{◌≡◌, Some, List, sym, ap, subst, ◌∙◌}
 use Rattle.gate_base.specs.declared.address.Addr.{Addr}
-use Rattle.dialogue.specs.Learning.{Entry, AreImages}
-use Rattle.dns_stream.specs.Images.{dns_units}
-use Rattle.dns_plans.specs.Steps.{entered_all}
-use Rattle.gate_model.specs.World.{Tracked}
-use Rattle.stream_model.specs.Session.{Segment, segment_in}
+use Rattle.dialogue.specs.Prelude.{Entry, AreImages}
+use Rattle.dns_stream.specs.Prelude.{dns_units}
+use Rattle.dns_plans.specs.Prelude.{entered_all, beside}
+use Rattle.gate_model.specs.Prelude.{Tracked, addresses_in, segment_of}
+use Rattle.stream_model.specs.Prelude.{Segment, segment_in}
 use Rattle.audit_streams.specs.Sending.{Handed, handed}
-use Rattle.gate_model.specs.Lists.{addresses_in}
-use Rattle.gate_model.specs.Stream.{segment_of}
-use Rattle.lawful_files.specs.Wanted.{wanted_segment}
-use Rattle.dns_plans.specs.Plans.{beside}
+use Rattle.lawful_files.specs.Prelude.{wanted_segment}
 use Rattle.audit_sessions.specs.Heard.{HeardSession, heard_rules, heard_sent}
-use Rattle.gate_payloads.specs.Ways.{image_by}
+use Rattle.gate_payloads.specs.Prelude.{image_by}
 use Rattle.event_steps.proofs.SteppedSessions.{IsSeen, called_is, next_is, waits_is}
 use Rattle.gate_base.proofs.Options.{on_err}
 use Rattle.gate_base.specs.declared.host.Host.{Host}

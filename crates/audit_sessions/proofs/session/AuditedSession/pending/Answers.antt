@@ -1,6 +1,5 @@
 use Rattle.std.proofs.Common.{◌∙◌, ap}
-use Rattle.stream_model.specs.Session.{Session}
-use Rattle.stream_model.specs.Steps.{session_open}
+use Rattle.stream_model.specs.Prelude.{Session, session_open}
 use Rattle.audit_sessions.proofs.SeenSessions.{lines_seen, units_seen}
 use Rattle.audit_sessions.proofs.session.AuditedSession.pending.Goals as goal
 

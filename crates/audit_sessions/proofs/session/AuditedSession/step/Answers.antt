@@ -1,12 +1,10 @@
-use Rattle.std.proofs.Common.{◌≡◌, ◌≤◌, List, length, ap, subst, sym, ◌∙◌}
-use Rattle.std.specs.Prelude.{IfOk, Option}
+use Rattle.std.proofs.Common.{◌≡◌, ◌≤◌, List, length, ap, subst, sym, ◌∙◌, IfOk, Option}
 use Rattle.gate_base.specs.declared.address.Addr.{Addr}
-use Rattle.dialogue.specs.Learning.{Entry, AreImages}
-use Rattle.dns_stream.specs.Images.{dns_units}
+use Rattle.dialogue.specs.Prelude.{Entry, AreImages}
+use Rattle.dns_stream.specs.Prelude.{dns_units}
 use Rattle.audit_streams.specs.Sending.{Handed, handed}
-use Rattle.stream_model.specs.Session.{segment_in, Session}
-use Rattle.stream_model.specs.Refusals.{segment_refusal}
-use Rattle.dns_plans.specs.Steps.{entered_all}
+use Rattle.stream_model.specs.Prelude.{segment_in, Session, segment_refusal}
+use Rattle.dns_plans.specs.Prelude.{entered_all}
 use Rattle.audit_sessions.specs.Heard.{HeardSession, IsSession, heard_rules, heard_sent}
 use Rattle.audit_sessions.specs.Sessions.{session_by, dns_session, IsOfPair}
 use Rattle.audit_sessions.specs.declared.kinds.SessionKind.{SessionKind}

@@ -1,6 +1,5 @@
 use Rattle.std.proofs.Common.{◌∙◌, ap}
-use Rattle.stream_model.specs.Session.{Session}
-use Rattle.stream_model.specs.Steps.{session_inner}
+use Rattle.stream_model.specs.Prelude.{Session, session_inner}
 use Rattle.audit_sessions.proofs.SeenSessions.{lines_seen, units_seen}
 use Rattle.audit_sessions.proofs.session.AuditedSessionSession.inner.Goals as goal
 

@@ -1,6 +1,5 @@
-use Rattle.std.proofs.Common.{◌≡◌, ◌∙◌, ap, sym, subst}
-use Rattle.std.specs.Prelude.{None}
-use Rattle.stream_model.specs.Session.{segment_in}
+use Rattle.std.proofs.Common.{◌≡◌, ◌∙◌, ap, sym, subst, None}
+use Rattle.stream_model.specs.Prelude.{segment_in}
 use Rattle.audit_sessions.specs.Heard.{HeardSession, heard_rules}
 use Rattle.audit_sessions.specs.Sessions.{session_by, dns_session}
 use Rattle.audit_sessions.proofs.session.AuditedSessionSession.put_octets.Goals as goal

@@ -1,6 +1,5 @@
 use Rattle.std.proofs.Common.{◌∙◌, ap}
-use Rattle.stream_model.specs.Session.{Session, segment_in}
-use Rattle.stream_model.specs.Refusals.{segment_refusal}
+use Rattle.stream_model.specs.Prelude.{Session, segment_in, segment_refusal}
 use Rattle.audit_sessions.proofs.SeenSessions.{lines_seen, units_seen}
 use Rattle.audit_sessions.proofs.session.AuditedSessionSession.refusal.Goals as goal
 

@@ -1,6 +1,5 @@
 use Rattle.std.proofs.Common.{◌≡◌, ◌+◌, length, sym, ◌∙◌, ap, subst}
-use Rattle.dialogue.specs.Places.{back_in}
-use Rattle.dialogue.specs.Stream.{spans, back_if}
+use Rattle.dialogue.specs.Prelude.{back_in, spans, back_if}
 use Rattle.audit_streams.specs.Hosts.{HeardStream}
 use Rattle.audit_streams.proofs.HostLists.{spans_are}
 use Rattle.audit_streams.proofs.host.WholeStream.back.Goals as goal

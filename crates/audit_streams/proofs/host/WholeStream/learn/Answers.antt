@@ -1,5 +1,5 @@
 use Rattle.std.proofs.Common.{◌∷◌, ◌++◌, [], List, sym, ◌∙◌, ap, subst}
-use Rattle.dialogue.specs.Learning.{Entry, AllUnitsListed}
+use Rattle.dialogue.specs.Prelude.{Entry, AllUnitsListed}
 use Rattle.audit_streams.specs.Hosts.{HeardStream}
 use Rattle.dialogue.proofs.Alike.{longer}
 use Rattle.audit_streams.proofs.Longer.{of_alike}

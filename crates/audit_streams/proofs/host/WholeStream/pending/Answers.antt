@@ -1,6 +1,5 @@
-use Rattle.std.proofs.Common.{◌≡◌, ◌∙◌, ap, subst}
-use Rattle.std.specs.Prelude.{count_by, nat_lt}
-use Rattle.stream_model.specs.Steps.{open_of}
+use Rattle.std.proofs.Common.{◌≡◌, ◌∙◌, ap, subst, count_by, nat_lt}
+use Rattle.stream_model.specs.Prelude.{open_of}
 use Rattle.audit_streams.specs.Hosts.{HeardStream, sender_of}
 use Rattle.audit_streams.proofs.HostLists.{ends_are}
 use Rattle.audit_streams.proofs.host.WholeStream.pending.Goals as goal

@@ -1,6 +1,5 @@
 use Rattle.std.proofs.Common.{◌≡◌, ◌∙◌, ap, subst}
-use Rattle.dialogue.specs.Places.{rear_in}
-use Rattle.dialogue.specs.Stream.{spans}
+use Rattle.dialogue.specs.Prelude.{rear_in, spans}
 use Rattle.audit_streams.specs.Hosts.{HeardStream}
 use Rattle.audit_streams.proofs.HostLists.{spans_are}
 use Rattle.audit_streams.proofs.host.WholeStream.rear.Goals as goal

@@ -1,5 +1,4 @@
-use Rattle.std.proofs.Common.{◌-◌, List, sym, ◌∙◌, ap, subst, rules, tests}
-use Rattle.std.specs.Prelude.{map, nat_le, nat_lt, count_by}
+use Rattle.std.proofs.Common.{◌-◌, List, sym, ◌∙◌, ap, subst, rules, tests, map, nat_le, nat_lt, count_by}
 use Rattle.std.proofs.lemmas.List.Sorted.{IsPartitionPoint-from_clause}
 use Rattle.audit_streams.specs.declared.transcript.ChangedUnit.{ChangedUnit}
 use Rattle.audit_streams.specs.Transcripts.{Transcribed, InOrder}

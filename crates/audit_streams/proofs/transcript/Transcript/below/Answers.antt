@@ -1,8 +1,6 @@
-use Rattle.std.proofs.Common.{◌≡◌, ◌≤◌, ◌<◌, ◌++◌, List, length, take, drop, sym, ◌∙◌, ap, subst, arith, rules, tests}
-use Rattle.std.specs.Prelude.{◌^◌, nat_le}
-use Rattle.std.specs.List.{slice_get}
+use Rattle.std.proofs.Common.{◌≡◌, ◌≤◌, ◌<◌, ◌++◌, List, length, take, drop, sym, ◌∙◌, ap, subst, arith, rules, tests, ◌^◌, nat_le, slice_get}
 use Rattle.std.proofs.lemmas.List.Sorted.{IsPartitionPoint-from_clause}
-use Rattle.dialogue.specs.Places.{back_in}
+use Rattle.dialogue.specs.Prelude.{back_in}
 use Rattle.audit_streams.specs.declared.transcript.ChangedUnit.{ChangedUnit}
 use Rattle.audit_streams.specs.Transcripts.{Transcribed, InOrder}
 use Rattle.audit_streams.proofs.Places.{Parted, parted, ends_parted, octets_end, until, until-le, below_is}

@@ -1,9 +1,7 @@
-use Rattle.std.proofs.Common.{◌≡◌, ◌≤◌, ◌<◌, ◌++◌, List, length, take, drop, sym, ◌∙◌, ap, subst, arith, rules, tests}
-use Rattle.std.specs.Prelude.{Option, Some, IfSome, nat_le}
-use Rattle.std.specs.List.{slice_get}
+use Rattle.std.proofs.Common.{◌≡◌, ◌≤◌, ◌<◌, ◌++◌, List, length, take, drop, sym, ◌∙◌, ap, subst, arith, rules, tests, Option, Some, IfSome, nat_le, slice_get}
 use Rattle.std.proofs.lemmas.List.Sorted.{IsPartitionPoint-from_clause}
 use Rattle.std.proofs.lemmas.Option.{slice_get_past}
-use Rattle.dialogue.specs.Places.{Span}
+use Rattle.dialogue.specs.Prelude.{Span}
 use Rattle.audit_streams.specs.declared.transcript.ChangedUnit.{ChangedUnit}
 use Rattle.audit_streams.specs.Transcripts.{Transcribed, InOrder, places_from, span_of}
 use Rattle.audit_streams.proofs.Places.{Parted, parted, pasts_parted, octets_end, image_end, span_at, span_of_unit, span_of_other, place_is, length-kept}

@@ -1,8 +1,8 @@
 use Rattle.std.proofs.Common.{◌∙◌, ap, is_some, option_map, sym}
 use Rattle.expiring_table.specs.declared.row.Row.{Row}
-use Rattle.expiring_table.specs.Rows.{Table, row_of}
+use Rattle.expiring_table.specs.Prelude.{Table, row_of}
 use Rattle.binding_table.specs.declared.binding.Binding.{Binding}
-use Rattle.binding_table.specs.EntriesInside.{fixed_rows}
+use Rattle.binding_table.specs.Prelude.{fixed_rows}
 use Rattle.binding_table.proofs.EntriesApart.{fixed_found, found_behind, found_in_front}
 use Rattle.binding_table.proofs.entries.Entries.find.Goals as goal
 

@@ -1,9 +1,8 @@
 use Rattle.std.proofs.Common.{◌≡◌, ◌∙◌, ◌++◌, ◌∷◌, [], None, nat_eq, All, ap, subst, sym}
-use Rattle.expiring_table.specs.Rows.{Table, row_of}
+use Rattle.expiring_table.specs.Prelude.{Table, row_of}
 use Rattle.indexmap.proofs.CallerLemmas.{insert_entry-new}
 use Rattle.binding_table.specs.declared.binding.Binding.{Binding}
-use Rattle.binding_table.specs.EntriesInside.{fixed_rows}
-use Rattle.binding_table.specs.Steps.{filed}
+use Rattle.binding_table.specs.Prelude.{fixed_rows, filed}
 use Rattle.binding_table.proofs.EntriesApart.{apart_none, fixed_push, none_in, not_there, only_fixed}
 use Rattle.binding_table.proofs.entries.Entries.fix.Goals as goal
 

@@ -1,8 +1,7 @@
 use Rattle.std.proofs.Common.{◌∙◌, ap, option_and_then, sym}
-use Rattle.expiring_table.specs.Rows.{Table, row_of}
+use Rattle.expiring_table.specs.Prelude.{Table, row_of}
 use Rattle.binding_table.specs.declared.binding.Binding.{Binding}
-use Rattle.binding_table.specs.EntriesInside.{fixed_rows}
-use Rattle.binding_table.specs.Steps.{ending}
+use Rattle.binding_table.specs.Prelude.{fixed_rows, ending}
 use Rattle.binding_table.proofs.EntriesApart.{located, not_located}
 use Rattle.binding_table.proofs.entries.Entries.locate.Goals as goal
 

@@ -1,7 +1,7 @@
 use Rattle.std.proofs.Common.{IfSome, subst}
-use Rattle.expiring_table.specs.Rows.{IsTakenOut, Table}
+use Rattle.expiring_table.specs.Prelude.{IsTakenOut, Table}
 use Rattle.binding_table.specs.declared.binding.Binding.{Binding}
-use Rattle.binding_table.specs.EntriesInside.{all_rows, fixed_rows}
+use Rattle.binding_table.specs.Prelude.{all_rows, fixed_rows}
 use Rattle.binding_table.proofs.EntriesApart.{apart_ended, ended_behind, live_behind}
 use Rattle.binding_table.proofs.entries.Entries.next_ended.Goals as goal
 

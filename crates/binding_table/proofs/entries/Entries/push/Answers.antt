@@ -1,7 +1,7 @@
 use Rattle.std.proofs.Common.{◌∙◌, ap}
-use Rattle.expiring_table.specs.Rows.{Table, row_of}
+use Rattle.expiring_table.specs.Prelude.{Table, row_of}
 use Rattle.binding_table.specs.declared.binding.Binding.{Binding}
-use Rattle.binding_table.specs.EntriesInside.{fixed_rows}
+use Rattle.binding_table.specs.Prelude.{fixed_rows}
 use Rattle.binding_table.proofs.EntriesApart.{apart_push, none_in}
 use Rattle.binding_table.proofs.entries.Entries.push.Goals as goal
 

@@ -1,9 +1,8 @@
 use Rattle.std.proofs.Common.{◌≡◌, ◌++◌, ℕ, Bor, IfSome, List, Option, None, Some, option_and_then, option_copied, subst, sym}
 use Rattle.expiring_table.specs.declared.row.Row.{Row}
-use Rattle.expiring_table.specs.Rows.{Table, row_of}
+use Rattle.expiring_table.specs.Prelude.{Table, row_of}
 use Rattle.binding_table.specs.declared.binding.Binding.{Binding}
-use Rattle.binding_table.specs.EntriesInside.{fixed_rows, AreApart}
-use Rattle.binding_table.specs.Steps.{ending}
+use Rattle.binding_table.specs.Prelude.{fixed_rows, AreApart, ending}
 use Rattle.binding_table.proofs.EntriesApart.{located}
 use Rattle.binding_table.proofs.entries.Entries.row_at.Goals as goal
 

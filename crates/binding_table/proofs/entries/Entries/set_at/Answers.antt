@@ -1,7 +1,7 @@
 use Rattle.std.proofs.Common.{◌∙◌, ap, subst, sym, IsSome, IsSomeAnd}
-use Rattle.expiring_table.specs.Rows.{Table, row_of, with_row}
+use Rattle.expiring_table.specs.Prelude.{Table, row_of, with_row}
 use Rattle.binding_table.specs.declared.binding.Binding.{Binding}
-use Rattle.binding_table.specs.EntriesInside.{fixed_rows}
+use Rattle.binding_table.specs.Prelude.{fixed_rows}
 use Rattle.binding_table.proofs.EntriesApart.{apart_with, ending_behind, set_behind}
 use Rattle.binding_table.proofs.entries.Entries.set_at.Goals as goal
 

@@ -1,11 +1,9 @@
 use Rattle.std.proofs.Common.{◌∙◌, ◌++◌, ◌∷◌, [], IsSome, ap, subst, sym, refl, arith}
 use Rattle.std.proofs.lemmas.List.{length-map}
 use Rattle.expiring_table.specs.declared.row.Row.{Row}
-use Rattle.expiring_table.specs.Rows.{Table, row_of}
-use Rattle.binding_table.specs.Steps.{CanHold}
+use Rattle.expiring_table.specs.Prelude.{Table, row_of}
+use Rattle.binding_table.specs.Prelude.{CanHold, Bindings, bindings_of}
 use Rattle.binding_table.specs.declared.binding.Binding.{Binding}
-use Rattle.binding_table.specs.Bindings.{Bindings}
-use Rattle.binding_table.specs.Inside.{bindings_of}
 use Rattle.binding_table.proofs.Pushed.{left_free, right_free, new_row, whole_push, moving_end}
 use Rattle.binding_table.proofs.Room.{room_for}
 use Rattle.binding_table.proofs.Whole.{room_of}

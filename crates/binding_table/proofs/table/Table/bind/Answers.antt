@@ -1,7 +1,7 @@
 use Rattle.std.proofs.Common.{◌∙◌, ap, refl, sym}
 use Rattle.gate_base.specs.declared.side.Side.{Side}
 use Rattle.realm_pools.specs.Addresses.{least_free}
-use Rattle.binding_table.specs.Bindings.{pool_of}
+use Rattle.binding_table.specs.Prelude.{pool_of}
 use Rattle.binding_table.proofs.Bind.{unbound_of, can_bind, least_is_free, bound_is, not_empty}
 use Rattle.binding_table.proofs.table.Table.bind.Goals as goal
 

@@ -1,10 +1,8 @@
-use Rattle.std.proofs.Common.{◌∙◌, ap, option_map}
-use Rattle.std.specs.List.{find}
+use Rattle.std.proofs.Common.{◌∙◌, ap, option_map, find}
 use Rattle.expiring_table.specs.declared.row.Row.{Row}
-use Rattle.expiring_table.specs.Rows.{row_of}
+use Rattle.expiring_table.specs.Prelude.{row_of}
 use Rattle.binding_table.specs.declared.binding.Binding.{Binding}
-use Rattle.binding_table.specs.Bindings.{Bindings, is_of_host}
-use Rattle.binding_table.specs.Inside.{bindings_of}
+use Rattle.binding_table.specs.Prelude.{Bindings, is_of_host, bindings_of}
 use Rattle.binding_table.proofs.Filed.{found_value}
 use Rattle.binding_table.proofs.table.Table.binding_of.Goals as goal
 

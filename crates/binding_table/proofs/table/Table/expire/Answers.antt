@@ -1,8 +1,7 @@
 use Rattle.std.proofs.Common.{◌∙◌, refl, ap, arith}
-use Rattle.expiring_table.specs.Rows.{Table}
+use Rattle.expiring_table.specs.Prelude.{Table}
 use Rattle.binding_table.specs.declared.binding.Binding.{Binding}
-use Rattle.binding_table.specs.Bindings.{Bindings, expired}
-use Rattle.binding_table.specs.Inside.{bindings_of}
+use Rattle.binding_table.specs.Prelude.{Bindings, expired, bindings_of}
 use Rattle.binding_table.proofs.Kept.{lawful_expired}
 use Rattle.binding_table.proofs.Whole.{view_by, whole_by, room_of}
 use Rattle.binding_table.proofs.table.Table.expire.Goals as goal

@@ -1,14 +1,10 @@
-use Rattle.std.proofs.Common.{◌≡◌, ◌∙◌, List, Option, ap, refl}
+use Rattle.std.proofs.Common.{◌≡◌, ◌∙◌, List, Option, ap, refl, option_and_then, option_map, find}
 use Rattle.expiring_table.specs.declared.row.Row.{Row}
 use Rattle.gate_base.specs.declared.address.Addr.{Addr}
 use Rattle.gate_base.specs.declared.event.Moment.{Moment}
 use Rattle.gate_base.specs.declared.side.Side.{Side}
-use Rattle.std.proofs.Common.{option_and_then, option_map}
-use Rattle.std.specs.List.{find}
 use Rattle.binding_table.specs.declared.binding.Binding.{Binding}
-use Rattle.binding_table.specs.Bindings.{Bindings, extended, in_pool, is_through}
-use Rattle.binding_table.specs.Lawful.{IsLawful}
-use Rattle.binding_table.specs.Steps.{extended_by, filed, unless_fixed}
+use Rattle.binding_table.specs.Prelude.{Bindings, extended, in_pool, is_through, IsLawful, extended_by, filed, unless_fixed}
 use Rattle.binding_table.proofs.Once.{through_moving}
 use Rattle.binding_table.proofs.table.Table.extend.Goals as goal
 

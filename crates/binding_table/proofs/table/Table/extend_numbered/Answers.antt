@@ -1,11 +1,9 @@
 use Rattle.std.proofs.Common.{◌≡◌, ◌∙◌, ℕ, List, Some, map, ap, option_and_then, sym}
 use Rattle.expiring_table.specs.declared.row.Row.{Row}
-use Rattle.expiring_table.specs.Rows.{row_of}
+use Rattle.expiring_table.specs.Prelude.{row_of}
 use Rattle.binding_table.specs.declared.binding.Binding.{Binding}
 use Rattle.binding_table.specs.declared.table.Table.TheInside.{Inside}
-use Rattle.binding_table.specs.Bindings.{Bindings}
-use Rattle.binding_table.specs.Inside.{bindings_of}
-use Rattle.binding_table.specs.Steps.{ending, filed, moving_row}
+use Rattle.binding_table.specs.Prelude.{Bindings, bindings_of, ending, filed, moving_row}
 use Rattle.binding_table.proofs.Filed.{IsMoving, moving_is}
 use Rattle.binding_table.proofs.table.Table.extend_numbered.Goals as goal
 

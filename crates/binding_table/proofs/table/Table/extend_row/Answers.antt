@@ -1,15 +1,12 @@
-use Rattle.std.proofs.Common.{◌≡◌, ◌∙◌, List, map, false, refl, ap, sym, subst, arith, IsSome, IsSomeAnd, Option}
-use Rattle.std.specs.List.{find}
+use Rattle.std.proofs.Common.{◌≡◌, ◌∙◌, List, map, false, refl, ap, sym, subst, arith, IsSome, IsSomeAnd, Option, find}
 use Rattle.gate_base.specs.declared.address.Addr.{Addr}
 use Rattle.gate_base.specs.declared.event.Moment.{Moment}
 use Rattle.gate_base.specs.declared.side.Side.{Side}
 use Rattle.gate_base.specs.declared.side.Side.TheVariants.{Left, Right}
 use Rattle.expiring_table.specs.declared.row.Row.{Row}
-use Rattle.expiring_table.specs.Rows.{Table, row_of}
+use Rattle.expiring_table.specs.Prelude.{Table, row_of}
 use Rattle.binding_table.specs.declared.binding.Binding.{Binding}
-use Rattle.binding_table.specs.Bindings.{Bindings, extend_through, is_of_host, lasting}
-use Rattle.binding_table.specs.Inside.{bindings_of}
-use Rattle.binding_table.specs.Steps.{filed, number_of}
+use Rattle.binding_table.specs.Prelude.{Bindings, extend_through, is_of_host, lasting, bindings_of, filed, number_of}
 use Rattle.binding_table.proofs.Filed.{entries_are}
 use Rattle.binding_table.proofs.Kept.{same_pair, lasting_pair, aliases_map, lawful_map}
 use Rattle.binding_table.proofs.Once.{through_same, rows_extended, row_found}

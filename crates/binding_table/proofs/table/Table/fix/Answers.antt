@@ -1,7 +1,5 @@
 use Rattle.std.proofs.Common.{◌≡◌, true, All, sym, subst, refl}
-use Rattle.binding_table.specs.Steps.{CanHold}
-use Rattle.binding_table.specs.Bindings.{Bindings}
-use Rattle.binding_table.specs.Inside.{bindings_of}
+use Rattle.binding_table.specs.Prelude.{CanHold, Bindings, bindings_of}
 use Rattle.binding_table.proofs.Pushed.{left_free, right_free, new_row, whole_push, fixed_ends}
 use Rattle.binding_table.proofs.table.Table.fix.Goals as goal
 

@@ -1,6 +1,5 @@
 use Rattle.std.proofs.Common.{◌-◌, None, slice_index_or, ◌∙◌, ap}
-use Rattle.binding_table.specs.Bindings.{range_of}
-use Rattle.binding_table.specs.Steps.{Aliases}
+use Rattle.binding_table.specs.Prelude.{range_of, Aliases}
 use Rattle.binding_table.proofs.Pools.{host_there}
 use Rattle.binding_table.proofs.table.Table.host_of.Goals as goal
 

@@ -1,13 +1,11 @@
 use Rattle.std.proofs.Common.{◌≡◌, ◌≢◌, Bool, true, false, not, ◌&&◌, Option, Some, None, position, ap, sym, ◌∙◌}
-use Rattle.gate_base.specs.Side.{other}
+use Rattle.gate_base.specs.Prelude.{other}
 use Rattle.gate_base.specs.declared.side.Side.{Side}
 use Rattle.realm_pools.specs.Addresses.{Addresses}
-use Rattle.binding_table.specs.Bindings.{cross, pool_of}
+use Rattle.binding_table.specs.Prelude.{cross, pool_of, is_address, needs_binding, given_image, needing, next_alias}
 use Rattle.gate_base.specs.declared.address.Addr.{Addr}
 use Rattle.binding_table.specs.declared.binding.Crossing.{Crossing}
 use Rattle.binding_table.specs.declared.binding.Crossing.TheVariants.{Same, Bound, Unbound}
-use Rattle.binding_table.specs.Plan.{is_address, needs_binding}
-use Rattle.binding_table.specs.Steps.{given_image, needing, next_alias}
 use Rattle.binding_table.proofs.Places.{among_is, needs_of, planned_fresh}
 use Rattle.binding_table.proofs.table.Table.image.Goals as goal
 

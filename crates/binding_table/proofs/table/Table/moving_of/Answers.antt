@@ -1,7 +1,6 @@
 use Rattle.std.proofs.Common.{◌∙◌, ap, option_and_then}
-use Rattle.expiring_table.specs.Rows.{row_of}
-use Rattle.binding_table.specs.Bindings.{Bindings}
-use Rattle.binding_table.specs.Steps.{ending, moving_row}
+use Rattle.expiring_table.specs.Prelude.{row_of}
+use Rattle.binding_table.specs.Prelude.{Bindings, ending, moving_row}
 use Rattle.binding_table.proofs.Filed.{found_moving}
 use Rattle.binding_table.proofs.table.Table.moving_of.Goals as goal
 

@@ -1,10 +1,8 @@
-use Rattle.std.proofs.Common.{◌≡◌, Bool, true, Option, option_and_then, option_map, ◌∙◌, ap, sym}
-use Rattle.std.specs.List.{find}
+use Rattle.std.proofs.Common.{◌≡◌, Bool, true, Option, option_and_then, option_map, ◌∙◌, ap, sym, find}
 use Rattle.gate_base.specs.declared.side.Side.{Side}
 use Rattle.realm_pools.specs.Addresses.{Addresses, is_in}
 use Rattle.binding_table.specs.declared.binding.Binding.{Binding}
-use Rattle.binding_table.specs.Bindings.{is_of_host, is_through, in_pool}
-use Rattle.binding_table.specs.Steps.{filed, unless_fixed}
+use Rattle.binding_table.specs.Prelude.{is_of_host, is_through, in_pool, filed, unless_fixed}
 use Rattle.binding_table.proofs.Once.{by_alias}
 use Rattle.binding_table.proofs.table.Table.moving_through.Goals as goal
 

@@ -1,7 +1,7 @@
 use Rattle.std.proofs.Common.{◌≡◌, true, All, length, take, arith, ap, refl, subst, sym}
 use Rattle.std.proofs.lemmas.List.Elements.{All-map}
 use Rattle.binding_table.specs.declared.binding.Binding.{Binding}
-use Rattle.binding_table.specs.Bindings.{Bindings, fixed_binding}
+use Rattle.binding_table.specs.Prelude.{Bindings, fixed_binding}
 use Rattle.binding_table.proofs.Opening.{can_open}
 use Rattle.binding_table.proofs.table.Table.new.Goals as goal
 

@@ -1,5 +1,5 @@
 use Rattle.std.proofs.Common.{◌≡◌, map, take}
-use Rattle.binding_table.specs.Bindings.{without_bindings, fixed_binding}
+use Rattle.binding_table.specs.Prelude.{without_bindings, fixed_binding}
 use Rattle.binding_table.proofs.table.Table.new.Given as goal
 
 -- the static bindings so far are in the table

@@ -1,12 +1,9 @@
 use Rattle.std.proofs.Common.{◌≡◌, ◌∙◌, ℕ, List, Some, ap, subst, sym, option_and_then}
 use Rattle.expiring_table.specs.declared.row.Row.{Row}
-use Rattle.expiring_table.specs.Rows.{row_of}
+use Rattle.expiring_table.specs.Prelude.{row_of}
 use Rattle.binding_table.specs.declared.binding.Binding.{Binding}
 use Rattle.binding_table.specs.declared.table.Table.TheInside.{Inside}
-use Rattle.binding_table.specs.Bindings.{Bindings}
-use Rattle.binding_table.specs.Inside.{bindings_of, IsWhole}
-use Rattle.binding_table.specs.Lawful.{IsLawful}
-use Rattle.binding_table.specs.Steps.{ending, filed, moving_row, number_of}
+use Rattle.binding_table.specs.Prelude.{Bindings, bindings_of, IsWhole, IsLawful, ending, moving_row, number_of}
 use Rattle.binding_table.proofs.Filed.{moving_is}
 use Rattle.binding_table.proofs.Moving.{moving_used}
 use Rattle.binding_table.proofs.table.Table.use_moving.Goals as goal

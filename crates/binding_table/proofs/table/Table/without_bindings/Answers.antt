@@ -1,10 +1,10 @@
 use Rattle.std.proofs.Common.{◌∙◌, [], ap, arith, length, subst, sym}
-use Rattle.gate_base.specs.Rules.{AreRules}
+use Rattle.gate_base.specs.Prelude.{AreRules}
 use Rattle.gate_base.specs.declared.side.Side.TheVariants.{Left, Right}
-use Rattle.expiring_table.specs.Rows.{Table}
+use Rattle.expiring_table.specs.Prelude.{Table}
 use Rattle.binding_table.specs.declared.binding.Binding.{Binding}
-use Rattle.binding_table.specs.Bindings.{range_of_settings, without_bindings}
-use Rattle.binding_table.specs.Steps.{Aliases}
+use Rattle.binding_table.specs.Prelude.{without_bindings, Aliases}
+use Rattle.binding_table.specs.Bindings.{range_of_settings}
 use Rattle.binding_table.proofs.Pools.{none_standing}
 use Rattle.binding_table.proofs.Opening.{range_is, opening_lawful}
 use Rattle.binding_table.proofs.Whole.{length_hosts, whole_by}

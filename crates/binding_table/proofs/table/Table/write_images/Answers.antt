@@ -1,11 +1,10 @@
 use Rattle.std.proofs.Common.{◌≡◌, ℕ, ◌+◌, Bool, true, false, cond, [], List, length, set, Option, sym, ap, subst, arith}
 use mir.Val.{bool_byte}
 use Rattle.std.proofs.lemmas.List.{take_more}
-use Rattle.gate_base.specs.Side.{other}
+use Rattle.gate_base.specs.Prelude.{other}
 use Rattle.gate_base.specs.declared.address.Addr.{Addr}
-use Rattle.expiring_table.specs.Rows.{Table}
-use Rattle.binding_table.specs.Plan.{fresh_after}
-use Rattle.binding_table.specs.Steps.{AreFirsts, needing}
+use Rattle.expiring_table.specs.Prelude.{Table}
+use Rattle.binding_table.specs.Prelude.{fresh_after, AreFirsts, needing}
 use Rattle.binding_table.proofs.Fresh.{needed_small, fresh_step}
 use Rattle.binding_table.proofs.Places.{no_firsts}
 use Rattle.binding_table.proofs.Planned.{IsAt, at_start, at_step, at_end}

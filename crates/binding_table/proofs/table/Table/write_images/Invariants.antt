@@ -1,8 +1,6 @@
 use Rattle.std.proofs.Common.{◌≡◌, ◌≤◌, ◌+◌, List, length, take, drop}
-use Rattle.gate_base.specs.Side.{other}
-use Rattle.binding_table.specs.Bindings.{free}
-use Rattle.binding_table.specs.Plan.{Use, AreUsesOf, fresh_after, needed}
-use Rattle.binding_table.specs.Steps.{AreFirsts, needing}
+use Rattle.gate_base.specs.Prelude.{other}
+use Rattle.binding_table.specs.Prelude.{free, Use, AreUsesOf, fresh_after, needed, AreFirsts, needing}
 use Rattle.binding_table.proofs.Planned.{IsAt}
 use Rattle.binding_table.proofs.table.Table.write_images.Given as goal
 

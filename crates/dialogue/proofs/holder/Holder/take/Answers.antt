@@ -1,7 +1,5 @@
-use Rattle.std.proofs.Common.{◌≡◌, ◌≤◌, ◌<◌, ◌+◌, ◌-◌, List, ℕ, ◌++◌, length, take, arith, sym, ◌∙◌, ap, inl, inr, subst, refl}
-use Rattle.std.specs.Prelude.{min}
-use Rattle.std.proofs.lemmas.List.{take_at, take_all, length-take-le}
-use Rattle.dialogue.specs.Taking.{IsWaiting, EndsAt, EndsAfter, NoneEnds, StaysHeld}
+use Rattle.std.proofs.Common.{◌≡◌, ◌≤◌, ◌<◌, ◌+◌, ◌-◌, List, ℕ, ◌++◌, length, take, arith, sym, ◌∙◌, ap, inl, inr, subst, refl, min, take_at, take_all, length-take-le}
+use Rattle.dialogue.specs.Prelude.{IsWaiting, EndsAt, EndsAfter, NoneEnds, StaysHeld}
 use Rattle.dialogue.proofs.TakingLemmas.{on_ok, ends-after, ends-after_nothing, none-short, stays-held, takes-waits}
 use Rattle.dialogue.proofs.holder.Holder.take.Goals as goal
 

@@ -1,7 +1,5 @@
 use Rattle.std.proofs.Common.{List, ℕ, sym, subst}
-use Rattle.dns_names.specs.Names.{IsSpelled}
-use Rattle.dns_names.specs.Spelling.{Text, BeginsWith}
-use Rattle.dns_names.specs.Writers.{starts_in}
+use Rattle.dns_names.specs.Prelude.{IsSpelled, Text, BeginsWith, starts_in}
 use Rattle.dns_names.proofs.Walking.{labels_in-spelled}
 use Rattle.dns_names.proofs.Putting.{put_name-is, begins-with-itself}
 use Rattle.dns_names.proofs.writer.NameWriter.put_name.Goals as goal

@@ -1,5 +1,4 @@
-use Rattle.std.proofs.Common.{◌∙◌, ap}
-use Rattle.std.specs.Prelude.{is_some}
+use Rattle.std.proofs.Common.{◌∙◌, ap, is_some}
 use Rattle.dialogue.proofs.ListedImages.{image_of_listed}
 use Rattle.dns_plans.proofs.sender.Sender.knows.Goals as goal
 

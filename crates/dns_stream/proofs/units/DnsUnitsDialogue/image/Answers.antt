@@ -1,4 +1,4 @@
-use Rattle.dns_stream.specs.Images.{dns_units}
+use Rattle.dns_stream.specs.Prelude.{dns_units}
 use Rattle.dns_stream.proofs.units.DnsUnitsDialogue.image.Goals as goal
 use Rattle.dns_stream.proofs.units.DnsUnitsDialogue.image.Goals.{in-Some, in-None}
 

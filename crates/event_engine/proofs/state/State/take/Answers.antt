@@ -1,13 +1,10 @@
 use Rattle.std.proofs.Common.{◌∙◌, Ok, ap, refl, subst, sym}
-use Rattle.gate_base.specs.Tests.{first_that_holds}
+use Rattle.gate_base.specs.Prelude.{first_that_holds}
 use Rattle.gate_frames.specs.Judged.{IsContentOf}
-use Rattle.gate_model.specs.Frame.{kind_of}
-use Rattle.gate_model.specs.Names.{carried}
-use Rattle.gate_model.specs.Verdict.{address_tests, world_tests}
-use Rattle.gate_payloads.specs.Taken.{IsWayOf}
-use Rattle.gate_payloads.specs.Ways.{way_tests}
+use Rattle.gate_model.specs.Prelude.{kind_of, carried, address_tests, world_tests}
+use Rattle.gate_payloads.specs.Prelude.{IsWayOf, way_tests}
 use Rattle.twice_translate.specs.Renamed.{datagram_of}
-use Rattle.event_steps.specs.Passed.{world_of}
+use Rattle.event_steps.specs.Prelude.{world_of}
 use Rattle.event_steps.proofs.Taking.{allowed, way_is, refused_way, way_plain, udp_like}
 use Rattle.event_engine.specs.Knowing.{world_in}
 use Rattle.event_engine.specs.Lost.{IsDone}

@@ -1,18 +1,12 @@
-use Rattle.std.proofs.Common.{◌&&◌, ◌||◌, not, Option, None, List, ℕ, refl, subst, sym, ap, ◌∙◌}
-use Rattle.std.specs.Prelude.{IfOk}
-use Rattle.tcp_segments.specs.Tcp.{Tcp}
-use Rattle.tcp_tracker.specs.Connections.{connection_of}
+use Rattle.std.proofs.Common.{◌&&◌, ◌||◌, not, Option, None, refl, subst, sym, ap, ◌∙◌}
+use Rattle.tcp_segments.specs.Prelude.{Tcp}
+use Rattle.tcp_tracker.specs.Prelude.{connection_of}
 use Rattle.tcp_tracker.specs.declared.connection.ConnKey.{ConnKey}
 use Rattle.tcp_tracker.specs.declared.connection.Connection.{Connection}
-use Rattle.gate_model.specs.Frame.{is_tracked_port}
-use Rattle.gate_model.specs.Stream.{tcp_of, is_opening, session_in, lacks_session}
-use Rattle.gate_model.specs.World.{Tracked}
-use Rattle.event_steps.specs.Segments.{lacks_place}
+use Rattle.gate_model.specs.Prelude.{is_tracked_port, tcp_of, is_opening, session_in, lacks_session, Tracked, Stream}
+use Rattle.event_steps.specs.Prelude.{lacks_place, world_of, stream_refusal}
 use Rattle.event_steps.proofs.SegmentTests.{new_joined, refused_beginning}
 use Rattle.event_steps.proofs.SegmentsPassed.{untracked_by}
-use Rattle.gate_model.specs.Frame.{Stream}
-use Rattle.event_steps.specs.Passed.{world_of}
-use Rattle.event_steps.specs.Segments.{stream_refusal}
 use Rattle.event_engine.specs.Given.{IsGiven}
 use Rattle.event_engine.specs.Knowing.{world_in}
 use Rattle.event_engine.proofs.Wholes.{as_whole}

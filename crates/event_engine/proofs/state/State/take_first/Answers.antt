@@ -1,17 +1,11 @@
 use Rattle.std.proofs.Common.{◌+◌, max, ◌&&◌, Some, [], ◌∷◌, sym, ap, subst, refl, ◌∙◌, ℕ}
 use Rattle.std.proofs.lemmas.Bool.{and_parts}
-use Rattle.tcp_segments.specs.Tcp.{Tcp}
-use Rattle.tcp_segments.specs.Flags.{flags_of}
-use Rattle.tcp_tracker.specs.Connections.{timeout_of, noted}
+use Rattle.tcp_segments.specs.Prelude.{Tcp, flags_of}
+use Rattle.tcp_tracker.specs.Prelude.{timeout_of, noted}
 use Rattle.tcp_tracker.specs.declared.connection.ConnKey.{ConnKey}
-use Rattle.binding_table.specs.Plan.{after_uses}
-use Rattle.gate_model.specs.Frame.{Stream, is_tracked_port}
-use Rattle.gate_model.specs.Stream.{tcp_of, is_opening, key_in, stepped}
-use Rattle.gate_model.specs.Units.{uses_until}
-use Rattle.gate_model.specs.World.{Tracked}
-use Rattle.event_steps.specs.SegmentFate.{image_of}
-use Rattle.event_steps.specs.Passed.{world_of}
-use Rattle.event_steps.specs.Segments.{AreCalled, Enters, made_on, stream_refusal}
+use Rattle.binding_table.specs.Prelude.{after_uses}
+use Rattle.gate_model.specs.Prelude.{Stream, is_tracked_port, tcp_of, is_opening, key_in, stepped, uses_until, Tracked}
+use Rattle.event_steps.specs.Prelude.{image_of, world_of, AreCalled, Enters, made_on, stream_refusal}
 use Rattle.event_steps.proofs.SegmentTests.{made_called, made_enters, joined_refused, full_refused, empty_refused, few_sessions}
 use Rattle.event_steps.proofs.SegmentsPassed.{session_begins, begun, passes}
 use Rattle.event_engine.specs.Engines.{IsStepped}

@@ -1,9 +1,7 @@
 use Rattle.std.proofs.Common.{ap, refl, subst, sym}
-use Rattle.gate_base.specs.Events.{event_of}
+use Rattle.gate_base.specs.Prelude.{event_of, first_that_holds}
 use Rattle.gate_frames.specs.Frames.{IsJudged}
-use Rattle.gate_model.specs.Frame.{datagram_in, kind_of}
-use Rattle.gate_model.specs.Verdict.{tests, address_tests, world_tests}
-use Rattle.gate_base.specs.Tests.{first_that_holds}
+use Rattle.gate_model.specs.Prelude.{datagram_in, kind_of, tests, address_tests, world_tests}
 use Rattle.event_steps.proofs.Stepping.{first_world, first_front}
 use Rattle.event_engine.specs.Knowing.{world_in}
 use Rattle.event_engine.specs.Lost.{IsDone}

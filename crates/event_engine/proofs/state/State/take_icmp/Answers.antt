@@ -1,7 +1,7 @@
 use Rattle.std.proofs.Common.{◌∙◌, ap, refl, subst, sym}
-use Rattle.gate_model.specs.Frame.{Kind}
+use Rattle.gate_model.specs.Prelude.{Kind}
 use Rattle.twice_translate.specs.Renamed.{datagram_of}
-use Rattle.gate_payloads.specs.Taken.{IsTaken}
+use Rattle.gate_payloads.specs.Prelude.{IsTaken}
 use Rattle.gate_payloads.proofs.HeadersOnly.{echo_taken, echo_kind}
 use Rattle.event_steps.proofs.Taking.{error_kind}
 use Rattle.event_engine.specs.Knowing.{world_in}

@@ -1,14 +1,11 @@
-use Rattle.std.proofs.Common.{◌≡◌, ℕ, List, false, None, is_some, sym, ap, subst, refl, ◌∙◌}
-use Rattle.std.specs.Prelude.{IfOk}
-use Rattle.tcp_tracker.specs.Connections.{connection_of}
+use Rattle.std.proofs.Common.{◌≡◌, false, None, is_some, sym, ap, subst, refl, ◌∙◌}
+use Rattle.tcp_tracker.specs.Prelude.{connection_of}
 use Rattle.tcp_tracker.specs.declared.connection.ConnKey.{ConnKey}
-use Rattle.gate_model.specs.Stream.{found_in}
+use Rattle.gate_model.specs.Prelude.{found_in, Stream}
 use Rattle.event_steps.proofs.ListedBound.{listed_bound, header_bound}
 use Rattle.event_steps.proofs.SegmentTests.{found_joined, place_found}
 use Rattle.event_steps.proofs.SegmentsPassed.{untracked_by}
-use Rattle.gate_model.specs.Frame.{Stream}
-use Rattle.event_steps.specs.Passed.{world_of}
-use Rattle.event_steps.specs.Segments.{stream_refusal}
+use Rattle.event_steps.specs.Prelude.{world_of, stream_refusal}
 use Rattle.event_engine.specs.Given.{IsGiven}
 use Rattle.event_engine.specs.Knowing.{world_in}
 use Rattle.event_engine.proofs.Lost.{lost_at_units}

@@ -1,6 +1,6 @@
 use Rattle.std.proofs.Common.{◌≡◌, ◌∙◌, ◌<◌, ap, sym, subst, arith, Option, ℕ, slice_index, length}
 use Rattle.std.proofs.lemmas.List.{get_or_read}
-use Rattle.expiring_table.specs.Chained.{Chained, IsLast, IsNext}
+use Rattle.expiring_table.specs.Prelude.{Chained, IsLast, IsNext}
 use Rattle.expiring_table.proofs.Links.{IsStep, step_start, step_on}
 use Rattle.expiring_table.proofs.chains.Chains.next_of.Goals as goal
 

@@ -1,6 +1,6 @@
 use Rattle.std.proofs.Common.{rules, ◌≡◌, ◌∙◌, ◌<◌, ◌∷◌, [], ap, sym, arith, length, length-append, set, slice_index, slice_index_or, Some, None, Option, subst, ℕ}
 use Rattle.std.proofs.lemmas.List.{length-set, get_or_read}
-use Rattle.expiring_table.specs.Chained.{Chained, IsLast}
+use Rattle.expiring_table.specs.Prelude.{Chained, IsLast}
 use Rattle.expiring_table.proofs.Links.{heads_push, befores_push}
 use Rattle.expiring_table.proofs.chains.Chains.push.Goals as goal
 

@@ -1,6 +1,6 @@
 use Rattle.std.proofs.Common.{rules, ◌≡◌, ◌∙◌, ◌<◌, ap, sym, subst, arith, Option, Some, None, ℕ, List, set, slice_index, slice_index_or, length}
 use Rattle.std.proofs.lemmas.List.{get_or_read, length-set}
-use Rattle.expiring_table.specs.Chained.{Chained, IsLast, IsNext}
+use Rattle.expiring_table.specs.Prelude.{Chained, IsLast, IsNext}
 use Rattle.expiring_table.proofs.Links.{heads_inner, befores_inner}
 use Rattle.expiring_table.proofs.chains.Chains.remove.Goals as goal
 

@@ -1,6 +1,6 @@
 use Rattle.std.proofs.Common.{List, ap, subst}
 use Rattle.expiring_table.specs.declared.row.Row.{Row}
-use Rattle.expiring_table.specs.Rows.{AreDistinct, Table}
+use Rattle.expiring_table.specs.Prelude.{AreDistinct, Table}
 use Rattle.expiring_table.proofs.Taken.{distinct_in}
 use Rattle.expiring_table.proofs.rows.Rows.len.Goals as goal
 

@@ -1,8 +1,7 @@
 use Rattle.std.proofs.Common.{◌∙◌, ap, sym, subst, option_copied, option_map, Bor, Option, ℕ, None}
 use Rattle.std.proofs.lemmas.List.{get_or_read}
 use Rattle.expiring_table.specs.declared.row.Row.{Row}
-use Rattle.expiring_table.specs.Kept.{IsPlaceOf}
-use Rattle.expiring_table.specs.Rows.{Table, row_of}
+use Rattle.expiring_table.specs.Prelude.{IsPlaceOf, Table, row_of}
 use Rattle.expiring_table.proofs.Cells.{found, none_found}
 use Rattle.expiring_table.proofs.rows.Rows.locate.Goals as goal
 

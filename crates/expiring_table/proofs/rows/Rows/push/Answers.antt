@@ -1,5 +1,5 @@
 use Rattle.std.proofs.Common.{◌∙◌, ap}
-use Rattle.expiring_table.specs.Rows.{Table, row_of}
+use Rattle.expiring_table.specs.Prelude.{Table, row_of}
 use Rattle.expiring_table.proofs.Cells.{none_from}
 use Rattle.expiring_table.proofs.rows.Rows.push.Goals as goal
 

@@ -1,6 +1,5 @@
 use Rattle.std.proofs.Common.{◌∙◌, ap, sym, subst, Option, ℕ}
-use Rattle.expiring_table.specs.Kept.{IsPlaceOf}
-use Rattle.expiring_table.specs.Rows.{Table, without}
+use Rattle.expiring_table.specs.Prelude.{IsPlaceOf, Table, without}
 use Rattle.expiring_table.proofs.Changes.{without_other}
 use Rattle.expiring_table.proofs.rows.Rows.remove.Goals as goal
 

@@ -1,6 +1,6 @@
 use Rattle.std.proofs.Common.{◌∙◌, ◌<◌, ap, sym, arith, length, None, option_copied}
 use Rattle.std.proofs.lemmas.List.{get_or_read}
-use Rattle.expiring_table.specs.Rows.{Table, row_of}
+use Rattle.expiring_table.specs.Prelude.{Table, row_of}
 use Rattle.expiring_table.proofs.Cells.{found}
 use Rattle.expiring_table.proofs.rows.Rows.row_at.Goals as goal
 

@@ -1,7 +1,6 @@
 use Rattle.std.proofs.Common.{◌≡◌, ◌∙◌, ap, sym, IsSome, subst, Option, ℕ, true, false}
 use Rattle.expiring_table.specs.declared.row.Row.{Row}
-use Rattle.expiring_table.specs.Kept.{IsPlaceOf}
-use Rattle.expiring_table.specs.Rows.{Table, row_of}
+use Rattle.expiring_table.specs.Prelude.{IsPlaceOf, Table, row_of}
 use Rattle.expiring_table.proofs.Cells.{none_found}
 use Rattle.expiring_table.proofs.rows.Rows.set_anew.Goals as goal
 

@@ -1,5 +1,5 @@
 use Rattle.std.proofs.Common.{◌∙◌, ap, refl, ◌++◌, ◌∷◌, []}
-use Rattle.expiring_table.specs.Kept.{rows_in}
+use Rattle.expiring_table.specs.Prelude.{rows_in}
 use Rattle.expiring_table.proofs.Cells.{rows_push}
 use Rattle.expiring_table.proofs.Indexed.{whole_push}
 use Rattle.expiring_table.proofs.store.Store.append.Goals as goal

@@ -1,8 +1,5 @@
-use Rattle.std.proofs.Common.{◌∙◌, ap, sym, refl, arith, set, None, subst}
-use Rattle.std.proofs.lemmas.List.{length-set}
-use Rattle.expiring_table.specs.Rows.{without}
-use Rattle.expiring_table.specs.Kept.{rows_in, IsIndexed}
-use Rattle.expiring_table.specs.Chained.{Chained}
+use Rattle.std.proofs.Common.{◌∙◌, ap, sym, refl, arith, set, None, subst, length-set}
+use Rattle.expiring_table.specs.Prelude.{without, rows_in, IsIndexed, Chained}
 use Rattle.expiring_table.proofs.Changes.{rows_clear, count_clear, once_clear, indexed_clear, row_there}
 use Rattle.expiring_table.proofs.Review.{room_kept}
 use Rattle.expiring_table.proofs.store.Store.clear_at.Goals as goal

@@ -1,6 +1,6 @@
 use Rattle.std.proofs.Common.{rules, arith, ◌∙◌, ap, refl, is_some}
 use Rattle.std.proofs.lemmas.Fn.{filter_same}
-use Rattle.expiring_table.specs.Kept.{rows_in}
+use Rattle.expiring_table.specs.Prelude.{rows_in}
 use Rattle.expiring_table.proofs.Compaction.{rows_full, length_full, listed_none}
 use Rattle.expiring_table.proofs.store.Store.compact.Goals as goal
 

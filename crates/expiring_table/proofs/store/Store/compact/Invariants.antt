@@ -1,5 +1,5 @@
 use Rattle.std.proofs.Common.{◌≡◌}
-use Rattle.expiring_table.specs.Kept.{IsListed}
+use Rattle.expiring_table.specs.Prelude.{IsListed}
 use Rattle.expiring_table.proofs.store.Store.compact.Given as goal
 
 abbrev pub invariant-loop-place : goal.invariant-loop-place

@@ -1,7 +1,6 @@
 use Rattle.std.proofs.Common.{ℕ, ◌<◌, Option, None, length, sym, ◌∙◌, ap, subst}
 use Rattle.std.proofs.lemmas.List.{get_or_read}
-use Rattle.expiring_table.specs.Chained.{IsLast}
-use Rattle.expiring_table.specs.Kept.{is_cell_of}
+use Rattle.expiring_table.specs.Prelude.{IsLast, is_cell_of}
 use Rattle.expiring_table.proofs.Walk.{walk_start, walk_on, walk_found, IsWalk, met_within}
 use Rattle.expiring_table.proofs.store.Store.place_of.Goals as goal
 

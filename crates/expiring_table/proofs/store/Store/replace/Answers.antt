@@ -1,10 +1,8 @@
-use Rattle.std.proofs.Common.{◌≡◌, ◌∙◌, ap, sym, refl, subst, arith, ◌≤◌, ◌<◌, ◌∷◌, ℕ, length, set, None, Some}
-use Rattle.std.specs.List.{Contains}
+use Rattle.std.proofs.Common.{◌≡◌, ◌∙◌, ap, sym, refl, subst, arith, ◌≤◌, ◌<◌, ◌∷◌, ℕ, length, set, None, Some, Contains}
 use Rattle.std.proofs.lemmas.List.{length-set, get_or_read, get_or-set_same, get_or-set_other}
 use Rattle.std.proofs.lemmas.List.Sorted.{Contains-permutation}
 use Rattle.std.proofs.lemmas.Option.{none-some, same_Some}
-use Rattle.expiring_table.specs.Armed.{alarm}
-use Rattle.expiring_table.specs.Kept.{is_watched, row_at}
+use Rattle.expiring_table.specs.Prelude.{alarm, is_watched, row_at}
 use Rattle.expiring_table.proofs.Changes.{rows_set, count_set, once_set, indexed_set}
 use Rattle.expiring_table.proofs.Indexed.{contains_front, contains_rest}
 use Rattle.expiring_table.proofs.Review.{room_kept, whole_watched}

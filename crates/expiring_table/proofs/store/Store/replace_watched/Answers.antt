@@ -1,6 +1,6 @@
 use Rattle.std.proofs.Common.{◌∙◌, ◌<◌, ap, sym, arith, length, None}
 use Rattle.std.proofs.lemmas.List.{get_or_read}
-use Rattle.expiring_table.specs.Kept.{is_watched, row_at}
+use Rattle.expiring_table.specs.Prelude.{is_watched, row_at}
 use Rattle.expiring_table.proofs.Changes.{rows_set}
 use Rattle.expiring_table.proofs.Review.{whole_watched}
 use Rattle.expiring_table.proofs.Walk.{walk_found}

@@ -1,12 +1,8 @@
-use Rattle.std.proofs.Common.{◌≡◌, ◌∙◌, ap, sym, refl, subst, arith, ◌∷◌, set, None, Some}
-use Rattle.std.proofs.lemmas.Bool.{le-ltb}
+use Rattle.std.proofs.Common.{◌≡◌, ◌∙◌, ap, sym, refl, subst, arith, ◌∷◌, set, None, Some, le-ltb}
 use Rattle.std.proofs.lemmas.List.{length-set, get_or_read}
 use Rattle.std.proofs.lemmas.Option.{none-some, same_Some}
 use Rattle.expiring_table.specs.declared.row.Row.{Row}
-use Rattle.expiring_table.specs.Armed.{alarm}
-use Rattle.expiring_table.specs.Rows.{is_before}
-use Rattle.expiring_table.specs.Kept.{row_at, IsIndexed}
-use Rattle.expiring_table.specs.Chained.{Chained, without_place}
+use Rattle.expiring_table.specs.Prelude.{alarm, is_before, row_at, IsIndexed, Chained, without_place}
 use Rattle.expiring_table.proofs.Cells.{found, row_within}
 use Rattle.expiring_table.proofs.Changes.{rows_clear, count_clear, once_clear, indexed_clear, row_there}
 use Rattle.expiring_table.proofs.Review.{room_kept, whole_dropped, drop_alarm, set_alarm, due_same, row_cleared}

@@ -1,5 +1,4 @@
-use Rattle.std.proofs.Common.{◌≡◌, ◌≤◌, ◌+◌, ◌-◌, ℕ, ◌++◌, take, drop, length, arith, sym, ap, ◌∙◌, length-take, length-drop}
-use Rattle.std.proofs.lemmas.List.{length-take-le}
+use Rattle.std.proofs.Common.{◌≡◌, ◌≤◌, ◌+◌, ◌-◌, ℕ, ◌++◌, take, drop, length, arith, sym, ap, ◌∙◌, length-take, length-drop, length-take-le}
 use borrow.Rule.Slice.PartMut.{put_mid, mid_of}
 use Rattle.gate_desk.proofs.Laws.{buffer_on}
 use Rattle.file_audit.proofs.ReportAhead.{fills}

@@ -1,5 +1,5 @@
 use Rattle.std.proofs.Common.{◌≡◌, cond, false, Some, None, sym, ap, ◌∙◌}
-use Rattle.frag_join.specs.Coverage.{is_other, ends_otherwise}
+use Rattle.frag_join.specs.Prelude.{is_other, ends_otherwise}
 use Rattle.frag_join.proofs.BufferLemmas.{ends-plain}
 use Rattle.frag_join.proofs.buffer.Buffer.ends_otherwise.Goals as goal
 use Rattle.frag_join.proofs.buffer.Buffer.ends_otherwise.Goals.{then-self-2, else-self-2}

@@ -1,7 +1,5 @@
 use Rattle.std.proofs.Common.{◌≡◌, ◌≤◌, ◌&&◌, not, is_some}
-use Rattle.frag_join.specs.Places.{count_below}
-use Rattle.frag_join.specs.Fragments.{covers}
-use Rattle.frag_join.specs.Coverage.{octet_of}
+use Rattle.frag_join.specs.Prelude.{count_below, covers, octet_of}
 use Rattle.frag_join.proofs.buffer.Buffer.fresh.Given as goal
 
 -- the places so far are counted

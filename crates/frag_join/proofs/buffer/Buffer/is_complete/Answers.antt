@@ -1,5 +1,5 @@
 use Rattle.std.proofs.Common.{◌&&◌, eqb, sym, ap, ◌∙◌}
-use Rattle.frag_join.specs.Coverage.{is_complete}
+use Rattle.frag_join.specs.Prelude.{is_complete}
 use Rattle.frag_join.proofs.BufferLemmas.{complete-counted}
 use Rattle.frag_join.proofs.buffer.Buffer.is_complete.Goals as goal
 

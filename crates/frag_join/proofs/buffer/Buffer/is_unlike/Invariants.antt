@@ -1,7 +1,5 @@
 use Rattle.std.proofs.Common.{◌≡◌}
-use Rattle.frag_join.specs.Places.{any_below}
-use Rattle.frag_join.specs.Fragments.{octet_in}
-use Rattle.frag_join.specs.Coverage.{are_unlike, octet_of}
+use Rattle.frag_join.specs.Prelude.{any_below, octet_in, are_unlike, octet_of}
 use Rattle.frag_join.proofs.buffer.Buffer.is_unlike.Given as goal
 
 -- whether an octet so far differs

@@ -1,5 +1,5 @@
 use Rattle.std.proofs.Common.{◌≡◌, None, sym, subst}
-use Rattle.frag_join.specs.Coverage.{Coverage, octet_of}
+use Rattle.frag_join.specs.Prelude.{Coverage, octet_of}
 use Rattle.frag_join.proofs.BufferLemmas.{octet-held, octet-free, octet-past}
 use Rattle.frag_join.proofs.buffer.Buffer.octet.Goals as goal
 use Rattle.frag_join.proofs.buffer.Buffer.octet.Goals.{else-place-self-via-then-place-self+else-index, else-place-self-via-else-place-self}

@@ -1,5 +1,5 @@
 use Rattle.std.proofs.Common.{◌≡◌, ◌+◌, true, take, sym, subst, ap, ◌∙◌}
-use Rattle.frag_join.specs.Coverage.{Coverage, is_complete, spelled}
+use Rattle.frag_join.specs.Prelude.{Coverage, is_complete, spelled}
 use Rattle.frag_join.proofs.BufferLemmas.{spelled-front}
 use Rattle.frag_join.proofs.buffer.Buffer.octets.Goals as goal
 

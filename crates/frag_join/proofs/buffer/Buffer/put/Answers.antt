@@ -1,9 +1,6 @@
 use Rattle.std.proofs.Common.{◌≡◌, ◌+◌, ◌≤◌, ◌∙◌, ◌||◌, ◌&&◌, not, max, false, is_some, drop, sym, subst, ap, arith}
 use Rattle.std.specs.Option.{option_or}
-use Rattle.frag_join.specs.Places.{count_below}
-use Rattle.frag_join.specs.Coverage.{Coverage, is_bad, added, octet_of, header_told}
-use Rattle.frag_join.specs.Fragments.{end_of, covers}
-use Rattle.frag_join.specs.Inside.{octet_inside}
+use Rattle.frag_join.specs.Prelude.{count_below, Coverage, is_bad, added, octet_of, header_told, end_of, covers, octet_inside}
 use Rattle.frag_join.proofs.PlaceLemmas.{count-le}
 use Rattle.frag_join.proofs.PutLemmas.{IsGood, IsPut, good-fragment, known-new, whole-new, octets-put, units-put, count-put, header-kept}
 use Rattle.frag_join.proofs.buffer.Buffer.put.Goals as goal

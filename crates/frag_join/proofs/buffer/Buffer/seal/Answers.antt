@@ -1,5 +1,5 @@
 use Rattle.std.proofs.Common.{◌≡◌, true, refl, sym, subst, ap, ◌∙◌}
-use Rattle.frag_join.specs.Coverage.{Coverage, is_complete, sealed}
+use Rattle.frag_join.specs.Prelude.{Coverage, is_complete, sealed}
 use Rattle.frag_join.specs.declared.buffer.Buffer.TheInside.{Inside}
 use Rattle.frag_join.proofs.BufferLemmas.{IsSealed, known-sealed}
 use Rattle.frag_join.proofs.buffer.Buffer.seal.Goals as goal

@@ -1,6 +1,5 @@
 use Rattle.std.proofs.Common.{sym, ap, ◌∙◌}
-use Rattle.frag_join.specs.Coverage.{is_bad}
-use Rattle.frag_join.specs.Kept.{known_at}
+use Rattle.frag_join.specs.Prelude.{is_bad, known_at}
 use Rattle.frag_join.proofs.PartLemmas.{bad-new}
 use Rattle.frag_join.proofs.joiner.Joiner.is_bad.Goals as goal
 

@@ -1,20 +1,78 @@
-use Rattle.std.proofs.Common.{◌≡◌, false, [], ◌∷◌, ◌++◌, length, get_or, Some, None, sym, ap, ◌∙◌, arith, leb}
-use Rattle.std.specs.Prelude.{slice_get}
-use Rattle.std.proofs.lemmas.Bool.{lt-leb}
+use Rattle.std.proofs.Common.{◌≡◌, ◌<◌, true, false, List, [], ◌∷◌, ◌++◌, length, get_or, Some, None, IfSome, subst, sym, ap, ◌∙◌, arith, leb, slice_get}
+use Rattle.std.proofs.lemmas.Bool.{lt-leb, le-leb}
+use Rattle.std.proofs.lemmas.List.{length_push}
 use Rattle.std.proofs.lemmas.List.Quantifiers.{position-Some}
 use Rattle.std.proofs.lemmas.Option.{slice_get-get_or}
-use Rattle.gate_base.specs.Events.{event_of}
+use Rattle.gate_base.specs.Prelude.{event_of}
 use Rattle.ipv4_frames.specs.Ipv4.{has_options}
 use Rattle.frag_join.specs.declared.part.Part.{Part}
-use Rattle.frag_join.specs.Fragments.{name_in, name_of, fragment_in, fragment_of, octets_of}
-use Rattle.frag_join.specs.Coverage.{Coverage, nothing, is_bad}
-use Rattle.frag_join.specs.Joining.{State, Step, by_known, is_of, place_of, limit, fragment_step, part_or_new, with_fragment}
-use Rattle.frag_join.specs.Kept.{known_at, known_or_nothing, put_at, new_part}
+use Rattle.frag_join.specs.Prelude.{name_in, fragment_in, octets_of, Coverage, nothing, is_bad, State, Step, by_known, is_of, place_of, limit, fragment_step, part_or_new, with_fragment, known_at, put_at}
+use Rattle.frag_join.specs.Fragments.{name_of, fragment_of}
+use Rattle.frag_join.specs.Kept.{known_or_nothing, new_part}
 use Rattle.frag_join.proofs.PartLemmas.{get-last}
-use Rattle.frag_join.proofs.StepLemmas.{step-there, step-new, settled-last}
+use Rattle.frag_join.proofs.StepLemmas.{good-last, step-options, step-bad, step-full, step-there, step-new, settled-last}
 use Rattle.frag_join.proofs.joiner.Joiner.take_fragment.Goals as goal
 
+-- ## It is refused
+
+pub returns-then-has_options : goal.returns-then-has_options
+returns-then-has_options c =
+    let step = step-options by_known c.args.self.now.parts (event_of c.args.event.now) (ap has_options (sym c.requires.octets) ∙ sym c.has_options.ensures ∙ c.if-has_options.true) in
+    record {
+      answer = ap (λ (s : Step Coverage). s.answer) (sym step);
+      state = ap (λ j. record { parts = c.args.self.now.parts; joined = j }) c.requires.joined ∙ ap (λ (s : Step Coverage). s.state) (sym step);
+    }
+
+pub returns-then-is_bad : goal.returns-then-is_bad
+returns-then-is_bad c =
+    let e = event_of c.args.event.now in
+    let parts = c.args.self.now.parts in
+    let options : has_options (octets_of e) ≡ false = ap has_options (sym c.requires.octets) ∙ sym c.has_options.ensures ∙ c.if-has_options.false in
+    let looked : place_of (name_in e) parts ≡ c.place_of-place.result =
+    ap (λ n. place_of n parts) (sym (c.name_of-name.ensures ∙ ap (name_of e.side) c.requires.octets))
+    ∙ ap (place_of c.name_of-name.result) (sym (c.deref.ensures.value ∙ ap (λ (s : State Coverage). s.parts) c.self.view_is))
+    ∙ sym c.place_of-place.ensures.place in
+    let bad : is_bad (known_at parts c.place_of-place.result) (fragment_in e) ≡ true =
+    ap (is_bad (known_at parts c.place_of-place.result)) (sym (c.of-fragment.ensures ∙ ap fragment_of c.requires.octets))
+    ∙ sym c.is_bad.ensures ∙ c.if-is_bad.true in
+    let step = step-bad parts e c.place_of-place.result options looked bad in
+    record {
+      answer = ap (λ (s : Step Coverage). s.answer) (sym step);
+      state = ap (λ j. record { parts = c.args.self.now.parts; joined = j }) c.requires.joined ∙ ap (λ (s : Step Coverage). s.state) (sym step);
+    }
+
+pub returns-in-None-2 : goal.returns-in-None-2
+returns-in-None-2 c =
+    let e = event_of c.args.event.now in
+    let parts = c.args.self.now.parts in
+    let options : has_options (octets_of e) ≡ false = ap has_options (sym c.requires.octets) ∙ sym c.has_options.ensures ∙ c.if-has_options.false in
+    let looked : place_of (name_in e) parts ≡ c.place_of-place.result =
+    ap (λ n. place_of n parts) (sym (c.name_of-name.ensures ∙ ap (name_of e.side) c.requires.octets))
+    ∙ ap (place_of c.name_of-name.result) (sym (c.deref.ensures.value ∙ ap (λ (s : State Coverage). s.parts) c.self.view_is))
+    ∙ sym c.place_of-place.ensures.place in
+    let good : is_bad (known_at parts c.place_of-place.result) (fragment_in e) ≡ false =
+    ap (is_bad (known_at parts c.place_of-place.result)) (sym (c.of-fragment.ensures ∙ ap fragment_of c.requires.octets))
+    ∙ sym c.is_bad.ensures ∙ c.if-is_bad.false in
+    let full : leb limit (length parts) ≡ true = le-leb limit (length parts) (omega (arith, c.len.ensures)) in
+    let step = step-full parts e c.place_of-place.result options looked good c.in-None-2.is full in
+    record {
+      answer = ap (λ (s : Step Coverage). s.answer) (sym step);
+      state = ap (λ j. record { parts = c.args.self.now.parts; joined = j }) c.requires.joined ∙ ap (λ (s : Step Coverage). s.state) (sym step);
+    }
+
 -- ## The datagram is there
+
+pub is_bad-requires : goal.is_bad-requires
+is_bad-requires c =
+    subst (λ (all : List (Part Coverage)). IfSome c.place_of-place.result (λ n. n < length all)) (c.deref.ensures.value ∙ ap (λ (s : State Coverage). s.parts) c.self.view_is) c.place_of-place.ensures.within
+
+pub put-requires : goal.put-requires
+put-requires c = record {
+  within = subst (λ (all : List (Part Coverage)). c.in-Some.place < length all) (c.deref.ensures.value ∙ ap (λ (s : State Coverage). s.parts) c.self.view_is) c.in-Some.ensures.within;
+  joined = c.requires.joined;
+  fragment = c.of-fragment.ensures ∙ ap fragment_of c.requires.octets;
+  good = ap (λ p. is_bad (known_at c.args.self.now.parts p) c.of-fragment.result) (sym c.in-Some.is) ∙ sym c.is_bad.ensures ∙ c.if-is_bad.false;
+}
 
 part : (c : goal.After-put) → Part Coverage
 part c = get_or c.args.self.now.parts c.in-Some.place (new_part c.name_of-name.result c.args.event.now.moment)
@@ -52,6 +110,19 @@ pub returns-in-Some-clause-state : goal.returns-in-Some-clause-state
 returns-in-Some-clause-state c = c.put.ensures.state (part c) (there c) ∙ ap (λ (s : Step Coverage). s.state) (step c)
 
 -- ## It begins
+
+pub put-requires-in-None : goal.put-requires-in-None
+put-requires-in-None c =
+    let parts = c.args.self.now.parts in
+    let new = new_part c.name_of-name.result c.args.event.now.moment in
+    let f = c.of-fragment.result in
+    let good : is_bad nothing f ≡ false = ap (λ p. is_bad (known_at parts p) f) (sym c.in-None.is) ∙ sym c.is_bad.ensures ∙ c.if-is_bad.false in
+    record {
+      within = omega (arith, c.begin-place.ensures.place, ap (λ (s : State Coverage). length s.parts) c.begin-place.ensures.state, length_push parts new);
+      joined = ap (λ (s : State Coverage). s.joined) c.begin-place.ensures.state ∙ c.requires.joined;
+      fragment = c.of-fragment.ensures ∙ ap fragment_of c.requires.octets;
+      good = good-last parts c.begin-place.new.self.parts c.begin-place.result new f (ap (λ (s : State Coverage). s.parts) c.begin-place.ensures.state) c.begin-place.ensures.place good;
+    }
 
 named : (c : goal.After-put-in-None) → c.name_of-name.result ≡ name_in (event_of c.args.event.now)
 named c = c.name_of-name.ensures ∙ ap (name_of c.args.event.now.side) c.requires.octets

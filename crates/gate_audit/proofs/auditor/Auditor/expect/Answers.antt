@@ -1,14 +1,8 @@
 use Rattle.std.proofs.Common.{◌≡◌, false, refl, ap, subst, sym, ◌∙◌}
-use Rattle.gate_base.specs.Events.{event_of}
-use Rattle.gate_base.specs.Tests.{first_that_holds}
-use Rattle.gate_model.specs.Frame.{datagram_in, kind_of}
-use Rattle.gate_model.specs.Held.{KeepsListed}
-use Rattle.gate_model.specs.Reading.{world_as}
-use Rattle.gate_model.specs.Verdict.{tests}
-use Rattle.gate_model.specs.World.{World, at_moment}
+use Rattle.gate_base.specs.Prelude.{event_of, first_that_holds}
+use Rattle.gate_model.specs.Prelude.{datagram_in, kind_of, KeepsListed, world_as, tests, World, at_moment}
 use Rattle.gate_model.proofs.ListsWorld.{moment_lists, next_lists}
-use Rattle.lawful_files.specs.Progress.{IsSound, begun}
-use Rattle.lawful_files.specs.Wanted.{Wanted}
+use Rattle.lawful_files.specs.Prelude.{IsSound, begun, Wanted}
 use Rattle.lawful_files.proofs.SoundWanted.{wanted_sound}
 use Rattle.audit_records.specs.Kept.{Expecting}
 use Rattle.audit_sessions.specs.Heard.{HeardSession, heard_rules, session_in}

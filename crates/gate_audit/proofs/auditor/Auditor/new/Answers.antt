@@ -1,6 +1,5 @@
 use Rattle.std.proofs.Common.{sym, subst}
-use Rattle.gate_model.specs.Held.{KeepsListed}
-use Rattle.gate_model.specs.World.{World}
+use Rattle.gate_model.specs.Prelude.{KeepsListed, World}
 use Rattle.gate_model.proofs.ListsWorld.{opening_lists}
 use Rattle.audit_sessions.specs.Heard.{HeardSession, heard_rules}
 use Rattle.gate_audit.proofs.auditor.Auditor.new.Goals as goal

@@ -1,6 +1,5 @@
 use Rattle.std.proofs.Common.{sym, subst}
-use Rattle.gate_model.specs.World.{World}
-use Rattle.gate_model.specs.Held.{KeepsListed}
+use Rattle.gate_model.specs.Prelude.{World, KeepsListed}
 use Rattle.gate_model.proofs.ListsWorld.{opening_lists}
 use Rattle.gate_sessions.specs.Compact.{CompactSession, compact_rules}
 use Rattle.gate_core.proofs.gate.Gate.new.Goals as goal

@@ -1,12 +1,7 @@
 use Rattle.std.proofs.Common.{◌≡◌, ◌∙◌, ap, subst, sym}
-use Rattle.gate_base.specs.Events.{event_of}
-use Rattle.gate_base.specs.Tests.{first_that_holds}
+use Rattle.gate_base.specs.Prelude.{event_of, first_that_holds}
 use Rattle.gate_settings.specs.declared.settings.Settings.{Settings}
-use Rattle.gate_model.specs.Frame.{datagram_in, kind_of}
-use Rattle.gate_model.specs.Held.{KeepsListed}
-use Rattle.gate_model.specs.Step.{next}
-use Rattle.gate_model.specs.Verdict.{tests}
-use Rattle.gate_model.specs.World.{World, at_moment}
+use Rattle.gate_model.specs.Prelude.{datagram_in, kind_of, KeepsListed, next, tests, World, at_moment}
 use Rattle.gate_model.proofs.ListsWorld.{moment_lists, next_lists}
 use Rattle.gate_sessions.specs.Compact.{CompactSession, compact_rules}
 use Rattle.gate_sessions.proofs.Listing.{kept_have_lists}

@@ -1,5 +1,4 @@
-use Rattle.std.proofs.Common.{ℕ, List, [], append-nil, arith, length, subst}
-use Rattle.std.proofs.lemmas.List.{take_all}
+use Rattle.std.proofs.Common.{ℕ, List, [], append-nil, arith, length, subst, take_all}
 use Rattle.std.proofs.lemmas.Result.{err_from_is_err_and}
 use Rattle.gate_desk.specs.Gathering.{TakesPiece, Waits}
 use Rattle.gate_desk.proofs.FileLaws.{untold_writes_same}

@@ -1,5 +1,5 @@
 use Rattle.std.proofs.Common.{◌+◌, sym, ap, ◌∙◌}
-use Rattle.binding_table.specs.Bindings.{cross}
+use Rattle.binding_table.specs.Prelude.{cross}
 use Rattle.gate_payloads.proofs.Crossings.{stays}
 use Rattle.gate_payloads.proofs.addresses.Way.use_both.Goals as goal
 

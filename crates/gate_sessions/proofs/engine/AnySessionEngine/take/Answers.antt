@@ -1,13 +1,11 @@
 use Rattle.std.proofs.Common.{◌≡◌, Some, List, sym, ap, subst, ◌∙◌}
 use Rattle.gate_base.specs.declared.address.Addr.{Addr}
-use Rattle.dialogue.specs.Learning.{Entry, AreImages}
-use Rattle.dns_stream.specs.Images.{dns_units}
-use Rattle.dns_plans.specs.Steps.{entered_all}
-use Rattle.gate_model.specs.Step.{stream_out}
-use Rattle.gate_model.specs.Stream.{segment_of}
-use Rattle.gate_model.specs.World.{Tracked}
+use Rattle.dialogue.specs.Prelude.{Entry, AreImages}
+use Rattle.dns_stream.specs.Prelude.{dns_units}
+use Rattle.dns_plans.specs.Prelude.{entered_all}
+use Rattle.gate_model.specs.Prelude.{stream_out, segment_of, Tracked}
 use Rattle.gate_sessions.specs.Compact.{CompactSession, compact_rules}
-use Rattle.gate_payloads.specs.Ways.{image_by}
+use Rattle.gate_payloads.specs.Prelude.{image_by}
 use Rattle.gate_base.proofs.Options.{on_err}
 use Rattle.gate_base.specs.declared.host.Host.{Host}
 use Rattle.event_steps.proofs.SteppedSessions.{IsSeen, seen_as, called_is, next_is, waits_is}

@@ -1,6 +1,5 @@
-use Rattle.std.proofs.Common.{ap, subst, sym, ◌∙◌}
-use Rattle.std.specs.Prelude.{None}
-use Rattle.compact_stream.specs.Sessions.{CompactState}
+use Rattle.std.proofs.Common.{ap, subst, sym, ◌∙◌, None}
+use Rattle.compact_stream.specs.Prelude.{CompactState}
 use Rattle.gate_sessions.specs.Directions.{DnsKept, dns_session}
 use Rattle.gate_sessions.specs.Sessions.{IsSession}
 use Rattle.gate_sessions.proofs.SessionLemmas.{made_session}

@@ -1,16 +1,15 @@
-use Rattle.std.proofs.Common.{◌≡◌, ◌≤◌, List, length, refl, ap, subst, sym, ◌∙◌}
+use Rattle.std.proofs.Common.{◌≡◌, ◌≤◌, List, length, refl, ap, subst, sym, ◌∙◌, Option, None}
 use Rattle.std.proofs.lemmas.Result.{on_err_weaker}
-use Rattle.std.specs.Prelude.{Option, None}
 use Rattle.gate_base.specs.declared.address.Addr.{Addr}
 use Rattle.gate_base.specs.declared.event.Pair.{Pair}
 use Rattle.gate_base.specs.declared.host.Host.{Host}
 use Rattle.gate_base.specs.declared.host.Host.TheVariants.{Client, Server}
-use Rattle.dialogue.specs.Learning.{Entry, AreImages}
-use Rattle.dns_stream.specs.Images.{dns_units}
-use Rattle.stream_model.specs.Session.{Segment}
-use Rattle.gate_model.specs.Stream.{segment_of, sent_as}
+use Rattle.dialogue.specs.Prelude.{Entry, AreImages}
+use Rattle.dns_stream.specs.Prelude.{dns_units}
+use Rattle.stream_model.specs.Prelude.{Segment}
+use Rattle.gate_model.specs.Prelude.{segment_of, sent_as}
 use Rattle.gate_sessions.specs.Compact.{CompactSession, compact_rules}
-use Rattle.dns_plans.specs.Steps.{entered_all}
+use Rattle.dns_plans.specs.Prelude.{entered_all}
 use Rattle.gate_sessions.specs.Directions.{DnsKept, dns_session, listed_of}
 use Rattle.gate_sessions.specs.Sessions.{session_of, IsOfPair, IsSession, MayWantIn}
 use Rattle.gate_sessions.specs.declared.kinds.SessionKind.{SessionKind}

@@ -1,6 +1,6 @@
 use Rattle.std.proofs.Common.{List, length, subst, ap, ◌∙◌}
-use Rattle.dialogue.specs.Learning.{Entry}
-use Rattle.stream_gate.specs.Listed.{entries_of}
+use Rattle.dialogue.specs.Prelude.{Entry}
+use Rattle.stream_gate.specs.Prelude.{entries_of}
 use Rattle.gate_sessions.specs.Directions.{DnsKept}
 use Rattle.gate_sessions.specs.Sessions.{session_of, IsSession}
 use Rattle.gate_sessions.specs.declared.kinds.SessionKind.{SessionKind}

@@ -4,12 +4,10 @@ use Rattle.gate_base.specs.declared.event.Pair.{Pair}
 use Rattle.gate_base.specs.declared.host.Host.{Host}
 use Rattle.gate_base.specs.declared.host.Host.TheVariants.{Client, Server}
 use Rattle.dns_stream.specs.Ends.{rest-short}
-use Rattle.stream_model.specs.Session.{Segment, arrival, segment_in}
-use Rattle.stream_model.specs.Refusals.{is_data}
-use Rattle.compact_stream.specs.Outs.{start_kept}
-use Rattle.compact_stream.specs.Sessions.{sender_kept}
+use Rattle.stream_model.specs.Prelude.{Segment, arrival, segment_in, is_data}
+use Rattle.compact_stream.specs.Prelude.{start_kept, sender_kept}
 use Rattle.gate_sessions.specs.Compact.{CompactSession, kept_units}
-use Rattle.dns_plans.specs.Plans.{whole_units}
+use Rattle.dns_plans.specs.Prelude.{whole_units}
 use Rattle.gate_sessions.specs.Directions.{DnsKept, dns_session}
 use Rattle.gate_sessions.specs.Sessions.{session_of, IsSession}
 use Rattle.gate_sessions.specs.declared.kinds.SessionKind.{SessionKind}

@@ -1,7 +1,6 @@
-use Rattle.std.proofs.Common.{◌≡◌, ◌+◌, ◌≤◌, length, take, subst, sym, arith}
-use Rattle.std.proofs.lemmas.List.{length-take-le}
+use Rattle.std.proofs.Common.{◌≡◌, ◌+◌, ◌≤◌, length, take, subst, sym, arith, length-take-le}
 use Rattle.gate_desk.specs.Outside.{Takes}
-use Rattle.pcap_files.specs.Capture.{Packet}
+use Rattle.pcap_files.specs.Prelude.{Packet}
 use Rattle.pcap_files.proofs.Steps.{same_reading}
 use Rattle.pcap_files.proofs.reader.CaptureReader.advance.Goals as goal
 

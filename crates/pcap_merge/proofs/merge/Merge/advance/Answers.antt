@@ -1,5 +1,5 @@
 use Rattle.std.proofs.Common.{◌≡◌, Some, None, option_map, sym, refl, ap, ◌∙◌}
-use Rattle.pcap_merge.specs.Order.{earlier}
+use Rattle.pcap_merge.specs.Prelude.{earlier}
 use Rattle.pcap_merge.proofs.Steps.{gives, finishes, stops}
 use Rattle.pcap_merge.proofs.merge.Merge.advance.Goals as goal
 

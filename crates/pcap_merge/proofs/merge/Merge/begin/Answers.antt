@@ -1,7 +1,6 @@
 use Rattle.std.proofs.Common.{Err, subst, sym}
 use Rattle.gate_base.specs.declared.side.Side.TheVariants.{Left, Right}
-use Rattle.pcap_merge.specs.Merge.{Begins}
-use Rattle.pcap_merge.specs.Stops.{StopLeavesCounts, stop_of}
+use Rattle.pcap_merge.specs.Prelude.{Begins, StopLeavesCounts, stop_of}
 use Rattle.pcap_merge.proofs.Counts.{leaves_stopped, stop_leaves_on}
 use Rattle.pcap_merge.proofs.Starts.{stops_left, stops_right, begins}
 use Rattle.pcap_merge.proofs.merge.Merge.begin.Goals as goal

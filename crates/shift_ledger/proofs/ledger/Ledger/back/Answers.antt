@@ -1,8 +1,5 @@
-use Rattle.std.proofs.Common.{◌≡◌, ◌+◌, ◌-◌, ℕ, length, drop, sym, ◌∙◌, ap, subst, rules}
-use Rattle.std.specs.Prelude.{Bool, nat_lt, filter}
-use Rattle.shift_ledger.specs.Answers.{back_walk, back_by}
-use Rattle.shift_ledger.specs.Kept.{Kept, KeptUnit, StandsFor}
-use Rattle.shift_ledger.specs.Inside.{kept_of, unit_of}
+use Rattle.std.proofs.Common.{◌≡◌, ◌+◌, ◌-◌, ℕ, length, drop, sym, ◌∙◌, ap, subst, rules, Bool, nat_lt, filter}
+use Rattle.shift_ledger.specs.Prelude.{back_walk, back_by, Kept, KeptUnit, StandsFor, kept_of, unit_of}
 use Rattle.shift_ledger.proofs.Order.{stops_at, stops_nowhere, entry_at, entry_none}
 use Rattle.shift_ledger.proofs.Walks.{back_walk-step, back_walk-none, back_walk-kept}
 use Rattle.shift_ledger.proofs.ledger.Ledger.back.Goals as goal

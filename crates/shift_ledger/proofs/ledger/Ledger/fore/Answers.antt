@@ -1,8 +1,5 @@
-use Rattle.std.proofs.Common.{◌≡◌, ◌+◌, ◌-◌, ℕ, drop, sym, ◌∙◌, ap, subst, rules}
-use Rattle.std.specs.Prelude.{Bool, nat_lt, filter}
-use Rattle.shift_ledger.specs.Answers.{fore_walk, fore_by}
-use Rattle.shift_ledger.specs.Kept.{Kept, KeptUnit, StandsFor}
-use Rattle.shift_ledger.specs.Inside.{kept_of, unit_of}
+use Rattle.std.proofs.Common.{◌≡◌, ◌+◌, ◌-◌, ℕ, drop, sym, ◌∙◌, ap, subst, rules, Bool, nat_lt, filter}
+use Rattle.shift_ledger.specs.Prelude.{fore_walk, fore_by, Kept, KeptUnit, StandsFor, kept_of, unit_of}
 use Rattle.shift_ledger.proofs.Order.{stops_at, stops_nowhere, entry_at, entry_none}
 use Rattle.shift_ledger.proofs.Walks.{fore_walk-step, fore_walk-none, fore_walk-kept}
 use Rattle.shift_ledger.proofs.ledger.Ledger.fore.Goals as goal

@@ -1,9 +1,5 @@
-use Rattle.std.proofs.Common.{◌≡◌, ◌+◌, ◌-◌, ℕ, true, false, length, drop, sym, ◌∙◌, ap, subst, arith, rules}
-use Rattle.std.specs.Prelude.{Bool, nat_lt, nat_le, cond, filter}
-use Rattle.std.proofs.lemmas.Bool.{lt-ltb, le-ltb}
-use Rattle.shift_ledger.specs.Answers.{rear_walk, rear_by}
-use Rattle.shift_ledger.specs.Kept.{Kept, KeptUnit, StandsFor}
-use Rattle.shift_ledger.specs.Inside.{kept_of, unit_of}
+use Rattle.std.proofs.Common.{◌≡◌, ◌+◌, ◌-◌, ℕ, true, false, length, drop, sym, ◌∙◌, ap, subst, arith, rules, Bool, nat_lt, nat_le, cond, filter, lt-ltb, le-ltb}
+use Rattle.shift_ledger.specs.Prelude.{rear_walk, rear_by, Kept, KeptUnit, StandsFor, kept_of, unit_of}
 use Rattle.shift_ledger.proofs.Order.{stops_at, stops_nowhere, entry_at, entry_none}
 use Rattle.shift_ledger.proofs.RearWalk.{rear_walk-step, rear_walk-none, rear_walk-kept}
 use Rattle.shift_ledger.proofs.ledger.Ledger.rear.Goals as goal

@@ -1,9 +1,7 @@
-use Rattle.std.proofs.Common.{◌≡◌, ◌+◌, length, drop, subst, rules, tests}
-use Rattle.std.specs.Prelude.{Bool, filter, nat_lt, nat_le}
+use Rattle.std.proofs.Common.{◌≡◌, ◌+◌, length, drop, subst, rules, tests, Bool, filter, nat_lt, nat_le}
 use Rattle.std.proofs.lemmas.List.Sorted.{IsPartitionPoint-from_clause, IsPartitionedBy-leb}
 use Rattle.shift_ledger.specs.declared.ledger.ChangedUnit.{ChangedUnit}
-use Rattle.shift_ledger.specs.Kept.{Kept, KeptUnit}
-use Rattle.shift_ledger.specs.Inside.{unit_of}
+use Rattle.shift_ledger.specs.Prelude.{Kept, KeptUnit, unit_of}
 use Rattle.shift_ledger.proofs.Order.{from_point, images_rise, lt_not_le}
 use Rattle.shift_ledger.proofs.ledger.Ledger.whole_below.Goals as goal
 

@@ -1,7 +1,6 @@
 use Rattle.std.proofs.Common.{arith, sym, subst, ◌∙◌, ap}
-use Rattle.dialogue.specs.Learning.{AreImages}
-use Rattle.stream_gate.specs.Gates.{GateKept}
-use Rattle.stream_gate.specs.Directions.{DirectionKept}
+use Rattle.dialogue.specs.Prelude.{AreImages}
+use Rattle.stream_gate.specs.Prelude.{GateKept, DirectionKept}
 use Rattle.stream_gate.proofs.SteppedGate.{gate_by}
 use Rattle.stream_gate.proofs.gate.StreamGate.expect.Goals as goal
 

@@ -1,10 +1,9 @@
 use Rattle.std.proofs.Common.{arith, ◌≡◌, min, length}
 use Rattle.gate_base.specs.declared.host.Host.{Host}
 use Rattle.gate_base.specs.declared.host.Host.TheVariants.{Client, Server}
-use Rattle.stream_model.specs.Session.{segment_in}
-use Rattle.compact_stream.specs.Outs.{start_kept}
-use Rattle.compact_stream.specs.Sessions.{sender_kept}
-use Rattle.stream_gate.specs.Gates.{GateKept}
+use Rattle.stream_model.specs.Prelude.{segment_in}
+use Rattle.compact_stream.specs.Prelude.{start_kept, sender_kept}
+use Rattle.stream_gate.specs.Prelude.{GateKept}
 use Rattle.stream_gate.proofs.Delegated.{at_host}
 use Rattle.stream_gate.proofs.gate.StreamGate.repeated.Goals as goal
 

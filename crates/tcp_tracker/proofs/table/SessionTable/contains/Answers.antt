@@ -1,8 +1,6 @@
-use Rattle.std.proofs.Common.{◌∙◌, sym, ap}
-use Rattle.std.specs.Prelude.{is_some}
+use Rattle.std.proofs.Common.{◌∙◌, sym, ap, is_some}
 use Rattle.gate_base.proofs.Options.{some_mapped}
-use Rattle.tcp_tracker.specs.Connections.{connection_of, seen_as}
-use Rattle.tcp_tracker.specs.Joined.{inline}
+use Rattle.tcp_tracker.specs.Prelude.{connection_of, seen_as, inline}
 use Rattle.tcp_tracker.proofs.Joining.{connection_joined}
 use Rattle.tcp_tracker.proofs.table.SessionTable.contains.Goals as goal
 

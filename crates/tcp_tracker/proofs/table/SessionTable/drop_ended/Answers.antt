@@ -1,8 +1,6 @@
-use Rattle.std.proofs.Common.{◌≡◌, ◌∙◌, ap, sym, subst}
-use Rattle.std.specs.Prelude.{List, ℕ}
-use Rattle.tcp_tracker.specs.Connections.{live}
+use Rattle.std.proofs.Common.{◌≡◌, ◌∙◌, ap, sym, subst, List, ℕ}
+use Rattle.tcp_tracker.specs.Prelude.{live, IsJoined, joined}
 use Rattle.tcp_tracker.specs.declared.connection.Connection.{Connection}
-use Rattle.tcp_tracker.specs.Joined.{IsJoined, joined}
 use Rattle.tcp_tracker.proofs.Replacing.{removed_with, removed_plain}
 use Rattle.tcp_tracker.proofs.Expiring.{live_joined, filled_at, session_at, dropped}
 use Rattle.tcp_tracker.proofs.table.SessionTable.drop_ended.Goals as goal

@@ -1,5 +1,5 @@
 use Rattle.std.specs.Prelude.{◌≡◌, length}
-use Rattle.tcp_tracker.specs.Connections.{live}
+use Rattle.tcp_tracker.specs.Prelude.{live}
 use Rattle.tcp_tracker.proofs.table.SessionTable.expire.Given as goal
 
 abbrev pub invariant-loop-now : goal.invariant-loop-now

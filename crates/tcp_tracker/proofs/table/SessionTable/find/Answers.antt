@@ -1,5 +1,4 @@
-use Rattle.std.proofs.Common.{ap, sym, ◌∙◌, Some, option_map}
-use Rattle.std.specs.Prelude.{option_and_then}
+use Rattle.std.proofs.Common.{ap, sym, ◌∙◌, Some, option_map, option_and_then}
 use Rattle.slab.specs.Slab.{get}
 use Rattle.tcp_tracker.specs.declared.connection.Conn.{Conn}
 use Rattle.tcp_tracker.proofs.Joining.{found_joined}

@@ -1,7 +1,6 @@
 use Rattle.std.proofs.Common.{◌≡◌, ◌<◌, ◌∙◌, None, length, sym, ap, arith}
 use Rattle.std.proofs.lemmas.List.{length-map}
-use Rattle.tcp_tracker.specs.Connections.{place_of}
-use Rattle.tcp_tracker.specs.Joined.{inline, joined}
+use Rattle.tcp_tracker.specs.Prelude.{place_of, inline, joined}
 use Rattle.tcp_tracker.proofs.Joining.{noted_joined, noted_is, timeout_joined, place_joined_too}
 use Rattle.tcp_tracker.proofs.table.SessionTable.note.Goals as goal
 

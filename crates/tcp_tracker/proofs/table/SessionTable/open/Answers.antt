@@ -1,8 +1,6 @@
-use Rattle.std.proofs.Common.{◌<◌, ◌∙◌, ap, arith}
+use Rattle.std.proofs.Common.{◌<◌, ◌∙◌, ap, arith, count_by}
 use Rattle.std.proofs.lemmas.List.Sums.{length-filter}
-use Rattle.std.specs.Prelude.{count_by}
-use Rattle.tcp_tracker.specs.Connections.{is_tracked}
-use Rattle.tcp_tracker.specs.Joined.{joined}
+use Rattle.tcp_tracker.specs.Prelude.{is_tracked, joined}
 use Rattle.tcp_tracker.proofs.Joining.{opened, opened_joined, tracked_joined, length_slots}
 use Rattle.tcp_tracker.proofs.table.SessionTable.open.Goals as goal
 

@@ -1,5 +1,5 @@
 use Rattle.std.proofs.Common.{◌∙◌, sym, ap}
-use Rattle.tcp_tracker.specs.Joined.{joined}
+use Rattle.tcp_tracker.specs.Prelude.{joined}
 use Rattle.tcp_tracker.proofs.Replacing.{removed_with, removed_plain}
 use Rattle.tcp_tracker.proofs.table.SessionTable.remove.Goals as goal
 

@@ -1,5 +1,4 @@
-use Rattle.std.proofs.Common.{◌∙◌, sym, ap}
-use Rattle.std.specs.Prelude.{option_and_then}
+use Rattle.std.proofs.Common.{◌∙◌, sym, ap, option_and_then}
 use Rattle.slab.specs.Slab.{get}
 use Rattle.tcp_tracker.proofs.Joining.{session_joined}
 use Rattle.tcp_tracker.proofs.table.SessionTable.session.Goals as goal

@@ -1,8 +1,6 @@
-use Rattle.std.proofs.Common.{◌∙◌, sym}
-use Rattle.std.proofs.Common.{ap, inr}
+use Rattle.std.proofs.Common.{◌∙◌, sym, ap, inr, option_and_then}
 use Rattle.std.specs.Option.{ghost_name_of}
 use borrow.Follows.Closed.{read_of}
-use Rattle.std.specs.Prelude.{option_and_then}
 use Rattle.slab.specs.Slab.{get}
 use Rattle.tcp_tracker.proofs.Joining.{session_joined}
 use Rattle.tcp_tracker.proofs.Lending.{slot_filled, lent_joined, lent_each}

@@ -1,7 +1,6 @@
 use Rattle.std.proofs.Common.{◌∙◌, sym}
 use Rattle.std.proofs.lemmas.List.Sums.{length-filter}
-use Rattle.tcp_tracker.specs.Connections.{is_tracked}
-use Rattle.tcp_tracker.specs.Joined.{joined}
+use Rattle.tcp_tracker.specs.Prelude.{is_tracked, joined}
 use Rattle.tcp_tracker.proofs.Joining.{length_slots, tracked_joined}
 use Rattle.tcp_tracker.proofs.table.SessionTable.sessions.Goals as goal
 

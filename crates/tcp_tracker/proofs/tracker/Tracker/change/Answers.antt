@@ -1,11 +1,10 @@
 use Rattle.std.proofs.Common.{◌≡◌, ◌∙◌, ◌<◌, ap, sym, subst, Option, IfSome, Some, ℕ, arith, length}
 use Rattle.std.proofs.lemmas.List.{length-map}
 use Rattle.gate_base.proofs.Options.{none_there}
-use Rattle.expiring_table.specs.Rows.{Table, row_of}
+use Rattle.expiring_table.specs.Prelude.{Table, row_of}
 use Rattle.tcp_tracker.specs.declared.connection.ConnKey.{ConnKey}
 use Rattle.tcp_tracker.specs.declared.connection.Connection.{Connection}
-use Rattle.tcp_tracker.specs.Connections.{place_of, changed}
-use Rattle.tcp_tracker.specs.Filed.{IsWhole}
+use Rattle.tcp_tracker.specs.Prelude.{place_of, changed, IsWhole}
 use Rattle.tcp_tracker.proofs.Names.{row_there, nowhere, set_in, push_in, filed_set, connections_in}
 use Rattle.tcp_tracker.proofs.tracker.Tracker.change.Goals as goal
 

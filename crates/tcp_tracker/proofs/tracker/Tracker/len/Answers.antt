@@ -1,6 +1,6 @@
 use Rattle.std.proofs.Common.{ℕ, List, subst}
 use Rattle.tcp_tracker.specs.declared.connection.Connection.{Connection}
-use Rattle.tcp_tracker.specs.Connections.{AreNamedOnce}
+use Rattle.tcp_tracker.specs.Prelude.{AreNamedOnce}
 use Rattle.tcp_tracker.proofs.Names.{named_once}
 use Rattle.tcp_tracker.proofs.tracker.Tracker.len.Goals as goal
 

@@ -1,8 +1,8 @@
 use Rattle.std.proofs.Common.{ℕ, Bor, ◌∙◌, ap, sym, option_map}
 use Rattle.expiring_table.specs.declared.row.Row.{Row}
-use Rattle.expiring_table.specs.Rows.{row_of}
+use Rattle.expiring_table.specs.Prelude.{row_of}
 use Rattle.tcp_tracker.specs.declared.connection.Connection.{Connection}
-use Rattle.tcp_tracker.specs.Connections.{connection_of}
+use Rattle.tcp_tracker.specs.Prelude.{connection_of}
 use Rattle.tcp_tracker.proofs.Names.{found_named}
 use Rattle.tcp_tracker.proofs.tracker.Tracker.located.Goals as goal
 

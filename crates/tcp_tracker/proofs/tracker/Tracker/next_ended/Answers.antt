@@ -1,9 +1,8 @@
 use Rattle.std.proofs.Common.{◌≡◌, ◌∙◌, ap, sym, subst, ℕ, List}
 use Rattle.std.proofs.lemmas.List.Elements.{All-same}
-use Rattle.expiring_table.specs.Rows.{Table, living, without}
+use Rattle.expiring_table.specs.Prelude.{Table, living, without}
 use Rattle.tcp_tracker.specs.declared.connection.Connection.{Connection}
-use Rattle.tcp_tracker.specs.Connections.{live, IsEnded}
-use Rattle.tcp_tracker.specs.Filed.{IsFiled}
+use Rattle.tcp_tracker.specs.Prelude.{live, IsEnded, IsFiled}
 use Rattle.tcp_tracker.proofs.Names.{connections_in}
 use Rattle.tcp_tracker.proofs.Living.{ended_in, filed_without, live_in}
 use Rattle.tcp_tracker.proofs.tracker.Tracker.next_ended.Goals as goal

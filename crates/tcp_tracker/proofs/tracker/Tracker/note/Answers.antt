@@ -1,6 +1,6 @@
 use Rattle.std.proofs.Common.{ℕ, ◌≡◌, ◌∙◌, ap, sym, subst, Option, IfSome, None, option_map}
 use Rattle.tcp_tracker.specs.declared.connection.Connection.{Connection}
-use Rattle.tcp_tracker.specs.Connections.{timeout_or_short, kept_or_begun, with_flags}
+use Rattle.tcp_tracker.specs.Prelude.{timeout_or_short, kept_or_begun, with_flags}
 use Rattle.tcp_tracker.proofs.Names.{timeout_noted, name_after, name_of_found}
 use Rattle.tcp_tracker.proofs.tracker.Tracker.note.Goals as goal
 

@@ -1,8 +1,7 @@
 use Rattle.std.proofs.Common.{◌∙◌, ap, sym, subst, None, ℕ}
-use Rattle.expiring_table.specs.Rows.{Table, without}
+use Rattle.expiring_table.specs.Prelude.{Table, without}
 use Rattle.tcp_tracker.specs.declared.connection.Connection.{Connection}
-use Rattle.tcp_tracker.specs.Connections.{place_of, changed}
-use Rattle.tcp_tracker.specs.Filed.{IsWhole}
+use Rattle.tcp_tracker.specs.Prelude.{place_of, changed, IsWhole}
 use Rattle.tcp_tracker.proofs.Names.{connections_in, dropped_named}
 use Rattle.tcp_tracker.proofs.Living.{filed_without}
 use Rattle.tcp_tracker.proofs.tracker.Tracker.remove.Goals as goal

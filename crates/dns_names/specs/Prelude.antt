@@ -1,0 +1,12 @@
+-- The names of this crate that others cite most, passed on from one place. Declares nothing.
+pub use Rattle.dns_names.specs.Names.{AtLabel, AtPointer, AtRoot, IsLabel, IsName, IsSpelled, Label, NameAt, Nothing, Pointer, Root, Stands, labels_in, piece_at, spelled, spelled_label}
+pub use Rattle.dns_names.specs.Walk.{name_at}
+pub use Rattle.dns_names.specs.Memo.{AreKnown, Here, IsMemo, Joins, Knows, Leads, Trail, known_by, octets_of}
+pub use Rattle.dns_names.specs.Stops.{Fails, ReturnsRead}
+pub use Rattle.dns_names.specs.Ends.{end_cmp, key_of, turned, worth}
+pub use Rattle.dns_names.specs.Spelling.{Added, BeginsWith, Start, Text, add, found, pointer, put_name, spell, spell_by, with_start}
+pub use Rattle.dns_names.specs.Writers.{GrewBy, IsIndex, starts_in}
+pub use Rattle.dns_names.specs.Longest.{Ends, EndsAt, IsLongest, skipped}
+pub use Rattle.dns_names.specs.Texts.{nothing}
+pub use Rattle.dns_names.specs.Reverse.{full_reverse, numbers, with_address}
+pub use Rattle.dns_names.specs.Octets.{behind, label_in, reverse_in}
