@@ -4,7 +4,8 @@ use Rattle.gate_desk.specs.Outside.{Outside}
 use Rattle.gate_report.specs.declared.line.Line.{Line}
 use Rattle.run_setup.specs.declared.status.Status.{Status}
 use Rattle.run_setup.specs.declared.status.Status.TheVariants.{Done}
-use Rattle.run_setup.specs.Prelude.{Names, Tells, TellsLine}
+use Rattle.run_setup.specs.Prelude.{Tells, TellsLine}
+use Rattle.run_setup.specs.RunNames.{Names}
 use Rattle.gateway.specs.Prelude.{IsRun, Runs, TookForWritten}
 use Rattle.gate_command.specs.Answers.{IsDoneRun, IsToldRun, AnswersRun}
 use Rattle.gateway.proofs.Promises.{promise_kept}

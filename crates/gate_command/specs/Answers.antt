@@ -3,7 +3,8 @@ use Rattle.std.specs.Prelude.{◌≡◌, ℕ, List}
 use Rattle.gate_desk.specs.Outside.{Outside}
 use Rattle.run_setup.specs.declared.status.Status.{Status}
 use Rattle.run_setup.specs.declared.status.Status.TheVariants.{Done, Usage, Unlawful}
-use Rattle.run_setup.specs.Prelude.{TellsLine, Names, Command}
+use Rattle.run_setup.specs.Prelude.{TellsLine, Command}
+use Rattle.run_setup.specs.RunNames.{Names}
 use Rattle.gateway.specs.Prelude.{IsRun, IsPromised, TookForWritten, IsMake}
 use Rattle.run_setup.specs.AuditNames.{Names as AuditNames}
 use Rattle.gateway_audit.specs.Audits.{IsAudit, TookForEvents}

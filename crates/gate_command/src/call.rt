@@ -2,7 +2,8 @@
 ghost use Rattle.std.specs.Prelude.{◌≤◌, map};
 ghost use Rattle.std.specs.String.{string_bytes};
 ghost use Rattle.run_setup.specs.RunNames.{names_of};
-ghost use Rattle.run_setup.specs.Prelude.{command_of, names_of as audit_names_of};
+ghost use Rattle.run_setup.specs.Prelude.{command_of};
+ghost use Rattle.run_setup.specs.AuditNames.{names_of as audit_names_of};
 ghost use Rattle.gate_command.specs.Answers.{Answers, AnswersRun, AnswersMake, AnswersAudit};
 
 use gate_desk::Desk;

@@ -11,7 +11,8 @@ use Rattle.pcap_files.specs.declared.fault.CaptureFault.{CaptureFault}
 use Rattle.pcap_merge.specs.Prelude.{Done as BothEnded, Fault as EndsFaulty}
 use Rattle.run_setup.specs.declared.status.Status.{Status}
 use Rattle.run_setup.specs.declared.status.Status.TheVariants.{Done, Usage, SettingsRefused, CaptureRefused, ReadFault, WriteFault, OpenFault, OutOfMemory, Unlawful}
-use Rattle.run_setup.specs.Prelude.{IsAccepted, events_in, NoneRose, IsUnlessMemory, Names}
+use Rattle.run_setup.specs.Prelude.{IsAccepted, events_in, NoneRose, IsUnlessMemory}
+use Rattle.run_setup.specs.RunNames.{Names}
 use Rattle.run_setup.proofs.Beginning.{at_told, no_fault, same_fault, no_end, same_end}
 use Rattle.gateway.specs.Decided.{IsRunOf}
 use Rattle.gateway.specs.Prelude.{IsMake}

@@ -12,7 +12,8 @@ use Rattle.gate_workload.specs.declared.workload.Workload.{Workload}
 use Rattle.gate_workload.specs.Workloads.{workload}
 use Rattle.run_setup.specs.declared.status.Status.{Status}
 use Rattle.run_setup.specs.declared.status.Status.TheVariants.{Done, SettingsRefused, CaptureRefused, ReadFault, WriteFault, OpenFault, OutOfMemory}
-use Rattle.run_setup.specs.Prelude.{Names, make_starts, StartsAll}
+use Rattle.run_setup.specs.Prelude.{StartsAll}
+use Rattle.run_setup.specs.RunNames.{Names, make_starts}
 use Rattle.gateway.specs.Prelude.{WritesPieces, wrote_pieces, WritesAll, IsFront, workload_in, IsLineOf, IsMake, Runs}
 use Rattle.gateway.specs.Making.{made_piece}
 use Rattle.gateway.proofs.Accepted.{never_refused, never_faulty}

@@ -21,7 +21,8 @@ use Rattle.gate_model.specs.Prelude.{whole_rules, WholeSession, next, out, verdi
 use Rattle.gate_model.proofs.Promises.{promised}
 use Rattle.run_setup.specs.declared.status.Status.{Status}
 use Rattle.run_setup.specs.declared.status.Status.TheVariants.{Done, CaptureRefused, ReadFault, WriteFault, OutOfMemory}
-use Rattle.run_setup.specs.Prelude.{Names, IsAccepted, events_in}
+use Rattle.run_setup.specs.Prelude.{IsAccepted, events_in}
+use Rattle.run_setup.specs.RunNames.{Names}
 use Rattle.gateway.specs.Prelude.{Piece, IsFront, wrote_pieces, State, opening, after_one, after, arrivals_by, sent, event_piece, given_by, given_by_all, ended_by, heads, files, Wants, outputs_of, IsRun, IsPromised}
 use Rattle.gateway.specs.Machine.{given_by_merged}
 use Rattle.gateway.specs.Promise.{promised_of, EachStands, KeepsPromise}

@@ -16,7 +16,8 @@ use Rattle.gate_report.specs.declared.totals.Totals.{Totals}
 use Rattle.run_setup.specs.declared.status.Status.{Status}
 use Rattle.run_setup.specs.declared.status.Status.TheVariants.{Done, Usage, SettingsRefused, CaptureRefused, ReadFault, WriteFault, OpenFault, OutOfMemory, Unlawful}
 use Rattle.gateway.specs.Prelude.{TookForWritten, WritesPieces, State, frames_of, heads, line_piece, Prepared, Readied, WritesLastLine, Handles, OfEvents, state_of, Piece, IsFront, wrote_pieces}
-use Rattle.run_setup.specs.Prelude.{Names, first_starts, output_starts, TookInputs}
+use Rattle.run_setup.specs.Prelude.{TookInputs}
+use Rattle.run_setup.specs.RunNames.{Names, first_starts, output_starts}
 use Rattle.gateway.specs.Ends.{StandWritten}
 use Rattle.gateway.specs.Phases.{TookFew}
 use Rattle.run_setup.proofs.Inputs.{captures_later, captures_read, inputs_later, inputs_on}

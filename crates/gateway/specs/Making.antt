@@ -10,7 +10,8 @@ use Rattle.gate_workload.specs.Workloads.{workload}
 use Rattle.pcap_merge.specs.Prelude.{Done as BothEnded}
 use Rattle.run_setup.specs.declared.status.Status.{Status}
 use Rattle.run_setup.specs.declared.status.Status.TheVariants.{Done, WriteFault, OpenFault, OutOfMemory}
-use Rattle.run_setup.specs.Prelude.{make_starts, started_all, IsAccepted, events_in}
+use Rattle.run_setup.specs.Prelude.{started_all, IsAccepted, events_in}
+use Rattle.run_setup.specs.RunNames.{make_starts}
 use Rattle.gateway.specs.Pieces.{Piece, wrote_pieces, IsFront}
 use Rattle.gateway.specs.Machine.{line_piece, line_of}
 

@@ -10,7 +10,8 @@ ghost use Rattle.pcap_files.specs.declared.fault.CaptureFault.{CaptureFault};
 ghost use Rattle.pcap_merge.specs.Prelude.{Done as BothEnded, Fault as EndsFaulty};
 ghost use Rattle.run_setup.specs.declared.status.Status.{Status};
 ghost use Rattle.run_setup.specs.declared.status.Status.TheVariants.{Done, SettingsRefused, CaptureRefused};
-ghost use Rattle.run_setup.specs.Prelude.{IsAccepted, events_in, NoneRose, IsUnlessMemory, Names};
+ghost use Rattle.run_setup.specs.Prelude.{IsAccepted, events_in, NoneRose, IsUnlessMemory};
+ghost use Rattle.run_setup.specs.RunNames.{Names};
 ghost use Rattle.gateway.specs.Decided.{IsRunOf};
 ghost use Rattle.gateway.specs.Making.{IsMake};
 

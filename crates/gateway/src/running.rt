@@ -1,7 +1,6 @@
 // A run over files.
 ghost use Rattle.gate_desk.specs.Outside.{Outside};
-ghost use Rattle.run_setup.specs.Prelude.{first_starts};
-ghost use Rattle.run_setup.specs.RunNames.{names_of};
+ghost use Rattle.run_setup.specs.RunNames.{names_of, first_starts};
 ghost use Rattle.gateway.specs.Phases.{Prepared, IsPrepared};
 ghost use Rattle.gateway.specs.Answers.{Runs, TookForWritten};
 

@@ -30,13 +30,13 @@ use Rattle.file_audit.proofs.Files.{files_given, files_later, files_more, files_
 use Rattle.file_audit.proofs.Walked.{ahead_kept}
 use Rattle.run_setup.specs.declared.status.Status.{Status}
 use Rattle.run_setup.specs.declared.status.Status.TheVariants.{CaptureRefused, ReadFault, WriteFault, OpenFault, OutOfMemory}
-use Rattle.run_setup.specs.Prelude.{IsAccepted, TookInputs, events_in, started_all, given_starts, plan}
+use Rattle.run_setup.specs.Prelude.{IsAccepted, TookInputs, events_in, started_all}
 use Rattle.run_setup.proofs.Causes.{all_on, before_on, access_of}
 use Rattle.run_setup.proofs.Beginning.{told_heads}
 use Rattle.gateway_audit.specs.declared.verdict.AuditVerdict.{AuditVerdict}
 use Rattle.gateway_audit.specs.declared.verdict.AuditVerdict.TheVariants.{Lawful, Unlawful}
 use Rattle.gateway_audit.specs.Stops.{verdict_of}
-use Rattle.run_setup.specs.AuditNames.{Names, first_starts}
+use Rattle.run_setup.specs.AuditNames.{Names, first_starts, given_starts, plan}
 use Rattle.gateway_audit.specs.Lines.{answer_line}
 use Rattle.gateway_audit.specs.Causes.{AreLawful, IsRead, IsVerdict, MayHaveWanted}
 use Rattle.gateway_audit.specs.Audits.{IsAudit, HasStartedToRead, HasAnswered, TookForEvents, TookRead, refused_starts}

@@ -13,10 +13,10 @@ use Rattle.file_audit.specs.Given.{ReadsGiven, given_told}
 use Rattle.file_audit.proofs.Wanting.{incoming_kept}
 use Rattle.run_setup.specs.declared.status.Status.{Status}
 use Rattle.run_setup.specs.declared.status.Status.TheVariants.{SettingsRefused, CaptureRefused, ReadFault, OpenFault, OutOfMemory}
-use Rattle.run_setup.specs.Prelude.{IsAccepted, events_in, settings_start, inputs_start, Settled, EndsAtSettings, Begun, EndsAtHeads, started_all, StartsAll, Stops, Opens, given_starts, answer_start}
+use Rattle.run_setup.specs.Prelude.{IsAccepted, events_in, settings_start, inputs_start, Settled, EndsAtSettings, Begun, EndsAtHeads, started_all, StartsAll, Stops, Opens}
 use Rattle.run_setup.proofs.Causes.{all_on, before_more, before_on}
 use Rattle.run_setup.proofs.Beginning.{all_events-took_settings, heads_before, accepted_and, given_since, settled_stops, told_before, told_heads}
-use Rattle.run_setup.specs.AuditNames.{Names, first_starts}
+use Rattle.run_setup.specs.AuditNames.{Names, first_starts, given_starts, answer_start}
 use Rattle.gateway_audit.specs.Causes.{AreLawful}
 use Rattle.gateway_audit.specs.Audits.{IsAudit, refused_starts}
 use Rattle.gateway_audit.specs.Phases.{Prepared, HaveLinks, HeadsGiven, Begins, Readied, StopsAtGiven, given_in}

@@ -7,10 +7,10 @@ use Rattle.gate_base.specs.Prelude.{Event}
 use Rattle.pcap_merge.specs.Prelude.{have_good_heads, TakenFor}
 use Rattle.run_setup.specs.declared.status.Status.{Status}
 use Rattle.run_setup.specs.declared.status.Status.TheVariants.{Done, SettingsRefused, CaptureRefused, ReadFault, WriteFault, OpenFault, OutOfMemory, Unlawful}
-use Rattle.run_setup.specs.Prelude.{events_in, settings_start, started_all, StartsBefore, plan}
+use Rattle.run_setup.specs.Prelude.{events_in, settings_start, started_all, StartsBefore}
 use Rattle.gateway_audit.specs.declared.verdict.AuditVerdict.{AuditVerdict}
 use Rattle.gateway_audit.specs.declared.verdict.AuditVerdict.TheVariants as verdicts
-use Rattle.run_setup.specs.AuditNames.{Names, first_starts, read_starts}
+use Rattle.run_setup.specs.AuditNames.{Names, first_starts, read_starts, plan}
 use Rattle.gateway_audit.specs.Lines.{answer_line}
 use Rattle.gateway_audit.specs.Causes.{IsVerdict, HasCause}
 

@@ -15,10 +15,10 @@ use Rattle.file_audit.specs.Events.{Finds}
 use Rattle.file_audit.specs.Given.{Fits, IsRunning, given_slot, given_told}
 use Rattle.run_setup.specs.declared.status.Status.{Status}
 use Rattle.run_setup.specs.declared.status.Status.TheVariants.{Done, CaptureRefused, ReadFault, WriteFault, OpenFault, OutOfMemory, Unlawful}
-use Rattle.run_setup.specs.Prelude.{IsAccepted, started_all, StartsBefore, is_started, given_starts, answer_start, plan}
+use Rattle.run_setup.specs.Prelude.{IsAccepted, started_all, StartsBefore, is_started}
 use Rattle.gateway_audit.specs.declared.verdict.AuditVerdict.{AuditVerdict}
 use Rattle.gateway_audit.specs.declared.verdict.AuditVerdict.TheVariants as verdicts
-use Rattle.run_setup.specs.AuditNames.{Names, first_starts}
+use Rattle.run_setup.specs.AuditNames.{Names, first_starts, given_starts, answer_start, plan}
 use Rattle.gateway_audit.specs.Lines.{answer_line}
 use Rattle.gateway_audit.specs.Causes.{IsVerdict}
 use Rattle.gateway_audit.specs.Audits.{IsAudit}

@@ -1,5 +1,5 @@
 // The audit.
-ghost use Rattle.run_setup.specs.Prelude.{names_of};
+ghost use Rattle.run_setup.specs.AuditNames.{names_of};
 ghost use Rattle.gateway_audit.specs.Audits.{IsAudit, TookForEvents};
 
 use crate::answer::write_verdict;

@@ -1,5 +1,5 @@
 // What an audit finds, before it answers.
-ghost use Rattle.run_setup.specs.Prelude.{names_of};
+ghost use Rattle.run_setup.specs.AuditNames.{names_of};
 ghost use Rattle.gateway_audit.specs.Audits.{TookForEvents};
 ghost use Rattle.gateway_audit.specs.Phases.{Judges};
 

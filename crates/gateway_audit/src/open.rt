@@ -1,6 +1,7 @@
 // Starting the given files.
 ghost use Rattle.std.specs.Prelude.{◌≡◌};
-ghost use Rattle.run_setup.specs.Prelude.{Opens, names_of, given_starts};
+ghost use Rattle.run_setup.specs.Prelude.{Opens};
+ghost use Rattle.run_setup.specs.AuditNames.{names_of, given_starts};
 
 use gate_desk::{Access, Desk, Slot};
 use run_setup::{AuditNames, Status, start_slot};

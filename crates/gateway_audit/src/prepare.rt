@@ -1,7 +1,8 @@
 // What an audit does before it opens the given files: the settings, and the heads of both incoming captures.
 ghost use Rattle.std.specs.Prelude.{MatchResult, OnErr, []};
 ghost use Rattle.pcap_merge.specs.Prelude.{TakenFor};
-ghost use Rattle.run_setup.specs.Prelude.{TookInputs, names_of};
+ghost use Rattle.run_setup.specs.Prelude.{TookInputs};
+ghost use Rattle.run_setup.specs.AuditNames.{names_of};
 ghost use Rattle.gateway_audit.specs.Audits.{IsAudit};
 ghost use Rattle.gateway_audit.specs.Phases.{Prepared};
 

@@ -2,7 +2,7 @@
 ghost use Rattle.gate_desk.specs.Outside.{CanRead};
 ghost use Rattle.gate_desk.specs.declared.slot.Slot.TheVariants.{LeftGiven, RightGiven};
 ghost use Rattle.file_audit.specs.Given.{ReadsGiven, TookFiles};
-ghost use Rattle.run_setup.specs.Prelude.{names_of};
+ghost use Rattle.run_setup.specs.AuditNames.{names_of};
 ghost use Rattle.gateway_audit.specs.Phases.{Begins, LeavesIncoming, Readies};
 
 use crate::open::open_given;

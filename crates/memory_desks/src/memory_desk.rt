@@ -28,14 +28,14 @@ pub struct MemoryDesk {
     start_faults: PerSlot<u64>,
 }
 
-/// What an audit is to judge: the captures that were given, and the report.
+/// What an audit is to judge: two captures and a report that some gateway made.
 #[derive(Drop)]
 pub struct Given {
-    /// The capture of the left realm.
+    /// The capture of the frames that go to the left realm.
     pub left: Vec<u8>,
-    /// The capture of the right realm.
+    /// The capture of the frames that go to the right realm.
     pub right: Vec<u8>,
-    /// The report.
+    /// The report, as text or as JSON.
     pub report: Vec<u8>,
 }
 
@@ -71,7 +71,7 @@ impl MemoryDesk {
         MemoryDesk::over(alloc, PerSlot::inputs(alloc, settings, left, right))
     }
 
-    /// The same with what an audit is to judge besides.
+    /// The same, and the files that an audit is to judge.
     pub fn make_audit(
         alloc: Global,
         settings: Vec<u8>,

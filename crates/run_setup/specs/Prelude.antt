@@ -5,6 +5,4 @@ pub use Rattle.run_setup.specs.Causes.{Causes, Opens, StartedBy, StartsAll, Star
 pub use Rattle.run_setup.specs.Decided.{IsUnlessMemory, NoneRose}
 pub use Rattle.run_setup.specs.Beginning.{Begun, EndsAtHeads, EndsAtSettings, IsAccepted, IsBeforeHead, Settled, Settles, TookCaptures, TookInputs, events_in, inputs_start, settings_start}
 pub use Rattle.run_setup.specs.Telling.{Tells, TellsLine}
-pub use Rattle.run_setup.specs.RunNames.{Names, first_starts, make_starts, output_starts, settings_starts}
-pub use Rattle.run_setup.specs.AuditNames.{answer_start, given_starts, names_of, plan}
 pub use Rattle.run_setup.specs.Command.{Command, command_of, number_behind}

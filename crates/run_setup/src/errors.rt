@@ -15,7 +15,7 @@ use std::fmt;
 const USAGE: &str =
     "usage: run SETTINGS LEFT_IN RIGHT_IN LEFT_OUT RIGHT_OUT REPORT | make NUMBER COUNT REPORT | audit SETTINGS LEFT_IN RIGHT_IN LEFT_GIVEN RIGHT_GIVEN REPORT_GIVEN REPORT\n";
 
-/// The line about what went wrong. It has at most 256 octets.
+/// The line about what went wrong. There is room for 256 octets.
 pub type ErrorLine = ArrayString<256>;
 
 // A line that is given whole.

@@ -1,4 +1,4 @@
-use Rattle.run_setup.specs.Prelude.{names_of as audit_names_of}
+use Rattle.run_setup.specs.AuditNames.{names_of as audit_names_of}
 use Rattle.gate_command.proofs.Audited.{answers_audit}
 use Rattle.gate_command.proofs.call.told_audit.Goals as goal
 

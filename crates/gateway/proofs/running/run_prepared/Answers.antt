@@ -1,8 +1,7 @@
 use Rattle.std.proofs.Common.{refl, subst, rules}
 use Rattle.gate_desk.specs.declared.slot.Slot.TheVariants.{LeftIn, RightIn, LeftOut, RightOut, Report}
 use Rattle.gate_desk.specs.declared.slot.Access.TheVariants.{Read, Write}
-use Rattle.run_setup.specs.Prelude.{first_starts, output_starts}
-use Rattle.run_setup.specs.RunNames.{names_of, plan}
+use Rattle.run_setup.specs.RunNames.{names_of, plan, first_starts, output_starts}
 use Rattle.run_setup.specs.declared.status.Status.TheVariants.{OutOfMemory}
 use Rattle.gateway.specs.Prelude.{Readied, StopsInFront, heads, Runs}
 use Rattle.run_setup.proofs.Causes.{handed_on, access_of}

@@ -2,7 +2,7 @@ use Rattle.std.proofs.Common.{refl}
 use Rattle.gate_desk.specs.declared.slot.Slot.TheVariants.{Report}
 use Rattle.gate_desk.specs.declared.slot.Access.TheVariants.{Write}
 use Rattle.run_setup.proofs.Causes.{access_of}
-use Rattle.run_setup.specs.Prelude.{names_of, plan}
+use Rattle.run_setup.specs.AuditNames.{names_of, plan}
 use Rattle.gateway_audit.proofs.Judging.{said, took_said}
 use Rattle.gateway_audit.proofs.call.audit.Goals as goal
 

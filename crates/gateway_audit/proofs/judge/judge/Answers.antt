@@ -1,6 +1,6 @@
 use Rattle.std.proofs.Common.{subst}
 use Rattle.run_setup.proofs.Causes.{handed_on}
-use Rattle.run_setup.specs.Prelude.{names_of}
+use Rattle.run_setup.specs.AuditNames.{names_of}
 use Rattle.gateway_audit.specs.Phases.{Readied, Judges}
 use Rattle.gateway_audit.proofs.Judging.{not_ready, no_head, read_inputs, to_walk, took_none, took_prepared, took_walked, walked}
 use Rattle.gateway_audit.proofs.judge.judge.Goals as goal

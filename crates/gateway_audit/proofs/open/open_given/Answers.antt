@@ -1,7 +1,8 @@
 use Rattle.std.proofs.Common.{Err, [], ◌∷◌}
 use Rattle.gate_desk.specs.declared.slot.Slot.TheVariants.{LeftGiven, RightGiven, ReportGiven}
 use Rattle.gate_desk.specs.declared.slot.Access.TheVariants.{Read}
-use Rattle.run_setup.specs.Prelude.{Opens, names_of, given_starts}
+use Rattle.run_setup.specs.Prelude.{Opens}
+use Rattle.run_setup.specs.AuditNames.{names_of, given_starts}
 use Rattle.run_setup.proofs.Causes.{handed_on, opens_on, opens_more}
 use Rattle.gateway_audit.proofs.open.open_given.Goals as goal
 

@@ -1,7 +1,8 @@
 use Rattle.std.proofs.Common.{MatchResult, OnErr, []}
 use Rattle.run_setup.proofs.Causes.{handed_on}
 use Rattle.gateway_audit.specs.Audits.{IsAudit}
-use Rattle.run_setup.specs.Prelude.{names_of, settings_start}
+use Rattle.run_setup.specs.Prelude.{settings_start}
+use Rattle.run_setup.specs.AuditNames.{names_of}
 use Rattle.gateway_audit.specs.Phases.{Prepared}
 use Rattle.gateway_audit.proofs.Phases.{settings_end, heads_end, prepared}
 use Rattle.run_setup.proofs.Inputs.{inputs_settings, inputs_both}

@@ -2,7 +2,7 @@ use Rattle.std.proofs.Common.{refl, ap}
 use Rattle.gate_desk.specs.declared.slot.Slot.TheVariants.{LeftGiven, RightGiven}
 use Rattle.gate_desk.specs.declared.slot.Access.TheVariants.{Read}
 use Rattle.run_setup.proofs.Causes.{handed_on, access_of}
-use Rattle.run_setup.specs.Prelude.{names_of, given_starts}
+use Rattle.run_setup.specs.AuditNames.{names_of, given_starts}
 use Rattle.gateway_audit.specs.Phases.{Readies}
 use Rattle.gateway_audit.proofs.Phases.{not_opened, not_begun, no_report, readied}
 use Rattle.gate_desk.specs.Outside.{Trace, told_at}
