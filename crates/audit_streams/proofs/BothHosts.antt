@@ -1,15 +1,11 @@
 -- A session after a step, by what the functions say of its hosts.
-use Rattle.std.proofs.Common.{◌≡◌, sym, ◌∙◌, ap, subst, Result, Ok, Err, OnOk}
+use Rattle.std.proofs.Common.{◌≡◌, ◌∙◌, ap, Result, Ok, Err, OnOk}
 use Rattle.gate_base.specs.declared.host.Host.{Host}
 use Rattle.gate_base.specs.declared.host.Host.TheVariants.{Client, Server}
+use Rattle.gate_base.proofs.Hosts.{at_host}
 use Rattle.dialogue.specs.Prelude.{Meaning}
-use Rattle.stream_model.specs.Prelude.{Sender, Session, Segment, own, other, own_after, other_after, session_next}
-use Rattle.stream_model.specs.Session.{session}
+use Rattle.stream_model.specs.Prelude.{Sender, Session, Segment, own, other, own_after, other_after, session, session_next}
 use Rattle.audit_streams.specs.Hosts.{HeardStream, HeardStreams, sender_of, session_of}
-
--- what holds of this host by what the fields hold holds of the host that is meant
-pub at_host : {C S : Type 0} (P : Host → HeardStreams C S → Type 0) (one host : Host) (a w : HeardStreams C S) → host ≡ one → a ≡ w → P one a → P host w
-at_host P one host a w h e p = subst (P host) e (subst (λ (x : Host). P x a) (sym h) p)
 
 -- both streams side by side
 abbrev pub heard_by : {C S : Type 0} → HeardStream C → HeardStream S → HeardStreams C S

@@ -69,7 +69,7 @@ end_goes n g flags fin acked len s t a l e =
     ∙ ap (nat_le n.acked) l
     ∙ ap (λ (b : Bool). b && nat_le n.acked (length (image n.meaning n.octets))) (sym t ∙ ap (λ (h : Flags). h.fin) s)
 
--- a segment without the end
+-- no end goes out for a segment without one
 pub no_end : (n : Sender) (g : Segment) (flags : Flags) (fin : Bool) → flags ≡ g.flags → flags.fin ≡ false → fin ≡ flags.fin → fin ≡ sends_end n g
 no_end n g flags fin s t e = e ∙ t ∙ ap (λ (b : Bool). b && nat_le n.acked (length (image n.meaning n.octets))) (sym t ∙ ap (λ (h : Flags). h.fin) s)
 

@@ -27,7 +27,7 @@ stops OutOfMemory part f fails = tt
 pub record Header (m : List ℕ) (id flags asked answered backed added : ℕ × ℕ) : Type 0 where
   pub is : message_at m ≡ body_at m id flags asked answered backed added
 
--- by its six numbers
+-- the six numbers of a header make it
 pub header_read : (m : List ℕ) (id flags asked answered backed added : ℕ × ℕ) → number_at 2 m 0 ≡ Some id → number_at 2 m id.1 ≡ Some flags → number_at 2 m flags.1 ≡ Some asked → number_at 2 m asked.1 ≡ Some answered → number_at 2 m answered.1 ≡ Some backed → number_at 2 m backed.1 ≡ Some added
     → Header m id flags asked answered backed added
 unfolding message_at
@@ -73,7 +73,7 @@ module _ (m : List ℕ) (id flags asked answered backed added : ℕ × ℕ) (hea
               let test : eqb d.1 (length m) ≡ false = ne_eqb d.1 (length m) (subst (λ (o : List ℕ). d.1 ≢ length o) (stays4 ∙ stays3 ∙ stays2 ∙ stays1) other) in
               rw (header.is, question, there2, there3, there4, test) refl
 
-          -- none do
+          -- none stand there, and all is read
           pub all_read : d.1 ≡ length m4 → message_at m ≡ Some (record { id = id.0; flags = flags.0; question = q.0; answers = a.0; authority = b.0; additional = d.0 })
           all_read end =
               let test : eqb d.1 (length m) ≡ true = eq-eqb d.1 (length m) (subst (λ (o : List ℕ). d.1 ≡ length o) (stays4 ∙ stays3 ∙ stays2 ∙ stays1) end) in
@@ -85,7 +85,7 @@ module _ (m now : List ℕ) (place : ℕ) (name : List (List ℕ) × ℕ) (named
   here : name_at now place ≡ Some name
   here = subst (λ (o : List ℕ). name_at o place ≡ Some name) (sym stays) named
 
-  -- what stops by them stops
+  -- what stops by the octets that are kept stops
   same : (s : NameStop) → Fails s (resource_at now place) → Fails s (resource_at m place)
   same s fails = subst (λ (o : List ℕ). Fails s (resource_at o place)) stays fails
 

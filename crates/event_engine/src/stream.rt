@@ -167,11 +167,11 @@ impl<S: Engine> State<S> {
             images: mem::replace(&mut plan.units.images, Vec::new(alloc)),
             entries: &plan.units.entries,
         };
-        let taken = SegmentOn { way, key, segment };
+        let on = SegmentOn { way, key, segment };
         let stepped = step_session(
             &mut self.connections,
             &mut self.workspace,
-            taken,
+            on,
             completed,
             outbox,
         )?;
@@ -268,47 +268,38 @@ struct SegmentOn<'a> {
 fn step_session<S: Engine>(
     connections: &mut SessionTable<Tracked<S>>,
     workspace: &mut Workspace,
-    taken: SegmentOn<'_>,
+    on: SegmentOn<'_>,
     completed: Completed<'_>,
     outbox: &mut Outbox,
 ) -> Result<Stepped<S::Sent>, OutOfMemory>
     requires enters { (t : worlds.Tracked S)
-        → streams.session_in (connection_of taken.key.now connections.old) ≡ Some t
-        → Enters S.rules taken.way.now.side taken.segment.now.datagram.now t
+        → streams.session_in (connection_of on.key.now connections.old) ≡ Some t
+        → Enters S.rules on.way.now.side on.segment.now.datagram.now t
         completed.entries.now completed.images.items }
     requires empty { outbox.old ≡ [] }
-    requires whole { IsSegmentOf taken.segment.now.octets.now
-        taken.segment.now.datagram.now taken.segment.now.tcp.now }
+    requires whole { IsSegmentOf on.segment.now.octets.now
+        on.segment.now.datagram.now on.segment.now.tcp.now }
     ensures next { (image : Addr → Option Addr) (t : worlds.Tracked S)
-        → streams.session_in (connection_of taken.entry.key.now connections.old) ≡ Some t
-        → AreCalled S.rules image taken.entry.way.now.side
-        taken.entry.segment.now.datagram.now t completed.entry.entries.now
+        → streams.session_in (connection_of on.entry.key.now connections.old) ≡ Some t
+        → AreCalled S.rules image on.entry.way.now.side
+        on.entry.segment.now.datagram.now t completed.entry.entries.now
         → OnOk result (connections.new
-        ≡ replaced connections.old taken.entry.key.now (streams.stepped S.rules image
-        taken.entry.way.now.side taken.entry.segment.now.datagram.now t)) }
+        ≡ replaced connections.old on.entry.key.now (streams.stepped S.rules image
+        on.entry.way.now.side on.entry.segment.now.datagram.now t)) }
     ensures stepped { (image : Addr → Option Addr) (t : worlds.Tracked S)
-        → streams.session_in (connection_of taken.entry.key.now connections.old) ≡ Some t
-        → AreCalled S.rules image taken.entry.way.now.side
-        taken.entry.segment.now.datagram.now t completed.entry.entries.now
-        → IfOk result (λ s. IsStepped S.rules S.gives image taken.entry.way.now
-        taken.entry.segment.now.datagram.now t s outbox.new) }
+        → streams.session_in (connection_of on.entry.key.now connections.old) ≡ Some t
+        → AreCalled S.rules image on.entry.way.now.side
+        on.entry.segment.now.datagram.now t completed.entry.entries.now
+        → IfOk result (λ s. IsStepped S.rules S.gives image on.entry.way.now
+        on.entry.segment.now.datagram.now t s outbox.new) }
     ensures lost { (t : worlds.Tracked S)
-        → streams.session_in (connection_of taken.entry.key.now connections.old) ≡ Some t
-        → OnErr result (IsUnstepped S.gives taken.entry.way.now.side
-        taken.entry.segment.now.datagram.now t connections.old connections.new
+        → streams.session_in (connection_of on.entry.key.now connections.old) ≡ Some t
+        → OnErr result (IsUnstepped S.gives on.entry.way.now.side
+        on.entry.segment.now.datagram.now t connections.old connections.new
         outbox.new) }
 {
-    match connections.session_mut(taken.key) {
-        Some(tracked) => {
-            S::take(
-                tracked,
-                workspace,
-                taken.way,
-                taken.segment,
-                completed,
-                outbox,
-            )
-        }
+    match connections.session_mut(on.key) {
+        Some(tracked) => { S::take(tracked, workspace, on.way, on.segment, completed, outbox) }
         None => Err(OutOfMemory),
     }
 }

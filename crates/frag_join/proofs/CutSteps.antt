@@ -17,7 +17,7 @@ use Rattle.frag_join.specs.Joining.{timeout}
 use Rattle.frag_join.specs.Cuts.{is_part_of, Completes, fragments_among}
 use Rattle.frag_join.proofs.NameLemmas.{name-eq, name-same}
 use Rattle.frag_join.proofs.CutLemmas.{cut-good, cover-complete, cover-datagram, open-incomplete, open-less}
-use Rattle.frag_join.proofs.StepLemmas.{step-there, step-new, settled-joined, settled-held}
+use Rattle.frag_join.proofs.StepLemmas.{step-there, step-new, settled-joined, settled-held, third_holds}
 use Rattle.frag_join.proofs.KeptSteps.{step-known, after-known}
 use Rattle.frag_join.proofs.Found.{part-find, place-there, place-none, find-last, find-set, find-changed}
 
@@ -150,16 +150,10 @@ piece_joined d since fragments parts e some fits has cuts piece_is more covered 
 
 -- ## The first
 
-third_holds : (a b c : Bool) → a ≡ false → b ≡ false → c ≡ true → first_that_holds ((a, IpOptions) ∷ (b, BadFragment) ∷ (c, FragmentsFull) ∷ []) ≡ Some FragmentsFull
-third_holds true b c p q r = absurd cc
-third_holds false true c p q r = absurd cc
-third_holds false false true p q r = refl
-third_holds false false false p q r = absurd cc
-
 full_at : (parts : List Whole) (e : Event) (part : Whole) (b : Bool) → leb limit (length parts) ≡ b → has_options (octets_of e) ≡ false → place_of (name_in e) parts ≡ None → is_bad (known_by part.kept) (fragment_in e) ≡ false → (fragment_taken by_list parts e part).answer ≢ Refused FragmentsFull → leb limit (length parts) ≡ false
 full_at parts e part false full plain none good answer = full
 full_at parts e part true full plain none good answer =
-    absurd (answer (ap (λ refusal. (taken_unless by_list parts e part refusal).answer) (third_holds (has_options (octets_of e)) (is_bad (known_by part.kept) (fragment_in e)) (not (is_some (place_of (name_in e) parts)) && leb limit (length parts)) plain good (ap (λ p. not (is_some p) && leb limit (length parts)) none ∙ full))))
+    absurd (answer (ap (λ refusal. (taken_unless by_list parts e part refusal).answer) (third_holds (has_options (octets_of e)) (is_bad (known_by part.kept) (fragment_in e)) (not (is_some (place_of (name_in e) parts)) && leb limit (length parts)) IpOptions BadFragment FragmentsFull plain good (ap (λ p. not (is_some p) && leb limit (length parts)) none ∙ full))))
 
 piece_first : (d : Original) (parts : List Whole) (e : Event) → length d.payload ≤ 65515 → find (is_of d.name) parts ≡ None → IsPiece d e → (step_by by_list parts e).answer ≢ Refused FragmentsFull → All (IsCut d) (fragment_in e ∷ []) → cover d (fragment_in e ∷ []) ≡ false
     → HasPart d e.moment (fragment_in e ∷ []) (step_by by_list parts e).state.parts

@@ -1,4 +1,4 @@
--- A fragment is taken.
+-- What a step makes of a frame.
 use Rattle.std.proofs.Common.{◌≡◌, ℕ, Bool, true, false, ◌&&◌, not, leb, cond, List, [], ◌∷◌, ◌++◌, length, set, Option, Some, None, IsSome, is_some, refl, sym, ap, ◌∙◌, slice_get, option_and_then}
 use Rattle.gate_base.specs.Prelude.{Event, first_that_holds}
 use Rattle.gate_base.specs.declared.refusal.Refusal.{Refusal}
@@ -51,14 +51,14 @@ known_of : (e : Event) (part : Option (Part Coverage)) → (part_or_new by_known
 known_of e None = refl
 known_of e (Some part) = refl
 
--- which of the three tests is the first that holds
+-- the second of three tests is the first that holds
 second_holds : (a b c : Bool) (x y z : Refusal) → a ≡ false → b ≡ true → first_that_holds ((a, x) ∷ (b, y) ∷ (c, z) ∷ []) ≡ Some y
 second_holds false true c x y z p q = refl
 second_holds true b c x y z p q = absurd cc
 second_holds false false c x y z p q = absurd cc
 
--- and where that is the last
-third_holds : (a b c : Bool) (x y z : Refusal) → a ≡ false → b ≡ false → c ≡ true → first_that_holds ((a, x) ∷ (b, y) ∷ (c, z) ∷ []) ≡ Some z
+-- the third of them is
+pub third_holds : (a b c : Bool) (x y z : Refusal) → a ≡ false → b ≡ false → c ≡ true → first_that_holds ((a, x) ∷ (b, y) ∷ (c, z) ∷ []) ≡ Some z
 third_holds false false true x y z p q r = refl
 third_holds true b c x y z p q r = absurd cc
 third_holds false true c x y z p q r = absurd cc
@@ -80,7 +80,7 @@ step-full parts e place options found good none full =
     (third_holds (has_options (octets_of e)) (is_bad part.kept (fragment_in e)) (not (is_some (place_of (name_in e) parts)) && leb limit (length parts)) IpOptions BadFragment FragmentsFull options (ap (λ k. is_bad k (fragment_in e)) (known_of e (part_of (name_in e) parts)) ∙ ap (λ p. is_bad (known_at parts p) (fragment_in e)) found ∙ good)
     (ap (λ p. not (is_some p) && leb limit (length parts)) (found ∙ none) ∙ full))
 
--- what is good where nothing is known is so for a new datagram at the end of the list
+-- a fragment that is good for a new datagram is good for it at the end of the list
 pub good-last : (parts all : List (Part Coverage)) (place : ℕ) (new : Part Coverage) (f : Fragment) → all ≡ parts ++ new ∷ [] → place ≡ length parts → is_bad new.kept f ≡ false → is_bad (known_at all (Some place)) f ≡ false
 good-last parts all place new f all_is place_is good =
     ap (λ ps. is_bad (known_at ps (Some place)) f) all_is ∙ ap (λ i. is_bad (known_at (parts ++ new ∷ []) (Some i)) f) place_is ∙ ap (λ o. is_bad (known_or_nothing o) f) (get-last parts new) ∙ good
@@ -127,8 +127,8 @@ joined-there keeping parts e is =
 -- ## A step after what came too long ago was dropped
 
 -- a fragment is taken
-pub step-some : (was now : State Coverage) (inside kept : List (Part Coverage)) (e : Event) → now ≡ record { parts = was.parts; joined = None } → inside ≡ now.parts → kept ≡ live e.moment inside → is_fragment e ≡ true → fragment_step by_known kept e ≡ step by_known was e
-step-some was now inside kept e now_is inside_is kept_is is =
+pub step-fragment : (was now : State Coverage) (inside kept : List (Part Coverage)) (e : Event) → now ≡ record { parts = was.parts; joined = None } → inside ≡ now.parts → kept ≡ live e.moment inside → is_fragment e ≡ true → fragment_step by_known kept e ≡ step by_known was e
+step-fragment was now inside kept e now_is inside_is kept_is is =
     let all : kept ≡ live e.moment was.parts = kept_is ∙ ap (live e.moment) (inside_is ∙ ap (λ s. s.parts) now_is) in
     ap (λ parts. fragment_step by_known parts e) all
     ∙ sym (ap (λ b. cond b (fragment_step by_known (live e.moment was.parts) e) (record { answer = Plain; state = record { parts = live e.moment was.parts; joined = None } })) is)

@@ -10,7 +10,7 @@ use itoa::Buffer;
 use std::alloc::{AllocError, AllocFailed};
 use std::fmt;
 
-/// The text of a fault. It has at most 75 octets.
+/// The text of a fault. There is room for 75 octets.
 pub type FaultText = ArrayString<75>;
 
 /// What is wrong with a settings document. This is the order of testing, but that `Missing`, `Kind` and `BadAddress`

@@ -7,7 +7,7 @@ use gate_base::Side;
 use itoa::Buffer;
 use std::fmt;
 
-/// The text of a key. It has at most 60 octets.
+/// The text of a key, as it stands from the top of the document. There is room for 60 octets.
 pub type KeyText = ArrayString<60>;
 
 /// A key of the settings document. Entries of `static` and of `oid` are numbered from 1.

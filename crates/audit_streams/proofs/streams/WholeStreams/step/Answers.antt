@@ -1,8 +1,9 @@
 use Rattle.std.proofs.Common.{◌≡◌, IfOk}
+use Rattle.gate_base.proofs.Hosts.{at_host}
 use Rattle.audit_streams.specs.Hosts.{sender_of, session_of}
 use Rattle.audit_streams.specs.Sending.{handed}
 use Rattle.stream_model.specs.Prelude.{Segment, segment_in, session_sent, session_ends}
-use Rattle.audit_streams.proofs.BothHosts.{at_host, heard_by, next_at}
+use Rattle.audit_streams.proofs.BothHosts.{heard_by, next_at}
 use Rattle.audit_streams.proofs.HostLists.{can_take, opens_alone, verdict_here}
 use Rattle.audit_streams.proofs.streams.WholeStreams.step.Goals as goal
 use Rattle.gate_base.specs.declared.host.Host.TheVariants.{Client, Server}

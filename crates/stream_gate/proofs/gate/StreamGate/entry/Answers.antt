@@ -2,7 +2,7 @@ use Rattle.std.proofs.Common.{arith, ◌≡◌, ◌<◌, length, Some, slice_get
 use Rattle.gate_base.specs.declared.host.Host.{Host}
 use Rattle.gate_base.specs.declared.host.Host.TheVariants.{Client, Server}
 use Rattle.stream_gate.specs.Prelude.{GateKept, entries_of}
-use Rattle.stream_gate.proofs.Delegated.{at_host, of_host}
+use Rattle.gate_base.proofs.Hosts.{at_host, of_host}
 use Rattle.stream_gate.proofs.gate.StreamGate.entry.Goals as goal
 
 -- a rest is smaller than memory

@@ -4,7 +4,7 @@ use Rattle.gate_base.specs.declared.host.Host.TheVariants.{Client, Server}
 use Rattle.stream_model.specs.Prelude.{segment_in}
 use Rattle.compact_stream.specs.Prelude.{start_kept, sender_kept}
 use Rattle.stream_gate.specs.Prelude.{GateKept}
-use Rattle.stream_gate.proofs.Delegated.{at_host}
+use Rattle.gate_base.proofs.Hosts.{at_host}
 use Rattle.stream_gate.proofs.gate.StreamGate.repeated.Goals as goal
 
 -- a rest is smaller than memory
