@@ -42,6 +42,18 @@ fn name_at(alloc: Global, message: &[u8], place: usize) -> Result<(Vec<u8>, usiz
     Ok((Vec::from_slice(alloc, name.octets())?, after))
 }
 
+/// The same once the name at the start of the message was read.
+fn second_name_at(
+    alloc: Global,
+    message: &[u8],
+    place: usize,
+) -> Result<(Vec<u8>, usize), NameStop> {
+    let mut reader = NameReader::of(alloc, message)?;
+    let (_first, _end) = reader.read(alloc, 0)?;
+    let (name, after) = reader.read(alloc, place)?;
+    Ok((Vec::from_slice(alloc, name.octets())?, after))
+}
+
 /// The reverse name of an address in the spelling of another.
 fn reversed(alloc: Global, old: &[u8], address: u32) -> Option<Vec<u8>> {
     let (old, _) = read_name(alloc, old, 0).ok()?;
@@ -92,5 +104,17 @@ fn known_names(rt: HostRuntime) -> Result<(), Fail> {
     long[254] = 63;
     long[255] = 0;
     assert!(rt; read_name(alloc, &long, 0).is_err());
+    // So it is where the last three labels are those of a name that was read before.
+    let mut joined = [63u8; 258];
+    joined[192] = 0;
+    joined[193] = 61;
+    joined[255] = 0xc0;
+    joined[256] = 0;
+    assert!(rt; second_name_at(alloc, &joined, 193).is_ok());
+    joined[193] = 62;
+    joined[255] = 63;
+    joined[256] = 0xc0;
+    joined[257] = 0;
+    assert!(rt; second_name_at(alloc, &joined, 193).is_err());
     Ok(())
 }
