@@ -42,14 +42,15 @@ fn name_at(alloc: Global, message: &[u8], place: usize) -> Result<(Vec<u8>, usiz
     Ok((Vec::from_slice(alloc, name.octets())?, after))
 }
 
-/// The same once the name at the start of the message was read.
+/// The same once the name at another place was read.
 fn second_name_at(
     alloc: Global,
     message: &[u8],
+    first: usize,
     place: usize,
 ) -> Result<(Vec<u8>, usize), NameStop> {
     let mut reader = NameReader::of(alloc, message)?;
-    let (_first, _end) = reader.read(alloc, 0)?;
+    let (_name, _end) = reader.read(alloc, first)?;
     let (name, after) = reader.read(alloc, place)?;
     Ok((Vec::from_slice(alloc, name.octets())?, after))
 }
@@ -104,17 +105,24 @@ fn known_names(rt: HostRuntime) -> Result<(), Fail> {
     long[254] = 63;
     long[255] = 0;
     assert!(rt; read_name(alloc, &long, 0).is_err());
-    // So it is where the last three labels are those of a name that was read before.
+    // So it is where the last three labels are those of a name that was read before. A reader keeps what it read of messages of 128
+    // octets and more.
     let mut joined = [63u8; 258];
     joined[192] = 0;
     joined[193] = 61;
     joined[255] = 0xc0;
     joined[256] = 0;
-    assert!(rt; second_name_at(alloc, &joined, 193).is_ok());
+    assert!(rt; second_name_at(alloc, &joined, 0, 193).is_ok());
     joined[193] = 62;
     joined[255] = 63;
     joined[256] = 0xc0;
     joined[257] = 0;
-    assert!(rt; second_name_at(alloc, &joined, 193).is_err());
+    assert!(rt; second_name_at(alloc, &joined, 0, 193).is_err());
+    // A pointer in what was read before leads below the start of the labels that lead there, or there is no name.
+    let mut behind = [0u8; 130];
+    behind[..11].copy_from_slice(b"\0\0\x02\0y\x01x\xc0\x01\xc0\x02");
+    assert!(rt; second_name_at(alloc, &behind, 5, 9).is_ok());
+    behind[8] = 3;
+    assert!(rt; second_name_at(alloc, &behind, 5, 9).is_err());
     Ok(())
 }
