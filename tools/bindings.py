@@ -25,23 +25,51 @@ def datagram_of(frame: bytes, link: int) -> bytes:
     return frame if len(frame) >= 20 and frame[0] >> 4 == 4 else b""
 
 
+OF_A_FRAME = ("Snapped", "NotIpv4", "BadHeader", "BadHeaderSum", "Fragment", "IpOptions", "BadFragment", "FragmentsFull")
+"""The refusals of a fragment that leave the packet waiting which it is of."""
+
+
 # What a DNS message names.
 
 
-def name_at(message: bytes, at: int) -> tuple[list[bytes], int]:
-    """The labels of the name at a place, and the place behind it. ValueError where a pointer doesn't lead back."""
+REVERSE_LABELS = 6
+"""How many labels a full reverse name has. No more are read of any name."""
+
+
+def led_to(message: bytes, at: int, leads: dict[int, int]) -> int:
+    """The place of the label or the root octet to which a pointer leads, over further pointers. `leads` keeps it for each of them, so that each is
+    followed once. ValueError where one doesn't lead back."""
+    path = []
+    while message[at] >= 64:
+        if known := leads.get(at):
+            at = known
+            break
+        path.append(at)
+        to = (message[at] & 63) << 8 | message[at + 1]
+        if to >= at:
+            raise ValueError("a DNS name whose pointer doesn't lead back")
+        at = to
+    leads.update(dict.fromkeys(path, at))
+    return at
+
+
+def name_at(message: bytes, at: int, leads: dict[int, int]) -> tuple[list[bytes], int]:
+    """The labels of the name at a place, seven at most, and the place behind it."""
     labels: list[bytes] = []
-    start, end = at, 0
+    end = 0
     while size := message[at]:
-        if size < 64:
+        if size >= 64:
+            end = end or at + 2
+            at = led_to(message, at, leads)
+        elif len(labels) <= REVERSE_LABELS:
             labels.append(message[at + 1 : at + 1 + size])
             at += 1 + size
+        elif end:
+            return labels, end
         else:
-            end = end or at + 2
-            at = (size & 63) << 8 | message[at + 1]
-            if at >= start:
-                raise ValueError("a DNS name whose pointer doesn't lead back")
-            start = at
+            at += 1 + size
+        if end and len(labels) > REVERSE_LABELS:
+            return labels, end
     return labels, end or at + 1
 
 
@@ -57,8 +85,9 @@ def named_in(message: bytes) -> list[bytes]:
     """The addresses that a DNS message names, in order: those of full reverse names and of A records."""
     questions, *records = struct.unpack_from(">4H", message, 4)
     at, found = 12, []
+    leads: dict[int, int] = {}
     for place in range(questions + sum(records)):
-        labels, at = name_at(message, at)
+        labels, at = name_at(message, at, leads)
         found += address_of_reverse(labels)
         kind, group = struct.unpack_from(">HH", message, at)
         at += 4
@@ -89,7 +118,8 @@ class Stream:
         sequence, flags = struct.unpack_from(">I", segment, 24)[0], segment[33]
         payload = segment[20 + (segment[32] >> 4) * 4 : int.from_bytes(segment[2:4])]
         if flags & SYN:
-            self.next = (sequence + 1) % (1 << 32)
+            if self.next is None:
+                self.next = (sequence + 1) % (1 << 32)
         elif self.next is not None and (new := signed(sequence + len(payload) - self.next)) > 0:
             self.next = (self.next + new) % (1 << 32)
             return payload[-new:]
@@ -167,6 +197,7 @@ class Pool:
         self.holders: dict[int, Binding] = {}
         self.fixed = 0
         self.most, self.most_at = 0, 0  # how many were taken at once, and when first
+        self._sought = (0, self.first)  # the moment at which a free address was sought last, and the one that was found
         self._ends: list[tuple[int, int, Binding]] = []  # of those by use, each with an end that it had once
 
     @property
@@ -194,7 +225,12 @@ class Pool:
 
     def least_free(self, moment: int) -> int:
         """The alias that a host gets which has none."""
-        return next(alias for alias in range(self.first, self.last + 1) if not self._is_taken(alias, moment))
+        begin = self._sought[1] if self._sought[0] == moment else self.first
+        free = next((alias for alias in range(begin, self.last + 1) if not self._is_taken(alias, moment)), None)
+        if free is None:
+            raise LookupError("the pool is full")
+        self._sought = (moment, free)
+        return free
 
     def _is_taken(self, alias: int, moment: int) -> bool:
         """Whether an address stands for a host."""
@@ -212,18 +248,24 @@ class Bindings:
         self._connections: dict[bytes, Connection] = {}
         self._many = 1024  # connections, at which those that have ended are dropped
         self._parts: dict[bytes, tuple[int, bytearray]] = {}
+        self.missed = 0  # events that couldn't be followed
         for row in settings.get("static", []):
             host, alias = (int(IPv4Address(row[key])) for key in ("host", "alias"))
             self._bind(Binding(SIDES.index(row["side"]), host, alias, True), 0)
 
     def event(self, side: int, moment: int, verdict: str, came: bytes, sent: list[bytes]) -> None:
         """A datagram that came from a side, and those that were sent for it to the other."""
-        if verdict not in ("pass", "held"):
-            return
-        if int.from_bytes(came[6:8]) & 0x3FFF:
-            came = self._joined(side, moment, came)
-        if verdict == "held":
-            return
+        is_part = len(came) >= 20 and int.from_bytes(came[6:8]) & 0x3FFF
+        if is_part and verdict not in OF_A_FRAME:
+            came = self._joined(side, moment, came, verdict == "held")
+        if verdict == "pass":
+            try:
+                self._follow(side, moment, came, sent)
+            except (ValueError, LookupError, struct.error):
+                self.missed += 1  # what a host sends must not end what follows it
+
+    def _follow(self, side: int, moment: int, came: bytes, sent: list[bytes]) -> None:
+        """A datagram that passed."""
         if came[9] == TCP:
             self._segment(side, moment, came, sent)
         else:
@@ -240,14 +282,16 @@ class Bindings:
         pool.take(binding, moment)
         self._told(binding)
 
-    def _joined(self, side: int, moment: int, came: bytes) -> bytes:
-        """The datagram of a fragment, with all that came of it so far."""
+    def _joined(self, side: int, moment: int, came: bytes, waits: bool) -> bytes:
+        """The datagram of a fragment, with all that came of it so far. It is forgotten unless it waits for more."""
         key = bytes([side]) + came[4:6] + came[9:10] + came[12:20]
         self._parts = {known: part for known, part in self._parts.items() if moment < part[0] + JOIN_HOLD}
         _, whole = self._parts.setdefault(key, (moment, bytearray()))
         begin, payload = (int.from_bytes(came[6:8]) & 0x1FFF) * 8, came[20 : int.from_bytes(came[2:4])]
         whole.extend(bytes(max(0, begin + len(payload) - len(whole))))
         whole[begin : begin + len(payload)] = payload
+        if not waits:
+            del self._parts[key]
         return came[:2] + struct.pack(">H", 20 + len(whole)) + came[4:6] + bytes(2) + came[8:20] + whole
 
     def _use(self, side: int, moment: int, written: bytes, shown: bytes | None, hold: int) -> None:

@@ -101,8 +101,7 @@ class Watch:
             self._moment = moment
             if verdict == "PoolEmpty":
                 self._refuse(side)
-            elif verdict in ("pass", "held"):
-                self._table.event(side, moment, verdict, datagram_of(frame, self._links[side]), images)
+            self._table.event(side, moment, verdict, datagram_of(frame, self._links[side]), images)
 
     def _begin(self, moment: int) -> None:
         """Hosts that were kept have time to come again."""
