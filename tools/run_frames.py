@@ -7,7 +7,8 @@ from datetime import datetime, timezone
 from functools import lru_cache
 from typing import NamedTuple
 
-from bindings import DNS_PORT, FTP_PORT, SECOND, TCP, UDP, name_at
+from bindings import DNS_PORT, FTP_PORT, SECOND, TCP, UDP, led_to
+from run_files import Frame
 
 PROTOCOLS = {1: "ICMP", TCP: "TCP", UDP: "UDP"}
 TYPES = {1: "A", 2: "NS", 5: "CNAME", 6: "SOA", 12: "PTR", 15: "MX", 16: "TXT", 28: "AAAA", 33: "SRV", 41: "OPT", 252: "AXFR", 255: "ANY"}
@@ -16,14 +17,6 @@ TEXT = 300
 """The most characters of a line that are shown."""
 
 SECRET = re.compile(rb"(?i)^(PASS|ACCT) .*", re.DOTALL)
-
-
-class Frame(NamedTuple):
-    """A record of a capture, with the capture's link, and the length that the frame had on the wire."""
-
-    octets: bytes = b""
-    link: int = 0
-    length: int = 0
 
 
 @dataclass(slots=True)
@@ -50,9 +43,7 @@ def plain(octets: bytes) -> str:
 
 @lru_cache(maxsize=64)
 def second_of(seconds: int) -> str:
-    """A second of UTC. ValueError beyond the year 9999, where no capture's stamp lies."""
-    if seconds >= 253402300800:
-        raise ValueError(f"{seconds} seconds since 1970 are no stamp")
+    """A second of UTC."""
     return f"{datetime.fromtimestamp(seconds, timezone.utc):%Y-%m-%dT%H:%M:%S}"
 
 
@@ -98,9 +89,21 @@ def ftp_lines(payload: bytes) -> list[str]:
     return list(map(plain, shown[:-1] if not lines[-1] else shown))
 
 
-def dns_name(labels: list[bytes]) -> str:
-    """A name as it is written."""
-    return plain(b".".join(labels)) or "."
+def dns_name(message: bytes, at: int, leads: dict[int, int]) -> tuple[str, int]:
+    """The name at a place of a DNS message, and the place behind it. ValueError where it has more than 255 bytes."""
+    labels: list[bytes] = []
+    end = size = 0
+    while octets := message[at]:
+        if octets >= 64:
+            end = end or at + 2
+            at = led_to(message, at, leads)
+        else:
+            labels.append(message[at + 1 : at + 1 + octets])
+            at += 1 + octets
+            size += 1 + octets
+            if size > 255:
+                raise ValueError("a DNS name that is too long")
+    return plain(b".".join(labels)) or ".", end or at + 1
 
 
 def dns_lines(message: bytes) -> list[str]:
@@ -108,10 +111,11 @@ def dns_lines(message: bytes) -> list[str]:
     try:
         number, bits, questions, *records = struct.unpack_from(">6H", message)
         at, lines = 12, [f"{'answer' if bits >> 15 else 'question'} {number:#06x}"]
+        leads: dict[int, int] = {}
         for place in range(min(questions + sum(records), 40)):
-            labels, at = name_at(message, at)
+            name, at = dns_name(message, at, leads)
             kind = struct.unpack_from(">H", message, at)[0]
-            text = f"{dns_name(labels)} {TYPES.get(kind, f'TYPE{kind}')}"
+            text = f"{name} {TYPES.get(kind, f'TYPE{kind}')}"
             at += 4
             if place >= questions:
                 ttl, size = struct.unpack_from(">IH", message, at)
@@ -120,7 +124,7 @@ def dns_lines(message: bytes) -> list[str]:
                 if kind == 1 and size == 4:
                     text += f" {address_of(data)}"
                 elif kind in (2, 5, 12):
-                    text += f" {dns_name(name_at(message, at - size)[0])}"
+                    text += f" {dns_name(message, at - size, leads)[0]}"
                 text += f", TTL {ttl}" if kind != 41 else ""
             lines.append(text)
         more = questions + sum(records) - 40

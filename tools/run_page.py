@@ -113,10 +113,10 @@ class Page:
         for parts in (run.by_time, run.by_number):
             parts.join_to(max(30, min(PARTS, sum(run.counts.values()))))
         reasons = self._colour(run)
-        used = [one for one in run.bindings if one.uses]
+        used = story.used()
         most_used = sorted(used, key=lambda one: -one.uses)[:SHOWN_BINDINGS]
         axis = self.axes(run)[0][2]
-        rows = story.refusals()
+        rows = story.refusals.rows()
         style, script = (self._part(room, name) for name in ("run_page.css", "run_page.js"))
         total, refused = sum(run.counts.values()), sum(count for _, count in reasons)
         text = room.get_template("run_page.html").render(
@@ -130,7 +130,7 @@ class Page:
                 "pools": self.pools_pictures(run),
                 "bars": [bar_of(one, axis) for one in sorted(most_used, key=lambda one: (one.side, one.host, one.first))],
                 "bar_ticks": [(round(tick.at, 2), tick.text) for tick in self._hundredths(axis)],
-                "bindings_count": len(used) + run.bindings_left_out,
+                "bindings_count": len(used) + story.left_out,
                 "refused": rows[:SHOWN_REFUSED],
                 "refused_count": len(rows),
                 "sessions": run.sessions.shown,
