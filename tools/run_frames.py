@@ -7,7 +7,7 @@ from datetime import datetime, timezone
 from functools import lru_cache
 from typing import NamedTuple
 
-from bindings import DNS_PORT, FTP_PORT, SECOND, TCP, UDP, led_to
+from bindings import DNS_PORT, FTP_PORT, LABELS, SECOND, TCP, UDP, Names
 from run_files import Frame
 
 PROTOCOLS = {1: "ICMP", TCP: "TCP", UDP: "UDP"}
@@ -89,33 +89,21 @@ def ftp_lines(payload: bytes) -> list[str]:
     return list(map(plain, shown[:-1] if not lines[-1] else shown))
 
 
-def dns_name(message: bytes, at: int, leads: dict[int, int]) -> tuple[str, int]:
-    """The name at a place of a DNS message, and the place behind it. ValueError where it has more than 255 bytes."""
-    labels: list[bytes] = []
-    end = size = 0
-    while octets := message[at]:
-        if octets >= 64:
-            end = end or at + 2
-            at = led_to(message, at, leads)
-        else:
-            labels.append(message[at + 1 : at + 1 + octets])
-            at += 1 + octets
-            size += 1 + octets
-            if size > 255:
-                raise ValueError("a DNS name that is too long")
-    return plain(b".".join(labels)) or ".", end or at + 1
+def dns_name(labels: list[bytes]) -> str:
+    """A name as it is written."""
+    return plain(b".".join(labels)) or "."
 
 
 def dns_lines(message: bytes) -> list[str]:
     """A DNS message in words: what it asks, and its records."""
     try:
         number, bits, questions, *records = struct.unpack_from(">6H", message)
+        names = Names(message, LABELS)
         at, lines = 12, [f"{'answer' if bits >> 15 else 'question'} {number:#06x}"]
-        leads: dict[int, int] = {}
         for place in range(min(questions + sum(records), 40)):
-            name, at = dns_name(message, at, leads)
+            labels, at = names.read(at)
             kind = struct.unpack_from(">H", message, at)[0]
-            text = f"{name} {TYPES.get(kind, f'TYPE{kind}')}"
+            text = f"{dns_name(labels)} {TYPES.get(kind, f'TYPE{kind}')}"
             at += 4
             if place >= questions:
                 ttl, size = struct.unpack_from(">IH", message, at)
@@ -124,7 +112,7 @@ def dns_lines(message: bytes) -> list[str]:
                 if kind == 1 and size == 4:
                     text += f" {address_of(data)}"
                 elif kind in (2, 5, 12):
-                    text += f" {dns_name(message, at - size, leads)[0]}"
+                    text += f" {dns_name(names.read(at - size)[0])}"
                 text += f", TTL {ttl}" if kind != 41 else ""
             lines.append(text)
         more = questions + sum(records) - 40

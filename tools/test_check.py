@@ -1,0 +1,112 @@
+"""What `check` finds."""
+import os
+import re
+import struct
+import tempfile
+import unittest
+
+from testing import INPUTS, LIVE, MERGER, PROGRAM, RIGHT, TOOLS, TOP, capture, said
+
+FAULTS = (
+    ("left = 5", "Kind left"),
+    (RIGHT.replace('"raw"', '"Raw"'), "Kind left.link"),
+    (RIGHT.replace('"192.168.200.1"', '"192.168.200.01"'), "BadAddress left.pool_first"),
+    (RIGHT.replace('"192.168.200.1"', '"127.0.0.1"'), "BadAddress left.pool_first"),
+    (RIGHT.replace("pool_first", "pool_frist"), "Missing left.pool_first"),
+    (RIGHT.replace('"172.16.9.254"', '"172.16.8.254"'), "PoolSize right"),
+    (RIGHT + 'same = ["203.0.113.9/24"]', "BadAddress same"),
+    (RIGHT + 'same = ["0.0.0.0/0"]', "SameInPool left"),
+    (RIGHT + 'fragments = "joins"', "Kind fragments"),
+    (RIGHT + "static = [{}, 5]", "Kind static"),
+    (RIGHT + '[static]\nside = "left"', "Kind static"),
+    (RIGHT + '[[static]]\nside = "left"\nhost = "10.0.0.5"', "Missing static.1.alias"),
+    (RIGHT + '[[static]]\nside = "left"\nhost = "10.0.0.5"\nalias = "192.168.200.1"', "StaticOutsidePool static.1"),
+    (RIGHT + '[[static]]\nside = "right"\nhost = "172.16.9.5"\nalias = "192.168.200.1"', "HostInPool static.1"),
+    (RIGHT + 2 * '[[static]]\nside = "right"\nhost = "10.0.0.5"\nalias = "192.168.200.1"\n', "StaticRepeated static.2"),
+    (RIGHT + '[[oid]]\nprefix = "1.40"\nskip = 1', "Kind oid.1.prefix"),
+    (RIGHT + '[[oid]]\nprefix = "1.3"\nskip = true', "Kind oid.1.skip"),
+    (RIGHT.replace('link = "raw" }\nright', 'link = "ethernet" }\nright'), "MacMissing left"),
+    (RIGHT.replace('"raw"', '"raw', 1), "NotToml"),
+    (RIGHT + "skip = 9223372036854775808", "NotToml"),
+    (RIGHT, ""),
+)
+
+
+class Check(unittest.TestCase):
+    """What check_settings finds."""
+
+    def setUp(self) -> None:
+        """A file for settings."""
+        room = tempfile.TemporaryDirectory()
+        self.addCleanup(room.cleanup)
+        self.room, self.name = room.name, f"{room.name}/settings.toml"
+
+    def lines_of(self, text: str) -> list[str]:
+        """What is said of settings, in short."""
+        with open(self.name, "w", encoding="utf-8") as file:
+            file.write(text)
+        status, told = said(f"{TOOLS}/check_settings", "--brief", self.name)
+        self.assertEqual(status, 1 if told else 0)
+        return [line.removeprefix(f"{self.name}: ") for line in told.splitlines()]
+
+    def test_faults(self) -> None:
+        """The first fault is the program's."""
+        if not os.access(PROGRAM, os.X_OK):
+            print("tools/test: the program isn't built, so that it isn't asked for its faults")
+        for text, fault in FAULTS:
+            lines = [line for line in self.lines_of(text) if "is ignored" not in line]
+            self.assertEqual(lines[0].split(":")[0] if lines else "", fault)
+            if os.access(PROGRAM, os.X_OK):
+                status, line = said(PROGRAM, "run", self.name, "/dev/null", "/dev/null", *(f"{self.room}/{number}" for number in range(3)))
+                self.assertEqual((status, line), (3, f"settings: {fault}\n") if fault else (4, "capture left: NoHead at 0\n"))
+
+    def test_unknown_keys(self) -> None:
+        """Keys that the gateway ignores, with those that are meant."""
+        for text, line in (
+            (RIGHT + "[[statics]]", "statics isn't known, and is ignored: is static meant?"),
+            (RIGHT + 'fragment = "join"', "fragment isn't known, and is ignored: is fragments meant?"),
+            (RIGHT + 'sames = ["203.0.113.0/24"]', "sames isn't known, and is ignored: is same meant?"),
+            (RIGHT + "[[oid]]\nprefix = '1.3'\nskip = 1\nreport = 'json'", "oid.1.report isn't known, and is ignored: it belongs in front of all tables"),
+            (RIGHT + "elephants = 3", "elephants isn't known, and is ignored"),
+            (RIGHT.replace('"raw" }\nright', '"raw", next_mca = "02:00:5e:10:00:01" }\nright'), "left.next_mca isn't known, and is ignored: is left.next_mac meant?"),
+        ):
+            self.assertEqual(self.lines_of(text), [line])
+
+    def test_place_of_a_fault(self) -> None:
+        """Where the text is no TOML."""
+        self.assertEqual(self.lines_of('a = 1\nb = "x\n'), ["NotToml: Illegal character '\\n' (at line 2, column 7)"])
+        with open(self.name, "wb") as file:
+            file.write(b"a = 1\n# \xff\n")
+        self.assertIn("line 2 isn't text in UTF-8", said(f"{TOOLS}/check_settings", self.name)[1])
+
+    def test_captures(self) -> None:
+        """What stands in the way in captures is told, with as many frames as the program refuses for it; of the example nothing is."""
+        from datagrams import udp
+
+        self.assertEqual(said(f"{TOOLS}/check_settings", "--brief", *INPUTS), (0, ""))
+        good, far, own = (udp(source, 4, to, 5, b"x") for source, to in (("10.0.0.9", "192.168.200.1"), ("10.0.0.9", "10.0.0.8"), ("192.168.200.9", "192.168.200.1")))
+        ether = [bytes(12) + b"\x81\0\0\7\x08\0" + good, bytes(12) + b"\x08\0" + good[:26] + b"\0\1" + good[28:]]
+        names = [f"{self.room}/{name}" for name in ("left", "right")]
+        for name, datagrams, link in zip(names, ([good, far, own, far], ether), (101, 1)):
+            with open(name, "wb") as file:
+                file.write(capture(datagrams)[:20] + struct.pack("<I", link) + capture(datagrams)[24:])
+        with open(self.name, "w", encoding="ascii") as file:
+            file.write(RIGHT + '[[static]]\nside = "right"\nhost = "10.0.0.5"\nalias = "192.168.200.1"\n')
+        status, text = said(f"{TOOLS}/check_settings", "--brief", self.name, *names)
+        expected = [(names[0], "1 of 4", "SourceInPool"), (names[0], "2 of 4", "NoBinding"), (names[1], "1 of 2", "NotIpv4"), (names[1], "1 of 2", "BadSum")]
+        self.assertEqual((status, [re.match(r"(.*): (\d+ of \d+) frames .*: (\w+)\. ", line).groups() for line in text.splitlines()]), (1, expected))
+        if os.access(PROGRAM, os.X_OK):
+            words = [self.name, *names, f"{self.room}/lo", f"{self.room}/ro", f"{self.room}/report"]
+            self.assertEqual(said(PROGRAM, "run", *words), (0, ""))
+            with open(words[-1], encoding="ascii") as file:
+                verdicts = sorted(line.split()[3] for line in file if not line.startswith("done"))
+            self.assertEqual(verdicts, ["BadSum", "NoBinding", "NoBinding", "NotIpv4", "SourceInPool", "pass"])
+        self.assertEqual(said(f"{TOOLS}/check_settings", "--brief", self.name, self.name, "absent")[1].count("\n"), 2)
+        self.assertEqual(said(f"{TOOLS}/check_settings", self.name, names[0])[0], 2)
+
+    def test_examples(self) -> None:
+        """Those of this repository are right, and told."""
+        for name in (f"{MERGER}/settings.toml", f"{LIVE}/settings.toml", f"{TOP}/examples/live/settings.toml"):
+            status, text = said(f"{TOOLS}/check_settings", name)
+            self.assertEqual(status, 0)
+            self.assertIn("left pool: 192.168.200.1 to 192.168.200.254, 254 addresses for hosts of the right realm, 3 of them fixed\n", text)
