@@ -233,11 +233,15 @@ class Gathered:
     def __init__(self, table: Bindings) -> None:
         self.table = table
         self.by_time, self.by_number = Parts(), Parts()
-        self.counts: Counter[str] = Counter()
         self.sent = [0, 0]
         self.first_empty = [0, 0]
         self._moment = 0
         self.sessions = Sessions(table)
+
+    @property
+    def counts(self) -> Counter[str]:
+        """How many frames had each verdict."""
+        return sum((part.counts for part in self.by_number.parts), Counter())
 
     def levels(self, moment: int) -> list[int]:
         """How full both pools are."""
@@ -259,12 +263,12 @@ class Gathered:
         """Takes an event."""
         if event.is_heartbeat:
             return
-        verdict, pool = event.verdict, 1 - event.side
-        self.counts[verdict] += 1
+        verdict, moment = event.verdict, event.moment
+        pool, left, right = 1 - event.side, *self.table.pools
         self.sent[pool] += len(event.sent)
-        one, other = (pool.level(event.moment) for pool in self.table.pools)
+        one, other = left.level(moment), right.level(moment)
         for part in (self.by_time.parts[-1], self.by_number.parts[-1]):
-            part.counts[verdict] += 1
+            part.counts[verdict] = part.counts.get(verdict, 0) + 1
             most = part.most
             if one > most[0]:
                 most[0] = one
@@ -273,6 +277,6 @@ class Gathered:
             if verdict == "PoolEmpty":
                 part.empty[pool] += 1
         if verdict == "PoolEmpty":
-            self.first_empty[pool] = self.first_empty[pool] or event.moment
+            self.first_empty[pool] = self.first_empty[pool] or moment
         if event.datagram:
             self.sessions.take(event)
