@@ -130,6 +130,8 @@ def mends(side: str, path: str, realms) -> dict[str, tuple[str, str]]:
 
 def told(paths: list[str], realms) -> Iterator[str]:
     """A line for each kind of frames that will be refused, with the command that mends it, the gravest first."""
+    if not paths:
+        return
     sides = ("left", "right")
     found: list[Looked] = []
     for side, path in zip(sides, paths):
@@ -141,7 +143,7 @@ def told(paths: list[str], realms) -> Iterator[str]:
     if is_one_capture(paths, found):
         yield f"{shown(paths[0])} and {shown(paths[1])} are one capture: each has to have what the hosts of its own realm sent. Make both: rendapil try {shown(shlex.quote(paths[0]))}"
     swapped = [each.count["swapped"] * 2 > each.total for each in found]
-    if any(swapped) and all(is_swapped or not each.total for is_swapped, each in zip(swapped, found)):
+    if any(swapped) and all(is_swapped or not (each.total or each.fault) for is_swapped, each in zip(swapped, found)):
         yield (
             f"left and right are swapped: {one.count['swapped'] + other.count['swapped']} of {one.total + other.total} frames go to the other realm's pool. "
             f"Name {shown(paths[1])} before {shown(paths[0])}"
@@ -153,7 +155,7 @@ def told(paths: list[str], realms) -> Iterator[str]:
         which = f"of the first {looked.total}" if looked.total == LOOKED_AT else f"of {looked.total}"
         known = mends(side, path, realms)
         for kind, count in looked.count.most_common():
-            if kind in known:
+            if kind in known and count:
                 yield f"{shown(path)}: {count} {which} frames {known[kind][0]}. {shown(known[kind][1])}"
 
 
