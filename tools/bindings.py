@@ -267,11 +267,21 @@ class Pool:
         """Lets an address stand for a host."""
         if binding.fixed:
             self.fixed += 1
-        elif self._leaves_free(binding.alias, moment):
+        else:
+            self._take_out(binding.alias, moment)
             heapq.heappush(self._ends, (binding.end, binding.alias))
         self.holders[binding.alias] = binding
         if (level := self.level(moment)) > self.most:
             self.most, self.most_at = level, moment
+
+    def drop(self, binding: Binding, moment: int) -> None:
+        """Lets an address stand for its host no more. Its binding may live only where the table was wrong."""
+        self.level(moment)
+        del self.holders[binding.alias]
+        if binding.lives(moment):
+            self._ends = [one for one in self._ends if one[1] != binding.alias]
+            heapq.heapify(self._ends)
+            heapq.heappush(self._freed, binding.alias)
 
     def least_free(self, moment: int) -> int:
         """The alias that a host gets which has none. LookupError where all are taken."""
@@ -284,26 +294,17 @@ class Pool:
             raise LookupError("the pool is full")
         return self._fresh
 
-    def _leaves_free(self, alias: int, moment: int) -> bool:
-        """Whether an address was free. It isn't any more. Nearly always it is the least one."""
-        if not self.first <= alias <= self.last:
-            raise LookupError("no address of the pool")
-        try:
-            is_least = alias == self.least_free(moment)
-        except LookupError:
-            return False
-        if alias >= self._fresh:
-            self._freed += [free for free in range(self._fresh, alias) if free not in self.holders]
-            self._fresh = alias + 1
-        elif is_least:
+    def _take_out(self, alias: int, moment: int) -> None:
+        """Takes an address out of those that are free. It is another than the least one only where the table was wrong."""
+        if alias == self.least_free(moment) and alias < self._fresh:
             heapq.heappop(self._freed)
-            return True
-        elif alias in self._freed:
+            return
+        if alias < self._fresh:
             self._freed.remove(alias)
         else:
-            return False
+            self._freed += [free for free in range(self._fresh, alias) if free not in self.holders]
+            self._fresh = alias + 1
         heapq.heapify(self._freed)
-        return True
 
 
 class Blocks:
@@ -366,10 +367,12 @@ class Bindings:
     def _bind(self, binding: Binding, moment: int) -> None:
         """A host and its alias forget whom they stood for before."""
         pool = self.pools[1 - binding.side]
-        pool.take(binding, moment)
-        if (before := self._hosts.get((binding.side, binding.host))) and before.alias != binding.alias:
-            del pool.holders[before.alias]
+        for before in (self._hosts.get((binding.side, binding.host)), pool.holders.get(binding.alias)):
+            if before and pool.holders.get(before.alias) is before:
+                pool.drop(before, moment)
+                del self._hosts[before.side, before.host]
         self._hosts[binding.side, binding.host] = binding
+        pool.take(binding, moment)
         self._told(binding)
 
     def _joined(self, side: int, moment: int, came: bytes, waits: bool) -> bytes:
@@ -406,16 +409,18 @@ class Bindings:
 
     def _bound(self, side: int, moment: int, address: int, image: int | None, hold: int) -> Binding:
         """The new binding of an address. The gateway gives a host the least free alias: where another one was shown, the table was wrong."""
-        pool, own = self.pools[1 - side], self.pools[side]
+        own, known = self.pools[side], self._known(side, address, moment)
         is_alias = own.first <= address <= own.last
-        alias = None if is_alias or self._known(side, address, moment) else pool.least_free(moment)
-        self._is_astray |= alias is None or image not in (None, alias)
-        if image is None and alias is None:
+        least = None if known or is_alias else self.pools[1 - side].least_free(moment)
+        image = least if image is None else image
+        self._is_astray |= image != least
+        if image is None:
             raise LookupError("an alias that stands for nobody")
-        host, alias = (image, address) if is_alias else (address, alias if image is None else image)
-        binding = Binding(1 - side if is_alias else side, host, alias, False, end=moment + hold)
-        if (before := self._known(1 - binding.side, alias, moment)) and before.fixed:
-            raise LookupError("the alias of a static")
+        ends = (1 - side, image, address) if is_alias else (side, address, image)
+        binding, pool = Binding(*ends, False, end=moment + hold), own if is_alias else self.pools[1 - side]
+        held = pool.holders.get(binding.alias)
+        if not pool.first <= binding.alias <= pool.last or any(one and one.fixed for one in (known, held)):
+            raise LookupError("no alias, or the one of a static")
         self._bind(binding, moment)
         binding.use(moment, moment + hold)
         return binding
