@@ -13,8 +13,8 @@ from ipaddress import IPv4Address
 from itertools import islice
 
 from any_capture import IPV4, TAGS
-from packet import Packet, is_host
-from run_files import ETHERNET, RAW_IP, RECORD, FORMS, shown
+from packet import SUM_AT, Packet, is_host
+from run_files import ETHERNET, FORMS, RAW_IP, RECORD, shown
 
 LOOKED_AT = 20_000
 """How many frames of a capture are looked at."""
@@ -85,7 +85,7 @@ def look_at(path: str, side: str, realms) -> Looked:
 
 
 def kind_of(octets: bytes, link: int, length: int, side: str, realms) -> str:
-    """What the gateway has to say of a frame, by the first of the reasons that are looked for."""
+    """What the gateway has to say of a frame: the first of the reasons that are looked for, in the order in which it looks for them."""
     if not octets:
         return "heartbeat"
     if length > len(octets):
@@ -96,20 +96,24 @@ def kind_of(octets: bytes, link: int, length: int, side: str, realms) -> str:
         octets = octets[14:] if octets[12:14] == IPV4 else b""
     if len(octets) < 20 or octets[0] >> 4 != 4 or octets[0] & 15 < 5:
         return "other"
-    packet = Packet(octets)
+    packet, mended = Packet(octets), Packet(octets)
     if not packet.is_whole:
         return "cut"
+    mended.mend()
+    if mended.octets[10:12] != packet.octets[10:12]:
+        return "sums"
     if packet.is_fragment and realms.document.get("fragments") != "join":
         return "fragments"
     source, destination = map(IPv4Address, (packet.source, packet.destination))
-    if not (is_host(packet.source) and is_host(packet.destination)):
+    if not (is_host(packet.source) and is_host(packet.destination)) or packet.protocol not in SUM_AT:
         return "other"
+    if mended.octets != packet.octets:
+        return "sums"
     if realms.is_in_pool(side, source):
         return "own"
-    if not (realms.is_in_pool(side, destination) or realms.is_in_same(destination)):
-        far = "right" if side == "left" else "left"
-        return "swapped" if realms.is_in_pool(far, destination) else "far"
-    return "sums" if not packet.is_fragment and Packet(octets).mend() else "good"
+    if realms.is_in_pool(side, destination) or realms.is_in_same(destination):
+        return "good"
+    return "swapped" if realms.is_in_pool("right" if side == "left" else "left", destination) else "far"
 
 
 def mends(side: str, path: str, realms) -> dict[str, tuple[str, str]]:
@@ -124,7 +128,7 @@ def mends(side: str, path: str, realms) -> dict[str, tuple[str, str]]:
         "own": (f"come from the {side} pool: SourceInPool", f"A gateway sent them. Keep what hosts sent: {only}"),
         "swapped": ("go to the other realm's pool: NoBinding", "Are left and right swapped?"),
         "far": (f"go to addresses outside the {side} pool and same: NoBinding", f"Make two realms of an ordinary capture: rendapil try {old}"),
-        "sums": ("have a wrong checksum: BadSum", "Before you capture, let the kernel fill them in: ethtool -K INTERFACE tx off"),
+        "sums": ("have a wrong checksum: BadSum or BadHeaderSum", "Before you capture, let the kernel fill them in: ethtool -K INTERFACE tx off"),
     }
 
 

@@ -2,7 +2,7 @@
 import re
 import struct
 from collections.abc import Iterator
-from typing import BinaryIO, NamedTuple
+from typing import BinaryIO, NamedTuple, Self
 
 ETHERNET, RAW_IP = 1, 101
 FORMS = {b"\xd4\xc3\xb2\xa1": ("<", 1000), b"\x4d\x3c\xb2\xa1": ("<", 1), b"\xa1\xb2\xc3\xd4": (">", 1000), b"\xa1\xb2\x3c\x4d": (">", 1)}
@@ -52,11 +52,17 @@ class Capture:
         self._file = open(path, "rb", 1 << 18)
         head = self._file.read(24)
         self._order, self._unit = FORMS.get(head[:4], ("", 0))
-        if len(head) < 24 or not self._order:
-            raise ValueError(f"{shown(path)} is no capture that a run reads or writes{': it is empty' if not head else ''}")
-        self.link: int = struct.unpack(self._order + "I", head[20:])[0]
+        self.link: int = struct.unpack(self._order + "I", head[20:])[0] if len(head) == 24 and self._order else -1
         if self.link not in (ETHERNET, RAW_IP):
-            raise ValueError(f"{shown(path)} has link type {self.link}: it is no capture that a run reads or writes")
+            self._file.close()
+            what = "is empty, and" if not head else f"has link type {self.link}, and" if self.link >= 0 else ""
+            raise ValueError(f"{shown(path)} {what} is no capture that a run reads or writes".replace("  ", " "))
+
+    def __enter__(self) -> Self:
+        return self
+
+    def __exit__(self, *_: object) -> None:
+        self._file.close()
 
     def frames(self) -> Iterator[Frame]:
         """The frames, up to the last one that is whole."""

@@ -3,6 +3,7 @@ however long the run is and whoever made up its senders."""
 import os
 import sys
 from collections.abc import Callable, Iterator
+from contextlib import ExitStack
 from dataclasses import dataclass, field
 from itertools import islice
 
@@ -126,9 +127,11 @@ class Story:
     def read(self, left: str, right: str, left_out: str, right_out: str, report: str, told: Callable[[float], object] | None = None) -> None:
         """Reads the files of a run. ValueError where they aren't of one run. `told` is called now and then with how much of the report is read."""
         paths = {"LEFT_IN": left, "RIGHT_IN": right, "LEFT_OUT": left_out, "RIGHT_OUT": right_out}
-        came, sent = (Capture(left).frames(), Capture(right).frames()), (Capture(left_out).frames(), Capture(right_out).frames())
         names = [f"{name}, {shown(path)}," for name, path in paths.items()]
-        with open(report, "rb", 1 << 18) if report != "-" else sys.stdin.buffer as file:
+        with ExitStack() as files:
+            left_came, right_came, *sent = (files.enter_context(Capture(path)).frames() for path in paths.values())
+            came = left_came, right_came
+            file = files.enter_context(open(report, "rb", 1 << 18)) if report != "-" else sys.stdin.buffer
             size = os.fstat(file.fileno()).st_size if file.seekable() else 0
             for line in lines(file, report):
                 if isinstance(line, str):
@@ -137,9 +140,8 @@ class Story:
                 if told and size and line.number % 1024 == 0:
                     told(file.tell() / size)
                 self._event(line, next(came[line.side], None), sent[1 - line.side], names)
-        if self.end != CUT_SHORT:
             for name, frames in zip(names, (*came, *sent)):
-                if next(frames, None):
+                if self.end != CUT_SHORT and next(frames, None):
                     raise ValueError(f"{name} has more frames than the report")
 
     def _event(self, line: Line, frame: Frame | None, sent: Iterator[Frame], names: list[str]) -> None:
