@@ -1,7 +1,10 @@
 """The datagrams of any capture that python3-scapy reads: pcap or pcapng, packed by gzip or not, of any mix of links."""
+import heapq
 import logging
+import sys
 from collections.abc import Iterator
 from contextlib import closing
+from functools import lru_cache
 from typing import NamedTuple
 
 IPV4 = b"\x08\x00"
@@ -12,7 +15,8 @@ OTHERS = (b"\x88\x64", b"\x88\x47")
 """Types in which scapy looks for a datagram: PPPoE and MPLS."""
 
 RAW, NULL, SLL, SLL2 = (12, 14, 101, 228), (0, 108), 113, 276
-MOMENTS = 10**9 << 32
+MOMENTS, WINDOW = 10**9 << 32, 200
+"""Where the moments end that a capture's stamps can tell, and how many frames are put in order."""
 
 
 class Record(NamedTuple):
@@ -25,6 +29,16 @@ class Record(NamedTuple):
 
 
 def records(path: str) -> Iterator[Record]:
+    """The frames of a capture, by their stamps: where it has several interfaces they may be a little out of order."""
+    waiting: list[tuple[int, int, Record]] = []
+    for number, record in enumerate(read(path)):
+        heapq.heappush(waiting, (record.moment, number, record))
+        if number >= WINDOW:
+            yield heapq.heappop(waiting)[2]
+    yield from (record for *_, record in sorted(waiting))
+
+
+def read(path: str) -> Iterator[Record]:
     """The frames of a capture. A stamp that is none is that of the frame before."""
     logging.getLogger("scapy").setLevel(logging.CRITICAL)  # what it says of a file has bytes of that file
     from scapy.utils import RawPcapReader
@@ -32,13 +46,34 @@ def records(path: str) -> Iterator[Record]:
     moment = 0
     with closing(RawPcapReader(path)) as reader:
         _number_interfaces(reader)
-        for octets, about in reader:
+        for octets, about in whole_ones(reader):
             if not hasattr(about, "tshigh"):
                 stamp, link = about.sec * 10**9 + about.usec * (1 if reader.nano else 1000), reader.linktype & 0xFFFF
             else:
                 stamp, link = ((about.tshigh << 32) + about.tslow) * 10**9 // about.tsresol if about.tshigh is not None else moment, about.linktype
             moment = stamp if stamp < MOMENTS else moment
             yield Record(moment, link, octets, about.wirelen)
+
+
+def whole_ones(reader) -> Iterator[tuple[bytes, tuple]]:
+    """The frames that scapy reads, up to the first place where it can't go on, whatever it meets there."""
+    number = 0
+    while True:
+        try:
+            found = next(reader)
+        except StopIteration:
+            return
+        except Exception:  # noqa: BLE001: struct.error, zlib.error, MemoryError and others
+            tell_damage(number)
+            return
+        number += 1
+        yield found
+
+
+@lru_cache
+def tell_damage(number: int) -> None:
+    """Says once that a capture is damaged."""
+    print(f"rendapil try: the capture is damaged behind its frame {number}. Those up to it are taken", file=sys.stderr)
 
 
 def _number_interfaces(reader) -> None:

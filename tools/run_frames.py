@@ -16,7 +16,8 @@ FLAGS = "FSRPAUEC"
 TEXT = 300
 """The most characters of a line that are shown."""
 
-SECRET = re.compile(rb"(?i)^(PASS|ACCT) .*", re.DOTALL)
+SECRET, HIDDEN = re.compile(rb"(?i)^(PASS|ACCT) .*", re.DOTALL), "(hidden)"
+"""A line of FTP that gives a password, and what is shown in place of it."""
 
 
 @dataclass(slots=True)

@@ -5,7 +5,7 @@ from dataclasses import dataclass, field
 from typing import NamedTuple
 
 from bindings import ACK, DNS_PORT, FTP_PORT, RST, SYN, TCP, Bindings, Stream, signed
-from run_frames import Event, Piece, Segment, address_of, compared, dns_lines, ftp_lines
+from run_frames import HIDDEN, SECRET, Event, Piece, Segment, address_of, compared, dns_lines, ftp_lines
 
 PARTS = 240
 """The most parts into which the time of a run is cut, and its frames by number."""
@@ -107,6 +107,8 @@ class Session:
         self.bases: dict[int, int] = {}
         self.names = ["", ""]  # what each host is called on the other side
         self._comes, self._goes = (Stream(), Stream()), (Stream(), Stream())
+        self._fronts = [b"", b""]  # how a line of FTP begins that isn't complete
+        self._secret: tuple[list[tuple[int, int]], ...] = ([], [])  # where passwords stand
 
     def relative(self, side: int, number: int) -> int:
         """A sequence number of a side's host, counted from its first."""
@@ -148,13 +150,25 @@ class Session:
     def _spoken(self, event: Event, came: Segment, sent: list[Segment]) -> tuple[list[str], list[str]]:
         """What the segments say in words."""
         if self.port == FTP_PORT:
-            return ftp_lines(came.payload), ftp_lines(b"".join(one.payload for one in sent))
+            lines, images = ftp_lines(came.payload), ftp_lines(b"".join(one.payload for one in sent))
+            return ([HIDDEN] * len(lines), [HIDDEN] * len(images)) if self._is_secret(event.side, came) else (lines, images)
         if event.verdict != "pass" or came.bits & RST:
             return [], []
         comes, goes = self._comes[event.side], self._goes[event.side]
         new, shown = comes.take(event.datagram), b"".join(map(goes.take, event.images))
         texts = [[line for message in stream.messages(octets) for line in dns_lines(message)] for stream, octets in ((comes, new), (goes, shown))]
         return texts[0], texts[1]
+
+    def _is_secret(self, side: int, segment: Segment) -> bool:
+        """Whether a segment goes on with a line that gives a password, or repeats a part of one."""
+        begin, payload = self.relative(side, segment.sequence), segment.payload
+        end, front = begin + len(payload), self._fronts[side]
+        is_secret = bool(front and SECRET.match(front + payload)) or any(begin < high and low < end for low, high in self._secret[side])
+        *_, rest = (front + payload).rsplit(b"\n", 1)
+        self._fronts[side] = rest[:8]
+        if (is_secret or SECRET.match(rest)) and len(self._secret[side]) < SHOWN_SEGMENTS:
+            self._secret[side].append((begin, end))
+        return is_secret
 
     @property
     def kind(self) -> str:

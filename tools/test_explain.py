@@ -436,10 +436,13 @@ class Page(InRoom):
     def test_secrets_are_hidden(self) -> None:
         """What follows PASS isn't told, in no form, even where the line came in parts."""
         for word in ("PASS", "pass"):
-            files = write_run(self.room, session(21, *((part, part) for part in (f"{word} sec".encode(), b"ret\r\n", f"{word} secret\r\n".encode()))))
+            parts = (f"{word} sec".encode(), b"ret\r\n", f"{word} secret\r\n".encode(), word[:2].encode(), word[2:].encode(), b" ", b"sec", b"ret\r\n", b"NOOP\r\n")
+            happened = session(21, *((part, part) for part in parts))
+            files = write_run(self.room, [*happened, happened[4], happened[-2]])  # two of them once more
             page = self.write_page(*files)
             self.assertIn(f"{word} (hidden)", page.text)
-            self.assertNotIn("secret", page.text)
+            self.assertIn("NOOP", page.text)
+            self.assertNotRegex(page.text, "sec|ret\\b")
             self.assertNotIn("secret", said(EXPLAIN, "--events", *files)[1])
 
     def test_filter_in_a_browser(self) -> None:

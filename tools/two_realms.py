@@ -188,15 +188,16 @@ class TwoRealms:
     # The frames that cross.
 
     def crossing(self, frames: Iterable[Record]) -> Iterator[tuple[int, Record]]:
-        """The frames as the gateway takes them, each with its side."""
-        latest = 0
+        """The frames as the gateway takes them, each with its side. Of two frames with one stamp it takes the left one first, so a left one that stands
+        behind gets a later stamp."""
+        latest, before = 0, 0
         for frame in frames:
             datagram, length = whole_of(frame.link, frame.octets)
             packet = Packet(datagram) if datagram else None
             if not packet or self._stays(packet) or not all(one in self.hosts or self.side_of(one) == 2 for one in (packet.source, packet.destination)):
                 continue
             side = 1 - self.side_of(packet.destination) if self.side_of(packet.source) == 2 else self.side_of(packet.source)
-            latest = max(latest, frame.moment)
+            latest, before = max(frame.moment, latest + (side < before)), side
             if self.is_mended and packet.is_whole:
                 self.mended += packet.mend()
             source = self._alias(packet.source, latest, True)
@@ -207,7 +208,7 @@ class TwoRealms:
             packet.put(16, (self._alias(receiver, latest) or receiver).to_bytes(4))
             if self.pool and source:
                 self._follow(side, latest, packet, source, receiver)
-            yield side, Record(frame.moment, 101, bytes(packet.octets), max(length, len(packet.octets)))
+            yield side, Record(latest, 101, bytes(packet.octets), max(length, len(packet.octets)))
 
     def _follow(self, side: int, moment: int, packet: Packet, source: int, receiver: int) -> None:
         """Tells the table what the gateway will make of a datagram. What a DNS message names gets the least free aliases, as in one that is cut."""
