@@ -88,13 +88,14 @@ class Refusals:
             sum_of.first, sum_of.last, sum_of.count = min(sum_of.first, row.first), max(sum_of.last, row.last), sum_of.count + row.count
             self._summed[key[:2]] = sum_of, hosts + 1
 
-    def rows(self) -> list[tuple[str, str, str, Row]]:
-        """Reason, side and host with its frames, the most frequent first, and at the end those that are summed."""
+    def rows(self, most: int = HOSTS) -> list[tuple[str, str, str, Row]]:
+        """Reason, side and host with its frames: the most frequent ones, and at the end those that are summed."""
         if len(self._rows) > HOSTS:
             self._sum_rarest()
         kept = [(reason, SIDES[side], named(host), row) for (reason, side, host), row in self._rows.items()]
         summed = [(reason, SIDES[side], f"{count:,} other hosts", row) for (reason, side), (row, count) in self._summed.items()]
-        return [one for rows in (kept, summed) for one in sorted(rows, key=lambda one: -one[3].count)]
+        kept, summed = (sorted(rows, key=lambda one: -one[3].count) for rows in (kept, summed))
+        return kept[:most] + summed
 
 
 class Story:
