@@ -7,7 +7,8 @@ from datetime import datetime, timezone
 from functools import lru_cache
 from typing import NamedTuple
 
-from bindings import DNS_PORT, FTP_PORT, SECOND, TCP, UDP, name_at
+from bindings import DNS_PORT, FTP_PORT, LABELS, SECOND, TCP, UDP, Names
+from run_files import Frame
 
 PROTOCOLS = {1: "ICMP", TCP: "TCP", UDP: "UDP"}
 TYPES = {1: "A", 2: "NS", 5: "CNAME", 6: "SOA", 12: "PTR", 15: "MX", 16: "TXT", 28: "AAAA", 33: "SRV", 41: "OPT", 252: "AXFR", 255: "ANY"}
@@ -15,15 +16,8 @@ FLAGS = "FSRPAUEC"
 TEXT = 300
 """The most characters of a line that are shown."""
 
-SECRET = re.compile(rb"(?i)^(PASS|ACCT) .*", re.DOTALL)
-
-
-class Frame(NamedTuple):
-    """A record of a capture, with the capture's link, and the length that the frame had on the wire."""
-
-    octets: bytes = b""
-    link: int = 0
-    length: int = 0
+SECRET, HIDDEN = re.compile(rb"(?i)^(PASS|ACCT) .*", re.DOTALL), "(hidden)"
+"""A line of FTP that gives a password, and what is shown in place of it."""
 
 
 @dataclass(slots=True)
@@ -50,9 +44,7 @@ def plain(octets: bytes) -> str:
 
 @lru_cache(maxsize=64)
 def second_of(seconds: int) -> str:
-    """A second of UTC. ValueError beyond the year 9999, where no capture's stamp lies."""
-    if seconds >= 253402300800:
-        raise ValueError(f"{seconds} seconds since 1970 are no stamp")
+    """A second of UTC."""
     return f"{datetime.fromtimestamp(seconds, timezone.utc):%Y-%m-%dT%H:%M:%S}"
 
 
@@ -107,9 +99,10 @@ def dns_lines(message: bytes) -> list[str]:
     """A DNS message in words: what it asks, and its records."""
     try:
         number, bits, questions, *records = struct.unpack_from(">6H", message)
+        names = Names(message, LABELS)
         at, lines = 12, [f"{'answer' if bits >> 15 else 'question'} {number:#06x}"]
         for place in range(min(questions + sum(records), 40)):
-            labels, at = name_at(message, at)
+            labels, at = names.read(at)
             kind = struct.unpack_from(">H", message, at)[0]
             text = f"{dns_name(labels)} {TYPES.get(kind, f'TYPE{kind}')}"
             at += 4
@@ -120,7 +113,7 @@ def dns_lines(message: bytes) -> list[str]:
                 if kind == 1 and size == 4:
                     text += f" {address_of(data)}"
                 elif kind in (2, 5, 12):
-                    text += f" {dns_name(name_at(message, at - size)[0])}"
+                    text += f" {dns_name(names.read(at - size)[0])}"
                 text += f", TTL {ttl}" if kind != 41 else ""
             lines.append(text)
         more = questions + sum(records) - 40

@@ -1,0 +1,104 @@
+"""IPv4 datagrams that are changed in place, and their checksums."""
+import struct
+
+from bindings import TCP, UDP
+
+ICMP = 1
+ICMP_ERRORS = (3, 4, 11, 12)
+SUM_AT = {ICMP: 2, TCP: 16, UDP: 6}
+
+
+def is_host(address: int) -> bool:
+    """Whether it is the address of one host."""
+    return address >> 24 not in (0, 127) and address >> 24 < 224
+
+
+def total_of(octets: bytes) -> int:
+    """The ones' complement sum of octets."""
+    octets += bytes(len(octets) % 2)
+    total = sum(struct.unpack(f">{len(octets) // 2}H", octets))
+    while total >> 16:
+        total = (total & 0xFFFF) + (total >> 16)
+    return total
+
+
+def adjusted(old_sum: int, old: bytes, new: bytes) -> int:
+    """A checksum after a change (RFC 1624): a wrong one stays as wrong as it was."""
+    total = (~old_sum & 0xFFFF) + (~total_of(old) & 0xFFFF) + total_of(new)
+    while total >> 16:
+        total = (total & 0xFFFF) + (total >> 16)
+    return ~total & 0xFFFF
+
+
+class Packet:
+    """An IPv4 datagram that is changed in place, its sums with it."""
+
+    def __init__(self, octets: bytes) -> None:
+        self.octets = bytearray(octets)
+        self.head = (octets[0] & 15) * 4
+        self.protocol = octets[9]
+
+    def number(self, at: int, size: int = 2) -> int:
+        """A number in it."""
+        return int.from_bytes(self.octets[at : at + size])
+
+    @property
+    def source(self) -> int:
+        """Its source."""
+        return self.number(12, 4)
+
+    @property
+    def destination(self) -> int:
+        """Its destination."""
+        return self.number(16, 4)
+
+    @property
+    def is_fragment(self) -> bool:
+        """Whether it is a part of a datagram."""
+        return bool(self.number(6) & 0x3FFF)
+
+    @property
+    def is_whole(self) -> bool:
+        """Whether all of it was kept."""
+        return len(self.octets) >= self.number(2) >= self.head
+
+    @property
+    def is_icmp_error(self) -> bool:
+        """Whether it is an ICMP error that holds the beginning of a datagram."""
+        octets, head = self.octets, self.head
+        is_error = self.protocol == ICMP and not self.number(6) & 0x1FFF and len(octets) >= head + 28
+        return is_error and octets[head] in ICMP_ERRORS and octets[head + 8] >> 4 == 4
+
+    def _sum_place(self) -> int | None:
+        """Where its transport's checksum is, if it has one."""
+        at = SUM_AT.get(self.protocol)
+        if at is None or self.number(6) & 0x1FFF or len(self.octets) < self.head + at + 2:
+            return None
+        if self.protocol == UDP and not self.number(self.head + at):
+            return None
+        return self.head + at
+
+    def put(self, at: int, new: bytes) -> None:
+        """Writes octets at an even place, and adjusts the sums that count them."""
+        old = bytes(self.octets[at : at + len(new)])
+        self.octets[at : at + len(new)] = new
+        if at < self.head:
+            self.octets[10:12] = adjusted(self.number(10), old, new).to_bytes(2)
+        place = self._sum_place()
+        if place is not None and (at >= self.head or self.protocol != ICMP):
+            fixed = adjusted(self.number(place), old, new)
+            self.octets[place : place + 2] = (fixed or (0xFFFF if self.protocol == UDP else 0)).to_bytes(2)
+
+    def mend(self) -> bool:
+        """Computes the sums of a whole datagram anew, as a sender without offloading would. Says whether one was wrong."""
+        before = bytes(self.octets)
+        self.octets[10:12] = bytes(2)
+        self.octets[10:12] = (~total_of(bytes(self.octets[: self.head])) & 0xFFFF).to_bytes(2)
+        place = self._sum_place()
+        if place is not None and self.is_whole and not self.is_fragment:
+            self.octets[place : place + 2] = bytes(2)
+            payload = bytes(self.octets[self.head : self.number(2)])
+            pseudo = b"" if self.protocol == ICMP else self.octets[12:20] + struct.pack(">HH", self.protocol, len(payload))
+            total = ~total_of(bytes(pseudo) + payload) & 0xFFFF
+            self.octets[place : place + 2] = (total or (0xFFFF if self.protocol == UDP else 0)).to_bytes(2)
+        return before != bytes(self.octets)
