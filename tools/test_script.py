@@ -100,6 +100,7 @@ class Script(unittest.TestCase):
             self.assertEqual((code, text[: len(front)]), (status, front))
         self.assertFalse(self.was_called("rt") or self.was_called("quick"))
 
+    @unittest.skipUnless(os.path.exists(f"{TOP}/crates.txt"), "what is installed builds nothing")
     def test_change_is_told_from_touch(self) -> None:
         """A source that was touched builds nothing, and one that was changed does, whatever its time."""
         os.utime(self.source)
@@ -112,6 +113,7 @@ class Script(unittest.TestCase):
         self.assertTrue(self.was_called("quick"))
         self.assertEqual(self.told(*self.run_words()), (0, ""))
 
+    @unittest.skipUnless(os.path.exists(f"{TOP}/crates.txt"), "what is installed builds nothing")
     def test_build_that_fails(self) -> None:
         """It leaves the program that was there; and where this kit has another form, all is proved."""
         self.write(self.source, "fn main() { 1; }\n")
@@ -124,6 +126,7 @@ class Script(unittest.TestCase):
     def test_without_rt(self) -> None:
         """The program that is there runs, and is said to be of other code."""
         self.write(self.source, "fn main() { 1; }\n")
+        self.assertIn("of other code than that of this checkout", self.told("--version")[1])
         os.remove(f"{self.room}/bin/rt")
         code, text = self.told(*self.run_words(), PATH="/usr/bin:/bin")
         self.assertEqual((code, text.split(".")[0]), (0, "rendapil: the program that is there runs"))
@@ -179,11 +182,23 @@ class Script(unittest.TestCase):
         self.assertEqual(self.told(*self.run_words(), status=9)[0], 9)
         self.assertLess(time.monotonic() - begun, 20)
 
+    def test_streams(self) -> None:
+        """- is standard input or output, where one word alone is it."""
+        given, written = self.run_words()[1:4], self.run_words()[4:]
+        for change, place in ((("-", *given[1:], *written), 0), ((*given[:2], "-", *written), 2), ((*given, "-", *written[1:]), 3)):
+            self.assertEqual(self.told("run", *change), (0, ""))
+            with open(f"{self.program}.words", encoding="ascii") as file:
+                self.assertEqual(file.read().split()[1 + place], "/dev/stdin" if place < 3 else "/dev/stdout")
+        self.assertEqual(self.told("audit", *given, *OUTPUTS[:2], "-", "-"), (0, ""))
+        with open(f"{self.program}.words", encoding="ascii") as file:
+            self.assertEqual(file.read().split()[6:], ["/dev/stdin", "-"])
+
     def test_report_alone(self) -> None:
         """Three words behind run are enough."""
         self.assertEqual(self.told(*self.run_words()[:4]), (0, ""))
         with open(f"{self.program}.words", encoding="ascii") as file:
             self.assertEqual(file.read().split()[4:], ["/dev/null", "/dev/null", "-"])
+        self.assertEqual(self.told(*self.run_words()[:4], line="write failed: report", status=6), (6, ""))
 
     def test_lines_and_status_are_the_programs(self) -> None:
         """They come as they are."""
@@ -209,8 +224,7 @@ class Script(unittest.TestCase):
             ({"right_in": INPUTS[0]}, magic, 4, f"right_in, {INPUTS[0]}: it is text. Are the words in their order?"),
             ({"right_in": cooked}, link, 4, f"right_in, {cooked}: it has link type 113, as tcpdump -i any gives it: editcap -F pcap -L -C 16 -T rawip {cooked} NEW"),
             ({"report": "/dev/full"}, "write failed: report", 6, "report, /dev/full: it takes no more. All outputs are cut"),
-            ({"left_in": "-"}, "usage: run", 2, "left_in: write /dev/stdin for a pipe, and ./- for a file"),
-            ({"left_out": "-"}, "usage: run", 2, "left_out: write /dev/stdout for a pipe, and ./- for a file"),
+            ({"left_out": "-", "report": "-"}, "usage: run", 2, "left_out: - can be one input alone, and one output alone. Write ./- for a file"),
             ({"left_in": "-n"}, "usage: run", 2, "left_in: write ./-n for a file"),
             ({"left_in": "a\udcff"}, "usage: run", 2, r"left_in: the name $'a\377' isn't UTF-8. A link to it may have another"),
             ({"left_in": empty}, "capture left: NoHead at 0", 4, f"left_in, {empty}: it is empty"),
