@@ -68,13 +68,11 @@ class Told(NamedTuple):
 def datagrams_in(path: str) -> Iterator[bytes]:
     """The datagrams of a capture."""
     with open(path, "rb") as file:
-        octets = file.read()
-    order, at = "<" if octets[0] in (0xD4, 0x4D) else ">", 24
-    link = struct.unpack_from(order + "I", octets, 20)[0]
-    while at < len(octets):
-        size = struct.unpack_from(order + "I", octets, at + 8)[0]
-        yield bindings.datagram_of(octets[at + 16 : at + 16 + size], link)
-        at += 16 + size
+        head = file.read(24)
+        order = "<" if head[0] in (0xD4, 0x4D) else ">"
+        link = struct.unpack(order + "I", head[20:])[0]
+        while record := file.read(16):
+            yield bindings.datagram_of(file.read(struct.unpack_from(order + "I", record, 8)[0]), link)
 
 
 def events_of(left: str, right: str, left_out: str, right_out: str, report: str) -> Iterator[Told]:
