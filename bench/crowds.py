@@ -105,9 +105,13 @@ SPACE = {
 """The parameters of a crowd, as a climb changes them."""
 
 
+PLAIN = {"own": 0, "base": 0, "step": 1, "seed": 1}
+"""Those that the found crowds leave as they are."""
+
+
 def is_crowd(parameters):
     """Whether the names aren't too long, and the numbers fit into their labels."""
-    one = {"own": 0, "base": 0, "step": 1, **parameters}
+    one = PLAIN | parameters
     octets = 2 * (one["tail"] + one["pre"] + one["post"] + one["own"]) + 1 + one["width"] + 1
     return octets <= 255 and one["base"] + one["step"] * one["crowd"] < 256 ** one["width"]
 
@@ -127,10 +131,14 @@ def crowd_over_tcp(most, **changes):
     return Crowd(most, **{**WORST_TCP, "crowd": WORST_TCP["crowd"] * most // 8192, "led": WORST_TCP["led"] * most // 8192 + (most < 8192), **changes}).octets
 
 
-def forked(octets):
+def forked(octets, bits=504, tail=1):
     """Labels of so many octets in front of one name, each of which differs from the ones before it in another bit, and then in a number."""
-    names = itertools.chain((1 << 8 * octets - 1 - bit for bit in range(8 * octets)), itertools.count())
-    return itertools.chain([resource(label(b"b") + b"\0", A, quad(HOST))], (resource(label(number.to_bytes(octets, "big")) + pointer(12), TXT) for number in names))
+    names = itertools.chain((1 << 8 * octets - 1 - bit for bit in range(min(bits, 8 * octets))), itertools.cycle(range(min(1 << 20, 256**octets))))
+    return itertools.chain([resource(label(b"b") * tail + b"\0", A, quad(HOST))], (resource(label(number.to_bytes(octets, "big")) + pointer(12), TXT) for number in names))
+
+
+FORKS = {"octets": (1, 63), "bits": (0, 504), "tail": (1, 94)}
+"""Its parameters, as a climb changes them."""
 
 
 # SNMP.
