@@ -228,11 +228,12 @@ def records(made: Iterator[bytes], most: int) -> bytes:
 
 
 def chained(links: int) -> Iterator[bytes]:
-    """Pointers, each to the one before, and then records whose owner is the last of them."""
-    yield resource(b"\x01a\x00", 1, quad(HOST))
+    """Pointers, each to the one before, and then records of which each begins at another of them."""
+    yield resource(b"\x01a\0", 1, quad("127.0.0.1"))
     places = [12, *range(41, 41 + 2 * links, 2)]
-    yield resource(FIRST, 16, b"".join(struct.pack(">H", 0xC000 | place) for place in places[:-1]))
-    yield from itertools.repeat(resource(struct.pack(">H", 0xC000 | places[-1]), 16))
+    pointers = [struct.pack(">H", 0xC000 | place) for place in places]
+    yield resource(FIRST, 16, b"".join(pointers[:-1]))
+    yield from (resource(pointer, 16) for pointer in itertools.cycle(pointers[::-1]))
 
 
 def many_addresses() -> Iterator[bytes]:
