@@ -48,8 +48,7 @@ class Names:
 
     def __init__(self, message: bytes, most: int) -> None:
         self._message, self._most = message, most
-        self._leads: dict[int, int] = {}  # from a pointer to the first octet that is none
-        self._labels: dict[int, list[bytes]] = {}  # by the place to which a pointer leads
+        self._leads: dict[int, int] = {}  # from a pointer to the first octet behind it that is none
 
     def _led_to(self, at: int) -> int:
         """The place to which a pointer leads, over further pointers."""
@@ -66,32 +65,19 @@ class Names:
         self._leads.update(dict.fromkeys(path, at))
         return at
 
-    def _labels_at(self, at: int) -> list[bytes]:
-        """The labels from a place on."""
-        labels: list[bytes] = []
-        while len(labels) < self._most and (size := self._message[at]):
-            if size >= 192:
-                at = self._led_to(at)
-            else:
-                labels.append(self._message[at + 1 : at + 1 + size])
-                at += 1 + size
-        return labels
-
     def read(self, at: int) -> tuple[list[bytes], int]:
         """The labels of the name at a place, and the place behind it."""
         labels: list[bytes] = []
-        while size := self._message[at]:
+        end = 0
+        while (size := self._message[at]) and not (end and len(labels) == self._most):
             if size >= 192:
+                end = end or at + 2
+                at = self._led_to(at)
+            else:
                 if len(labels) < self._most:
-                    to = self._led_to(at)
-                    if to not in self._labels:
-                        self._labels[to] = self._labels_at(to)
-                    labels += self._labels[to][: self._most - len(labels)]
-                return labels, at + 2
-            if len(labels) < self._most:
-                labels.append(self._message[at + 1 : at + 1 + size])
-            at += 1 + size
-        return labels, at + 1
+                    labels.append(self._message[at + 1 : at + 1 + size])
+                at += 1 + size
+        return labels, end or at + 1
 
 
 def address_of_reverse(labels: list[bytes]) -> list[bytes]:
