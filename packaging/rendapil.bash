@@ -1,17 +1,18 @@
 # Completion of rendapil for bash.
 _rendapil() {
-    local cur prev words cword commands="run audit make check explain try help --help --version"
+    local cur prev words cword commands="run audit make check explain try test"
+    [ ! -e "$(dirname "$(readlink -f "$(type -P "$1")")")/crates.txt" ] || commands+=" prove"
     _init_completion || return
     if [ "$cword" -eq 1 ]; then
-        mapfile -t COMPREPLY < <(compgen -W "$commands" -- "$cur")
+        mapfile -t COMPREPLY < <(compgen -W "$commands help --help --version --program --quiet" -- "$cur")
         return
     fi
     case "${words[1]} $cur" in
     "explain -"*) mapfile -t COMPREPLY < <(compgen -W "--statics --json --events --html --pcapng --help" -- "$cur") ;;
     "try -"*) mapfile -t COMPREPLY < <(compgen -W "--left --same --keep-sums --out --help" -- "$cur") ;;
     "check -"*) mapfile -t COMPREPLY < <(compgen -W "--brief --help" -- "$cur") ;;
-    "run -"* | "audit -"* | "make -"*) mapfile -t COMPREPLY < <(compgen -W "--help -" -- "$cur") ;;
-    "help "*) mapfile -t COMPREPLY < <(compgen -W "run audit make check explain try" -- "$cur") ;;
+    "run -"* | "audit -"* | "make -"*) mapfile -t COMPREPLY < <(compgen -W "--quiet --help -" -- "$cur") ;;
+    "help "* | "--quiet "*) mapfile -t COMPREPLY < <(compgen -W "$commands" -- "$cur") ;;
     *)
         case "$prev" in
         --left | --same) ;;

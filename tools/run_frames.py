@@ -8,6 +8,7 @@ from functools import lru_cache
 from typing import NamedTuple
 
 from bindings import DNS_PORT, FTP_PORT, LABELS, SECOND, TCP, UDP, Names
+from run_files import Frame
 
 PROTOCOLS = {1: "ICMP", TCP: "TCP", UDP: "UDP"}
 TYPES = {1: "A", 2: "NS", 5: "CNAME", 6: "SOA", 12: "PTR", 15: "MX", 16: "TXT", 28: "AAAA", 33: "SRV", 41: "OPT", 252: "AXFR", 255: "ANY"}
@@ -15,15 +16,8 @@ FLAGS = "FSRPAUEC"
 TEXT = 300
 """The most characters of a line that are shown."""
 
-SECRET = re.compile(rb"(?i)^(PASS|ACCT) .*", re.DOTALL)
-
-
-class Frame(NamedTuple):
-    """A record of a capture, with the capture's link, and the length that the frame had on the wire."""
-
-    octets: bytes = b""
-    link: int = 0
-    length: int = 0
+SECRET, HIDDEN = re.compile(rb"(?i)^(PASS|ACCT) .*", re.DOTALL), "(hidden)"
+"""A line of FTP that gives a password, and what is shown in place of it."""
 
 
 @dataclass(slots=True)
@@ -50,9 +44,7 @@ def plain(octets: bytes) -> str:
 
 @lru_cache(maxsize=64)
 def second_of(seconds: int) -> str:
-    """A second of UTC. ValueError beyond the year 9999, where no capture's stamp lies."""
-    if seconds >= 253402300800:
-        raise ValueError(f"{seconds} seconds since 1970 are no stamp")
+    """A second of UTC."""
     return f"{datetime.fromtimestamp(seconds, timezone.utc):%Y-%m-%dT%H:%M:%S}"
 
 

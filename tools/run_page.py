@@ -9,6 +9,7 @@ from bindings import SIDES, Binding
 from run_frames import Verdict
 from run_gathered import PARTS, Gathered, Parts
 from run_pictures import BOTTOM, HEIGHT, LEFT, TOP, WIDTH, Axis, Picture, Tick, clock, filled, span, stacked
+from run_story import Story
 
 SHOWN_BINDINGS, SHOWN_REFUSED = 500, 100
 """The most rows of each table."""
@@ -102,8 +103,8 @@ class Page:
             found.append((kind, pictures))
         return found
 
-    def write(self, path: str, run: Gathered, story) -> None:
-        """Writes the page."""
+    def written(self, run: Gathered, story: Story) -> str:
+        """The page."""
         from jinja2 import Environment, FileSystemLoader, StrictUndefined
 
         room = Environment(
@@ -113,13 +114,12 @@ class Page:
         for parts in (run.by_time, run.by_number):
             parts.join_to(max(30, min(PARTS, sum(run.counts.values()))))
         reasons = self._colour(run)
-        used = [one for one in run.bindings if one.uses]
+        used = story.used()
         most_used = sorted(used, key=lambda one: -one.uses)[:SHOWN_BINDINGS]
         axis = self.axes(run)[0][2]
-        rows = story.refusals()
         style, script = (self._part(room, name) for name in ("run_page.css", "run_page.js"))
         total, refused = sum(run.counts.values()), sum(count for _, count in reasons)
-        text = room.get_template("run_page.html").render(
+        return room.get_template("run_page.html").render(
             {
                 **{"story": story, "run": run, "names": self.names, "verdicts": self.verdicts, "classes": self.classes, "sides": SIDES},
                 **{"clock": clock, "span": span, "counted": counted, "group_of": self.group_of},
@@ -130,15 +130,14 @@ class Page:
                 "pools": self.pools_pictures(run),
                 "bars": [bar_of(one, axis) for one in sorted(most_used, key=lambda one: (one.side, one.host, one.first))],
                 "bar_ticks": [(round(tick.at, 2), tick.text) for tick in self._hundredths(axis)],
-                "bindings_count": len(used) + run.bindings_left_out,
-                "refused": rows[:SHOWN_REFUSED],
-                "refused_count": len(rows),
+                "bindings_count": len(used) + story.left_out,
+                "refused": story.refusals.rows(SHOWN_REFUSED),
+                "refused_count": len(story.refusals.rows()),
+                "missed": story.missed + story.table.missed,
                 "sessions": run.sessions.shown,
                 **{"style": style[0], "style_hash": style[1], "script": script[0], "script_hash": script[1]},
             }
         )
-        with open(path, "w", encoding="utf-8") as file:
-            file.write(text)
 
     @staticmethod
     def _hundredths(axis: Axis) -> list[Tick]:

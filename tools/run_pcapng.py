@@ -1,9 +1,11 @@
 """All four captures of a run as one, for Wireshark: in the run's order, each frame behind the one that it became, with comments. What is written
 here of the format (draft-ietf-opsawg-pcapng) are three blocks: a section's head, an interface and a frame."""
 import struct
+from typing import BinaryIO
 
 from bindings import SIDES
-from run_frames import Event, Frame, Verdict, compared, spoken, ways
+from run_files import Frame
+from run_frames import Event, Verdict, compared, spoken, ways
 
 INTERFACES = [f"{side}-{way}" for side in SIDES for way in ("in", "out")]
 COMMENT, NAME, PROGRAM, UNIT = 1, 2, 4, 9
@@ -22,9 +24,9 @@ def block(kind: int, body: bytes, *options: tuple[int, bytes]) -> bytes:
 class Commented:
     """Writes a capture in the format pcapng with the frames of a run. `links` are those of left-in, left-out, right-in and right-out."""
 
-    def __init__(self, path: str, links: list[int], verdicts: dict[str, Verdict]) -> None:
+    def __init__(self, file: BinaryIO, links: list[int], verdicts: dict[str, Verdict]) -> None:
         self._verdicts = verdicts
-        self._file = open(path, "wb")
+        self._file = file
         self._file.write(block(0x0A0D0D0A, struct.pack("<IHHq", 0x1A2B3C4D, 1, 0, -1), (PROGRAM, b"rendapil explain")))
         for name, link in zip(INTERFACES, links):
             self._file.write(block(1, struct.pack("<HHI", link, 0, 0), (NAME, name.encode()), (UNIT, b"\x09")))
@@ -61,7 +63,3 @@ class Commented:
                 rows = [pieces for pieces in compared(ones, others) if any(piece.changed for piece in pieces)]
                 changed += [f"\n{mark} " + "".join(piece.text for piece in pieces) for pieces in rows[:20]]
         return front + f"{ways(event.datagram)} became {ways(event.images[0])}" + "".join(changed)
-
-    def close(self) -> None:
-        """Closes the file."""
-        self._file.close()

@@ -106,6 +106,6 @@ END {
     find_chains()
     find_room()
     go_through()
-    # Half a minute more of both, so that the first crates don't weigh too much.
-    printf "%d\n", (clock - at) * (passed + 30) / (at + 30)
+    # Ten seconds more of both, so that the first crate doesn't weigh too much.
+    printf "%d\n", (clock - at) * (passed + 10) / (at + 10)
 }

@@ -79,31 +79,6 @@ class Check(unittest.TestCase):
             file.write(b"a = 1\n# \xff\n")
         self.assertIn("line 2 isn't text in UTF-8", said(f"{TOOLS}/check_settings", self.name)[1])
 
-    def test_captures(self) -> None:
-        """What stands in the way in captures is told, with as many frames as the program refuses for it; of the example nothing is."""
-        from datagrams import udp
-
-        self.assertEqual(said(f"{TOOLS}/check_settings", "--brief", *INPUTS), (0, ""))
-        good, far, own = (udp(source, 4, to, 5, b"x") for source, to in (("10.0.0.9", "192.168.200.1"), ("10.0.0.9", "10.0.0.8"), ("192.168.200.9", "192.168.200.1")))
-        ether = [bytes(12) + b"\x81\0\0\7\x08\0" + good, bytes(12) + b"\x08\0" + good[:26] + b"\0\1" + good[28:]]
-        names = [f"{self.room}/{name}" for name in ("left", "right")]
-        for name, datagrams, link in zip(names, ([good, far, own, far], ether), (101, 1)):
-            with open(name, "wb") as file:
-                file.write(capture(datagrams)[:20] + struct.pack("<I", link) + capture(datagrams)[24:])
-        with open(self.name, "w", encoding="ascii") as file:
-            file.write(RIGHT + '[[static]]\nside = "right"\nhost = "10.0.0.5"\nalias = "192.168.200.1"\n')
-        status, text = said(f"{TOOLS}/check_settings", "--brief", self.name, *names)
-        expected = [(names[0], "1 of 4", "SourceInPool"), (names[0], "2 of 4", "NoBinding"), (names[1], "1 of 2", "NotIpv4"), (names[1], "1 of 2", "BadSum")]
-        self.assertEqual((status, [re.match(r"(.*): (\d+ of \d+) frames .*: (\w+)\. ", line).groups() for line in text.splitlines()]), (1, expected))
-        if os.access(PROGRAM, os.X_OK):
-            words = [self.name, *names, f"{self.room}/lo", f"{self.room}/ro", f"{self.room}/report"]
-            self.assertEqual(said(PROGRAM, "run", *words), (0, ""))
-            with open(words[-1], encoding="ascii") as file:
-                verdicts = sorted(line.split()[3] for line in file if not line.startswith("done"))
-            self.assertEqual(verdicts, ["BadSum", "NoBinding", "NoBinding", "NotIpv4", "SourceInPool", "pass"])
-        self.assertEqual(said(f"{TOOLS}/check_settings", "--brief", self.name, self.name, "absent")[1].count("\n"), 2)
-        self.assertEqual(said(f"{TOOLS}/check_settings", self.name, names[0])[0], 2)
-
     def test_examples(self) -> None:
         """Those of this repository are right, and told."""
         for name in (f"{MERGER}/settings.toml", f"{LIVE}/settings.toml", f"{TOP}/examples/live/settings.toml"):
