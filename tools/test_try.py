@@ -13,6 +13,7 @@ from importlib.util import find_spec
 
 from testing import PROGRAM, TOOLS, capture, said
 
+from any_capture import records
 from datagrams import icmp, tcp, udp  # testing says where it is
 from run_pcapng import block
 
@@ -98,6 +99,21 @@ class InRoom(unittest.TestCase):
     def counts(self, text: str) -> dict[str, int]:
         """How many frames had each verdict."""
         return {name: int(count) for count, name in re.findall(r"(?m)^ *(\d+)  ([a-z]+$|[A-Z]\w+(?=:))", text)}
+
+
+class Order(InRoom):
+    """In which order frames are taken."""
+
+    @unittest.skipUnless(find_spec("scapy"), "this Python has no scapy")
+    def test_order(self) -> None:
+        """By their stamps where these are a little out of order, and as they stand where time begins anew; a stamp that is none is that before."""
+        for seconds, expected in (
+            ([1, 3, 2, 5, 4], [1, 2, 3, 4, 5]),
+            ([*range(1000, 1500), *range(1, 500)], [*range(1000, 1500), *range(1, 500)]),
+            ([4000000000, *range(1, 500)], [*range(1, 500), 4000000000]),
+        ):
+            whole = struct.pack("<IHHiIII", 0xA1B2C3D4, 2, 4, 0, 0, 262144, 101) + b"".join(struct.pack("<IIII", second, 0, 1, 1) + b"x" for second in seconds)
+            self.assertEqual([one.moment // 10**9 for one in records(self.write("capture", whole))], expected)
 
 
 @unittest.skipUnless(HAS_SCAPY and os.access(PROGRAM, os.X_OK), "there is no python3-scapy, or the program isn't built")
