@@ -1,11 +1,9 @@
 """What `check` finds."""
 import os
-import re
-import struct
 import tempfile
 import unittest
 
-from testing import INPUTS, LIVE, MERGER, PROGRAM, RIGHT, TOOLS, TOP, capture, said
+from testing import LIVE, MERGER, PROGRAM, RIGHT, TOOLS, TOP, said
 
 FAULTS = (
     ("left = 5", "Kind left"),

@@ -177,9 +177,15 @@ class Try(InRoom):
         name = self.write("capture", capture(login() + others))
         status, text = self.tried(name, "--left", "10.1.0.5/32", "10.1.0.6/32", "10.1.255.255/32", "--same", "9.9.9.0/24", "--keep-sums")
         self.assertEqual((status, self.counts(text)), (0, {"pass": 5, "BadSum": 1, "AckAhead": 1}))
-        for count, why in ((2, "between two hosts of the left realm"), (1, "between two hosts of the right realm"), (1, "between two hosts of same blocks"), (1, "not between two hosts"), (1, "no IPv4")):
-            self.assertRegex(text, f"(?m)^ *{count}  frames left out: {why}")
-        self.assertIn("BadSum: a checksum is wrong", re.sub(r"BadSum: .*?checksum.*", "BadSum: a checksum is wrong", text))
+        for line in (
+            "2  frames left out: between two hosts of the left realm",
+            "1  frames left out: between two hosts of the right realm",
+            "1  frames left out: between two hosts of same blocks",
+            "1  frames left out: not between two hosts (broadcast, multicast)",
+            "1  frames left out: no IPv4 (ARP, IPv6), or cut before its end",
+            "1  BadSum: the ICMP, TCP or UDP checksum is wrong. What to do: turn off checksum offload",
+        ):
+            self.assertIn(line, text)
 
     def test_fragments(self) -> None:
         """They are joined, with the checksum that offloading leaves in the first one too."""
