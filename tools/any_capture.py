@@ -32,9 +32,10 @@ def records(path: str) -> Iterator[Record]:
     """The frames of a capture, by their stamps: where it has several interfaces they may be a little out of order."""
     waiting: list[tuple[int, int, Record]] = []
     for number, record in enumerate(read(path)):
-        heapq.heappush(waiting, (record.moment, number, record))
         if number >= WINDOW:
-            yield heapq.heappop(waiting)[2]
+            yield heapq.heappushpop(waiting, (record.moment, number, record))[2]
+        else:
+            heapq.heappush(waiting, (record.moment, number, record))
     yield from (record for *_, record in sorted(waiting))
 
 

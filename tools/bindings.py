@@ -8,7 +8,7 @@ from bisect import bisect_right
 from collections.abc import Callable, Iterable, Iterator
 from dataclasses import dataclass, field
 from ipaddress import IPv4Address, IPv4Network
-from itertools import zip_longest
+from itertools import accumulate, zip_longest
 
 SIDES = ("left", "right")
 ETHERNET = 1
@@ -48,8 +48,7 @@ class Names:
 
     def __init__(self, message: bytes, most: int) -> None:
         self._message, self._most = message, most
-        self._leads: dict[int, int] = {}  # from a pointer to the first octet that is none
-        self._labels: dict[int, list[bytes]] = {}  # by the place to which a pointer leads
+        self._leads: dict[int, int] = {}  # from a pointer to the first octet behind it that is none
 
     def _led_to(self, at: int) -> int:
         """The place to which a pointer leads, over further pointers."""
@@ -66,32 +65,19 @@ class Names:
         self._leads.update(dict.fromkeys(path, at))
         return at
 
-    def _labels_at(self, at: int) -> list[bytes]:
-        """The labels from a place on."""
-        labels: list[bytes] = []
-        while len(labels) < self._most and (size := self._message[at]):
-            if size >= 192:
-                at = self._led_to(at)
-            else:
-                labels.append(self._message[at + 1 : at + 1 + size])
-                at += 1 + size
-        return labels
-
     def read(self, at: int) -> tuple[list[bytes], int]:
         """The labels of the name at a place, and the place behind it."""
         labels: list[bytes] = []
-        while size := self._message[at]:
+        end = 0
+        while (size := self._message[at]) and not (end and len(labels) == self._most):
             if size >= 192:
+                end = end or at + 2
+                at = self._led_to(at)
+            else:
                 if len(labels) < self._most:
-                    to = self._led_to(at)
-                    if to not in self._labels:
-                        self._labels[to] = self._labels_at(to)
-                    labels += self._labels[to][: self._most - len(labels)]
-                return labels, at + 2
-            if len(labels) < self._most:
-                labels.append(self._message[at + 1 : at + 1 + size])
-            at += 1 + size
-        return labels, at + 1
+                    labels.append(self._message[at + 1 : at + 1 + size])
+                at += 1 + size
+        return labels, end or at + 1
 
 
 def address_of_reverse(labels: list[bytes]) -> list[bytes]:
@@ -158,8 +144,8 @@ class Session:
     """What is kept of an FTP control connection or a connection of DNS over TCP: by the side of each host, its stream as it comes and as it goes
     on, and the bindings of the addresses that it has named."""
 
-    def __init__(self, client: int, port: int) -> None:
-        self.client, self.port = client, port
+    def __init__(self, port: int) -> None:
+        self.port = port
         self.comes, self.goes = (Stream(), Stream()), (Stream(), Stream())
         self.named: tuple[dict[Binding, None], dict[Binding, None]] = ({}, {})
 
@@ -196,13 +182,13 @@ class Connection:
         return LONG_TIMEOUT if self.is_established else TCP_HOLD
 
 
-def connection_begun(known: Connection | None, side: int, segment: bytes) -> Connection:
+def connection_begun(known: Connection | None, segment: bytes) -> Connection:
     """The connection of a segment that passed, by what was known of it."""
     is_first = segment[33] & (SYN | ACK) == SYN
     if known and not (known.is_closing and not known.session and is_first):
         return known
     port = int.from_bytes(segment[22:24])
-    return Connection(Session(side, port) if not known and is_first and port in (FTP_PORT, DNS_PORT) else None)
+    return Connection(Session(port) if not known and is_first and port in (FTP_PORT, DNS_PORT) else None)
 
 
 # The table.
@@ -313,9 +299,7 @@ class Blocks:
     def __init__(self, blocks: Iterable[str]) -> None:
         ranges = sorted((int(block[0]), int(block[-1])) for block in map(IPv4Network, blocks))
         self._firsts = [first for first, _ in ranges]
-        self._lasts: list[int] = []  # the greatest address of a block and of those before it
-        for _, last in ranges:
-            self._lasts.append(max(last, *self._lasts[-1:]) if self._lasts else last)
+        self._lasts = list(accumulate((last for _, last in ranges), max))  # the greatest address of a block and of those before it
 
     def __contains__(self, address: int) -> bool:
         """Whether an address lies in one of them."""
@@ -434,7 +418,8 @@ class Bindings:
         """A datagram of UDP or ICMP: its addresses, and those that a DNS message names."""
         self._header(side, moment, came, sent, UDP_TIMEOUT if came[9] == UDP else PING_HOLD)
         if came[9] == UDP and DNS_PORT in struct.unpack_from(">HH", came, 20):
-            for name, shown in zip_longest(named_in(came[28:]), named_in(sent[0][28:])):
+            names, images = named_in(came[28:]), named_in(sent[0][28:])
+            for name, shown in zip_longest(names, images[: len(names)]):
                 self._use(side, moment, name, shown, NAME_HOLD)
 
     def _segment(self, side: int, moment: int, came: bytes, sent: list[bytes]) -> None:
@@ -448,7 +433,7 @@ class Bindings:
             connection, hold = known, TCP_HOLD
             self._connections.pop(key, None)
         else:
-            connection = self._connections[key] = connection_begun(known, side, came)
+            connection = self._connections[key] = connection_begun(known, came)
             hold = connection.note(side, came[33])
             connection.end = moment + hold
         self._header(side, moment, came, sent, hold)
@@ -463,12 +448,16 @@ class Bindings:
             new, shown = session.comes[side].take(came), b"".join(map(session.goes[side].take, sent))
         if session.port != DNS_PORT:
             return
-        for message, image in zip(session.comes[side].messages(new), session.goes[side].messages(shown)):
-            for written, alias in zip(named_in(message), named_in(image)):
-                if binding := self._use(side, moment, written, alias, hold):
-                    session.named[side][binding] = None
-        for named in session.named:
-            for binding in named:
+        messages, images = list(session.comes[side].messages(new)), list(session.goes[side].messages(shown))
+        named = [[address for message in some for address in named_in(message)] for some in (messages, images)]
+        if len(messages) != len(images) or len(named[0]) != len(named[1]):
+            session.port = 0  # what it names isn't followed any more
+            raise ValueError("messages that don't belong together")
+        for written, alias in zip(*named):
+            if binding := self._use(side, moment, written, alias, hold):
+                session.named[side][binding] = None
+        for bindings in session.named:
+            for binding in bindings:
                 binding.use(moment, moment + hold)
 
     def _forget_connections(self, moment: int) -> None:

@@ -6,6 +6,7 @@ from bindings import TCP, UDP
 ICMP = 1
 ICMP_ERRORS = (3, 4, 11, 12)
 SUM_AT = {ICMP: 2, TCP: 16, UDP: 6}
+HEADER = struct.Struct(">BxHxxHxBxxII")
 
 
 def is_host(address: int) -> bool:
@@ -15,64 +16,50 @@ def is_host(address: int) -> bool:
 
 def total_of(octets: bytes) -> int:
     """The ones' complement sum of octets."""
-    octets += bytes(len(octets) % 2)
-    total = sum(struct.unpack(f">{len(octets) // 2}H", octets))
-    while total >> 16:
-        total = (total & 0xFFFF) + (total >> 16)
-    return total
+    number = int.from_bytes(octets + bytes(len(octets) % 2))
+    return number % 0xFFFF or (0xFFFF if number else 0)
 
 
 def adjusted(old_sum: int, old: bytes, new: bytes) -> int:
     """A checksum after a change (RFC 1624): a wrong one stays as wrong as it was."""
-    total = (~old_sum & 0xFFFF) + (~total_of(old) & 0xFFFF) + total_of(new)
-    while total >> 16:
-        total = (total & 0xFFFF) + (total >> 16)
-    return ~total & 0xFFFF
+    return ~total_of(struct.pack(">HHH", ~old_sum & 0xFFFF, ~total_of(old) & 0xFFFF, total_of(new))) & 0xFFFF
 
 
 class Packet:
-    """An IPv4 datagram that is changed in place, its sums with it."""
+    """An IPv4 datagram that is changed in place, its sums with it. What is known of its header is that of its beginning."""
+
+    __slots__ = ("destination", "flags", "head", "octets", "protocol", "source", "total")
 
     def __init__(self, octets: bytes) -> None:
         self.octets = bytearray(octets)
-        self.head = (octets[0] & 15) * 4
-        self.protocol = octets[9]
+        size, self.total, self.flags, self.protocol, self.source, self.destination = HEADER.unpack_from(octets)
+        self.head = (size & 15) * 4
 
     def number(self, at: int, size: int = 2) -> int:
         """A number in it."""
         return int.from_bytes(self.octets[at : at + size])
 
     @property
-    def source(self) -> int:
-        """Its source."""
-        return self.number(12, 4)
-
-    @property
-    def destination(self) -> int:
-        """Its destination."""
-        return self.number(16, 4)
-
-    @property
     def is_fragment(self) -> bool:
         """Whether it is a part of a datagram."""
-        return bool(self.number(6) & 0x3FFF)
+        return bool(self.flags & 0x3FFF)
 
     @property
     def is_whole(self) -> bool:
         """Whether all of it was kept."""
-        return len(self.octets) >= self.number(2) >= self.head
+        return len(self.octets) >= self.total >= self.head
 
     @property
     def is_icmp_error(self) -> bool:
         """Whether it is an ICMP error that holds the beginning of a datagram."""
         octets, head = self.octets, self.head
-        is_error = self.protocol == ICMP and not self.number(6) & 0x1FFF and len(octets) >= head + 28
+        is_error = self.protocol == ICMP and not self.flags & 0x1FFF and len(octets) >= head + 28
         return is_error and octets[head] in ICMP_ERRORS and octets[head + 8] >> 4 == 4
 
     def _sum_place(self) -> int | None:
         """Where its transport's checksum is, if it has one."""
         at = SUM_AT.get(self.protocol)
-        if at is None or self.number(6) & 0x1FFF or len(self.octets) < self.head + at + 2:
+        if at is None or self.flags & 0x1FFF or len(self.octets) < self.head + at + 2:
             return None
         if self.protocol == UDP and not self.number(self.head + at):
             return None
@@ -97,7 +84,7 @@ class Packet:
         place = self._sum_place()
         if place is not None and self.is_whole and not self.is_fragment:
             self.octets[place : place + 2] = bytes(2)
-            payload = bytes(self.octets[self.head : self.number(2)])
+            payload = bytes(self.octets[self.head : self.total])
             pseudo = b"" if self.protocol == ICMP else self.octets[12:20] + struct.pack(">HH", self.protocol, len(payload))
             total = ~total_of(bytes(pseudo) + payload) & 0xFFFF
             self.octets[place : place + 2] = (total or (0xFFFF if self.protocol == UDP else 0)).to_bytes(2)

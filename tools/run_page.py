@@ -117,7 +117,6 @@ class Page:
         used = story.used()
         most_used = sorted(used, key=lambda one: -one.uses)[:SHOWN_BINDINGS]
         axis = self.axes(run)[0][2]
-        rows = story.refusals.rows()
         style, script = (self._part(room, name) for name in ("run_page.css", "run_page.js"))
         total, refused = sum(run.counts.values()), sum(count for _, count in reasons)
         return room.get_template("run_page.html").render(
@@ -132,8 +131,9 @@ class Page:
                 "bars": [bar_of(one, axis) for one in sorted(most_used, key=lambda one: (one.side, one.host, one.first))],
                 "bar_ticks": [(round(tick.at, 2), tick.text) for tick in self._hundredths(axis)],
                 "bindings_count": len(used) + story.left_out,
-                "refused": rows[:SHOWN_REFUSED],
-                "refused_count": len(rows),
+                "refused": story.refusals.rows(SHOWN_REFUSED),
+                "refused_count": len(story.refusals.rows()),
+                "missed": story.missed + story.table.missed,
                 "sessions": run.sessions.shown,
                 **{"style": style[0], "style_hash": style[1], "script": script[0], "script_hash": script[1]},
             }

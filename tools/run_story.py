@@ -88,13 +88,14 @@ class Refusals:
             sum_of.first, sum_of.last, sum_of.count = min(sum_of.first, row.first), max(sum_of.last, row.last), sum_of.count + row.count
             self._summed[key[:2]] = sum_of, hosts + 1
 
-    def rows(self) -> list[tuple[str, str, str, Row]]:
-        """Reason, side and host with its frames, the most frequent first, and at the end those that are summed."""
+    def rows(self, most: int = HOSTS) -> list[tuple[str, str, str, Row]]:
+        """Reason, side and host with its frames: the most frequent ones, and at the end those that are summed."""
         if len(self._rows) > HOSTS:
             self._sum_rarest()
         kept = [(reason, SIDES[side], named(host), row) for (reason, side, host), row in self._rows.items()]
         summed = [(reason, SIDES[side], f"{count:,} other hosts", row) for (reason, side), (row, count) in self._summed.items()]
-        return [one for rows in (kept, summed) for one in sorted(rows, key=lambda one: -one[3].count)]
+        kept, summed = (sorted(rows, key=lambda one: -one[3].count) for rows in (kept, summed))
+        return kept[:most] + summed
 
 
 class Story:
@@ -118,7 +119,7 @@ class Story:
             ended = sorted((one for one in self.bindings if one.uses and not self._holds(one)), key=lambda one: -one.uses)
             self.left_out += len(ended[ENDED:])
             self.bindings = ended[:ENDED] + live
-            self._most = 2 * len(self.bindings) + ENDED
+            self._most = len(self.bindings) + 3 * ENDED
 
     def _holds(self, binding: Binding) -> bool:
         """Whether no other binding has followed on its address."""
@@ -151,7 +152,7 @@ class Story:
             raise ValueError(f"event {number}: {names[side]} has no frame left")
         if moment != max(frame.moment, self.last):
             raise ValueError(f"event {number}: the frame of {names[side]} has another stamp")
-        went = list(islice(sent, count)) if count < 16 else list(islice(limited(sent), count))
+        went = list(islice(sent if count < 16 else limited(sent), count)) if count else []
         if len(went) < count:
             raise ValueError(f"event {number}: {names[3 - side]} has no frame left")
         images = [datagram_of(one.octets, one.link) for one in went]

@@ -68,13 +68,11 @@ class Told(NamedTuple):
 def datagrams_in(path: str) -> Iterator[bytes]:
     """The datagrams of a capture."""
     with open(path, "rb") as file:
-        octets = file.read()
-    order, at = "<" if octets[0] in (0xD4, 0x4D) else ">", 24
-    link = struct.unpack_from(order + "I", octets, 20)[0]
-    while at < len(octets):
-        size = struct.unpack_from(order + "I", octets, at + 8)[0]
-        yield bindings.datagram_of(octets[at + 16 : at + 16 + size], link)
-        at += 16 + size
+        head = file.read(24)
+        order = "<" if head[0] in (0xD4, 0x4D) else ">"
+        link = struct.unpack(order + "I", head[20:])[0]
+        while record := file.read(16):
+            yield bindings.datagram_of(file.read(struct.unpack_from(order + "I", record, 8)[0]), link)
 
 
 def events_of(left: str, right: str, left_out: str, right_out: str, report: str) -> Iterator[Told]:
@@ -230,11 +228,12 @@ def records(made: Iterator[bytes], most: int) -> bytes:
 
 
 def chained(links: int) -> Iterator[bytes]:
-    """Pointers, each to the one before, and then records whose owner is the last of them."""
-    yield resource(b"\x01a\x00", 1, quad(HOST))
+    """Pointers, each to the one before, and then records of which each begins at another of them."""
+    yield resource(b"\x01a\0", 1, quad("127.0.0.1"))
     places = [12, *range(41, 41 + 2 * links, 2)]
-    yield resource(FIRST, 16, b"".join(struct.pack(">H", 0xC000 | place) for place in places[:-1]))
-    yield from itertools.repeat(resource(struct.pack(">H", 0xC000 | places[-1]), 16))
+    pointers = [struct.pack(">H", 0xC000 | place) for place in places]
+    yield resource(FIRST, 16, b"".join(pointers[:-1]))
+    yield from (resource(pointer, 16) for pointer in itertools.cycle(pointers[::-1]))
 
 
 def many_addresses() -> Iterator[bytes]:

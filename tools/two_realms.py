@@ -25,6 +25,8 @@ HOSTS, SAID = 10_000, 1 << 26
 """The most hosts of a capture that are taken, so that the settings aren't too long, and the most bytes of its FTP and DNS that are followed."""
 
 TRACKED = (FTP_PORT, DNS_PORT)
+BOTH, NOBODY = 2, 3
+PORTS = struct.Struct(">HH")
 
 
 @dataclass
@@ -65,22 +67,22 @@ class TwoRealms:
         self._table: Bindings
 
     def side_of(self, address: int) -> int:
-        """The realm of a host, or 2 where it means the same host in both realms."""
+        """The realm of a host, or BOTH where it means the same host in both realms, or NOBODY where it isn't the address of one."""
         side = self._sides.get(address)
         if side is None:
             whole = IPv4Address(address)
-            side = 2 if any(whole in block for block in self.same) else 0 if any(whole in block for block in self.left) else 1
+            side = NOBODY if not is_host(address) else BOTH if any(whole in block for block in self.same) else int(not any(whole in block for block in self.left))
             if len(self._sides) < 1 << 17:
                 self._sides[address] = side
         return side
 
     def _stays(self, packet: Packet) -> str:
         """Why a datagram doesn't cross the gateway, if it doesn't."""
-        if not (is_host(packet.source) and is_host(packet.destination)):
+        one, other = self.side_of(packet.source), self.side_of(packet.destination)
+        if NOBODY in (one, other):
             return "not between two hosts (broadcast, multicast)"
-        sides = self.side_of(packet.source), self.side_of(packet.destination)
-        if sides[0] == sides[1]:
-            return "between two hosts of same blocks" if sides[0] == 2 else f"between two hosts of the {SIDES[sides[0]]} realm"
+        if one == other:
+            return "between two hosts of same blocks" if one == BOTH else f"between two hosts of the {SIDES[one]} realm"
         return ""
 
     # What is there.
@@ -106,7 +108,7 @@ class TwoRealms:
         ends = [(packet.source, False), (packet.destination, True)]
         if packet.is_icmp_error:
             ends += [(address, True) for at in (20, 24) if is_host(address := packet.number(packet.head + at, 4))]
-        ends = [end for end in ends if self.side_of(end[0]) != 2]
+        ends = [end for end in ends if self.side_of(end[0]) != BOTH]
         if len(self.hosts) > HOSTS - 4 and any(address not in self.hosts for address, _ in ends):
             return f"of hosts behind the first {HOSTS:,}"
         for address, is_spoken_to in ends:
@@ -120,12 +122,12 @@ class TwoRealms:
         """Notes the server of a conversation, and what is said on FTP control connections and in DNS over TCP."""
         if packet.protocol not in (TCP, UDP) or packet.is_fragment or len(packet.octets) < packet.head + 8:
             return
-        port, far_port = packet.number(packet.head), packet.number(packet.head + 2)
+        port, far_port = PORTS.unpack_from(packet.octets, packet.head)
         if (host := self.hosts.get(packet.destination)) and far_port < port and len(host.ports) < 64:
             host.ports[f"{far_port}/{'tcp' if packet.protocol == TCP else 'udp'}"] += 1
         if packet.protocol != TCP or not (port in TRACKED or far_port in TRACKED) or len(packet.octets) < packet.head + 20:
             return
-        segment = packet.octets[packet.head : packet.number(2)]
+        segment = packet.octets[packet.head : packet.total]
         sequence, offset, flags = packet.number(packet.head + 4, 4), segment[12] >> 4, segment[13]
         is_client = far_port in TRACKED
         key = (packet.source, port, packet.destination, far_port) if is_client else (packet.destination, far_port, packet.source, port)
@@ -194,9 +196,9 @@ class TwoRealms:
         for frame in frames:
             datagram, length = whole_of(frame.link, frame.octets)
             packet = Packet(datagram) if datagram else None
-            if not packet or self._stays(packet) or not all(one in self.hosts or self.side_of(one) == 2 for one in (packet.source, packet.destination)):
+            if not packet or self._stays(packet) or len(self.hosts) > HOSTS - 4 and not all(one in self.hosts or self.side_of(one) == BOTH for one in (packet.source, packet.destination)):
                 continue
-            side = 1 - self.side_of(packet.destination) if self.side_of(packet.source) == 2 else self.side_of(packet.source)
+            side = 1 - self.side_of(packet.destination) if self.side_of(packet.source) == BOTH else self.side_of(packet.source)
             latest, before = max(frame.moment, latest + (side < before)), side
             if self.is_mended and packet.is_whole:
                 self.mended += packet.mend()
@@ -226,7 +228,9 @@ class TwoRealms:
         at = packet.head
         if packet.protocol != TCP or packet.is_fragment or len(packet.octets) < at + 20 or not packet.octets[at + 13] & 16:
             return
-        port, far_port = packet.number(at), packet.number(at + 2)
+        port, far_port = PORTS.unpack_from(packet.octets, at)
+        if port not in TRACKED and far_port not in TRACKED:
+            return
         key, is_client = (packet.source, port, packet.destination, far_port), True
         if key not in self._spoken:
             key, is_client = (packet.destination, far_port, packet.source, port), False

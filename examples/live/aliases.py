@@ -19,6 +19,9 @@ FULL, AGAIN = 80, 70
 PAUSE = 60 * SECOND
 """How long a line isn't said again, and the file of aliases isn't written again."""
 
+PATIENCE = 30
+"""How many seconds the settings may take to be checked."""
+
 
 def say(text: str) -> None:
     """A line on standard error. Where nobody reads that any more, the gateway goes on."""
@@ -58,9 +61,12 @@ class Kept:
             self._both.write(own.read() + b"\n" + tables)
             self._both.flush()
         words = [sys.executable, f"{TOOLS}/check_settings", "--brief", self._both.name]
-        check = subprocess.run(words, stdout=subprocess.PIPE, text=True, check=False)
-        if check.returncode:
-            fault = check.stdout.replace(f"{self._both.name}: ", "").split("\n")[0]
+        try:
+            check = subprocess.run(words, stdout=subprocess.PIPE, text=True, check=False, timeout=PATIENCE)
+            fault = check.stdout.replace(f"{self._both.name}: ", "").split("\n")[0] if check.returncode else ""
+        except subprocess.TimeoutExpired:
+            fault = f"they weren't checked within {PATIENCE} seconds"
+        if fault:
             say(f"{self._name} isn't used, since the settings have a fault with it: {fault}")
             return
         self.settings = self._both.name
