@@ -66,7 +66,7 @@ class Capture:
 
     def frames(self) -> Iterator[Frame]:
         """The frames, up to the last one that is whole."""
-        read, link, unit, heads = self._file.read, self.link, self._unit, struct.Struct(self._order + "4I")
+        read, link, unit, heads, make = self._file.read, self.link, self._unit, struct.Struct(self._order + "4I"), Frame._make
         while len(record := read(16)) == 16:
             seconds, fraction, size, length = heads.unpack(record)
             if size > RECORD:
@@ -74,7 +74,7 @@ class Capture:
             octets = read(size)
             if len(octets) < size:
                 return
-            yield Frame(octets, seconds * 10**9 + fraction * unit, link, length)
+            yield make((octets, seconds * 1_000_000_000 + fraction * unit, link, length))
 
 
 def line_of(text: bytes) -> Line | None:
@@ -85,7 +85,8 @@ def line_of(text: bytes) -> Line | None:
         number, frames, moment, side, verdict = found.groups()
     else:
         return None
-    return Line(int(number), SIDES[side], int(moment), verdict.decode(), int(frames)) if int(moment) < MOMENTS else None
+    line = Line._make((int(number), SIDES[side], int(moment), verdict.decode(), int(frames)))
+    return line if line.moment < MOMENTS else None
 
 
 def lines(file: BinaryIO, path: str) -> Iterator[Line | str]:

@@ -1,5 +1,6 @@
 """What a frame says, in words: for the page of a run, its capture with comments and its lines of JSON. All that stands in a capture may be
 hostile: `plain` makes text of it that has no control characters."""
+import os
 import re
 import struct
 from dataclasses import dataclass
@@ -167,10 +168,10 @@ def words_of(markdown: str) -> str:
     return re.sub(r"\[([^]]*)\]\([^)]*\)", r"\1", markdown).replace("`", "").replace("**", "").strip()
 
 
-def verdicts_of(page: str) -> dict[str, Verdict]:
+def verdicts_of() -> dict[str, Verdict]:
     """The tables of REPORT.md, by verdict."""
     group, found = "", {}
-    with open(page, encoding="utf-8") as file:
+    with open(os.path.join(os.path.dirname(os.path.realpath(__file__)), "../docs/REPORT.md"), encoding="utf-8") as file:
         for line in file:
             if line.startswith("### "):
                 group = line[4:].strip()

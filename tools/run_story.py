@@ -119,7 +119,7 @@ class Story:
             ended = sorted((one for one in self.bindings if one.uses and not self._holds(one)), key=lambda one: -one.uses)
             self.left_out += len(ended[ENDED:])
             self.bindings = ended[:ENDED] + live
-            self._most = 2 * len(self.bindings) + ENDED
+            self._most = len(self.bindings) + 3 * ENDED
 
     def _holds(self, binding: Binding) -> bool:
         """Whether no other binding has followed on its address."""
@@ -152,7 +152,7 @@ class Story:
             raise ValueError(f"event {number}: {names[side]} has no frame left")
         if moment != max(frame.moment, self.last):
             raise ValueError(f"event {number}: the frame of {names[side]} has another stamp")
-        went = list(islice(sent, count)) if count < 16 else list(islice(limited(sent), count))
+        went = list(islice(sent if count < 16 else limited(sent), count)) if count else []
         if len(went) < count:
             raise ValueError(f"event {number}: {names[3 - side]} has no frame left")
         images = [datagram_of(one.octets, one.link) for one in went]

@@ -283,6 +283,7 @@ class Damaged(InRoom):
     def asked(self, words: list[str]) -> tuple[object, str]:
         """Status and output of the command, in this process."""
         out = io.StringIO()
+        out.reconfigure = lambda **_: None
         with mock.patch.object(sys, "argv", [EXPLAIN, *words]), contextlib.redirect_stdout(out), contextlib.redirect_stderr(out):
             try:
                 tell_run.main()
@@ -498,11 +499,14 @@ class Lines(InRoom):
         told = subprocess.run(["tshark", "-r", f"{self.room}/run.pcapng", *words], capture_output=True, text=True, check=True).stdout
         return [line.split("\t") for line in told.splitlines()]
 
+    @unittest.skipUnless(os.path.exists(f"{TOP}/crates"), "the crates stand in a checkout alone")
     def test_each_verdict_is_told(self) -> None:
         """REPORT.md has what to do for each refusal that the program knows."""
-        with open(f"{TOP}/crates/gate_base/src/refusal.rt", encoding="utf-8") as file:
+        if not os.path.exists(source := f"{TOP}/crates/gate_base/src/refusal.rt"):
+            self.skipTest("only a checkout has the crates")
+        with open(source, encoding="utf-8") as file:
             names = set(re.findall(r"^    ([A-Z][A-Za-z0-9]+),", file.read(), re.MULTILINE))
-        self.assertEqual(set(run_frames.verdicts_of(f"{TOP}/docs/REPORT.md")), names)
+        self.assertEqual(set(run_frames.verdicts_of()), names)
 
     def test_parts(self) -> None:
         """Parts of a range join as it grows, and count each place once."""

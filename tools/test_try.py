@@ -111,7 +111,7 @@ class Try(InRoom):
             with self.subTest(name):
                 status, text = self.tried(self.write("capture", form(login())), "--left", "10.1.0.0/16")
                 self.assertEqual((status, self.counts(text)), (0, {"pass": 7}), text)
-                for line in ("7 frames cross the gateway, 4 of the left realm and 3 of the right one", "1  frames with a checksum that was mended", "1  lines of FTP that the"):
+                for line in ("7 frames cross the gateway, 4 of the left realm and 3 of the right one.", "1  frames with a checksum that was mended", "1  lines of FTP that the"):
                     self.assertIn(line, text)
                 with open(f"{self.room}/out/left.pcap", "rb") as left, open(f"{self.room}/out/right.pcap", "rb") as right:
                     inputs.add(left.read() + right.read())
