@@ -12,6 +12,8 @@ PARTS = 240
 SHOWN_SESSIONS, SHOWN_SEGMENTS, SHOWN_LINES, TEXT_ROOM = 40, 150, 12, 300_000
 """The most sessions that are shown, of each the most segments that nothing happens to, of each of these the most lines, and the most bytes of a page
 that all of them may take."""
+SMALL = 1000
+"""The bytes that a segment takes in a page at least."""
 PORTS = {port.to_bytes(2): port for port in (FTP_PORT, DNS_PORT)}
 
 
@@ -209,7 +211,7 @@ class Sessions:
             return
         begins = datagram[head + 13] & (SYN | ACK) == SYN and event.verdict == "pass"
         is_kept = begins or event.verdict != "pass"
-        if not (is_kept or self._live):
+        if not is_kept and (not self._live or self._room < SMALL):
             return
         far = self._host(side, datagram[16:20])
         if far is None:
@@ -225,6 +227,8 @@ class Sessions:
             session = self._begun(key, port, event)
         if session:
             self._room -= session.take(event, self._room)
+            if datagram[head + 13] & RST and event.verdict == "pass":
+                del self._live[key]
 
     def _begun(self, key: bytes, port: int, event: Event) -> Session | None:
         """A session that is shown from here on, if there is room. Half of the room is for those in which a frame is refused."""
