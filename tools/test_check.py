@@ -3,7 +3,7 @@ import os
 import tempfile
 import unittest
 
-from testing import INPUTS, LIVE, MERGER, PROGRAM, RIGHT, TOOLS, TOP, capture, said
+from testing import INPUTS, LIVE, MERGER, PROGRAM, RIGHT, TOOLS, TOP, said
 
 FAULTS = (
     ("left = 5", "Kind left"),
