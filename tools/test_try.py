@@ -13,7 +13,8 @@ from importlib.util import find_spec
 
 from testing import PROGRAM, TOOLS, capture, said
 
-from datagrams import icmp, tcp, udp  # testing says where it is
+from any_capture import records
+from datagrams import fragments, icmp, tcp, udp  # testing says where it is
 from run_pcapng import block
 
 TRY = f"{TOOLS}/try_capture"
@@ -97,7 +98,22 @@ class InRoom(unittest.TestCase):
 
     def counts(self, text: str) -> dict[str, int]:
         """How many frames had each verdict."""
-        return {name: int(count) for count, name in re.findall(r"(?m)^ *(\d+)  ([a-z]+$|[A-Z]\w+(?=:))", text)}
+        return {name: int(count) for count, name in re.findall(r"(?m)^ *(\d+)  (pass$|held(?=:)|[A-Z]\w+(?=:))", text)}
+
+
+class Order(InRoom):
+    """In which order frames are taken."""
+
+    @unittest.skipUnless(find_spec("scapy"), "this Python has no scapy")
+    def test_order(self) -> None:
+        """By their stamps where these are a little out of order, and as they stand where time begins anew; a stamp that is none is that before."""
+        for seconds, expected in (
+            ([1, 3, 2, 5, 4], [1, 2, 3, 4, 5]),
+            ([*range(1000, 1500), *range(1, 500)], [*range(1000, 1500), *range(1, 500)]),
+            ([4000000000, *range(1, 500)], [*range(1, 500), 4000000000]),
+        ):
+            whole = struct.pack("<IHHiIII", 0xA1B2C3D4, 2, 4, 0, 0, 262144, 101) + b"".join(struct.pack("<IIII", second, 0, 1, 1) + b"x" for second in seconds)
+            self.assertEqual([one.moment // 10**9 for one in records(self.write("capture", whole))], expected)
 
 
 @unittest.skipUnless(HAS_SCAPY and os.access(PROGRAM, os.X_OK), "there is no python3-scapy, or the program isn't built")
@@ -146,6 +162,17 @@ class Try(InRoom):
         for count, why in ((2, "between two hosts of the left realm"), (1, "between two hosts of the right realm"), (1, "between two hosts of same blocks"), (1, "not between two hosts"), (1, "no IPv4")):
             self.assertRegex(text, f"(?m)^ *{count}  frames left out: {why}")
         self.assertIn("BadSum: a checksum is wrong", re.sub(r"BadSum: .*?checksum.*", "BadSum: a checksum is wrong", text))
+
+    def test_fragments(self) -> None:
+        """They are joined, with the checksum that offloading leaves in the first one too."""
+        whole = udp("10.1.0.5", 4000, "10.2.0.9", 4001, bytes(range(100)))
+        pseudo = struct.unpack(">5H", whole[12:20] + struct.pack(">H", 17)) + (108,)
+        partial = sum(pseudo) % 0xFFFF
+        left = whole[:26] + struct.pack(">H", partial) + whole[28:]
+        name = self.write("capture", capture([*fragments(left, 48), *fragments(whole, 48)]))
+        status, text = self.tried(name, "--left", "10.1.0.0/16")
+        self.assertEqual((status, self.counts(text)), (0, {"held": 4, "pass": 2}), text)
+        self.assertIn("1  frames with a checksum that was mended", text)
 
     def test_limits_are_told(self) -> None:
         """Where the gateway makes answers over TCP longer it says why frames are refused, and the command that it gives helps."""
