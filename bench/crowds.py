@@ -105,19 +105,19 @@ SPACE = {
 """The parameters of a crowd, as a climb changes them."""
 
 
-PLAIN = {"own": 0, "base": 0, "step": 1, "seed": 1}
-"""Those that the found crowds leave as they are."""
+SIMPLE = {"own": 0, "base": 0, "step": 1, "seed": 1}
+"""Those that the crowds below leave as they are."""
 
 
 def is_crowd(parameters):
     """Whether the names aren't too long, and the numbers fit into their labels."""
-    one = PLAIN | parameters
+    one = SIMPLE | parameters
     octets = 2 * (one["tail"] + one["pre"] + one["post"] + one["own"]) + 1 + one["width"] + 1
     return octets <= 255 and one["base"] + one["step"] * one["crowd"] < 256 ** one["width"]
 
 
-WORST_UDP = {"tail": 113, "pre": 11, "post": 0, "width": 2, "crowd": 250, "order": "bits", "pick": "last"}
-WORST_TCP = {"tail": 114, "pre": 11, "post": 0, "width": 2, "crowd": 250, "order": "up", "pick": 27, "led": 22, "seed": 713}
+WORST_UDP = SIMPLE | {"tail": 113, "pre": 11, "post": 0, "width": 2, "crowd": 250, "order": "bits", "pick": "last"}
+WORST_TCP = SIMPLE | {"tail": 114, "pre": 11, "post": 0, "width": 2, "crowd": 250, "order": "up", "pick": 27, "led": 22, "seed": 713}
 """What a climb of some 400 tries found over UDP, and one of some 60 over TCP, with the writer of names that halves over a name's ends."""
 
 

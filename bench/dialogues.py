@@ -165,14 +165,17 @@ class Dialogues:
             self._sends(side, tcp(*ends, RST, (acknowledged + draw.choice((0, len(said)))) % 2**32, number))
 
     def _message(self, side: int) -> bytes:
-        """A DNS message of a host of a side, which names hosts, aliases and what is neither."""
+        """A DNS message of a host of a side, which names hosts, aliases and what is neither. Some grow so much that they are cut."""
         draw = self._draw
         owner, body, count = b"\x01a" * draw.choice((1, 1, 120)) + b"\0", b"", draw.choice((0, 1, 1, 2, 3, 9))
-        for place in range(count):
-            known = [*self._hosts, *self._hosts, *self._pools[side][:3], "203.0.113.9", "127.0.0.1", "224.0.0.1"]
-            address = draw.choice(known)
-            name = owner if not place else b"\xc0\x0c"
+        if draw.random() < 0.15:
+            text = 12 + len(resource(owner, 16)) + 12
+            body = resource(owner, 16) + resource(b"\xc0\x0c", 16, b"\x3f" * 192 + bytes(80))
+            body += b"".join(resource(struct.pack(">H", 0xC000 | text + number), 16) for number in range(1, 5))
+        known = [*self._hosts, *self._hosts, *self._pools[side][:3], "203.0.113.9", "127.0.0.1", "224.0.0.1"]
+        for _ in range(count):
+            name = b"\xc0\x0c" if body else owner
             if draw.random() < 0.3:
-                name = b"".join(bytes([len(part)]) + part for part in address.encode().split(b".")[::-1]) + draw.choice((b"\x07in-addr", b"\x07IN-Addr")) + b"\x04arpa\0"
+                name = b"".join(bytes([len(part)]) + part for part in draw.choice(known).encode().split(b".")[::-1]) + draw.choice((b"\x07in-addr", b"\x07IN-Addr")) + b"\x04arpa\0"
             body += resource(name, draw.choice((1, 1, 1, 16)), quad(draw.choice(known)) if draw.random() < 0.9 else b"abc")
-        return struct.pack(">6H", 7, 0x8180, 0, count, 0, 0) + body
+        return struct.pack(">6H", 7, 0x8180, 0, count + (6 if b"\x3f" * 192 in body else 0), 0, 0) + body

@@ -10,7 +10,7 @@ import unittest
 from testing import TOP, datagram
 
 import aliases  # noqa: I001
-from bindings import ACK, LONG_TIMEOUT, SECOND, SYN, TCP, UDP
+from bindings import ACK, FIN, LONG_TIMEOUT, SECOND, SYN, TCP, UDP
 from datagrams import tcp
 
 FAR = "203.0.113.9"
@@ -50,10 +50,10 @@ static = []
         if not host % 2:
             self.watch.line(*line)
 
-    def connects(self, second: int, host: int, alias: int, segments: int = 3) -> None:
-        """A host of the left realm begins a connection, up to so many segments."""
+    def connects(self, second: int, host: int, alias: int, segments: tuple[tuple[int, int], ...] = ((0, SYN), (1, SYN | ACK), (0, ACK))) -> None:
+        """A host of the left realm has a connection, of segments from these sides with these flags."""
         ends = ("10.0.0.%d" % host, "172.16.9.%d" % alias)
-        for place, (side, flags) in enumerate(((0, SYN), (1, SYN | ACK), (0, ACK))[:segments]):
+        for place, (side, flags) in enumerate(segments):
             came, sent = (tcp(one, 4000, FAR, 80, flags, 1, 1) if side == 0 else tcp(FAR, 80, one, 4000, flags, 1, 1) for one in ends[:: 1 - 2 * side])
             self.watch.line(side, second * SECOND + place, "pass", came, 1)
             self.watch.sent(1 - side, [memoryview(sent)])
@@ -89,12 +89,14 @@ static = []
         os.close(writer)
 
     def test_kept_aliases(self) -> None:
-        """Only hosts with an established connection are kept, and are statics of the next start."""
+        """Only hosts with an established connection, on which they sent more than once, are kept, and are statics of the next start."""
         self.speaks(1000, 1, 1)
         self.connects(1001, 2, 2)
-        self.connects(1002, 3, 3, segments=2)
+        self.connects(1002, 3, 3, ((0, SYN), (0, SYN), (1, SYN | ACK)))
         self.speaks(1003, 4, 4)
         self.connects(1004, 5, 5)
+        self.connects(1005, 6, 6, ((0, ACK), (1, ACK), (1, ACK)))
+        self.connects(1006, 7, 7, ((0, SYN), (1, SYN | ACK), (0, ACK), (0, ACK | FIN)))
         self.assertEqual(self.hosts_kept(), ["10.0.0.2", "10.0.0.5"])
         self.starts()
         self.assertEqual(self.kept.hosts, {(0, 0x0A000002), (0, 0x0A000005)})

@@ -14,7 +14,11 @@ RT = """#!/bin/sh
 case "$1" in
 version) echo "kit 1" ;;
 doc) echo "{room}/kit/doc" ;;
-*) echo called >>"{room}/rt-was-called" && exit 1 ;;
+*)
+    echo called >>"{room}/rt-was-called" && [ "$PROVES" ] || exit 1
+    mkdir crates/gateway_program/out && cp "{top}/crates/gateway_program/out/gateway_program" crates/gateway_program/out/
+    printf 'rt: gateway_program proved\nrt: ok\n1 passed, 0 failed\n'
+    ;;
 esac
 """
 QUICK = """#!/bin/sh
@@ -44,7 +48,7 @@ class Script(unittest.TestCase):
                 os.symlink(f"{TOOLS}/{name}", f"{self.top}/tools/{name}")
         self.write(f"{self.top}/crates.txt", "gateway_program: std\n")
         self.write(self.source, "fn main() {}\n")
-        self.write(f"{self.room}/bin/rt", RT.format(room=self.room))
+        self.write(f"{self.room}/bin/rt", RT.format(room=self.room, top=self.top))
         self.write(f"{self.top}/tools/quick", QUICK.format(room=self.room))
         self.write(self.program, '#!/bin/sh\n[ -z "$LINE" ] || echo "$LINE" >&2\necho "$*" >"$0.words"\nexit ${STATUS:-0}\n')
         self.note()
@@ -133,12 +137,28 @@ class Script(unittest.TestCase):
         os.remove(self.program)
         self.assertEqual(self.told(*self.run_words(), PATH="/usr/bin:/bin")[0], 70)
 
+    @unittest.skipUnless(os.path.exists(f"{TOP}/crates.txt"), "what is installed builds nothing")
+    def test_prove(self) -> None:
+        """It tells how far it is and whether the program was the same, and proves again only where a source was changed."""
+        for name in ("HANDLES", "crates/gateway_program/src/Contract.antt"):
+            self.write(f"{self.top}/{name}", "")
+        code, text = self.told("prove", PROVES="1")
+        self.assertEqual((code, text.count("\n")), (0, 3), text)
+        self.assertIn("1 of 1: gateway_program, ", text)
+        self.assertIn("The program that was used till now is the proved one, byte for byte", text)
+        self.assertEqual(self.told("prove"), (0, "rendapil: the program is proved, and no source has changed since\n"))
+        self.assertIn("proof: its proofs were checked on this machine, by kit 1\n", self.told("--version")[1])
+        self.write(f"{self.top}/crates/gateway_program/src/Contract.antt", "changed")
+        self.assertIn("by kit 1, before these sources were changed\n", self.told("--version")[1])
+        self.assertEqual(self.told(*self.run_words()), (0, ""))
+        self.assertEqual(self.told("prove")[0], 70)
+
     def test_whose_proof(self) -> None:
         """The version says what is known of the proof, and PROVED-PROGRAM is held against the program, the code and the kit."""
         self.assertIn("the code here isn't the code that was proved last", self.told("--version")[1])
         keep = ("env", f"PATH={self.room}/bin:{os.environ['PATH']}", f"{self.top}/tools/proved_program")
         self.assertEqual(said(*keep, "--write", self.program), (0, ""))
-        self.assertIn("proof: it is, octet for octet, the program that kit 1 proved from this code\n", self.told("--version")[1])
+        self.assertIn("proof: it is, byte for byte, the program that kit 1 proved from this code\n", self.told("--version")[1])
         self.assertEqual(said(*keep, "--check", self.program), (0, "PROVED-PROGRAM names the program, the code and the kit\n"))
         self.assertEqual(said(*keep, "--check", self.source)[0], 1)
         os.remove(f"{self.program}.made")
@@ -193,6 +213,13 @@ class Script(unittest.TestCase):
         with open(f"{self.program}.words", encoding="ascii") as file:
             self.assertEqual(file.read().split()[6:], ["/dev/stdin", "-"])
 
+    def test_name_that_is_not_utf8(self) -> None:
+        """An input with such a name is given to the program by a number."""
+        name = self.write(f"{self.room}/\udcff", b"")
+        self.assertEqual(self.told(*self.run_words(left_in=name)), (0, ""))
+        with open(f"{self.program}.words", encoding="ascii") as file:
+            self.assertRegex(file.read().split()[2], "^/dev/fd/[0-9]+$")
+
     def test_report_alone(self) -> None:
         """Three words behind run are enough."""
         self.assertEqual(self.told(*self.run_words()[:4]), (0, ""))
@@ -226,7 +253,7 @@ class Script(unittest.TestCase):
             ({"report": "/dev/full"}, "write failed: report", 6, "report, /dev/full: it takes no more. All outputs are cut"),
             ({"left_out": "-", "report": "-"}, "usage: run", 2, "left_out: - can be one input alone, and one output alone. Write ./- for a file"),
             ({"left_in": "-n"}, "usage: run", 2, "left_in: write ./-n for a file"),
-            ({"left_in": "a\udcff"}, "usage: run", 2, r"left_in: the name $'a\377' isn't UTF-8. A link to it may have another"),
+            ({"left_in": "a\udcff"}, "usage: run", 2, r"left_in: the name $'a\377' isn't UTF-8"),
             ({"left_in": empty}, "capture left: NoHead at 0", 4, f"left_in, {empty}: it is empty"),
             ({"left_in": ng}, "capture left: Torn at 24", 4, f"left_in, {ng}: it ends within a record. The frames before that went out, and the report has no last line"),
             ({"left_in": "\x1b[2J"}, "open failed: left_in", 7, r"left_in, $'\E[2J': No such file or directory"),
