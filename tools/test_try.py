@@ -255,6 +255,7 @@ class Try(InRoom):
             (b"\x1b]0;owned\x07" * 9, "is no capture that can be read: Not a supported capture file"),
             (whole[:20], "is no capture that can be read: Not a supported capture file"),
             (pcap(101, []), "has no IPv4 between two hosts"),
+            (gzip.compress(whole)[:10] + b"\xff" * 40, "is no capture that can be read: it is damaged: Error -3 while decompressing data"),
             (pcap(101, [udp("10.1.0.5", 1, "10.1.0.5", 2, b"x")]), "has frames of one host alone"),
             (b"\x28\xb5\x2f\xfd" + bytes(40), "is no capture that can be read: Not a supported capture file"),
         ):
