@@ -8,14 +8,14 @@ _rendapil() {
         return
     fi
     case "${words[1]} $cur" in
-    "explain -"*) mapfile -t COMPREPLY < <(compgen -W "--statics --json --events --html --pcapng --help" -- "$cur") ;;
-    "try -"*) mapfile -t COMPREPLY < <(compgen -W "--left --same --keep-sums --out --help" -- "$cur") ;;
+    "explain -"*) mapfile -t COMPREPLY < <(compgen -W "--statics --json --events --settings --html --pcapng --help" -- "$cur") ;;
+    "try -"*) mapfile -t COMPREPLY < <(compgen -W "--left --same --pool --keep-sums --out --help" -- "$cur") ;;
     "check -"*) mapfile -t COMPREPLY < <(compgen -W "--brief --help" -- "$cur") ;;
     "run -"* | "audit -"* | "make -"*) mapfile -t COMPREPLY < <(compgen -W "--quiet --help -" -- "$cur") ;;
     "help "* | "--quiet "*) mapfile -t COMPREPLY < <(compgen -W "$commands" -- "$cur") ;;
     *)
         case "$prev" in
-        --left | --same) ;;
+        --left | --same | --pool) ;;
         --out) _filedir -d ;;
         *) _filedir ;;
         esac

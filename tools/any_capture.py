@@ -29,14 +29,18 @@ class Record(NamedTuple):
 
 
 def records(path: str) -> Iterator[Record]:
-    """The frames of a capture, by their stamps: where it has several interfaces they may be a little out of order."""
+    """The frames of a capture, by their stamps: where it has several interfaces they may be a little out of order. Where time begins anew, so does this."""
     waiting: list[tuple[int, int, Record]] = []
+    given = 0
     for number, record in enumerate(read(path)):
-        if number >= WINDOW:
-            yield heapq.heappushpop(waiting, (record.moment, number, record))[2]
-        else:
-            heapq.heappush(waiting, (record.moment, number, record))
-    yield from (record for *_, record in sorted(waiting))
+        if record.moment < given:
+            yield from (one for *_, one in sorted(waiting))
+            waiting.clear()
+        heapq.heappush(waiting, (record.moment, number, record))
+        if len(waiting) > WINDOW:
+            given, _, first = heapq.heappop(waiting)
+            yield first
+    yield from (one for *_, one in sorted(waiting))
 
 
 def read(path: str) -> Iterator[Record]:

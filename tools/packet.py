@@ -77,7 +77,8 @@ class Packet:
             self.octets[place : place + 2] = (fixed or (0xFFFF if self.protocol == UDP else 0)).to_bytes(2)
 
     def mend(self) -> bool:
-        """Computes the sums of a whole datagram anew, as a sender without offloading would. Says whether one was wrong."""
+        """Computes the sums of a whole datagram anew, as a sender without offloading would. Where only its first fragment is there, and the
+        header's sum is wrong, or UDP's is that of the pseudo header, which offloading leaves, it has none then, as UDP allows. Says whether one was wrong."""
         before = bytes(self.octets)
         self.octets[10:12] = bytes(2)
         self.octets[10:12] = (~total_of(bytes(self.octets[: self.head])) & 0xFFFF).to_bytes(2)
@@ -88,4 +89,9 @@ class Packet:
             pseudo = b"" if self.protocol == ICMP else self.octets[12:20] + struct.pack(">HH", self.protocol, len(payload))
             total = ~total_of(bytes(pseudo) + payload) & 0xFFFF
             self.octets[place : place + 2] = (total or (0xFFFF if self.protocol == UDP else 0)).to_bytes(2)
+        elif place is not None and self.protocol == UDP:  # the first fragment: the others aren't there to be counted
+            length = self.octets[self.head + 4 : self.head + 6]
+            is_offloaded = self.number(place) == total_of(self.octets[12:20] + struct.pack(">H", UDP) + length)
+            if is_offloaded or before[10:12] != self.octets[10:12]:
+                self.octets[place : place + 2] = bytes(2)
         return before != bytes(self.octets)

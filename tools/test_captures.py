@@ -48,7 +48,8 @@ class Captures(unittest.TestCase):
         left = self.write("left", capture([GOOD, FAR, OWN, FAR, FAR, *parts]))
         right = self.write("right", capture(ether)[:20] + struct.pack("<I", 1) + capture(ether)[24:])
         found = [re.match(r".*/(\w+): (\d+) of (\d+) frames .*?: (\w+)", line).groups() for line in self.lines(left, right)]
-        self.assertEqual(found, [("left", "3", "7", "NoBinding"), ("left", "2", "7", "Fragment"), ("left", "1", "7", "SourceInPool"), ("right", "2", "3", "BadSum"), ("right", "1", "3", "NotIpv4")])
+        expected = [("left", "3", "7", "NoBinding"), ("left", "2", "7", "Fragment"), ("left", "1", "7", "SourceInPool")]
+        self.assertEqual(found, [*expected, ("right", "2", "3", "BadSum"), ("right", "1", "3", "NotIpv4")])
         if os.access(PROGRAM, os.X_OK):
             words = [self.settings, left, right, f"{self.room}/lo", f"{self.room}/ro", f"{self.room}/report"]
             self.assertEqual(said(PROGRAM, "run", *words), (0, ""))

@@ -1,11 +1,9 @@
 """What `check` finds."""
 import os
-import re
-import struct
 import tempfile
 import unittest
 
-from testing import INPUTS, LIVE, MERGER, PROGRAM, RIGHT, TOOLS, TOP, capture, said
+from testing import INPUTS, LIVE, MERGER, PROGRAM, RIGHT, TOOLS, TOP, said
 
 FAULTS = (
     ("left = 5", "Kind left"),
@@ -78,6 +76,27 @@ class Check(unittest.TestCase):
         with open(self.name, "wb") as file:
             file.write(b"a = 1\n# \xff\n")
         self.assertIn("line 2 isn't text in UTF-8", said(f"{TOOLS}/check_settings", self.name)[1])
+
+    def test_files(self) -> None:
+        """More settings are checked each; one comes from standard input; one capture isn't enough."""
+        with open(self.name, "w", encoding="utf-8") as file:
+            file.write(RIGHT + "elephants = 3")
+        line = f"{self.name}: elephants isn't known, and is ignored\n"
+        self.assertEqual(said(f"{TOOLS}/check_settings", "--brief", INPUTS[0], self.name), (1, line))
+        self.assertEqual(said("sh", "-c", f"{TOOLS}/check_settings --brief - <{self.name}"), (1, line.replace(self.name, "-")))
+        self.assertEqual(said(f"{TOOLS}/check_settings", INPUTS[0], INPUTS[1])[0], 2)
+
+    def test_hostile(self) -> None:
+        """Control characters are escaped, names that aren't UTF-8 too, and what would take long is told at once."""
+        with open(self.name, "w", encoding="utf-8") as file:
+            file.write('"\\u001b[2J" = "x"\n' + RIGHT)
+        self.assertEqual(said(f"{TOOLS}/check_settings", "--brief", self.name), (1, f"{self.name}: \\x1b[2J isn't known, and is ignored\n"))
+        self.assertEqual(said(f"{TOOLS}/check_settings", "\x1b\udcff"), (1, "rendapil check: \\x1b\\xff: No such file or directory\n"))
+        for key in ("a" + ".a" * 500_000, '"a"' + ' . "a"' * 65):
+            self.assertEqual(self.lines_of(f"{RIGHT}{key} = 1\n"), ["NotToml: line 4 has a key of more than 64 parts, and isn't read here"])
+        lines = self.lines_of("".join(f"k{number} = 1\n" for number in range(60_000)) + RIGHT)
+        self.assertEqual((len(lines), lines[-1]), (21, "59980 more keys aren't known, and are ignored"))
+        self.assertEqual(len(self.lines_of(RIGHT + "x = " + "1" * 5_000)), 1)
 
     def test_examples(self) -> None:
         """Those of this repository are right, and told."""

@@ -1,5 +1,6 @@
 """What the command is once it is installed."""
 import os
+import re
 import shutil
 import tempfile
 import unittest
@@ -40,6 +41,15 @@ class Installed(unittest.TestCase):
             self.assertEqual(one.read(), other.read())
         os.remove(program)
         self.assertEqual(said(command, "run", *INPUTS, *written)[0], 70)
+
+    def test_options_are_told(self) -> None:
+        """The manual page and the completion know the options of each tool."""
+        for name in ("rendapil.1", "rendapil.bash"):
+            with open(f"{TOP}/packaging/{name}", encoding="utf-8") as file:
+                known = file.read().replace("Fl -", "--")
+            for command in ("check", "explain", "try"):
+                options = set(re.findall(r"--[a-z][a-z-]+", said(f"{TOP}/rendapil", command, "--help")[1].partition("usage: ")[2].partition("\n\n")[0]))
+                self.assertEqual({one for one in options if one not in known}, set(), f"{name}: {command}")
 
     def test_prefix(self) -> None:
         """It works there, and is taken away without a rest, what was there before included: that stays."""

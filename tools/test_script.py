@@ -213,6 +213,13 @@ class Script(unittest.TestCase):
         with open(f"{self.program}.words", encoding="ascii") as file:
             self.assertEqual(file.read().split()[6:], ["/dev/stdin", "-"])
 
+    def test_name_that_is_not_utf8(self) -> None:
+        """An input with such a name is given to the program by a number."""
+        name = self.write(f"{self.room}/\udcff", b"")
+        self.assertEqual(self.told(*self.run_words(left_in=name)), (0, ""))
+        with open(f"{self.program}.words", encoding="ascii") as file:
+            self.assertRegex(file.read().split()[2], "^/dev/fd/[0-9]+$")
+
     def test_report_alone(self) -> None:
         """Three words behind run are enough."""
         self.assertEqual(self.told(*self.run_words()[:4]), (0, ""))
@@ -246,7 +253,7 @@ class Script(unittest.TestCase):
             ({"report": "/dev/full"}, "write failed: report", 6, "report, /dev/full: it takes no more. All outputs are cut"),
             ({"left_out": "-", "report": "-"}, "usage: run", 2, "left_out: - can be one input alone, and one output alone. Write ./- for a file"),
             ({"left_in": "-n"}, "usage: run", 2, "left_in: write ./-n for a file"),
-            ({"left_in": "a\udcff"}, "usage: run", 2, r"left_in: the name $'a\377' isn't UTF-8. A link to it may have another"),
+            ({"left_in": "a\udcff"}, "usage: run", 2, r"left_in: the name $'a\377' isn't UTF-8"),
             ({"left_in": empty}, "capture left: NoHead at 0", 4, f"left_in, {empty}: it is empty"),
             ({"left_in": ng}, "capture left: Torn at 24", 4, f"left_in, {ng}: it ends within a record. The frames before that went out, and the report has no last line"),
             ({"left_in": "\x1b[2J"}, "open failed: left_in", 7, r"left_in, $'\E[2J': No such file or directory"),

@@ -1,5 +1,6 @@
 """Tests of `try`: what it makes of ordinary captures, in each form and link, and of files that are none."""
 import gzip
+import hashlib
 import os
 import re
 import struct
@@ -13,11 +14,27 @@ from importlib.util import find_spec
 
 from testing import PROGRAM, TOOLS, capture, said
 
-from datagrams import icmp, tcp, udp  # testing says where it is
+from any_capture import records
+from datagrams import fragments, icmp, tcp, udp  # testing says where it is
 from run_pcapng import block
 
 TRY = f"{TOOLS}/try_capture"
 HAS_SCAPY = bool(find_spec("scapy")) or said("/usr/bin/python3", "-c", "import scapy, tomllib")[0] == 0
+PYTHON = sys.executable if find_spec("scapy") else "/usr/bin/python3"
+REALMS = """
+import hashlib, sys
+from ipaddress import IPv4Network
+sys.path.insert(0, sys.argv[1])
+from any_capture import records
+from two_realms import TwoRealms, write_captures
+sides = [f"{sys.argv[2]}/{name}" for name in ("new-left", "new-right")]
+for path in sys.argv[3:]:
+    realms = TwoRealms([IPv4Network("10.1.0.0/16")], [], True)
+    realms.survey(records(path))
+    counts = write_captures(sides, realms.crossing(records(path)))
+    print(*counts, realms.mended, realms.lines, hashlib.sha256(b"".join(open(side, "rb").read() for side in sides)).hexdigest())
+"""
+"""What `try` makes of captures: counts, and a digest of both inputs."""
 CLIENT, SERVER = ("10.1.0.5", 4000), ("10.2.0.9", 21)
 
 
@@ -97,7 +114,22 @@ class InRoom(unittest.TestCase):
 
     def counts(self, text: str) -> dict[str, int]:
         """How many frames had each verdict."""
-        return {name: int(count) for count, name in re.findall(r"(?m)^ *(\d+)  ([a-z]+$|[A-Z]\w+(?=:))", text)}
+        return {name: int(count) for count, name in re.findall(r"(?m)^ *(\d+)  (pass$|held(?=:)|[A-Z]\w+(?=:))", text)}
+
+
+class Order(InRoom):
+    """In which order frames are taken."""
+
+    @unittest.skipUnless(find_spec("scapy"), "this Python has no scapy")
+    def test_order(self) -> None:
+        """By their stamps where these are a little out of order, and as they stand where time begins anew; a stamp that is none is that before."""
+        for seconds, expected in (
+            ([1, 3, 2, 5, 4], [1, 2, 3, 4, 5]),
+            ([*range(1000, 1500), *range(1, 500)], [*range(1000, 1500), *range(1, 500)]),
+            ([4000000000, *range(1, 500)], [*range(1, 500), 4000000000]),
+        ):
+            whole = struct.pack("<IHHiIII", 0xA1B2C3D4, 2, 4, 0, 0, 262144, 101) + b"".join(struct.pack("<IIII", second, 0, 1, 1) + b"x" for second in seconds)
+            self.assertEqual([one.moment // 10**9 for one in records(self.write("capture", whole))], expected)
 
 
 @unittest.skipUnless(HAS_SCAPY and os.access(PROGRAM, os.X_OK), "there is no python3-scapy, or the program isn't built")
@@ -105,17 +137,19 @@ class Try(InRoom):
     """What `try` makes of an ordinary capture."""
 
     def test_forms(self) -> None:
-        """A login with a PORT line passes whole, whatever its frames stand in, and all forms give the same inputs."""
-        inputs = set()
-        for name, form in FORMS.items():
-            with self.subTest(name):
-                status, text = self.tried(self.write("capture", form(login())), "--left", "10.1.0.0/16")
-                self.assertEqual((status, self.counts(text)), (0, {"pass": 7}), text)
-                for line in ("7 frames cross the gateway, 4 of the left realm and 3 of the right one.", "1  frames with a checksum that was mended", "1  lines of FTP that the"):
-                    self.assertIn(line, text)
-                with open(f"{self.room}/out/left.pcap", "rb") as left, open(f"{self.room}/out/right.pcap", "rb") as right:
-                    inputs.add(left.read() + right.read())
-        self.assertEqual(len(inputs), 1)
+        """A login with a PORT line passes whole, and gives the same inputs, whatever its frames stand in."""
+        paths = [self.write(name, form(login())) for name, form in FORMS.items()]
+        lines = said(PYTHON, "-B", "-c", REALMS, TOOLS, self.room, *paths)[1].splitlines()
+        self.assertEqual(len(lines), len(FORMS), lines)
+        for name, line in zip(FORMS, lines):
+            self.assertEqual((name, line), (name, lines[0]))
+        for name in ("pcapng", "two tags"):
+            status, text = self.tried(f"{self.room}/{name}", "--left", "10.1.0.0/16")
+            self.assertEqual((status, self.counts(text)), (0, {"pass": 7}), text)
+            for line in ("7 frames cross the gateway, 4 of the left realm and 3 of the right one.", "1  frames with a checksum that was mended", "1  lines of FTP that the"):
+                self.assertIn(line, text)
+            with open(f"{self.room}/out/left.pcap", "rb") as left, open(f"{self.room}/out/right.pcap", "rb") as right:
+                self.assertEqual(lines[0], f"4 3 1 1 {hashlib.sha256(left.read() + right.read()).hexdigest()}")
         self.assertEqual(sorted(os.listdir(f"{self.room}/out"))[:3], ["left-out.pcap", "left.pcap", "report.txt"])
 
     def test_what_to_type(self) -> None:
@@ -143,9 +177,26 @@ class Try(InRoom):
         name = self.write("capture", capture(login() + others))
         status, text = self.tried(name, "--left", "10.1.0.5/32", "10.1.0.6/32", "10.1.255.255/32", "--same", "9.9.9.0/24", "--keep-sums")
         self.assertEqual((status, self.counts(text)), (0, {"pass": 5, "BadSum": 1, "AckAhead": 1}))
-        for count, why in ((2, "between two hosts of the left realm"), (1, "between two hosts of the right realm"), (1, "between two hosts of same blocks"), (1, "not between two hosts"), (1, "no IPv4")):
-            self.assertRegex(text, f"(?m)^ *{count}  frames left out: {why}")
-        self.assertIn("BadSum: a checksum is wrong", re.sub(r"BadSum: .*?checksum.*", "BadSum: a checksum is wrong", text))
+        for line in (
+            "2  frames left out: between two hosts of the left realm",
+            "1  frames left out: between two hosts of the right realm",
+            "1  frames left out: between two hosts of same blocks",
+            "1  frames left out: not between two hosts (broadcast, multicast)",
+            "1  frames left out: no IPv4 (ARP, IPv6), or cut before its end",
+            "1  BadSum: the ICMP, TCP or UDP checksum is wrong. What to do: turn off checksum offload",
+        ):
+            self.assertIn(line, text)
+
+    def test_fragments(self) -> None:
+        """They are joined, with the checksum that offloading leaves in the first one too."""
+        whole = udp("10.1.0.5", 4000, "10.2.0.9", 4001, bytes(range(100)))
+        pseudo = struct.unpack(">5H", whole[12:20] + struct.pack(">H", 17)) + (108,)
+        partial = sum(pseudo) % 0xFFFF
+        left = whole[:26] + struct.pack(">H", partial) + whole[28:]
+        name = self.write("capture", capture([*fragments(left, 48), *fragments(whole, 48)]))
+        status, text = self.tried(name, "--left", "10.1.0.0/16")
+        self.assertEqual((status, self.counts(text)), (0, {"held": 4, "pass": 2}), text)
+        self.assertIn("1  frames with a checksum that was mended", text)
 
     def test_limits_are_told(self) -> None:
         """Where the gateway makes answers over TCP longer it says why frames are refused, and the command that it gives helps."""

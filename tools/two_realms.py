@@ -100,8 +100,9 @@ class TwoRealms:
                 continue
             self.crossed += 1
             self._hear(packet)
-        self._choose_pools()
-        self._name()
+        if self.crossed:
+            self._choose_pools()
+            self._name()
 
     def _note(self, packet: Packet) -> str:
         """Notes both hosts of a datagram, and those that an ICMP error tells of. Says why there is no room for them, if so."""
@@ -154,7 +155,7 @@ class TwoRealms:
             fits = (block for block in CANDIDATES if block.num_addresses - 2 >= wanted and not any(block.overlaps(one) for one in taken))
             block = next(fits, None)
             if block is None:
-                raise ValueError(f"a pool of {wanted} addresses is needed, and no block is free for it")
+                raise ValueError(f"no block is free for a pool of {max(1, wanted)} addresses: --left, --same or hosts of the capture lie in each of those that 'try' knows")
             self.pools.append((int(block[1]), int(block[self.pool or -2])))
             taken.append(block)
 
