@@ -167,6 +167,8 @@ class Script(unittest.TestCase):
         self.assertEqual(said(*keep, "--check", self.program)[0], 1)
         self.write(f"{self.room}/bin/rt", "#!/bin/sh\necho kit 2\n")
         self.assertEqual(said(*keep, "--check", self.program)[0], 0)
+        os.remove(f"{self.top}/PROVED-PROGRAM")
+        self.assertEqual(said(*keep, "--check", self.program)[0], 1)
         self.assertEqual(said(*keep)[0], 2)
 
     def test_ways_to_call_it(self) -> None:
