@@ -9,6 +9,7 @@ mod RowsMore
 mod RowsPayloads
 mod RowsRefused
 mod RowsRepeats
+mod RowsRounds
 mod RowsRules
 mod RowsSecond
 mod RowsUnits
