@@ -215,7 +215,9 @@ finds_expect settings m0 m m' r0 r joiner s e old now mid h came w =
     inr (subst (λ o. IfBoth o (given_told r0 old.left) (WantsAt settings)) (sym (h.others ∙ ap (option_map (front_of h.done)) came.events))
     (wants-of settings s h.done joiner e (ahead m' mid.left) (given_told r0 old.left) (given_told r now.left) h.held h.came w))
 
-lawful_front : (settings : Settings) (s : State) (done : List Event) (o : Option Merged) (p q : Option Given) → Alike (λ g left. CameTo settings (opening settings) g (arrivals_of settings.join done) s left) p q → IfBoth (option_map (front_of done) o) p (λ all g. IsLawfulFront settings all g done)
+lawful_front : (settings : Settings) (s : State) (done : List Event) (o : Option Merged) (p q : Option Given)
+    → Alike (λ g left. CameTo settings (opening settings) g (arrivals_of settings.join done) s left) p q
+    → IfBoth (option_map (front_of done) o) p (λ all g. IsLawfulFront settings all g done)
 lawful_front settings s done None p q h = tt
 lawful_front settings s done (Some x) None q h = tt
 lawful_front settings s done (Some x) (Some g) None h = absurd h
@@ -226,14 +228,18 @@ pub lawful_none : (settings : Settings) (o : Option Merged) (p : Option Given) �
 lawful_none settings None p = tt
 lawful_none settings (Some x) None = tt
 lawful_none settings (Some x) (Some g) =
-    record { others = x.events; split = refl; state = opening settings; left = g; came = subst (λ (xs : List Arrival). CameTo settings (opening settings) g xs (opening settings) g) (sym (arrivals-none settings.join)) (refl, refl) }
+    record { others = x.events; split = refl; state = opening settings; left = g; came =
+        subst (λ (xs : List Arrival). CameTo settings (opening settings) g xs (opening settings) g) (sym (arrivals-none settings.join)) (refl, refl) }
 
 -- so much was taken of the incoming captures
-pub took_few : (settings : Settings) (m0 m : Merging) (r0 r : GivenFiles) (old now new : Outside) (joiner : Joined) (s : State) → (h : Walked settings m0 m r0 r old now joiner s) → ((start : Outside) → HasGiven start m now h.done → TakenFor h.done start new) → TookFiles old new → TookFew settings m0 r0 old new
+pub took_few : (settings : Settings) (m0 m : Merging) (r0 r : GivenFiles) (old now new : Outside) (joiner : Joined) (s : State)
+    → (h : Walked settings m0 m r0 r old now joiner s) → ((start : Outside) → HasGiven start m now h.done → TakenFor h.done start new)
+    → TookFiles old new → TookFew settings m0 r0 old new
 took_few settings m0 m r0 r old now new joiner s h few files = record {
   handled = h.done;
   few = λ start g. few start (h.given start g);
-  front = subst (λ o. IfBoth o (given_told r0 old.left) (λ all g. IsLawfulFront settings all g h.done)) (sym h.others) (lawful_front settings s h.done (ahead m now.left) (given_told r0 old.left) (given_told r now.left) h.came);
+  front = subst (λ o. IfBoth o (given_told r0 old.left) (λ all g. IsLawfulFront settings all g h.done)) (sym h.others)
+      (lawful_front settings s h.done (ahead m now.left) (given_told r0 old.left) (given_told r now.left) h.came);
   files = files;
 }
 

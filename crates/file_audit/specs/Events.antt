@@ -142,7 +142,9 @@ pub record IsLawfulFront (settings : Settings) (all : Merged) (g : Given) (handl
   pub left : Given
   pub came : CameTo settings (opening settings) g (arrivals_of settings.join handled) state left
 
--- of each incoming capture no more whole records were taken than those of first events for which the given files are lawful, and one more, and it was read no further than a capture may be and the head of a record; and of slots but these and those of the given files nothing was taken
+-- of each incoming capture no more whole records were taken than those of first events for which the given files are lawful, and one more,
+-- and it was read no further than a capture may be and the head of a record; and of slots but these and those of the given files nothing
+-- was taken
 pub record TookFew (settings : Settings) (m : Merging) (r : GivenFiles) (old new : Outside) : Type 0 where
   pub handled : List Event
   pub few : (start : Outside) → HasGiven start m old [] → TakenFor handled start new

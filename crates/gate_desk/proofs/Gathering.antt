@@ -66,7 +66,8 @@ pub some_none : (o : Option Slot) → IsSome o → o ≡ None → ⊥
 some_none o some none = false≢true (subst (λ (p : Option Slot). IsSome p) none some)
 
 -- what wasn't gathered waits nowhere
-pub not_gathered : (s : Slot) (piece : List ℕ) (a b : PerSlot (List ℕ)) (r : Gathering) → b ≡ put a s (gathered_after r piece (at a s)) → ((r ≡ NoRoom) ⊎ (r ≡ Refused)) → b ≡ a
+pub not_gathered : (s : Slot) (piece : List ℕ) (a b : PerSlot (List ℕ)) (r : Gathering) → b ≡ put a s (gathered_after r piece (at a s))
+    → ((r ≡ NoRoom) ⊎ (r ≡ Refused)) → b ≡ a
 not_gathered s piece a b r e not =
     elim not [
       | inl is ↦ e ∙ ap (λ (x : Gathering). put a s (gathered_after x piece (at a s))) is ∙ put-at a s

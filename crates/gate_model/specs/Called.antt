@@ -35,7 +35,8 @@ header_until rules w e =
     let d = datagram_in e in
     e.moment + timeout_by rules (at_moment w e.moment) e.side d (kind_of d)
 
--- until when the frame keeps an address: its source and its destination as its header does, and those that a DNS message over UDP names for a time of their own
+-- until when the frame keeps an address: its source and its destination as its header does, and those that a DNS message over UDP names for
+-- a time of their own
 abbrev pub IsKeptUntil : {S : Type 0} → SessionRules S → World S → Event → Addr → ℕ → Type 0
 IsKeptUntil rules w e address until =
     let d = datagram_in e in

@@ -35,7 +35,8 @@ pub record WasUsed {S : Type 0} (rules : SessionRules S) (settings : Settings) (
 
 -- a binding is a static one, which never ends, or ends with a use of its own
 abbrev pub ComesFromUse : {S : Type 0} → SessionRules S → Settings → List Event → Binding → Type 0
-ComesFromUse rules settings events b = ((b.fixed ≡ true) × Contains (map fixed_binding settings.statics) b) ⊎ ((b.fixed ≡ false) × WasUsed rules settings events b)
+ComesFromUse rules settings events b = ((b.fixed ≡ true) × Contains (map fixed_binding settings.statics) b)
+    ⊎ ((b.fixed ≡ false) × WasUsed rules settings events b)
 
 -- who is reached by an alias: the host of a binding that is static, or that a frame that passed has used until a moment that isn't over
 pub record IsMeant {S : Type 0} (rules : SessionRules S) (settings : Settings) (events : List Event) (v : World S) (x : Event) : Type 0 where

@@ -1,4 +1,5 @@
--- That translation is transparent: nothing goes out under an address of the wrong realm, an alias means one host at a time, and replies come back (RFC 2663, RFC 4787, RFC 5382, RFC 5508).
+-- That translation is transparent: nothing goes out under an address of the wrong realm, an alias means one host at a time, and replies
+-- come back (RFC 2663, RFC 4787, RFC 5382, RFC 5508).
 use Rattle.std.specs.Prelude.{◌≡◌, ◌⊎◌, Bool, ◌||◌, true, false, if◌then◌else◌, All, List, [], ◌∷◌, ◌++◌, Option, Some, None, IfSome}
 use Rattle.gate_base.specs.Prelude.{Event, other, first_that_holds, is_unicast_number}
 use Rattle.gate_base.specs.declared.address.Addr.{Addr}
@@ -24,7 +25,8 @@ use Rattle.tcp_tracker.specs.declared.connection.Connection.{Connection}
 
 -- ## Nothing untranslated
 
--- a frame goes out from an alias, one of the pool of the realm that it goes to, to a host of that realm; only an address that means the same host in both realms stays as it is
+-- a frame goes out from an alias, one of the pool of the realm that it goes to, to a host of that realm; only an address that means the
+-- same host in both realms stays as it is
 pub record IsTranslated {S : Type 0} (rules : SessionRules S) (w : World S) (e : Event) : Type 0 where
   pub source : CrossBack (table_by rules w e) e.side (source_of (datagram_in e)) (sent_from rules w e)
   pub destination : CrossBack (table_by rules w e) e.side (destination_of (datagram_in e)) (sent_to rules w e)
@@ -40,7 +42,9 @@ pub record KeepsAlias {S : Type 0} (rules : SessionRules S) (w : World S) (e : E
   -- whatever the host sends, and to whomever, goes out from the same alias (endpoint-independent mapping: RFC 4787, REQ-1; RFC 5382, REQ-1);
   pub maps : x.side ≡ e.side → source_of (datagram_in x) ≡ address → sent_from rules v x ≡ called_by rules w e address
   -- whoever sends to a host's alias reaches the host (endpoint-independent filtering: RFC 4787, REQ-8; RFC 5382, REQ-3);
-  pub reaches : in_pool (at_moment v x.moment).table e.side address ≡ false → is_unicast_number address.0 ≡ true → x.side ≡ other e.side → destination_of (datagram_in x) ≡ called_by rules w e address → (is_reachable (at_moment v x.moment).table x.side (destination_of (datagram_in x)) ≡ true) × (sent_to rules v x ≡ address)
+  pub reaches : in_pool (at_moment v x.moment).table e.side address ≡ false → is_unicast_number address.0 ≡ true → x.side ≡ other e.side
+      → destination_of (datagram_in x) ≡ called_by rules w e address
+      → (is_reachable (at_moment v x.moment).table x.side (destination_of (datagram_in x)) ≡ true) × (sent_to rules v x ≡ address)
   -- and what another host sends doesn't go out from it
   pub alone : x.side ≡ e.side → verdict rules v x ≡ Pass → sent_from rules v x ≡ called_by rules w e address → source_of (datagram_in x) ≡ address
 
@@ -48,7 +52,8 @@ pub record KeepsAlias {S : Type 0} (rules : SessionRules S) (w : World S) (e : E
 abbrev pub NamesAreCalled : {S : Type 0} → SessionRules S → World S → Event → Type 0
 NamesAreCalled rules w e =
     let table = (at_moment w e.moment).table in
-    All (λ a. image_after table (table_by rules w e) e.side a ≡ (if is_same table a then None else Some (called_by rules w e a))) (named_in (message_in (datagram_in e)))
+    All (λ a. image_after table (table_by rules w e) e.side a ≡ (if is_same table a then None else Some (called_by rules w e a)))
+        (named_in (message_in (datagram_in e)))
 
 -- ## Replies
 
@@ -91,10 +96,14 @@ pub record ComesBack {S : Type 0} (rules : SessionRules S) (e : Event) (v : Worl
   pub to : sent_to rules v r ≡ source_of (datagram_in e)
   -- and where nothing behind its headers is looked at, it is refused only for what it is by itself, and carries what it carried
   pub plain : IsPlainKind (kind_of (datagram_in r)) → verdict rules v r ≡ verdict_of (own_reason r)
-  pub sent : IsPlainKind (kind_of (datagram_in r)) → own_reason r ≡ None → out rules v r ≡ renamed (datagram_in r) (datagram_in e).destination (datagram_in e).source ∷ []
+  pub sent : IsPlainKind (kind_of (datagram_in r)) → own_reason r ≡ None
+      → out rules v r ≡ renamed (datagram_in r) (datagram_in e).destination (datagram_in e).source ∷ []
   -- so does a TCP segment that no session tracks, as long as there is room for its connection
-  pub segment : IsUntracked v r → verdict rules v r ≡ verdict_of (first_that_holds (own_tests r ++ (is_full (at_moment v r.moment).connections (found_in (at_moment v r.moment) r.side (datagram_in r)) (datagram_in r), SessionsFull) ∷ []))
-  pub segment_sent : IsUntracked v r → verdict rules v r ≡ Pass → out rules v r ≡ renamed (datagram_in r) (datagram_in e).destination (datagram_in e).source ∷ []
+  pub segment : IsUntracked v r → verdict rules v r ≡ verdict_of
+      (first_that_holds (own_tests r ++ (is_full (at_moment v r.moment).connections (found_in (at_moment v r.moment) r.side (datagram_in r))
+      (datagram_in r), SessionsFull) ∷ []))
+  pub segment_sent : IsUntracked v r → verdict rules v r ≡ Pass
+      → out rules v r ≡ renamed (datagram_in r) (datagram_in e).destination (datagram_in e).source ∷ []
 
 -- ## ICMP errors
 
@@ -107,9 +116,11 @@ pub record IsAbout {S : Type 0} (rules : SessionRules S) (w : World S) (e r : Ev
 -- an error that holds them goes out with those that its receiver sent (RFC 5508, REQ-4, REQ-5),
 pub record ComesHome {S : Type 0} (rules : SessionRules S) (e : Event) (v : World S) (r : Event) : Type 0 where
   pub source : seen (at_moment v r.moment).table r.side (inner_fields (inside (datagram_in r))).source ≡ Some (source_of (datagram_in e))
-  pub destination : seen (at_moment v r.moment).table r.side (inner_fields (inside (datagram_in r))).destination ≡ Some (destination_of (datagram_in e))
+  pub destination : seen (at_moment v r.moment).table r.side (inner_fields (inside (datagram_in r))).destination
+      ≡ Some (destination_of (datagram_in e))
   -- and where no session is asked for a number, they are no reason to refuse it
-  pub bound : inner_session (at_moment v r.moment) r.side (inner_fields (inside (datagram_in r))) ≡ None → is_inner_unbound rules (at_moment v r.moment) r.side (inner_fields (inside (datagram_in r))) ≡ false
+  pub bound : inner_session (at_moment v r.moment) r.side (inner_fields (inside (datagram_in r))) ≡ None
+      → is_inner_unbound rules (at_moment v r.moment) r.side (inner_fields (inside (datagram_in r))) ≡ false
 
 -- ## Connections
 
@@ -117,4 +128,5 @@ pub record ComesHome {S : Type 0} (rules : SessionRules S) (e : Event) (v : Worl
 pub record ReachesHosts {S : Type 0} (table : Bindings) (c : Connection (Tracked S)) : Type 0 where
   pub aliases : Side → Addr
   pub crosses : (side : Side) → CrossBack table side (record { 0 = host_in side c.key }) (aliases side)
-  pub pair : IfSome c.session (λ t. CrossBack table t.client t.pair.client t.pair.client_alias × CrossBack table (other t.client) t.pair.server t.pair.server_alias)
+  pub pair : IfSome c.session (λ t. CrossBack table t.client t.pair.client t.pair.client_alias
+      × CrossBack table (other t.client) t.pair.server t.pair.server_alias)

@@ -316,13 +316,19 @@ took_prepared settings m names a b c h same inputs files = took_none a c (taken_
 
 -- the merge had not been asked for an event
 pub took_not : (settings : GateSettings) (m : Merging) (r : GivenFiles) (a b : Outside) → b ≡ a → TookFew settings m r a b
-took_not settings m r a b e = record { handled = []; few = λ start g. subst (λ (o : Outside). TakenFor [] start o) (sym e) (given_few start m a [] g); front = lawful_none settings (ahead m a.left) (given_told r a.left); files = files_none a b (ap (λ (o : Outside). o.left) e) }
+took_not settings m r a b e = record { handled = []; few = λ start g. subst (λ (o : Outside). TakenFor [] start o) (sym e)
+    (given_few start m a [] g); front = lawful_none settings (ahead m a.left) (given_told r a.left); files =
+    files_none a b (ap (λ (o : Outside). o.left) e) }
 
-pub took_walked : (settings : GateSettings) (m : Merging) (r : GivenFiles) (names : Names) (a b c d : Outside) → Prepared settings m names a b → Readied (Some r) settings names b c → TookFew settings m r c d → TookInputs a b → TookFiles b c → TookForEvents a d
+pub took_walked : (settings : GateSettings) (m : Merging) (r : GivenFiles) (names : Names) (a b c d : Outside)
+    → Prepared settings m names a b → Readied (Some r) settings names b c → TookFew settings m r c d → TookInputs a b → TookFiles b c
+    → TookForEvents a d
 took_walked settings m r names a b c d h k t inputs files = record {
   handled = t.handled;
   few = t.few a (given_later a m b c [] (incoming_left k.left_count k.right_count k.report_count b c k.left) h.given);
-  front = inr (of_files settings m r names a b c (λ all g. IsLawfulFront settings all g t.handled) (λ all. (settings : GateSettings) × IsAccepted settings all × IsLawfulFront settings (events_in all) (given_in all) t.handled) h k t.front (λ all is links front. (settings, is.0, front)));
+  front = inr (of_files settings m r names a b c (λ all g. IsLawfulFront settings all g t.handled)
+      (λ all. (settings : GateSettings) × IsAccepted settings all × IsLawfulFront settings (events_in all) (given_in all) t.handled) h k
+      t.front (λ all is links front. (settings, is.0, front)));
   read = read_on a c d (read_on a b c (read_inputs a b inputs) files) t.files;
 }
 

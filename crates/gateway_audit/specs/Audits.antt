@@ -74,11 +74,13 @@ pub record TookRead (old new : Outside) : Type 0 where
   pub report_given_count : ℕ
   pub left : new.left ≡ took ReportGiven report_given_count (took RightGiven right_given_count (took LeftGiven left_given_count (took RightIn right_in_count (took LeftIn left_in_count (took Settings settings_count old.left)))))
 
--- what an audit took: of each incoming capture no more whole records than those of first events for which the given files are lawful, and one more, and it read neither further than a capture may be and the head of a record; and of slots that it doesn't read nothing
+-- what an audit took: of each incoming capture no more whole records than those of first events for which the given files are lawful, and
+-- one more, and it read neither further than a capture may be and the head of a record; and of slots that it doesn't read nothing
 pub record TookForEvents (old new : Outside) : Type 0 where
   pub handled : List Event
   pub few : TakenFor handled old new
-  pub front : (handled ≡ []) ⊎ IfSome old.left (λ all. (settings : GateSettings) × IsAccepted settings all × IsLawfulFront settings (events_in all) (given_of all.left_given all.right_given all.report_given) handled)
+  pub front : (handled ≡ []) ⊎ IfSome old.left (λ all. (settings : GateSettings) × IsAccepted settings all
+      × IsLawfulFront settings (events_in all) (given_of all.left_given all.right_given all.report_given) handled)
   pub read : TookRead old new
 
 -- what an audit answers: its cause, what it started, and what it wrote

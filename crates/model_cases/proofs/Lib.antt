@@ -12,4 +12,5 @@ mod RowsRepeats
 mod RowsRounds
 mod RowsRules
 mod RowsSecond
+mod RowsTransparent
 mod RowsUnits

@@ -35,10 +35,12 @@ use Rattle.gate_model.specs.World.{at_moment}
 use Rattle.gate_model.proofs.RowWords.{hex, fixed, pool, set, event}
 
 abbrev settings : Settings
-settings = set [] (pool 0xc0a8c801 0xc0a8c8fe) (pool 0xac100901 0xac1009fe) (fixed Left 0x0a000005 0xac100901 ∷ fixed Right 0x0a000005 0xc0a8c801 ∷ [])
+settings = set [] (pool 0xc0a8c801 0xc0a8c8fe) (pool 0xac100901 0xac1009fe)
+    (fixed Left 0x0a000005 0xac100901 ∷ fixed Right 0x0a000005 0xc0a8c801 ∷ [])
 
 abbrev pair : Pair
-pair = record { client = record { 0 = 0x0a000005 }; client_alias = record { 0 = 0xac100901 }; server = record { 0 = 0x0a000005 }; server_alias = record { 0 = 0xc0a8c801 } }
+pair = record { client = record { 0 = 0x0a000005 }; client_alias = record { 0 = 0xac100901 }; server =
+    record { 0 = 0x0a000005 }; server_alias = record { 0 = 0xc0a8c801 } }
 
 abbrev both : Session
 both = record {
@@ -50,7 +52,8 @@ abbrev none : Remembered
 none = record { sent = []; places = []; numbers = [] }
 
 abbrev t : Tracked RememberedSession
-t = record { client = Left; pair = pair; session = record { session = record { lists = None; session = both }; port = 21; pair = pair; initial = 1000; mss = 1460; past = []; client = none; server = none } }
+t = record { client = Left; pair = pair; session = record { session = record { lists = None; session = both }; port = 21; pair =
+    pair; initial = 1000; mss = 1460; past = []; client = none; server = none } }
 
 abbrev connection : Connection (Tracked RememberedSession)
 connection = record {
@@ -66,7 +69,8 @@ abbrev world : World RememberedSession
 world = record { clock = 0; table = opening settings; connections = connection ∷ []; pending = 0 }
 
 abbrev line : Event
-line = event Left 1000 Raw true (hex 59 0x4500003b000240004006a80c0a000005c0a8c8019c400015000003e9000013895018200051840000504f52542031302c302c302c352c342c310d0a)
+line = event Left 1000 Raw true
+    (hex 59 0x4500003b000240004006a80c0a000005c0a8c8019c400015000003e9000013895018200051840000504f52542031302c302c302c352c342c310d0a)
 
 abbrev answer : Event
 answer = event Right 2000 Raw true (hex 40 0x450000280002400040067bb80a000005ac10090100159c4000001389000003fe501020001ce20000)

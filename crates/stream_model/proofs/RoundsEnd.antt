@@ -129,7 +129,8 @@ back_within true after x h = omega arith
 back_within false after x h = h
 
 back-le : (m : Meaning) (ended : Bool) (s : List ℕ) (q : ℕ) → back m ended s q ≤ length s + 1
-back-le m ended s q = back_within (ended && (q == length (image m s) + 1)) (length s + 1) (back_in (spans m s) q) (omega (arith, prefix_len-le-length (λ x. nat_le x.past q) (spans m s), length-spans m s))
+back-le m ended s q = back_within (ended && (q == length (image m s) + 1)) (length s + 1) (back_in (spans m s) q)
+    (omega (arith, prefix_len-le-length (λ x. nat_le x.past q) (spans m s), length-spans m s))
 
 -- no more is acknowledged of a stream and of its image than they have, the end counted in both
 abbrev pub IsFull : Sender → Type 0
@@ -138,11 +139,14 @@ IsFull a = a.acked + acknowledged_of a ≤ length (image a.meaning a.octets) + l
 pub full : (a : Sender) → IsLawful a.meaning → IsBound a → IsFull a
 full a law bound = omega (arith, bound, length-due-le a.meaning law a.ended a.octets, one-le a.ended, back-le a.meaning a.ended a.octets a.acked)
 
-rounds_full : (host : Host) (xs : List Round) (s : Session) (knows had : ℕ) → Stands (own host s) knows had → AllRounds host s knows had xs → IsFull (own host (after_rounds host s xs))
+rounds_full : (host : Host) (xs : List Round) (s : Session) (knows had : ℕ) → Stands (own host s) knows had → AllRounds host s knows had xs
+    → IsFull (own host (after_rounds host s xs))
 rounds_full host [] s knows had st r = full (own host s) st.lawful st.bound
 rounds_full host (x ∷ xs) s knows had st r =
     let one : Raised (own host s) (own host (after_round host s x)) knows x.has = raised host s knows had x st r.0 in
     rounds_full host xs (after_round host s x) (acknowledged_of (own host (after_round host s x))) x.has one.stands r.1
 
-pub rounds_few : (host : Host) (xs : List Round) (s : Session) (knows had : ℕ) → Stands (own host s) knows had → AllRounds host s knows had xs → let new = own host (after_rounds host s xs) in length xs ≤ length (image new.meaning new.octets) + length new.octets + 2
+pub rounds_few : (host : Host) (xs : List Round) (s : Session) (knows had : ℕ) → Stands (own host s) knows had
+    → AllRounds host s knows had xs → let new = own host (after_rounds host s xs) in
+    length xs ≤ length (image new.meaning new.octets) + length new.octets + 2
 rounds_few host xs s knows had st r = omega (arith, rounds_raise host xs s knows had st r, rounds_full host xs s knows had st r)

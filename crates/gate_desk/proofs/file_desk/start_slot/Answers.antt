@@ -35,10 +35,12 @@ returns-in-Ok-clause-unread g c =
     c.hand_out.ensures.unread (mapped-put_only (unread remaining) c.hand_out.new.places c.args.slot c.in-Ok.place)
 
 pub returns-in_err-hand_out-clause-fails : goal.returns-in_err-hand_out-clause-fails
-returns-in_err-hand_out-clause-fails g c = rw (err_from_is_err_and c.from_residual.result c.from_residual.ensures.1).1 (λ none. absurd (some_none c.hand_out.new.refused c.in_err-hand_out.ensures.err none))
+returns-in_err-hand_out-clause-fails g c = rw (err_from_is_err_and c.from_residual.result c.from_residual.ensures.1).1
+    (λ none. absurd (some_none c.hand_out.new.refused c.in_err-hand_out.ensures.err none))
 
 pub returns-in-Err-clause-fails : goal.returns-in-Err-clause-fails
 returns-in-Err-clause-fails g c = λ none.
     let contents = g.R.File.Write.contents in
-    nothing_behind (got_in contents c.args.places.now) (got_in contents c.hand_out.new.places) (got_in contents c.hand_out.new.places) (waiting_in c.args.places.now) (waiting_in c.hand_out.new.places) (waiting_in c.hand_out.new.places)
+    nothing_behind (got_in contents c.args.places.now) (got_in contents c.hand_out.new.places) (got_in contents c.hand_out.new.places)
+    (waiting_in c.args.places.now) (waiting_in c.hand_out.new.places) (waiting_in c.hand_out.new.places)
     c.in_ok-hand_out.ensures.files c.in_ok-hand_out.ensures.all refl refl

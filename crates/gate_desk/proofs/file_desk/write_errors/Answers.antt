@@ -18,16 +18,19 @@ pub returns-in_err-hand_out-clause-still : goal.returns-in_err-hand_out-clause-s
 returns-in_err-hand_out-clause-still g c = λ waits. still_waits c.hand_out.new.refused (waiting_in c.args.places.now) (waiting_in c.hand_out.new.places) (c.hand_out.ensures.stays waits)
 
 pub returns-in_err-hand_out-clause-fails : goal.returns-in_err-hand_out-clause-fails
-returns-in_err-hand_out-clause-fails g c = rw (err_from_is_err_and c.from_residual.result c.from_residual.ensures.1).1 (λ none. absurd (some_none c.hand_out.new.refused c.in_err-hand_out.ensures.err none))
+returns-in_err-hand_out-clause-fails g c = rw (err_from_is_err_and c.from_residual.result c.from_residual.ensures.1).1
+    (λ none. absurd (some_none c.hand_out.new.refused c.in_err-hand_out.ensures.err none))
 
 pub returns-in_err-print-clause-fails : goal.returns-in_err-print-clause-fails
 returns-in_err-print-clause-fails g c =
     let contents = g.R.File.Write.contents in
-    failed (λ none. nothing_behind (got_in contents c.args.places.now) (got_in contents c.hand_out.new.places) (got_in contents c.hand_out.new.places) (waiting_in c.args.places.now) (waiting_in c.hand_out.new.places) (waiting_in c.hand_out.new.places)
+    failed (λ none. nothing_behind (got_in contents c.args.places.now) (got_in contents c.hand_out.new.places)
+    (got_in contents c.hand_out.new.places) (waiting_in c.args.places.now) (waiting_in c.hand_out.new.places) (waiting_in c.hand_out.new.places)
     c.in_ok-hand_out.ensures.files c.in_ok-hand_out.ensures.all refl refl) c.from_residual-in_err-print.result
 
 pub returns-in_err-print-2-clause-fails : goal.returns-in_err-print-2-clause-fails
 returns-in_err-print-2-clause-fails g c =
     let contents = g.R.File.Write.contents in
-    failed (λ none. nothing_behind (got_in contents c.args.places.now) (got_in contents c.hand_out.new.places) (got_in contents c.hand_out.new.places) (waiting_in c.args.places.now) (waiting_in c.hand_out.new.places) (waiting_in c.hand_out.new.places)
+    failed (λ none. nothing_behind (got_in contents c.args.places.now) (got_in contents c.hand_out.new.places)
+    (got_in contents c.hand_out.new.places) (waiting_in c.args.places.now) (waiting_in c.hand_out.new.places) (waiting_in c.hand_out.new.places)
     c.in_ok-hand_out.ensures.files c.in_ok-hand_out.ensures.all refl refl) c.from_residual-in_err-print-2.result

@@ -95,14 +95,24 @@ returns-in-Refused-clause-fails g c = λ none.
     let contents = g.R.File.Write.contents in
     let new = put c.args.places.now c.args.slot c.gather.new.self in
     nothing_taken (got_in contents c.args.places.now) (got_in contents new) (waiting_in c.args.places.now) (waiting_in new)
-    (mapped-same (got contents) c.args.places.now c.args.slot c.gather.new.self (c.gather.ensures.got contents ∙ ap (got contents) c.at_mut.ensures.value))
-    (not_gathered c.args.slot (c.args.first.now ++ c.args.second.now) (waiting_in c.args.places.now) (waiting_in new) c.gather.result (gathered_at c.args.places.now c.args.slot (c.args.first.now ++ c.args.second.now) c.gather.result c.at_mut.result.now c.gather.new.self c.at_mut.ensures.value c.gather.ensures.waits) (inr c.in-Refused.is))
+    (mapped-same (got contents) c.args.places.now c.args.slot c.gather.new.self
+    (c.gather.ensures.got contents ∙ ap (got contents) c.at_mut.ensures.value))
+    (not_gathered c.args.slot (c.args.first.now ++ c.args.second.now) (waiting_in c.args.places.now) (waiting_in new) c.gather.result
+    (gathered_at c.args.places.now c.args.slot (c.args.first.now ++ c.args.second.now) c.gather.result c.at_mut.result.now
+    c.gather.new.self c.at_mut.ensures.value c.gather.ensures.waits) (inr c.in-Refused.is))
 
 pub returns-in-NoRoom-clause-fails : goal.returns-in-NoRoom-clause-fails
 returns-in-NoRoom-clause-fails g c =
     let contents = g.R.File.Write.contents in
     let middle = put c.args.places.now c.args.slot c.gather.new.self in
-    let got' = mapped-same (got contents) c.args.places.now c.args.slot c.gather.new.self (c.gather.ensures.got contents ∙ ap (got contents) c.at_mut.ensures.value) in
-    let waits = not_gathered c.args.slot (c.args.first.now ++ c.args.second.now) (waiting_in c.args.places.now) (waiting_in middle) c.gather.result (gathered_at c.args.places.now c.args.slot (c.args.first.now ++ c.args.second.now) c.gather.result c.at_mut.result.now c.gather.new.self c.at_mut.ensures.value c.gather.ensures.waits) (inl c.in-NoRoom.is) in
-    subst (λ x. OnErr c.gather_alone.result (c.gather_alone.new.refused ≡ None → TakesNothing x (waiting_in c.args.places.now) (got_in contents c.gather_alone.new.places) (waiting_in c.gather_alone.new.places))) got'
-    (subst (λ x. OnErr c.gather_alone.result (c.gather_alone.new.refused ≡ None → TakesNothing (got_in contents middle) x (got_in contents c.gather_alone.new.places) (waiting_in c.gather_alone.new.places))) waits c.gather_alone.ensures.fails)
+    let got' = mapped-same (got contents) c.args.places.now c.args.slot c.gather.new.self
+    (c.gather.ensures.got contents ∙ ap (got contents) c.at_mut.ensures.value) in
+    let waits = not_gathered c.args.slot (c.args.first.now ++ c.args.second.now) (waiting_in c.args.places.now)
+    (waiting_in middle) c.gather.result (gathered_at c.args.places.now c.args.slot
+    (c.args.first.now ++ c.args.second.now) c.gather.result c.at_mut.result.now c.gather.new.self c.at_mut.ensures.value
+    c.gather.ensures.waits) (inl c.in-NoRoom.is) in
+    subst (λ x. OnErr c.gather_alone.result (c.gather_alone.new.refused ≡ None
+    → TakesNothing x (waiting_in c.args.places.now) (got_in contents c.gather_alone.new.places) (waiting_in c.gather_alone.new.places))) got'
+    (subst (λ x. OnErr c.gather_alone.result (c.gather_alone.new.refused ≡ None
+    → TakesNothing (got_in contents middle) x (got_in contents c.gather_alone.new.places) (waiting_in c.gather_alone.new.places))) waits
+    c.gather_alone.ensures.fails)
