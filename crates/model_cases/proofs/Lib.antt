@@ -1,3 +1,4 @@
+mod OnLiterals
 mod RowsEdges
 mod RowsFirst
 mod RowsFull

@@ -1,25 +1,15 @@
--- A round of repeats, computed over a world that is given: a client of FTP sends a line again, and the server acknowledges its image.
+-- A round of repeats, computed over a world that is given: a client of FTP sends a line again, and the server acknowledges its image. Another host sends in between.
 use Rattle.std.proofs.Common.{◌≡◌, ◌<◌, ℕ, true, false, [], ◌∷◌, length, Some, None, refl, sym, subst, inl, lit<, lit≤}
-use Rattle.std.specs.Fmt.{digits}
-use Rattle.gate_base.specs.Address.{number_of}
 use Rattle.gate_base.specs.Prelude.{Event}
 use Rattle.gate_base.specs.declared.event.Pair.{Pair}
 use Rattle.gate_base.specs.declared.event.Verdict.TheVariants.{Pass}
 use Rattle.gate_base.specs.declared.host.Host.TheVariants.{Client}
 use Rattle.gate_base.specs.declared.side.Link.TheVariants.{Raw}
 use Rattle.gate_base.specs.declared.side.Side.TheVariants.{Left, Right}
-use Rattle.gate_settings.specs.Cross.{block_end}
 use Rattle.gate_settings.specs.declared.settings.Settings.{Settings}
 use Rattle.binding_table.specs.Prelude.{opening}
-use Rattle.binding_table.specs.Bindings.{cross}
-use Rattle.ether_frames.specs.Ether.{read_frame}
-use Rattle.inet_sum.specs.Sum.{words, fold_of}
-use Rattle.ipv4_frames.specs.Ipv4.{head_with}
-use Rattle.tcp_segments.specs.Options.{options_within}
-use Rattle.tcp_segments.specs.Tcp.{sealed_tcp, tcp_header_with}
-use Rattle.ftp_lines.specs.Numbers.{number, four, six}
-use Rattle.ftp_lines.specs.Grammar.{port, eprt, delimited, passive, client_text, server_text}
-use Rattle.ftp_lines.specs.Renaming.{spelled, client_lines, server_lines}
+use Rattle.ftp_lines.specs.Grammar.{port}
+use Rattle.ftp_lines.specs.Renaming.{client_lines, server_lines}
 use Rattle.stream_model.specs.Prelude.{Session, own, due_in, extent, arrival, place_acknowledged, acknowledged_of}
 use Rattle.stream_model.specs.Progress.{Covers}
 use Rattle.tcp_tracker.specs.declared.connection.Connection.{Connection}
@@ -33,6 +23,7 @@ use Rattle.gate_model.specs.Stream.{segment_of}
 use Rattle.gate_model.specs.Verdict.{verdict}
 use Rattle.gate_model.specs.World.{at_moment}
 use Rattle.gate_model.proofs.RowWords.{hex, fixed, pool, set, event}
+use Rattle.model_cases.proofs.OnLiterals.{frames_on_literals}
 
 abbrev settings : Settings
 settings = set [] (pool 0xc0a8c801 0xc0a8c8fe) (pool 0xac100901 0xac1009fe)
@@ -75,55 +66,59 @@ line = event Left 1000 Raw true
 abbrev answer : Event
 answer = event Right 2000 Raw true (hex 40 0x450000280002400040067bb80a000005ac10090100159c4000001389000003fe501020001ce20000)
 
+-- another host sends a datagram meanwhile
+abbrev others : Event
+others = event Left 1500 Raw true (hex 30 0x4500001e000140004011a81d0a000007c0a8c8010fa01388000ae191686f)
+
 abbrev round : FrameRound
-round = record { before = []; repeat = line; between = []; has = 21; answer = answer }
+round = record { before = []; repeat = line; between = others ∷ []; has = 21; answer = answer }
 
 line_passes : verdict remembering_rules world line ≡ Pass
-unfolding read_frame words fold_of head_with options_within number_of cross block_end verdict sealed_tcp tcp_header_with number four six port eprt delimited passive client_text server_text spelled digits
+unfolding frames_on_literals
 line_passes = refl
 
 line_taken : taker_in remembering_rules (at_moment world 1000) Left 1000 (datagram_in line) ≡ Some t
-unfolding read_frame words fold_of head_with options_within number_of cross block_end verdict sealed_tcp tcp_header_with number four six port eprt delimited passive client_text server_text spelled digits
+unfolding frames_on_literals
 line_taken = refl
 
 line_kind : kind_of (datagram_in line) ≡ Stream
-unfolding read_frame words fold_of head_with options_within number_of cross block_end verdict sealed_tcp tcp_header_with number four six port eprt delimited passive client_text server_text spelled digits
+unfolding frames_on_literals
 line_kind = refl
 
 line_data : HasDataSegment line
-unfolding read_frame words fold_of head_with options_within number_of cross block_end verdict sealed_tcp tcp_header_with number four six port eprt delimited passive client_text server_text spelled digits
+unfolding frames_on_literals
 line_data = refl
 
 covers : Covers (own Client (streams_of t)) (segment_of (datagram_in line)) 0
-unfolding read_frame words fold_of head_with options_within number_of cross block_end verdict sealed_tcp tcp_header_with number four six port eprt delimited passive client_text server_text spelled digits
+unfolding frames_on_literals
 covers = record { begins = lit≤ tt; goes_past = lit≤ tt }
 
 due : length (due_in (own Client (streams_of (repeated world round t)))) ≡ 21
-unfolding read_frame words fold_of head_with options_within number_of cross block_end verdict sealed_tcp tcp_header_with number four six port eprt delimited passive client_text server_text spelled digits
+unfolding frames_on_literals
 due = refl
 
 answer_passes : verdict remembering_rules (at_answer world round) answer ≡ Pass
-unfolding read_frame words fold_of head_with options_within number_of cross block_end verdict sealed_tcp tcp_header_with number four six port eprt delimited passive client_text server_text spelled digits
+unfolding frames_on_literals
 answer_passes = refl
 
 answer_taken : taker_in remembering_rules (at_moment (at_answer world round) 2000) Right 2000 (datagram_in answer) ≡ Some (repeated world round t)
-unfolding read_frame words fold_of head_with options_within number_of cross block_end verdict sealed_tcp tcp_header_with number four six port eprt delimited passive client_text server_text spelled digits
+unfolding frames_on_literals
 answer_taken = refl
 
 answer_kind : kind_of (datagram_in answer) ≡ Stream
-unfolding read_frame words fold_of head_with options_within number_of cross block_end verdict sealed_tcp tcp_header_with number four six port eprt delimited passive client_text server_text spelled digits
+unfolding frames_on_literals
 answer_kind = refl
 
 answer_data : HasDataSegment answer
-unfolding read_frame words fold_of head_with options_within number_of cross block_end verdict sealed_tcp tcp_header_with number four six port eprt delimited passive client_text server_text spelled digits
+unfolding frames_on_literals
 answer_data = refl
 
 answer_all : place_acknowledged (extent (own Client (streams_of (repeated world round t)))) (arrival (segment_of (datagram_in answer))) ≡ 21
-unfolding read_frame words fold_of head_with options_within number_of cross block_end verdict sealed_tcp tcp_header_with number four six port eprt delimited passive client_text server_text spelled digits
+unfolding frames_on_literals
 answer_all = refl
 
 acknowledged_then : acknowledged_of (own Client (streams_of (answered world round t))) ≡ 19
-unfolding read_frame words fold_of head_with options_within number_of cross block_end verdict sealed_tcp tcp_header_with number four six port eprt delimited passive client_text server_text spelled digits
+unfolding frames_on_literals
 acknowledged_then = refl
 
 -- these frames are a round

@@ -1,35 +1,17 @@
 -- That the premises of the laws on replies, aliases and connections are met: each by frames, computed. A law whose premise nothing meets would say nothing.
 use Rattle.std.proofs.Common.{◌≡◌, ◌<◌, ℕ, true, false, List, [], ◌∷◌, fold, map, All, Contains, Some, None, refl, inl, inr, lit<}
 use Rattle.std.proofs.lemmas.List.Elements.{All-cons, All-nil}
-use Rattle.gate_base.specs.Address.{number_of}
 use Rattle.gate_base.specs.Prelude.{Event, is_unicast_number}
 use Rattle.gate_base.specs.declared.address.Addr.{Addr}
 use Rattle.gate_base.specs.declared.event.Verdict.TheVariants.{Pass, Refused}
 use Rattle.gate_base.specs.declared.refusal.Refusal.TheVariants.{NoBinding}
 use Rattle.gate_base.specs.declared.side.Link.TheVariants.{Raw}
 use Rattle.gate_base.specs.declared.side.Side.TheVariants.{Left, Right}
-use Rattle.gate_settings.specs.Cross.{block_end}
 use Rattle.gate_settings.specs.declared.settings.Settings.{Settings}
-use Rattle.binding_table.specs.Bindings.{cross}
 use Rattle.binding_table.specs.Prelude.{in_pool}
-use Rattle.ether_frames.specs.Ether.{read_frame}
-use Rattle.inet_sum.specs.Sum.{words, fold_of}
-use Rattle.ipv4_frames.specs.Ipv4.{head_with}
-use Rattle.udp_icmp.specs.Icmp.{sealed_icmp}
-use Rattle.udp_icmp.specs.Udp.{sealed_udp}
-use Rattle.tcp_segments.specs.Options.{options_within}
-use Rattle.tcp_segments.specs.Tcp.{sealed_tcp, tcp_header_with}
 use Rattle.tcp_tracker.specs.Connections.{is_established, kept, with_flags}
 use Rattle.tcp_tracker.specs.declared.connection.Connection.{Connection}
-use Rattle.twice_translate.specs.Renamed.{sealed_payload, renamed}
-use Rattle.icmp_errors.specs.Inner.{inner_fields, inner_with}
-use Rattle.dns_names.specs.Names.{piece_at}
-use Rattle.dns_names.specs.Octets.{reverse_in}
-use Rattle.dns_names.specs.Reverse.{full_reverse}
-use Rattle.dns_names.specs.Spelling.{spell}
-use Rattle.dns_names.specs.Walk.{name_at}
-use Rattle.dns_messages.specs.Reading.{content_by, resource_at, resources_at, question_at, questions_at, message_at}
-use Rattle.dns_messages.specs.Writing.{spelling}
+use Rattle.icmp_errors.specs.Inner.{inner_fields}
 use Rattle.gate_model.specs.Called.{AllBefore, IsKeptUntil, called_by, header_until}
 use Rattle.gate_model.specs.Frame.{Dns, Stream, datagram_in, kind_of}
 use Rattle.gate_model.specs.Inner.{inside, inner_session}
@@ -39,6 +21,7 @@ use Rattle.gate_model.specs.Transparent.{IsAbout, IsPlainKind, IsReply, IsUntrac
 use Rattle.gate_model.specs.Verdict.{verdict}
 use Rattle.gate_model.specs.World.{at_moment, opening_world}
 use Rattle.gate_model.proofs.RowWords.{hex, fixed, pool, set, event}
+use Rattle.model_cases.proofs.OnLiterals.{frames_on_literals}
 
 abbrev settings : Settings
 settings = set [] (pool 0xc0a8c801 0xc0a8c8fe) (pool 0xac100901 0xac1009fe) (fixed Left 0x0a000005 0xac100901 ∷ fixed Right 0x0a000005 0xc0a8c801 ∷ fixed Right 0x0a000035 0xc0a8c835 ∷ [])
@@ -69,57 +52,57 @@ abbrev reply : Event
 reply = event Right 3000 Raw true (hex 31 0x4500001f0001400040117bb60a000005ac10090213880fa0000b3133796573)
 
 sends_passes : verdict whole_rules (after []) sends ≡ Pass
-unfolding read_frame words fold_of head_with sealed_icmp sealed_udp options_within sealed_tcp tcp_header_with sealed_payload renamed number_of cross block_end inner_with piece_at reverse_in full_reverse spell name_at content_by resource_at resources_at question_at questions_at message_at spelling verdict
+unfolding frames_on_literals
 sends_passes = refl
 
 keeps_until : header_until whole_rules (after []) sends ≡ 300000001000
-unfolding read_frame words fold_of head_with sealed_icmp sealed_udp options_within sealed_tcp tcp_header_with sealed_payload renamed number_of cross block_end inner_with piece_at reverse_in full_reverse spell name_at content_by resource_at resources_at question_at questions_at message_at spelling verdict
+unfolding frames_on_literals
 keeps_until = refl
 
 source_is_kept : IsKeptUntil whole_rules (after []) sends host 300000001000
-unfolding read_frame words fold_of head_with sealed_icmp sealed_udp options_within sealed_tcp tcp_header_with sealed_payload renamed number_of cross block_end inner_with piece_at reverse_in full_reverse spell name_at content_by resource_at resources_at question_at questions_at message_at spelling verdict
+unfolding frames_on_literals
 source_is_kept = inl (inl refl, refl)
 
 destination_is_kept : IsKeptUntil whole_rules (after []) sends (record { 0 = 0xc0a8c801 }) 300000001000
-unfolding read_frame words fold_of head_with sealed_icmp sealed_udp options_within sealed_tcp tcp_header_with sealed_payload renamed number_of cross block_end inner_with piece_at reverse_in full_reverse spell name_at content_by resource_at resources_at question_at questions_at message_at spelling verdict
+unfolding frames_on_literals
 destination_is_kept = inl (inr refl, refl)
 
 between : AllBefore 300000001000 (others ∷ [])
 between = All-cons (λ e. e.moment < 300000001000) others [] (lit< tt) (All-nil (λ e. e.moment < 300000001000))
 
 is_called : called_by whole_rules (after []) sends host ≡ alias
-unfolding read_frame words fold_of head_with sealed_icmp sealed_udp options_within sealed_tcp tcp_header_with sealed_payload renamed number_of cross block_end inner_with piece_at reverse_in full_reverse spell name_at content_by resource_at resources_at question_at questions_at message_at spelling verdict
+unfolding frames_on_literals
 is_called = refl
 
 -- the host may be reached by others, and sends again;
 is_no_alias : in_pool (at_moment (after (sends ∷ others ∷ [])) 3000).table Left host ≡ false
-unfolding read_frame words fold_of head_with sealed_icmp sealed_udp options_within sealed_tcp tcp_header_with sealed_payload renamed number_of cross block_end inner_with piece_at reverse_in full_reverse spell name_at content_by resource_at resources_at question_at questions_at message_at spelling verdict
+unfolding frames_on_literals
 is_no_alias = refl
 
 is_unicast : is_unicast_number host.0 ≡ true
-unfolding read_frame words fold_of head_with sealed_icmp sealed_udp options_within sealed_tcp tcp_header_with sealed_payload renamed number_of cross block_end inner_with piece_at reverse_in full_reverse spell name_at content_by resource_at resources_at question_at questions_at message_at spelling verdict
+unfolding frames_on_literals
 is_unicast = refl
 
 sends_again : source_of (datagram_in sends) ≡ host
-unfolding read_frame words fold_of head_with sealed_icmp sealed_udp options_within sealed_tcp tcp_header_with sealed_payload renamed number_of cross block_end inner_with piece_at reverse_in full_reverse spell name_at content_by resource_at resources_at question_at questions_at message_at spelling verdict
+unfolding frames_on_literals
 sends_again = refl
 
 -- it is a reply, of a kind of which nothing else is looked at, with nothing wrong by itself,
 is_reply : IsReply whole_rules (after []) sends reply
-unfolding read_frame words fold_of head_with sealed_icmp sealed_udp options_within sealed_tcp tcp_header_with sealed_payload renamed number_of cross block_end inner_with piece_at reverse_in full_reverse spell name_at content_by resource_at resources_at question_at questions_at message_at spelling verdict
+unfolding frames_on_literals
 is_reply = record { side = refl; source = refl; destination = refl }
 
 is_plain : IsPlainKind (kind_of (datagram_in reply))
-unfolding read_frame words fold_of head_with sealed_icmp sealed_udp options_within sealed_tcp tcp_header_with sealed_payload renamed number_of cross block_end inner_with piece_at reverse_in full_reverse spell name_at content_by resource_at resources_at question_at questions_at message_at spelling verdict
+unfolding frames_on_literals
 is_plain = tt
 
 is_whole : own_reason reply ≡ None
-unfolding read_frame words fold_of head_with sealed_icmp sealed_udp options_within sealed_tcp tcp_header_with sealed_payload renamed number_of cross block_end inner_with piece_at reverse_in full_reverse spell name_at content_by resource_at resources_at question_at questions_at message_at spelling verdict
+unfolding frames_on_literals
 is_whole = refl
 
 -- and passes
 reply_passes : verdict whole_rules (after (sends ∷ others ∷ [])) reply ≡ Pass
-unfolding read_frame words fold_of head_with sealed_icmp sealed_udp options_within sealed_tcp tcp_header_with sealed_payload renamed number_of cross block_end inner_with piece_at reverse_in full_reverse spell name_at content_by resource_at resources_at question_at questions_at message_at spelling verdict
+unfolding frames_on_literals
 reply_passes = refl
 
 -- ## An ICMP error
@@ -129,11 +112,11 @@ abbrev error : Event
 error = event Right 3000 Raw true (hex 58 0x4500003a0001400040017bab0a000005ac1009020303bc2f000000004500001e000140003f117cb7ac1009020a0000050fa01388000ab5316869)
 
 is_about : IsAbout whole_rules (after []) sends error
-unfolding read_frame words fold_of head_with sealed_icmp sealed_udp options_within sealed_tcp tcp_header_with sealed_payload renamed number_of cross block_end inner_with piece_at reverse_in full_reverse spell name_at content_by resource_at resources_at question_at questions_at message_at spelling verdict
+unfolding frames_on_literals
 is_about = record { side = refl; source = refl; destination = refl }
 
 asks_no_session : inner_session (at_moment (after (sends ∷ others ∷ [])) 3000) Right (inner_fields (inside (datagram_in error))) ≡ None
-unfolding read_frame words fold_of head_with sealed_icmp sealed_udp options_within sealed_tcp tcp_header_with sealed_payload renamed number_of cross block_end inner_with piece_at reverse_in full_reverse spell name_at content_by resource_at resources_at question_at questions_at message_at spelling verdict
+unfolding frames_on_literals
 asks_no_session = refl
 
 -- ## A name in a DNS message
@@ -147,15 +130,15 @@ abbrev answer : Event
 answer = event Right 2000000000 Raw true (hex 73 0x450000490001400040117b5d0a000035ac10090100350fa0003595a700018180000100010000000003667470076578616d706c650000010001c00c000100010000012c00040a000007)
 
 answer_passes : verdict whole_rules (after (question ∷ [])) answer ≡ Pass
-unfolding read_frame words fold_of head_with sealed_icmp sealed_udp options_within sealed_tcp tcp_header_with sealed_payload renamed number_of cross block_end inner_with piece_at reverse_in full_reverse spell name_at content_by resource_at resources_at question_at questions_at message_at spelling verdict
+unfolding frames_on_literals
 answer_passes = refl
 
 answer_kind : kind_of (datagram_in answer) ≡ Dns
-unfolding read_frame words fold_of head_with sealed_icmp sealed_udp options_within sealed_tcp tcp_header_with sealed_payload renamed number_of cross block_end inner_with piece_at reverse_in full_reverse spell name_at content_by resource_at resources_at question_at questions_at message_at spelling verdict
+unfolding frames_on_literals
 answer_kind = refl
 
 name_is_kept : IsKeptUntil whole_rules (after (question ∷ [])) answer (record { 0 = 0x0a000007 }) 62000000000
-unfolding read_frame words fold_of head_with sealed_icmp sealed_udp options_within sealed_tcp tcp_header_with sealed_payload renamed number_of cross block_end inner_with piece_at reverse_in full_reverse spell name_at content_by resource_at resources_at question_at questions_at message_at spelling verdict
+unfolding frames_on_literals
 name_is_kept = inr (refl, (0, refl), refl)
 
 -- ## A connection
@@ -171,24 +154,24 @@ abbrev handshake : Event
 handshake = event Left 7000 Raw true (hex 40 0x45000028000140004006a81f0a000006c0a8c8019c400050000003e9000013895010200049220000)
 
 has_no_tracked_port : has_tracked_port (datagram_in syn_answer) ≡ false
-unfolding read_frame words fold_of head_with sealed_icmp sealed_udp options_within sealed_tcp tcp_header_with sealed_payload renamed number_of cross block_end inner_with piece_at reverse_in full_reverse spell name_at content_by resource_at resources_at question_at questions_at message_at spelling verdict
+unfolding frames_on_literals
 has_no_tracked_port = refl
 
 is_untracked : IsUntracked (after (syn ∷ [])) syn_answer
-unfolding read_frame words fold_of head_with sealed_icmp sealed_udp options_within sealed_tcp tcp_header_with sealed_payload renamed number_of cross block_end inner_with piece_at reverse_in full_reverse spell name_at content_by resource_at resources_at question_at questions_at message_at spelling verdict
+unfolding frames_on_literals
 is_untracked = record { kind = refl; ports = refl; session = refl }
 
 answers_syn : IsReply whole_rules (after []) syn syn_answer
-unfolding read_frame words fold_of head_with sealed_icmp sealed_udp options_within sealed_tcp tcp_header_with sealed_payload renamed number_of cross block_end inner_with piece_at reverse_in full_reverse spell name_at content_by resource_at resources_at question_at questions_at message_at spelling verdict
+unfolding frames_on_literals
 answers_syn = record { side = refl; source = refl; destination = refl }
 
 syn_answer_passes : verdict whole_rules (after (syn ∷ [])) syn_answer ≡ Pass
-unfolding read_frame words fold_of head_with sealed_icmp sealed_udp options_within sealed_tcp tcp_header_with sealed_payload renamed number_of cross block_end inner_with piece_at reverse_in full_reverse spell name_at content_by resource_at resources_at question_at questions_at message_at spelling verdict
+unfolding frames_on_literals
 syn_answer_passes = refl
 
 -- it lives for four minutes,
 lives : map (λ c. c.until.0) (after (syn ∷ [])).connections ≡ 240000005000 ∷ []
-unfolding read_frame words fold_of head_with sealed_icmp sealed_udp options_within sealed_tcp tcp_header_with sealed_payload renamed number_of cross block_end inner_with piece_at reverse_in full_reverse spell name_at content_by resource_at resources_at question_at questions_at message_at spelling verdict
+unfolding frames_on_literals
 lives = refl
 
 abbrev connection : Connection (Tracked WholeSession)
@@ -203,19 +186,19 @@ connection = record {
 
 -- and is established with the third segment of its handshake
 is_found : found_in (at_moment (after (syn ∷ syn_answer ∷ [])) 7000) Left (datagram_in handshake) ≡ Some connection
-unfolding read_frame words fold_of head_with sealed_icmp sealed_udp options_within sealed_tcp tcp_header_with sealed_payload renamed number_of cross block_end inner_with piece_at reverse_in full_reverse spell name_at content_by resource_at resources_at question_at questions_at message_at spelling verdict
+unfolding frames_on_literals
 is_found = refl
 
 ends_not : ends_by whole_rules Left (datagram_in handshake) connection.session ≡ false
-unfolding read_frame words fold_of head_with sealed_icmp sealed_udp options_within sealed_tcp tcp_header_with sealed_payload renamed number_of cross block_end inner_with piece_at reverse_in full_reverse spell name_at content_by resource_at resources_at question_at questions_at message_at spelling verdict
+unfolding frames_on_literals
 ends_not = refl
 
 is_kept : kept (tcp_of (datagram_in handshake)).flags connection ≡ Some connection
-unfolding read_frame words fold_of head_with sealed_icmp sealed_udp options_within sealed_tcp tcp_header_with sealed_payload renamed number_of cross block_end inner_with piece_at reverse_in full_reverse spell name_at content_by resource_at resources_at question_at questions_at message_at spelling verdict
+unfolding frames_on_literals
 is_kept = refl
 
 establishes : is_established (with_flags Left (tcp_of (datagram_in handshake)).flags connection) ≡ true
-unfolding read_frame words fold_of head_with sealed_icmp sealed_udp options_within sealed_tcp tcp_header_with sealed_payload renamed number_of cross block_end inner_with piece_at reverse_in full_reverse spell name_at content_by resource_at resources_at question_at questions_at message_at spelling verdict
+unfolding frames_on_literals
 establishes = refl
 
 -- ## A refusal
@@ -225,5 +208,5 @@ abbrev stray : Event
 stray = event Left 1500 Raw true (hex 30 0x4500001e000140004011a7bb0a000006c0a8c8640fa01388000ae1356869)
 
 is_refused : verdict whole_rules (after (sends ∷ [])) stray ≡ Refused NoBinding
-unfolding read_frame words fold_of head_with sealed_icmp sealed_udp options_within sealed_tcp tcp_header_with sealed_payload renamed number_of cross block_end inner_with piece_at reverse_in full_reverse spell name_at content_by resource_at resources_at question_at questions_at message_at spelling verdict
+unfolding frames_on_literals
 is_refused = refl
