@@ -5,6 +5,7 @@ ghost use Rattle.dns_names.specs.Reverse.{full_reverse, with_address, is_zone, n
 ghost use Rattle.dns_names.specs.Octets.{label_in, behind, reverse_in};
 
 use crate::name::Name;
+use crate::way::Way;
 use gate_base::{Addr, OutOfMemory, read_number};
 use itoa::Buffer;
 use std::alloc::{AllocError, Global};
@@ -117,9 +118,10 @@ pub fn reverse_of(alloc: Global, address: Addr, old: &Name) -> Result<Name, OutO
     // It is a name of that address.
     ensures again { IfOk result (λ name. full_reverse name ≡ Some address.0) }
 {
+    let way = Way::short(alloc);
     let mut octets = Vec::new(alloc);
     put_numbers(&mut octets, address.0)?;
     let zone = behind_label(behind_label(behind_label(behind_label(old.octets()))));
     octets.extend_from_slice(zone)?;
-    Ok(Name { octets })
+    Ok(Name { octets, way })
 }
