@@ -228,8 +228,14 @@ pub lawful_none : (settings : Settings) (o : Option Merged) (p : Option Given) �
 lawful_none settings None p = tt
 lawful_none settings (Some x) None = tt
 lawful_none settings (Some x) (Some g) =
-    record { others = x.events; split = refl; state = opening settings; left = g; came =
-        subst (λ (xs : List Arrival). CameTo settings (opening settings) g xs (opening settings) g) (sym (arrivals-none settings.join)) (refl, refl) }
+    record {
+      others = x.events;
+      split = refl;
+      state = opening settings;
+      left = g;
+      came =
+          subst (λ (xs : List Arrival). CameTo settings (opening settings) g xs (opening settings) g) (sym (arrivals-none settings.join)) (refl, refl);
+    }
 
 -- so much was taken of the incoming captures
 pub took_few : (settings : Settings) (m0 m : Merging) (r0 r : GivenFiles) (old now new : Outside) (joiner : Joined) (s : State)

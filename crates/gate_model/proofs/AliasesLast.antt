@@ -67,7 +67,7 @@ lawful_next {S = S} rules w e lawful = by_verdict (verdict rules w e) (lawful_ex
         let live = at_moment w e.moment in
         let d = datagram_in e in
         subst (λ (t : Bindings). IsLawful t) (sym (table_is rules live e.side e.moment d (kind_of d)))
-            (lawful_after (uses_of rules live e.side e.moment d (kind_of d)) live.table k)
+        (lawful_after (uses_of rules live e.side e.moment d (kind_of d)) live.table k)
     by_verdict (Refused r) k = k
     by_verdict Held k = k
 
@@ -118,15 +118,15 @@ both_after rules w e lawful v =
     let until = header_until rules w e in
     let p = passes rules w e v in
     let outside : in_pool live.table e.side (source_of d) ≡ false =
-        none_head {test = (in_pool live.table e.side (source_of d), SourceInPool)}
-        {more = (not (is_reachable live.table e.side (destination_of d)), NoBinding) ∷ []} p.address in
+    none_head {test = (in_pool live.table e.side (source_of d), SourceInPool)}
+    {more = (not (is_reachable live.table e.side (destination_of d)), NoBinding) ∷ []} p.address in
     let reach : not (is_reachable live.table e.side (destination_of d)) ≡ false =
     none_head {test = (not (is_reachable live.table e.side (destination_of d)), NoBinding)} {more = []}
-        (none_tail {test = (in_pool live.table e.side (source_of d), SourceInPool)}
-        {more = (not (is_reachable live.table e.side (destination_of d)), NoBinding) ∷ []} p.address) in
+    (none_tail {test = (in_pool live.table e.side (source_of d), SourceInPool)}
+    {more = (not (is_reachable live.table e.side (destination_of d)), NoBinding) ∷ []} p.address) in
     both_known live.table e.side d.source d.destination until (destination_of d ∷ payload_addresses rules live e.side d kind)
-        (payload_uses rules live e.side e.moment until d kind) (lawful_expired w.table (record { 0 = e.moment }) lawful) outside
-        (not-false _ reach) p.pool
+    (payload_uses rules live e.side e.moment until d kind) (lawful_expired w.table (record { 0 = e.moment }) lawful) outside
+    (not-false _ reach) p.pool
 
 pub hosts_are : {S : Type 0} (rules : SessionRules S) (w : World S) (e : Event) → IsLawful w.table → verdict rules w e ≡ Pass
     → HostsAre rules w e (table_by rules w e)
@@ -137,10 +137,10 @@ hosts_are rules w e lawful v =
     let k = both_after rules w e lawful v in
     let lawful_later = lawful_by rules w e lawful in
     let from : sent_from rules w e ≡ record { 0 = k.alias } =
-        called_is table e.side (source_of d) (record { 0 = k.alias }) (known_seen table e.side d.source k.alias until lawful_later k.own) in
+    called_is table e.side (source_of d) (record { 0 = k.alias }) (known_seen table e.side d.source k.alias until lawful_later k.own) in
     let far = called (at_moment w e.moment).table e.side (destination_of d) in
     let to : sent_to rules w e ≡ far = called_is table e.side (destination_of d) far
-        (known_back table e.side far.0 d.destination until lawful_later k.far) in
+    (known_back table e.side far.0 d.destination until lawful_later k.far) in
     record {
       own = subst (λ (a : Addr). IsKnownAs table e.side d.source a.0 until) (sym from) k.own;
       far = subst (λ (a : Addr). IsKnownAs table (other e.side) a.0 d.destination until) (sym to) k.far;

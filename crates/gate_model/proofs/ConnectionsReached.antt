@@ -19,7 +19,7 @@ crosses_as : (table : Bindings) (side : Side) (address image : Addr) (host alias
 crosses_as table side address image host alias until lawful e f h =
     subst (λ (n : ℕ). CrossBack table side address (record { 0 = n })) (sym f)
     (subst (λ (n : ℕ). CrossBack table side (record { 0 = n }) (record { 0 = alias })) (sym e)
-        (cross_back table side host alias until lawful (inl h)))
+    (cross_back table side host alias until lawful (inl h)))
 
 reaches : {S : Type 0} (table : Bindings) (now : ℕ) (c : Connection (Tracked S)) → IsLawful table → now < c.until.0 → KeepsHosts table c
     → ReachesHosts (expired table (record { 0 = now })) c

@@ -52,24 +52,28 @@ found_is table side alias differs pool some = by_found (find (is_of_alias side a
   where
     by_found : (o : Option Binding) → find (is_of_alias side alias.0) table.entries ≡ o → IsFound table side alias
     by_found None e = absurd (true≢false (sym some ∙ ap is_some (unseen table side alias differs pool (ap (option_map (λ (b : Binding). b.host)) e))))
-    by_found (Some b) e = record { binding = b; found = e; seen_is =
-        seen_as table side alias b.host differs pool (ap (option_map (λ (x : Binding). x.host)) e) }
+    by_found (Some b) e = record {
+      binding = b;
+      found = e;
+      seen_is =
+          seen_as table side alias b.host differs pool (ap (option_map (λ (x : Binding). x.host)) e);
+    }
 
 -- ## What passes
 
 pub meant : {S : Type 0} (rules : SessionRules S) (settings : Settings) (events : List Event) (x : Event) → IsSound settings
     → HasForms settings → verdict rules (fold (next rules) (opening_world settings) events) x ≡ Pass
     → (is_same (at_moment (fold (next rules) (opening_world settings) events) x.moment).table (destination_of (datagram_in x)) ≡ true)
-        ⊎ IsMeant rules settings events (fold (next rules) (opening_world settings) events) x
+    ⊎ IsMeant rules settings events (fold (next rules) (opening_world settings) events) x
 meant {S = S} rules settings events x sound forms v = elim (or_cases _ _ reach) [
   | inl same ↦ inl (or_right (not (is_unicast_number d.destination)) _ same)
   | inr pool ↦
       let parts = and_parts (in_pool live.table x.side (destination_of d)) (is_some (seen live.table x.side (destination_of d))) pool in
       let f = found_is live.table x.side (destination_of d) (lawful.pools x.side (destination_of d) parts.0) parts.0 parts.1 in
       let is = and_parts (same_side f.binding.side (other x.side)) (f.binding.alias.0 == d.destination)
-          (find_passes (is_of_alias x.side d.destination) live.table.entries f.binding f.found) in
+      (find_passes (is_of_alias x.side d.destination) live.table.entries f.binding f.found) in
       let host : called live.table x.side (destination_of d) ≡ f.binding.host =
-          called_is live.table x.side (destination_of d) f.binding.host f.seen_is in
+      called_is live.table x.side (destination_of d) f.binding.host f.seen_is in
       inr (record {
         binding = f.binding;
         side = same_side-true f.binding.side (other x.side) is.0;
@@ -102,8 +106,8 @@ meant {S = S} rules settings events x sound forms v = elim (or_cases _ _ reach) 
         let p = passes rules (fold (next rules) (opening_world settings) events) x v in
         not-false _
         (none_head {test = (not (is_reachable live.table x.side (destination_of d)), NoBinding)} {more = []}
-            (none_tail {test = (in_pool live.table x.side (source_of d), SourceInPool)}
-            {more = (not (is_reachable live.table x.side (destination_of d)), NoBinding) ∷ []} p.address))
+        (none_tail {test = (in_pool live.table x.side (source_of d), SourceInPool)}
+        {more = (not (is_reachable live.table x.side (destination_of d)), NoBinding) ∷ []} p.address))
 
     -- the destination goes on to be called so
     sent : sent_to rules (fold (next rules) (opening_world settings) events) x
@@ -111,6 +115,6 @@ meant {S = S} rules settings events x sound forms v = elim (or_cases _ _ reach) 
     sent =
         let far = called live.table x.side (destination_of d) in
         let known = known_after (uses_of rules live x.side x.moment d (kind_of d)) live.table (other x.side) far.0 d.destination 0
-            (far_known live.table x.side d.destination lawful reach) in
+        (far_known live.table x.side d.destination lawful reach) in
         called_is (table_by rules w x) x.side (destination_of d) far
-            (known_back (table_by rules w x) x.side far.0 d.destination 0 (lawful_by rules w x first) known)
+        (known_back (table_by rules w x) x.side far.0 d.destination 0 (lawful_by rules w x first) known)

@@ -144,10 +144,10 @@ frame_rounds_full : (host : Host) (xs : List FrameRound) (w : World RememberedSe
 frame_rounds_full host [] w t knows had reached below acked now all = now
 frame_rounds_full host (x ∷ xs) w t knows had reached below acked now all =
     let one : Raised (own host (streams_of t)) (own host (streams_of (answered w x t))) knows x.has =
-        round_raises host w t knows had x reached below acked all.0 in
+    round_raises host w t knows had x reached below acked all.0 in
     frame_rounds_full host xs (at_end w x) (answered w x t) (acknowledged_of (own host (streams_of (answered w x t)))) x.has
-        (end_reached w x reached).1 one.stands.below one.stands.hears
-        (full (own host (streams_of (answered w x t))) one.stands.lawful one.stands.bound) all.1
+    (end_reached w x reached).1 one.stands.below one.stands.hears
+    (full (own host (streams_of (answered w x t))) one.stands.lawful one.stands.bound) all.1
 
 pub frame_rounds_few : (host : Host) (xs : List FrameRound) (w : World RememberedSession) (t : Tracked RememberedSession) (knows had : ℕ)
     → EachTracked TrackedHolds w.connections → knows ≤ acknowledged_of (own host (streams_of t)) → (own host (streams_of t)).acked ≤ had
@@ -156,9 +156,9 @@ pub frame_rounds_few : (host : Host) (xs : List FrameRound) (w : World Remembere
 frame_rounds_few host [] w t knows had reached below acked all = omega arith
 frame_rounds_few host (x ∷ xs) w t knows had reached below acked all =
     let one : Raised (own host (streams_of t)) (own host (streams_of (answered w x t))) knows x.has =
-        round_raises host w t knows had x reached below acked all.0 in
+    round_raises host w t knows had x reached below acked all.0 in
     let sum = frame_rounds_raise host (x ∷ xs) w t knows had reached below acked all in
     let most = frame_rounds_full host xs (at_end w x) (answered w x t) (acknowledged_of (own host (streams_of (answered w x t)))) x.has
-        (end_reached w x reached).1 one.stands.below one.stands.hears
-        (full (own host (streams_of (answered w x t))) one.stands.lawful one.stands.bound) all.1 in
+    (end_reached w x reached).1 one.stands.below one.stands.hears
+    (full (own host (streams_of (answered w x t))) one.stands.lawful one.stands.bound) all.1 in
     omega (arith, sum, most)

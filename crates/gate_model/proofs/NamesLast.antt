@@ -52,7 +52,7 @@ one_behind table side until front uses a lawful are bound room =
     let within : length front < length (front ++ a ∷ []) = omega (arith, length-append front (a ∷ [])) in
     let at : IsSome (seen (after_uses table more) side a) =
     subst (λ (x : Addr). IsSome (seen (after_uses table more) side x)) (last_of front a a)
-        (All-get_or (λ address. IsSome (seen (after_uses table more) side address)) (front ++ a ∷ []) (length front) a within seen_all) in
+    (All-get_or (λ address. IsSome (seen (after_uses table more) side address)) (front ++ a ∷ []) (length front) a within seen_all) in
     use_crosses (after_uses table uses) side a.0 until (lawful_after uses table lawful)
     (subst (λ (t : Bindings). IsSome (seen t side a)) (fold-append used table uses (use_of side a.0 until ∷ [])) at)
 
@@ -64,17 +64,17 @@ behind_cross [] table side until front uses lawful are bound room = tt
 behind_cross (a ∷ rest) table side until front uses lawful are bound room =
     let same : (front ++ a ∷ []) ++ rest ≡ front ++ a ∷ rest = append_assoc front (a ∷ []) rest in
     let bound' : All (λ address. cross table side address ≢ Unbound) ((front ++ a ∷ []) ++ rest) =
-        subst (λ (xs : List Addr). All (λ address. cross table side address ≢ Unbound) xs) (sym same) bound in
+    subst (λ (xs : List Addr). All (λ address. cross table side address ≢ Unbound) xs) (sym same) bound in
     let room' : needed table side ((front ++ a ∷ []) ++ rest) ≤ free table (other side) =
-        subst (λ (xs : List Addr). needed table side xs ≤ free table (other side)) (sym same) room in
+    subst (λ (xs : List Addr). needed table side xs ≤ free table (other side)) (sym same) room in
     let first : needed table side (front ++ a ∷ []) ≤ free table (other side) =
-        omega (arith, needed_front table side (front ++ a ∷ []) rest, room') in
+    omega (arith, needed_front table side (front ++ a ∷ []) rest, room') in
     let lawful_t : IsLawful (used (after_uses table uses) (use_of side a.0 until)) =
-        lawful_used (after_uses table uses) (use_of side a.0 until) (lawful_after uses table lawful) in
+    lawful_used (after_uses table uses) (use_of side a.0 until) (lawful_after uses table lawful) in
     let one = one_behind table side until front uses a lawful are
-        (all_front (λ address. cross table side address ≢ Unbound) (front ++ a ∷ []) rest bound') first in
+    (all_front (λ address. cross table side address ≢ Unbound) (front ++ a ∷ []) rest bound') first in
     let more = behind_cross rest table side until (front ++ a ∷ []) (uses ++ use_of side a.0 until ∷ []) lawful
-        (uses_more side front uses a until are) bound' room' in (
+    (uses_more side front uses a until are) bound' room' in (
       (all_cross_later (uses_until side until rest) (used (after_uses table uses) (use_of side a.0 until)) side until (a ∷ []) lawful_t (one, tt)).0,
       subst (λ (x : Bindings). AllByRecursion (Crosses (after_uses x (uses_until side until rest)) side until) rest)
           (fold-append used table uses (use_of side a.0 until ∷ [])) more,
@@ -99,31 +99,31 @@ names_stand rules live side moment d lawful p =
     let header = uses_until side (moment + timeout_by rules live side d Dns) (addresses_of d) in
     let table = table_after rules live side moment d Dns in
     let outside : in_pool live.table side (source_of d) ≡ false =
-        none_head {test = (in_pool live.table side (source_of d), SourceInPool)}
-        {more = (not (is_reachable live.table side (destination_of d)), NoBinding) ∷ []} p.address in
+    none_head {test = (in_pool live.table side (source_of d), SourceInPool)}
+    {more = (not (is_reachable live.table side (destination_of d)), NoBinding) ∷ []} p.address in
     let reach : is_reachable live.table side (destination_of d) ≡ true =
     not-false _ (none_head {test = (not (is_reachable live.table side (destination_of d)), NoBinding)} {more = []}
-        (none_tail {test = (in_pool live.table side (source_of d), SourceInPool)}
-        {more = (not (is_reachable live.table side (destination_of d)), NoBinding) ∷ []} p.address)) in
+    (none_tail {test = (in_pool live.table side (source_of d), SourceInPool)}
+    {more = (not (is_reachable live.table side (destination_of d)), NoBinding) ∷ []} p.address)) in
     let far = seen_bound live.table side (destination_of d) (called live.table side (destination_of d))
-        (known_back live.table side (called live.table side (destination_of d)).0 d.destination 0 lawful
-        (far_known live.table side d.destination lawful reach)) in
+    (known_back live.table side (called live.table side (destination_of d)).0 d.destination 0 lawful
+    (far_known live.table side d.destination lawful reach)) in
     let unbound : has_unbound live.table side names ≡ false =
     none_head {test = (has_unbound live.table side names, DnsUnbound)} {more = []}
-        (none_tail {test = (is_none (message_in d), BadDns)} {more = (has_unbound live.table side names, DnsUnbound) ∷ []} p.content) in
+    (none_tail {test = (is_none (message_in d), BadDns)} {more = (has_unbound live.table side names, DnsUnbound) ∷ []} p.content) in
     let bound =
     All-cons (λ address. cross live.table side address ≢ Unbound) (source_of d) (destination_of d ∷ names)
-        (known_unbound live.table side (source_of d) outside)
+    (known_unbound live.table side (source_of d) outside)
     (All-cons (λ address. cross live.table side address ≢ Unbound) (destination_of d) names far
-        (names_bound_once live.table side 0 [] names lawful tt unbound)) in
+    (names_bound_once live.table side 0 [] names lawful tt unbound)) in
     let room : needed live.table side (addresses_of d ++ names) ≤ free live.table (other side) = ltb-false _ _ p.pool in
     let crossing = behind_cross names live.table side (moment + named_timeout) (addresses_of d) header lawful
-        (uses_are side (moment + timeout_by rules live side d Dns) (addresses_of d)) bound room in
+    (uses_are side (moment + timeout_by rules live side d Dns) (addresses_of d)) bound room in
     let is : table ≡ after_uses (after_uses live.table header) (uses_until side (moment + named_timeout) names) =
-        fold-append used live.table header (uses_until side (moment + named_timeout) names) in
+    fold-append used live.table header (uses_until side (moment + named_timeout) names) in
     let lawful_later : IsLawful table = lawful_after (header ++ uses_until side (moment + named_timeout) names) live.table lawful in
     let all = All-from_recursion (Crosses table side (moment + named_timeout)) names
-        (subst (λ (t : Bindings). AllByRecursion (Crosses t side (moment + named_timeout)) names) (sym is) crossing) in
+    (subst (λ (t : Bindings). AllByRecursion (Crosses t side (moment + named_timeout)) names) (sym is) crossing) in
     λ k a within. crosses_stands table side (moment + named_timeout) (get_or names k a) lawful_later (all k a within)
 
 -- each address that a frame keeps stands for what it is called
@@ -158,9 +158,9 @@ kept_stands {S = S} rules w e address until lawful v kept = elim kept [
         let p = subst (Passes rules live e.side e.moment d) dns (passes rules w e v) in
         let all = names_stand rules live e.side e.moment d (lawful_expired w.table (record { 0 = e.moment }) lawful) p in
         subst (λ (kind : Kind). StandFor (table_after rules live e.side e.moment d kind) e.side address.0
-            (called (table_after rules live e.side e.moment d kind) e.side address).0 (e.moment + named_timeout)) (sym dns)
+        (called (table_after rules live e.side e.moment d kind) e.side address).0 (e.moment + named_timeout)) (sym dns)
         (All-contains (λ (a : Addr). StandFor (table_after rules live e.side e.moment d Dns) e.side a.0
-            (called (table_after rules live e.side e.moment d Dns) e.side a).0 (e.moment + named_timeout)) (named_in (message_in d)) address all has)
+        (called (table_after rules live e.side e.moment d Dns) e.side a).0 (e.moment + named_timeout)) (named_in (message_in d)) address all has)
 
 -- ## What goes out for the names
 
@@ -180,4 +180,4 @@ names_called rules w e lawful v dns = λ k a within.
     let until = e.moment + named_timeout in
     let stands = kept_stands rules w e x until lawful v (inr (dns, Contains-get_or names k a within, refl)) in
     image_called (at_moment w e.moment).table (table_by rules w e) e.side x (called_by rules w e x)
-        (cross_back (table_by rules w e) e.side x.0 (called_by rules w e x).0 until (lawful_by rules w e lawful) stands).there
+    (cross_back (table_by rules w e) e.side x.0 (called_by rules w e x).0 until (lawful_by rules w e lawful) stands).there

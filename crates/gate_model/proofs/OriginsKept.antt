@@ -71,8 +71,8 @@ used_from Q table one (Bound image) h f =
     All-map Q g table.entries
     (All-weaker Q (λ b. Q (g b))
     (λ b q. extended_from Q pool one.side one.address one.until b q
-        (λ through moving. f (record b { until = one.until }) moving
-        (record { until = refl; is = through_use pool one.side one.address b through }))) table.entries h)
+    (λ through moving. f (record b { until = one.until }) moving
+    (record { until = refl; is = through_use pool one.side one.address b through }))) table.entries h)
 used_from Q table one (New alias) h f =
     let b : Binding = record { side = one.side; host = one.address; alias = alias; until = one.until; fixed = false } in
     All-push Q table.entries b h (f b refl (record { until = refl; is = inl (refl, refl) }))
@@ -84,7 +84,7 @@ uses_from : (uses : List Use) (Q : Binding → Type 0) (table : Bindings) → Al
 uses_from [] Q table h f = h
 uses_from (one ∷ uses) Q table h f =
     uses_from uses Q (used table one) (used_from Q table one (cross table one.side one.address) h
-        (f one (Contains-append_left (one ∷ []) uses one (Contains-push [] one))))
+    (f one (Contains-append_left (one ∷ []) uses one (Contains-push [] one))))
     (λ two there. f two (Contains-append_right (one ∷ []) uses two there))
 
 -- ## All events
@@ -94,8 +94,8 @@ step : {S : Type 0} (rules : SessionRules S) (settings : Settings) (events done 
     → All (ComesFromUse rules settings events) (next rules (fold (next rules) (opening_world settings) done) e).table.entries
 step {S = S} rules settings events done others e split h =
     by_verdict (verdict rules (fold (next rules) (opening_world settings) done) e) refl
-        (All-filter (is_live (record { 0 = e.moment })) (ComesFromUse rules settings events)
-        (fold (next rules) (opening_world settings) done).table.entries h)
+    (All-filter (is_live (record { 0 = e.moment })) (ComesFromUse rules settings events)
+    (fold (next rules) (opening_world settings) done).table.entries h)
   where
     live : World S
     live = at_moment (fold (next rules) (opening_world settings) done) e.moment
@@ -103,13 +103,25 @@ step {S = S} rules settings events done others e split h =
     by_verdict : (v : Verdict) → verdict rules (fold (next rules) (opening_world settings) done) e ≡ v
         → All (ComesFromUse rules settings events) (at_moment (fold (next rules) (opening_world settings) done) e.moment).table.entries
         → All (ComesFromUse rules settings events) (next_by rules
-            (at_moment (fold (next rules) (opening_world settings) done) e.moment) e v).table.entries
+        (at_moment (fold (next rules) (opening_world settings) done) e.moment) e v).table.entries
     by_verdict Pass p k =
         subst (λ (t : Bindings). All (ComesFromUse rules settings events) t.entries)
-            (sym (table_is rules live e.side e.moment (datagram_in e) (kind_of (datagram_in e))))
+        (sym (table_is rules live e.side e.moment (datagram_in e) (kind_of (datagram_in e))))
         (uses_from (uses_by rules (fold (next rules) (opening_world settings) done) e) (ComesFromUse rules settings events) live.table k
-        (λ one there b moving is. inr (moving, record { before = done; event = e; others = others; split = split; passes = p; one =
-            one; uses = there; is = is })))
+        (λ one there b moving is. inr (
+          moving,
+          record {
+            before = done;
+            event = e;
+            others = others;
+            split = split;
+            passes = p;
+            one =
+                one;
+            uses = there;
+            is = is;
+          },
+        )))
     by_verdict (Refused r) p k = k
     by_verdict Held p k = k
 
@@ -120,16 +132,16 @@ run rules settings events [] done split h = h
 run {S = S} rules settings events (e ∷ rest) done split h =
     let one = step rules settings events done rest e split h in
     let same : fold (next rules) (opening_world settings) (done ++ e ∷ [])
-        ≡ next rules (fold (next rules) (opening_world settings) done) e = fold-append (next rules) (opening_world settings) done (e ∷ []) in
+    ≡ next rules (fold (next rules) (opening_world settings) done) e = fold-append (next rules) (opening_world settings) done (e ∷ []) in
     let more = run rules settings events rest (done ++ e ∷ []) (split ∙ sym (append_assoc done (e ∷ []) rest))
-        (subst (λ (w : World S). All (ComesFromUse rules settings events) w.table.entries) (sym same) one) in
+    (subst (λ (w : World S). All (ComesFromUse rules settings events) w.table.entries) (sym same) one) in
     subst (λ (w : World S). All (ComesFromUse rules settings events) (fold (next rules) w rest).table.entries) same more
 
 opens : {S : Type 0} (rules : SessionRules S) (settings : Settings) (events : List Event)
     → All (ComesFromUse rules settings events) (opening settings).entries
 opens rules settings events =
     let fixed : All (λ (b : Binding). b.fixed ≡ true) (map fixed_binding settings.statics) =
-        All-map (λ (b : Binding). b.fixed ≡ true) fixed_binding settings.statics (λ k d within. refl) in
+    All-map (λ (b : Binding). b.fixed ≡ true) fixed_binding settings.statics (λ k d within. refl) in
     let there = All-contains_itself (map fixed_binding settings.statics) in
     λ k d within. inl (fixed k d within, there k d within)
 
@@ -145,4 +157,4 @@ lives_on now b h = elim (or_cases b.fixed (nat_lt now b.until.0) h) [ inl fixed 
 pub all_over : {S : Type 0} (w : World S) (now : ℕ) → All (λ (b : Binding). (b.fixed ≡ true) ⊎ (now < b.until.0)) (at_moment w now).table.entries
 all_over w now =
     All-weaker (λ b. is_live (record { 0 = now }) b ≡ true) (λ b. (b.fixed ≡ true) ⊎ (now < b.until.0)) (lives_on now)
-        (filter (is_live (record { 0 = now })) w.table.entries) (filter_passes (is_live (record { 0 = now })) w.table.entries)
+    (filter (is_live (record { 0 = now })) w.table.entries) (filter_passes (is_live (record { 0 = now })) w.table.entries)

@@ -29,7 +29,7 @@ HasTrackedPort c = IfSome c.session (λ t. is_tracked_key c.key ≡ true)
 same_ports : {S : Type 0} (key : ConnKey) (c : Connection (Tracked S)) → is_of key c ≡ true → is_tracked_key c.key ≡ is_tracked_key key
 same_ports key c h =
     let rights = and_parts ((c.key.left.0 == key.left.0 && c.key.left_port == key.left_port) && c.key.right.0 == key.right.0)
-        (c.key.right_port == key.right_port) h in
+    (c.key.right_port == key.right_port) h in
     let lefts = and_parts (c.key.left.0 == key.left.0 && c.key.left_port == key.left_port) (c.key.right.0 == key.right.0) rights.0 in
     let left = and_parts (c.key.left.0 == key.left.0) (c.key.left_port == key.left_port) lefts.0 in
     ap (λ (n : ℕ). is_tracked_port n || is_tracked_port c.key.right_port) (eqb-true c.key.left_port key.left_port left.1)
@@ -84,11 +84,11 @@ kind_tracked {S = S} rules live side moment d Stream h =
     let found = found_is HasTrackedPort key live.connections h in
     let taker = taker_tracked rules live side d table (found_in live side d) found in
     let left = left_of rules (image_in rules live side moment d) live side moment d table (found_in live side d) refl
-        (only (found_in live side d) found) in
+    (only (found_in live side d) found) in
     all_changed HasTrackedPort live.connections (place_of key live.connections)
-        (connection_after rules (image_in rules live side moment d) live side moment d (taker_in rules live side moment d)) h
+    (connection_after rules (image_in rules live side moment d) live side moment d (taker_in rules live side moment d)) h
     (left_tracked rules (image_in rules live side moment d) live side moment d (taker_in rules live side moment d)
-        (connection_after rules (image_in rules live side moment d) live side moment d (taker_in rules live side moment d)) taker left)
+    (connection_after rules (image_in rules live side moment d) live side moment d (taker_in rules live side moment d)) taker left)
   where
     only : (o : Option (Connection (Tracked S))) → IfSome o (λ c. HasTrackedPort c × (is_of (key_in live.table side d) c ≡ true))
         → IfSome o (λ c. is_of (key_in live.table side d) c ≡ true)

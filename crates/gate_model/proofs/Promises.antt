@@ -71,23 +71,25 @@ promised settings events sound forms =
       waits = λ done others split. waits_are done settings;
       going = λ done others e split t h is. session_goes_on done settings e t h is;
       through = λ done others e split. through (remembered_after settings done) e;
-      rounds = λ done others split host t knows had rounds below acked all.
-          (frame_rounds_raise host rounds (remembered_after settings done) t knows had
-              (run_holds done settings) below acked all, frame_rounds_few host rounds (remembered_after settings done) t knows had
-              (run_holds done settings) below acked all);
+      rounds = λ done others split host t knows had rounds below acked all. (
+        frame_rounds_raise host rounds (remembered_after settings done) t knows had
+            (run_holds done settings) below acked all,
+        frame_rounds_few host rounds (remembered_after settings done) t knows had
+            (run_holds done settings) below acked all,
+      );
       translated = λ done others e split v. translated_are whole_rules (known_after settings done) e (lawful done) v;
       aliases = λ done between others e x address until split v keeps before less.
           subst (λ (w : World WholeSession). KeepsAlias whole_rules (known_after settings done) e address w x) (sym (later done between e))
           (keeps_alias whole_rules (known_after settings done) e address until between x (lawful done) v
-              (kept_stands whole_rules (known_after settings done) e address until (lawful done) v keeps) before less);
+          (kept_stands whole_rules (known_after settings done) e address until (lawful done) v keeps) before less);
       named = λ done others e split v dns. names_called whole_rules (known_after settings done) e (lawful done) v dns;
       replies = λ done between others e r split v reply before less.
           subst (λ (w : World WholeSession). ComesBack whole_rules e w r) (sym (later done between e))
-              (comes_back whole_rules (known_after settings done) e between r (lawful done) v reply before less);
+          (comes_back whole_rules (known_after settings done) e between r (lawful done) v reply before less);
       untracked = λ done others r split kind ports. untracked whole_rules settings done r kind ports;
       errors = λ done between others e r split v about before less.
           subst (λ (w : World WholeSession). ComesHome whole_rules e w r) (sym (later done between e))
-              (comes_home whole_rules (known_after settings done) e between r (lawful done) v about before less);
+          (comes_home whole_rules (known_after settings done) e between r (lawful done) v about before less);
       reached = λ done others now split. hosts_reached (known_after settings done) now
           (run_hosts whole_rules done (opening_world settings) (opening_hosts settings sound forms));
       origins = λ done others split. all_come whole_rules settings done;

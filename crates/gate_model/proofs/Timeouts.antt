@@ -32,10 +32,10 @@ least rules live side d Echo = omega arith
 least rules live side d Error = omega arith
 least rules live side d Stream =
     least_ended (ends_by rules side d (session_in (found_in live side d)))
-        (timeout_or_short (option_map (with_flags side (tcp_of d).flags)
-        (kept_or_begun (key_in live.table side d) (tcp_of d).flags None (found_in live side d))))
+    (timeout_or_short (option_map (with_flags side (tcp_of d).flags)
+    (kept_or_begun (key_in live.table side d) (tcp_of d).flags None (found_in live side d))))
     (least_found (option_map (with_flags side (tcp_of d).flags)
-        (kept_or_begun (key_in live.table side d) (tcp_of d).flags None (found_in live side d))))
+    (kept_or_begun (key_in live.table side d) (tcp_of d).flags None (found_in live side d))))
 
 pub established_is : {S : Type 0} (rules : SessionRules S) (live : World S) (side : Side) (d : Datagram) (c : Connection (Tracked S))
     → found_in live side d ≡ Some c → ends_by rules side d c.session ≡ false → kept (tcp_of d).flags c ≡ Some c

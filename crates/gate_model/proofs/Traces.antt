@@ -38,15 +38,25 @@ connected_sooner sooner later c least h = let before = ltb-true later c.until.0 
 pub moments_join : {S : Type 0} (w : World S) (sooner later : ℕ) → sooner ≤ later → at_moment (at_moment w sooner) later ≡ at_moment w later
 moments_join {S = S} w sooner later least =
     let bindings = filter_twice (is_live (record { 0 = sooner })) (is_live (record { 0 = later }))
-        (λ b. lives_sooner sooner later b least) w.table.entries in
+    (λ b. lives_sooner sooner later b least) w.table.entries in
     let connections = filter_twice (is_connected (record { 0 = sooner })) (is_connected (record { 0 = later }))
-        (λ (c : Connection (Tracked S)). connected_sooner sooner later c least) w.connections in
-    ap (λ (es : List Binding). let v : World S = record { clock = later; table = record w.table { entries = es }; connections =
-        filter (is_connected (record { 0 = later })) (filter (is_connected (record { 0 = sooner })) w.connections); pending = w.pending } in
-        v) bindings
+    (λ (c : Connection (Tracked S)). connected_sooner sooner later c least) w.connections in
+    ap (λ (es : List Binding). let v : World S = record {
+      clock = later;
+      table = record w.table { entries = es };
+      connections =
+          filter (is_connected (record { 0 = later })) (filter (is_connected (record { 0 = sooner })) w.connections);
+      pending = w.pending;
+    } in
+    v) bindings
     ∙ ap (λ (cs : List (Connection (Tracked S))). let v : World S =
-        record { clock = later; table = record w.table { entries = filter (is_live (record { 0 = later })) w.table.entries }; connections =
-        cs; pending = w.pending } in v) connections
+    record {
+      clock = later;
+      table = record w.table { entries = filter (is_live (record { 0 = later })) w.table.entries };
+      connections =
+          cs;
+      pending = w.pending;
+    } in v) connections
 
 pub no_trace : {S : Type 0} (rules : SessionRules S) (w : World S) (e x : Event) (r : Refusal) → verdict rules w e ≡ Refused r
     → e.moment ≤ x.moment → (verdict rules (next rules w e) x ≡ verdict rules w x) × (out rules (next rules w e) x ≡ out rules w x)
@@ -55,7 +65,7 @@ unfolding verdict
 no_trace {S = S} rules w e x r refused least =
     let stays : next rules w e ≡ at_moment w e.moment = ap (next_by rules (at_moment w e.moment) e) refused in
     let live : at_moment (next rules w e) x.moment ≡ at_moment w x.moment =
-        ap (λ (v : World S). at_moment v x.moment) stays ∙ moments_join w e.moment x.moment least in (
+    ap (λ (v : World S). at_moment v x.moment) stays ∙ moments_join w e.moment x.moment least in (
       ap (λ (v : World S). verdict_of (first_that_holds (tests rules v x))) live,
       ap (λ (v : World S). out_by rules v x (verdict_of (first_that_holds (tests rules v x)))) live,
       ap (λ (v : World S). next_by rules v x (verdict_of (first_that_holds (tests rules v x)))) live,

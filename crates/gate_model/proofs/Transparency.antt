@@ -53,12 +53,12 @@ known_reached : (table : Bindings) (side : Side) (host alias until : ℕ) → Is
     → IsKnownAs table side host alias until → is_reachable table (other side) (record { 0 = alias }) ≡ true
 known_reached table side host alias until lawful unicast (inl same) =
     let inside_same : is_in_same (record { 0 = host }) table.same ≡ true =
-        same_of (is_unicast_number host) (is_in_same (record { 0 = host }) table.same) unicast same.0 in
+    same_of (is_unicast_number host) (is_in_same (record { 0 = host }) table.same) unicast same.0 in
     or_left _ _ (ap (λ (n : ℕ). is_in_same (record { 0 = n }) table.same) same.1 ∙ inside_same)
 known_reached table side host alias until lawful unicast (inr h) =
     let back = (cross_back table side host alias until lawful (inl (inr h))).back in
     or_right _ _ (and_from (in_pool table (other side) (record { 0 = alias })) (is_some (seen table (other side) (record { 0 = alias })))
-        (placed table side host alias until lawful h).2 (some_is (seen table (other side) (record { 0 = alias })) (record { 0 = host }) back))
+    (placed table side host alias until lawful h).2 (some_is (seen table (other side) (record { 0 = alias })) (record { 0 = host }) back))
 
 reached : (table : Bindings) (side : Side) (address image until : ℕ) → IsLawful table → in_pool table side (record { 0 = address }) ≡ false
     → is_unicast_number address ≡ true → StandFor table side address image until → is_reachable table (other side) (record { 0 = image }) ≡ true
@@ -67,7 +67,7 @@ reached table side address image until lawful outside unicast (inr (inl same)) =
     known_reached table side address image until lawful unicast (inl (ap (λ (n : ℕ). is_same table (record { 0 = n })) same.1 ∙ same.0, sym same.1))
 reached table side address image until lawful outside unicast (inr (inr h)) =
     let pool = ap (λ (s : Side). in_pool table s (record { 0 = address })) (sym (other_other side))
-        ∙ (placed table (other side) image address until lawful h).2 in
+    ∙ (placed table (other side) image address until lawful h).2 in
     absurd (true≢false (sym pool ∙ outside))
 
 -- the sender of a frame that passes is a host
@@ -80,12 +80,12 @@ source_unicast rules w e v =
     let world = world_tests rules live e.side e.moment d (kind_of d) in
     let all : NoneHolds (tests rules live e) = record { none = pass_is (first_that_holds (tests rules live e)) v } in
     let rest : NoneHolds (datagram_tests d ++ (transport_tests d ++ world)) =
-        none_right (header_tests e) (datagram_tests d ++ (transport_tests d ++ world)) all in
+    none_right (header_tests e) (datagram_tests d ++ (transport_tests d ++ world)) all in
     let mine : NoneHolds (datagram_tests d) = none_left (datagram_tests d) (transport_tests d ++ world) rest in
     let second = none_tail {test = (nat_lt d.lifetime 2, TtlSpent)}
-        {more = (has_other_address d, NotUnicast) ∷ (is_other_protocol d, Protocol) ∷ []} mine in
+    {more = (has_other_address d, NotUnicast) ∷ (is_other_protocol d, Protocol) ∷ []} mine in
     let hosts : has_other_address d ≡ false = none_head {test = (has_other_address d, NotUnicast)}
-        {more = (is_other_protocol d, Protocol) ∷ []} second in
+    {more = (is_other_protocol d, Protocol) ∷ []} second in
     not-false _ (or_parts (not (is_unicast_number d.source)) (not (is_unicast_number d.destination)) hosts).0
 
 -- ## Nothing goes out untranslated
@@ -137,10 +137,10 @@ keeps_alias {S = S} rules w e address until between x lawful v stands before les
   );
   alone = λ side passes from.
       let mine = (cross_back (table_by rules last x) x.side dx.source (sent_from rules last x).0 (header_until rules last x) lawful_x
-          (header_stands rules last x lawful_last passes).0).back in
+      (header_stands rules last x lawful_last passes).0).back in
       let same : Some (source_of dx) ≡ Some address = sym mine
-          ∙ ap (λ (s : Side). seen (table_by rules last x) (other s) (sent_from rules last x)) side
-          ∙ ap (λ (a : Addr). seen (table_by rules last x) (other e.side) a) from ∙ later.back in
+      ∙ ap (λ (s : Side). seen (table_by rules last x) (other s) (sent_from rules last x)) side
+      ∙ ap (λ (a : Addr). seen (table_by rules last x) (other e.side) a) from ∙ later.back in
       cc;
 }
   where
@@ -175,8 +175,8 @@ keeps_alias {S = S} rules w e address until between x lawful v stands before les
     later =
         cross_back (table_by rules (fold (next rules) (next rules w e) between) x) e.side address.0 (called_by rules w e address).0 until lawful_x
         (stand_after (uses_of rules (at_moment (fold (next rules) (next rules w e) between) x.moment) x.side x.moment (datagram_in x)
-            (kind_of (datagram_in x))) (at_moment (fold (next rules) (next rules w e) between) x.moment).table e.side address.0
-            (called_by rules w e address).0 until now)
+        (kind_of (datagram_in x))) (at_moment (fold (next rules) (next rules w e) between) x.moment).table e.side address.0
+        (called_by rules w e address).0 until now)
 
 -- ## Replies
 
@@ -220,9 +220,9 @@ pool_enough : (table : Bindings) (side : Side) (d : Datagram) → first_that_hol
     (address_tests table side d ++ (nat_lt (free table (other side)) (needed table side (addresses_of d)), PoolEmpty) ∷ []) ≡ None
 pool_enough table side d addresses room =
     let enough : nat_lt (free table (other side)) (needed table side (addresses_of d)) ≡ false =
-        ap (λ (n : ℕ). nat_lt (free table (other side)) n) room ∙ not_below (free table (other side)) in
+    ap (λ (n : ℕ). nat_lt (free table (other side)) n) room ∙ not_below (free table (other side)) in
     ahead (address_tests table side d) ((nat_lt (free table (other side)) (needed table side (addresses_of d)), PoolEmpty) ∷ []) addresses
-        ∙ rw enough refl
+    ∙ rw enough refl
 
 world_none : {S : Type 0} (rules : SessionRules S) (live : World S) (side : Side) (moment : ℕ) (d : Datagram) (kind : Kind)
     → IsPlainKind kind → first_that_holds (address_tests live.table side d) ≡ None → needed live.table side (addresses_of d) ≡ 0
@@ -247,7 +247,7 @@ plain_verdict rules v r plain addresses room =
     let world = world_tests rules live r.side r.moment d (kind_of d) in
     let own = header_tests r ++ (datagram_tests d ++ transport_tests d) in
     ap verdict_of (ap first_that_holds (sym (in_order (header_tests r) (datagram_tests d) (transport_tests d) world))
-        ∙ behind own world (world_none rules live r.side r.moment d (kind_of d) plain addresses room))
+    ∙ behind own world (world_none rules live r.side r.moment d (kind_of d) plain addresses room))
 
 -- ## Segments that no session tracks
 
@@ -266,7 +266,7 @@ abbrev stream_tests : {S : Type 0} → SessionRules S → (Addr → Option Addr)
     → Bool → Bool → Option (Tracked S) → List (Bool × Refusal)
 stream_tests rules image table side d addresses lacks full pool taker =
     addresses ++ (((lacks, NoSession) ∷ refusal_tests (session_refusal rules side d taker) ++
-        (unit_tests rules image table side d taker ++ (full, SessionsFull) ∷ [])) ++ (pool, PoolEmpty) ∷ growth_tests rules image side d taker)
+    (unit_tests rules image table side d taker ++ (full, SessionsFull) ∷ [])) ++ (pool, PoolEmpty) ∷ growth_tests rules image side d taker)
 
 -- of one that none takes only the room for its connection is left to test
 none_taken : {S : Type 0} (rules : SessionRules S) (image : Addr → Option Addr) (table : Bindings) (side : Side) (d : Datagram)
@@ -276,8 +276,8 @@ none_taken : {S : Type 0} (rules : SessionRules S) (image : Addr → Option Addr
 none_taken {S = S} rules image table side d addresses lacks full pool taker none l p t =
     ap (λ (x : Option (Tracked S)). first_that_holds (stream_tests rules image table side d addresses lacks full pool x)) t
     ∙ ahead addresses (((lacks, NoSession) ∷ refusal_tests (session_refusal rules side d none_of) ++
-        (unit_tests rules image table side d none_of ++ (full, SessionsFull) ∷ [])) ++ (pool, PoolEmpty)
-        ∷ growth_tests rules image side d none_of) none
+    (unit_tests rules image table side d none_of ++ (full, SessionsFull) ∷ [])) ++ (pool, PoolEmpty)
+    ∷ growth_tests rules image side d none_of) none
     ∙ by_tests lacks full pool l p
   where
     none_of : Option (Tracked S)
@@ -294,26 +294,26 @@ stream_none : {S : Type 0} (rules : SessionRules S) (live : World S) (side : Sid
     → first_that_holds (address_tests live.table side d) ≡ None → needed live.table side (addresses_of d) ≡ 0 → has_tracked_port d ≡ false
     → session_in (found_in live side d) ≡ None
     → first_that_holds (world_tests rules live side moment d Stream)
-        ≡ first_that_holds ((is_full live.connections (found_in live side d) d, SessionsFull) ∷ [])
+    ≡ first_that_holds ((is_full live.connections (found_in live side d) d, SessionsFull) ∷ [])
 stream_none {S = S} rules live side moment d addresses room ports session =
     let tcp = tcp_of d in
     let found = found_in live side d in
     let port = (or_parts (is_tracked_port tcp.source_port) (is_tracked_port tcp.destination_port) ports).1 in
     let lacks : lacks_session found d ≡ false = and_right (is_none found) (has_tracked_port d && not (is_opening tcp.flags))
-        (ap (λ (b : Bool). b && not (is_opening tcp.flags)) ports) in
+    (ap (λ (b : Bool). b && not (is_opening tcp.flags)) ports) in
     let pool : is_pool_empty rules live side d Stream ≡ false =
     ap (λ (o : Option (Tracked S)). nat_lt (free live.table (other side))
-        (needed live.table side (addresses_of d ++ names_in rules side d o))) session
+    (needed live.table side (addresses_of d ++ names_in rules side d o))) session
     ∙ ap (λ (n : ℕ). nat_lt (free live.table (other side)) n) room ∙ not_below (free live.table (other side)) in
     none_taken rules (image_in rules live side moment d) live.table side d (address_tests live.table side d) (lacks_session found d)
-        (is_full live.connections found d) (is_pool_empty rules live side d Stream) (taker_in rules live side moment d) addresses lacks pool
+    (is_full live.connections found d) (is_pool_empty rules live side d Stream) (taker_in rules live side moment d) addresses lacks pool
     (taker_none rules (table_after rules live side moment d Stream) side d found session port)
 
 segment_verdict : {S : Type 0} (rules : SessionRules S) (v : World S) (r : Event) → IsUntracked v r
     → first_that_holds (address_tests (at_moment v r.moment).table r.side (datagram_in r)) ≡ None
     → needed (at_moment v r.moment).table r.side (addresses_of (datagram_in r)) ≡ 0
     → verdict rules v r ≡ verdict_of (first_that_holds (own_tests r ++
-        (is_full (at_moment v r.moment).connections (found_in (at_moment v r.moment) r.side (datagram_in r)) (datagram_in r), SessionsFull) ∷ []))
+    (is_full (at_moment v r.moment).connections (found_in (at_moment v r.moment) r.side (datagram_in r)) (datagram_in r), SessionsFull) ∷ []))
 unfolding verdict
 segment_verdict {S = S} rules v r is addresses room =
     let live = at_moment v r.moment in
@@ -321,10 +321,10 @@ segment_verdict {S = S} rules v r is addresses room =
     let last : List (Bool × Refusal) = (is_full live.connections (found_in live r.side d) d, SessionsFull) ∷ [] in
     ap verdict_of
     (ap first_that_holds (sym (in_order (header_tests r) (datagram_tests d) (transport_tests d)
-        (world_tests rules live r.side r.moment d (kind_of d))))
+    (world_tests rules live r.side r.moment d (kind_of d))))
     ∙ ap (λ (kind : Kind). first_that_holds (own_tests r ++ world_tests rules live r.side r.moment d kind)) is.kind
     ∙ same_behind (own_tests r) (world_tests rules live r.side r.moment d Stream) last
-        (stream_none rules live r.side r.moment d addresses room is.ports is.session))
+    (stream_none rules live r.side r.moment d addresses room is.ports is.session))
 
 segment_out : {S : Type 0} (rules : SessionRules S) (v : World S) (r : Event) → IsUntracked v r
     → out_kind rules (at_moment v r.moment) r.side r.moment (datagram_in r) (kind_of (datagram_in r))
@@ -348,7 +348,7 @@ segment_out {S = S} rules v r is =
     by_kind live side moment d Stream e t =
         let table = table_after rules live side moment d Stream in
         ap (stream_out rules (image_in rules live side moment d) side d (called table side (source_of d)).0
-            (called table side (destination_of d)).0) t
+        (called table side (destination_of d)).0) t
 
 plain_out : {S : Type 0} (rules : SessionRules S) (live : World S) (side : Side) (moment : ℕ) (d : Datagram) (kind : Kind)
     → IsPlainKind kind → out_kind rules live side moment d kind
@@ -405,21 +405,21 @@ comes_back {S = S} rules w e between r lawful v reply before less = record {
         ap (λ (s : Side). in_pool (at_moment (fold (next rules) (next rules w e) between) r.moment).table s (source_of (datagram_in r))) reply.side
         ∙ ap (λ (a : Addr). in_pool (at_moment (fold (next rules) (next rules w e) between) r.moment).table (other e.side) a) reply.source
         ∙ host_outside (at_moment (fold (next rules) (next rules w e) between) r.moment).table (other e.side) (sent_to rules w e).0
-            (datagram_in e).destination (header_until rules w e) lawful_live hosts.far
+        (datagram_in e).destination (header_until rules w e) lawful_live hosts.far
 
     reach : is_reachable (at_moment (fold (next rules) (next rules w e) between) r.moment).table r.side (destination_of (datagram_in r)) ≡ true
     reach =
         ap (λ (s : Side). is_reachable (at_moment (fold (next rules) (next rules w e) between) r.moment).table s
-            (destination_of (datagram_in r))) reply.side
+        (destination_of (datagram_in r))) reply.side
         ∙ ap (λ (a : Addr). is_reachable (at_moment (fold (next rules) (next rules w e) between) r.moment).table (other e.side) a) reply.destination
         ∙ known_reached (at_moment (fold (next rules) (next rules w e) between) r.moment).table e.side (datagram_in e).source
-            (sent_from rules w e).0 (header_until rules w e) lawful_live (source_unicast rules w e v) hosts.own
+        (sent_from rules w e).0 (header_until rules w e) lawful_live (source_unicast rules w e v) hosts.own
 
     addresses : first_that_holds (address_tests (at_moment (fold (next rules) (next rules w e) between) r.moment).table r.side (datagram_in r)) ≡ None
     addresses =
         two_fail (in_pool (at_moment (fold (next rules) (next rules w e) between) r.moment).table r.side (source_of (datagram_in r)))
-            (not (is_reachable (at_moment (fold (next rules) (next rules w e) between) r.moment).table r.side
-            (destination_of (datagram_in r)))) SourceInPool NoBinding outside (ap not reach)
+        (not (is_reachable (at_moment (fold (next rules) (next rules w e) between) r.moment).table r.side
+        (destination_of (datagram_in r)))) SourceInPool NoBinding outside (ap not reach)
 
     -- what both addresses are called by a table that has both hosts
     source_seen : (table : Bindings) → IsLawful table → HostsAre rules w e table
@@ -437,7 +437,7 @@ comes_back {S = S} rules w e between r lawful v reply before less = record {
     room : needed (at_moment (fold (next rules) (next rules w e) between) r.moment).table r.side (addresses_of (datagram_in r)) ≡ 0
     room =
         none_needed (at_moment (fold (next rules) (next rules w e) between) r.moment).table r.side (source_of (datagram_in r))
-            (destination_of (datagram_in r)) (destination_of (datagram_in e)) (source_of (datagram_in e))
+        (destination_of (datagram_in r)) (destination_of (datagram_in e)) (source_of (datagram_in e))
         (source_seen (at_moment (fold (next rules) (next rules w e) between) r.moment).table lawful_live hosts)
         (destination_seen (at_moment (fold (next rules) (next rules w e) between) r.moment).table lawful_live hosts)
 
@@ -445,7 +445,7 @@ comes_back {S = S} rules w e between r lawful v reply before less = record {
     kept : HostsAre rules w e (table_by rules (fold (next rules) (next rules w e) between) r)
     kept =
         let uses = uses_of rules (at_moment (fold (next rules) (next rules w e) between) r.moment) r.side r.moment (datagram_in r)
-            (kind_of (datagram_in r)) in
+        (kind_of (datagram_in r)) in
         let table = (at_moment (fold (next rules) (next rules w e) between) r.moment).table in
         record {
           own = known_after uses table e.side (datagram_in e).source (sent_from rules w e).0 (header_until rules w e) hosts.own;
@@ -481,7 +481,7 @@ comes_home {S = S} rules w e between r lawful v about before less = record {
   destination = destination;
   bound = λ none.
       bound_of (seen table r.side inner.source) (seen table r.side inner.destination) (source_of (datagram_in e))
-          (destination_of (datagram_in e)) (inner_session live r.side inner)
+      (destination_of (datagram_in e)) (inner_session live r.side inner)
       (λ (t : Tracked S). rules.inner (host_on (other r.side) t) t.session inner.sequence) source destination none;
 }
   where
@@ -505,16 +505,16 @@ comes_home {S = S} rules w e between r lawful v about before less = record {
         (inner_fields (inside (datagram_in r))).source ≡ Some (source_of (datagram_in e))
     source =
         ap (λ (s : Side). seen (at_moment (fold (next rules) (next rules w e) between) r.moment).table s
-            (inner_fields (inside (datagram_in r))).source) about.side
+        (inner_fields (inside (datagram_in r))).source) about.side
         ∙ ap (λ (a : Addr). seen (at_moment (fold (next rules) (next rules w e) between) r.moment).table (other e.side) a) about.source
         ∙ (cross_back (at_moment (fold (next rules) (next rules w e) between) r.moment).table e.side (datagram_in e).source
-            (sent_from rules w e).0 (header_until rules w e) lawful_live (inl hosts.own)).back
+        (sent_from rules w e).0 (header_until rules w e) lawful_live (inl hosts.own)).back
 
     destination : seen (at_moment (fold (next rules) (next rules w e) between) r.moment).table r.side
         (inner_fields (inside (datagram_in r))).destination ≡ Some (destination_of (datagram_in e))
     destination =
         ap (λ (s : Side). seen (at_moment (fold (next rules) (next rules w e) between) r.moment).table s
-            (inner_fields (inside (datagram_in r))).destination) about.side
+        (inner_fields (inside (datagram_in r))).destination) about.side
         ∙ ap (λ (a : Addr). seen (at_moment (fold (next rules) (next rules w e) between) r.moment).table (other e.side) a) about.destination
         ∙ known_seen (at_moment (fold (next rules) (next rules w e) between) r.moment).table (other e.side) (sent_to rules w e).0
-            (datagram_in e).destination (header_until rules w e) lawful_live hosts.far
+        (datagram_in e).destination (header_until rules w e) lawful_live hosts.far

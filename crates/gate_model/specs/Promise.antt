@@ -68,8 +68,8 @@ RoundsEnd settings done host t knows had rounds =
     let a = own host (streams_of t) in
     let new = own host (streams_of (after_frame_rounds w t rounds)) in
     knows ≤ acknowledged_of a → a.acked ≤ had → AllFrameRounds host w t knows had rounds
-        → (length rounds + a.acked + knows ≤ new.acked + acknowledged_of new)
-        × (length rounds ≤ length (image new.meaning new.octets) + length new.octets + 2)
+    → (length rounds + a.acked + knows ≤ new.acked + acknowledged_of new)
+    × (length rounds ≤ length (image new.meaning new.octets) + length new.octets + 2)
 
 -- by accepted settings, at each of these events and after each:
 pub record Promised (settings : Settings) (events : List Event) : Type 0 where

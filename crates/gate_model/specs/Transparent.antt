@@ -53,7 +53,7 @@ abbrev pub NamesAreCalled : {S : Type 0} → SessionRules S → World S → Even
 NamesAreCalled rules w e =
     let table = (at_moment w e.moment).table in
     All (λ a. image_after table (table_by rules w e) e.side a ≡ (if is_same table a then None else Some (called_by rules w e a)))
-        (named_in (message_in (datagram_in e)))
+    (named_in (message_in (datagram_in e)))
 
 -- ## Replies
 
@@ -100,8 +100,11 @@ pub record ComesBack {S : Type 0} (rules : SessionRules S) (e : Event) (v : Worl
       → out rules v r ≡ renamed (datagram_in r) (datagram_in e).destination (datagram_in e).source ∷ []
   -- so does a TCP segment that no session tracks, as long as there is room for its connection
   pub segment : IsUntracked v r → verdict rules v r ≡ verdict_of
-      (first_that_holds (own_tests r ++ (is_full (at_moment v r.moment).connections (found_in (at_moment v r.moment) r.side (datagram_in r))
-      (datagram_in r), SessionsFull) ∷ []))
+      (first_that_holds (own_tests r ++ (
+        is_full (at_moment v r.moment).connections (found_in (at_moment v r.moment) r.side (datagram_in r))
+            (datagram_in r),
+        SessionsFull,
+      ) ∷ []))
   pub segment_sent : IsUntracked v r → verdict rules v r ≡ Pass
       → out rules v r ≡ renamed (datagram_in r) (datagram_in e).destination (datagram_in e).source ∷ []
 

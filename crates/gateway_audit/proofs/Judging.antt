@@ -316,9 +316,14 @@ took_prepared settings m names a b c h same inputs files = took_none a c (taken_
 
 -- the merge had not been asked for an event
 pub took_not : (settings : GateSettings) (m : Merging) (r : GivenFiles) (a b : Outside) → b ≡ a → TookFew settings m r a b
-took_not settings m r a b e = record { handled = []; few = λ start g. subst (λ (o : Outside). TakenFor [] start o) (sym e)
-    (given_few start m a [] g); front = lawful_none settings (ahead m a.left) (given_told r a.left); files =
-    files_none a b (ap (λ (o : Outside). o.left) e) }
+took_not settings m r a b e = record {
+  handled = [];
+  few = λ start g. subst (λ (o : Outside). TakenFor [] start o) (sym e)
+      (given_few start m a [] g);
+  front = lawful_none settings (ahead m a.left) (given_told r a.left);
+  files =
+      files_none a b (ap (λ (o : Outside). o.left) e);
+}
 
 pub took_walked : (settings : GateSettings) (m : Merging) (r : GivenFiles) (names : Names) (a b c d : Outside)
     → Prepared settings m names a b → Readied (Some r) settings names b c → TookFew settings m r c d → TookInputs a b → TookFiles b c

@@ -30,8 +30,13 @@ settings = set [] (pool 0xc0a8c801 0xc0a8c8fe) (pool 0xac100901 0xac1009fe)
     (fixed Left 0x0a000005 0xac100901 ∷ fixed Right 0x0a000005 0xc0a8c801 ∷ [])
 
 abbrev pair : Pair
-pair = record { client = record { 0 = 0x0a000005 }; client_alias = record { 0 = 0xac100901 }; server =
-    record { 0 = 0x0a000005 }; server_alias = record { 0 = 0xc0a8c801 } }
+pair = record {
+  client = record { 0 = 0x0a000005 };
+  client_alias = record { 0 = 0xac100901 };
+  server =
+      record { 0 = 0x0a000005 };
+  server_alias = record { 0 = 0xc0a8c801 };
+}
 
 abbrev both : Session
 both = record {
@@ -43,8 +48,21 @@ abbrev none : Remembered
 none = record { sent = []; places = []; numbers = [] }
 
 abbrev t : Tracked RememberedSession
-t = record { client = Left; pair = pair; session = record { session = record { lists = None; session = both }; port = 21; pair =
-    pair; initial = 1000; mss = 1460; past = []; client = none; server = none } }
+t = record {
+  client = Left;
+  pair = pair;
+  session = record {
+    session = record { lists = None; session = both };
+    port = 21;
+    pair =
+        pair;
+    initial = 1000;
+    mss = 1460;
+    past = [];
+    client = none;
+    server = none;
+  };
+}
 
 abbrev connection : Connection (Tracked RememberedSession)
 connection = record {
