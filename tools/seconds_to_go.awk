@@ -1,11 +1,14 @@
 # How many seconds proofs still take. The first file is docs/GATE.md with the seconds of each crate, the second one the lines of crates.txt, and
-# `proved` names the crates that are proved, as NAME, or as NAME=0 where that took no time. The plan is rt's order on so many `lanes`. What is left
-# of it is stretched as its front was by the seconds that `passed`.
+# `proved` names the crates that are proved, as NAME, or as NAME=0 where that took no time. The plan is rt's order on so many `lanes`, within so
+# many gigabytes of `memory`: rt gives a check room by the lines below it. What is left of it is stretched as its front was by the seconds that
+# `passed`.
 
 FNR == NR {
     if (split($0, cell, "|") > 6 && cell[4] + 0 > 0) {
         gsub(/ /, "", cell[2])
         seconds[cell[2]] = cell[4] + 0
+        gsub(/,/, "", cell[3])
+        lines[cell[2]] = cell[3] + 0
     }
     next
 }
@@ -35,10 +38,34 @@ function is_ready(name,    j) {
     return 1
 }
 
-# The crate that is begun next, or none: the one with the longest chain.
-function next_to_begin(    i, best) {
-    for (i = 1; i <= last; i++)
-        if (!(crates[i] in ends) && is_ready(crates[i]) && (best == "" || chain[crates[i]] > chain[best])) best = crates[i]
+# The lines of the crates below one, each counted once.
+function lines_below(name, seen,    j, used, sum) {
+    for (j = 1; j <= count[name]; j++) {
+        used = uses[name, j]
+        if (used in known && !(used in seen)) {
+            seen[used]
+            sum += lines[used] + lines_below(used, seen)
+        }
+    }
+    return sum
+}
+
+# The gigabytes that rt plans for each crate: half of what it may need, but 3.3 where it may need as much.
+function find_room(    i, name, most, seen) {
+    for (i = 1; i <= last; i++) {
+        name = crates[i]
+        split("", seen)
+        most = 1 + 0.002 * lines[name] + 0.0012 * lines_below(name, seen)
+        room[name] = most < 3.3 ? most : most < 6.6 ? 3.3 : most / 2
+    }
+}
+
+# The crate that is begun next, or none: of those that are ready and have room, the one with the longest chain.
+function next_to_begin(    i, name, best) {
+    for (i = 1; i <= last; i++) {
+        name = crates[i]
+        if (!(name in ends) && is_ready(name) && (busy == 0 || taken + room[name] <= memory) && (best == "" || chain[name] > chain[best])) best = name
+    }
     return best
 }
 
@@ -56,10 +83,12 @@ function go_through(    i, name, done) {
         while (busy < lanes && (name = next_to_begin()) != "") {
             ends[name] = clock + seconds[name]
             busy++
+            taken += room[name]
         }
         name = next_to_end()
         ended[name]
         busy--
+        taken -= room[name]
         if (done < reached && done + seconds[name] >= reached) at = clock + (ends[name] - clock) * (reached - done) / seconds[name]
         done += seconds[name]
         clock = ends[name]
@@ -73,8 +102,10 @@ END {
         if (sub(/=0$/, "", word[i])) seconds[word[i]] = 0
         reached += seconds[word[i]]
     }
+    if (!memory) memory = 1000
     find_chains()
+    find_room()
     go_through()
-    # Half a minute more of both, so that the first crates don't weigh too much.
-    printf "%d\n", (clock - at) * (passed + 30) / (at + 30)
+    # Ten seconds more of both, so that the first crate doesn't weigh too much.
+    printf "%d\n", (clock - at) * (passed + 10) / (at + 10)
 }

@@ -1,5 +1,6 @@
-"""The gateway's bindings, kept along by the table of tools/bindings.py: how full the pools are is told, and the aliases that hosts got by use
+"""The gateway's bindings, kept along by the table of tools/bindings.py: how full the pools are is told, and the aliases of hosts with connections
 are kept over a restart."""
+import contextlib
 import os
 import subprocess
 import sys
@@ -10,22 +11,39 @@ from ipaddress import IPv4Address
 
 TOOLS = os.path.join(os.path.dirname(os.path.realpath(__file__)), "../../tools")
 sys.path.insert(0, TOOLS)
-from bindings import LONG_TIMEOUT, SECOND, SIDES, Binding, Bindings, datagram_of, statics  # noqa: E402
+from bindings import LONG_TIMEOUT, SECOND, SIDES, Binding, Bindings, Pool, datagram_of, statics  # noqa: E402
 
 FULL, AGAIN = 80, 70
 """How full a pool is when it is told, in percent, and below which level it is told anew."""
 
 PAUSE = 60 * SECOND
-"""How long nothing is said, or written, again."""
+"""How long a line isn't said again, and the file of aliases isn't written again."""
+
+PATIENCE = 30
+"""How many seconds the settings may take to be checked."""
 
 
 def say(text: str) -> None:
-    """A line on standard error."""
-    print(f"pump: {text}", file=sys.stderr, flush=True)
+    """A line on standard error. Where nobody reads that any more, the gateway goes on."""
+    with contextlib.suppress(OSError):
+        print(f"pump: {text}", file=sys.stderr, flush=True)
+
+
+class Seldom:
+    """A line that is said again only behind a pause."""
+
+    def __init__(self) -> None:
+        self._at = 0
+
+    def say(self, moment: int, text: str) -> None:
+        """Says it, unless it was said a short time ago."""
+        if moment >= self._at + PAUSE:
+            say(text)
+            self._at = moment
 
 
 class Kept:
-    """A file of [[static]] tables: the hosts that had an alias by use when the last pump ended."""
+    """A file of [[static]] tables: hosts whose aliases the last pump kept."""
 
     def __init__(self, name: str, settings: str) -> None:
         """Makes settings of a file and of these tables. Where they don't fit any more it says so, and the file alone is used."""
@@ -43,9 +61,12 @@ class Kept:
             self._both.write(own.read() + b"\n" + tables)
             self._both.flush()
         words = [sys.executable, f"{TOOLS}/check_settings", "--brief", self._both.name]
-        check = subprocess.run(words, stdout=subprocess.PIPE, text=True, check=False)
-        if check.returncode:
-            fault = check.stdout.replace(f"{self._both.name}: ", "").split("\n")[0]
+        try:
+            check = subprocess.run(words, stdout=subprocess.PIPE, text=True, check=False, timeout=PATIENCE)
+            fault = check.stdout.replace(f"{self._both.name}: ", "").split("\n")[0] if check.returncode else ""
+        except subprocess.TimeoutExpired:
+            fault = f"they weren't checked within {PATIENCE} seconds"
+        if fault:
             say(f"{self._name} isn't used, since the settings have a fault with it: {fault}")
             return
         self.settings = self._both.name
@@ -71,9 +92,10 @@ class Watch:
         self._links, self._kept = links, kept
         self._lines: deque[tuple[int, int, str, bytes, int]] = deque()
         self._sent: tuple[deque[bytes], deque[bytes]] = (deque(), deque())
-        self._moment, self._written = 0, 0
+        self._moment, self._begun, self._written = 0, 0, 0
         self._is_full = [False, False]
-        self._empty, self._empty_told = 0, 0
+        self._empty = 0
+        self._of_empty, self._of_missed = Seldom(), Seldom()
 
     def line(self, side: int, moment: int, verdict: str, frame: bytes, count: int) -> None:
         """An event by its line: its frame, and how many were sent for it."""
@@ -86,34 +108,45 @@ class Watch:
         self._go_on()
 
     def write(self) -> None:
-        """Writes the aliases by use that live, those that were kept already among them."""
+        """Writes the aliases that are worth keeping."""
         if self._kept and self._moment:
-            self._kept.write([one for pool in self._table.pools for one in pool.holders.values() if self._is_kept(one)])
+            connected = self._table.connected(self._moment)
+            self._kept.write([one for pool in self._table.pools for one in self._worth_keeping(pool, connected)])
             self._written = self._moment
+
+    def counts(self) -> str:
+        """How full the pools are, and how many frames weren't followed."""
+        levels = [f"{pool.level(self._moment)} of {pool.size} addresses of the {side} pool" for side, pool in zip(SIDES, self._table.pools)]
+        return f"{levels[0]} and {levels[1]} taken, {self._table.missed} frames not followed"
 
     def _go_on(self) -> None:
         """Takes the events whose frames are there."""
         while self._lines and len(self._sent[1 - self._lines[0][0]]) >= self._lines[0][4]:
             side, moment, verdict, frame, count = self._lines.popleft()
             images = [datagram_of(self._sent[1 - side].popleft(), self._links[1 - side]) for _ in range(count)]
-            if not self._moment:
-                self._begin(moment)
+            if not self._begun:
+                self._begun = self._written = moment
             self._moment = moment
             if verdict == "PoolEmpty":
                 self._refuse(side)
-            elif verdict in ("pass", "held"):
-                self._table.event(side, moment, verdict, datagram_of(frame, self._links[side]), images)
+            missed = self._table.missed
+            self._table.event(side, moment, verdict, datagram_of(frame, self._links[side]), images)
+            if self._table.missed > missed:
+                self._of_missed.say(moment, f"{missed + 1} frames not followed so far: what is told of pools, and kept of aliases, may be wrong")
+            if moment >= self._written + PAUSE:
+                self.write()
 
-    def _begin(self, moment: int) -> None:
-        """Hosts that were kept have time to come again."""
-        for pool in self._table.pools:
-            for one in pool.holders.values():
-                one.end = moment + LONG_TIMEOUT
-
-    def _is_kept(self, one: Binding) -> bool:
-        """Whether a binding lives, and isn't one of the settings' own."""
-        hosts = self._kept.hosts if self._kept else set()
-        return one.end > self._moment and (not one.fixed or (one.side, one.host) in hosts)
+    def _worth_keeping(self, pool: Pool, connected: set[tuple[int, int]]) -> list[Binding]:
+        """The bindings of hosts with an established connection, and those that were kept at the last restart, until their hosts had time to come
+        again: half of the pool at most, those that were bound first."""
+        before = self._kept.hosts if self._kept else set()
+        rows = [
+            one
+            for one in pool.holders.values()
+            if ((one.side, one.host) in before if one.fixed else one.lives(self._moment))
+            and ((one.side, one.host) in connected or one.fixed and self._moment < self._begun + LONG_TIMEOUT)
+        ]
+        return sorted(rows, key=lambda one: (not one.fixed, one.first))[: pool.size // 2]
 
     def _told(self, binding: Binding) -> None:
         """A host has got an alias."""
@@ -126,12 +159,9 @@ class Watch:
         if percent >= FULL and not self._is_full[side]:
             say(f"the {SIDES[side]} pool is {percent} % full: {level} of {pool.size} addresses")
         self._is_full[side] = percent >= (AGAIN if self._is_full[side] else FULL)
-        if self._moment >= self._written + PAUSE:
-            self.write()
 
     def _refuse(self, side: int) -> None:
         """A frame found its pool empty."""
         self._empty += 1
-        if self._moment >= self._empty_told + PAUSE:
-            say(f"PoolEmpty: the {SIDES[1 - side]} pool had no address for hosts of the {SIDES[side]} realm; {self._empty} frames refused so far")
-            self._empty_told = self._moment
+        text = f"the {SIDES[1 - side]} pool had no address for hosts of the {SIDES[side]} realm; {self._empty} frames refused so far"
+        self._of_empty.say(self._moment, f"PoolEmpty: {text}")

@@ -7,6 +7,7 @@ import socket
 import struct
 import subprocess
 from collections.abc import Iterator
+from io import RawIOBase
 
 from records import ETHERNET, RAW_IP, Lengths
 from trouble import Trouble
@@ -24,6 +25,8 @@ _SO_RCVBUFFORCE, _RECEIVED = 33, 4 << 20
 _ETHERTYPE_IPV4 = 0x0800
 _CLONE_NEWNET = 0x40000000
 _PR_CAP_AMBIENT, _CLEAR_ALL = 47, 4
+_CAPABILITIES = 0x20080522
+_NET_ADMIN, _NET_RAW, _SYS_ADMIN = 12, 13, 21
 
 
 class Gone(Exception):
@@ -91,13 +94,13 @@ class Tun(Device):
             fd = os.open("/dev/net/tun", os.O_RDWR | os.O_NONBLOCK)
             fcntl.ioctl(fd, _TUNSETIFF, struct.pack("16sH22x", name.encode(), _TUN_WITHOUT_HEADER | _TUN_NAPI))
             set_up(name, mtu, queue)
-            self._lost_before = dropped_on_the_way_out(name)
+            self._counts = open("/proc/net/dev", "rb", buffering=0)  # those of this namespace, for good
+        self._lost_before = dropped_on_the_way_out(self._counts, name)
         receive_in_thread(name, namespace)
         super().__init__(fd, RAW_IP, name, namespace)
 
     def lost_in_queue(self) -> int:
-        with inside(self.namespace):
-            return dropped_on_the_way_out(self.name) - self._lost_before
+        return dropped_on_the_way_out(self._counts, self.name) - self._lost_before
 
 
 class Interface(Device):
@@ -161,8 +164,15 @@ def _enter(namespace: int) -> None:
 
 
 def leave_capabilities() -> None:
-    """What is started from now on has none of the capabilities by which a pump that isn't root opens devices."""
-    ctypes.CDLL(None).prctl(_PR_CAP_AMBIENT, _CLEAR_ALL, 0, 0, 0)
+    """The pump has none of the capabilities by which it opened devices any more, and what a pump starts that isn't root's has none at all."""
+    library = ctypes.CDLL(None)
+    library.prctl(_PR_CAP_AMBIENT, _CLEAR_ALL, 0, 0, 0)
+    head, sets = struct.pack("II", _CAPABILITIES, 0), ctypes.create_string_buffer(24)
+    if library.capget(head, sets) == 0:
+        words = list(struct.unpack("6I", sets.raw))
+        for place in range(3):  # effective, permitted, inheritable
+            words[place] &= ~(1 << _NET_ADMIN | 1 << _NET_RAW | 1 << _SYS_ADMIN)
+        library.capset(head, struct.pack("6I", *words))
 
 
 def set_up(name: str, mtu: int | None, queue: int | None) -> None:
@@ -181,11 +191,11 @@ def receive_in_thread(name: str, namespace: str | None) -> None:
     subprocess.run(prefix + words, stderr=subprocess.DEVNULL, check=False)
 
 
-def dropped_on_the_way_out(name: str) -> int:
-    """What a device of this namespace has dropped of what it was to send. Gone where it isn't there."""
-    with open("/proc/net/dev", encoding="ascii") as table:
-        for line in table:
-            device, _, counts = line.partition(":")
-            if device.strip() == name:
-                return int(counts.split()[11])
+def dropped_on_the_way_out(table: RawIOBase, name: str) -> int:
+    """What a device has dropped of what it was to send, by the table of its namespace's devices. Gone where it isn't there."""
+    table.seek(0)
+    for line in table.readall().decode("ascii").splitlines():
+        device, _, counts = line.partition(":")
+        if device.strip() == name:
+            return int(counts.split()[11])
     raise Gone(f"there is no {name}")

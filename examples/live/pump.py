@@ -210,6 +210,8 @@ class Pump:
         """Says on standard error what each device counted, and the verdicts where there is a report."""
         if self._journal:
             say(f"verdicts: {self._journal.counts()}")
+        if self._watch:
+            say(self._watch.counts())
         for side, device in enumerate(self._devices):
             try:
                 lost = str(device.lost_in_queue())

@@ -51,7 +51,7 @@ make_realms() {
     local realm
     [ "$(id -u)" = 0 ] || fail "this needs root: it makes network namespaces"
     # Any run builds the program first, where it isn't there.
-    [ -n "${PROGRAM:-}" ] || "$top/realm_gate" make 1 1 /dev/null || fail "the program could not be built"
+    [ -n "${PROGRAM:-}" ] || "$top/rendapil" make 1 1 /dev/null || fail "the program could not be built"
     [ -x "$program" ] || fail "$program isn't there"
     for realm in "$left" "$right"; do
         ip netns add "$realm"

@@ -1,0 +1,159 @@
+"""Messages that somebody would send who looks for the frame that costs most: names that are compared over many octets again and again, and object
+identifiers that meet many rules. `bench/worst` measures them, and `bench/worst --climb` looks for worse ones."""
+import itertools
+import random
+import struct
+
+from datagrams import quad
+from messages import HOST, element, identifier, reads, resource, ruled
+
+A, MINFO, TXT = 1, 14, 16
+LED = 12
+"""How many octets a record takes whose owner leads into the octets of a text."""
+
+
+def label(octets):
+    return bytes([len(octets)]) + octets
+
+
+def pointer(place):
+    return struct.pack(">H", 0xC000 | place)
+
+
+def numbers(count, order, base, step, draw):
+    """The numbers in the labels of a crowd."""
+    bits = max(1, (count - 1).bit_length())
+    orders = {
+        "up": lambda: list(range(count)),
+        "down": lambda: list(range(count))[::-1],
+        "shuffled": lambda: draw.sample(range(count), count),
+        "bits": lambda: [number for number in (int(f"{one:0{bits}b}"[::-1], 2) for one in range(1 << bits)) if number < count],
+    }
+    return [base + step * number for number in orders[order]()]
+
+
+class Crowd:
+    """A DNS message of so many octets at most. A crowd of names of one length agree at both ends: `pre` labels of one octet, a label of `width` octets
+    with a number, `post` labels, and then the same `tail` labels. Behind it are pointers to names of the crowd, three to a record, each with `own`
+    labels before it. At the end are `led` names that lead into a text, so that they are spelled whole, and the message grows."""
+
+    def __init__(self, most, tail=113, pre=11, post=0, width=2, crowd=250, order="bits", pick="last", own=0, led=0, base=0, step=1, seed=1):
+        self._draw = random.Random(seed)
+        self._name = lambda number: label(b"a") * pre + label(number.to_bytes(width, "big")) + label(b"a") * post + pointer(12)
+        self._own, self._pick = label(b"a") * own, pick
+        self._body, self._count = bytearray(12), 0
+        self._most = most - LED * led
+        self._places = {}
+        self._add(resource(label(b"a") * tail + b"\0", A, quad(HOST)))
+        text = len(self._body) + LED
+        if led:
+            self._add(resource(pointer(12), TXT, b"\x3f" * 192 + bytes(80)))
+        self._put_crowd(numbers(crowd, order, base, step, self._draw))
+        self._put_pointers()
+        for number in range(1, 1 + led):
+            self._body += resource(pointer(text + number), TXT)
+        self.octets = struct.pack(">6H", 7, 0x8180, 0, self._count + led, 0, 0) + bytes(self._body[12:])
+
+    def _add(self, octets):
+        """A record, if it fits."""
+        if len(self._body) + len(octets) > self._most:
+            return False
+        self._body += octets
+        self._count += 1
+        return True
+
+    def _put_crowd(self, numbers):
+        """Three names to a record: its owner, and two in its data."""
+        for at in range(0, len(numbers) // 3 * 3, 3):
+            owner, *data = map(self._name, numbers[at : at + 3])
+            begin = len(self._body)
+            if not self._add(resource(owner, MINFO, b"".join(data))):
+                return
+            first = begin + len(owner) + 10
+            self._places |= dict(zip(numbers[at : at + 3], (begin, first, first + len(data[0]))))
+
+    def _put_pointers(self):
+        """Records with three names that lead to the crowd, as many as fit."""
+        known = [place for _, place in sorted(self._places.items()) if place < 1 << 14]
+        picks = {
+            "last": lambda _: known[-1],
+            "first": lambda _: known[0],
+            "middle": lambda _: known[len(known) // 2],
+            "all": lambda number: known[number % len(known)],
+            "top": lambda number: known[-1 - number % min(16, len(known))],
+            "any": lambda _: self._draw.choice(known),
+        }
+        for number in itertools.count(0, 3):
+            names = [self._own + pointer(known[self._pick % len(known)] if isinstance(self._pick, int) else picks[self._pick](number + place)) for place in range(3)]
+            if not self._add(resource(names[0], MINFO, names[1] + names[2])):
+                return
+
+
+SPACE = {
+    "tail": (1, 122),
+    "pre": (0, 20),
+    "post": (0, 20),
+    "width": (1, 8),
+    "crowd": (3, 2600),
+    "order": ("up", "down", "shuffled", "bits"),
+    "pick": ("last", "first", "middle", "all", "top", "any", 0, 400),
+    "own": (0, 2),
+    "base": (0, 60_000),
+    "step": (1, 257),
+    "seed": (0, 999),
+}
+"""The parameters of a crowd, as a climb changes them."""
+
+
+SIMPLE = {"own": 0, "base": 0, "step": 1, "seed": 1}
+"""Those that the crowds below leave as they are."""
+
+
+def is_crowd(parameters):
+    """Whether the names aren't too long, and the numbers fit into their labels."""
+    one = SIMPLE | parameters
+    octets = 2 * (one["tail"] + one["pre"] + one["post"] + one["own"]) + 1 + one["width"] + 1
+    return octets <= 255 and one["base"] + one["step"] * one["crowd"] < 256 ** one["width"]
+
+
+WORST_UDP = SIMPLE | {"tail": 113, "pre": 11, "post": 0, "width": 2, "crowd": 250, "order": "bits", "pick": "last"}
+WORST_TCP = SIMPLE | {"tail": 114, "pre": 11, "post": 0, "width": 2, "crowd": 250, "order": "up", "pick": 27, "led": 22, "seed": 713}
+"""What a climb of some 400 tries found over UDP, and one of some 60 over TCP, with the writer of names that halves over a name's ends."""
+
+
+def crowd_over_udp(most, **changes):
+    """The message for UDP: a shorter one has fewer names."""
+    return Crowd(most, **{**WORST_UDP, "crowd": max(3, min(WORST_UDP["crowd"], most // 130)), **changes}).octets
+
+
+def crowd_over_tcp(most, **changes):
+    """The message for a session, which grows by more than half unless `led` is 0."""
+    return Crowd(most, **{**WORST_TCP, "crowd": WORST_TCP["crowd"] * most // 8192, "led": WORST_TCP["led"] * most // 8192 + (most < 8192), **changes}).octets
+
+
+def forked(octets, bits=504, tail=1):
+    """Labels of so many octets in front of one name, each of which differs from the ones before it in another bit, and then in a number."""
+    names = itertools.chain((1 << 8 * octets - 1 - bit for bit in range(min(bits, 8 * octets))), itertools.cycle(range(min(1 << 20, 256**octets))))
+    return itertools.chain([resource(label(b"b") * tail + b"\0", A, quad(HOST))], (resource(label(number.to_bytes(octets, "big")) + pointer(12), TXT) for number in names))
+
+
+FORKS = {"octets": (1, 63), "bits": (0, 504), "tail": (1, 94)}
+"""Its parameters, as a climb changes them."""
+
+
+# SNMP.
+DEPTH = 62
+RULED = {"depth": (1, DEPTH), "base": (0, 127), "arcs": (66, 125), "arc": (128, 16_383), "ones": (1, 63)}
+
+
+def nested(count, depth=DEPTH, base=0):
+    """Rules of which each begins with the one before it, that apply to every identifier of the message and find no address."""
+    each = -(-count // depth)
+    rules = [((1, 3) + (1,) * at, (base + skip) % 128) for at in range(depth) for skip in range(each)][:count]
+    return ruled().rstrip("\n") + "\n" + "".join(f'[[oid]]\nprefix = "{".".join(map(str, prefix))}"\nskip = {skip}\n' for prefix, skip in rules)
+
+
+def meets_all(most, arcs=68, arc=300, ones=DEPTH):
+    """An SNMP answer of identifiers that each such rule applies to: behind the ones are arcs that no address has."""
+    binding = element(0x30, identifier(1, 3, *(1,) * ones, *((arc,) * (arcs - ones - 2))) + element(5, b""))
+    return reads(binding * ((most - 60) // len(binding)))

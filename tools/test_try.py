@@ -1,0 +1,268 @@
+"""Tests of `try`: what it makes of ordinary captures, in each form and link, and of files that are none."""
+import gzip
+import hashlib
+import os
+import re
+import struct
+import subprocess
+import sys
+import tempfile
+import tomllib
+import unittest
+from collections.abc import Callable
+from importlib.util import find_spec
+
+from testing import PROGRAM, TOOLS, capture, said
+
+from any_capture import records
+from datagrams import fragments, icmp, tcp, udp  # testing says where it is
+from run_pcapng import block
+
+TRY = f"{TOOLS}/try_capture"
+HAS_SCAPY = bool(find_spec("scapy")) or said("/usr/bin/python3", "-c", "import scapy, tomllib")[0] == 0
+PYTHON = sys.executable if find_spec("scapy") else "/usr/bin/python3"
+REALMS = """
+import hashlib, sys
+from ipaddress import IPv4Network
+sys.path.insert(0, sys.argv[1])
+from any_capture import records
+from two_realms import TwoRealms, write_captures
+sides = [f"{sys.argv[2]}/{name}" for name in ("new-left", "new-right")]
+for path in sys.argv[3:]:
+    realms = TwoRealms([IPv4Network("10.1.0.0/16")], [], True)
+    realms.survey(records(path))
+    counts = write_captures(sides, realms.crossing(records(path)))
+    print(*counts, realms.mended, realms.lines, hashlib.sha256(b"".join(open(side, "rb").read() for side in sides)).hexdigest())
+"""
+"""What `try` makes of captures: counts, and a digest of both inputs."""
+CLIENT, SERVER = ("10.1.0.5", 4000), ("10.2.0.9", 21)
+
+
+def login() -> list[bytes]:
+    """An FTP login with a PORT line, one of whose frames has no right checksum."""
+    ends, back = CLIENT + SERVER, SERVER + CLIENT
+    frames = [tcp(*ends, 2, 100, 0), tcp(*back, 18, 200, 101), tcp(*ends, 16, 101, 201), tcp(*ends, 24, 101, 201, b"PORT 10,1,0,5,9,9\r\n")]
+    frames += [tcp(*back, 24, 201, 120, b"200 ok\r\n"), tcp(*ends, 24, 120, 209, b"NOOP\r\n"), tcp(*back, 16, 209, 126)]
+    frames[5] = frames[5][:36] + b"\0\0" + frames[5][38:]
+    return frames
+
+
+def pcap(link: int, frames: list[bytes], magic: int = 0xA1B2C3D4, order: str = "<") -> bytes:
+    """A capture, a frame a second."""
+    head = struct.pack(order + "IHHiIII", magic, 2, 4, 0, 0, 262144, link)
+    return head + b"".join(struct.pack(order + "IIII", second, 0, len(one), len(one)) + one for second, one in enumerate(frames, 1))
+
+
+def pcapng(link: int, frames: list[bytes], sections: int = 1) -> bytes:
+    """The same as pcapng, in sections whose interfaces begin anew: in each but the last one with another interface in front."""
+    section = block(0x0A0D0D0A, struct.pack("<IHHq", 0x1A2B3C4D, 1, 0, -1))
+    parts = [frames[number::sections] for number in range(sections)]
+    whole = b""
+    for number, part in enumerate(parts):
+        others = sections - 1 - number
+        whole += section + others * block(1, struct.pack("<HHI", 147, 0, 0)) + block(1, struct.pack("<HHI", link, 0, 0), (9, b"\x06"))
+        for place, one in enumerate(part):
+            stamp = (1 + number + place * sections) * 10**6
+            whole += block(6, struct.pack("<5I", others, stamp >> 32, stamp & 0xFFFFFFFF, len(one), len(one)) + one)
+    return whole
+
+
+MACS = bytes(12)
+FORMS: dict[str, Callable[[list[bytes]], bytes]] = {
+    "raw": lambda frames: pcap(101, frames),
+    "ipv4": lambda frames: pcap(228, frames),
+    "big-endian": lambda frames: pcap(101, frames, order=">"),
+    "nanoseconds": lambda frames: pcap(101, frames, 0xA1B23C4D),
+    "ethernet with trailers": lambda frames: pcap(1, [MACS + b"\x08\0" + one + bytes(6) for one in frames]),
+    "tag": lambda frames: pcap(1, [MACS + b"\x81\0\0\7\x08\0" + one for one in frames]),
+    "two tags": lambda frames: pcap(1, [MACS + b"\x88\xa8\0\7\x81\0\0\x08\x08\0" + one for one in frames]),
+    "LLC": lambda frames: pcap(1, [MACS + struct.pack(">H", 8 + len(one)) + b"\xaa\xaa\3\0\0\0\x08\0" + one for one in frames]),
+    "PPPoE": lambda frames: pcap(1, [MACS + b"\x88\x64\x11\0\0\7" + struct.pack(">HH", 2 + len(one), 0x21) + one for one in frames]),
+    "cooked": lambda frames: pcap(113, [bytes(14) + b"\x08\0" + one for one in frames]),
+    "cooked 2": lambda frames: pcap(276, [b"\x08\0" + bytes(18) + one for one in frames]),
+    "cooked with a tag": lambda frames: pcap(113, [bytes(14) + b"\x81\0\0\7\x08\0" + one for one in frames]),
+    "loopback": lambda frames: pcap(0, [b"\2\0\0\0" + one for one in frames]),
+    "PPP": lambda frames: pcap(9, [b"\xff\3\0\x21" + one for one in frames]),
+    "pcapng": lambda frames: pcapng(1, [MACS + b"\x08\0" + one for one in frames]),
+    "pcapng in sections": lambda frames: pcapng(101, frames, 2),
+    "gzip": lambda frames: gzip.compress(pcap(101, frames)),
+    "gzip of pcapng": lambda frames: gzip.compress(pcapng(101, frames)),
+    "without a length": lambda frames: pcap(101, [one if number != 5 else one[:2] + bytes(2) + one[4:] for number, one in enumerate(frames)]),
+}
+
+
+class InRoom(unittest.TestCase):
+    """Tests with a folder of their own."""
+
+    def setUp(self) -> None:
+        """A folder."""
+        room = tempfile.TemporaryDirectory()
+        self.addCleanup(room.cleanup)
+        self.room = room.name
+
+    def write(self, name: str, octets: bytes) -> str:
+        """A file."""
+        with open(f"{self.room}/{name}", "wb") as file:
+            file.write(octets)
+        return f"{self.room}/{name}"
+
+    def tried(self, path: str, *words: str) -> tuple[int, str]:
+        """Status and output of a try."""
+        status, text = said(TRY, path, *words, "--out", f"{self.room}/out", "--program", PROGRAM)
+        self.assertTrue(text.isascii() and text.replace("\n", "").isprintable(), text)
+        return status, text
+
+    def counts(self, text: str) -> dict[str, int]:
+        """How many frames had each verdict."""
+        return {name: int(count) for count, name in re.findall(r"(?m)^ *(\d+)  (pass$|held(?=:)|[A-Z]\w+(?=:))", text)}
+
+
+class Order(InRoom):
+    """In which order frames are taken."""
+
+    @unittest.skipUnless(find_spec("scapy"), "this Python has no scapy")
+    def test_order(self) -> None:
+        """By their stamps where these are a little out of order, and as they stand where time begins anew; a stamp that is none is that before."""
+        for seconds, expected in (
+            ([1, 3, 2, 5, 4], [1, 2, 3, 4, 5]),
+            ([*range(1000, 1500), *range(1, 500)], [*range(1000, 1500), *range(1, 500)]),
+            ([4000000000, *range(1, 500)], [*range(1, 500), 4000000000]),
+        ):
+            whole = struct.pack("<IHHiIII", 0xA1B2C3D4, 2, 4, 0, 0, 262144, 101) + b"".join(struct.pack("<IIII", second, 0, 1, 1) + b"x" for second in seconds)
+            self.assertEqual([one.moment // 10**9 for one in records(self.write("capture", whole))], expected)
+
+
+@unittest.skipUnless(HAS_SCAPY and os.access(PROGRAM, os.X_OK), "there is no python3-scapy, or the program isn't built")
+class Try(InRoom):
+    """What `try` makes of an ordinary capture."""
+
+    def test_forms(self) -> None:
+        """A login with a PORT line passes whole, and gives the same inputs, whatever its frames stand in."""
+        paths = [self.write(name, form(login())) for name, form in FORMS.items()]
+        lines = said(PYTHON, "-B", "-c", REALMS, TOOLS, self.room, *paths)[1].splitlines()
+        self.assertEqual(len(lines), len(FORMS), lines)
+        for name, line in zip(FORMS, lines):
+            self.assertEqual((name, line), (name, lines[0]))
+        for name in ("pcapng", "two tags"):
+            status, text = self.tried(f"{self.room}/{name}", "--left", "10.1.0.0/16")
+            self.assertEqual((status, self.counts(text)), (0, {"pass": 7}), text)
+            for line in ("7 frames cross the gateway, 4 of the left realm and 3 of the right one.", "1  frames with a checksum that was mended", "1  lines of FTP that the"):
+                self.assertIn(line, text)
+            with open(f"{self.room}/out/left.pcap", "rb") as left, open(f"{self.room}/out/right.pcap", "rb") as right:
+                self.assertEqual(lines[0], f"4 3 1 1 {hashlib.sha256(left.read() + right.read()).hexdigest()}")
+        self.assertEqual(sorted(os.listdir(f"{self.room}/out"))[:3], ["left-out.pcap", "left.pcap", "report.txt"])
+
+    def test_what_to_type(self) -> None:
+        """Without --left it lists who speaks with whom, and proposes a command that works, within one block of addresses too."""
+        name = self.write("a capture's", capture(login()))
+        status, text = said(TRY, name)
+        self.assertEqual((status, text.splitlines()[1]), (0, "       7  10.1.0.0/24 and 10.2.0.0/24"))
+        self.assertIn("With these, 7 of 7 frames cross", text)
+        command = text.splitlines()[-1].replace("rendapil try", f"{TRY} --out {self.room}/out --program {PROGRAM}")
+        self.assertIn("7  pass", said("bash", "-c", command)[1])
+        near = [udp(f"10.1.0.{host}", 4000 + host, "10.1.0.1", 53 + host, b"x") for host in range(2, 9) for _ in range(3)]
+        text = said(TRY, self.write("near", capture(near)))[1]
+        self.assertIn("3  10.1.0.1 and 10.1.0.8", text)
+        self.assertIn("With these, 21 of 21 frames cross", text)
+
+    def test_through_a_pipe(self) -> None:
+        """A capture may come from standard input."""
+        done = subprocess.run([TRY, "-", "--left", "10.1.0.0/16", "--out", f"{self.room}/out", "--program", PROGRAM], input=capture(login()), capture_output=True, check=False)
+        self.assertEqual((done.returncode, b"7  pass" in done.stdout), (0, True))
+
+    def test_what_is_left_out(self) -> None:
+        """Each frame that doesn't cross is told with its reason, and wrong checksums are kept where that is asked for."""
+        others = [udp("10.1.0.5", 1, "10.1.0.6", 2, b"x"), udp("10.1.0.5", 1, "10.1.255.255", 2, b"x"), udp("10.1.0.5", 1, "224.0.0.1", 2, b"x"), b"\x60" + bytes(39)]
+        others += [udp("10.2.0.5", 1, "10.2.0.6", 2, b"x"), udp("9.9.9.9", 1, "9.9.9.8", 2, b"x")]
+        name = self.write("capture", capture(login() + others))
+        status, text = self.tried(name, "--left", "10.1.0.5/32", "10.1.0.6/32", "10.1.255.255/32", "--same", "9.9.9.0/24", "--keep-sums")
+        self.assertEqual((status, self.counts(text)), (0, {"pass": 5, "BadSum": 1, "AckAhead": 1}))
+        for line in (
+            "2  frames left out: between two hosts of the left realm",
+            "1  frames left out: between two hosts of the right realm",
+            "1  frames left out: between two hosts of same blocks",
+            "1  frames left out: not between two hosts (broadcast, multicast)",
+            "1  frames left out: no IPv4 (ARP, IPv6), or cut before its end",
+            "1  BadSum: the ICMP, TCP or UDP checksum is wrong. What to do: turn off checksum offload",
+        ):
+            self.assertIn(line, text)
+
+    def test_fragments(self) -> None:
+        """They are joined, with the checksum that offloading leaves in the first one too."""
+        whole = udp("10.1.0.5", 4000, "10.2.0.9", 4001, bytes(range(100)))
+        pseudo = struct.unpack(">5H", whole[12:20] + struct.pack(">H", 17)) + (108,)
+        partial = sum(pseudo) % 0xFFFF
+        left = whole[:26] + struct.pack(">H", partial) + whole[28:]
+        name = self.write("capture", capture([*fragments(left, 48), *fragments(whole, 48)]))
+        status, text = self.tried(name, "--left", "10.1.0.0/16")
+        self.assertEqual((status, self.counts(text)), (0, {"held": 4, "pass": 2}), text)
+        self.assertIn("1  frames with a checksum that was mended", text)
+
+    def test_limits_are_told(self) -> None:
+        """Where the gateway makes answers over TCP longer it says why frames are refused, and the command that it gives helps."""
+        ends, back = ("10.1.0.5", 4000, "10.2.0.53", 53), ("10.2.0.53", 53, "10.1.0.5", 4000)
+        frames = [tcp(*ends, 2, 100, 0), tcp(*back, 18, 200, 101), tcp(*ends, 16, 101, 201)]
+        ask, answer = 101, 201
+        for number in range(4):
+            name = b"\x03%d\x03211\x03158\x03216\x07in-addr\x04arpa\0" % (number + 140)
+            question = struct.pack(">6H", number, 0, 1, 0, 0, 0) + name + struct.pack(">HH", 12, 1)
+            one, other = (struct.pack(">H", len(part)) + part for part in (question, question[:2] + b"\x80" + question[3:]))
+            frames += [tcp(*ends, 24, ask, answer, one), tcp(*back, 24, answer, ask + len(one), other), tcp(*ends, 16, ask + len(one), answer + len(other))]
+            ask, answer = ask + len(one), answer + len(other)
+        name = self.write("capture", capture(frames))
+        status, text = self.tried(name, "--left", "10.1.0.0/16")
+        self.assertGreater(self.counts(text).get("Gap", 0) + self.counts(text).get("AckAhead", 0), 2)
+        self.assertIn("The hosts of a capture don't answer anew", text)
+        command = next(line for line in text.splitlines() if line.startswith("  rendapil try"))
+        self.assertIn("--same 216.158.211.140/30", command)
+        self.assertEqual(self.counts(self.tried(*command.split()[2:])[1]), {"pass": len(frames)})
+
+    def test_pool(self) -> None:
+        """Without statics hosts get aliases as they speak, what is said to them finds them, and a pool that is too small ends."""
+        frames = []
+        for host in range(1, 30):
+            ends, back = (f"10.1.0.{host}", 4000, "10.2.0.9", 80), ("10.2.0.9", 80, f"10.1.0.{host}", 4000)
+            frames += [tcp(*ends, 2, 100, 0), tcp(*back, 18, 200, 101), tcp(*ends, 16, 101, 201), icmp(ends[0], back[0], 8, 0, bytes(8)), icmp(back[0], ends[0], 0, 0, bytes(8))]
+        name = self.write("capture", capture(frames))
+        status, text = self.tried(name, "--left", "10.1.0.0/16", "--pool", "29")
+        self.assertEqual((status, self.counts(text)), (0, {"pass": len(frames)}), text)
+        with open(f"{self.room}/out/settings.toml", "rb") as file:
+            self.assertEqual([row["host"] for row in tomllib.load(file)["static"]], ["10.2.0.9"])
+        status, text = self.tried(name, "--left", "10.1.0.0/16", "--pool", "20")
+        self.assertEqual((status, self.counts(text)), (0, {"pass": 100, "PoolEmpty": 27, "NoBinding": 18}), text)
+        self.assertIn("27 frames found their pool full: give a larger one by --pool", text)
+        status, text = self.tried(name, "--left", "10.2.0.9/32", "--pool", "0")
+        self.assertEqual((status, self.counts(text)), (0, {"pass": len(frames)}))
+        twice = self.write("twice", capture([udp("10.2.0.9", 1, f"10.1.0.{host}", 2, b"x") for host in range(9)]))
+        self.assertIn("--pool has to be 9 at least", self.tried(twice, "--left", "10.1.0.0/16", "--pool", "5")[1])
+
+    def test_the_capture_stays(self) -> None:
+        """It isn't written over."""
+        name = self.write("left.pcap", capture(login()))
+        status, text = said(TRY, name, "--left", "10.1.0.0/16", "--out", self.room, "--program", PROGRAM)
+        self.assertEqual((status, text), (1, f"rendapil try: {name} is the capture itself, and would be overwritten: give another folder by --out\n"))
+        with open(name, "rb") as file:
+            self.assertEqual(file.read(), capture(login()))
+
+    def test_files_that_are_none(self) -> None:
+        """They are told in a line: no traceback, no octet of theirs, no memory for a record that is said to have 4 GB."""
+        whole = pcap(101, login())
+        long = whole[:32] + b"\xff\xff\xff\xff" + whole[36:]
+        for octets, line in (
+            (b"", "is no capture that can be read: No data could be read!"),
+            (b"\x1b]0;owned\x07" * 9, "is no capture that can be read: Not a supported capture file"),
+            (whole[:20], "is no capture that can be read: Not a supported capture file"),
+            (pcap(101, []), "has no IPv4 between two hosts"),
+            (pcap(101, [udp("10.1.0.5", 1, "10.1.0.5", 2, b"x")]), "has frames of one host alone"),
+            (b"\x28\xb5\x2f\xfd" + bytes(40), "is no capture that can be read: Not a supported capture file"),
+        ):
+            name = self.write("a\x1b[2J", octets)
+            status, text = said(TRY, name)
+            self.assertEqual((status, text.count("\n"), text.startswith(f"rendapil try: {self.room}/a\\x1b[2J {line}")), (1, 1, True), text)
+        status, text = said("bash", "-c", 'ulimit -v 1000000; exec "$@"', "bash", TRY, self.write("long", long), "--left", "10.1.0.0/16", "--out", f"{self.room}/out", "--program", PROGRAM)
+        self.assertIn("no frame of", text)
+        self.assertNotIn("Traceback", text)
+        self.assertEqual(said(TRY, f"{self.room}/absent"), (1, f"rendapil try: {self.room}/absent: No such file or directory\n"))
+        self.assertEqual(said(TRY, self.room), (1, f"rendapil try: {self.room}: Is a directory\n"))
+        old = "import sys, runpy; sys.version_info = (3, 10, 0); runpy.run_path(sys.argv[1], run_name='__main__')"
+        self.assertEqual(said(sys.executable, "-c", old, TRY), (1, "rendapil try: this needs Python 3.11\n"))
