@@ -66,12 +66,12 @@ fn keep_end(
     Ok(())
 }
 
-/// Notes a place if a label stands there.
-fn note(way: &mut Way, message: &[u8], place: u16) {
+/// Notes a place if a label stands there. Where memory runs out, a hint is missing.
+fn note(labels: &mut Vec<u16>, message: &[u8], place: u16) {
     if let Some(octet) = message.get(place as usize)
         && *octet < 64
     {
-        way.put_first(place);
+        let _ = labels.push(place);
     }
 }
 
@@ -93,7 +93,7 @@ fn find(message: &[u8], memo: &mut Memo, place: usize, way: &mut Way) -> Result<
     'back: while let Some(at) = memo.path.pop() {
         known = before(message, at as usize, known, end);
         put(&mut memo.known, at as usize, known);
-        note(way, message, at);
+        note(&mut way.new, message, at);
     }
     Ok(known)
 }

@@ -112,57 +112,41 @@ impl<'a> Rows<'a> {
     }
 }
 
-/// A part of a name's way, as `Way` has it.
+/// A part of a name's way: the places of its labels, the last one first, and that of the label behind them.
 #[derive(Clone, Copy)]
 pub(crate) struct Steps<'w> {
-    first: u16,
-    others: &'w [u16],
+    new: &'w [u16],
     joined: u16,
 }
 
 impl<'w> Steps<'w> {
     pub(crate) fn of(way: &'w Way) -> Steps<'w> {
         Steps {
-            first: way.first,
-            others: &way.others,
+            new: &way.new,
             joined: way.joined,
         }
     }
 
     /// The place of the first label.
     pub(crate) fn first(&self) -> u16 {
-        if self.first == NOWHERE {
-            self.joined
-        } else {
-            self.first
+        match self.new.last() {
+            Some(place) => *place,
+            None => self.joined,
         }
     }
 
     /// The steps behind the first label.
     pub(crate) fn behind(&self, rows: &Rows) -> Steps<'w> {
-        if let Some((first, others)) = self.others.split_last() {
+        if let Some((_, new)) = self.new.split_last() {
             return Steps {
-                first: *first,
-                others,
+                new,
                 joined: self.joined,
             };
         }
-        let joined = if self.first == NOWHERE {
-            next_of(rows, self.joined)
-        } else {
-            self.joined
+        let joined = match rows.at(self.joined) {
+            Some(row) => row.next,
+            None => NOWHERE,
         };
-        Steps {
-            first: NOWHERE,
-            others: &[],
-            joined,
-        }
-    }
-}
-
-fn next_of(rows: &Rows, origin: u16) -> u16 {
-    match rows.at(origin) {
-        Some(row) => row.next,
-        None => NOWHERE,
+        Steps { new: &[], joined }
     }
 }
