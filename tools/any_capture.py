@@ -1,7 +1,9 @@
 """The datagrams of any capture that python3-scapy reads: pcap or pcapng, packed by gzip or not, of any mix of links."""
 import heapq
 import logging
+import struct
 import sys
+import zlib
 from collections.abc import Iterator
 from contextlib import closing
 from functools import lru_cache
@@ -49,7 +51,11 @@ def read(path: str) -> Iterator[Record]:
     from scapy.utils import RawPcapReader
 
     moment = 0
-    with closing(RawPcapReader(path)) as reader:
+    try:
+        opened = RawPcapReader(path)
+    except (zlib.error, struct.error, MemoryError) as error:
+        raise EOFError(f"it is damaged: {error}") from None
+    with closing(opened) as reader:
         _number_interfaces(reader)
         for octets, about in whole_ones(reader):
             if not hasattr(about, "tshigh"):

@@ -16,8 +16,8 @@ from any_capture import IPV4, TAGS
 from packet import SUM_AT, Packet, is_host
 from run_files import ETHERNET, FORMS, RAW_IP, RECORD, shown
 
-LOOKED_AT = 20_000
-"""How many frames of a capture are looked at."""
+LOOKED_AT, BRIEFLY = 20_000, 4_000
+"""How many frames of a capture are looked at, and how many behind a run."""
 
 HEADS = {b"\x0a\x0d\x0d\x0a": "a pcapng file", b"\x34\xcd\xb2\xa1": "a capture with longer record heads", b"\xa1\xb2\xcd\x34": "a capture with longer record heads"}
 PACKED = {b"\x1f\x8b": ("gzip", "gunzip -c"), b"\x28\xb5\x2f\xfd": ("zstd", "zstd -dc"), b"\xfd\x37\x7a\x58": ("xz", "xz -dc")}
@@ -57,7 +57,7 @@ class Looked:
     fault: str = ""
 
 
-def look_at(path: str, side: str, realms) -> Looked:
+def look_at(path: str, side: str, realms, most: int) -> Looked:
     """Looks at the first frames of a capture. `realms` are the settings."""
     looked, digest = Looked(), hashlib.sha256()
     with open(path, "rb") as file:
@@ -66,7 +66,7 @@ def look_at(path: str, side: str, realms) -> Looked:
             return Looked(fault=fault)
         order, unit = FORMS[head[:4]]
         link = struct.unpack(order + "I", head[20:])[0]
-        while looked.total < LOOKED_AT and (record := file.read(16)):
+        while looked.total < most and (record := file.read(16)):
             seconds, fraction, size, length = struct.unpack(order + "4I", record.ljust(16, b"\0"))
             octets = file.read(min(size, RECORD))
             if len(record) < 16 or size <= RECORD and len(octets) < size:
@@ -132,7 +132,7 @@ def mends(side: str, path: str, realms) -> dict[str, tuple[str, str]]:
     }
 
 
-def told(paths: list[str], realms) -> Iterator[str]:
+def told(paths: list[str], realms, most: int = LOOKED_AT) -> Iterator[str]:
     """A line for each kind of frames that will be refused, with the command that mends it, the gravest first."""
     if not paths:
         return
@@ -140,7 +140,7 @@ def told(paths: list[str], realms) -> Iterator[str]:
     found: list[Looked] = []
     for side, path in zip(sides, paths):
         try:
-            found.append(look_at(path, side, realms))
+            found.append(look_at(path, side, realms, most))
         except OSError as error:
             found.append(Looked(fault=f"can't be read: {error.strerror}"))
     one, other = found
@@ -156,7 +156,7 @@ def told(paths: list[str], realms) -> Iterator[str]:
     for side, path, looked in zip(sides, paths, found):
         if looked.fault:
             yield f"{shown(path)}: it {shown(looked.fault)}"
-        which = f"of the first {looked.total}" if looked.total == LOOKED_AT else f"of {looked.total}"
+        which = f"of the first {looked.total}" if looked.total == most else f"of {looked.total}"
         known = mends(side, path, realms)
         for kind, count in looked.count.most_common():
             if kind in known and count:
@@ -177,7 +177,7 @@ def main() -> None:
     with open(settings, "rb") as file:
         document, faults = check_settings().read(file.read(check_settings().LIMIT + 1))
     if not faults and all(map(os.path.isfile, paths)):
-        for line in islice(told(paths, check_settings().Realms(document)), 2):
+        for line in islice(told(paths, check_settings().Realms(document), BRIEFLY), 2):
             print(line)
 
 

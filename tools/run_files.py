@@ -1,6 +1,8 @@
 """The files of a run, read in room that doesn't grow with them, whatever stands in them: captures record by record, a report line by line."""
+import os
 import re
 import struct
+import traceback
 from collections.abc import Iterator
 from typing import BinaryIO, NamedTuple, Self
 
@@ -23,6 +25,12 @@ SIDES = {b"left": 0, b"right": 1}
 def shown(name: str) -> str:
     """A file's name, or another text from outside, with all that isn't printable escaped."""
     return "".join(one if one.isprintable() else one.encode("utf-8", "backslashreplace").decode() if "\ud800" <= one <= "\udfff" else repr(one)[1:-1] for one in name)
+
+
+def unforeseen(error: Exception) -> str:
+    """What is told of a fault of a tool itself."""
+    *_, place = traceback.extract_tb(error.__traceback__)
+    return f"a fault of this tool, and not of your files: {type(error).__name__} at {os.path.basename(place.filename)}:{place.lineno}. Please report it"
 
 
 class Frame(NamedTuple):

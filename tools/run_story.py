@@ -156,6 +156,8 @@ class Story:
         if len(went) < count:
             raise ValueError(f"event {number}: {names[3 - side]} has no frame left")
         images = [datagram_of(one.octets, one.link) for one in went]
+        if not all(images):
+            raise ValueError(f"event {number}: {names[3 - side]} has a frame that no gateway sends")
         event = Event(number, side, moment, verdict, frame, datagram_of(frame.octets, frame.link), went, images, not frame.octets)
         self.first, self.last = self.first or moment, moment
         for before in self.befores:

@@ -311,8 +311,14 @@ class Damaged(InRoom):
             paths = [self.write(name, bytes(octets)) for name, octets in zip(NAMES, files)]
             form = [word.replace("PCAPNG", f"{self.room}/run.pcapng") for word in self.FORMS[turn % len(self.FORMS)]]
             status, text = self.asked([*form, *paths])
-            self.assertTrue(status == 0 or isinstance(status, str) and status.isprintable(), status)
+            self.assertTrue(status == 0 or isinstance(status, str) and status.isprintable() and "a fault of this tool" not in status, status)
             self.assertNotRegex(text, r"[\x00-\x08\x0b-\x1f]|Traceback")
+
+    def test_faults_of_the_tool(self) -> None:
+        """What nobody foresaw is told in one line, with its place."""
+        with mock.patch.object(tell_run, "tell", lambda _: {}["x"]):
+            status, _ = self.asked([*INPUTS, *OUTPUTS])
+        self.assertRegex(str(status), r"^rendapil explain: a fault of this tool, and not of your files: KeyError at test_explain.py:\d+. Please report it$")
 
     def test_reports(self) -> None:
         """A report that says what no run says is refused, whatever octets it has."""

@@ -78,6 +78,8 @@ FORMS: dict[str, Callable[[list[bytes]], bytes]] = {
     "two tags": lambda frames: pcap(1, [MACS + b"\x88\xa8\0\7\x81\0\0\x08\x08\0" + one for one in frames]),
     "LLC": lambda frames: pcap(1, [MACS + struct.pack(">H", 8 + len(one)) + b"\xaa\xaa\3\0\0\0\x08\0" + one for one in frames]),
     "PPPoE": lambda frames: pcap(1, [MACS + b"\x88\x64\x11\0\0\7" + struct.pack(">HH", 2 + len(one), 0x21) + one for one in frames]),
+    "MPLS": lambda frames: pcap(1, [MACS + b"\x88\x47\0\1\1\x40" + one for one in frames]),
+    "Wi-Fi": lambda frames: pcap(127, [b"\0\0\x08\0\0\0\0\0\x08\0" + bytes(22) + b"\xaa\xaa\3\0\0\0\x08\0" + one for one in frames]),
     "cooked": lambda frames: pcap(113, [bytes(14) + b"\x08\0" + one for one in frames]),
     "cooked 2": lambda frames: pcap(276, [b"\x08\0" + bytes(18) + one for one in frames]),
     "cooked with a tag": lambda frames: pcap(113, [bytes(14) + b"\x81\0\0\7\x08\0" + one for one in frames]),
@@ -253,6 +255,7 @@ class Try(InRoom):
             (b"\x1b]0;owned\x07" * 9, "is no capture that can be read: Not a supported capture file"),
             (whole[:20], "is no capture that can be read: Not a supported capture file"),
             (pcap(101, []), "has no IPv4 between two hosts"),
+            (gzip.compress(whole)[:10] + b"\xff" * 40, "is no capture that can be read: it is damaged: Error -3 while decompressing data"),
             (pcap(101, [udp("10.1.0.5", 1, "10.1.0.5", 2, b"x")]), "has frames of one host alone"),
             (b"\x28\xb5\x2f\xfd" + bytes(40), "is no capture that can be read: Not a supported capture file"),
         ):
