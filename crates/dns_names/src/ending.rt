@@ -60,6 +60,7 @@ pub(crate) fn longest<'a>(
     let (count, place) = longest(places, edge, rows, behind_label(name), next);
     if count > 0 {
         if name == edge.octets {
+            rows.keep(first, name, edge.place as usize, next.first());
             return (0, Some(edge.place));
         }
         return (count + 1, place);

@@ -10,7 +10,7 @@ use std::alloc::Global;
 const POINTED: usize = 16_384;
 
 /// A suffix that was met in a message, the lowest place at which it stands written, and the place of the label behind its first one in
-/// that message.
+/// that message. Without octets, no place is known.
 #[derive(Clone, Copy)]
 pub struct Row<'a> {
     pub(crate) octets: &'a [u8],
@@ -18,14 +18,20 @@ pub struct Row<'a> {
     pub(crate) next: u16,
 }
 
-fn no_row<'a>() -> Row<'a>
+fn row_without_place<'a>(next: u16) -> Row<'a>
     ensures { (starts : List Start) → IsRow starts result }
 {
     Row {
         octets: &[],
         place: 0,
-        next: NOWHERE,
+        next,
     }
+}
+
+fn no_row<'a>() -> Row<'a>
+    ensures { (starts : List Start) → IsRow starts result }
+{
+    row_without_place(NOWHERE)
 }
 
 /// Rows by the places of labels. All names of a short message have `SHORT` in place of these.
@@ -90,25 +96,25 @@ impl<'a> Rows<'a> {
         self.long[origin] = row;
     }
 
-    /// Keeps where a suffix stands written, for the place of its first label, if a pointer can lead there. Where memory runs out, it
-    /// isn't kept.
+    /// Keeps where a suffix stands written, for the place of its first label. If no pointer can lead there, only the place of the next
+    /// label is kept. Where memory runs out, nothing is.
     pub(crate) fn keep(&mut self, origin: u16, octets: &'a [u8], place: usize, next: u16)
         ensures { (starts : List Start)
             → AreRows starts self.old
             → (place < 16384 → found starts octets.now ≡ Some place)
             → AreRows starts self.new }
     {
-        if place < POINTED {
+        let row = if place < POINTED {
             let place = place as u16;
-            self.set(
-                origin,
-                Row {
-                    octets,
-                    place,
-                    next,
-                },
-            );
-        }
+            Row {
+                octets,
+                place,
+                next,
+            }
+        } else {
+            row_without_place(next)
+        };
+        self.set(origin, row);
     }
 }
 

@@ -139,7 +139,7 @@ answer_kind = refl
 
 name_is_kept : IsKeptUntil whole_rules (after (question ∷ [])) answer (record { 0 = 0x0a000007 }) 62000000000
 unfolding frames_on_literals
-name_is_kept = inr (refl, (0, refl), refl)
+name_is_kept = inr (refl, (0, omega arith, refl), refl)
 
 -- ## A connection
 
