@@ -1,4 +1,4 @@
--- The order of the ends of names.
+-- What a written suffix is looked up by.
 use Rattle.std.specs.Prelude.{ℕ, List, [], ◌∷◌, take}
 use Rattle.dns_names.specs.declared.suffix.Suffix.{Suffix}
 

@@ -34,7 +34,7 @@ fn no_row<'a>() -> Row<'a>
     row_without_place(NOWHERE)
 }
 
-/// Rows by the places of labels. All names of a short message have `SHORT` in place of these.
+/// Rows by the places of labels. All names of a short message, and all copies, have `SHORT` in place of these.
 #[derive(Drop)]
 pub struct Rows<'a> {
     pub(crate) short: Row<'a>,

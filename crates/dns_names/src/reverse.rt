@@ -5,7 +5,6 @@ ghost use Rattle.dns_names.specs.Reverse.{full_reverse, with_address, is_zone, n
 ghost use Rattle.dns_names.specs.Octets.{label_in, behind, reverse_in};
 
 use crate::name::Name;
-use crate::way::Way;
 use gate_base::{Addr, OutOfMemory, read_number};
 use itoa::Buffer;
 use std::alloc::{AllocError, Global};
@@ -118,7 +117,7 @@ pub fn reverse_of(alloc: Global, address: Addr, old: &Name) -> Result<Name, OutO
     // It is a name of that address.
     ensures again { IfOk result (λ name. full_reverse name ≡ Some address.0) }
 {
-    let way = Way::short(alloc);
+    let way = old.way.of_image(alloc);
     let mut octets = Vec::new(alloc);
     put_numbers(&mut octets, address.0)?;
     let zone = behind_label(behind_label(behind_label(behind_label(old.octets()))));

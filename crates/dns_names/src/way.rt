@@ -4,7 +4,7 @@ use std::alloc::Global;
 /// No place of a message.
 pub(crate) const NOWHERE: u16 = u16::MAX;
 
-/// What stands for the place of each name's first label in a short message: no label stands at this place.
+/// What stands for the place of each name's first label in a short message, and in a copy: no label stands at this place.
 pub(crate) const SHORT: u16 = 0;
 
 /// The places of a name's labels that no name before it led to, the last one first, and the place of the label behind them.
@@ -15,11 +15,22 @@ pub struct Way {
 }
 
 impl Way {
-    /// The way of a name of a short message.
+    /// The way of a name of a short message, or of a copy.
     pub(crate) fn short(alloc: Global) -> Way {
         Way {
             new: Vec::new(alloc),
             joined: SHORT,
+        }
+    }
+    /// The way of a name that goes out for this one: only its first label has a place.
+    pub(crate) fn of_image(&self, alloc: Global) -> Way {
+        let joined = match self.new.last() {
+            Some(place) => *place,
+            None => self.joined,
+        };
+        Way {
+            new: Vec::new(alloc),
+            joined,
         }
     }
 }
