@@ -102,7 +102,8 @@ fn refuse_open_output<R: Runtime>(
 }
 
 /// The place of a file of this name. The name `-` of a report is standard output. A regular file that is open already, by whatever
-/// name, is not written: the error comes before it would be emptied. So is one of which the system doesn't tell which file it is.
+/// name, is not written: the error comes before it would be emptied. Neither is one of which the system doesn't tell which file it is, but
+/// for standard output without a name.
 #[inline(never)]
 pub fn open_place<R: Runtime>(
     rt: &R,

@@ -1,4 +1,4 @@
--- Where bindings come from, and when they end (RFC 2663, 3.1, 3.3): by settings, and by the frames that passed and used them.
+-- Where bindings come from, and when they end (RFC 2663, 3.1, 3.2.3): by settings, and by the frames that passed and used them.
 use Rattle.std.specs.Prelude.{◌≡◌, ◌<◌, ◌⊎◌, true, false, Contains, List, ◌∷◌, ◌++◌, map}
 use Rattle.std.specs.List.{fold}
 use Rattle.gate_base.specs.Prelude.{Event, other}

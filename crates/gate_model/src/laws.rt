@@ -253,8 +253,9 @@ pub fn addresses_are_translated<S>()
 
 /// While a frame keeps an address, that and what it is called stand for each other, whatever frames come. Both addresses of its
 /// header are kept as long as the header says, and what a DNS message over UDP names for 60 seconds. Whatever the host sends goes
-/// out from its one alias. Whoever sends to that reaches the host. No frame of another host goes out from it. A DNS message goes out
-/// with what the addresses that it names are called.
+/// out from its one alias. A frame to the alias of a unicast host outside its pool isn't refused for want of a binding, and goes to
+/// that host if it passes. No frame of another host goes out from it. A DNS message goes out with what the addresses that it names
+/// are called.
 pub fn aliases_last<S>()
     ensures lawful { (rules : SessionRules S) (settings : Settings)
         (events : List Event)
@@ -280,7 +281,7 @@ pub fn aliases_last<S>()
 /// While the header of a frame that passes keeps its addresses, a reply to it comes back: from where the frame went to, to who sent
 /// it. What it carries may be refused, but neither address is a reason, and none needs an alias. Plain UDP and echo are refused only
 /// for what is wrong with the reply by itself, and TCP that no session tracks only for that or for want of room. An ICMP error about
-/// the frame holds what was sent.
+/// the frame has inside the addresses that were sent, and if no session is asked, these are no reason to refuse it.
 pub fn replies_come_back<S>()
     ensures replies { (rules : SessionRules S) (w : World S) (e r : Event)
         (between : List Event)
@@ -305,8 +306,8 @@ pub fn replies_come_back<S>()
         → IsUntracked (fold (next rules) (opening_world settings) events) r }
 {}
 
-/// While a connection lives, both its hosts are reached by their aliases. So a data connection of FTP finds the host that a line of
-/// the control connection named.
+/// While a connection lives, both its hosts are reached by their aliases. So a line of FTP that names its own client or
+/// server names an address that leads there.
 pub fn connections_are_reached<S>()
     ensures { (rules : SessionRules S) (settings : Settings) (events : List Event)
         (now : ℕ)
@@ -318,8 +319,7 @@ pub fn connections_are_reached<S>()
 {}
 
 /// Whatever events come, each binding is a static one, or one of the frames that passed has used it until just its end. From then on
-/// it is gone. So an alias belongs to a host exactly as long as the longest of its uses says, and a frame reaches a host only by such a
-/// binding, or by an address that means the same host in both realms.
+/// it is gone. A frame reaches a host only by such a binding, or by an address that means the same host in both realms.
 pub fn bindings_come_from_uses<S>()
     ensures begin { (rules : SessionRules S) (settings : Settings) (events : List Event)
         → All (ComesFromUse rules settings events)
