@@ -1,9 +1,9 @@
 -- The longest end of a name that stands already.
-use Rattle.std.proofs.Common.{◌≡◌, ◌⊎◌, ℕ, zero, suc, ◌+◌, ◌-◌, ◌≤◌, ◌<◌, true, List, [], ◌∷◌, ◌++◌, length, drop, Option, Some, None, unwrap_or, refl, sym, ap, subst, ◌∙◌, arith, inl, inr, slice_index_or, nat_lt, bytes_eq, append-nil, length-drop}
+use Rattle.std.proofs.Common.{◌≡◌, ◌⊎◌, ℕ, zero, suc, ◌+◌, ◌≤◌, ◌<◌, true, List, [], ◌∷◌, ◌++◌, length, drop, Option, Some, None, unwrap_or, refl, sym, ap, subst, ◌∙◌, arith, inl, inr, slice_index_or, nat_lt, bytes_eq, append-nil, length-drop}
 use Rattle.std.proofs.lemmas.Bool.{cases_Bool, ltb-true, ltb-false}
 use Rattle.std.proofs.lemmas.Slice.Eq.{bytes_eq-Decides}
 use Rattle.dns_names.specs.Prelude.{behind, Start, found, with_start, skipped, Ends, EndsAt, IsLongest}
-use Rattle.dns_names.specs.Longest.{IsKept, IsClosed, IsEdge, edge_by}
+use Rattle.dns_names.specs.Longest.{IsKept, IsClosed, edge_by}
 use Rattle.dns_names.specs.Writers.{after_in}
 use Rattle.dns_names.proofs.Walking.{chosen}
 use Rattle.dns_names.proofs.Kept.{found-more, found-push}

@@ -5,7 +5,7 @@ use Rattle.std.proofs.lemmas.Bool.{cases_Bool, lt-ltb, le-ltb, ltb-true, ltb-fal
 use Rattle.std.proofs.lemmas.Slice.Eq.{bytes_eq-Decides}
 use Rattle.dns_names.specs.declared.suffix.Suffix.{Suffix}
 use Rattle.dns_names.specs.Prelude.{behind, first_label, key, key_of, EndsAt, Start, found, with_start, starts_in}
-use Rattle.dns_names.specs.Writers.{place_in, after_in, key_at, FindsBy, HaveOwnPlaces, IsFresh, IsNear, IsPending, Remembers}
+use Rattle.dns_names.specs.Writers.{place_in, after_in, key_at, HaveOwnPlaces, IsFresh, IsNear, IsPending, Remembers}
 use Rattle.dns_names.specs.declared.ending.Edge.{Edge}
 use Rattle.dns_names.specs.declared.met.Row.{Row}
 use Rattle.dns_names.specs.declared.met.Rows.{Rows}

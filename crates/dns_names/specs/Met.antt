@@ -1,5 +1,5 @@
 -- Suffixes that were met in a message.
-use Rattle.std.specs.Prelude.{◌≡◌, ◌⊎◌, ℕ, List, [], Some, All}
+use Rattle.std.specs.Prelude.{◌≡◌, ◌⊎◌, List, [], Some, All}
 use Rattle.dns_names.specs.declared.met.Row.{Row}
 use Rattle.dns_names.specs.declared.met.Rows.{Rows}
 use Rattle.dns_names.specs.Spelling.{Start, found}

@@ -1,8 +1,8 @@
-use Rattle.std.proofs.Common.{◌≡◌, ◌≤◌, ◌+◌, ℕ, List, Option, Some, None, length, ap, sym, subst, ◌∙◌, arith, rules, unwrap_or}
+use Rattle.std.proofs.Common.{◌≡◌, ◌≤◌, ◌+◌, ℕ, List, Option, Some, length, ap, sym, subst, ◌∙◌, arith, rules}
 use Rattle.std.proofs.lemmas.List.{nil_from_length}
-use Rattle.dns_names.specs.Prelude.{behind, found, IsLongest, Start, starts_in}
+use Rattle.dns_names.specs.Prelude.{behind, IsLongest, Start, starts_in}
 use Rattle.dns_names.specs.Writers.{after_in}
-use Rattle.dns_names.proofs.Longest.{behind-shorter, ends-after, longest-here, longest-more, longest-none, longest-one, longest-root}
+use Rattle.dns_names.proofs.Longest.{behind-shorter, ends-after, longest-here, longest-more, longest-none}
 use Rattle.dns_names.proofs.ending.+longest.Goals as goal
 
 -- what is known of the rest, where nothing is to be written of it

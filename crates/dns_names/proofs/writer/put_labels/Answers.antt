@@ -3,7 +3,7 @@ use Rattle.dns_names.proofs.Kept.{ends-near, pending-first, pending-fresh, pendi
 use Rattle.dns_names.specs.declared.suffix.Suffix.{Suffix}
 use Rattle.dns_names.specs.Longest.{ending}
 use Rattle.dns_names.specs.Writers.{key_at, IsPending, Remembers}
-use Rattle.dns_names.proofs.Pending.{GoesOn, IsPut, edge-later, put-found, put-label, rows-later}
+use Rattle.dns_names.proofs.Pending.{GoesOn, edge-later, put-found, put-label, rows-later}
 use Rattle.dns_names.proofs.Longest.{longest-new, longest-step, longest-ends, behind-shorter, closing-first, closing-put, closing-ends, behind-is}
 use Rattle.dns_names.proofs.Putting.{Left-ends, Left-closed, Left-new, Left-within, Left-label, ending-some, grew_more, grew_none, grew_octets}
 use Rattle.dns_names.specs.Prelude.{behind, found, labels_in, with_start, IsIndex, IsLongest, starts_in}
