@@ -12,7 +12,7 @@ use Rattle.binding_table.specs.Prelude.{in_pool}
 use Rattle.tcp_tracker.specs.Connections.{is_established, kept, with_flags}
 use Rattle.tcp_tracker.specs.declared.connection.Connection.{Connection}
 use Rattle.icmp_errors.specs.Inner.{inner_fields}
-use Rattle.gate_model.specs.Called.{AllBefore, IsKeptUntil, called_by, header_until}
+use Rattle.gate_model.specs.Called.{AllBefore, IsKeptUntil, called_by, header_until, sent_from}
 use Rattle.gate_model.specs.Frame.{Dns, Stream, datagram_in, kind_of}
 use Rattle.gate_model.specs.Inner.{inside, inner_session}
 use Rattle.gate_model.specs.Prelude.{Tracked, WholeSession, World, ends_by, found_in, source_of, tcp_of, whole_rules}
@@ -105,6 +105,18 @@ reply_passes : verdict whole_rules (after (sends ∷ others ∷ [])) reply ≡ P
 unfolding frames_on_literals
 reply_passes = refl
 
+-- what the host sends later passes too, from the same alias
+abbrev again : Event
+again = event Left 4000 Raw true (hex 30 0x4500001e000140004011a81e0a000006c0a8c8010fa01388000ae1986869)
+
+again_passes : verdict whole_rules (after (sends ∷ others ∷ [])) again ≡ Pass
+unfolding frames_on_literals
+again_passes = refl
+
+again_from : sent_from whole_rules (after (sends ∷ others ∷ [])) again ≡ called_by whole_rules (after []) sends host
+unfolding frames_on_literals
+again_from = refl
+
 -- ## An ICMP error
 
 -- the server's port is unreachable
@@ -152,6 +164,14 @@ syn_answer = event Right 6000 Raw true (hex 40 0x450000280001400040067bb80a00000
 
 abbrev handshake : Event
 handshake = event Left 7000 Raw true (hex 40 0x45000028000140004006a81f0a000006c0a8c8019c400050000003e9000013895010200049220000)
+
+syn_passes : verdict whole_rules (after []) syn ≡ Pass
+unfolding frames_on_literals
+syn_passes = refl
+
+syn_until : header_until whole_rules (after []) syn ≡ 240000005000
+unfolding frames_on_literals
+syn_until = refl
 
 has_no_tracked_port : has_tracked_port (datagram_in syn_answer) ≡ false
 unfolding frames_on_literals
