@@ -1,5 +1,5 @@
 -- That the premises of the laws on replies, aliases and connections are met: each by frames, computed. A law whose premise nothing meets would say nothing.
-use Rattle.std.proofs.Common.{◌≡◌, ◌<◌, ℕ, true, false, List, [], ◌∷◌, fold, map, All, Contains, Some, None, refl, inl, inr, lit<}
+use Rattle.std.proofs.Common.{◌≡◌, ◌<◌, ℕ, true, false, List, [], ◌∷◌, fold, map, All, Contains, Some, None, refl, inl, inr, lit<, arith}
 use Rattle.std.proofs.lemmas.List.Elements.{All-cons, All-nil}
 use Rattle.gate_base.specs.Prelude.{Event, is_unicast_number}
 use Rattle.gate_base.specs.declared.address.Addr.{Addr}
