@@ -139,6 +139,81 @@ def forked(octets, bits=504, tail=1):
     return itertools.chain([resource(label(b"b") * tail + b"\0", A, quad(HOST))], (resource(label(number.to_bytes(octets, "big")) + pointer(12), TXT) for number in names))
 
 
+class Spelled:
+    """Records, and how many octets go out for them. Names go out whole, or up to what stands already where a pointer can lead."""
+
+    def __init__(self):
+        self.body, self.out, self._count, self._stand = bytearray(12), 12, 0, set()
+
+    def _labels(self, place):
+        while self.body[place]:
+            if self.body[place] >= 192:
+                place = int.from_bytes(self.body[place : place + 2], "big") & 0x3FFF
+            else:
+                yield bytes(self.body[place : place + 1 + self.body[place]])
+                place += 1 + self.body[place]
+
+    def add(self, name, kind, data=b"", names=()):
+        """A record, with octets and then names in its data."""
+        begin = len(self.body)
+        behind = begin + len(name) + 10 + len(data)
+        self.body += resource(name, kind, data + b"".join(names))
+        self._count += 1
+        self._spell(tuple(self._labels(begin)))
+        self.out += 10 + len(data)
+        for at in range(len(names)):
+            self._spell(tuple(self._labels(behind + sum(map(len, names[:at])))))
+
+    def _spell(self, labels):
+        for at in range(len(labels)):
+            if labels[at:] in self._stand:
+                self.out += 2
+                return
+            if self.out < 1 << 14:
+                self._stand.add(labels[at:])
+            self.out += len(labels[at])
+        self.out += 1
+
+    def lead(self, most, data):
+        """Names that lead into the octets of a text, at most so many, and until what goes out is behind each pointer."""
+        text = len(self.body) + LED
+        self.add(pointer(12), TXT, data)
+        for number in range(1, 1 + most):
+            if self.out >= 1 << 14:
+                return
+            self.add(pointer(text + number), TXT)
+
+    def message(self, most, name):
+        """The message, with three such names in each record at its end."""
+        while len(self.body) + 16 <= most and self.out < 65_500:
+            self.add(name, MINFO, names=(name, name))
+        return struct.pack(">6H", 7, 0x8180, 0, self._count, 0, 0) + bytes(self.body[12:])
+
+
+def far(most):
+    """A label before a name of 124 labels goes out behind all that pointers lead to, and stands before that in the message. Pointers lead to it."""
+    made = Spelled()
+    made.add(label(b"a") * 124 + b"\0", A, quad(HOST))
+    made.lead(61, b"\x3f" * 192 + bytes(80))
+    while made.out < 1 << 14:
+        made.lead(61, b"\x3e" * 189 + bytes(80))
+    place = len(made.body)
+    made.add(label(b"x") + pointer(12), TXT)
+    return made.message(most, pointer(place))
+
+
+def edged(most):
+    """A name of 126 labels goes out from the last place to which a pointer leads. It is spelled whole twice, and pointers lead to the second one."""
+    made, name = Spelled(), label(b"a") * 126 + b"\0"
+    made.add(label(b"b") + b"\0", A, quad(HOST))
+    made.lead(6, b"\x3f" * 192 + bytes(80))
+    made.add(pointer(12), TXT, bytes((1 << 14) - 1 - made.out - LED))
+    made.add(name, TXT)
+    place = len(made.body)
+    made.add(name, TXT)
+    return made.message(most, pointer(place))
+
+
 FORKS = {"octets": (1, 63), "bits": (0, 504), "tail": (1, 94)}
 """Its parameters, as a climb changes them."""
 

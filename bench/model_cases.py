@@ -83,25 +83,8 @@ def case(folder, name):
     text = "-- %s\n" % readme
     text += "abbrev %s : List Row\n%s =\n%s\n" % (name, name, listed(rows, "    "))
     text += "%s_settings : Settings\n%s_settings = %s\n\n" % ("abbrev " + name, name, settings(table))
-    text += "%s_holds : found %s_settings %s ≡ wanted %s %s\nUNFOLDING\n%s_holds = refl\n" % (name, name, name, name, pending, name)
+    text += "%s_holds : found %s_settings %s ≡ wanted %s %s\nunfolding frames_on_literals\n%s_holds = refl\n" % (name, name, name, name, pending, name)
     return text, refusals
-
-
-UNFOLDING = [
-    ("ether_frames.specs.Ether", "read_frame"), ("inet_sum.specs.Sum", "words fold_of"), ("ipv4_frames.specs.Ipv4", "head_with"),
-    ("udp_icmp.specs.Icmp", "sealed_icmp"), ("udp_icmp.specs.Udp", "sealed_udp"), ("tcp_segments.specs.Options", "options_within"),
-    ("tcp_segments.specs.Tcp", "sealed_tcp tcp_header_with"), ("twice_translate.specs.Renamed", "sealed_payload renamed"),
-    ("gate_base.specs.Address", "number_of"), ("binding_table.specs.Bindings", "cross"), ("gate_settings.specs.Cross", "block_end"),
-    ("icmp_errors.specs.Inner", "inner_with"), ("dns_names.specs.Names", "piece_at"), ("dns_names.specs.Octets", "reverse_in"),
-    ("dns_names.specs.Reverse", "full_reverse"), ("dns_names.specs.Spelling", "spell"), ("dns_names.specs.Walk", "name_at"),
-    ("dns_messages.specs.Reading", "content_by resource_at resources_at question_at questions_at message_at"),
-    ("dns_messages.specs.Writing", "spelling"), ("snmp_gateway.specs.Element", "element_at"),
-    ("snmp_gateway.specs.Message", "binding bindings_within outline_of message"), ("snmp_gateway.specs.Parts", "first_of skip"),
-    ("snmp_oids.specs.Arcs", "numbers_from"), ("snmp_oids.specs.Identifier", "place_behind"),
-    ("snmp_oids.specs.Elements", "elements_within"), ("dns_stream.specs.Images", "renamed as unit_renamed"),
-    ("ftp_lines.specs.Numbers", "number four six"), ("ftp_lines.specs.Grammar", "port eprt delimited passive client_text server_text"),
-    ("ftp_lines.specs.Renaming", "spelled"), ("std.specs.Fmt", "digits"), ("gate_model.specs.Verdict", "verdict"),
-]
 
 
 def main():
@@ -118,13 +101,9 @@ def main():
     print("use Rattle.gate_base.specs.declared.side.Link.TheVariants.{Ethernet, Raw}")
     print("use Rattle.gate_base.specs.declared.side.Side.TheVariants.{Left, Right}")
     print("use Rattle.gate_settings.specs.declared.settings.Settings.{Settings}")
-    opened = []
-    for module, words in UNFOLDING:
-        items = [words] if " as " in words else words.split()
-        print("use Rattle.%s.{%s}" % (module, ", ".join(items)))
-        opened += [item.split(" as ")[-1] for item in items]
-    print("use Rattle.gate_model.proofs.RowWords.{Row, hex, block, fixed, pool, rule, set, with_rules, event, passes, refused, found, wanted}\n")
-    print("\n".join(texts).replace("UNFOLDING", "unfolding " + " ".join(opened)), end="")
+    print("use Rattle.gate_model.proofs.RowWords.{Row, hex, block, fixed, pool, rule, set, with_rules, event, passes, refused, found, wanted}")
+    print("use Rattle.model_cases.proofs.OnLiterals.{frames_on_literals}\n")
+    print("\n".join(texts), end="")
 
 
 main()

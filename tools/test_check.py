@@ -98,6 +98,18 @@ class Check(unittest.TestCase):
         self.assertEqual((len(lines), lines[-1]), (21, "59980 more keys aren't known, and are ignored"))
         self.assertEqual(len(self.lines_of(RIGHT + "x = " + "1" * 5_000)), 1)
 
+    def test_unkept_aliases(self) -> None:
+        """SNMP messages that tell aliases are minded where a realm has no static, and not by a run."""
+        rules = RIGHT + '[[oid]]\nprefix = "1.3.6.1.2.1.4.20.1"\nskip = 1\n'
+        left = '[[static]]\nside = "left"\nhost = "10.0.0.5"\nalias = "172.16.9.1"\n'
+        right = '[[static]]\nside = "right"\nhost = "10.0.0.5"\nalias = "192.168.200.1"\n'
+        for text, bare in ((rules, "left and right"), (rules + left, "right"), (rules + right, "left"), (rules + left + right, ""), (RIGHT + left, "")):
+            self.assertEqual(self.lines_of(text), [])
+            status, told = said(f"{TOOLS}/check_settings", self.name)
+            lines = [line for line in told.splitlines() if line.startswith(f"{self.name}: ")]
+            self.assertEqual((status, len(lines)), (1, 1) if bare else (0, 0))
+            self.assertEqual([line.partition(" hosts, and ")[0] for line in lines], [f"{self.name}: oid: SNMP messages tell aliases of {bare}"] if bare else [])
+
     def test_examples(self) -> None:
         """Those of this repository are right, and told."""
         for name in (f"{MERGER}/settings.toml", f"{LIVE}/settings.toml", f"{TOP}/examples/live/settings.toml"):

@@ -283,6 +283,22 @@ class Script(unittest.TestCase):
         self.assertEqual((code, text.splitlines()[0]), (7, "open failed: report"))
         self.assertEqual(self.told(*self.run_words(left_out="/dev/null", right_out="/dev/null", report="/dev/null")), (0, ""))
 
+    def test_two_runs_into_one_output(self) -> None:
+        """A run into an output of a run that goes on is refused, and leaves nothing behind."""
+        self.write(self.program, '#!/bin/sh\ncat "$3" >/dev/null\nexit ${STATUS:-0}\n')
+        self.note()
+        waits = f"{self.room}/waits"
+        os.mkfifo(waits)
+        names = {"PATH": f"{self.room}/bin:{os.environ['PATH']}", "LINE": "", "STATUS": "0"}
+        first = subprocess.Popen([f"{self.top}/rendapil", *self.run_words(left_in=waits, right_out="shared")], env={**os.environ, **names}, cwd=self.room)
+        with open(waits, "wb"):  # it is open as soon as the first run reads
+            code, text = self.told(*self.run_words(left_out="other", right_out="shared", report="another"))
+            self.assertEqual((code, text.splitlines()[0]), (7, "open failed: right_out"))
+            self.assertIn("another run writes right_out, shared", text)
+            self.assertEqual([name for name in ("other", "another") if os.path.exists(f"{self.room}/{name}")], [])
+        self.assertEqual(first.wait(10), 0)
+        self.assertEqual(self.told(*self.run_words(right_out="shared")), (0, ""))
+
     def test_warnings_of_settings(self) -> None:
         """Keys that aren't known are told, and the run goes on."""
         settings = self.write(f"{self.room}/s.toml", RIGHT + 'fragment = "join"')

@@ -1,22 +1,23 @@
 -- The label starts that a writer's map holds.
-use Rattle.std.proofs.Common.{◌≡◌, ℕ, ◌+◌, ◌<◌, ◌≤◌, Bool, true, false, cond, List, [], ◌∷◌, ◌++◌, Option, Some, None, refl, sym, ap, subst, ◌∙◌, arith, inl, inr, nat_lt, IfSome, bytes_eq, append-nil}
-use Rattle.std.specs.Ordering.{is_eq, match_ordering}
+use Rattle.std.proofs.Common.{◌≡◌, ◌⊎◌, ℕ, ◌<◌, ◌≤◌, Bool, true, false, cond, List, [], ◌∷◌, ◌++◌, length, Option, Some, None, refl, sym, ap, subst, ◌∙◌, arith, inl, inr, nat_lt, IfSome, bytes_eq, append-nil, take-append-drop}
+use Rattle.std.specs.Ordering.{is_eq, match_ordering, nat_cmp}
 use Rattle.std.specs.declared.cmp.Ordering.{Ordering}
 use Rattle.std.specs.declared.cmp.Ordering.TheVariants.{Less, Equal, Greater}
-use Rattle.std.specs.Cmp.Lexicographic.{on_texts}
+use Rattle.std.specs.Cmp.Lexicographic.{on_texts, slice_cmp}
 use Rattle.std.specs.BTreeMap.{BTreeMap, UpdatesBy, insert_entry}
 use Rattle.std.specs.Map.{lookup, IsKeyTest, AreApart, KeepsOthers}
 use Rattle.std.specs.List.{AllByRecursion}
-use Rattle.std.proofs.lemmas.Bool.{cases_Bool, lt-ltb, le-ltb}
+use Rattle.std.proofs.lemmas.Bool.{cases_Bool, lt-ltb, le-ltb, ltb-true}
 use Rattle.std.specs.Cmp.{eq_by_cmp_equiv}
+use Rattle.std.proofs.lemmas.Map.Text.{is_eq-slice_cmp}
 use Rattle.std.proofs.lemmas.Slice.Eq.{bytes_eq-Decides}
 use Rattle.dns_names.specs.declared.suffix.Suffix.{Suffix}
-use Rattle.dns_names.specs.Prelude.{key_of, end_cmp, Start, found, with_start, EndsAt, starts_in, IsIndex}
+use Rattle.dns_names.specs.Prelude.{behind, first_label, key, key_of, Start, found, with_start, Ends, EndsAt, starts_in, IsIndex}
+use Rattle.dns_names.specs.Longest.{IsClosed}
 use Rattle.dns_names.proofs.Walking.{chosen}
-use Rattle.dns_names.proofs.Endings.{is_eq-end_cmp}
-use Rattle.dns_names.specs.Writers.{put_start, place_in, IsNear}
+use Rattle.dns_names.specs.Writers.{put_start, place_in, after_in, HaveOwnPlaces, IsFresh, IsNear, IsPending, Remembers}
 
--- ---- a map by octets after an insertion, at other octets
+-- ---- a map after an insertion, at other keys
 
 pub apart : (bs cs ks : List ℕ) → bytes_eq bs cs ≡ false → bytes_eq bs ks ≡ true → bytes_eq cs ks ≡ false
 apart bs cs ks n y =
@@ -28,19 +29,22 @@ apart bs cs ks n y =
       | inr f ↦ f
     ]
 
-apart_in_order : (bs cs ks : List ℕ) → bytes_eq bs cs ≡ false → is_eq (end_cmp bs ks) ≡ true → is_eq (end_cmp cs ks) ≡ false
-apart_in_order bs cs ks n y = is_eq-end_cmp cs ks ∙ apart bs cs ks n (sym (is_eq-end_cmp bs ks) ∙ y)
+apart_in_order : (bs cs ks : List ℕ) → bytes_eq bs cs ≡ false → is_eq (slice_cmp nat_cmp bs ks) ≡ true → is_eq (slice_cmp nat_cmp cs ks) ≡ false
+apart_in_order bs cs ks n y = is_eq-slice_cmp cs ks ∙ apart bs cs ks n (sym (is_eq-slice_cmp bs ks) ∙ y)
 
 others : {K X : Type 0} (eq : K → K → Bool) (test : K → Bool) (old new : List (K × X)) → KeepsOthers eq test old new → (other : K → Bool) → IsKeyTest eq other → AreApart test other → lookup other new ≡ lookup other old
 unfolding KeepsOthers
 others eq test old new h = h
 
-insert-place : (key : Suffix) (m n : BTreeMap Suffix ℕ) (w : Option ℕ) → UpdatesBy (λ x y. end_cmp x.octets.now y.octets.now) (λ k. end_cmp key.octets.now k.octets.now) m n w
-    → (cs : List ℕ) → place_in n.entries cs ≡ cond (bytes_eq key.octets.now cs) w (place_in m.entries cs)
-insert-place key m n w h cs =
-    elim (cases_Bool (bytes_eq key.octets.now cs)) [
-      | inl t ↦ rw t (subst (λ (o : List ℕ). place_in n.entries o ≡ w) ((bytes_eq-Decides key.octets.now cs).0 t) h.1)
-      | inr f ↦ rw f (others _ _ m.entries n.entries h.3 (λ k. is_eq (end_cmp cs k.octets.now)) (λ x y. (eq_by_cmp_equiv (on_texts key_of)).congr cs x.octets.now y.octets.now) (λ k. apart_in_order key.octets.now cs k.octets.now f))
+insert-place : (s : Suffix) (m n : BTreeMap Suffix ℕ) (w : Option ℕ)
+    → UpdatesBy (λ x y. slice_cmp nat_cmp (key x) (key y)) (λ k. slice_cmp nat_cmp (key s) (key k)) m n w
+    → (k : List ℕ) → place_in n.entries k ≡ cond (bytes_eq (key s) k) w (place_in m.entries k)
+insert-place s m n w h k =
+    elim (cases_Bool (bytes_eq (key s) k)) [
+      | inl t ↦ rw t (subst (λ (o : List ℕ). place_in n.entries o ≡ w) ((bytes_eq-Decides (key s) k).0 t) h.1)
+      | inr f ↦
+          rw f (others _ _ m.entries n.entries h.3 (λ x. is_eq (slice_cmp nat_cmp k (key x)))
+          (λ x y. (eq_by_cmp_equiv (on_texts (λ (o : List ℕ). o))).congr k (key x) (key y)) (λ x. apart_in_order (key s) k (key x) f))
     ]
 
 -- ---- starts in the order of their places
@@ -72,20 +76,22 @@ put_start-all P s (t ∷ ts) all =
     ]
 
 -- a new key with the greatest place comes last
-starts_in-insert : (es : List (Suffix × ℕ)) (key : Suffix) (place : ℕ) → place_in es key.octets.now ≡ None → AllByRecursion (IsBelow place) (starts_in es)
-    → starts_in (insert_entry (λ x y. end_cmp x.octets.now y.octets.now) es key place) ≡ starts_in es ++ record { place = place; octets = key.octets.now } ∷ []
-starts_in-insert [] key place absent all = refl
-starts_in-insert (e ∷ es) key place absent all =
-    by_order (end_cmp key.octets.now e.0.octets.now) refl (λ a b. starts_in-insert es key place a b)
+starts_in-insert : (es : List (Suffix × ℕ)) (s : Suffix) (place : ℕ) → place_in es (key s) ≡ None → AllByRecursion (IsBelow place) (starts_in es)
+    → starts_in (insert_entry (λ x y. slice_cmp nat_cmp (key x) (key y)) es s place) ≡ starts_in es ++ record { place = place; octets = s.octets.now } ∷ []
+starts_in-insert [] s place absent all = refl
+starts_in-insert (e ∷ es) s place absent all =
+    by_order (slice_cmp nat_cmp (key s) (key e.0)) refl (λ a b. starts_in-insert es s place a b)
   where
-    by_order : (o : Ordering) → end_cmp key.octets.now e.0.octets.now ≡ o
-        → (place_in es key.octets.now ≡ None → AllByRecursion (IsBelow place) (starts_in es) → starts_in (insert_entry (λ x y. end_cmp x.octets.now y.octets.now) es key place) ≡ starts_in es ++ record { place = place; octets = key.octets.now } ∷ [])
-        → starts_in (match_ordering o ((key, place) ∷ e ∷ es) ((e.0, place) ∷ es) (e ∷ insert_entry (λ x y. end_cmp x.octets.now y.octets.now) es key place)) ≡ starts_in (e ∷ es) ++ record { place = place; octets = key.octets.now } ∷ []
-    by_order Less is next = put_start-last (record { place = place; octets = key.octets.now }) (starts_in (e ∷ es)) all
+    by_order : (o : Ordering) → slice_cmp nat_cmp (key s) (key e.0) ≡ o
+        → (place_in es (key s) ≡ None → AllByRecursion (IsBelow place) (starts_in es)
+        → starts_in (insert_entry (λ x y. slice_cmp nat_cmp (key x) (key y)) es s place) ≡ starts_in es ++ record { place = place; octets = s.octets.now } ∷ [])
+        → starts_in (match_ordering o ((s, place) ∷ e ∷ es) ((e.0, place) ∷ es) (e ∷ insert_entry (λ x y. slice_cmp nat_cmp (key x) (key y)) es s place))
+        ≡ starts_in (e ∷ es) ++ record { place = place; octets = s.octets.now } ∷ []
+    by_order Less is next = put_start-last (record { place = place; octets = s.octets.now }) (starts_in (e ∷ es)) all
     by_order Equal is next = absurd (let q : Some e.1 ≡ None = rw is at absent in cc)
     by_order Greater is next =
         let parts = put_start-all (IsBelow place) (record { place = e.1; octets = e.0.octets.now }) (starts_in es) all in
-        rw (next (rw is at absent) parts.1) (put_start-before (record { place = e.1; octets = e.0.octets.now }) (record { place = place; octets = key.octets.now }) (starts_in es) parts.0)
+        rw (next (rw is at absent) parts.1) (put_start-before (record { place = e.1; octets = e.0.octets.now }) (record { place = place; octets = s.octets.now }) (starts_in es) parts.0)
 
 -- ---- one start more
 
@@ -113,13 +119,30 @@ found-with_start starts place here octets absent off =
       | inr n ↦ rw n (ap (λ (x : List Start). found x octets) (append-nil starts))
     ]
 
+pub found-more : (starts more : List Start) (octets : List ℕ) (place : ℕ) → found starts octets ≡ Some place → found (starts ++ more) octets ≡ Some place
+found-more [] more octets place e = absurd cc
+found-more (s ∷ starts) more octets place e =
+    elim (cases_Bool (bytes_eq s.octets octets)) [
+      | inl t ↦ rw t (rw t at e)
+      | inr f ↦ rw f (found-more starts more octets place (rw f at e))
+    ]
+
+-- what isn't found is the last start, or isn't found with that either
+pub found-last : (starts : List Start) (s : Start) (octets : List ℕ) → found starts octets ≡ None → found (starts ++ s ∷ []) octets ≡ cond (bytes_eq s.octets octets) (Some s.place) None
+found-last [] s octets none = elim (cases_Bool (bytes_eq s.octets octets)) [ inl t ↦ rw t refl | inr f ↦ rw f refl ]
+found-last (t ∷ ts) s octets none =
+    elim (cases_Bool (bytes_eq t.octets octets)) [
+      | inl y ↦ absurd (let q : Some t.place ≡ None = rw y at none in cc)
+      | inr n ↦ rw n (found-last ts s octets (rw n at none))
+    ]
+
 -- ---- the index
 
-near_later : (limit more : ℕ) (starts : List Start) → limit ≤ more → AllByRecursion (IsNear limit) starts → AllByRecursion (IsNear more) starts
+pub near_later : (limit more : ℕ) (starts : List Start) → limit ≤ more → AllByRecursion (IsNear limit) starts → AllByRecursion (IsNear more) starts
 near_later limit more [] le all = tt
 near_later limit more (s ∷ starts) le all = ((omega (arith, all.0.0), all.0.1), near_later limit more starts le all.1)
 
-near_push : (limit : ℕ) (starts : List Start) (s : Start) → AllByRecursion (IsNear limit) starts → IsNear limit s → AllByRecursion (IsNear limit) (starts ++ s ∷ [])
+pub near_push : (limit : ℕ) (starts : List Start) (s : Start) → AllByRecursion (IsNear limit) starts → IsNear limit s → AllByRecursion (IsNear limit) (starts ++ s ∷ [])
 near_push limit [] s all one = (one, tt)
 near_push limit (t ∷ ts) s all one = (all.0, near_push limit ts s all.1 one)
 
@@ -127,52 +150,175 @@ near_below : (limit : ℕ) (starts : List Start) → AllByRecursion (IsNear limi
 near_below limit [] all = tt
 near_below limit (s ∷ starts) all = (all.0.0, near_below limit starts all.1)
 
-pub IsIndex-later : (entries : List (Suffix × ℕ)) (limit more : ℕ) → IsIndex entries limit → limit ≤ more → IsIndex entries more
-IsIndex-later entries limit more index le = record { finds = index.finds; near = near_later limit more (starts_in entries) le index.near }
-
-pub record Remembers (old new : List (Suffix × ℕ)) (place : ℕ) (octets : List ℕ) : Type 0 where
-  pub starts : starts_in new ≡ starts_in old ++ with_start place octets []
-  pub index : IsIndex new (place + 1)
-
--- a start that can be pointed to was put in
-pub remembers-near : (m n : BTreeMap Suffix ℕ) (key : Suffix) (place : ℕ) (octets : List ℕ) → key.octets.now ≡ octets → IsIndex m.entries place → place_in m.entries octets ≡ None → place < 16384
-    → n.entries ≡ insert_entry (λ x y. end_cmp x.octets.now y.octets.now) m.entries key place → UpdatesBy (λ x y. end_cmp x.octets.now y.octets.now) (λ k. end_cmp key.octets.now k.octets.now) m n (Some place)
-    → Remembers m.entries n.entries place octets
-remembers-near m n key place octets is index absent near entries updates =
-    let s : Start = record { place = place; octets = octets } in
-    let gone : place_in m.entries key.octets.now ≡ None = ap (place_in m.entries) is ∙ absent in
-    let push : starts_in n.entries ≡ starts_in m.entries ++ s ∷ [] =
-    ap starts_in entries ∙ starts_in-insert m.entries key place gone (near_below place (starts_in m.entries) index.near) ∙ ap (λ (o : List ℕ). starts_in m.entries ++ record { place = place; octets = o } ∷ []) is in
-    let none : found (starts_in m.entries) octets ≡ None = sym (index.finds octets) ∙ absent in
-    record {
-      starts = rw (lt-ltb _ _ near) push;
-      index = record {
-        finds = λ o.
-            insert-place key m n (Some place) updates o
-            ∙ ap (λ (b : List ℕ). cond (bytes_eq b o) (Some place) (place_in m.entries o)) is
-            ∙ ap (λ (x : Option ℕ). cond (bytes_eq octets o) (Some place) x) (index.finds o)
-            ∙ sym (found-push (starts_in m.entries) s o none)
-            ∙ ap (λ (x : List Start). found x o) (sym push);
-        near = subst (λ (x : List Start). AllByRecursion (IsNear (place + 1)) x) (sym push) (near_push (place + 1) (starts_in m.entries) s (near_later place (place + 1) _ (omega arith) index.near) (omega arith, near));
-      };
-    }
-
--- one that can't be was left out
-pub remembers-far : (entries : List (Suffix × ℕ)) (place : ℕ) (octets : List ℕ) → IsIndex entries place → 16384 ≤ place → Remembers entries entries place octets
-remembers-far entries place octets index far = record {
-  starts = rw (le-ltb _ _ far) (sym (append-nil (starts_in entries)));
-  index = IsIndex-later entries place (place + 1) index (omega arith);
-}
-
--- what is found can be pointed to
-found-near : (limit : ℕ) (starts : List Start) (octets : List ℕ) (place : ℕ) → AllByRecursion (IsNear limit) starts → found starts octets ≡ Some place → place < 16384
-found-near limit [] octets place all e = absurd cc
-found-near limit (s ∷ starts) octets place all e =
+-- what is found lies below the end, and can be pointed to
+pub found-is-near : (limit : ℕ) (starts : List Start) (octets : List ℕ) (place : ℕ) → AllByRecursion (IsNear limit) starts → found starts octets ≡ Some place → (place < limit) × (place < 16384)
+found-is-near limit [] octets place all e = absurd cc
+found-is-near limit (s ∷ starts) octets place all e =
     elim (chosen (bytes_eq s.octets octets) (Some s.place) (found starts octets) (Some place) e) [
-      | inl t ↦ let q : s.place ≡ place = (let h : Some s.place ≡ Some place = t.1 in cc) in omega (arith, all.0.1)
-      | inr f ↦ found-near limit starts octets place all.1 f.1
+      | inl t ↦ let q : s.place ≡ place = (let h : Some s.place ≡ Some place = t.1 in cc) in (omega (arith, all.0.0), omega (arith, all.0.1))
+      | inr f ↦ found-is-near limit starts octets place all.1 f.1
     ]
 
 pub ends-near : (limit : ℕ) (starts : List Start) (octets : List ℕ) (place : Option ℕ) → AllByRecursion (IsNear limit) starts → EndsAt starts octets place → IfSome place (λ to. to < 16384)
 ends-near limit starts octets None all e = tt
-ends-near limit starts octets (Some to) all e = found-near limit starts octets to all e.1
+ends-near limit starts octets (Some to) all e = (found-is-near limit starts octets to all e.1).1
+
+-- ---- what stands for places
+
+pub after-more : (starts more : List Start) (octets : List ℕ) (place : ℕ) → after_in starts octets ≡ Some place → after_in (starts ++ more) octets ≡ Some place
+after-more starts more [] place e = e
+after-more starts more (x ∷ xs) place e = found-more starts more (x ∷ xs) place e
+
+-- where nothing stands for the place, there are octets that aren't found
+pub record IsNowhere (starts : List Start) (octets : List ℕ) : Type 0 where
+  pub some : 1 ≤ length octets
+  pub none : found starts octets ≡ None
+
+nowhere : (starts : List Start) (octets : List ℕ) → after_in starts octets ≡ None → IsNowhere starts octets
+nowhere starts [] e = absurd cc
+nowhere starts (x ∷ xs) e = record { some = omega arith; none = e }
+
+-- it is 65,535, or lies below the end
+pub after-near : (limit : ℕ) (starts : List Start) (octets : List ℕ) (place : ℕ) → AllByRecursion (IsNear limit) starts → after_in starts octets ≡ Some place
+    → ((octets ≡ []) × (place ≡ 65535)) ⊎ ((found starts octets ≡ Some place) × (place < limit) × (place < 16384))
+after-near limit starts [] place all e = inl (refl, (let h : Some 65535 ≡ Some place = e in let q : 65535 ≡ place = cc in sym q))
+after-near limit starts (x ∷ xs) place all e = (let near = found-is-near limit starts (x ∷ xs) place all e in inr (e, near.0, near.1))
+
+pub own-after : (limit : ℕ) (starts : List Start) (a b : List ℕ) (place : ℕ) → AllByRecursion (IsNear limit) starts → HaveOwnPlaces starts → after_in starts a ≡ Some place → after_in starts b ≡ Some place → a ≡ b
+own-after limit starts a b place all own e f =
+    elim (after-near limit starts a place all e) [
+      | inl root ↦
+          elim (after-near limit starts b place all f) [
+            | inl other ↦ root.0 ∙ sym other.0
+            | inr near ↦ absurd (omega (arith, root.1, near.2))
+          ]
+      | inr near ↦
+          elim (after-near limit starts b place all f) [
+            | inl root ↦ absurd (omega (arith, root.1, near.2))
+            | inr other ↦ own a b place near.0 other.0
+          ]
+    ]
+
+-- one start more, behind the others, has a place of its own
+pub own-last : (limit : ℕ) (starts : List Start) (s : Start) → AllByRecursion (IsNear limit) starts → limit ≤ s.place → HaveOwnPlaces starts → HaveOwnPlaces (starts ++ s ∷ [])
+own-last limit starts s all le own a b place e f = by_found (found starts a) (found starts b) refl refl
+  where
+    last : (octets : List ℕ) → found starts octets ≡ None → found (starts ++ s ∷ []) octets ≡ Some place → (s.octets ≡ octets) × (s.place ≡ place)
+    last octets none is =
+        elim (cases_Bool (bytes_eq s.octets octets)) [
+          | inl t ↦ ((bytes_eq-Decides s.octets octets).0 t, (let h : Some s.place ≡ Some place = sym (found-last starts s octets none ∙ rw t refl) ∙ is in cc))
+          | inr n ↦ absurd (let h : None ≡ Some place = sym (found-last starts s octets none ∙ rw n refl) ∙ is in cc)
+        ]
+
+    same : (octets : List ℕ) (q : ℕ) → found starts octets ≡ Some q → found (starts ++ s ∷ []) octets ≡ Some place → q ≡ place
+    same octets q is now = let h : Some q ≡ Some place = sym (found-more starts (s ∷ []) octets q is) ∙ now in cc
+
+    by_found : (o p : Option ℕ) → found starts a ≡ o → found starts b ≡ p → a ≡ b
+    by_found (Some q) (Some r) x y = own a b place (x ∙ ap Some (same a q x e)) (y ∙ ap Some (same b r y f))
+    by_found (Some q) None x y = absurd (omega (arith, (found-is-near limit starts a q all x).0, same a q x e, (last b y f).1, le))
+    by_found None (Some r) x y = absurd (omega (arith, (found-is-near limit starts b r all y).0, same b r y f, (last a x e).1, le))
+    by_found None None x y = sym (last a x e).0 ∙ (last b y f).0
+
+-- ---- keys
+
+pub label-behind : (octets : List ℕ) → 1 ≤ length octets → first_label octets ++ behind octets ≡ octets
+label-behind [] some = absurd (omega (arith, some))
+label-behind (count ∷ rest) some = ap (λ (x : List ℕ). count ∷ x) (take-append-drop count rest)
+
+pub same-key : (a b : ℕ) (x y : List ℕ) → key_of a x ≡ key_of b y → (a ≡ b) × (first_label x ≡ first_label y)
+same-key a b x y e = (cc, cc)
+
+-- ---- a name is written
+
+pub pending-index : (entries : List (Suffix × ℕ)) (rest : List ℕ) (limit later : ℕ) → IsPending entries rest limit → limit ≤ later → IsIndex entries later
+pending-index entries rest limit later p le = record {
+  finds = λ octets after some e. p.finds octets after some (after-more (starts_in entries) (with_start limit rest []) (behind octets) after e);
+  near = near_later limit later (starts_in entries) le p.near;
+  own = p.own;
+}
+
+pub pending-fresh : (entries : List (Suffix × ℕ)) (rest : List ℕ) (limit later : ℕ) → IsPending entries rest limit → limit < later → IsFresh entries later
+pending-fresh entries rest limit later p lt near octets after le few = p.fresh (omega (arith, near, lt)) octets after (omega (arith, le, lt)) few
+
+pub IsIndex-later : (entries : List (Suffix × ℕ)) (limit more : ℕ) → IsIndex entries limit → limit ≤ more → IsIndex entries more
+IsIndex-later entries limit more index le = record { finds = index.finds; near = near_later limit more (starts_in entries) le index.near; own = index.own }
+
+pub IsFresh-later : (entries : List (Suffix × ℕ)) (limit more : ℕ) → IsFresh entries limit → limit ≤ more → IsFresh entries more
+IsFresh-later entries limit more fresh le near octets after from few = fresh (omega (arith, near, le)) octets after (omega (arith, le, from)) few
+
+-- a start that can be pointed to was put in
+pub remembers : (m n : BTreeMap Suffix ℕ) (s : Suffix) (place : ℕ) → place < 16384
+    → n.entries ≡ insert_entry (λ x y. slice_cmp nat_cmp (key x) (key y)) m.entries s place
+    → UpdatesBy (λ x y. slice_cmp nat_cmp (key x) (key y)) (λ k. slice_cmp nat_cmp (key s) (key k)) m n (Some place)
+    → Remembers s place m.entries n.entries
+remembers m n s place near entries updates = record {
+  near = λ _ k. insert-place s m n (Some place) updates k;
+  starts = λ _ none all. ap starts_in entries ∙ starts_in-insert m.entries s place none (near_below place (starts_in m.entries) all);
+  far = λ far. absurd (omega (arith, near, far));
+}
+
+-- what can be pointed to may be added
+module _ (starts : List Start) (limit : ℕ) (rest octets : List ℕ) (after : ℕ) where
+  -- what is found with it alone is it
+  only-last : found starts octets ≡ None → found (starts ++ with_start limit rest []) octets ≡ Some after → (rest ≡ octets) × (limit ≡ after) × (limit < 16384)
+  only-last none e =
+      elim (cases_Bool (nat_lt limit 16384)) [
+        | inl t ↦
+            let more : found (starts ++ record { place = limit; octets = rest } ∷ []) octets ≡ Some after = rw t at e in
+            elim (cases_Bool (bytes_eq rest octets)) [
+              | inl y ↦ ((bytes_eq-Decides rest octets).0 y, (let h : Some limit ≡ Some after = sym (found-last starts (record { place = limit; octets = rest }) octets none ∙ rw y refl) ∙ more in cc), ltb-true _ _ t)
+              | inr n ↦ absurd (let h : None ≡ Some after = sym (found-last starts (record { place = limit; octets = rest }) octets none ∙ rw n refl) ∙ more in cc)
+            ]
+        | inr f ↦ absurd (let h : None ≡ Some after = sym none ∙ ap (λ (x : List Start). found x octets) (sym (append-nil starts)) ∙ (rw f at e) in cc)
+      ]
+
+pub same-some : (o : Option ℕ) (a b : ℕ) → o ≡ Some a → o ≡ Some b → a ≡ b
+same-some o a b e f = let h : Some a ≡ Some b = sym e ∙ f in cc
+
+-- what stands for a place with one start more stood for it before, or is this one
+pub after-last : (starts : List Start) (limit : ℕ) (rest octets : List ℕ) (after : ℕ) → after_in (starts ++ with_start limit rest []) octets ≡ Some after
+    → (after_in starts octets ≡ Some after) ⊎ (IsNowhere starts octets × (rest ≡ octets) × (limit ≡ after) × (limit < 16384))
+after-last starts limit rest octets after e = by_after (after_in starts octets) refl
+  where
+    last : (octets : List ℕ) → IsNowhere starts octets → after_in (starts ++ with_start limit rest []) octets ≡ Some after → IsNowhere starts octets × (rest ≡ octets) × (limit ≡ after) × (limit < 16384)
+    last [] off f = absurd (omega (arith, off.some))
+    last (x ∷ xs) off f = let only = only-last starts limit rest (x ∷ xs) after off.none f in (off, only.0, only.1, only.2)
+
+    by_after : (o : Option ℕ) → after_in starts octets ≡ o → (after_in starts octets ≡ Some after) ⊎ (IsNowhere starts octets × (rest ≡ octets) × (limit ≡ after) × (limit < 16384))
+    by_after (Some q) is = inl (is ∙ ap Some (same-some (after_in (starts ++ with_start limit rest []) octets) q after (after-more starts (with_start limit rest []) octets q is) e))
+    by_after None is = inr (last octets (nowhere starts octets is) e)
+
+-- nothing that begins with a rest that isn't found is found, as long as an end can be pointed to
+pub new-front : (starts : List Start) (octets : List ℕ) → IsNowhere starts (behind octets) → ((place : ℕ) → found starts octets ≡ Some place → Ends starts (behind octets)) → found starts octets ≡ None
+new-front starts octets off closed = by_found (found starts octets) refl
+  where
+    by_found : (o : Option ℕ) → found starts octets ≡ o → found starts octets ≡ None
+    by_found None is = is
+    by_found (Some place) is =
+        absurd (
+        elim (closed place is) [
+          | inl none ↦ omega (arith, off.some, ap length none)
+          | inr kept ↦ let h : None ≡ Some kept.0 = sym off.none ∙ kept.1 in cc
+        ]
+        )
+
+-- a name begins
+pub pending-first : (entries : List (Suffix × ℕ)) (edge name : List ℕ) (limit : ℕ) → IsIndex entries limit → IsFresh entries limit → IsClosed (starts_in entries) edge limit → IsPending entries name limit
+pending-first entries edge name limit index fresh closed = record {
+  finds = λ octets after some e.
+      elim (after-last (starts_in entries) limit name (behind octets) after e) [
+        | inl old ↦ index.finds octets after some old
+        | inr new ↦
+            let near = new.3 in
+            let none : edge ≡ [] = closed.near near in
+            fresh near octets after (omega (arith, new.2)) (omega (arith, new.2, near))
+            ∙ sym (new-front (starts_in entries) octets new.0 (λ place is.
+            elim (closed.closed octets (place, is)) [
+              | inl at_edge ↦ absurd (omega (arith, some, ap length (at_edge ∙ none)))
+              | inr ends ↦ ends
+            ]))
+      ];
+  near = index.near;
+  own = index.own;
+  fresh = λ near octets after from few. fresh near octets after (omega (arith, from)) few;
+}

@@ -2,9 +2,9 @@ pub mod Rows
 pub mod Reading
 pub mod Walking
 pub mod Writing
-pub mod Endings
 pub mod Kept
 pub mod Longest
+pub mod Pending
 pub mod Putting
 pub mod Reversing
 pub mod Items

@@ -1,30 +1,14 @@
 -- The longest end of a name that stands already.
-use Rattle.std.proofs.Common.{◌≡◌, ◌⊎◌, ℕ, zero, suc, ◌+◌, ◌-◌, ◌≤◌, ◌<◌, true, List, [], ◌∷◌, ◌++◌, length, drop, Option, Some, None, refl, sym, ap, subst, ◌∙◌, arith, inl, inr, slice_index_or, nat_lt, bytes_eq, append-nil, length-drop}
+use Rattle.std.proofs.Common.{◌≡◌, ◌⊎◌, ℕ, zero, suc, ◌+◌, ◌≤◌, ◌<◌, true, List, [], ◌∷◌, ◌++◌, length, drop, Option, Some, None, unwrap_or, refl, sym, ap, subst, ◌∙◌, arith, inl, inr, slice_index_or, nat_lt, bytes_eq, append-nil, length-drop}
 use Rattle.std.proofs.lemmas.Bool.{cases_Bool, ltb-true, ltb-false}
 use Rattle.std.proofs.lemmas.Slice.Eq.{bytes_eq-Decides}
 use Rattle.dns_names.specs.Prelude.{behind, Start, found, with_start, skipped, Ends, EndsAt, IsLongest}
-use Rattle.dns_names.specs.Longest.{IsKept, IsClosed, IsBound, edge_by}
+use Rattle.dns_names.specs.Longest.{IsKept, IsClosed, edge_by}
+use Rattle.dns_names.specs.Writers.{after_in}
 use Rattle.dns_names.proofs.Walking.{chosen}
-use Rattle.dns_names.proofs.Kept.{found-push}
+use Rattle.dns_names.proofs.Kept.{found-more, found-push}
 
 -- ---- labels that are skipped
-
-skipped-suc : (n : ℕ) (octets : List ℕ) → skipped (suc n) octets ≡ behind (skipped n octets)
-skipped-suc zero octets = refl
-skipped-suc (suc n) octets = skipped-suc n (behind octets)
-
-pub skipped-more : (n : ℕ) (octets : List ℕ) → skipped (n + 1) octets ≡ behind (skipped n octets)
-skipped-more n octets =
-    let more : n + 1 ≡ suc n = omega arith in
-    ap (λ (m : ℕ). skipped m octets) more ∙ skipped-suc n octets
-
-pub skipped-add : (n k : ℕ) (octets : List ℕ) → skipped k (skipped n octets) ≡ skipped (n + k) octets
-skipped-add zero k octets =
-    let same : k ≡ 0 + k = omega arith in
-    ap (λ (m : ℕ). skipped m octets) same
-skipped-add (suc n) k octets =
-    let more : suc (n + k) ≡ suc n + k = omega arith in
-    skipped-add n k (behind octets) ∙ ap (λ (m : ℕ). skipped m octets) more
 
 pub empty : (octets : List ℕ) → length octets < 1 → octets ≡ []
 empty [] few = refl
@@ -34,78 +18,73 @@ pub behind-shorter : (octets : List ℕ) → 1 ≤ length octets → length (beh
 behind-shorter [] some = absurd (omega arith)
 behind-shorter (count ∷ rest) some = omega (arith, length-drop count rest)
 
-skipped-none : (n : ℕ) → skipped n [] ≡ []
-skipped-none zero = refl
-skipped-none (suc n) = skipped-none n
-
-pub skipped-nil : (n k : ℕ) (octets : List ℕ) → n ≤ k → skipped n octets ≡ [] → skipped k octets ≡ []
-skipped-nil n k octets le e =
-    let whole : n + (k - n) ≡ k = omega (arith, le) in
-    sym (ap (λ (m : ℕ). skipped m octets) whole) ∙ sym (skipped-add n (k - n) octets) ∙ ap (skipped (k - n)) e ∙ skipped-none (k - n)
-
 pub skipped-all : (n : ℕ) (octets : List ℕ) → length octets ≤ n → skipped n octets ≡ []
 skipped-all zero [] le = refl
 skipped-all zero (x ∷ octets) le = absurd (omega (arith, le))
 skipped-all (suc n) [] le = skipped-all n [] (omega arith)
 skipped-all (suc n) (count ∷ rest) le = skipped-all n (drop count rest) (omega (arith, le, length-drop count rest))
 
-skipped-shorter : (n : ℕ) (octets : List ℕ) → length (skipped n octets) ≤ length octets
-skipped-shorter zero octets = omega arith
-skipped-shorter (suc n) [] = skipped-shorter n []
-skipped-shorter (suc n) (count ∷ rest) = omega (arith, skipped-shorter n (drop count rest), length-drop count rest)
+-- ---- a name is gone through from its end
 
-no-end-in : (rest edge : List ℕ) → length rest ≤ length edge → (rest ≡ edge → ⊥) → (n : ℕ) → skipped n rest ≡ edge → ⊥
-no-end-in rest edge le off zero e = off e
-no-end-in [] edge le off (suc n) e = off (sym (skipped-none (suc n)) ∙ e)
-no-end-in (count ∷ rest) edge le off (suc n) e = omega (arith, le, ap length e, skipped-shorter n (drop count rest), length-drop count rest)
+pub longest-here : (starts : List Start) (name : List ℕ) (place : ℕ) → 1 ≤ length name → found starts name ≡ Some place → IsLongest starts name 0 (Some place)
+longest-here starts name place some e = record { new = λ n lt. absurd (omega (arith, lt)); some = λ n lt _. absurd (omega (arith, lt)); ends = (some, e) }
 
--- no end over more labels is the edge either, where none over fewer is as short
-pub no-end : (name edge rest : List ℕ) (count : ℕ) → rest ≡ skipped count name → length rest ≤ length edge → (rest ≡ edge → ⊥) → ((n : ℕ) → n < count → length edge < length (skipped n name)) → (n : ℕ) → skipped n name ≡ edge → ⊥
-no-end name edge rest count is le off long n e =
-    elim (cases_Bool (nat_lt n count)) [
-      | inl t ↦ omega (arith, long n (ltb-true _ _ t), ap length e)
-      | inr f ↦
-          let past : count ≤ n = ltb-false _ _ f in
-          let whole : count + (n - count) ≡ n = omega (arith, past) in
-          no-end-in rest edge le off (n - count) (ap (skipped (n - count)) is ∙ skipped-add count (n - count) name ∙ ap (λ (m : ℕ). skipped m name) whole ∙ e)
-    ]
+pub longest-one : (starts : List Start) (name : List ℕ) (place : Option ℕ) → 1 ≤ length name → IsLongest starts (behind name) 0 place → found starts name ≡ None → IsLongest starts name 1 place
+longest-one starts name place some is none = record {
+  new = first;
+  some = λ n lt e. absurd (omega (arith, some, ap length (let zero_is : n ≡ 0 = omega (arith, lt) in subst (λ (m : ℕ). skipped m name ≡ []) zero_is e)));
+  ends = is.ends;
+}
+  where
+    first : (n : ℕ) → n < 1 → (skipped n name ≡ []) ⊎ (found starts (skipped n name) ≡ None)
+    first zero lt = inr none
+    first (suc n) lt = absurd (omega (arith, lt))
 
--- ---- what stands before an end that isn't kept isn't kept either
+-- what isn't written with its first label isn't written, unless it is the edge
+pub longest-more : (starts : List Start) (edge name : List ℕ) (limit count : ℕ) (place : Option ℕ) → 1 ≤ length name → IsClosed starts edge limit → (name ≡ edge → ⊥) → 1 ≤ count → 1 ≤ length (behind name)
+    → IsLongest starts (behind name) count place → IsLongest starts name (count + 1) place
+longest-more starts edge name limit count place some closed off more deep is =
+    let one_more : count + 1 ≡ suc count = omega arith in
+    record {
+      new = λ n lt. new n (omega (arith, lt));
+      some = λ n lt e. ends_nowhere n (omega (arith, lt)) e;
+      ends = subst (λ (m : ℕ). EndsAt starts (skipped m name) place) (sym one_more) is.ends;
+    }
+  where
+    rest_new : found starts (behind name) ≡ None
+    rest_new =
+        elim (is.new 0 more) [
+          | inl none ↦ absurd (omega (arith, deep, ap length none))
+          | inr none ↦ none
+        ]
 
-module _ (starts : List Start) (edge name : List ℕ) (limit total : ℕ) (end : Option ℕ) (closed : IsClosed starts edge limit) (bound : IsBound starts edge name total end) where
-  new-before : (k n : ℕ) → n + k < total → (skipped (n + k) name ≡ [] → ⊥) → found starts (skipped (n + k) name) ≡ None → found starts (skipped n name) ≡ None
-  new-before zero n lt some none =
-      let same : n + 0 ≡ n = omega arith in
-      subst (λ (m : ℕ). found starts (skipped m name) ≡ None) same none
-  new-before (suc k) n lt some none =
-      let same : n + suc k ≡ n + 1 + k = omega arith in
-      let next = new-before k (n + 1) (omega (arith, lt)) (subst (λ (m : ℕ). skipped m name ≡ [] → ⊥) same some) (subst (λ (m : ℕ). found starts (skipped m name) ≡ None) same none) in
-      by_found (found starts (skipped n name)) refl next
-    where
-      by_found : (o : Option ℕ) → found starts (skipped n name) ≡ o → found starts (skipped (n + 1) name) ≡ None → found starts (skipped n name) ≡ None
-      by_found None e next = e
-      by_found (Some place) e next =
-          absurd (
-          elim (closed.closed (skipped n name) (place, e)) [
-            | inl same ↦ some (skipped-nil n (n + suc k) name (omega arith) (same ∙ bound.off n (omega (arith, lt)) same))
-            | inr ends ↦
-                elim ends [
-                  | inl end ↦ some (skipped-nil (n + 1) (n + suc k) name (omega arith) (skipped-more n name ∙ end))
-                  | inr kept ↦
-                      let q : Some kept.0 ≡ None = sym kept.1 ∙ ap (found starts) (sym (skipped-more n name)) ∙ next in
-                      cc
-                ]
-          ]
-          )
+    name_new : (o : Option ℕ) → found starts name ≡ o → found starts name ≡ None
+    name_new None e = e
+    name_new (Some at) e =
+        absurd (
+        elim (closed.closed name (at, e)) [
+          | inl same ↦ off same
+          | inr ends ↦
+              elim ends [
+                | inl none ↦ omega (arith, deep, ap length none)
+                | inr kept ↦ let h : None ≡ Some kept.0 = sym rest_new ∙ kept.1 in cc
+              ]
+        ]
+        )
 
-  pub longest-is : (passed count : ℕ) (place : Option ℕ) → passed + count ≤ total → count ≤ 1 → 1 ≤ count → (skipped passed name ≡ [] → ⊥) → found starts (skipped passed name) ≡ None → EndsAt starts (skipped (passed + count) name) place → IsLongest starts name (passed + count) place
-  longest-is passed count place within one first some none ends = record {
-    new = λ n lt.
-        let back : passed ≡ n + (passed - n) = omega (arith, lt, one) in
-        inr (new-before (passed - n) n (omega (arith, back, within, first)) (subst (λ (m : ℕ). skipped m name ≡ [] → ⊥) back some) (subst (λ (m : ℕ). found starts (skipped m name) ≡ None) back none));
-    some = λ n lt e. absurd (some (skipped-nil n passed name (omega (arith, lt, one)) e));
-    ends = ends;
-  }
+    new : (n : ℕ) → n < suc count → (skipped n name ≡ []) ⊎ (found starts (skipped n name) ≡ None)
+    new zero lt = inr (name_new (found starts name) refl)
+    new (suc n) lt = is.new n (omega (arith, lt))
+
+    ends_nowhere : (n : ℕ) → n < suc count → skipped n name ≡ [] → place ≡ None
+    ends_nowhere zero lt e = absurd (omega (arith, some, ap length e))
+    ends_nowhere (suc n) lt e = is.some n (omega (arith, lt)) e
+
+-- what stands for the place of what is written already, or is nothing
+pub ends-after : (starts : List Start) (octets : List ℕ) (place : Option ℕ) → EndsAt starts octets place → after_in starts octets ≡ Some (unwrap_or place 65535)
+ends-after starts octets None e = rw e refl
+ends-after starts [] (Some place) e = absurd (omega (arith, e.0))
+ends-after starts (x ∷ xs) (Some place) e = e.1
 
 -- ---- a name is gone through, label by label
 
@@ -148,14 +127,6 @@ ends-at starts octets (Some place) e = inr (place, e.1)
 
 -- ---- a label more is kept
 
-found-more : (starts more : List Start) (octets : List ℕ) (place : ℕ) → found starts octets ≡ Some place → found (starts ++ more) octets ≡ Some place
-found-more [] more octets place e = absurd cc
-found-more (s ∷ starts) more octets place e =
-    elim (cases_Bool (bytes_eq s.octets octets)) [
-      | inl t ↦ rw t (rw t at e)
-      | inr f ↦ rw f (found-more starts more octets place (rw f at e))
-    ]
-
 kept-more : (starts more : List Start) (octets : List ℕ) → IsKept starts octets → IsKept (starts ++ more) octets
 kept-more starts more octets kept = (kept.0, found-more starts more octets kept.0 kept.1)
 
@@ -180,6 +151,18 @@ pub record Closing (starts : List Start) (edge left : List ℕ) (limit : ℕ) : 
   pub closed : (octets : List ℕ) → IsKept starts octets → (octets ≡ edge) ⊎ (Ends starts (behind octets) ⊎ ((behind octets ≡ left) × (limit < 16384)))
   pub kept : Ends starts edge
   pub near : limit < 16384 → edge ≡ []
+
+-- a name begins
+pub closing-first : (starts : List Start) (edge left : List ℕ) (limit : ℕ) → IsClosed starts edge limit → Closing starts edge left limit
+closing-first starts edge left limit is = record {
+  closed = λ o kept.
+      elim (is.closed o kept) [
+        | inl same ↦ inl same
+        | inr ends ↦ inr (inl ends)
+      ];
+  kept = is.kept;
+  near = is.near;
+}
 
 pub closing-ends : (starts : List Start) (edge left : List ℕ) (limit later : ℕ) → Closing starts edge left limit → Ends starts left → limit ≤ later → IsClosed starts edge later
 closing-ends starts edge left limit later is end le = record {

@@ -139,6 +139,11 @@ module _ (known : List Start) (labels : List (List ℕ)) (out0 : List ℕ) where
       let n : 1 + count ≡ suc count = omega arith in
       rw n (Puts-label count more out now p (Left-new (count ∷ more) out now p e))
 
+-- what ends a name is at least one octet
+pub ending-some : (place : Option ℕ) → 1 ≤ length (ending place)
+ending-some None = omega arith
+ending-some (Some place) = omega arith
+
 pub put_name-is : (o0 o1 : List ℕ) (s0 s1 : List Start) (ls : List (List ℕ)) → o1 ≡ o0 ++ Added.octets (spell s0 (length o0) ls) → s1 ≡ s0 ++ Added.starts (spell s0 (length o0) ls)
     → record { octets = o1; starts = s1 } ≡ put_name (record { octets = o0; starts = s0 }) ls
 put_name-is o0 o1 s0 s1 ls eo es = rw (eo, es) refl

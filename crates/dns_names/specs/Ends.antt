@@ -1,22 +1,15 @@
--- The order of the ends of names.
-use Rattle.std.specs.Prelude.{ℕ, ◌+◌, ◌*◌, List, [], ◌∷◌, ◌++◌, length, reverse, take, drop}
-use Rattle.std.specs.Ordering.{nat_cmp}
-use Rattle.std.specs.declared.cmp.Ordering.{Ordering}
-use Rattle.std.specs.Cmp.Lexicographic.{slice_cmp}
+-- What a written suffix is looked up by.
+use Rattle.std.specs.Prelude.{ℕ, List, [], ◌∷◌, take}
+use Rattle.dns_names.specs.declared.suffix.Suffix.{Suffix}
 
--- the octets from the ninth on, and the first eight behind them
-abbrev pub turned : List ℕ → List ℕ
-turned octets = drop 8 octets ++ take 8 octets
+-- the first label, behind its length
+abbrev pub first_label : List ℕ → List ℕ
+first_label [] = []
+first_label (count ∷ rest) = count ∷ take count rest
 
--- what octets are compared by: their number, then the eighth octet back to the first, then the last back to the ninth
-abbrev pub key_of : List ℕ → List ℕ
-key_of octets = length octets ∷ reverse (turned octets)
+-- what an end is compared by: where the labels behind its first one stand, and that label
+abbrev pub key_of : ℕ → List ℕ → List ℕ
+key_of behind octets = behind ∷ first_label octets
 
--- fewer octets come first; among equally many the first difference in the order of `key_of` decides, and the lower octet comes first
-abbrev pub end_cmp : List ℕ → List ℕ → Ordering
-end_cmp a b = slice_cmp nat_cmp (key_of a) (key_of b)
-
--- octets as a number, in which the last one has the greatest weight
-abbrev pub worth : List ℕ → ℕ
-worth [] = 0
-worth (octet ∷ octets) = octet + 256 * worth octets
+abbrev pub key : Suffix → List ℕ
+key s = key_of s.behind s.octets.now

@@ -10,4 +10,5 @@ pub mod Longest
 pub mod Texts
 pub mod Reverse
 pub mod Octets
+pub mod Met
 pub mod Prelude

@@ -1,6 +1,7 @@
 -- The longest suffix of a name that was written already.
 use Rattle.std.specs.Prelude.{◌≡◌, ◌⊎◌, ℕ, zero, suc, ◌<◌, ◌≤◌, nat_lt, if◌then◌else◌, List, [], ◌∷◌, length, Option, Some, None}
 use Rattle.dns_names.specs.Octets.{behind}
+use Rattle.dns_names.specs.declared.ending.Edge.{Edge}
 use Rattle.dns_names.specs.Spelling.{Start, found, pointer}
 
 -- octets without so many labels at the front
@@ -23,24 +24,10 @@ pub record IsClosed (starts : List Start) (edge : List ℕ) (limit : ℕ) : Type
   pub kept : Ends starts edge
   pub near : limit < 16384 → edge ≡ []
 
--- the name doesn't end with the edge, whatever labels are skipped
-abbrev pub IsNoEnd : List ℕ → List ℕ → Type 0
-IsNoEnd edge name = (n : ℕ) → skipped n name ≡ edge → ⊥
-
--- so many labels stand before the edge
-pub record IsBefore (edge name : List ℕ) (count : ℕ) : Type 0 where
-  pub off : (n : ℕ) → n < count → skipped n name ≡ edge → ⊥
-  pub is : skipped count name ≡ edge
-
 -- nothing is left, or what is left stands at this place
 abbrev pub EndsAt : List Start → List ℕ → Option ℕ → Type 0
 EndsAt starts octets None = octets ≡ []
 EndsAt starts octets (Some place) = (1 ≤ length octets) × (found starts octets ≡ Some place)
-
--- behind so many labels nothing is left, or what is left stands at this place; the edge, unless it is empty, isn't met before
-pub record IsBound (starts : List Start) (edge name : List ℕ) (count : ℕ) (place : Option ℕ) : Type 0 where
-  pub off : (n : ℕ) → n < count → skipped n name ≡ edge → edge ≡ []
-  pub ends : EndsAt starts (skipped count name) place
 
 -- Nothing that is left behind fewer labels is kept. What is left behind so many stands at this place. Without a place nothing is left,
 -- perhaps already behind fewer labels.
@@ -48,6 +35,10 @@ pub record IsLongest (starts : List Start) (name : List ℕ) (count : ℕ) (plac
   pub new : (n : ℕ) → n < count → (skipped n name ≡ []) ⊎ (found starts (skipped n name) ≡ None)
   pub some : (n : ℕ) → n < count → skipped n name ≡ [] → place ≡ None
   pub ends : EndsAt starts (skipped count name) place
+
+-- the edge stands at its place, or there is none
+abbrev pub IsEdge : List Start → Edge → Type 0
+IsEdge starts edge = (edge.octets.now ≡ []) ⊎ (found starts edge.octets.now ≡ Some edge.place)
 
 -- the edge after the label that begins these octets was written from a place to an end
 abbrev pub edge_by : List ℕ → List ℕ → ℕ → ℕ → List ℕ

@@ -11,8 +11,8 @@ octets_of kept k = take k.count (drop k.from kept)
 -- what is known at the place of a piece, by what is known behind it, where the kept octets of both end here
 abbrev pub known_by : Piece → ℕ → ℕ → Known → Known
 known_by Root place end k = k
-known_by (Label octets) place end k = record { from = end - (k.count + 1 + length octets); start = k.start; after = k.after; count = k.count + 1 + length octets }
-known_by (Pointer to) place end k = record { from = k.from; start = to + 1; after = place + 2; count = k.count }
+known_by (Label octets) place end k = record { from = end - (k.count + 1 + length octets); start = k.start; after = k.after; label = place; count = k.count + 1 + length octets }
+known_by (Pointer to) place end k = record { from = k.from; start = to + 1; after = place + 2; label = k.label; count = k.count }
 known_by Nothing place end k = k
 
 -- These labels stand at the place, in names that start so high, and in no others, and their octets are kept.
@@ -28,7 +28,7 @@ Knows message kept place k = (labels : List (List ℕ)) × Says message kept pla
 
 -- nothing is known
 abbrev pub unknown : Known
-unknown = record { from = 0; start = 0; after = 0; count = 0 }
+unknown = record { from = 0; start = 0; after = 0; label = 0; count = 0 }
 
 -- what a table says of a place
 abbrev pub known_there : List Known → ℕ → Known

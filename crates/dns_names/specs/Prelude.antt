@@ -3,7 +3,7 @@ pub use Rattle.dns_names.specs.Names.{AtLabel, AtPointer, AtRoot, IsLabel, IsNam
 pub use Rattle.dns_names.specs.Walk.{name_at}
 pub use Rattle.dns_names.specs.Memo.{AreKnown, Here, IsMemo, Joins, Knows, Leads, Trail, known_by, octets_of}
 pub use Rattle.dns_names.specs.Stops.{Fails, ReturnsRead}
-pub use Rattle.dns_names.specs.Ends.{end_cmp, key_of, turned, worth}
+pub use Rattle.dns_names.specs.Ends.{first_label, key, key_of}
 pub use Rattle.dns_names.specs.Spelling.{Added, BeginsWith, Start, Text, add, found, pointer, put_name, spell, spell_by, with_start}
 pub use Rattle.dns_names.specs.Writers.{GrewBy, IsIndex, starts_in}
 pub use Rattle.dns_names.specs.Longest.{Ends, EndsAt, IsLongest, skipped}

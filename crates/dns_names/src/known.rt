@@ -6,12 +6,14 @@ ghost use Rattle.dns_names.specs.Memo.{known_by, Knows, AreKnown};
 use crate::piece::{PieceAt, piece_at};
 
 /// What was read from a place on: where the octets of the labels there begin among those that were kept, how many they are,
-/// the least start of a name that may end with them, and the place after them, which is 0 where nothing was read yet.
+/// the least start of a name that may end with them, the place after them, which is 0 where nothing was read yet, and the place of
+/// the first label.
 #[derive(Clone, Copy)]
 pub struct Known {
     pub(crate) from: usize,
     pub(crate) start: u16,
     pub(crate) after: u16,
+    pub(crate) label: u16,
     pub(crate) count: u8,
 }
 
@@ -20,6 +22,7 @@ pub(crate) const UNKNOWN: Known = Known {
     from: 0,
     start: 0,
     after: 0,
+    label: 0,
     count: 0,
 };
 
@@ -69,6 +72,7 @@ pub(crate) fn before(message: &[u8], place: usize, behind: Known, end: usize) ->
                 from: end - count,
                 start: behind.start,
                 after: behind.after,
+                label: place as u16,
                 count: count as u8,
             }
         }
@@ -76,6 +80,7 @@ pub(crate) fn before(message: &[u8], place: usize, behind: Known, end: usize) ->
             from: behind.from,
             start: (to + 1) as u16,
             after: (place + 2) as u16,
+            label: behind.label,
             count: behind.count,
         },
         _ => behind,

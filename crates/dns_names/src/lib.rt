@@ -6,6 +6,7 @@ mod ending;
 mod known;
 mod laws;
 mod memo;
+mod met;
 mod name;
 mod piece;
 mod reader;
@@ -13,6 +14,7 @@ mod reverse;
 mod stop;
 mod suffix;
 mod walk;
+mod way;
 mod writer;
 
 pub use laws::{found_is_lowest, names_read_back, one_name};

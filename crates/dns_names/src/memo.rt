@@ -7,6 +7,7 @@ use crate::known::{Known, UNKNOWN, before, put};
 use crate::name::Name;
 use crate::stop::NameStop;
 use crate::walk::walk;
+use crate::way::Way;
 use gate_base::OutOfMemory;
 use std::alloc::{AllocError, Global};
 
@@ -65,8 +66,17 @@ fn keep_end(
     Ok(())
 }
 
+/// Notes a place if a label stands there. Where memory runs out, a hint is missing.
+fn note(labels: &mut Vec<u16>, message: &[u8], place: u16) {
+    if let Some(octet) = message.get(place as usize)
+        && *octet < 64
+    {
+        let _ = labels.push(place);
+    }
+}
+
 /// What is known at a place from which a name is read. The same is put down for the places on its way.
-fn find(message: &[u8], memo: &mut Memo, place: usize) -> Result<Known, NameStop>
+fn find(message: &[u8], memo: &mut Memo, place: usize, way: &mut Way) -> Result<Known, NameStop>
     requires { IsMemo message.now memo.old }
     ensures memo { IsMemo message.now memo.new }
     ensures found { IfOk result (λ k. Here message.now memo.new.kept.items place k) }
@@ -77,11 +87,13 @@ fn find(message: &[u8], memo: &mut Memo, place: usize) -> Result<Known, NameStop
 {
     let base = memo.kept.len();
     let mut known = walk(message, &memo.known, &mut memo.path, &mut memo.kept, place)?;
+    way.joined = known.label;
     keep_end(&mut memo.kept, &mut memo.room, base, known)?;
     let end = memo.kept.len();
     'back: while let Some(at) = memo.path.pop() {
         known = before(message, at as usize, known, end);
         put(&mut memo.known, at as usize, known);
+        note(&mut way.new, message, at);
     }
     Ok(known)
 }
@@ -101,8 +113,9 @@ pub(crate) fn read_on(
         → NameAt message.now place labels after
         → ⊥ }
 {
-    let known = find(message, memo, place)?;
+    let mut way = Way::short(alloc);
+    let known = find(message, memo, place, &mut way)?;
     let end = known.from + known.count as usize;
     let octets = Vec::from_slice(alloc, &memo.kept[known.from..end])?;
-    Ok((Name { octets }, known.after as usize))
+    Ok((Name { octets, way }, known.after as usize))
 }

@@ -6,6 +6,7 @@ ghost use Rattle.dns_names.specs.Stops.{ReturnsRead};
 
 use crate::piece::{PieceAt, piece_at};
 use crate::stop::NameStop;
+use crate::way::Way;
 use gate_base::OutOfMemory;
 use std::alloc::Global;
 use std::marker::Model;
@@ -15,6 +16,7 @@ use std::marker::Model;
 #[derive(Drop)]
 pub struct Name {
     pub(crate) octets: Vec<u8>,
+    pub(crate) way: Way,
 }
 
 impl Model for Name {
@@ -44,8 +46,9 @@ impl Name {
         ensures same { IfOk result (λ name. name ≡ self.now) }
         ensures name { IsName self.now }
     {
+        let way = Way::short(alloc);
         let octets = Vec::from_slice(alloc, &self.octets)?;
-        Ok(Name { octets })
+        Ok(Name { octets, way })
     }
 }
 
@@ -64,6 +67,7 @@ pub(crate) fn name_of(
         → NameAt message.now place labels after
         → ⊥ }
 {
+    let way = Way::short(alloc);
     let mut octets = Vec::with_capacity(alloc, ROOM)?;
     let mut start = place;
     let mut at = place;
@@ -75,7 +79,7 @@ pub(crate) fn name_of(
             PieceAt::Root => {
                 octets.extend_from_slice(&message[from..at])?;
                 let end = after.unwrap_or(at + 1);
-                return Ok((Name { octets }, end));
+                return Ok((Name { octets, way }, end));
             }
             PieceAt::Label(label) => {
                 let next = at + 1 + label.len();

@@ -6,6 +6,7 @@ ghost use Rattle.dns_names.specs.Memo.{AreKnown, Joins};
 use crate::known::{Known, known_at};
 use crate::piece::{PieceAt, piece_at};
 use crate::stop::NameStop;
+use crate::way::NOWHERE;
 use std::alloc::AllocError;
 
 /// Whether a name may end with what is known at a place, if it has this start there and so many octets before it.
@@ -75,6 +76,7 @@ pub(crate) fn walk(
                     from: 0,
                     start: 0,
                     after: (at + 1) as u16,
+                    label: NOWHERE,
                     count: 0,
                 });
             }

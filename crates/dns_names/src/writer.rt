@@ -1,11 +1,14 @@
 // Names one behind the other, each as short as it can be (RFC 1035, 4.1.4).
-ghost use Rattle.std.specs.Prelude.{◌≡◌, ◌+◌, ◌<◌, ◌≤◌, ◌++◌, ℕ, List, [], length, IfOk, IfSome, OnOk, OnErr, None};
+ghost use Rattle.std.specs.Prelude.{◌≡◌, ◌+◌, ◌<◌, ◌≤◌, ◌++◌, ◌⊎◌, true, false, ℕ, List, [], length, IfOk, IfSome, OnOk, OnErr, Some};
+ghost use Rattle.dns_names.specs.Ends.{key};
 ghost use Rattle.dns_names.specs.Names.{labels_in, IsSpelled};
-ghost use Rattle.dns_names.specs.Spelling.{pointer, with_start, spell};
-ghost use Rattle.dns_names.specs.Longest.{IsClosed, edge_by, ending};
-ghost use Rattle.dns_names.specs.Writers.{starts_in, place_in, GrewBy, IsIndex};
+ghost use Rattle.dns_names.specs.Met.{AreRows};
+ghost use Rattle.dns_names.specs.Spelling.{Start, found, pointer, spell};
+ghost use Rattle.dns_names.specs.Longest.{IsClosed, IsEdge, edge_by, ending};
+ghost use Rattle.dns_names.specs.Writers.{starts_in, place_in, key_at, GrewBy, IsFresh, IsIndex, Remembers};
 
-use crate::ending::longest;
+use crate::ending::{Edge, ROOT, longest};
+use crate::met::{Rows, Steps};
 use crate::name::Name;
 use crate::suffix::Suffix;
 use gate_base::{OutOfMemory, put_u16};
@@ -13,34 +16,59 @@ use std::alloc::AllocError;
 use std::collections::BTreeMap;
 use std::marker::Model;
 
+/// What stands for a place to which no pointer can lead.
+const FAR: u16 = u16::MAX - 1;
+
 /// Keeps the place of a label start, if a pointer can lead there.
 fn remember<'a>(
     places: &mut BTreeMap<Suffix<'a>, u16>,
-    octets: &'a [u8],
+    suffix: Suffix<'a>,
     place: usize,
 ) -> Result<(), AllocError>
-    requires absent { place_in places.old.entries octets.now ≡ None }
-    requires index { IsIndex places.old.entries place }
-    ensures starts { OnOk result (starts_in places.new.entries
-        ≡ starts_in places.old.entries ++ with_start place octets.now []) }
-    ensures kept { OnErr result
-        (starts_in places.new.entries ≡ starts_in places.old.entries) }
-    ensures index { IsIndex places.new.entries (place + 1) }
+    ensures remembers { OnOk result (Remembers suffix.entry place places.old.entries
+        places.new.entries) }
+    ensures kept { OnErr result (places.new.entries ≡ places.old.entries) }
 {
     if place < 16_384 {
-        places.insert(Suffix { octets }, place as u16)?;
+        places.insert(suffix, place as u16)?;
     }
     Ok(())
 }
 
 /// The edge once the label that begins `octets` was written from `place` to `end`.
-fn edge_after<'a>(edge: &'a [u8], octets: &'a [u8], place: usize, end: usize) -> &'a [u8]
-    ensures { result.now ≡ edge_by edge.now octets.now place end }
+fn edge_after<'a>(edge: Edge<'a>, octets: &'a [u8], place: usize, end: usize) -> Edge<'a>
+    ensures by { result.octets.now ≡ edge_by edge.entry.octets.now octets.now place end }
+    ensures edge { (starts : List Start)
+        → IsEdge starts edge.entry
+        → (place < 16384 → found starts octets.now ≡ Some place)
+        → IsEdge starts result }
 {
     if place < 16_384 && end >= 16_384 {
-        octets
+        let place = place as u16;
+        Edge { octets, place }
     } else {
         edge
+    }
+}
+
+/// Whether nothing is to be written of a name of which so many labels, and these octets, are left.
+fn is_end(left: usize, rest: &[u8]) -> bool
+    ensures ends { result ≡ true → (left < 1) ⊎ (length rest.now < 1) }
+    ensures goes_on { result ≡ false → (1 ≤ left) × (1 ≤ length rest.now) }
+{
+    left == 0 || rest.is_empty()
+}
+
+/// What stands for the place of the rest of a name: `end` where that is reached, and else where it is written next.
+fn key_at(is_end: bool, place: usize, end: Option<u16>) -> u16
+    ensures { result ≡ key_at is_end place end }
+{
+    if is_end {
+        end.unwrap_or(ROOT)
+    } else if place < 16_384 {
+        place as u16
+    } else {
+        FAR
     }
 }
 
@@ -75,14 +103,19 @@ fn put_end(out: &mut Vec<u8>, place: Option<u16>) -> Result<(), AllocError>
 #[tactic(auto, using(crate::proofs::Putting::grew_none, crate::proofs::Putting::grew_octets))]
 fn put_labels<'a>(
     places: &mut BTreeMap<Suffix<'a>, u16>,
-    edge: &'a [u8],
+    edge: Edge<'a>,
+    rows: &mut Rows<'a>,
     name: &'a [u8],
+    steps: Steps<'_>,
     out: &mut Vec<u8>,
-) -> Result<&'a [u8], AllocError>
+) -> Result<Edge<'a>, AllocError>
     requires spelled { IsSpelled name.now (labels_in name.now) }
     requires index { IsIndex places.old.entries (length out.old.items) }
-    requires closed { IsClosed (starts_in places.old.entries) edge.now
+    requires fresh { IsFresh places.old.entries (length out.old.items) }
+    requires edge { IsEdge (starts_in places.old.entries) edge }
+    requires closed { IsClosed (starts_in places.old.entries) edge.octets.now
         (length out.old.items) }
+    requires rows { AreRows (starts_in places.old.entries) rows.old }
     ensures octets { OnOk result (out.new.items
         ≡ out.old.items
         ++ (spell (starts_in places.old.entries) (length out.old.items)
@@ -94,20 +127,32 @@ fn put_labels<'a>(
     ensures behind { GrewBy (starts_in places.old.entries) out.old.items
         (starts_in places.new.entries) out.new.items }
     ensures index { IsIndex places.new.entries (length out.new.items) }
-    ensures closed { IfOk result (λ edge. IsClosed (starts_in places.new.entries) edge.now
-        (length out.new.items)) }
+    ensures fresh { OnOk result (IsFresh places.new.entries (length out.new.items)) }
+    ensures edge { IfOk result (λ edge. IsEdge (starts_in places.new.entries) edge) }
+    ensures closed { IfOk result (λ edge. IsClosed (starts_in places.new.entries)
+        edge.octets.now (length out.new.items)) }
+    ensures rows { AreRows (starts_in places.new.entries) rows.new }
 {
-    let (count, end) = longest(places, edge, name);
+    let (count, end) = longest(places, edge, rows, name, steps);
     let mut edge = edge;
     let mut rest = name;
     let mut left = count;
+    let mut steps = steps;
     'labels: while left > 0 && !rest.is_empty() {
         left -= 1;
         let place = out.len();
         let (label, after) = rest.split_at(1 + rest[0] as usize);
         out.extend_from_slice(label)?;
-        remember(places, rest, place)?;
+        let behind = key_at(is_end(left, after), out.len(), end);
+        let suffix = Suffix {
+            octets: rest,
+            behind,
+        };
+        remember(places, suffix, place)?;
+        let next = steps.behind(rows);
+        rows.keep(steps.first(), rest, place, next.first());
         edge = edge_after(edge, rest, place, out.len());
+        steps = next;
         rest = after;
     }
     put_end(out, end)?;
@@ -121,7 +166,8 @@ pub struct NameWriter<'a> {
     octets: Vec<u8>,
     places: BTreeMap<Suffix<'a>, u16>,
     // the suffix behind whose first label the rest may not stand in `places` (`IsClosed`); None after a name that failed
-    edge: Option<&'a [u8]>,
+    edge: Option<Edge<'a>>,
+    rows: Rows<'a>,
 }
 
 impl<'a> Model for NameWriter<'a> {
@@ -130,13 +176,17 @@ impl<'a> Model for NameWriter<'a> {
 
     ghost Value = { Text };
 
-    ghost use Rattle.dns_names.specs.Writers.{starts_in, IsIndex};
-    ghost use Rattle.dns_names.specs.Longest.{IsClosed};
+    ghost use Rattle.dns_names.specs.Met.{AreRows};
+    ghost use Rattle.dns_names.specs.Writers.{starts_in, IsFresh, IsIndex};
+    ghost use Rattle.dns_names.specs.Longest.{IsClosed, IsEdge};
 
     ghost view = { λ w. record { octets = w.octets.items; starts = starts_in w.places.entries } };
 
     ghost invariant = { λ w. IsIndex w.places.entries (length w.octets.items)
-        × IfSome w.edge (λ edge. IsClosed (starts_in w.places.entries) edge.now
+        × AreRows (starts_in w.places.entries) w.rows
+        × IfSome w.edge (λ edge. IsFresh w.places.entries (length w.octets.items)
+        × IsEdge (starts_in w.places.entries) edge
+        × IsClosed (starts_in w.places.entries) edge.octets.now
         (length w.octets.items)) };
 }
 
@@ -151,11 +201,15 @@ impl<'a> NameWriter<'a> {
         requires { target.items ≡ [] }
         ensures { IfOk result (λ writer. writer ≡ nothing) }
     {
-        let places = BTreeMap::new(*target.allocator());
+        let alloc = *target.allocator();
         Ok(NameWriter {
             octets: target,
-            places,
-            edge: Some(&[]),
+            places: BTreeMap::new(alloc),
+            edge: Some(Edge {
+                octets: &[],
+                place: 0,
+            }),
+            rows: Rows::new(alloc),
         })
     }
 
@@ -187,7 +241,15 @@ impl<'a> NameWriter<'a> {
         let Some(edge) = self.edge.take() else {
             return Err(OutOfMemory);
         };
-        let edge = put_labels(&mut self.places, edge, octets, &mut self.octets)?;
+        let steps = Steps::of(&name.way);
+        let edge = put_labels(
+            &mut self.places,
+            edge,
+            &mut self.rows,
+            octets,
+            steps,
+            &mut self.octets,
+        )?;
         self.edge = Some(edge);
         Ok(())
     }

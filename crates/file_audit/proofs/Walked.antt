@@ -27,7 +27,7 @@ use Rattle.file_audit.specs.declared.line.LineHead.{LineHead}
 use Rattle.file_audit.specs.declared.stop.AuditStop.{AuditStop}
 use Rattle.file_audit.specs.declared.stop.AuditStop.TheVariants as stops
 use Rattle.file_audit.specs.Given.{ReadsGiven, TookFiles, given_told, Alike, IfBoth}
-use Rattle.file_audit.specs.Events.{Expected, IsExpecting, state_of, IsLawfulWith, IsReasonAt, IsReadInAudit, MayWantFor, WantsAt, TookFew, Finds, FindsAt, FindsLast, FoundLawful, stop_of}
+use Rattle.file_audit.specs.Events.{Expected, IsExpecting, state_of, IsLawfulWith, IsReasonAt, IsReadInAudit, MayWantFor, WantsAt, IsLawfulFront, TookFew, Finds, FindsAt, FindsLast, FoundLawful, stop_of}
 use Rattle.gate_audit.specs.Auditing.{Auditing}
 use Rattle.file_audit.proofs.Alikes.{alike_same, alike_join, any}
 use Rattle.file_audit.proofs.Wanting.{given_still}
@@ -215,16 +215,37 @@ finds_expect settings m0 m m' r0 r joiner s e old now mid h came w =
     inr (subst (λ o. IfBoth o (given_told r0 old.left) (WantsAt settings)) (sym (h.others ∙ ap (option_map (front_of h.done)) came.events))
     (wants-of settings s h.done joiner e (ahead m' mid.left) (given_told r0 old.left) (given_told r now.left) h.held h.came w))
 
-front_is : (done : List Event) (o : Option Merged) → IfSome (option_map (front_of done) o) (λ all. (others : List Event) × (all.events ≡ done ++ others))
-front_is done None = tt
-front_is done (Some x) = (x.events, refl)
+lawful_front : (settings : Settings) (s : State) (done : List Event) (o : Option Merged) (p q : Option Given)
+    → Alike (λ g left. CameTo settings (opening settings) g (arrivals_of settings.join done) s left) p q
+    → IfBoth (option_map (front_of done) o) p (λ all g. IsLawfulFront settings all g done)
+lawful_front settings s done None p q h = tt
+lawful_front settings s done (Some x) None q h = tt
+lawful_front settings s done (Some x) (Some g) None h = absurd h
+lawful_front settings s done (Some x) (Some g) (Some left) h = record { others = x.events; split = refl; state = s; left = left; came = h }
+
+-- for none of them
+pub lawful_none : (settings : Settings) (o : Option Merged) (p : Option Given) → IfBoth o p (λ all g. IsLawfulFront settings all g [])
+lawful_none settings None p = tt
+lawful_none settings (Some x) None = tt
+lawful_none settings (Some x) (Some g) =
+    record {
+      others = x.events;
+      split = refl;
+      state = opening settings;
+      left = g;
+      came =
+          subst (λ (xs : List Arrival). CameTo settings (opening settings) g xs (opening settings) g) (sym (arrivals-none settings.join)) (refl, refl);
+    }
 
 -- so much was taken of the incoming captures
-pub took_few : (settings : Settings) (m0 m : Merging) (r0 r : GivenFiles) (old now new : Outside) (joiner : Joined) (s : State) → (h : Walked settings m0 m r0 r old now joiner s) → ((start : Outside) → HasGiven start m now h.done → TakenFor h.done start new) → TookFiles old new → TookFew m0 old new
+pub took_few : (settings : Settings) (m0 m : Merging) (r0 r : GivenFiles) (old now new : Outside) (joiner : Joined) (s : State)
+    → (h : Walked settings m0 m r0 r old now joiner s) → ((start : Outside) → HasGiven start m now h.done → TakenFor h.done start new)
+    → TookFiles old new → TookFew settings m0 r0 old new
 took_few settings m0 m r0 r old now new joiner s h few files = record {
   handled = h.done;
   few = λ start g. few start (h.given start g);
-  front = subst (λ o. IfSome o (λ all. (others : List Event) × (all.events ≡ h.done ++ others))) (sym h.others) (front_is h.done (ahead m now.left));
+  front = subst (λ o. IfBoth o (given_told r0 old.left) (λ all g. IsLawfulFront settings all g h.done)) (sym h.others)
+      (lawful_front settings s h.done (ahead m now.left) (given_told r0 old.left) (given_told r now.left) h.came);
   files = files;
 }
 

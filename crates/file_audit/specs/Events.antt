@@ -134,11 +134,21 @@ Finds (Err (stops.Capture side fault place)) settings m r old new =
 Finds (Err (stops.Desk slot)) settings m r old new = IsReadInAudit slot × HasFailed slot old new
 Finds (Err stops.OutOfMemory) settings m r old new = (settings.json ≡ true) ⊎ IfBoth (ahead m old.left) (given_told r old.left) (WantsAt settings)
 
--- of each incoming capture no more whole records were taken than those of the first events, and one more, and it was read no further than a capture may be and the head of a record; and of slots but these and those of the given files nothing was taken
-pub record TookFew (m : Merging) (old new : Outside) : Type 0 where
+-- these are the first of the events, and the given files are lawful for them
+pub record IsLawfulFront (settings : Settings) (all : Merged) (g : Given) (handled : List Event) : Type 0 where
+  pub others : List Event
+  pub split : all.events ≡ handled ++ others
+  pub state : State
+  pub left : Given
+  pub came : CameTo settings (opening settings) g (arrivals_of settings.join handled) state left
+
+-- of each incoming capture no more whole records were taken than those of first events for which the given files are lawful, and one more,
+-- and it was read no further than a capture may be and the head of a record; and of slots but these and those of the given files nothing
+-- was taken
+pub record TookFew (settings : Settings) (m : Merging) (r : GivenFiles) (old new : Outside) : Type 0 where
   pub handled : List Event
   pub few : (start : Outside) → HasGiven start m old [] → TakenFor handled start new
-  pub front : IfSome (ahead m old.left) (λ all. (others : List Event) × (all.events ≡ handled ++ others))
+  pub front : IfBoth (ahead m old.left) (given_told r old.left) (λ all g. IsLawfulFront settings all g handled)
   pub files : TookFiles old new
 
 -- why an audit stops where its merge does

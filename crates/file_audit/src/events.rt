@@ -47,7 +47,8 @@ pub fn audit_events<D: Desk>(
     requires fits { Fits nothing_counted given.old }
     ensures answer { Finds result auditor.old.settings merge.old given.old
         (D.outside desk.old) (D.outside desk.new) }
-    ensures taken { TookFew merge.old (D.outside desk.old) (D.outside desk.new) }
+    ensures taken { TookFew auditor.old.settings merge.old given.old
+        (D.outside desk.old) (D.outside desk.new) }
     ensures left_end { OnOk result (IsAtEnd (D.outside desk.new) LeftIn) }
     ensures right_end { OnOk result (IsAtEnd (D.outside desk.new) RightIn) }
     ensures starts { (D.outside desk.new).starts ≡ (D.outside desk.old).starts }

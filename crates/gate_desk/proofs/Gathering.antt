@@ -1,8 +1,8 @@
 -- What waits on a slot.
-use Rattle.std.proofs.Common.{◌≡◌, ◌<◌, inl, inr, ℕ, List, [], ◌++◌, Option, Some, None, IfSome, IsSome, Result, Ok, Err, OnOk, OnErr, false, length, refl, sym, ◌∙◌, ap, subst, is_some}
+use Rattle.std.proofs.Common.{◌≡◌, ◌⊎◌, ◌<◌, inl, inr, ℕ, List, [], ◌++◌, Option, Some, None, IfSome, IsSome, Result, Ok, Err, OnOk, OnErr, false, length, refl, sym, ◌∙◌, ap, subst, is_some}
 use Rattle.std.proofs.lemmas.Bool.{false≢true}
 use Rattle.gate_desk.specs.declared.gathered.Gathering.{Gathering}
-use Rattle.gate_desk.specs.declared.gathered.Gathering.TheVariants.{Gathered, NoRoom}
+use Rattle.gate_desk.specs.declared.gathered.Gathering.TheVariants.{Gathered, NoRoom, Refused}
 use Rattle.gate_desk.specs.declared.slot.Slot.{Slot}
 use Rattle.gate_desk.specs.declared.slot.Slot.TheVariants.{Errors}
 use Rattle.gate_desk.specs.declared.slot.PerSlot.{PerSlot}
@@ -61,3 +61,15 @@ none_failed (Err y) refused err none h = absurd (false≢true (subst (λ (o : Op
 pub none_before : (old new : Option Slot) → (IsSome old → new ≡ old) → new ≡ None → old ≡ None
 none_before None new kept none = refl
 none_before (Some slot) new kept none = sym (kept refl) ∙ none
+
+pub some_none : (o : Option Slot) → IsSome o → o ≡ None → ⊥
+some_none o some none = false≢true (subst (λ (p : Option Slot). IsSome p) none some)
+
+-- what wasn't gathered waits nowhere
+pub not_gathered : (s : Slot) (piece : List ℕ) (a b : PerSlot (List ℕ)) (r : Gathering) → b ≡ put a s (gathered_after r piece (at a s))
+    → ((r ≡ NoRoom) ⊎ (r ≡ Refused)) → b ≡ a
+not_gathered s piece a b r e not =
+    elim not [
+      | inl is ↦ e ∙ ap (λ (x : Gathering). put a s (gathered_after x piece (at a s))) is ∙ put-at a s
+      | inr is ↦ e ∙ ap (λ (x : Gathering). put a s (gathered_after x piece (at a s))) is ∙ put-at a s
+    ]

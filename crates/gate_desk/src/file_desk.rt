@@ -141,6 +141,9 @@ fn start_slot<R: Runtime>(
     ensures takes { OnOk result (TakesNothingElse slot
         (got_in R.File.contents places.old) (waiting_in places.old)
         (got_in R.File.contents places.new) (waiting_in places.new)) }
+    ensures fails { OnErr result (refused.new ≡ None → TakesNothing
+        (got_in R.File.contents places.old) (waiting_in places.old)
+        (got_in R.File.contents places.new) (waiting_in places.new)) }
     ensures none { OnOk result (at (waiting_in places.new) slot ≡ []) }
     ensures ahead { ahead_in places.new
         ≡ ahead_after result slot (ahead_in places.old) }
@@ -184,6 +187,9 @@ fn read_slot<R: Runtime>(
     ensures takes { OnOk result (TakesNothing (got_in R.File.contents places.old)
         (waiting_in places.old) (got_in R.File.contents places.new)
         (waiting_in places.new)) }
+    ensures fails { OnErr result (refused.new ≡ None → TakesNothing
+        (got_in R.File.contents places.old) (waiting_in places.old)
+        (got_in R.File.contents places.new) (waiting_in places.new)) }
     ensures hands_out { OnOk result (at (ahead_in places.old) slot ≡ []
         → waiting_in places.new ≡ each []) }
     ensures still { RefusedWaits refused.old (waiting_in places.old)
@@ -221,6 +227,9 @@ fn write_slot<R: Runtime>(
         (got_in R.File.contents places.old) (waiting_in places.old)
         (got_in R.File.contents places.new) (waiting_in places.new)) }
     ensures refused { IsSome refused.old → IsErr result }
+    ensures fails { OnErr result (refused.new ≡ None → TakesNothing
+        (got_in R.File.contents places.old) (waiting_in places.old)
+        (got_in R.File.contents places.new) (waiting_in places.new)) }
     ensures still { RefusedWaits refused.old (waiting_in places.old)
         → RefusedWaits refused.new (waiting_in places.new) }
 {
@@ -256,13 +265,17 @@ fn gather_alone<R: Runtime>(
     ensures takes { OnOk result (TakesPiece slot (first.now ++ second.now)
         (got_in R.File.contents places.old) (waiting_in places.old)
         (got_in R.File.contents places.new) (waiting_in places.new)) }
+    ensures fails { OnErr result (refused.new ≡ None → TakesNothing
+        (got_in R.File.contents places.old) (waiting_in places.old)
+        (got_in R.File.contents places.new) (waiting_in places.new)) }
     ensures still { RefusedWaits refused.old (waiting_in places.old)
         → RefusedWaits refused.new (waiting_in places.new) }
 {
     hand_out(rt, places, refused)?;
     match places.at_mut(slot).gather(first, second) {
         Gathering::Gathered => Ok(()),
-        _ => Err(Failed),
+        Gathering::NoRoom => Err(Failed),
+        Gathering::Refused => Err(Failed),
     }
 }
 
@@ -283,6 +296,9 @@ fn write_errors<R: Runtime>(
         (got_in R.File.contents places.old) (waiting_in places.old)
         (got_in R.File.contents places.new) (waiting_in places.new)) }
     ensures refused { IsSome refused.old → IsErr result }
+    ensures fails { OnErr result (refused.new ≡ None → TakesNothing
+        (got_in R.File.contents places.old) (waiting_in places.old)
+        (got_in R.File.contents places.new) (waiting_in places.new)) }
     ensures still { RefusedWaits refused.old (waiting_in places.old)
         → RefusedWaits refused.new (waiting_in places.new) }
 {
@@ -386,6 +402,9 @@ impl<R: Runtime> Desk for FileDesk<R> {
             ≡ unread_after result slot self.old.unread self.new.unread }
         ensures takes { OnOk result (TakesNothingElse slot self.old.got
             self.old.waiting self.new.got self.new.waiting) }
+        // A call that fails, though the system refused no octets, adds nothing, and loses nothing that waited.
+        ensures fails { OnErr result (self.new.refused ≡ None → TakesNothing self.old.got
+            self.old.waiting self.new.got self.new.waiting) }
         ensures refused { IsSome self.old.refused → IsErr result }
     {
         let started = start_slot(
@@ -432,6 +451,8 @@ impl<R: Runtime> Desk for FileDesk<R> {
             ≡ put self.old.unread slot (at self.new.unread slot) }
         ensures takes { OnOk result (TakesNothing self.old.got self.old.waiting
             self.new.got self.new.waiting) }
+        ensures fails { OnErr result (self.new.refused ≡ None → TakesNothing self.old.got
+            self.old.waiting self.new.got self.new.waiting) }
         ensures hands_out { OnOk result (at self.old.ahead slot ≡ []
             → self.new.waiting ≡ each []) }
         ensures refused { IsSome self.old.refused → IsErr result }
@@ -465,6 +486,8 @@ impl<R: Runtime> Desk for FileDesk<R> {
         ensures waits { OnOk result
             (Waits slot piece.now self.old.waiting self.new.waiting) }
         ensures takes { OnOk result (TakesPiece slot piece.now self.old.got
+            self.old.waiting self.new.got self.new.waiting) }
+        ensures fails { OnErr result (self.new.refused ≡ None → TakesNothing self.old.got
             self.old.waiting self.new.got self.new.waiting) }
         ensures refused { IsSome self.old.refused → IsErr result }
     {
@@ -516,6 +539,8 @@ impl<R: Runtime> Desk for FileDesk<R> {
             (Waits slot (first.now ++ second.now) self.old.waiting self.new.waiting) }
         ensures takes { OnOk result (TakesPiece slot (first.now ++ second.now)
             self.old.got self.old.waiting self.new.got self.new.waiting) }
+        ensures fails { OnErr result (self.new.refused ≡ None → TakesNothing self.old.got
+            self.old.waiting self.new.got self.new.waiting) }
         ensures refused { IsSome self.old.refused → IsErr result }
     {
         let written = write_slot(

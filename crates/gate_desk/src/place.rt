@@ -6,13 +6,16 @@ ghost use Rattle.gate_desk.specs.Gathering.{waiting, got, access_of, ahead, unre
 use crate::gathered::{Gathered, Gathering};
 use crate::{Access, Failed, PerSlot, Slot};
 use std::alloc::Allocator;
-use std::fs::{self, Metadata, OpenFile};
+use std::fs::{self, Metadata, OpenFile, OpenOptions};
 use std::io::{self, BufRead, BufReader, ErrorKind, Read, Write};
 use std::os::unix::fs::MetadataExt;
 use std::rt::Runtime;
 
 /// How many octets of a file are read ahead.
 const READ_AHEAD: usize = 1 << 16;
+
+/// How often in a row a read is tried again that a signal interrupted.
+const MOST_INTERRUPTIONS: u32 = 100;
 
 /// Where a slot leads, and what is gathered on its way there.
 #[derive(Drop)]
@@ -24,39 +27,83 @@ pub enum Place<F: Read + Drop, A: Allocator> {
 }
 
 // Whether this file stands at the place.
-fn is_at<F: Read + OpenFile + Drop, A: Allocator>(file: &Metadata, place: &Place<F, A>) -> bool {
+fn is_at<F: Read + OpenFile + Drop, A: Allocator>(
+    file: &Metadata,
+    place: &Place<F, A>,
+) -> io::Result<bool> {
     let there = match place {
-        Place::Input(reader) => reader.get_ref().metadata(),
-        Place::Output(output, _) => output.metadata(),
-        _ => return false,
+        Place::Input(reader) => reader.get_ref().metadata()?,
+        Place::Output(output, _) => output.metadata()?,
+        _ => return Ok(false),
     };
-    match there {
-        Ok(there) => there.dev() == file.dev() && there.ino() == file.ino(),
-        Err(_) => false,
-    }
+    Ok(there.dev() == file.dev() && there.ino() == file.ino())
 }
 
-// Whether a file of this name stands at some place, by whatever name it was opened.
-fn is_open<R: Runtime>(rt: &R, places: &PerSlot<Place<R::File, R::A>>, name: &str) -> bool {
-    let Ok(file) = fs::metadata(rt, name) else {
-        return false;
-    };
+// Whether this file stands at some place, by whatever name it was opened there.
+fn is_open<F: Read + OpenFile + Drop, A: Allocator>(
+    file: &Metadata,
+    places: &PerSlot<Place<F, A>>,
+) -> io::Result<bool> {
     if !file.is_file() {
-        return false;
+        return Ok(false);
     }
-    is_at(&file, &places.settings)
-        || is_at(&file, &places.left_in)
-        || is_at(&file, &places.right_in)
-        || is_at(&file, &places.left_given)
-        || is_at(&file, &places.right_given)
-        || is_at(&file, &places.report_given)
-        || is_at(&file, &places.left_out)
-        || is_at(&file, &places.right_out)
-        || is_at(&file, &places.report)
+    Ok(
+        is_at(file, &places.settings)?
+            || is_at(file, &places.left_in)?
+            || is_at(file, &places.right_in)?
+            || is_at(file, &places.left_given)?
+            || is_at(file, &places.right_given)?
+            || is_at(file, &places.report_given)?
+            || is_at(file, &places.left_out)?
+            || is_at(file, &places.right_out)?
+            || is_at(file, &places.report)?,
+    )
 }
 
-/// The place of a file of this name. The name `-` of a report is standard output. A file that is open already is not opened
-/// for writing, which would empty it.
+// Opens a file for writing, creates it, or empties it. It is emptied only once it is open and is known to be no file that is open
+// already. So a name that is turned to another file meanwhile loses nothing.
+fn create_unless_open<R: Runtime>(
+    rt: &R,
+    places: &PerSlot<Place<R::File, R::A>>,
+    name: &str,
+) -> io::Result<R::File> {
+    let mut how = OpenOptions::new();
+    how.write(true).create(true);
+    let file = how.open(rt, name)?;
+    let opened = file.metadata()?;
+    if is_open(&opened, places)? {
+        return Err(io::Error::from(ErrorKind::AlreadyExists));
+    }
+    if opened.is_file() {
+        file.set_len(0)?;
+    }
+    Ok(file)
+}
+
+// Fails where standard output is a file that is open already. Where the system has no name for standard output, nothing is known of it.
+fn refuse_open_output<R: Runtime>(
+    rt: &R,
+    places: &PerSlot<Place<R::File, R::A>>,
+) -> io::Result<()> {
+    match fs::metadata(rt, "/dev/stdout") {
+        Ok(file) => {
+            if is_open(&file, places)? {
+                return Err(io::Error::from(ErrorKind::AlreadyExists));
+            }
+            Ok(())
+        }
+        Err(e) => {
+            if e.kind() == ErrorKind::NotFound {
+                return Ok(());
+            }
+            Err(e)
+        }
+    }
+}
+
+/// The place of a file of this name. The name `-` of a report is standard output. A regular file that is open already, by whatever
+/// name, is not written: the error comes before it would be emptied. Neither is one of which the system doesn't tell which file it is, but
+/// for standard output without a name.
 #[inline(never)]
 pub fn open_place<R: Runtime>(
     rt: &R,
@@ -78,12 +125,29 @@ pub fn open_place<R: Runtime>(
         Access::Write => {
             let gathered = Gathered::new(rt.alloc())?;
             if slot == Slot::Report && name == "-" {
+                refuse_open_output(rt, places)?;
                 Ok(Place::StandardOutput(gathered))
-            } else if is_open(rt, places, name) {
-                Err(io::Error::from(ErrorKind::AlreadyExists))
             } else {
-                Ok(Place::Output(fs::create(rt, name)?, gathered))
+                let file = create_unless_open(rt, places, name)?;
+                Ok(Place::Output(file, gathered))
             }
+        }
+    }
+}
+
+// Asks for octets, and again, so often at most, where a signal interrupts that.
+fn read_again<F: Read>(reader: &mut F, buffer: &mut [u8], tries: u32) -> Result<usize, Failed>
+    ensures fits { IfOk result (λ n. n ≤ length buffer.new) }
+    ensures unread { ReadConsumes (F.remaining reader.old) (F.remaining reader.new)
+        result buffer.new }
+{
+    match reader.read(buffer) {
+        Ok(n) => Ok(n),
+        Err(e) => {
+            if e.kind() == ErrorKind::Interrupted && tries > 0 {
+                return read_again(reader, buffer, tries - 1);
+            }
+            Err(Failed)
         }
     }
 }
@@ -158,7 +222,7 @@ impl<F: Read + Drop, A: Allocator> Place<F, A> {
         ensures access { access_of self.new ≡ access_of self.old }
     {
         match self {
-            Place::Input(reader) => reader.read(buffer).map_err(|_: io::Error| Failed),
+            Place::Input(reader) => read_again(reader, buffer, MOST_INTERRUPTIONS),
             _ => Err(Failed),
         }
     }

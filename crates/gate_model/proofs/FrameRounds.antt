@@ -5,13 +5,13 @@ use Rattle.gate_base.specs.declared.event.Pair.{Pair}
 use Rattle.gate_base.specs.declared.host.Host.{Host}
 use Rattle.gate_base.specs.declared.host.Host.TheVariants.{Client, Server}
 use Rattle.gate_base.specs.Prelude.{peer}
-use Rattle.dialogue.specs.Prelude.{Entry, Meaning}
+use Rattle.dialogue.specs.Prelude.{Entry, Meaning, image}
 use Rattle.dialogue.proofs.Alike.{back_alike}
 use Rattle.dns_stream.specs.Prelude.{dns_units}
 use Rattle.stream_model.specs.Prelude.{known, acknowledged_of, Hears, LacksOctets, LacksEnd, Sender, Session, Segment, Outgoing, own, due_in, extent, arrival, place_acknowledged, own_after, other_after, session_next, session_out, is_data, segment_refusal}
 use Rattle.stream_model.proofs.Lacking.{data_of, out_is}
 use Rattle.stream_model.proofs.PassLemmas.{Passes, passes}
-use Rattle.stream_model.proofs.RoundsEnd.{Stands, Raised, raised_in}
+use Rattle.stream_model.proofs.RoundsEnd.{Stands, Raised, raised_in, IsFull, full}
 use Rattle.gate_model.specs.Prelude.{datagram_in, streams_of, Lists, with_list, addresses_in, entered, Remembered, RememberedSession, remembering_rules, stream_of, UnitsAreRenamed, EachTracked, meaning_by, entries_by, whole_units, next as world_next, segment_of, image_in, Tracked, World, at_moment, host_on}
 use Rattle.gate_model.specs.Rounds.{FrameRound, at_repeat, at_answer, at_end, repeated, answered, IsFrameRound, AllFrameRounds, after_frame_rounds}
 use Rattle.gate_model.proofs.RememberedSessions.{with_meaning, Holds, own_same, own_alike, learned, IsLonger, longer, holds_learned, verdict_learned, TrackedHolds, remembered_keeps}
@@ -136,3 +136,29 @@ frame_rounds_raise host (x ∷ xs) w t knows had reached below acked all =
     let one : Raised (own host (streams_of t)) (own host (streams_of (answered w x t))) knows x.has = round_raises host w t knows had x reached below acked all.0 in
     let rest = frame_rounds_raise host xs (at_end w x) (answered w x t) (acknowledged_of (own host (streams_of (answered w x t)))) x.has (end_reached w x reached).1 one.stands.below one.stands.hears all.1 in
     omega (arith, one.more, rest)
+
+frame_rounds_full : (host : Host) (xs : List FrameRound) (w : World RememberedSession) (t : Tracked RememberedSession) (knows had : ℕ)
+    → EachTracked TrackedHolds w.connections → knows ≤ acknowledged_of (own host (streams_of t)) → (own host (streams_of t)).acked ≤ had
+    → IsFull (own host (streams_of t))
+    → AllFrameRounds host w t knows had xs → IsFull (own host (streams_of (after_frame_rounds w t xs)))
+frame_rounds_full host [] w t knows had reached below acked now all = now
+frame_rounds_full host (x ∷ xs) w t knows had reached below acked now all =
+    let one : Raised (own host (streams_of t)) (own host (streams_of (answered w x t))) knows x.has =
+    round_raises host w t knows had x reached below acked all.0 in
+    frame_rounds_full host xs (at_end w x) (answered w x t) (acknowledged_of (own host (streams_of (answered w x t)))) x.has
+    (end_reached w x reached).1 one.stands.below one.stands.hears
+    (full (own host (streams_of (answered w x t))) one.stands.lawful one.stands.bound) all.1
+
+pub frame_rounds_few : (host : Host) (xs : List FrameRound) (w : World RememberedSession) (t : Tracked RememberedSession) (knows had : ℕ)
+    → EachTracked TrackedHolds w.connections → knows ≤ acknowledged_of (own host (streams_of t)) → (own host (streams_of t)).acked ≤ had
+    → AllFrameRounds host w t knows had xs
+    → let new = own host (streams_of (after_frame_rounds w t xs)) in length xs ≤ length (image new.meaning new.octets) + length new.octets + 2
+frame_rounds_few host [] w t knows had reached below acked all = omega arith
+frame_rounds_few host (x ∷ xs) w t knows had reached below acked all =
+    let one : Raised (own host (streams_of t)) (own host (streams_of (answered w x t))) knows x.has =
+    round_raises host w t knows had x reached below acked all.0 in
+    let sum = frame_rounds_raise host (x ∷ xs) w t knows had reached below acked all in
+    let most = frame_rounds_full host xs (at_end w x) (answered w x t) (acknowledged_of (own host (streams_of (answered w x t)))) x.has
+    (end_reached w x reached).1 one.stands.below one.stands.hears
+    (full (own host (streams_of (answered w x t))) one.stands.lawful one.stands.bound) all.1 in
+    omega (arith, sum, most)

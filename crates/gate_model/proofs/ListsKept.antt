@@ -91,7 +91,7 @@ all_cross table side until front (a ∷ rest) lawful bound room =
 
 -- ## What is entered is called as it crosses
 
-unless : (c : Crossing) (x : Option Addr) → c ≢ Same → unless_same c x ≡ x
+pub unless : (c : Crossing) (x : Option Addr) → c ≢ Same → unless_same c x ≡ x
 unless Same x h = absurd (h refl)
 unless (Bound image) x h = refl
 unless (New alias) x h = refl
@@ -117,7 +117,7 @@ new_differs (Some a) e = cc
 unbound_differs : Unbound ≢ Same
 unbound_differs e = cc
 
-differs_cross : (table : Bindings) (side : Side) (address : Addr) → is_same table address ≡ false → cross table side address ≢ Same
+pub differs_cross : (table : Bindings) (side : Side) (address : Addr) → is_same table address ≡ false → cross table side address ≢ Same
 differs_cross table side address differs e =
     elim (cases_Bool (in_pool table side address)) [
       | inl pool ↦ known_differs Unbound (host_of side address table.entries) unbound_differs (sym (cross_pool table side address differs pool) ∙ e)

@@ -1,28 +1,36 @@
 -- What is promised holds for every list of events.
-use Rattle.std.proofs.Common.{◌≡◌, ℕ, List, [], ◌∷◌, None, refl, sym, ap, ◌∙◌}
+use Rattle.std.proofs.Common.{◌≡◌, ℕ, List, [], ◌∷◌, ◌++◌, None, refl, sym, ap, subst, ◌∙◌, fold}
+use Rattle.std.proofs.lemmas.List.Sums.{fold-append}
 use Rattle.gate_base.specs.Prelude.{Event}
 use Rattle.gate_base.specs.declared.event.Verdict.TheVariants.{Pass, Refused}
 use Rattle.gate_base.specs.declared.side.Side.{Side}
 use Rattle.gate_settings.specs.Prelude.{HasForms, IsSound}
 use Rattle.gate_settings.specs.declared.settings.Settings.{Settings}
-use Rattle.binding_table.specs.Prelude.{Bindings}
+use Rattle.binding_table.specs.Prelude.{Bindings, IsLawful}
 use Rattle.ipv4_frames.specs.Ipv4.{Datagram}
 use Rattle.gate_model.specs.Prelude.{WholeSession, Kind, Udp, Echo, Error, Dns, Snmp, Stream, datagram_in, kind_of, known_after, remembered_after, Promised, world_as, whole_rules, out, out_by, out_between, stream_out, taker_in, RememberedSession, remembering_rules, table_after, image_in, verdict_of, segment_of, World, at_moment, called, source_of, destination_of, opening_world, host_on}
 use Rattle.twice_translate.specs.Renamed.{renamed}
 use Rattle.gate_model.specs.Promise.{reason, FrameIs}
-use Rattle.gate_model.specs.Step.{translated}
+use Rattle.gate_model.specs.Step.{next, translated}
+use Rattle.gate_model.specs.Transparent.{KeepsAlias, ComesBack, ComesHome}
 use Rattle.gate_model.specs.Verdict.{verdict}
+use Rattle.gate_model.proofs.ConnectionsReached.{hosts_reached}
+use Rattle.gate_model.proofs.Deliveries.{meant}
 use Rattle.gate_model.proofs.GoesOn.{goes_on, whole_answers}
 use Rattle.gate_model.proofs.GoingOnKept.{waits_are, goes_on as session_goes_on}
 use Rattle.gate_model.proofs.Through.{through}
-use Rattle.gate_model.proofs.FrameRounds.{frame_rounds_raise}
+use Rattle.gate_model.proofs.FrameRounds.{frame_rounds_few, frame_rounds_raise}
 use Rattle.gate_model.proofs.HostsKept.{run_hosts}
 use Rattle.gate_model.proofs.HostsOpen.{opening_hosts, pairs_cross}
 use Rattle.gate_model.proofs.ListsWorld.{whole_lists, run_lists, opening_lists, lists_cross, images_stay}
+use Rattle.gate_model.proofs.NamesLast.{kept_stands, names_called}
+use Rattle.gate_model.proofs.OriginsKept.{all_come}
+use Rattle.gate_model.proofs.Ports.{untracked}
 use Rattle.gate_model.proofs.ReadSteps.{out_as, run_as}
 use Rattle.gate_model.proofs.SegmentsTaken.{taken_out}
 use Rattle.gate_model.proofs.RememberedSessions.{TrackedHolds, remembered_reads, remembered_keeps, session_is, run_holds, sessions_are}
 use Rattle.gate_model.proofs.Tracking.{taken_keeps}
+use Rattle.gate_model.proofs.Transparency.{translated_are, keeps_alias, comes_back, comes_home}
 
 verdict_is : (w : World WholeSession) (e : Event) → verdict whole_rules w e ≡ verdict_of (reason w e)
 unfolding verdict
@@ -63,8 +71,37 @@ promised settings events sound forms =
       waits = λ done others split. waits_are done settings;
       going = λ done others e split t h is. session_goes_on done settings e t h is;
       through = λ done others e split. through (remembered_after settings done) e;
-      rounds = λ done others split host t knows had rounds below acked all. frame_rounds_raise host rounds (remembered_after settings done) t knows had (run_holds done settings) below acked all;
+      rounds = λ done others split host t knows had rounds below acked all. (
+        frame_rounds_raise host rounds (remembered_after settings done) t knows had
+            (run_holds done settings) below acked all,
+        frame_rounds_few host rounds (remembered_after settings done) t knows had
+            (run_holds done settings) below acked all,
+      );
+      translated = λ done others e split v. translated_are whole_rules (known_after settings done) e (lawful done) v;
+      aliases = λ done between others e x address until split v keeps before less.
+          subst (λ (w : World WholeSession). KeepsAlias whole_rules (known_after settings done) e address w x) (sym (later done between e))
+          (keeps_alias whole_rules (known_after settings done) e address until between x (lawful done) v
+          (kept_stands whole_rules (known_after settings done) e address until (lawful done) v keeps) before less);
+      named = λ done others e split v dns. names_called whole_rules (known_after settings done) e (lawful done) v dns;
+      replies = λ done between others e r split v reply before less.
+          subst (λ (w : World WholeSession). ComesBack whole_rules e w r) (sym (later done between e))
+          (comes_back whole_rules (known_after settings done) e between r (lawful done) v reply before less);
+      untracked = λ done others r split kind ports. untracked whole_rules settings done r kind ports;
+      errors = λ done between others e r split v about before less.
+          subst (λ (w : World WholeSession). ComesHome whole_rules e w r) (sym (later done between e))
+          (comes_home whole_rules (known_after settings done) e between r (lawful done) v about before less);
+      reached = λ done others now split. hosts_reached (known_after settings done) now
+          (run_hosts whole_rules done (opening_world settings) (opening_hosts settings sound forms));
+      origins = λ done others split. all_come whole_rules settings done;
+      meant = λ done others x split v. meant whole_rules settings done x sound forms v;
     }
   where
+    lawful : (done : List Event) → IsLawful (known_after settings done).table
+    lawful done = (run_hosts whole_rules done (opening_world settings) (opening_hosts settings sound forms)).lawful
+
+    later : (done between : List Event) (e : Event) → known_after settings (done ++ e ∷ between)
+        ≡ fold (next whole_rules) (next whole_rules (known_after settings done) e) between
+    later done between e = fold-append (next whole_rules) (opening_world settings) done (e ∷ between)
+
     known : (done : List Event) → known_after settings done ≡ world_as (λ (x : RememberedSession). x.session) (remembered_after settings done)
     known done = run_as (λ (x : RememberedSession). x.session) remembering_rules whole_rules remembered_reads done (opening_world settings)

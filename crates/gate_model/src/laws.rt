@@ -1,5 +1,5 @@
 // The laws of the gateway. The functions do nothing: their clauses are proved.
-ghost use Rattle.std.specs.Prelude.{◌≡◌, ◌≤◌, ◌<◌, ◌+◌, ℕ, true, if◌then◌else◌, List, [], ◌++◌, map, Option, Some, Ok, length, All};
+ghost use Rattle.std.specs.Prelude.{◌≡◌, ◌≤◌, ◌<◌, ◌+◌, ◌*◌, ◌⊎◌, ℕ, true, false, if◌then◌else◌, List, [], ◌++◌, map, Option, Some, Ok, length, All};
 ghost use Rattle.std.specs.List.{fold};
 ghost use Rattle.gate_base.specs.Prelude.{Event};
 ghost use Rattle.gate_base.specs.declared.refusal.Refusal.{Refusal};
@@ -33,6 +33,16 @@ ghost use Rattle.tcp_tracker.specs.Prelude.{connection_of};
 ghost use Rattle.tcp_tracker.specs.declared.connection.Connection.{Connection};
 ghost use Rattle.gate_model.specs.Remembered.{RememberedSession, remembering_rules, StreamIs, EachTracked};
 ghost use Rattle.gate_model.specs.Promise.{Promised, RoundsEnd, remembered_after};
+ghost use Rattle.binding_table.specs.Prelude.{IsLawful, is_same};
+ghost use Rattle.gate_model.specs.World.{destination_of};
+ghost use Rattle.tcp_tracker.specs.Connections.{is_established, kept, with_flags};
+ghost use Rattle.ipv4_frames.specs.Ipv4.{Datagram};
+ghost use Rattle.gate_model.specs.Frame.{Kind, Dns, Stream, kind_of};
+ghost use Rattle.gate_model.specs.Stream.{tcp_of, found_in, ends_by};
+ghost use Rattle.gate_model.specs.Verdict.{named_timeout, timeout_by};
+ghost use Rattle.gate_model.specs.Called.{IsKeptUntil, AllBefore, header_until, least_seconds};
+ghost use Rattle.gate_model.specs.Transparent.{IsTranslated, KeepsAlias, NamesAreCalled, IsReply, ComesBack, IsAbout, ComesHome, IsUntracked, has_tracked_port, ReachesHosts};
+ghost use Rattle.gate_model.specs.Origins.{ComesFromUse, IsMeant};
 
 /// A frame that is refused gives no datagram, and moves the clock alone.
 pub fn refused_moves_clock<S>()
@@ -230,6 +240,129 @@ pub fn session_takes_segment<S>()
         × (c.session
         ≡ Some (stepped rules (image_in rules live e.side e.moment d) e.side d
         t)) }
+{}
+
+/// A frame that passes goes out from an alias, one of the pool of the realm that it goes to, to a host of that realm. Only an
+/// address that means the same host in both realms stays as it is.
+pub fn addresses_are_translated<S>()
+    ensures { (rules : SessionRules S) (w : World S) (e : Event)
+        → IsLawful w.table
+        → verdict rules w e ≡ Pass
+        → IsTranslated rules w e }
+{}
+
+/// While a frame keeps an address, that and what it is called stand for each other, whatever frames come. Both addresses of its
+/// header are kept as long as the header says, and what a DNS message over UDP names for 60 seconds. Whatever the host sends goes
+/// out from its one alias. A frame to the alias of a unicast host outside its pool isn't refused for want of a binding, and goes to
+/// that host if it passes. No frame of another host goes out from it. A DNS message goes out with what the addresses that it names
+/// are called.
+pub fn aliases_last<S>()
+    ensures lawful { (rules : SessionRules S) (settings : Settings)
+        (events : List Event)
+        → IsSound settings
+        → HasForms settings
+        → IsLawful (fold (next rules) (opening_world settings) events).table }
+    ensures lasts { (rules : SessionRules S) (w : World S) (e x : Event)
+        (between : List Event) (address : Addr) (until : ℕ)
+        → IsLawful w.table
+        → verdict rules w e ≡ Pass
+        → IsKeptUntil rules w e address until
+        → AllBefore until between
+        → x.moment < until
+        → KeepsAlias rules w e address
+        (fold (next rules) (next rules w e) between) x }
+    ensures named { (rules : SessionRules S) (w : World S) (e : Event)
+        → IsLawful w.table
+        → verdict rules w e ≡ Pass
+        → kind_of (datagram_in e) ≡ Dns
+        → NamesAreCalled rules w e }
+{}
+
+/// While the header of a frame that passes keeps its addresses, a reply to it comes back: from where the frame went to, to who sent
+/// it. What it carries may be refused, but neither address is a reason, and none needs an alias. Plain UDP and echo are refused only
+/// for what is wrong with the reply by itself, and TCP that no session tracks only for that or for want of room. An ICMP error about
+/// the frame has inside the addresses that were sent, and if no session is asked, these are no reason to refuse it.
+pub fn replies_come_back<S>()
+    ensures replies { (rules : SessionRules S) (w : World S) (e r : Event)
+        (between : List Event)
+        → IsLawful w.table
+        → verdict rules w e ≡ Pass
+        → IsReply rules w e r
+        → AllBefore (header_until rules w e) between
+        → r.moment < header_until rules w e
+        → ComesBack rules e (fold (next rules) (next rules w e) between) r }
+    ensures errors { (rules : SessionRules S) (w : World S) (e r : Event)
+        (between : List Event)
+        → IsLawful w.table
+        → verdict rules w e ≡ Pass
+        → IsAbout rules w e r
+        → AllBefore (header_until rules w e) between
+        → r.moment < header_until rules w e
+        → ComesHome rules e (fold (next rules) (next rules w e) between) r }
+    ensures untracked { (rules : SessionRules S) (settings : Settings)
+        (events : List Event) (r : Event)
+        → kind_of (datagram_in r) ≡ Stream
+        → has_tracked_port (datagram_in r) ≡ false
+        → IsUntracked (fold (next rules) (opening_world settings) events) r }
+{}
+
+/// While a connection lives, both its hosts are reached by their aliases. So a line of FTP that names its own client or
+/// server names an address that leads there.
+pub fn connections_are_reached<S>()
+    ensures { (rules : SessionRules S) (settings : Settings) (events : List Event)
+        (now : ℕ)
+        → IsSound settings
+        → HasForms settings
+        → let w = fold (next rules) (opening_world settings) events in
+        All (λ c. now < c.until.0 → ReachesHosts (at_moment w now).table c)
+        w.connections }
+{}
+
+/// Whatever events come, each binding is a static one, or one of the frames that passed has used it until just its end. From then on
+/// it is gone. A frame reaches a host only by such a binding, or by an address that means the same host in both realms.
+pub fn bindings_come_from_uses<S>()
+    ensures begin { (rules : SessionRules S) (settings : Settings) (events : List Event)
+        → All (ComesFromUse rules settings events)
+        (fold (next rules) (opening_world settings) events).table.entries }
+    ensures over { (w : World S) (now : ℕ)
+        → All (λ b. (b.fixed ≡ true) ⊎ (now < b.until.0))
+        (at_moment w now).table.entries }
+    ensures meant { (rules : SessionRules S) (settings : Settings) (events : List Event)
+        (x : Event)
+        → IsSound settings
+        → HasForms settings
+        → let w = fold (next rules) (opening_world settings) events in
+        verdict rules w x ≡ Pass
+        → (is_same (at_moment w x.moment).table (destination_of (datagram_in x))
+        ≡ true)
+        ⊎ IsMeant rules settings events w x }
+{}
+
+/// What becomes of a frame doesn't depend on a frame that was refused before it, if moments don't fall.
+pub fn refusals_leave_no_trace<S>()
+    ensures { (rules : SessionRules S) (w : World S) (e x : Event) (r : Refusal)
+        → verdict rules w e ≡ Refused r
+        → e.moment ≤ x.moment
+        → (verdict rules (next rules w e) x ≡ verdict rules w x)
+        × (out rules (next rules w e) x ≡ out rules w x)
+        × (next rules (next rules w e) x ≡ next rules w x) }
+{}
+
+/// A header keeps its addresses at least as long as the standards want: UDP 5 minutes (RFC 4787, REQ-5), ICMP 60 seconds (RFC 5508,
+/// REQ-2), TCP 4 minutes, and 2 hours and 4 minutes once the connection is established (RFC 5382, REQ-5). A name in a DNS message over
+/// UDP keeps its address 60 seconds.
+pub fn timeouts_are_long_enough<S>()
+    ensures least { (rules : SessionRules S) (live : World S) (side : Side)
+        (d : Datagram) (kind : Kind)
+        → least_seconds kind * 1000000000 ≤ timeout_by rules live side d kind }
+    ensures named { 60 * 1000000000 ≤ named_timeout }
+    ensures established { (rules : SessionRules S) (live : World S) (side : Side)
+        (d : Datagram) (c : Connection (Tracked S))
+        → found_in live side d ≡ Some c
+        → ends_by rules side d c.session ≡ false
+        → kept (tcp_of d).flags c ≡ Some c
+        → is_established (with_flags side (tcp_of d).flags c) ≡ true
+        → timeout_by rules live side d Stream ≡ 7440 * 1000000000 }
 {}
 
 /// The whole promise, for every list of events, and for settings that fit one another and have their forms, as accepted ones do.

@@ -21,13 +21,13 @@ use Rattle.lawful_files.specs.Prelude.{Given, HasLink, LawfulFrom, opening, IsFi
 use Rattle.file_audit.specs.declared.given.GivenFiles.{GivenFiles}
 use Rattle.file_audit.specs.declared.stop.AuditStop.{AuditStop}
 use Rattle.file_audit.specs.declared.stop.AuditStop.TheVariants as stops
-use Rattle.file_audit.specs.Events.{Finds, IsReadInAudit, TookFew, WantsAt}
+use Rattle.file_audit.specs.Events.{Finds, IsLawfulFront, IsReadInAudit, TookFew, WantsAt}
 use Rattle.file_audit.specs.Stops.{LeavesCounts}
 use Rattle.file_audit.specs.Given.{IfBoth, ReadsGiven, TookFiles, given_slot, given_told}
 use Rattle.file_audit.proofs.IncomingEnds.{ends_kept, left_kept, right_kept}
 use Rattle.file_audit.proofs.Wanting.{given_later, incoming_kept}
 use Rattle.file_audit.proofs.Files.{files_given, files_later, files_more, files_none, files_on}
-use Rattle.file_audit.proofs.Walked.{ahead_kept}
+use Rattle.file_audit.proofs.Walked.{ahead_kept, lawful_none}
 use Rattle.run_setup.specs.declared.status.Status.{Status}
 use Rattle.run_setup.specs.declared.status.Status.TheVariants.{CaptureRefused, ReadFault, WriteFault, OpenFault, OutOfMemory}
 use Rattle.run_setup.specs.Prelude.{IsAccepted, TookInputs, events_in, started_all}
@@ -314,24 +314,26 @@ took_none a b few read = record { handled = []; few = few; front = inl refl; rea
 pub took_prepared : (settings : GateSettings) (m : Merging) (names : Names) (a b c : Outside) → Prepared settings m names a b → LeavesIncoming b c → TookInputs a b → TookFiles b c → TookForEvents a c
 took_prepared settings m names a b c h same inputs files = took_none a c (taken_later a b c [] same (given_few a m b [] h.given)) (read_on a b c (read_inputs a b inputs) files)
 
-front_none : (o : Option Merged) → IfSome o (λ all. (others : List Event) × (all.events ≡ [] ++ others))
-front_none None = tt
-front_none (Some all) = (all.events, refl)
-
 -- the merge had not been asked for an event
-pub took_not : (m : Merging) (a b : Outside) → b ≡ a → TookFew m a b
-took_not m a b e = record { handled = []; few = λ start g. subst (λ (o : Outside). TakenFor [] start o) (sym e) (given_few start m a [] g); front = front_none (ahead m a.left); files = files_none a b (ap (λ (o : Outside). o.left) e) }
+pub took_not : (settings : GateSettings) (m : Merging) (r : GivenFiles) (a b : Outside) → b ≡ a → TookFew settings m r a b
+took_not settings m r a b e = record {
+  handled = [];
+  few = λ start g. subst (λ (o : Outside). TakenFor [] start o) (sym e)
+      (given_few start m a [] g);
+  front = lawful_none settings (ahead m a.left) (given_told r a.left);
+  files =
+      files_none a b (ap (λ (o : Outside). o.left) e);
+}
 
-all_told : (o : Trace) (P : Merged → Type 0) → IfSome (all_events o) P → IfSome o (λ all. P (events_in all))
-unfolding all_events
-all_told None P k = tt
-all_told (Some all) P k = k
-
-pub took_walked : (settings : GateSettings) (m : Merging) (r : GivenFiles) (names : Names) (a b c d : Outside) → Prepared settings m names a b → Readied (Some r) settings names b c → TookFew m c d → TookInputs a b → TookFiles b c → TookForEvents a d
+pub took_walked : (settings : GateSettings) (m : Merging) (r : GivenFiles) (names : Names) (a b c d : Outside)
+    → Prepared settings m names a b → Readied (Some r) settings names b c → TookFew settings m r c d → TookInputs a b → TookFiles b c
+    → TookForEvents a d
 took_walked settings m r names a b c d h k t inputs files = record {
   handled = t.handled;
   few = t.few a (given_later a m b c [] (incoming_left k.left_count k.right_count k.report_count b c k.left) h.given);
-  front = inr (all_told a.left (λ x. (others : List Event) × (x.events ≡ t.handled ++ others)) (subst (λ o. IfSome o (λ all. (others : List Event) × (all.events ≡ t.handled ++ others))) (ap (ahead m) k.left ∙ ahead_kept m k.left_count k.right_count k.report_count b.left ∙ sym h.events) t.front));
+  front = inr (of_files settings m r names a b c (λ all g. IsLawfulFront settings all g t.handled)
+      (λ all. (settings : GateSettings) × IsAccepted settings all × IsLawfulFront settings (events_in all) (given_in all) t.handled) h k
+      t.front (λ all is links front. (settings, is.0, front)));
   read = read_on a c d (read_on a b c (read_inputs a b inputs) files) t.files;
 }
 

@@ -4,10 +4,13 @@ use Rattle.gate_desk.specs.declared.slot.Slot.{Slot}
 use Rattle.gate_desk.specs.declared.slot.Slot.TheVariants.{Settings, LeftIn, RightIn, LeftGiven, RightGiven, ReportGiven, Report}
 use Rattle.gate_desk.specs.Outside.{Outside, Start, Grows, took, wrote}
 use Rattle.gate_base.specs.Prelude.{Event}
+use Rattle.gate_settings.specs.declared.settings.Settings.{Settings as GateSettings}
 use Rattle.pcap_merge.specs.Prelude.{have_good_heads, TakenFor}
+use Rattle.lawful_files.specs.Prelude.{given_of}
+use Rattle.file_audit.specs.Events.{IsLawfulFront}
 use Rattle.run_setup.specs.declared.status.Status.{Status}
 use Rattle.run_setup.specs.declared.status.Status.TheVariants.{Done, SettingsRefused, CaptureRefused, ReadFault, WriteFault, OpenFault, OutOfMemory, Unlawful}
-use Rattle.run_setup.specs.Prelude.{events_in, settings_start, started_all, StartsBefore}
+use Rattle.run_setup.specs.Prelude.{IsAccepted, events_in, settings_start, started_all, StartsBefore}
 use Rattle.gateway_audit.specs.declared.verdict.AuditVerdict.{AuditVerdict}
 use Rattle.gateway_audit.specs.declared.verdict.AuditVerdict.TheVariants as verdicts
 use Rattle.run_setup.specs.AuditNames.{Names, first_starts, read_starts, plan}
@@ -71,11 +74,13 @@ pub record TookRead (old new : Outside) : Type 0 where
   pub report_given_count : ℕ
   pub left : new.left ≡ took ReportGiven report_given_count (took RightGiven right_given_count (took LeftGiven left_given_count (took RightIn right_in_count (took LeftIn left_in_count (took Settings settings_count old.left)))))
 
--- what an audit took: of each incoming capture no more whole records than those of the first events, and one more, and it read neither further than a capture may be and the head of a record; and of slots that it doesn't read nothing
+-- what an audit took: of each incoming capture no more whole records than those of first events for which the given files are lawful, and
+-- one more, and it read neither further than a capture may be and the head of a record; and of slots that it doesn't read nothing
 pub record TookForEvents (old new : Outside) : Type 0 where
   pub handled : List Event
   pub few : TakenFor handled old new
-  pub front : (handled ≡ []) ⊎ IfSome old.left (λ all. (others : List Event) × ((events_in all).events ≡ handled ++ others))
+  pub front : (handled ≡ []) ⊎ IfSome old.left (λ all. (settings : GateSettings) × IsAccepted settings all
+      × IsLawfulFront settings (events_in all) (given_of all.left_given all.right_given all.report_given) handled)
   pub read : TookRead old new
 
 -- what an audit answers: its cause, what it started, and what it wrote

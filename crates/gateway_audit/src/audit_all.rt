@@ -26,7 +26,8 @@ pub fn audit_all<D: Desk>(
     requires { AreToWalk settings merge.old given.old (D.outside desk.old) }
     ensures answer { Walks result settings merge.old given.old (D.outside desk.old)
         (D.outside desk.new) }
-    ensures taken { TookFew merge.old (D.outside desk.old) (D.outside desk.new) }
+    ensures taken { TookFew settings merge.old given.old (D.outside desk.old)
+        (D.outside desk.new) }
     ensures starts { (D.outside desk.new).starts ≡ (D.outside desk.old).starts }
     ensures written { (D.outside desk.new).written ≡ (D.outside desk.old).written }
     ensures counts { Grows (D.outside desk.old) (D.outside desk.new) }

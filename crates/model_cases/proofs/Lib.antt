@@ -1,3 +1,4 @@
+mod OnLiterals
 mod RowsEdges
 mod RowsFirst
 mod RowsFull
@@ -9,6 +10,8 @@ mod RowsMore
 mod RowsPayloads
 mod RowsRefused
 mod RowsRepeats
+mod RowsRounds
 mod RowsRules
 mod RowsSecond
+mod RowsTransparent
 mod RowsUnits

@@ -4,36 +4,12 @@ use Rattle.gate_base.specs.declared.refusal.Refusal.TheVariants.{NotUnicast, Pro
 use Rattle.gate_base.specs.declared.side.Link.TheVariants.{Raw}
 use Rattle.gate_base.specs.declared.side.Side.TheVariants.{Left, Right}
 use Rattle.gate_settings.specs.declared.settings.Settings.{Settings}
-use Rattle.ether_frames.specs.Ether.{read_frame}
-use Rattle.inet_sum.specs.Sum.{words, fold_of}
-use Rattle.ipv4_frames.specs.Ipv4.{head_with}
-use Rattle.udp_icmp.specs.Icmp.{sealed_icmp}
-use Rattle.udp_icmp.specs.Udp.{sealed_udp}
-use Rattle.tcp_segments.specs.Options.{options_within}
-use Rattle.tcp_segments.specs.Tcp.{sealed_tcp, tcp_header_with}
-use Rattle.twice_translate.specs.Renamed.{sealed_payload, renamed}
-use Rattle.gate_base.specs.Address.{number_of}
-use Rattle.binding_table.specs.Bindings.{cross}
-use Rattle.gate_settings.specs.Cross.{block_end}
-use Rattle.icmp_errors.specs.Inner.{inner_with}
-use Rattle.dns_names.specs.Names.{piece_at}
-use Rattle.dns_names.specs.Octets.{reverse_in}
-use Rattle.dns_names.specs.Reverse.{full_reverse}
-use Rattle.dns_names.specs.Spelling.{spell}
-use Rattle.dns_names.specs.Walk.{name_at}
-use Rattle.dns_messages.specs.Reading.{content_by, resource_at, resources_at, question_at, questions_at, message_at}
-use Rattle.dns_messages.specs.Writing.{spelling}
-use Rattle.snmp_gateway.specs.Element.{element_at}
-use Rattle.snmp_gateway.specs.Message.{binding, bindings_within, outline_of, message}
-use Rattle.snmp_gateway.specs.Parts.{first_of, skip}
-use Rattle.snmp_oids.specs.Arcs.{numbers_from}
-use Rattle.snmp_oids.specs.Elements.{elements_within}
-use Rattle.ftp_lines.specs.Numbers.{number, four, six}
-use Rattle.ftp_lines.specs.Grammar.{port, eprt, delimited, passive, client_text, server_text}
-use Rattle.ftp_lines.specs.Renaming.{spelled}
-use Rattle.std.specs.Fmt.{digits}
+use Rattle.snmp_gateway.specs.Message.{binding, message}
+use Rattle.ftp_lines.specs.Numbers.{number}
+use Rattle.ftp_lines.specs.Grammar.{port}
 use Rattle.gate_model.specs.Verdict.{verdict}
 use Rattle.gate_model.proofs.RowWords.{Row, hex, fixed, pool, set, event, passes, refused, found, wanted}
+use Rattle.model_cases.proofs.OnLiterals.{frames_on_literals}
 
 -- a source that is not one host's
 abbrev source_of_many : List Row
@@ -45,7 +21,7 @@ abbrev source_of_many_settings : Settings
 source_of_many_settings = set ([]) (pool 0xc0a8c801 0xc0a8c8fe) (pool 0xac100901 0xac1009fe) (fixed Left 0x0a000005 0xac100901 ∷ fixed Right 0x0a000005 0xc0a8c801 ∷ fixed Right 0x0a000035 0xc0a8c835 ∷ [])
 
 source_of_many_holds : found source_of_many_settings source_of_many ≡ wanted source_of_many 0
-unfolding read_frame words fold_of head_with sealed_icmp sealed_udp options_within sealed_tcp tcp_header_with sealed_payload renamed number_of cross block_end inner_with piece_at reverse_in full_reverse spell name_at content_by resource_at resources_at question_at questions_at message_at spelling element_at binding bindings_within outline_of message first_of skip numbers_from elements_within number four six port eprt delimited passive client_text server_text spelled digits verdict
+unfolding frames_on_literals
 source_of_many_holds = refl
 
 -- a redirect
@@ -58,7 +34,7 @@ abbrev redirect_settings : Settings
 redirect_settings = set ([]) (pool 0xc0a8c801 0xc0a8c8fe) (pool 0xac100901 0xac1009fe) (fixed Left 0x0a000005 0xac100901 ∷ fixed Right 0x0a000005 0xc0a8c801 ∷ fixed Right 0x0a000035 0xc0a8c835 ∷ [])
 
 redirect_holds : found redirect_settings redirect ≡ wanted redirect 0
-unfolding read_frame words fold_of head_with sealed_icmp sealed_udp options_within sealed_tcp tcp_header_with sealed_payload renamed number_of cross block_end inner_with piece_at reverse_in full_reverse spell name_at content_by resource_at resources_at question_at questions_at message_at spelling element_at binding bindings_within outline_of message first_of skip numbers_from elements_within number four six port eprt delimited passive client_text server_text spelled digits verdict
+unfolding frames_on_literals
 redirect_holds = refl
 
 -- an ICMP message of 7 octets
@@ -71,7 +47,7 @@ abbrev short_message_settings : Settings
 short_message_settings = set ([]) (pool 0xc0a8c801 0xc0a8c8fe) (pool 0xac100901 0xac1009fe) (fixed Left 0x0a000005 0xac100901 ∷ fixed Right 0x0a000005 0xc0a8c801 ∷ fixed Right 0x0a000035 0xc0a8c835 ∷ [])
 
 short_message_holds : found short_message_settings short_message ≡ wanted short_message 0
-unfolding read_frame words fold_of head_with sealed_icmp sealed_udp options_within sealed_tcp tcp_header_with sealed_payload renamed number_of cross block_end inner_with piece_at reverse_in full_reverse spell name_at content_by resource_at resources_at question_at questions_at message_at spelling element_at binding bindings_within outline_of message first_of skip numbers_from elements_within number four six port eprt delimited passive client_text server_text spelled digits verdict
+unfolding frames_on_literals
 short_message_holds = refl
 
 -- a lifetime of 0
@@ -84,7 +60,7 @@ abbrev dead_lifetime_settings : Settings
 dead_lifetime_settings = set ([]) (pool 0xc0a8c801 0xc0a8c8fe) (pool 0xac100901 0xac1009fe) (fixed Left 0x0a000005 0xac100901 ∷ fixed Right 0x0a000005 0xc0a8c801 ∷ fixed Right 0x0a000035 0xc0a8c835 ∷ [])
 
 dead_lifetime_holds : found dead_lifetime_settings dead_lifetime ≡ wanted dead_lifetime 0
-unfolding read_frame words fold_of head_with sealed_icmp sealed_udp options_within sealed_tcp tcp_header_with sealed_payload renamed number_of cross block_end inner_with piece_at reverse_in full_reverse spell name_at content_by resource_at resources_at question_at questions_at message_at spelling element_at binding bindings_within outline_of message first_of skip numbers_from elements_within number four six port eprt delimited passive client_text server_text spelled digits verdict
+unfolding frames_on_literals
 dead_lifetime_holds = refl
 
 -- an echo reply passes
@@ -97,7 +73,7 @@ abbrev echo_reply_settings : Settings
 echo_reply_settings = set ([]) (pool 0xc0a8c801 0xc0a8c8fe) (pool 0xac100901 0xac1009fe) (fixed Left 0x0a000005 0xac100901 ∷ fixed Right 0x0a000005 0xc0a8c801 ∷ fixed Right 0x0a000035 0xc0a8c835 ∷ [])
 
 echo_reply_holds : found echo_reply_settings echo_reply ≡ wanted echo_reply 0
-unfolding read_frame words fold_of head_with sealed_icmp sealed_udp options_within sealed_tcp tcp_header_with sealed_payload renamed number_of cross block_end inner_with piece_at reverse_in full_reverse spell name_at content_by resource_at resources_at question_at questions_at message_at spelling element_at binding bindings_within outline_of message first_of skip numbers_from elements_within number four six port eprt delimited passive client_text server_text spelled digits verdict
+unfolding frames_on_literals
 echo_reply_holds = refl
 
 -- SNMP by the trap port alone
@@ -110,7 +86,7 @@ abbrev trap_port_alone_settings : Settings
 trap_port_alone_settings = set ([]) (pool 0xc0a8c801 0xc0a8c8fe) (pool 0xac100901 0xac1009fe) (fixed Left 0x0a000005 0xac100901 ∷ fixed Right 0x0a000005 0xc0a8c801 ∷ fixed Right 0x0a000035 0xc0a8c835 ∷ [])
 
 trap_port_alone_holds : found trap_port_alone_settings trap_port_alone ≡ wanted trap_port_alone 0
-unfolding read_frame words fold_of head_with sealed_icmp sealed_udp options_within sealed_tcp tcp_header_with sealed_payload renamed number_of cross block_end inner_with piece_at reverse_in full_reverse spell name_at content_by resource_at resources_at question_at questions_at message_at spelling element_at binding bindings_within outline_of message first_of skip numbers_from elements_within number four six port eprt delimited passive client_text server_text spelled digits verdict
+unfolding frames_on_literals
 trap_port_alone_holds = refl
 
 -- a fragment with options
@@ -123,7 +99,7 @@ abbrev fragment_with_options_settings : Settings
 fragment_with_options_settings = set ([]) (pool 0xc0a8c801 0xc0a8c8fe) (pool 0xac100901 0xac1009fe) (fixed Left 0x0a000005 0xac100901 ∷ fixed Right 0x0a000005 0xc0a8c801 ∷ fixed Right 0x0a000035 0xc0a8c835 ∷ [])
 
 fragment_with_options_holds : found fragment_with_options_settings fragment_with_options ≡ wanted fragment_with_options 0
-unfolding read_frame words fold_of head_with sealed_icmp sealed_udp options_within sealed_tcp tcp_header_with sealed_payload renamed number_of cross block_end inner_with piece_at reverse_in full_reverse spell name_at content_by resource_at resources_at question_at questions_at message_at spelling element_at binding bindings_within outline_of message first_of skip numbers_from elements_within number four six port eprt delimited passive client_text server_text spelled digits verdict
+unfolding frames_on_literals
 fragment_with_options_holds = refl
 
 -- the lifetime is looked at before the addresses
@@ -136,7 +112,7 @@ abbrev spent_before_address_settings : Settings
 spent_before_address_settings = set ([]) (pool 0xc0a8c801 0xc0a8c8fe) (pool 0xac100901 0xac1009fe) (fixed Left 0x0a000005 0xac100901 ∷ fixed Right 0x0a000005 0xc0a8c801 ∷ fixed Right 0x0a000035 0xc0a8c835 ∷ [])
 
 spent_before_address_holds : found spent_before_address_settings spent_before_address ≡ wanted spent_before_address 0
-unfolding read_frame words fold_of head_with sealed_icmp sealed_udp options_within sealed_tcp tcp_header_with sealed_payload renamed number_of cross block_end inner_with piece_at reverse_in full_reverse spell name_at content_by resource_at resources_at question_at questions_at message_at spelling element_at binding bindings_within outline_of message first_of skip numbers_from elements_within number four six port eprt delimited passive client_text server_text spelled digits verdict
+unfolding frames_on_literals
 spent_before_address_holds = refl
 
 -- the addresses before the protocol
@@ -149,7 +125,7 @@ abbrev address_before_protocol_settings : Settings
 address_before_protocol_settings = set ([]) (pool 0xc0a8c801 0xc0a8c8fe) (pool 0xac100901 0xac1009fe) (fixed Left 0x0a000005 0xac100901 ∷ fixed Right 0x0a000005 0xc0a8c801 ∷ fixed Right 0x0a000035 0xc0a8c835 ∷ [])
 
 address_before_protocol_holds : found address_before_protocol_settings address_before_protocol ≡ wanted address_before_protocol 0
-unfolding read_frame words fold_of head_with sealed_icmp sealed_udp options_within sealed_tcp tcp_header_with sealed_payload renamed number_of cross block_end inner_with piece_at reverse_in full_reverse spell name_at content_by resource_at resources_at question_at questions_at message_at spelling element_at binding bindings_within outline_of message first_of skip numbers_from elements_within number four six port eprt delimited passive client_text server_text spelled digits verdict
+unfolding frames_on_literals
 address_before_protocol_holds = refl
 
 -- a SYN with ACK to the control port without a connection
@@ -162,7 +138,7 @@ abbrev late_second_syn_settings : Settings
 late_second_syn_settings = set ([]) (pool 0xc0a8c801 0xc0a8c8fe) (pool 0xac100901 0xac1009fe) (fixed Left 0x0a000005 0xac100901 ∷ fixed Right 0x0a000005 0xc0a8c801 ∷ fixed Right 0x0a000035 0xc0a8c835 ∷ [])
 
 late_second_syn_holds : found late_second_syn_settings late_second_syn ≡ wanted late_second_syn 0
-unfolding read_frame words fold_of head_with sealed_icmp sealed_udp options_within sealed_tcp tcp_header_with sealed_payload renamed number_of cross block_end inner_with piece_at reverse_in full_reverse spell name_at content_by resource_at resources_at question_at questions_at message_at spelling element_at binding bindings_within outline_of message first_of skip numbers_from elements_within number four six port eprt delimited passive client_text server_text spelled digits verdict
+unfolding frames_on_literals
 late_second_syn_holds = refl
 
 -- an ICMP error about a host without a binding
@@ -175,7 +151,7 @@ abbrev inner_source_unbound_settings : Settings
 inner_source_unbound_settings = set ([]) (pool 0xc0a8c801 0xc0a8c8fe) (pool 0xac100901 0xac1009fe) (fixed Left 0x0a000005 0xac100901 ∷ fixed Right 0x0a000005 0xc0a8c801 ∷ fixed Right 0x0a000035 0xc0a8c835 ∷ [])
 
 inner_source_unbound_holds : found inner_source_unbound_settings inner_source_unbound ≡ wanted inner_source_unbound 0
-unfolding read_frame words fold_of head_with sealed_icmp sealed_udp options_within sealed_tcp tcp_header_with sealed_payload renamed number_of cross block_end inner_with piece_at reverse_in full_reverse spell name_at content_by resource_at resources_at question_at questions_at message_at spelling element_at binding bindings_within outline_of message first_of skip numbers_from elements_within number four six port eprt delimited passive client_text server_text spelled digits verdict
+unfolding frames_on_literals
 inner_source_unbound_holds = refl
 
 -- an ICMP error about a UDP datagram between a session's ports: no number inside is mapped
@@ -191,5 +167,5 @@ abbrev udp_between_session_ports_settings : Settings
 udp_between_session_ports_settings = set ([]) (pool 0xc0a8c801 0xc0a8c8fe) (pool 0xac100901 0xac1009fe) (fixed Left 0x0a000005 0xac100901 ∷ fixed Right 0x0a000005 0xc0a8c801 ∷ fixed Right 0x0a000035 0xc0a8c835 ∷ [])
 
 udp_between_session_ports_holds : found udp_between_session_ports_settings udp_between_session_ports ≡ wanted udp_between_session_ports 0
-unfolding read_frame words fold_of head_with sealed_icmp sealed_udp options_within sealed_tcp tcp_header_with sealed_payload renamed number_of cross block_end inner_with piece_at reverse_in full_reverse spell name_at content_by resource_at resources_at question_at questions_at message_at spelling element_at binding bindings_within outline_of message first_of skip numbers_from elements_within number four six port eprt delimited passive client_text server_text spelled digits verdict
+unfolding frames_on_literals
 udp_between_session_ports_holds = refl

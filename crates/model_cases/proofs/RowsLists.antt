@@ -4,37 +4,9 @@ use Rattle.gate_base.specs.declared.refusal.Refusal.TheVariants.{NoBinding, Pool
 use Rattle.gate_base.specs.declared.side.Link.TheVariants.{Raw}
 use Rattle.gate_base.specs.declared.side.Side.TheVariants.{Left, Right}
 use Rattle.gate_settings.specs.declared.settings.Settings.{Settings}
-use Rattle.ether_frames.specs.Ether.{read_frame}
-use Rattle.inet_sum.specs.Sum.{words, fold_of}
-use Rattle.ipv4_frames.specs.Ipv4.{head_with}
-use Rattle.udp_icmp.specs.Icmp.{sealed_icmp}
-use Rattle.udp_icmp.specs.Udp.{sealed_udp}
-use Rattle.tcp_segments.specs.Options.{options_within}
-use Rattle.tcp_segments.specs.Tcp.{sealed_tcp, tcp_header_with}
-use Rattle.twice_translate.specs.Renamed.{sealed_payload, renamed}
-use Rattle.gate_base.specs.Address.{number_of}
-use Rattle.binding_table.specs.Bindings.{cross}
-use Rattle.gate_settings.specs.Cross.{block_end}
-use Rattle.icmp_errors.specs.Inner.{inner_with}
-use Rattle.dns_names.specs.Names.{piece_at}
-use Rattle.dns_names.specs.Octets.{reverse_in}
-use Rattle.dns_names.specs.Reverse.{full_reverse}
-use Rattle.dns_names.specs.Spelling.{spell}
-use Rattle.dns_names.specs.Walk.{name_at}
-use Rattle.dns_messages.specs.Reading.{content_by, resource_at, resources_at, question_at, questions_at, message_at}
-use Rattle.dns_messages.specs.Writing.{spelling}
-use Rattle.snmp_gateway.specs.Element.{element_at}
-use Rattle.snmp_gateway.specs.Message.{binding, bindings_within, outline_of, message}
-use Rattle.snmp_gateway.specs.Parts.{first_of, skip}
-use Rattle.snmp_oids.specs.Arcs.{numbers_from}
-use Rattle.snmp_oids.specs.Elements.{elements_within}
-use Rattle.dns_stream.specs.Images.{renamed as unit_renamed}
-use Rattle.ftp_lines.specs.Numbers.{number, four, six}
-use Rattle.ftp_lines.specs.Grammar.{port, eprt, delimited, passive, client_text, server_text}
-use Rattle.ftp_lines.specs.Renaming.{spelled}
-use Rattle.std.specs.Fmt.{digits}
 use Rattle.gate_model.specs.Verdict.{verdict}
 use Rattle.gate_model.proofs.RowWords.{Row, hex, block, fixed, pool, set, event, passes, refused, found, wanted}
+use Rattle.model_cases.proofs.OnLiterals.{frames_on_literals}
 
 -- what a session listed stays bound while the session lives, by segments of either host
 abbrev lists_keep_bindings : List Row
@@ -56,7 +28,7 @@ abbrev lists_keep_bindings_settings : Settings
 lists_keep_bindings_settings = set ([]) (pool 0xc0a8c801 0xc0a8c8fe) (pool 0xac100901 0xac1009fe) (fixed Left 0x0a000005 0xac100901 ∷ fixed Right 0x0a000005 0xc0a8c801 ∷ fixed Right 0x0a000035 0xc0a8c835 ∷ [])
 
 lists_keep_bindings_holds : found lists_keep_bindings_settings lists_keep_bindings ≡ wanted lists_keep_bindings 1
-unfolding read_frame words fold_of head_with sealed_icmp sealed_udp options_within sealed_tcp tcp_header_with sealed_payload renamed number_of cross block_end inner_with piece_at reverse_in full_reverse spell name_at content_by resource_at resources_at question_at questions_at message_at spelling element_at binding bindings_within outline_of message first_of skip numbers_from elements_within unit_renamed number four six port eprt delimited passive client_text server_text spelled digits verdict
+unfolding frames_on_literals
 lists_keep_bindings_holds = refl
 
 -- what the client alone asks for is bound while its session lives
@@ -75,7 +47,7 @@ abbrev list_of_the_client_keeps_bindings_settings : Settings
 list_of_the_client_keeps_bindings_settings = set ([]) (pool 0xc0a8c801 0xc0a8c8fe) (pool 0xac100901 0xac1009fe) (fixed Left 0x0a000005 0xac100901 ∷ fixed Right 0x0a000005 0xc0a8c801 ∷ fixed Right 0x0a000035 0xc0a8c835 ∷ [])
 
 list_of_the_client_keeps_bindings_holds : found list_of_the_client_keeps_bindings_settings list_of_the_client_keeps_bindings ≡ wanted list_of_the_client_keeps_bindings 1
-unfolding read_frame words fold_of head_with sealed_icmp sealed_udp options_within sealed_tcp tcp_header_with sealed_payload renamed number_of cross block_end inner_with piece_at reverse_in full_reverse spell name_at content_by resource_at resources_at question_at questions_at message_at spelling element_at binding bindings_within outline_of message first_of skip numbers_from elements_within unit_renamed number four six port eprt delimited passive client_text server_text spelled digits verdict
+unfolding frames_on_literals
 list_of_the_client_keeps_bindings_holds = refl
 
 -- an address of the client's list is called as it is listed
@@ -92,7 +64,7 @@ abbrev list_is_asked_and_not_the_table_settings : Settings
 list_is_asked_and_not_the_table_settings = set ([]) (pool 0xc0a8c801 0xc0a8c8fe) (pool 0xac100901 0xac1009fe) (fixed Left 0x0a000005 0xac100901 ∷ fixed Right 0x0a000005 0xc0a8c801 ∷ fixed Right 0x0a000035 0xc0a8c835 ∷ [])
 
 list_is_asked_and_not_the_table_holds : found list_is_asked_and_not_the_table_settings list_is_asked_and_not_the_table ≡ wanted list_is_asked_and_not_the_table 3
-unfolding read_frame words fold_of head_with sealed_icmp sealed_udp options_within sealed_tcp tcp_header_with sealed_payload renamed number_of cross block_end inner_with piece_at reverse_in full_reverse spell name_at content_by resource_at resources_at question_at questions_at message_at spelling element_at binding bindings_within outline_of message first_of skip numbers_from elements_within unit_renamed number four six port eprt delimited passive client_text server_text spelled digits verdict
+unfolding frames_on_literals
 list_is_asked_and_not_the_table_holds = refl
 
 -- an address of a block that means the same in both realms is listed as kept
@@ -109,7 +81,7 @@ abbrev kept_addresses_settings : Settings
 kept_addresses_settings = set (block 0xcb007100 24 ∷ []) (pool 0xc0a8c801 0xc0a8c8fe) (pool 0xac100901 0xac1009fe) (fixed Left 0x0a000005 0xac100901 ∷ fixed Right 0x0a000005 0xc0a8c801 ∷ fixed Right 0x0a000035 0xc0a8c835 ∷ [])
 
 kept_addresses_holds : found kept_addresses_settings kept_addresses ≡ wanted kept_addresses 1
-unfolding read_frame words fold_of head_with sealed_icmp sealed_udp options_within sealed_tcp tcp_header_with sealed_payload renamed number_of cross block_end inner_with piece_at reverse_in full_reverse spell name_at content_by resource_at resources_at question_at questions_at message_at spelling element_at binding bindings_within outline_of message first_of skip numbers_from elements_within unit_renamed number four six port eprt delimited passive client_text server_text spelled digits verdict
+unfolding frames_on_literals
 kept_addresses_holds = refl
 
 -- two units and a half in one segment, the rest in the next, then the end
@@ -129,7 +101,7 @@ abbrev two_units_in_a_segment_settings : Settings
 two_units_in_a_segment_settings = set ([]) (pool 0xc0a8c801 0xc0a8c8fe) (pool 0xac100901 0xac1009fe) (fixed Left 0x0a000005 0xac100901 ∷ fixed Right 0x0a000005 0xc0a8c801 ∷ fixed Right 0x0a000035 0xc0a8c835 ∷ [])
 
 two_units_in_a_segment_holds : found two_units_in_a_segment_settings two_units_in_a_segment ≡ wanted two_units_in_a_segment 3
-unfolding read_frame words fold_of head_with sealed_icmp sealed_udp options_within sealed_tcp tcp_header_with sealed_payload renamed number_of cross block_end inner_with piece_at reverse_in full_reverse spell name_at content_by resource_at resources_at question_at questions_at message_at spelling element_at binding bindings_within outline_of message first_of skip numbers_from elements_within unit_renamed number four six port eprt delimited passive client_text server_text spelled digits verdict
+unfolding frames_on_literals
 two_units_in_a_segment_holds = refl
 
 -- the addresses of units count as they need an alias
@@ -147,7 +119,7 @@ abbrev units_fill_pool_settings : Settings
 units_fill_pool_settings = set ([]) (pool 0xc0a8c801 0xc0a8c803) (pool 0xac100901 0xac1009fe) (fixed Left 0x0a000005 0xac100901 ∷ fixed Right 0x0a000005 0xc0a8c801 ∷ fixed Right 0x0a000035 0xc0a8c803 ∷ [])
 
 units_fill_pool_holds : found units_fill_pool_settings units_fill_pool ≡ wanted units_fill_pool 1
-unfolding read_frame words fold_of head_with sealed_icmp sealed_udp options_within sealed_tcp tcp_header_with sealed_payload renamed number_of cross block_end inner_with piece_at reverse_in full_reverse spell name_at content_by resource_at resources_at question_at questions_at message_at spelling element_at binding bindings_within outline_of message first_of skip numbers_from elements_within unit_renamed number four six port eprt delimited passive client_text server_text spelled digits verdict
+unfolding frames_on_literals
 units_fill_pool_holds = refl
 
 -- PoolEmpty before UnitGrows
@@ -165,7 +137,7 @@ abbrev unit_grows_after_pool_settings : Settings
 unit_grows_after_pool_settings = set ([]) (pool 0xc0a8c801 0xc0a8c803) (pool 0xac100901 0xac1009fe) (fixed Left 0x0a000005 0xac100901 ∷ fixed Right 0x0a000005 0xc0a8c801 ∷ fixed Right 0x0a000035 0xc0a8c803 ∷ [])
 
 unit_grows_after_pool_holds : found unit_grows_after_pool_settings unit_grows_after_pool ≡ wanted unit_grows_after_pool 1
-unfolding read_frame words fold_of head_with sealed_icmp sealed_udp options_within sealed_tcp tcp_header_with sealed_payload renamed number_of cross block_end inner_with piece_at reverse_in full_reverse spell name_at content_by resource_at resources_at question_at questions_at message_at spelling element_at binding bindings_within outline_of message first_of skip numbers_from elements_within unit_renamed number four six port eprt delimited passive client_text server_text spelled digits verdict
+unfolding frames_on_literals
 unit_grows_after_pool_holds = refl
 
 -- the client is of the right realm, and its list crosses from there
@@ -183,7 +155,7 @@ abbrev client_of_the_right_settings : Settings
 client_of_the_right_settings = set ([]) (pool 0xc0a8c801 0xc0a8c8fe) (pool 0xac100901 0xac1009fe) (fixed Left 0x0a00004d 0xac100901 ∷ fixed Right 0x0a000005 0xc0a8c801 ∷ fixed Right 0x0a000035 0xc0a8c835 ∷ [])
 
 client_of_the_right_holds : found client_of_the_right_settings client_of_the_right ≡ wanted client_of_the_right 1
-unfolding read_frame words fold_of head_with sealed_icmp sealed_udp options_within sealed_tcp tcp_header_with sealed_payload renamed number_of cross block_end inner_with piece_at reverse_in full_reverse spell name_at content_by resource_at resources_at question_at questions_at message_at spelling element_at binding bindings_within outline_of message first_of skip numbers_from elements_within unit_renamed number four six port eprt delimited passive client_text server_text spelled digits verdict
+unfolding frames_on_literals
 client_of_the_right_holds = refl
 
 -- a reset ends a session, and holds what is listed for a short time
@@ -201,7 +173,7 @@ abbrev reset_of_a_session_settings : Settings
 reset_of_a_session_settings = set ([]) (pool 0xc0a8c801 0xc0a8c8fe) (pool 0xac100901 0xac1009fe) (fixed Left 0x0a000005 0xac100901 ∷ fixed Right 0x0a000005 0xc0a8c801 ∷ fixed Right 0x0a000035 0xc0a8c835 ∷ [])
 
 reset_of_a_session_holds : found reset_of_a_session_settings reset_of_a_session ≡ wanted reset_of_a_session 1
-unfolding read_frame words fold_of head_with sealed_icmp sealed_udp options_within sealed_tcp tcp_header_with sealed_payload renamed number_of cross block_end inner_with piece_at reverse_in full_reverse spell name_at content_by resource_at resources_at question_at questions_at message_at spelling element_at binding bindings_within outline_of message first_of skip numbers_from elements_within unit_renamed number four six port eprt delimited passive client_text server_text spelled digits verdict
+unfolding frames_on_literals
 reset_of_a_session_holds = refl
 
 -- and no longer
@@ -219,5 +191,5 @@ abbrev reset_of_a_session_over_settings : Settings
 reset_of_a_session_over_settings = set ([]) (pool 0xc0a8c801 0xc0a8c8fe) (pool 0xac100901 0xac1009fe) (fixed Left 0x0a000005 0xac100901 ∷ fixed Right 0x0a000005 0xc0a8c801 ∷ fixed Right 0x0a000035 0xc0a8c835 ∷ [])
 
 reset_of_a_session_over_holds : found reset_of_a_session_over_settings reset_of_a_session_over ≡ wanted reset_of_a_session_over 1
-unfolding read_frame words fold_of head_with sealed_icmp sealed_udp options_within sealed_tcp tcp_header_with sealed_payload renamed number_of cross block_end inner_with piece_at reverse_in full_reverse spell name_at content_by resource_at resources_at question_at questions_at message_at spelling element_at binding bindings_within outline_of message first_of skip numbers_from elements_within unit_renamed number four six port eprt delimited passive client_text server_text spelled digits verdict
+unfolding frames_on_literals
 reset_of_a_session_over_holds = refl

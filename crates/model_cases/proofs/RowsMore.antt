@@ -4,36 +4,11 @@ use Rattle.gate_base.specs.declared.refusal.Refusal.TheVariants.{BadInner, NoBin
 use Rattle.gate_base.specs.declared.side.Link.TheVariants.{Raw}
 use Rattle.gate_base.specs.declared.side.Side.TheVariants.{Left, Right}
 use Rattle.gate_settings.specs.declared.settings.Settings.{Settings}
-use Rattle.ether_frames.specs.Ether.{read_frame}
-use Rattle.inet_sum.specs.Sum.{words, fold_of}
-use Rattle.ipv4_frames.specs.Ipv4.{head_with}
-use Rattle.udp_icmp.specs.Icmp.{sealed_icmp}
-use Rattle.udp_icmp.specs.Udp.{sealed_udp}
-use Rattle.tcp_segments.specs.Options.{options_within}
-use Rattle.tcp_segments.specs.Tcp.{sealed_tcp, tcp_header_with}
-use Rattle.twice_translate.specs.Renamed.{sealed_payload, renamed}
-use Rattle.gate_base.specs.Address.{number_of}
-use Rattle.binding_table.specs.Bindings.{cross}
-use Rattle.gate_settings.specs.Cross.{block_end}
-use Rattle.icmp_errors.specs.Inner.{inner_with}
-use Rattle.dns_names.specs.Names.{piece_at}
-use Rattle.dns_names.specs.Octets.{reverse_in}
-use Rattle.dns_names.specs.Reverse.{full_reverse}
-use Rattle.dns_names.specs.Spelling.{spell}
-use Rattle.dns_names.specs.Walk.{name_at}
-use Rattle.dns_messages.specs.Reading.{content_by, resource_at, resources_at, question_at, questions_at, message_at}
-use Rattle.dns_messages.specs.Writing.{spelling}
-use Rattle.snmp_gateway.specs.Element.{element_at}
-use Rattle.snmp_gateway.specs.Message.{binding, bindings_within, outline_of, message}
-use Rattle.snmp_gateway.specs.Parts.{first_of, skip}
-use Rattle.snmp_oids.specs.Arcs.{numbers_from}
-use Rattle.snmp_oids.specs.Elements.{elements_within}
-use Rattle.ftp_lines.specs.Numbers.{number, four, six}
-use Rattle.ftp_lines.specs.Grammar.{port, eprt, delimited, passive, client_text, server_text}
-use Rattle.ftp_lines.specs.Renaming.{spelled}
-use Rattle.std.specs.Fmt.{digits}
+use Rattle.snmp_gateway.specs.Message.{binding}
+use Rattle.ftp_lines.specs.Grammar.{port}
 use Rattle.gate_model.specs.Verdict.{verdict}
 use Rattle.gate_model.proofs.RowWords.{Row, hex, block, fixed, pool, set, event, passes, refused, found, wanted}
+use Rattle.model_cases.proofs.OnLiterals.{frames_on_literals}
 
 -- an agent address that its own datagram binds
 abbrev agent_just_bound : List Row
@@ -45,7 +20,7 @@ abbrev agent_just_bound_settings : Settings
 agent_just_bound_settings = set ([]) (pool 0xc0a8c801 0xc0a8c8fe) (pool 0xac100901 0xac1009fe) (fixed Left 0x0a000005 0xac100901 ∷ fixed Right 0x0a000005 0xc0a8c801 ∷ fixed Right 0x0a000035 0xc0a8c835 ∷ [])
 
 agent_just_bound_holds : found agent_just_bound_settings agent_just_bound ≡ wanted agent_just_bound 0
-unfolding read_frame words fold_of head_with sealed_icmp sealed_udp options_within sealed_tcp tcp_header_with sealed_payload renamed number_of cross block_end inner_with piece_at reverse_in full_reverse spell name_at content_by resource_at resources_at question_at questions_at message_at spelling element_at binding bindings_within outline_of message first_of skip numbers_from elements_within number four six port eprt delimited passive client_text server_text spelled digits verdict
+unfolding frames_on_literals
 agent_just_bound_holds = refl
 
 -- a session between two control ports
@@ -62,7 +37,7 @@ abbrev both_control_ports_settings : Settings
 both_control_ports_settings = set ([]) (pool 0xc0a8c801 0xc0a8c8fe) (pool 0xac100901 0xac100901) (fixed Right 0x0a000005 0xc0a8c801 ∷ [])
 
 both_control_ports_holds : found both_control_ports_settings both_control_ports ≡ wanted both_control_ports 1
-unfolding read_frame words fold_of head_with sealed_icmp sealed_udp options_within sealed_tcp tcp_header_with sealed_payload renamed number_of cross block_end inner_with piece_at reverse_in full_reverse spell name_at content_by resource_at resources_at question_at questions_at message_at spelling element_at binding bindings_within outline_of message first_of skip numbers_from elements_within number four six port eprt delimited passive client_text server_text spelled digits verdict
+unfolding frames_on_literals
 both_control_ports_holds = refl
 
 -- a FIN makes the timeout short
@@ -80,7 +55,7 @@ abbrev closing_hold_settings : Settings
 closing_hold_settings = set ([]) (pool 0xc0a8c801 0xc0a8c8fe) (pool 0xac100901 0xac100901) (fixed Right 0x0a000005 0xc0a8c801 ∷ [])
 
 closing_hold_holds : found closing_hold_settings closing_hold ≡ wanted closing_hold 0
-unfolding read_frame words fold_of head_with sealed_icmp sealed_udp options_within sealed_tcp tcp_header_with sealed_payload renamed number_of cross block_end inner_with piece_at reverse_in full_reverse spell name_at content_by resource_at resources_at question_at questions_at message_at spelling element_at binding bindings_within outline_of message first_of skip numbers_from elements_within number four six port eprt delimited passive client_text server_text spelled digits verdict
+unfolding frames_on_literals
 closing_hold_holds = refl
 
 -- an RST that ends an established session holds for a short time
@@ -98,7 +73,7 @@ abbrev ended_session_hold_settings : Settings
 ended_session_hold_settings = set ([]) (pool 0xc0a8c801 0xc0a8c8fe) (pool 0xac100901 0xac100901) (fixed Right 0x0a000005 0xc0a8c801 ∷ [])
 
 ended_session_hold_holds : found ended_session_hold_settings ended_session_hold ≡ wanted ended_session_hold 0
-unfolding read_frame words fold_of head_with sealed_icmp sealed_udp options_within sealed_tcp tcp_header_with sealed_payload renamed number_of cross block_end inner_with piece_at reverse_in full_reverse spell name_at content_by resource_at resources_at question_at questions_at message_at spelling element_at binding bindings_within outline_of message first_of skip numbers_from elements_within number four six port eprt delimited passive client_text server_text spelled digits verdict
+unfolding frames_on_literals
 ended_session_hold_holds = refl
 
 -- a segment from the control port without a connection
@@ -115,7 +90,7 @@ abbrev from_control_port_settings : Settings
 from_control_port_settings = set ([]) (pool 0xc0a8c801 0xc0a8c8fe) (pool 0xac100901 0xac1009fe) (fixed Left 0x0a000005 0xac100901 ∷ fixed Right 0x0a000005 0xc0a8c801 ∷ fixed Right 0x0a000035 0xc0a8c835 ∷ [])
 
 from_control_port_holds : found from_control_port_settings from_control_port ≡ wanted from_control_port 0
-unfolding read_frame words fold_of head_with sealed_icmp sealed_udp options_within sealed_tcp tcp_header_with sealed_payload renamed number_of cross block_end inner_with piece_at reverse_in full_reverse spell name_at content_by resource_at resources_at question_at questions_at message_at spelling element_at binding bindings_within outline_of message first_of skip numbers_from elements_within number four six port eprt delimited passive client_text server_text spelled digits verdict
+unfolding frames_on_literals
 from_control_port_holds = refl
 
 -- an echo keeps a binding for 60 seconds
@@ -130,7 +105,7 @@ abbrev icmp_hold_settings : Settings
 icmp_hold_settings = set ([]) (pool 0xc0a8c801 0xc0a8c8fe) (pool 0xac100901 0xac100901) (fixed Right 0x0a000005 0xc0a8c801 ∷ [])
 
 icmp_hold_holds : found icmp_hold_settings icmp_hold ≡ wanted icmp_hold 0
-unfolding read_frame words fold_of head_with sealed_icmp sealed_udp options_within sealed_tcp tcp_header_with sealed_payload renamed number_of cross block_end inner_with piece_at reverse_in full_reverse spell name_at content_by resource_at resources_at question_at questions_at message_at spelling element_at binding bindings_within outline_of message first_of skip numbers_from elements_within number four six port eprt delimited passive client_text server_text spelled digits verdict
+unfolding frames_on_literals
 icmp_hold_holds = refl
 
 -- an address that is named is bound for 60 seconds
@@ -144,7 +119,7 @@ abbrev named_hold_settings : Settings
 named_hold_settings = set ([]) (pool 0xc0a8c801 0xc0a8c8fe) (pool 0xac100901 0xac1009fe) (fixed Left 0x0a000005 0xac100901 ∷ fixed Right 0x0a000005 0xc0a8c801 ∷ fixed Right 0x0a000035 0xc0a8c835 ∷ [])
 
 named_hold_holds : found named_hold_settings named_hold ≡ wanted named_hold 0
-unfolding read_frame words fold_of head_with sealed_icmp sealed_udp options_within sealed_tcp tcp_header_with sealed_payload renamed number_of cross block_end inner_with piece_at reverse_in full_reverse spell name_at content_by resource_at resources_at question_at questions_at message_at spelling element_at binding bindings_within outline_of message first_of skip numbers_from elements_within number four six port eprt delimited passive client_text server_text spelled digits verdict
+unfolding frames_on_literals
 named_hold_holds = refl
 
 -- and no shorter
@@ -158,7 +133,7 @@ abbrev named_lives_settings : Settings
 named_lives_settings = set ([]) (pool 0xc0a8c801 0xc0a8c8fe) (pool 0xac100901 0xac1009fe) (fixed Left 0x0a000005 0xac100901 ∷ fixed Right 0x0a000005 0xc0a8c801 ∷ fixed Right 0x0a000035 0xc0a8c835 ∷ [])
 
 named_lives_holds : found named_lives_settings named_lives ≡ wanted named_lives 0
-unfolding read_frame words fold_of head_with sealed_icmp sealed_udp options_within sealed_tcp tcp_header_with sealed_payload renamed number_of cross block_end inner_with piece_at reverse_in full_reverse spell name_at content_by resource_at resources_at question_at questions_at message_at spelling element_at binding bindings_within outline_of message first_of skip numbers_from elements_within number four six port eprt delimited passive client_text server_text spelled digits verdict
+unfolding frames_on_literals
 named_lives_holds = refl
 
 -- an RST removes a connection that isn't tracked
@@ -177,7 +152,7 @@ abbrev reset_removes_settings : Settings
 reset_removes_settings = set ([]) (pool 0xc0a8c801 0xc0a8c8fe) (pool 0xac100901 0xac100901) (fixed Right 0x0a000005 0xc0a8c801 ∷ [])
 
 reset_removes_holds : found reset_removes_settings reset_removes ≡ wanted reset_removes 0
-unfolding read_frame words fold_of head_with sealed_icmp sealed_udp options_within sealed_tcp tcp_header_with sealed_payload renamed number_of cross block_end inner_with piece_at reverse_in full_reverse spell name_at content_by resource_at resources_at question_at questions_at message_at spelling element_at binding bindings_within outline_of message first_of skip numbers_from elements_within number four six port eprt delimited passive client_text server_text spelled digits verdict
+unfolding frames_on_literals
 reset_removes_holds = refl
 
 -- hosts of a block that crosses unchanged
@@ -195,7 +170,7 @@ abbrev same_block_settings : Settings
 same_block_settings = set (block 0x0a090000 16 ∷ []) (pool 0xc0a8c801 0xc0a8c8fe) (pool 0xac100901 0xac1009fe) (fixed Left 0x0a000005 0xac100901 ∷ fixed Right 0x0a000005 0xc0a8c801 ∷ fixed Right 0x0a000035 0xc0a8c835 ∷ [])
 
 same_block_holds : found same_block_settings same_block ≡ wanted same_block 0
-unfolding read_frame words fold_of head_with sealed_icmp sealed_udp options_within sealed_tcp tcp_header_with sealed_payload renamed number_of cross block_end inner_with piece_at reverse_in full_reverse spell name_at content_by resource_at resources_at question_at questions_at message_at spelling element_at binding bindings_within outline_of message first_of skip numbers_from elements_within number four six port eprt delimited passive client_text server_text spelled digits verdict
+unfolding frames_on_literals
 same_block_holds = refl
 
 -- a session that an RST ended can begin again
@@ -213,7 +188,7 @@ abbrev session_again_settings : Settings
 session_again_settings = set ([]) (pool 0xc0a8c801 0xc0a8c8fe) (pool 0xac100901 0xac100901) (fixed Right 0x0a000005 0xc0a8c801 ∷ [])
 
 session_again_holds : found session_again_settings session_again ≡ wanted session_again 0
-unfolding read_frame words fold_of head_with sealed_icmp sealed_udp options_within sealed_tcp tcp_header_with sealed_payload renamed number_of cross block_end inner_with piece_at reverse_in full_reverse spell name_at content_by resource_at resources_at question_at questions_at message_at spelling element_at binding bindings_within outline_of message first_of skip numbers_from elements_within number four six port eprt delimited passive client_text server_text spelled digits verdict
+unfolding frames_on_literals
 session_again_holds = refl
 
 -- a SYN starts a closing connection anew
@@ -234,7 +209,7 @@ abbrev starts_anew_settings : Settings
 starts_anew_settings = set ([]) (pool 0xc0a8c801 0xc0a8c8fe) (pool 0xac100901 0xac100901) (fixed Right 0x0a000005 0xc0a8c801 ∷ [])
 
 starts_anew_holds : found starts_anew_settings starts_anew ≡ wanted starts_anew 0
-unfolding read_frame words fold_of head_with sealed_icmp sealed_udp options_within sealed_tcp tcp_header_with sealed_payload renamed number_of cross block_end inner_with piece_at reverse_in full_reverse spell name_at content_by resource_at resources_at question_at questions_at message_at spelling element_at binding bindings_within outline_of message first_of skip numbers_from elements_within number four six port eprt delimited passive client_text server_text spelled digits verdict
+unfolding frames_on_literals
 starts_anew_holds = refl
 
 -- the first of two refusals is told
@@ -249,5 +224,5 @@ abbrev two_refusals_settings : Settings
 two_refusals_settings = set ([]) (pool 0xc0a8c801 0xc0a8c8fe) (pool 0xac100901 0xac1009fe) (fixed Left 0x0a000005 0xac100901 ∷ fixed Right 0x0a000005 0xc0a8c801 ∷ fixed Right 0x0a000035 0xc0a8c835 ∷ [])
 
 two_refusals_holds : found two_refusals_settings two_refusals ≡ wanted two_refusals 0
-unfolding read_frame words fold_of head_with sealed_icmp sealed_udp options_within sealed_tcp tcp_header_with sealed_payload renamed number_of cross block_end inner_with piece_at reverse_in full_reverse spell name_at content_by resource_at resources_at question_at questions_at message_at spelling element_at binding bindings_within outline_of message first_of skip numbers_from elements_within number four six port eprt delimited passive client_text server_text spelled digits verdict
+unfolding frames_on_literals
 two_refusals_holds = refl

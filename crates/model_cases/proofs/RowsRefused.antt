@@ -4,36 +4,12 @@ use Rattle.gate_base.specs.declared.refusal.Refusal.TheVariants.{AckAhead, BadHe
 use Rattle.gate_base.specs.declared.side.Link.TheVariants.{Raw}
 use Rattle.gate_base.specs.declared.side.Side.TheVariants.{Left, Right}
 use Rattle.gate_settings.specs.declared.settings.Settings.{Settings}
-use Rattle.ether_frames.specs.Ether.{read_frame}
-use Rattle.inet_sum.specs.Sum.{words, fold_of}
-use Rattle.ipv4_frames.specs.Ipv4.{head_with}
-use Rattle.udp_icmp.specs.Icmp.{sealed_icmp}
-use Rattle.udp_icmp.specs.Udp.{sealed_udp}
-use Rattle.tcp_segments.specs.Options.{options_within}
-use Rattle.tcp_segments.specs.Tcp.{sealed_tcp, tcp_header_with}
-use Rattle.twice_translate.specs.Renamed.{sealed_payload, renamed}
-use Rattle.gate_base.specs.Address.{number_of}
-use Rattle.binding_table.specs.Bindings.{cross}
-use Rattle.gate_settings.specs.Cross.{block_end}
-use Rattle.icmp_errors.specs.Inner.{inner_with}
-use Rattle.dns_names.specs.Names.{piece_at}
-use Rattle.dns_names.specs.Octets.{reverse_in}
-use Rattle.dns_names.specs.Reverse.{full_reverse}
-use Rattle.dns_names.specs.Spelling.{spell}
-use Rattle.dns_names.specs.Walk.{name_at}
-use Rattle.dns_messages.specs.Reading.{content_by, resource_at, resources_at, question_at, questions_at, message_at}
-use Rattle.dns_messages.specs.Writing.{spelling}
-use Rattle.snmp_gateway.specs.Element.{element_at}
-use Rattle.snmp_gateway.specs.Message.{binding, bindings_within, outline_of, message}
-use Rattle.snmp_gateway.specs.Parts.{first_of, skip}
-use Rattle.snmp_oids.specs.Arcs.{numbers_from}
-use Rattle.snmp_oids.specs.Elements.{elements_within}
-use Rattle.ftp_lines.specs.Numbers.{number, four, six}
-use Rattle.ftp_lines.specs.Grammar.{port, eprt, delimited, passive, client_text, server_text}
-use Rattle.ftp_lines.specs.Renaming.{spelled}
-use Rattle.std.specs.Fmt.{digits}
+use Rattle.snmp_gateway.specs.Message.{binding}
+use Rattle.ftp_lines.specs.Numbers.{number}
+use Rattle.ftp_lines.specs.Grammar.{port}
 use Rattle.gate_model.specs.Verdict.{verdict}
 use Rattle.gate_model.proofs.RowWords.{Row, hex, fixed, pool, set, event, passes, refused, found, wanted}
+use Rattle.model_cases.proofs.OnLiterals.{frames_on_literals}
 
 -- an acknowledgement of what wasn't sent
 abbrev refused_ack_ahead : List Row
@@ -50,7 +26,7 @@ abbrev refused_ack_ahead_settings : Settings
 refused_ack_ahead_settings = set ([]) (pool 0xc0a8c801 0xc0a8c8fe) (pool 0xac100901 0xac1009fe) (fixed Left 0x0a000005 0xac100901 ∷ fixed Right 0x0a000005 0xc0a8c801 ∷ fixed Right 0x0a000035 0xc0a8c835 ∷ [])
 
 refused_ack_ahead_holds : found refused_ack_ahead_settings refused_ack_ahead ≡ wanted refused_ack_ahead 1
-unfolding read_frame words fold_of head_with sealed_icmp sealed_udp options_within sealed_tcp tcp_header_with sealed_payload renamed number_of cross block_end inner_with piece_at reverse_in full_reverse spell name_at content_by resource_at resources_at question_at questions_at message_at spelling element_at binding bindings_within outline_of message first_of skip numbers_from elements_within number four six port eprt delimited passive client_text server_text spelled digits verdict
+unfolding frames_on_literals
 refused_ack_ahead_holds = refl
 
 -- a total length above the octets
@@ -64,7 +40,7 @@ abbrev refused_bad_header_settings : Settings
 refused_bad_header_settings = set ([]) (pool 0xc0a8c801 0xc0a8c8fe) (pool 0xac100901 0xac1009fe) (fixed Left 0x0a000005 0xac100901 ∷ fixed Right 0x0a000005 0xc0a8c801 ∷ fixed Right 0x0a000035 0xc0a8c835 ∷ [])
 
 refused_bad_header_holds : found refused_bad_header_settings refused_bad_header ≡ wanted refused_bad_header 0
-unfolding read_frame words fold_of head_with sealed_icmp sealed_udp options_within sealed_tcp tcp_header_with sealed_payload renamed number_of cross block_end inner_with piece_at reverse_in full_reverse spell name_at content_by resource_at resources_at question_at questions_at message_at spelling element_at binding bindings_within outline_of message first_of skip numbers_from elements_within number four six port eprt delimited passive client_text server_text spelled digits verdict
+unfolding frames_on_literals
 refused_bad_header_holds = refl
 
 -- a wrong header checksum
@@ -78,7 +54,7 @@ abbrev refused_bad_header_sum_settings : Settings
 refused_bad_header_sum_settings = set ([]) (pool 0xc0a8c801 0xc0a8c8fe) (pool 0xac100901 0xac1009fe) (fixed Left 0x0a000005 0xac100901 ∷ fixed Right 0x0a000005 0xc0a8c801 ∷ fixed Right 0x0a000035 0xc0a8c835 ∷ [])
 
 refused_bad_header_sum_holds : found refused_bad_header_sum_settings refused_bad_header_sum ≡ wanted refused_bad_header_sum 0
-unfolding read_frame words fold_of head_with sealed_icmp sealed_udp options_within sealed_tcp tcp_header_with sealed_payload renamed number_of cross block_end inner_with piece_at reverse_in full_reverse spell name_at content_by resource_at resources_at question_at questions_at message_at spelling element_at binding bindings_within outline_of message first_of skip numbers_from elements_within number four six port eprt delimited passive client_text server_text spelled digits verdict
+unfolding frames_on_literals
 refused_bad_header_sum_holds = refl
 
 -- an ICMP error with 27 inner octets
@@ -92,7 +68,7 @@ abbrev refused_bad_inner_settings : Settings
 refused_bad_inner_settings = set ([]) (pool 0xc0a8c801 0xc0a8c8fe) (pool 0xac100901 0xac1009fe) (fixed Left 0x0a000005 0xac100901 ∷ fixed Right 0x0a000005 0xc0a8c801 ∷ fixed Right 0x0a000035 0xc0a8c835 ∷ [])
 
 refused_bad_inner_holds : found refused_bad_inner_settings refused_bad_inner ≡ wanted refused_bad_inner 0
-unfolding read_frame words fold_of head_with sealed_icmp sealed_udp options_within sealed_tcp tcp_header_with sealed_payload renamed number_of cross block_end inner_with piece_at reverse_in full_reverse spell name_at content_by resource_at resources_at question_at questions_at message_at spelling element_at binding bindings_within outline_of message first_of skip numbers_from elements_within number four six port eprt delimited passive client_text server_text spelled digits verdict
+unfolding frames_on_literals
 refused_bad_inner_holds = refl
 
 -- a wrong UDP checksum
@@ -106,7 +82,7 @@ abbrev refused_bad_sum_settings : Settings
 refused_bad_sum_settings = set ([]) (pool 0xc0a8c801 0xc0a8c8fe) (pool 0xac100901 0xac1009fe) (fixed Left 0x0a000005 0xac100901 ∷ fixed Right 0x0a000005 0xc0a8c801 ∷ fixed Right 0x0a000035 0xc0a8c835 ∷ [])
 
 refused_bad_sum_holds : found refused_bad_sum_settings refused_bad_sum ≡ wanted refused_bad_sum 0
-unfolding read_frame words fold_of head_with sealed_icmp sealed_udp options_within sealed_tcp tcp_header_with sealed_payload renamed number_of cross block_end inner_with piece_at reverse_in full_reverse spell name_at content_by resource_at resources_at question_at questions_at message_at spelling element_at binding bindings_within outline_of message first_of skip numbers_from elements_within number four six port eprt delimited passive client_text server_text spelled digits verdict
+unfolding frames_on_literals
 refused_bad_sum_holds = refl
 
 -- a UDP length that isn't the payload's
@@ -120,7 +96,7 @@ abbrev refused_bad_transport_settings : Settings
 refused_bad_transport_settings = set ([]) (pool 0xc0a8c801 0xc0a8c8fe) (pool 0xac100901 0xac1009fe) (fixed Left 0x0a000005 0xac100901 ∷ fixed Right 0x0a000005 0xc0a8c801 ∷ fixed Right 0x0a000035 0xc0a8c835 ∷ [])
 
 refused_bad_transport_holds : found refused_bad_transport_settings refused_bad_transport ≡ wanted refused_bad_transport 0
-unfolding read_frame words fold_of head_with sealed_icmp sealed_udp options_within sealed_tcp tcp_header_with sealed_payload renamed number_of cross block_end inner_with piece_at reverse_in full_reverse spell name_at content_by resource_at resources_at question_at questions_at message_at spelling element_at binding bindings_within outline_of message first_of skip numbers_from elements_within number four six port eprt delimited passive client_text server_text spelled digits verdict
+unfolding frames_on_literals
 refused_bad_transport_holds = refl
 
 -- MF is set
@@ -134,7 +110,7 @@ abbrev refused_fragment_settings : Settings
 refused_fragment_settings = set ([]) (pool 0xc0a8c801 0xc0a8c8fe) (pool 0xac100901 0xac1009fe) (fixed Left 0x0a000005 0xac100901 ∷ fixed Right 0x0a000005 0xc0a8c801 ∷ fixed Right 0x0a000035 0xc0a8c835 ∷ [])
 
 refused_fragment_holds : found refused_fragment_settings refused_fragment ≡ wanted refused_fragment 0
-unfolding read_frame words fold_of head_with sealed_icmp sealed_udp options_within sealed_tcp tcp_header_with sealed_payload renamed number_of cross block_end inner_with piece_at reverse_in full_reverse spell name_at content_by resource_at resources_at question_at questions_at message_at spelling element_at binding bindings_within outline_of message first_of skip numbers_from elements_within number four six port eprt delimited passive client_text server_text spelled digits verdict
+unfolding frames_on_literals
 refused_fragment_holds = refl
 
 -- a segment past the octets taken
@@ -151,7 +127,7 @@ abbrev refused_gap_settings : Settings
 refused_gap_settings = set ([]) (pool 0xc0a8c801 0xc0a8c8fe) (pool 0xac100901 0xac1009fe) (fixed Left 0x0a000005 0xac100901 ∷ fixed Right 0x0a000005 0xc0a8c801 ∷ fixed Right 0x0a000035 0xc0a8c835 ∷ [])
 
 refused_gap_holds : found refused_gap_settings refused_gap ≡ wanted refused_gap 1
-unfolding read_frame words fold_of head_with sealed_icmp sealed_udp options_within sealed_tcp tcp_header_with sealed_payload renamed number_of cross block_end inner_with piece_at reverse_in full_reverse spell name_at content_by resource_at resources_at question_at questions_at message_at spelling element_at binding bindings_within outline_of message first_of skip numbers_from elements_within number four six port eprt delimited passive client_text server_text spelled digits verdict
+unfolding frames_on_literals
 refused_gap_holds = refl
 
 -- an ICMP error about an address without a binding
@@ -165,7 +141,7 @@ abbrev refused_inner_unbound_settings : Settings
 refused_inner_unbound_settings = set ([]) (pool 0xc0a8c801 0xc0a8c8fe) (pool 0xac100901 0xac1009fe) (fixed Left 0x0a000005 0xac100901 ∷ fixed Right 0x0a000005 0xc0a8c801 ∷ fixed Right 0x0a000035 0xc0a8c835 ∷ [])
 
 refused_inner_unbound_holds : found refused_inner_unbound_settings refused_inner_unbound ≡ wanted refused_inner_unbound 0
-unfolding read_frame words fold_of head_with sealed_icmp sealed_udp options_within sealed_tcp tcp_header_with sealed_payload renamed number_of cross block_end inner_with piece_at reverse_in full_reverse spell name_at content_by resource_at resources_at question_at questions_at message_at spelling element_at binding bindings_within outline_of message first_of skip numbers_from elements_within number four six port eprt delimited passive client_text server_text spelled digits verdict
+unfolding frames_on_literals
 refused_inner_unbound_holds = refl
 
 -- a header with options
@@ -179,7 +155,7 @@ abbrev refused_ip_options_settings : Settings
 refused_ip_options_settings = set ([]) (pool 0xc0a8c801 0xc0a8c8fe) (pool 0xac100901 0xac1009fe) (fixed Left 0x0a000005 0xac100901 ∷ fixed Right 0x0a000005 0xc0a8c801 ∷ fixed Right 0x0a000035 0xc0a8c835 ∷ [])
 
 refused_ip_options_holds : found refused_ip_options_settings refused_ip_options ≡ wanted refused_ip_options 0
-unfolding read_frame words fold_of head_with sealed_icmp sealed_udp options_within sealed_tcp tcp_header_with sealed_payload renamed number_of cross block_end inner_with piece_at reverse_in full_reverse spell name_at content_by resource_at resources_at question_at questions_at message_at spelling element_at binding bindings_within outline_of message first_of skip numbers_from elements_within number four six port eprt delimited passive client_text server_text spelled digits verdict
+unfolding frames_on_literals
 refused_ip_options_holds = refl
 
 -- a segment without SYN, RST and ACK
@@ -196,7 +172,7 @@ abbrev refused_no_ack_settings : Settings
 refused_no_ack_settings = set ([]) (pool 0xc0a8c801 0xc0a8c8fe) (pool 0xac100901 0xac1009fe) (fixed Left 0x0a000005 0xac100901 ∷ fixed Right 0x0a000005 0xc0a8c801 ∷ fixed Right 0x0a000035 0xc0a8c835 ∷ [])
 
 refused_no_ack_holds : found refused_no_ack_settings refused_no_ack ≡ wanted refused_no_ack 1
-unfolding read_frame words fold_of head_with sealed_icmp sealed_udp options_within sealed_tcp tcp_header_with sealed_payload renamed number_of cross block_end inner_with piece_at reverse_in full_reverse spell name_at content_by resource_at resources_at question_at questions_at message_at spelling element_at binding bindings_within outline_of message first_of skip numbers_from elements_within number four six port eprt delimited passive client_text server_text spelled digits verdict
+unfolding frames_on_literals
 refused_no_ack_holds = refl
 
 -- a pool address without a binding
@@ -210,7 +186,7 @@ abbrev refused_no_binding_settings : Settings
 refused_no_binding_settings = set ([]) (pool 0xc0a8c801 0xc0a8c8fe) (pool 0xac100901 0xac1009fe) (fixed Left 0x0a000005 0xac100901 ∷ fixed Right 0x0a000005 0xc0a8c801 ∷ fixed Right 0x0a000035 0xc0a8c835 ∷ [])
 
 refused_no_binding_holds : found refused_no_binding_settings refused_no_binding ≡ wanted refused_no_binding 0
-unfolding read_frame words fold_of head_with sealed_icmp sealed_udp options_within sealed_tcp tcp_header_with sealed_payload renamed number_of cross block_end inner_with piece_at reverse_in full_reverse spell name_at content_by resource_at resources_at question_at questions_at message_at spelling element_at binding bindings_within outline_of message first_of skip numbers_from elements_within number four six port eprt delimited passive client_text server_text spelled digits verdict
+unfolding frames_on_literals
 refused_no_binding_holds = refl
 
 -- an FTP segment without a handshake
@@ -224,7 +200,7 @@ abbrev refused_no_session_settings : Settings
 refused_no_session_settings = set ([]) (pool 0xc0a8c801 0xc0a8c8fe) (pool 0xac100901 0xac1009fe) (fixed Left 0x0a000005 0xac100901 ∷ fixed Right 0x0a000005 0xc0a8c801 ∷ fixed Right 0x0a000035 0xc0a8c835 ∷ [])
 
 refused_no_session_holds : found refused_no_session_settings refused_no_session ≡ wanted refused_no_session 0
-unfolding read_frame words fold_of head_with sealed_icmp sealed_udp options_within sealed_tcp tcp_header_with sealed_payload renamed number_of cross block_end inner_with piece_at reverse_in full_reverse spell name_at content_by resource_at resources_at question_at questions_at message_at spelling element_at binding bindings_within outline_of message first_of skip numbers_from elements_within number four six port eprt delimited passive client_text server_text spelled digits verdict
+unfolding frames_on_literals
 refused_no_session_holds = refl
 
 -- version 6
@@ -238,7 +214,7 @@ abbrev refused_not_ipv4_settings : Settings
 refused_not_ipv4_settings = set ([]) (pool 0xc0a8c801 0xc0a8c8fe) (pool 0xac100901 0xac1009fe) (fixed Left 0x0a000005 0xac100901 ∷ fixed Right 0x0a000005 0xc0a8c801 ∷ fixed Right 0x0a000035 0xc0a8c835 ∷ [])
 
 refused_not_ipv4_holds : found refused_not_ipv4_settings refused_not_ipv4 ≡ wanted refused_not_ipv4 0
-unfolding read_frame words fold_of head_with sealed_icmp sealed_udp options_within sealed_tcp tcp_header_with sealed_payload renamed number_of cross block_end inner_with piece_at reverse_in full_reverse spell name_at content_by resource_at resources_at question_at questions_at message_at spelling element_at binding bindings_within outline_of message first_of skip numbers_from elements_within number four six port eprt delimited passive client_text server_text spelled digits verdict
+unfolding frames_on_literals
 refused_not_ipv4_holds = refl
 
 -- a multicast destination
@@ -252,7 +228,7 @@ abbrev refused_not_unicast_settings : Settings
 refused_not_unicast_settings = set ([]) (pool 0xc0a8c801 0xc0a8c8fe) (pool 0xac100901 0xac1009fe) (fixed Left 0x0a000005 0xac100901 ∷ fixed Right 0x0a000005 0xc0a8c801 ∷ fixed Right 0x0a000035 0xc0a8c835 ∷ [])
 
 refused_not_unicast_holds : found refused_not_unicast_settings refused_not_unicast ≡ wanted refused_not_unicast 0
-unfolding read_frame words fold_of head_with sealed_icmp sealed_udp options_within sealed_tcp tcp_header_with sealed_payload renamed number_of cross block_end inner_with piece_at reverse_in full_reverse spell name_at content_by resource_at resources_at question_at questions_at message_at spelling element_at binding bindings_within outline_of message first_of skip numbers_from elements_within number four six port eprt delimited passive client_text server_text spelled digits verdict
+unfolding frames_on_literals
 refused_not_unicast_holds = refl
 
 -- an octet past the end of the stream
@@ -271,7 +247,7 @@ abbrev refused_past_end_settings : Settings
 refused_past_end_settings = set ([]) (pool 0xc0a8c801 0xc0a8c8fe) (pool 0xac100901 0xac1009fe) (fixed Left 0x0a000005 0xac100901 ∷ fixed Right 0x0a000005 0xc0a8c801 ∷ fixed Right 0x0a000035 0xc0a8c835 ∷ [])
 
 refused_past_end_holds : found refused_past_end_settings refused_past_end ≡ wanted refused_past_end 0
-unfolding read_frame words fold_of head_with sealed_icmp sealed_udp options_within sealed_tcp tcp_header_with sealed_payload renamed number_of cross block_end inner_with piece_at reverse_in full_reverse spell name_at content_by resource_at resources_at question_at questions_at message_at spelling element_at binding bindings_within outline_of message first_of skip numbers_from elements_within number four six port eprt delimited passive client_text server_text spelled digits verdict
+unfolding frames_on_literals
 refused_past_end_holds = refl
 
 -- protocol 47
@@ -285,7 +261,7 @@ abbrev refused_protocol_settings : Settings
 refused_protocol_settings = set ([]) (pool 0xc0a8c801 0xc0a8c8fe) (pool 0xac100901 0xac1009fe) (fixed Left 0x0a000005 0xac100901 ∷ fixed Right 0x0a000005 0xc0a8c801 ∷ fixed Right 0x0a000035 0xc0a8c835 ∷ [])
 
 refused_protocol_holds : found refused_protocol_settings refused_protocol ≡ wanted refused_protocol 0
-unfolding read_frame words fold_of head_with sealed_icmp sealed_udp options_within sealed_tcp tcp_header_with sealed_payload renamed number_of cross block_end inner_with piece_at reverse_in full_reverse spell name_at content_by resource_at resources_at question_at questions_at message_at spelling element_at binding bindings_within outline_of message first_of skip numbers_from elements_within number four six port eprt delimited passive client_text server_text spelled digits verdict
+unfolding frames_on_literals
 refused_protocol_holds = refl
 
 -- a frame whose kept length is below the original one
@@ -298,7 +274,7 @@ abbrev refused_snapped_settings : Settings
 refused_snapped_settings = set ([]) (pool 0xc0a8c801 0xc0a8c8fe) (pool 0xac100901 0xac1009fe) (fixed Left 0x0a000005 0xac100901 ∷ fixed Right 0x0a000005 0xc0a8c801 ∷ fixed Right 0x0a000035 0xc0a8c835 ∷ [])
 
 refused_snapped_holds : found refused_snapped_settings refused_snapped ≡ wanted refused_snapped 0
-unfolding read_frame words fold_of head_with sealed_icmp sealed_udp options_within sealed_tcp tcp_header_with sealed_payload renamed number_of cross block_end inner_with piece_at reverse_in full_reverse spell name_at content_by resource_at resources_at question_at questions_at message_at spelling element_at binding bindings_within outline_of message first_of skip numbers_from elements_within number four six port eprt delimited passive client_text server_text spelled digits verdict
+unfolding frames_on_literals
 refused_snapped_holds = refl
 
 -- a source in its own side's pool
@@ -312,7 +288,7 @@ abbrev refused_source_in_pool_settings : Settings
 refused_source_in_pool_settings = set ([]) (pool 0xc0a8c801 0xc0a8c8fe) (pool 0xac100901 0xac1009fe) (fixed Left 0x0a000005 0xac100901 ∷ fixed Right 0x0a000005 0xc0a8c801 ∷ fixed Right 0x0a000035 0xc0a8c835 ∷ [])
 
 refused_source_in_pool_holds : found refused_source_in_pool_settings refused_source_in_pool ≡ wanted refused_source_in_pool 0
-unfolding read_frame words fold_of head_with sealed_icmp sealed_udp options_within sealed_tcp tcp_header_with sealed_payload renamed number_of cross block_end inner_with piece_at reverse_in full_reverse spell name_at content_by resource_at resources_at question_at questions_at message_at spelling element_at binding bindings_within outline_of message first_of skip numbers_from elements_within number four six port eprt delimited passive client_text server_text spelled digits verdict
+unfolding frames_on_literals
 refused_source_in_pool_holds = refl
 
 -- a client SYN with another number
@@ -329,7 +305,7 @@ abbrev refused_syn_in_session_settings : Settings
 refused_syn_in_session_settings = set ([]) (pool 0xc0a8c801 0xc0a8c8fe) (pool 0xac100901 0xac1009fe) (fixed Left 0x0a000005 0xac100901 ∷ fixed Right 0x0a000005 0xc0a8c801 ∷ fixed Right 0x0a000035 0xc0a8c835 ∷ [])
 
 refused_syn_in_session_holds : found refused_syn_in_session_settings refused_syn_in_session ≡ wanted refused_syn_in_session 1
-unfolding read_frame words fold_of head_with sealed_icmp sealed_udp options_within sealed_tcp tcp_header_with sealed_payload renamed number_of cross block_end inner_with piece_at reverse_in full_reverse spell name_at content_by resource_at resources_at question_at questions_at message_at spelling element_at binding bindings_within outline_of message first_of skip numbers_from elements_within number four six port eprt delimited passive client_text server_text spelled digits verdict
+unfolding frames_on_literals
 refused_syn_in_session_holds = refl
 
 -- a SYN to port 21 with one octet
@@ -343,7 +319,7 @@ abbrev refused_syn_with_data_settings : Settings
 refused_syn_with_data_settings = set ([]) (pool 0xc0a8c801 0xc0a8c8fe) (pool 0xac100901 0xac1009fe) (fixed Left 0x0a000005 0xac100901 ∷ fixed Right 0x0a000005 0xc0a8c801 ∷ fixed Right 0x0a000035 0xc0a8c835 ∷ [])
 
 refused_syn_with_data_holds : found refused_syn_with_data_settings refused_syn_with_data ≡ wanted refused_syn_with_data 0
-unfolding read_frame words fold_of head_with sealed_icmp sealed_udp options_within sealed_tcp tcp_header_with sealed_payload renamed number_of cross block_end inner_with piece_at reverse_in full_reverse spell name_at content_by resource_at resources_at question_at questions_at message_at spelling element_at binding bindings_within outline_of message first_of skip numbers_from elements_within number four six port eprt delimited passive client_text server_text spelled digits verdict
+unfolding frames_on_literals
 refused_syn_with_data_holds = refl
 
 -- a lifetime of 1
@@ -357,5 +333,5 @@ abbrev refused_ttl_spent_settings : Settings
 refused_ttl_spent_settings = set ([]) (pool 0xc0a8c801 0xc0a8c8fe) (pool 0xac100901 0xac1009fe) (fixed Left 0x0a000005 0xac100901 ∷ fixed Right 0x0a000005 0xc0a8c801 ∷ fixed Right 0x0a000035 0xc0a8c835 ∷ [])
 
 refused_ttl_spent_holds : found refused_ttl_spent_settings refused_ttl_spent ≡ wanted refused_ttl_spent 0
-unfolding read_frame words fold_of head_with sealed_icmp sealed_udp options_within sealed_tcp tcp_header_with sealed_payload renamed number_of cross block_end inner_with piece_at reverse_in full_reverse spell name_at content_by resource_at resources_at question_at questions_at message_at spelling element_at binding bindings_within outline_of message first_of skip numbers_from elements_within number four six port eprt delimited passive client_text server_text spelled digits verdict
+unfolding frames_on_literals
 refused_ttl_spent_holds = refl

@@ -3,37 +3,10 @@ use Rattle.std.proofs.Common.{◌≡◌, true, List, [], ◌∷◌, refl}
 use Rattle.gate_base.specs.declared.side.Link.TheVariants.{Raw}
 use Rattle.gate_base.specs.declared.side.Side.TheVariants.{Left, Right}
 use Rattle.gate_settings.specs.declared.settings.Settings.{Settings}
-use Rattle.ether_frames.specs.Ether.{read_frame}
-use Rattle.inet_sum.specs.Sum.{words, fold_of}
-use Rattle.ipv4_frames.specs.Ipv4.{head_with}
-use Rattle.udp_icmp.specs.Icmp.{sealed_icmp}
-use Rattle.udp_icmp.specs.Udp.{sealed_udp}
-use Rattle.tcp_segments.specs.Options.{options_within}
-use Rattle.tcp_segments.specs.Tcp.{sealed_tcp, tcp_header_with}
-use Rattle.twice_translate.specs.Renamed.{sealed_payload, renamed}
-use Rattle.gate_base.specs.Address.{number_of}
-use Rattle.binding_table.specs.Bindings.{cross}
-use Rattle.gate_settings.specs.Cross.{block_end}
-use Rattle.icmp_errors.specs.Inner.{inner_with}
-use Rattle.dns_names.specs.Names.{piece_at}
-use Rattle.dns_names.specs.Octets.{reverse_in}
-use Rattle.dns_names.specs.Reverse.{full_reverse}
-use Rattle.dns_names.specs.Spelling.{spell}
-use Rattle.dns_names.specs.Walk.{name_at}
-use Rattle.dns_messages.specs.Reading.{content_by, resource_at, resources_at, question_at, questions_at, message_at}
-use Rattle.dns_messages.specs.Writing.{spelling}
-use Rattle.snmp_gateway.specs.Element.{element_at}
-use Rattle.snmp_gateway.specs.Message.{binding, bindings_within, outline_of, message}
-use Rattle.snmp_gateway.specs.Parts.{first_of, skip}
-use Rattle.snmp_oids.specs.Arcs.{numbers_from}
-use Rattle.snmp_oids.specs.Identifier.{place_behind}
-use Rattle.snmp_oids.specs.Elements.{elements_within}
-use Rattle.ftp_lines.specs.Numbers.{number, four, six}
-use Rattle.ftp_lines.specs.Grammar.{port, eprt, delimited, passive, client_text, server_text}
-use Rattle.ftp_lines.specs.Renaming.{spelled}
-use Rattle.std.specs.Fmt.{digits}
+use Rattle.twice_translate.specs.Renamed.{renamed}
 use Rattle.gate_model.specs.Verdict.{verdict}
 use Rattle.gate_model.proofs.RowWords.{Row, hex, fixed, pool, rule, set, with_rules, event, passes, found, wanted}
+use Rattle.model_cases.proofs.OnLiterals.{frames_on_literals}
 
 -- an address inside an object identifier is renamed
 abbrev snmp_identifier_renamed : List Row
@@ -46,7 +19,7 @@ abbrev snmp_identifier_renamed_settings : Settings
 snmp_identifier_renamed_settings = with_rules (rule (1 ∷ 3 ∷ 6 ∷ 1 ∷ 2 ∷ 1 ∷ 4 ∷ 20 ∷ 1 ∷ []) 1 ∷ []) (set ([]) (pool 0xc0a8c801 0xc0a8c8fe) (pool 0xac100901 0xac1009fe) (fixed Left 0x0a000005 0xac100901 ∷ fixed Right 0x0a000005 0xc0a8c801 ∷ fixed Right 0x0a000035 0xc0a8c835 ∷ []))
 
 snmp_identifier_renamed_holds : found snmp_identifier_renamed_settings snmp_identifier_renamed ≡ wanted snmp_identifier_renamed 0
-unfolding read_frame words fold_of head_with sealed_icmp sealed_udp options_within sealed_tcp tcp_header_with sealed_payload renamed number_of cross block_end inner_with piece_at reverse_in full_reverse spell name_at content_by resource_at resources_at question_at questions_at message_at spelling element_at binding bindings_within outline_of message first_of skip numbers_from place_behind elements_within number four six port eprt delimited passive client_text server_text spelled digits verdict
+unfolding frames_on_literals
 snmp_identifier_renamed_holds = refl
 
 -- an identifier with an alias, from the other side
@@ -60,5 +33,5 @@ abbrev edge_oid_from_the_right_settings : Settings
 edge_oid_from_the_right_settings = with_rules (rule (1 ∷ 3 ∷ 6 ∷ 1 ∷ 2 ∷ 1 ∷ 4 ∷ 20 ∷ 1 ∷ []) 1 ∷ []) (set ([]) (pool 0xc0a8c801 0xc0a8c8fe) (pool 0xac100901 0xac1009fe) (fixed Left 0x0a000005 0xac100901 ∷ fixed Right 0x0a000005 0xc0a8c801 ∷ fixed Right 0x0a000035 0xc0a8c835 ∷ []))
 
 edge_oid_from_the_right_holds : found edge_oid_from_the_right_settings edge_oid_from_the_right ≡ wanted edge_oid_from_the_right 0
-unfolding read_frame words fold_of head_with sealed_icmp sealed_udp options_within sealed_tcp tcp_header_with sealed_payload renamed number_of cross block_end inner_with piece_at reverse_in full_reverse spell name_at content_by resource_at resources_at question_at questions_at message_at spelling element_at binding bindings_within outline_of message first_of skip numbers_from place_behind elements_within number four six port eprt delimited passive client_text server_text spelled digits verdict
+unfolding frames_on_literals
 edge_oid_from_the_right_holds = refl

@@ -4,36 +4,10 @@ use Rattle.gate_base.specs.declared.refusal.Refusal.TheVariants.{NoSession, Pool
 use Rattle.gate_base.specs.declared.side.Link.TheVariants.{Raw}
 use Rattle.gate_base.specs.declared.side.Side.TheVariants.{Left, Right}
 use Rattle.gate_settings.specs.declared.settings.Settings.{Settings}
-use Rattle.ether_frames.specs.Ether.{read_frame}
-use Rattle.inet_sum.specs.Sum.{words, fold_of}
-use Rattle.ipv4_frames.specs.Ipv4.{head_with}
-use Rattle.udp_icmp.specs.Icmp.{sealed_icmp}
-use Rattle.udp_icmp.specs.Udp.{sealed_udp}
-use Rattle.tcp_segments.specs.Options.{options_within}
-use Rattle.tcp_segments.specs.Tcp.{sealed_tcp, tcp_header_with}
-use Rattle.twice_translate.specs.Renamed.{sealed_payload, renamed}
-use Rattle.gate_base.specs.Address.{number_of}
-use Rattle.binding_table.specs.Bindings.{cross}
-use Rattle.gate_settings.specs.Cross.{block_end}
-use Rattle.icmp_errors.specs.Inner.{inner_with}
-use Rattle.dns_names.specs.Names.{piece_at}
-use Rattle.dns_names.specs.Octets.{reverse_in}
-use Rattle.dns_names.specs.Reverse.{full_reverse}
-use Rattle.dns_names.specs.Spelling.{spell}
-use Rattle.dns_names.specs.Walk.{name_at}
-use Rattle.dns_messages.specs.Reading.{content_by, resource_at, resources_at, question_at, questions_at, message_at}
-use Rattle.dns_messages.specs.Writing.{spelling}
-use Rattle.snmp_gateway.specs.Element.{element_at}
-use Rattle.snmp_gateway.specs.Message.{binding, bindings_within, outline_of, message}
-use Rattle.snmp_gateway.specs.Parts.{first_of, skip}
-use Rattle.snmp_oids.specs.Arcs.{numbers_from}
-use Rattle.snmp_oids.specs.Elements.{elements_within}
-use Rattle.ftp_lines.specs.Numbers.{number, four, six}
-use Rattle.ftp_lines.specs.Grammar.{port, eprt, delimited, passive, client_text, server_text}
-use Rattle.ftp_lines.specs.Renaming.{spelled}
-use Rattle.std.specs.Fmt.{digits}
+use Rattle.twice_translate.specs.Renamed.{renamed}
 use Rattle.gate_model.specs.Verdict.{verdict}
 use Rattle.gate_model.proofs.RowWords.{Row, hex, fixed, pool, set, event, passes, refused, found, wanted}
+use Rattle.model_cases.proofs.OnLiterals.{frames_on_literals}
 
 -- a repeat of octets whose image is acknowledged gives one empty segment
 abbrev repeat_of_acknowledged_line : List Row
@@ -50,7 +24,7 @@ abbrev repeat_of_acknowledged_line_settings : Settings
 repeat_of_acknowledged_line_settings = set ([]) (pool 0xc0a8c801 0xc0a8c8fe) (pool 0xac100901 0xac1009fe) (fixed Left 0x0a000005 0xac100901 ∷ fixed Right 0x0a000005 0xc0a8c801 ∷ fixed Right 0x0a000035 0xc0a8c835 ∷ [])
 
 repeat_of_acknowledged_line_holds : found repeat_of_acknowledged_line_settings repeat_of_acknowledged_line ≡ wanted repeat_of_acknowledged_line 1
-unfolding read_frame words fold_of head_with sealed_icmp sealed_udp options_within sealed_tcp tcp_header_with sealed_payload renamed number_of cross block_end inner_with piece_at reverse_in full_reverse spell name_at content_by resource_at resources_at question_at questions_at message_at spelling element_at binding bindings_within outline_of message first_of skip numbers_from elements_within number four six port eprt delimited passive client_text server_text spelled digits verdict
+unfolding frames_on_literals
 repeat_of_acknowledged_line_holds = refl
 
 -- repeats after the end was acknowledged give empty segments
@@ -70,7 +44,7 @@ abbrev repeats_after_acknowledged_end_settings : Settings
 repeats_after_acknowledged_end_settings = set ([]) (pool 0xc0a8c801 0xc0a8c8fe) (pool 0xac100901 0xac1009fe) (fixed Left 0x0a000005 0xac100901 ∷ fixed Right 0x0a000005 0xc0a8c801 ∷ fixed Right 0x0a000035 0xc0a8c835 ∷ [])
 
 repeats_after_acknowledged_end_holds : found repeats_after_acknowledged_end_settings repeats_after_acknowledged_end ≡ wanted repeats_after_acknowledged_end 0
-unfolding read_frame words fold_of head_with sealed_icmp sealed_udp options_within sealed_tcp tcp_header_with sealed_payload renamed number_of cross block_end inner_with piece_at reverse_in full_reverse spell name_at content_by resource_at resources_at question_at questions_at message_at spelling element_at binding bindings_within outline_of message first_of skip numbers_from elements_within number four six port eprt delimited passive client_text server_text spelled digits verdict
+unfolding frames_on_literals
 repeats_after_acknowledged_end_holds = refl
 
 -- a reset that answers a SYN keeps its numbers and ends the session
@@ -85,7 +59,7 @@ abbrev reset_answers_syn_settings : Settings
 reset_answers_syn_settings = set ([]) (pool 0xc0a8c801 0xc0a8c8fe) (pool 0xac100901 0xac1009fe) (fixed Left 0x0a000005 0xac100901 ∷ fixed Right 0x0a000005 0xc0a8c801 ∷ fixed Right 0x0a000035 0xc0a8c835 ∷ [])
 
 reset_answers_syn_holds : found reset_answers_syn_settings reset_answers_syn ≡ wanted reset_answers_syn 0
-unfolding read_frame words fold_of head_with sealed_icmp sealed_udp options_within sealed_tcp tcp_header_with sealed_payload renamed number_of cross block_end inner_with piece_at reverse_in full_reverse spell name_at content_by resource_at resources_at question_at questions_at message_at spelling element_at binding bindings_within outline_of message first_of skip numbers_from elements_within number four six port eprt delimited passive client_text server_text spelled digits verdict
+unfolding frames_on_literals
 reset_answers_syn_holds = refl
 
 -- octets that begin no bearing line go out at once
@@ -102,7 +76,7 @@ abbrev rest_that_agrees_with_no_front_settings : Settings
 rest_that_agrees_with_no_front_settings = set ([]) (pool 0xc0a8c801 0xc0a8c8fe) (pool 0xac100901 0xac1009fe) (fixed Left 0x0a000005 0xac100901 ∷ fixed Right 0x0a000005 0xc0a8c801 ∷ fixed Right 0x0a000035 0xc0a8c835 ∷ [])
 
 rest_that_agrees_with_no_front_holds : found rest_that_agrees_with_no_front_settings rest_that_agrees_with_no_front ≡ wanted rest_that_agrees_with_no_front 0
-unfolding read_frame words fold_of head_with sealed_icmp sealed_udp options_within sealed_tcp tcp_header_with sealed_payload renamed number_of cross block_end inner_with piece_at reverse_in full_reverse spell name_at content_by resource_at resources_at question_at questions_at message_at spelling element_at binding bindings_within outline_of message first_of skip numbers_from elements_within number four six port eprt delimited passive client_text server_text spelled digits verdict
+unfolding frames_on_literals
 rest_that_agrees_with_no_front_holds = refl
 
 -- a rest of 512 octets isn't held
@@ -119,7 +93,7 @@ abbrev rest_too_long_is_released_settings : Settings
 rest_too_long_is_released_settings = set ([]) (pool 0xc0a8c801 0xc0a8c8fe) (pool 0xac100901 0xac1009fe) (fixed Left 0x0a000005 0xac100901 ∷ fixed Right 0x0a000005 0xc0a8c801 ∷ fixed Right 0x0a000035 0xc0a8c835 ∷ [])
 
 rest_too_long_is_released_holds : found rest_too_long_is_released_settings rest_too_long_is_released ≡ wanted rest_too_long_is_released 0
-unfolding read_frame words fold_of head_with sealed_icmp sealed_udp options_within sealed_tcp tcp_header_with sealed_payload renamed number_of cross block_end inner_with piece_at reverse_in full_reverse spell name_at content_by resource_at resources_at question_at questions_at message_at spelling element_at binding bindings_within outline_of message first_of skip numbers_from elements_within number four six port eprt delimited passive client_text server_text spelled digits verdict
+unfolding frames_on_literals
 rest_too_long_is_released_holds = refl
 
 -- the numbers of a session pass 2^32
@@ -137,7 +111,7 @@ abbrev sequence_wraparound_settings : Settings
 sequence_wraparound_settings = set ([]) (pool 0xc0a8c801 0xc0a8c8fe) (pool 0xac100901 0xac1009fe) (fixed Left 0x0a000005 0xac100901 ∷ fixed Right 0x0a000005 0xc0a8c801 ∷ fixed Right 0x0a000035 0xc0a8c835 ∷ [])
 
 sequence_wraparound_holds : found sequence_wraparound_settings sequence_wraparound ≡ wanted sequence_wraparound 1
-unfolding read_frame words fold_of head_with sealed_icmp sealed_udp options_within sealed_tcp tcp_header_with sealed_payload renamed number_of cross block_end inner_with piece_at reverse_in full_reverse spell name_at content_by resource_at resources_at question_at questions_at message_at spelling element_at binding bindings_within outline_of message first_of skip numbers_from elements_within number four six port eprt delimited passive client_text server_text spelled digits verdict
+unfolding frames_on_literals
 sequence_wraparound_holds = refl
 
 -- a session's segment one nanosecond before its timeout has passed
@@ -153,7 +127,7 @@ abbrev session_at_last_moment_settings : Settings
 session_at_last_moment_settings = set ([]) (pool 0xc0a8c801 0xc0a8c8fe) (pool 0xac100901 0xac1009fe) (fixed Left 0x0a000005 0xac100901 ∷ fixed Right 0x0a000005 0xc0a8c801 ∷ fixed Right 0x0a000035 0xc0a8c835 ∷ [])
 
 session_at_last_moment_holds : found session_at_last_moment_settings session_at_last_moment ≡ wanted session_at_last_moment 0
-unfolding read_frame words fold_of head_with sealed_icmp sealed_udp options_within sealed_tcp tcp_header_with sealed_payload renamed number_of cross block_end inner_with piece_at reverse_in full_reverse spell name_at content_by resource_at resources_at question_at questions_at message_at spelling element_at binding bindings_within outline_of message first_of skip numbers_from elements_within number four six port eprt delimited passive client_text server_text spelled digits verdict
+unfolding frames_on_literals
 session_at_last_moment_holds = refl
 
 -- a session's segment when its timeout has passed
@@ -169,7 +143,7 @@ abbrev session_gone_after_hold_settings : Settings
 session_gone_after_hold_settings = set ([]) (pool 0xc0a8c801 0xc0a8c8fe) (pool 0xac100901 0xac1009fe) (fixed Left 0x0a000005 0xac100901 ∷ fixed Right 0x0a000005 0xc0a8c801 ∷ fixed Right 0x0a000035 0xc0a8c835 ∷ [])
 
 session_gone_after_hold_holds : found session_gone_after_hold_settings session_gone_after_hold ≡ wanted session_gone_after_hold 0
-unfolding read_frame words fold_of head_with sealed_icmp sealed_udp options_within sealed_tcp tcp_header_with sealed_payload renamed number_of cross block_end inner_with piece_at reverse_in full_reverse spell name_at content_by resource_at resources_at question_at questions_at message_at spelling element_at binding bindings_within outline_of message first_of skip numbers_from elements_within number four six port eprt delimited passive client_text server_text spelled digits verdict
+unfolding frames_on_literals
 session_gone_after_hold_holds = refl
 
 -- octets are cut by the receiver's MSS, PSH stands on the last piece
@@ -185,7 +159,7 @@ abbrev small_mss_cuts_octets_settings : Settings
 small_mss_cuts_octets_settings = set ([]) (pool 0xc0a8c801 0xc0a8c8fe) (pool 0xac100901 0xac1009fe) (fixed Left 0x0a000005 0xac100901 ∷ fixed Right 0x0a000005 0xc0a8c801 ∷ fixed Right 0x0a000035 0xc0a8c835 ∷ [])
 
 small_mss_cuts_octets_holds : found small_mss_cuts_octets_settings small_mss_cuts_octets ≡ wanted small_mss_cuts_octets 0
-unfolding read_frame words fold_of head_with sealed_icmp sealed_udp options_within sealed_tcp tcp_header_with sealed_payload renamed number_of cross block_end inner_with piece_at reverse_in full_reverse spell name_at content_by resource_at resources_at question_at questions_at message_at spelling element_at binding bindings_within outline_of message first_of skip numbers_from elements_within number four six port eprt delimited passive client_text server_text spelled digits verdict
+unfolding frames_on_literals
 small_mss_cuts_octets_holds = refl
 
 -- a UDP checksum that computes to 0 is sent as FFFF
@@ -198,7 +172,7 @@ abbrev udp_checksum_computes_to_zero_settings : Settings
 udp_checksum_computes_to_zero_settings = set ([]) (pool 0xc0a8c801 0xc0a8c8fe) (pool 0xac100901 0xac1009fe) (fixed Left 0x0a000005 0xac100901 ∷ fixed Right 0x0a000005 0xc0a8c801 ∷ fixed Right 0x0a000035 0xc0a8c835 ∷ [])
 
 udp_checksum_computes_to_zero_holds : found udp_checksum_computes_to_zero_settings udp_checksum_computes_to_zero ≡ wanted udp_checksum_computes_to_zero 0
-unfolding read_frame words fold_of head_with sealed_icmp sealed_udp options_within sealed_tcp tcp_header_with sealed_payload renamed number_of cross block_end inner_with piece_at reverse_in full_reverse spell name_at content_by resource_at resources_at question_at questions_at message_at spelling element_at binding bindings_within outline_of message first_of skip numbers_from elements_within number four six port eprt delimited passive client_text server_text spelled digits verdict
+unfolding frames_on_literals
 udp_checksum_computes_to_zero_holds = refl
 
 -- an alias is free again exactly when its UDP timeout has passed
@@ -214,7 +188,7 @@ abbrev udp_hold_and_pool_of_one_settings : Settings
 udp_hold_and_pool_of_one_settings = set ([]) (pool 0xc0a8c801 0xc0a8c8fe) (pool 0xac100901 0xac100901) (fixed Right 0x0a000005 0xc0a8c801 ∷ [])
 
 udp_hold_and_pool_of_one_holds : found udp_hold_and_pool_of_one_settings udp_hold_and_pool_of_one ≡ wanted udp_hold_and_pool_of_one 0
-unfolding read_frame words fold_of head_with sealed_icmp sealed_udp options_within sealed_tcp tcp_header_with sealed_payload renamed number_of cross block_end inner_with piece_at reverse_in full_reverse spell name_at content_by resource_at resources_at question_at questions_at message_at spelling element_at binding bindings_within outline_of message first_of skip numbers_from elements_within number four six port eprt delimited passive client_text server_text spelled digits verdict
+unfolding frames_on_literals
 udp_hold_and_pool_of_one_holds = refl
 
 -- one UDP datagram crosses from left to right with both addresses renamed
@@ -227,7 +201,7 @@ abbrev udp_left_to_right_settings : Settings
 udp_left_to_right_settings = set ([]) (pool 0xc0a8c801 0xc0a8c8fe) (pool 0xac100901 0xac1009fe) (fixed Left 0x0a000005 0xac100901 ∷ fixed Right 0x0a000005 0xc0a8c801 ∷ fixed Right 0x0a000035 0xc0a8c835 ∷ [])
 
 udp_left_to_right_holds : found udp_left_to_right_settings udp_left_to_right ≡ wanted udp_left_to_right 0
-unfolding read_frame words fold_of head_with sealed_icmp sealed_udp options_within sealed_tcp tcp_header_with sealed_payload renamed number_of cross block_end inner_with piece_at reverse_in full_reverse spell name_at content_by resource_at resources_at question_at questions_at message_at spelling element_at binding bindings_within outline_of message first_of skip numbers_from elements_within number four six port eprt delimited passive client_text server_text spelled digits verdict
+unfolding frames_on_literals
 udp_left_to_right_holds = refl
 
 -- a UDP checksum of 0 stays 0
@@ -240,7 +214,7 @@ abbrev udp_without_checksum_settings : Settings
 udp_without_checksum_settings = set ([]) (pool 0xc0a8c801 0xc0a8c8fe) (pool 0xac100901 0xac1009fe) (fixed Left 0x0a000005 0xac100901 ∷ fixed Right 0x0a000005 0xc0a8c801 ∷ fixed Right 0x0a000035 0xc0a8c835 ∷ [])
 
 udp_without_checksum_holds : found udp_without_checksum_settings udp_without_checksum ≡ wanted udp_without_checksum 0
-unfolding read_frame words fold_of head_with sealed_icmp sealed_udp options_within sealed_tcp tcp_header_with sealed_payload renamed number_of cross block_end inner_with piece_at reverse_in full_reverse spell name_at content_by resource_at resources_at question_at questions_at message_at spelling element_at binding bindings_within outline_of message first_of skip numbers_from elements_within number four six port eprt delimited passive client_text server_text spelled digits verdict
+unfolding frames_on_literals
 udp_without_checksum_holds = refl
 
 -- the same SYN without a session
@@ -253,7 +227,7 @@ abbrev untracked_syn_from_right_settings : Settings
 untracked_syn_from_right_settings = set ([]) (pool 0xc0a8c801 0xc0a8c8fe) (pool 0xac100901 0xac1009fe) (fixed Left 0x0a000005 0xac100901 ∷ fixed Right 0x0a000005 0xc0a8c801 ∷ fixed Right 0x0a000035 0xc0a8c835 ∷ [])
 
 untracked_syn_from_right_holds : found untracked_syn_from_right_settings untracked_syn_from_right ≡ wanted untracked_syn_from_right 0
-unfolding read_frame words fold_of head_with sealed_icmp sealed_udp options_within sealed_tcp tcp_header_with sealed_payload renamed number_of cross block_end inner_with piece_at reverse_in full_reverse spell name_at content_by resource_at resources_at question_at questions_at message_at spelling element_at binding bindings_within outline_of message first_of skip numbers_from elements_within number four six port eprt delimited passive client_text server_text spelled digits verdict
+unfolding frames_on_literals
 untracked_syn_from_right_holds = refl
 
 -- every octet of a renamed PORT segment
@@ -269,5 +243,5 @@ abbrev whole_tcp_datagram_settings : Settings
 whole_tcp_datagram_settings = set ([]) (pool 0xc0a8c801 0xc0a8c8fe) (pool 0xac100901 0xac1009fe) (fixed Left 0x0a000005 0xac100901 ∷ fixed Right 0x0a000005 0xc0a8c801 ∷ fixed Right 0x0a000035 0xc0a8c835 ∷ [])
 
 whole_tcp_datagram_holds : found whole_tcp_datagram_settings whole_tcp_datagram ≡ wanted whole_tcp_datagram 1
-unfolding read_frame words fold_of head_with sealed_icmp sealed_udp options_within sealed_tcp tcp_header_with sealed_payload renamed number_of cross block_end inner_with piece_at reverse_in full_reverse spell name_at content_by resource_at resources_at question_at questions_at message_at spelling element_at binding bindings_within outline_of message first_of skip numbers_from elements_within number four six port eprt delimited passive client_text server_text spelled digits verdict
+unfolding frames_on_literals
 whole_tcp_datagram_holds = refl

@@ -4,37 +4,12 @@ use Rattle.gate_base.specs.declared.refusal.Refusal.TheVariants.{BadUnit, NoSess
 use Rattle.gate_base.specs.declared.side.Link.TheVariants.{Raw}
 use Rattle.gate_base.specs.declared.side.Side.TheVariants.{Left, Right}
 use Rattle.gate_settings.specs.declared.settings.Settings.{Settings}
-use Rattle.ether_frames.specs.Ether.{read_frame}
-use Rattle.inet_sum.specs.Sum.{words, fold_of}
-use Rattle.ipv4_frames.specs.Ipv4.{head_with}
-use Rattle.udp_icmp.specs.Icmp.{sealed_icmp}
-use Rattle.udp_icmp.specs.Udp.{sealed_udp}
-use Rattle.tcp_segments.specs.Options.{options_within}
-use Rattle.tcp_segments.specs.Tcp.{sealed_tcp, tcp_header_with}
-use Rattle.twice_translate.specs.Renamed.{sealed_payload, renamed}
-use Rattle.gate_base.specs.Address.{number_of}
-use Rattle.binding_table.specs.Bindings.{cross}
-use Rattle.gate_settings.specs.Cross.{block_end}
-use Rattle.icmp_errors.specs.Inner.{inner_with}
-use Rattle.dns_names.specs.Names.{piece_at}
-use Rattle.dns_names.specs.Octets.{reverse_in}
-use Rattle.dns_names.specs.Reverse.{full_reverse}
-use Rattle.dns_names.specs.Spelling.{spell}
-use Rattle.dns_names.specs.Walk.{name_at}
-use Rattle.dns_messages.specs.Reading.{content_by, resource_at, resources_at, question_at, questions_at, message_at}
-use Rattle.dns_messages.specs.Writing.{spelling}
-use Rattle.snmp_gateway.specs.Element.{element_at}
-use Rattle.snmp_gateway.specs.Message.{binding, bindings_within, outline_of, message}
-use Rattle.snmp_gateway.specs.Parts.{first_of, skip}
-use Rattle.snmp_oids.specs.Arcs.{numbers_from}
-use Rattle.snmp_oids.specs.Elements.{elements_within}
-use Rattle.dns_stream.specs.Images.{renamed as unit_renamed}
-use Rattle.ftp_lines.specs.Numbers.{number, four, six}
-use Rattle.ftp_lines.specs.Grammar.{port, eprt, delimited, passive, client_text, server_text}
-use Rattle.ftp_lines.specs.Renaming.{spelled}
-use Rattle.std.specs.Fmt.{digits}
+use Rattle.twice_translate.specs.Renamed.{renamed}
+use Rattle.snmp_gateway.specs.Message.{message}
+use Rattle.ftp_lines.specs.Grammar.{port}
 use Rattle.gate_model.specs.Verdict.{verdict}
 use Rattle.gate_model.proofs.RowWords.{Row, hex, fixed, pool, set, event, passes, refused, found, wanted}
+use Rattle.model_cases.proofs.OnLiterals.{frames_on_literals}
 
 -- questions and answers over TCP are renamed
 abbrev dns_over_tcp : List Row
@@ -54,7 +29,7 @@ abbrev dns_over_tcp_settings : Settings
 dns_over_tcp_settings = set ([]) (pool 0xc0a8c801 0xc0a8c8fe) (pool 0xac100901 0xac1009fe) (fixed Left 0x0a000005 0xac100901 ∷ fixed Right 0x0a000005 0xc0a8c801 ∷ fixed Right 0x0a000035 0xc0a8c835 ∷ [])
 
 dns_over_tcp_holds : found dns_over_tcp_settings dns_over_tcp ≡ wanted dns_over_tcp 1
-unfolding read_frame words fold_of head_with sealed_icmp sealed_udp options_within sealed_tcp tcp_header_with sealed_payload renamed number_of cross block_end inner_with piece_at reverse_in full_reverse spell name_at content_by resource_at resources_at question_at questions_at message_at spelling element_at binding bindings_within outline_of message first_of skip numbers_from elements_within unit_renamed number four six port eprt delimited passive client_text server_text spelled digits verdict
+unfolding frames_on_literals
 dns_over_tcp_holds = refl
 
 -- a unit that holds no message or names too much
@@ -70,7 +45,7 @@ abbrev dns_over_tcp_bad_unit_0000_settings : Settings
 dns_over_tcp_bad_unit_0000_settings = set ([]) (pool 0xc0a8c801 0xc0a8c8fe) (pool 0xac100901 0xac1009fe) (fixed Left 0x0a000005 0xac100901 ∷ fixed Right 0x0a000005 0xc0a8c801 ∷ fixed Right 0x0a000035 0xc0a8c835 ∷ [])
 
 dns_over_tcp_bad_unit_0000_holds : found dns_over_tcp_bad_unit_0000_settings dns_over_tcp_bad_unit_0000 ≡ wanted dns_over_tcp_bad_unit_0000 0
-unfolding read_frame words fold_of head_with sealed_icmp sealed_udp options_within sealed_tcp tcp_header_with sealed_payload renamed number_of cross block_end inner_with piece_at reverse_in full_reverse spell name_at content_by resource_at resources_at question_at questions_at message_at spelling element_at binding bindings_within outline_of message first_of skip numbers_from elements_within unit_renamed number four six port eprt delimited passive client_text server_text spelled digits verdict
+unfolding frames_on_literals
 dns_over_tcp_bad_unit_0000_holds = refl
 
 -- a unit that holds no message or names too much
@@ -86,7 +61,7 @@ abbrev dns_over_tcp_bad_unit_2001_settings : Settings
 dns_over_tcp_bad_unit_2001_settings = set ([]) (pool 0xc0a8c801 0xc0a8c8fe) (pool 0xac100901 0xac1009fe) (fixed Left 0x0a000005 0xac100901 ∷ fixed Right 0x0a000005 0xc0a8c801 ∷ fixed Right 0x0a000035 0xc0a8c835 ∷ [])
 
 dns_over_tcp_bad_unit_2001_holds : found dns_over_tcp_bad_unit_2001_settings dns_over_tcp_bad_unit_2001 ≡ wanted dns_over_tcp_bad_unit_2001 0
-unfolding read_frame words fold_of head_with sealed_icmp sealed_udp options_within sealed_tcp tcp_header_with sealed_payload renamed number_of cross block_end inner_with piece_at reverse_in full_reverse spell name_at content_by resource_at resources_at question_at questions_at message_at spelling element_at binding bindings_within outline_of message first_of skip numbers_from elements_within unit_renamed number four six port eprt delimited passive client_text server_text spelled digits verdict
+unfolding frames_on_literals
 dns_over_tcp_bad_unit_2001_holds = refl
 
 -- a SYN to port 53 begins a session
@@ -99,7 +74,7 @@ abbrev dns_over_tcp_opens_session_settings : Settings
 dns_over_tcp_opens_session_settings = set ([]) (pool 0xc0a8c801 0xc0a8c8fe) (pool 0xac100901 0xac1009fe) (fixed Left 0x0a000005 0xac100901 ∷ fixed Right 0x0a000005 0xc0a8c801 ∷ fixed Right 0x0a000035 0xc0a8c835 ∷ [])
 
 dns_over_tcp_opens_session_holds : found dns_over_tcp_opens_session_settings dns_over_tcp_opens_session ≡ wanted dns_over_tcp_opens_session 0
-unfolding read_frame words fold_of head_with sealed_icmp sealed_udp options_within sealed_tcp tcp_header_with sealed_payload renamed number_of cross block_end inner_with piece_at reverse_in full_reverse spell name_at content_by resource_at resources_at question_at questions_at message_at spelling element_at binding bindings_within outline_of message first_of skip numbers_from elements_within unit_renamed number four six port eprt delimited passive client_text server_text spelled digits verdict
+unfolding frames_on_literals
 dns_over_tcp_opens_session_holds = refl
 
 -- neither an answer nor a question goes on where no connection lives
@@ -116,7 +91,7 @@ abbrev dns_port_without_session_settings : Settings
 dns_port_without_session_settings = set ([]) (pool 0xc0a8c801 0xc0a8c8fe) (pool 0xac100901 0xac1009fe) (fixed Left 0x0a000005 0xac100901 ∷ fixed Right 0x0a000005 0xc0a8c801 ∷ fixed Right 0x0a000035 0xc0a8c835 ∷ [])
 
 dns_port_without_session_holds : found dns_port_without_session_settings dns_port_without_session ≡ wanted dns_port_without_session 0
-unfolding read_frame words fold_of head_with sealed_icmp sealed_udp options_within sealed_tcp tcp_header_with sealed_payload renamed number_of cross block_end inner_with piece_at reverse_in full_reverse spell name_at content_by resource_at resources_at question_at questions_at message_at spelling element_at binding bindings_within outline_of message first_of skip numbers_from elements_within unit_renamed number four six port eprt delimited passive client_text server_text spelled digits verdict
+unfolding frames_on_literals
 dns_port_without_session_holds = refl
 
 -- from port 53 to port 21: lines, and no units
@@ -131,7 +106,7 @@ abbrev dns_from_control_port_settings : Settings
 dns_from_control_port_settings = set ([]) (pool 0xc0a8c801 0xc0a8c8fe) (pool 0xac100901 0xac1009fe) (fixed Left 0x0a000005 0xac100901 ∷ fixed Right 0x0a000005 0xc0a8c801 ∷ fixed Right 0x0a000035 0xc0a8c835 ∷ [])
 
 dns_from_control_port_holds : found dns_from_control_port_settings dns_from_control_port ≡ wanted dns_from_control_port 1
-unfolding read_frame words fold_of head_with sealed_icmp sealed_udp options_within sealed_tcp tcp_header_with sealed_payload renamed number_of cross block_end inner_with piece_at reverse_in full_reverse spell name_at content_by resource_at resources_at question_at questions_at message_at spelling element_at binding bindings_within outline_of message first_of skip numbers_from elements_within unit_renamed number four six port eprt delimited passive client_text server_text spelled digits verdict
+unfolding frames_on_literals
 dns_from_control_port_holds = refl
 
 -- from port 21 to port 53: units, and no lines
@@ -147,7 +122,7 @@ abbrev dns_to_dns_from_control_port_settings : Settings
 dns_to_dns_from_control_port_settings = set ([]) (pool 0xc0a8c801 0xc0a8c8fe) (pool 0xac100901 0xac1009fe) (fixed Left 0x0a000005 0xac100901 ∷ fixed Right 0x0a000005 0xc0a8c801 ∷ fixed Right 0x0a000035 0xc0a8c835 ∷ [])
 
 dns_to_dns_from_control_port_holds : found dns_to_dns_from_control_port_settings dns_to_dns_from_control_port ≡ wanted dns_to_dns_from_control_port 1
-unfolding read_frame words fold_of head_with sealed_icmp sealed_udp options_within sealed_tcp tcp_header_with sealed_payload renamed number_of cross block_end inner_with piece_at reverse_in full_reverse spell name_at content_by resource_at resources_at question_at questions_at message_at spelling element_at binding bindings_within outline_of message first_of skip numbers_from elements_within unit_renamed number four six port eprt delimited passive client_text server_text spelled digits verdict
+unfolding frames_on_literals
 dns_to_dns_from_control_port_holds = refl
 
 -- a pool address that stands for no host; where it is bound meanwhile, the unit passes
@@ -165,7 +140,7 @@ abbrev unit_unbound_settings : Settings
 unit_unbound_settings = set ([]) (pool 0xc0a8c801 0xc0a8c8fe) (pool 0xac100901 0xac1009fe) (fixed Left 0x0a000005 0xac100901 ∷ fixed Right 0x0a000005 0xc0a8c801 ∷ fixed Right 0x0a000035 0xc0a8c835 ∷ [])
 
 unit_unbound_holds : found unit_unbound_settings unit_unbound ≡ wanted unit_unbound 1
-unfolding read_frame words fold_of head_with sealed_icmp sealed_udp options_within sealed_tcp tcp_header_with sealed_payload renamed number_of cross block_end inner_with piece_at reverse_in full_reverse spell name_at content_by resource_at resources_at question_at questions_at message_at spelling element_at binding bindings_within outline_of message first_of skip numbers_from elements_within unit_renamed number four six port eprt delimited passive client_text server_text spelled digits verdict
+unfolding frames_on_literals
 unit_unbound_holds = refl
 
 -- Unlike before BadUnit, BadUnit before UnitUnbound, that before PoolEmpty
@@ -185,7 +160,7 @@ abbrev unit_refusals_in_order_settings : Settings
 unit_refusals_in_order_settings = set ([]) (pool 0xc0a8c801 0xc0a8c8fe) (pool 0xac100901 0xac1009fe) (fixed Left 0x0a000005 0xac100901 ∷ fixed Right 0x0a000005 0xc0a8c801 ∷ fixed Right 0x0a000035 0xc0a8c835 ∷ [])
 
 unit_refusals_in_order_holds : found unit_refusals_in_order_settings unit_refusals_in_order ≡ wanted unit_refusals_in_order 0
-unfolding read_frame words fold_of head_with sealed_icmp sealed_udp options_within sealed_tcp tcp_header_with sealed_payload renamed number_of cross block_end inner_with piece_at reverse_in full_reverse spell name_at content_by resource_at resources_at question_at questions_at message_at spelling element_at binding bindings_within outline_of message first_of skip numbers_from elements_within unit_renamed number four six port eprt delimited passive client_text server_text spelled digits verdict
+unfolding frames_on_literals
 unit_refusals_in_order_holds = refl
 
 -- a unit that comes again goes on as it did, also where only a part of it comes
@@ -207,5 +182,5 @@ abbrev unit_repeated_settings : Settings
 unit_repeated_settings = set ([]) (pool 0xc0a8c801 0xc0a8c8fe) (pool 0xac100901 0xac1009fe) (fixed Left 0x0a000005 0xac100901 ∷ fixed Right 0x0a000005 0xc0a8c801 ∷ fixed Right 0x0a000035 0xc0a8c835 ∷ [])
 
 unit_repeated_holds : found unit_repeated_settings unit_repeated ≡ wanted unit_repeated 1
-unfolding read_frame words fold_of head_with sealed_icmp sealed_udp options_within sealed_tcp tcp_header_with sealed_payload renamed number_of cross block_end inner_with piece_at reverse_in full_reverse spell name_at content_by resource_at resources_at question_at questions_at message_at spelling element_at binding bindings_within outline_of message first_of skip numbers_from elements_within unit_renamed number four six port eprt delimited passive client_text server_text spelled digits verdict
+unfolding frames_on_literals
 unit_repeated_holds = refl

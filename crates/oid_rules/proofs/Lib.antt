@@ -1,3 +1,4 @@
 mod Prefixes
 mod Halving
 mod First
+mod Tried

@@ -1,5 +1,5 @@
 -- Rules sorted by their arcs, and what is found among them.
-use Rattle.std.specs.Prelude.{◌≡◌, ℕ, ◌+◌, ◌<◌, ◌≤◌, ◌==◌, nat_eq, Bool, true, false, nat_lt, if◌then◌else◌, List, [], ◌∷◌, length, slice_index_or, Option, Some, None, option_map, IfSome, IsSome, IsTrue, All}
+use Rattle.std.specs.Prelude.{◌≡◌, ℕ, ◌+◌, ◌<◌, ◌≤◌, ◌==◌, nat_eq, Bool, true, false, nat_lt, if◌then◌else◌, List, [], ◌∷◌, length, slice_index_or, Option, Some, None, option_map, IfSome, IsSome, IsTrue, All, ◌⊎◌}
 use Rattle.std.specs.List.{starts_with}
 use Rattle.std.specs.List.Sorted.{IsPermutation}
 use Rattle.std.specs.Option.{option_or}
@@ -19,6 +19,14 @@ abbrev pub compared : List ℕ → List ℕ → Compared
 compared arcs [] = Begins
 compared [] (y ∷ ys) = Before
 compared (x ∷ xs) (y ∷ ys) = if x == y then compared xs ys else order_of x y
+
+-- how many arcs stand before the address that a rule names
+abbrev pub before : OidRule → ℕ
+before rule = length rule.prefix + rule.skip
+
+-- the address that a rule names, by those behind so many arcs
+abbrev pub by_rule : (ℕ → Option ℕ) → OidRule → Option ℕ
+by_rule address rule = address (before rule)
 
 -- the first rule whose arcs begin these and which names an address, and that address
 abbrev pub first_begun : (OidRule → Option ℕ) → List ℕ → List OidRule → Option (OidRule × ℕ)
@@ -83,13 +91,47 @@ abbrev pub IsEarly : List Numbered → Option (ℕ × Addr) → ℕ → Type 0
 IsEarly sorted None number = ⊥
 IsEarly sorted (Some found) number = (rule_at sorted found.0).number ≤ number
 
+-- ## What is tried
+
+-- the earlier one in the list of two rules
+abbrev pub earlier_of : List Numbered → ℕ → ℕ → ℕ
+earlier_of sorted place other = if nat_lt (rule_at sorted other).number (rule_at sorted place).number then other else place
+
+abbrev pub before_at : List Numbered → ℕ → ℕ
+before_at sorted place = before (rule_at sorted place).rule
+
+-- rules with one more, which takes the place of those whose addresses stand where its own does, or of which one stands for it
+abbrev pub with_rule : List Numbered → List ℕ → ℕ → List ℕ
+with_rule sorted [] one = one ∷ []
+with_rule sorted (place ∷ rest) one = if before_at sorted place == before_at sorted one then with_rule sorted rest (earlier_of sorted one place) else place ∷ with_rule sorted rest one
+
+-- a rule stands for another one: its address stands at the same place, and it comes no later in the list
+pub record StandsFor (sorted : List Numbered) (place other : ℕ) : Type 0 where
+  pub same : before_at sorted place ≡ before_at sorted other
+  pub early : (rule_at sorted place).number ≤ (rule_at sorted other).number
+
+abbrev pub OneStandsFor : List Numbered → List ℕ → ℕ → Type 0
+OneStandsFor sorted [] other = ⊥
+OneStandsFor sorted (place ∷ rest) other = StandsFor sorted place other ⊎ OneStandsFor sorted rest other
+
+abbrev pub AreWithin : List Numbered → List ℕ → Type 0
+AreWithin sorted places = All (λ place. place < length sorted) places
+
+-- what is tried if an identifier begins with the rule at a place: it begins with each of these, and one stands for each that it begins with
+pub record IsTried (sorted : List Numbered) (at : ℕ) (tried : List ℕ) : Type 0 where
+  pub within : AreWithin sorted tried
+  pub begun : (arcs : List ℕ) → BeginsAt sorted arcs at → All (BeginsAt sorted arcs) tried
+  pub every : (k : ℕ) → k ≤ at → BeginsAt sorted (rule_at sorted at).rule.prefix k → OneStandsFor sorted tried k
+
+abbrev pub AreTried : List Numbered → List (List ℕ) → Type 0
+AreTried sorted tried = (k : ℕ) → k < length tried → IsTried sorted k (slice_index_or tried k [])
+
 -- a place behind those that are still to be looked at
 abbrev pub IsDone : Option ℕ → ℕ → Type 0
 IsDone None place = Unit {0}
 IsDone (Some last) place = last < place
 
--- arcs begin with the rule that is to be looked at and with the one that was found, which is the first of those that were looked at
-pub record IsFirst (address : OidRule → Option ℕ) (sorted : List Numbered) (arcs : List ℕ) (place : Option ℕ) (best : Option (ℕ × Addr)) : Type 0 where
-  pub ahead : IfSome place (BeginsAt sorted arcs)
+-- arcs begin with the rule that was found, which is the first of those that they begin with and that name an address
+pub record IsFirst (address : OidRule → Option ℕ) (sorted : List Numbered) (arcs : List ℕ) (best : Option (ℕ × Addr)) : Type 0 where
   pub found : IfSome best (λ p. BeginsAt sorted arcs p.0)
-  pub first : (k : ℕ) → k < length sorted → IsDone place k → BeginsAt sorted arcs k → IsSome (address (rule_at sorted k).rule) → IsEarly sorted best (rule_at sorted k).number
+  pub first : (k : ℕ) → k < length sorted → BeginsAt sorted arcs k → IsSome (address (rule_at sorted k).rule) → IsEarly sorted best (rule_at sorted k).number

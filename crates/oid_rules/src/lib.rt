@@ -3,4 +3,4 @@
 
 mod sorted;
 
-pub use sorted::{Compared, Identifier, SortedRules, order_of};
+pub use sorted::{Addresses, Compared, Identifier, SortedRules, order_of};

@@ -1,7 +1,7 @@
 // Rules, sorted by their arcs.
-ghost use Rattle.std.specs.Prelude.{◌≡◌, ◌<◌, ◌≤◌, ◌==◌, ℕ, Some, length, option_map, List, Option, IfOk, IfSome, IsSome, IsTrue};
+ghost use Rattle.std.specs.Prelude.{◌≡◌, ◌<◌, ◌≤◌, ◌==◌, ℕ, None, Some, length, option_map, List, Option, IfNone, IfOk, IfSome, IsSome, IsTrue};
 ghost use Rattle.gate_base.specs.Prelude.{is_rule, AreRules};
-ghost use Rattle.oid_rules.specs.Sorted.{compared, numbered, rule_at, first_begun, order_of, AllRules, AreOuter, AreSorted, BeginsAt, Halves, InOrder, IsEarly, IsFound, IsLast};
+ghost use Rattle.oid_rules.specs.Sorted.{before, before_at, by_rule, compared, earlier_of, with_rule, numbered, rule_at, first_begun, order_of, AllRules, AreOuter, AreSorted, AreTried, AreWithin, BeginsAt, Halves, InOrder, IsEarly, IsFound, IsLast, IsTried};
 
 use gate_base::{Addr, OidRule, OutOfMemory};
 use std::alloc::Global;
@@ -18,13 +18,23 @@ pub enum Compared {
     Behind,
 }
 
-/// An identifier to which rules are applied. `arcs_of` is its arcs, if it has any. `address_by` is the address that a rule names in it.
-pub trait Identifier {
-    ghost use Rattle.gate_base.specs.declared.rule.OidRule.{OidRule};
+/// Where addresses stand in an identifier. `address_by` is the address behind so many arcs, if there is one.
+pub trait Addresses {
+    ghost address_by: { Self → ℕ → Option ℕ };
 
+    /// The address behind so many arcs, from as few as a rule has to as many as one can have and skip.
+    fn address(&self, before: usize) -> Option<Addr>
+        requires least { 2 ≤ before }
+        requires most { before ≤ 191 }
+        ensures { option_map (λ a. a.0) result ≡ address_by self.now before };
+}
+
+/// An identifier to which rules are applied. `arcs_of` is its arcs, if it has any.
+pub trait Identifier: Addresses {
     ghost arcs_of: { Self → Option (List ℕ) };
 
-    ghost address_by: { Self → OidRule → Option ℕ };
+    /// What it is read into, where more than one rule is applied.
+    type Read: Addresses + Drop;
 
     /// Where its arcs, if it has any, stand in the order, beside those of a rule.
     fn compare(&self, rule: &OidRule) -> Compared
@@ -33,10 +43,11 @@ pub trait Identifier {
             → arcs_of self.now ≡ Some arcs
             → result ≡ compared arcs rule.now.prefix };
 
-    /// The address that a rule names in it, if it begins with the rule's arcs.
-    fn address(&self, rule: &OidRule) -> Option<Addr>
-        requires { IsTrue (is_rule rule.now) }
-        ensures { option_map (λ a. a.0) result ≡ address_by self.now rule.now };
+    /// The same addresses, where each costs a few steps. None where there are none.
+    fn read(&self) -> Option<Self::Read>
+        ensures same { IfSome result (λ read. (place : ℕ) → 2 ≤ place → place ≤ 191
+            → Self.Read.address_by read place ≡ Self.address_by self.now place) }
+        ensures none { IfNone result ((place : ℕ) → Self.address_by self.now place ≡ None) };
 }
 
 // A rule, and its place in the list.
@@ -46,6 +57,28 @@ struct Numbered {
     rule: OidRule,
 }
 
+// Places of sorted rules.
+#[derive(Drop)]
+struct Places {
+    items: Vec<usize>,
+}
+
+impl Model for Places {
+    ghost use Rattle.std.specs.Prelude.{ℕ, List};
+
+    ghost Value = { List ℕ };
+
+    ghost view = { λ places. places.items.items };
+}
+
+impl Places {
+    fn items(&self) -> &[usize]
+        ensures { result.now ≡ self.now }
+    {
+        &self.items
+    }
+}
+
 /// A list of rules. The first one that names an address in an identifier is found by halving.
 #[derive(Drop)]
 pub struct SortedRules {
@@ -53,6 +86,8 @@ pub struct SortedRules {
     sorted: Vec<Numbered>,
     // for each sorted rule the last one before it with whose arcs it begins
     outer: Vec<Option<usize>>,
+    // for each sorted rule those that are tried where an identifier begins with it
+    tried: Vec<Places>,
 }
 
 impl Model for SortedRules {
@@ -76,10 +111,12 @@ impl SortedRules {
     {
         let sorted = sorted(alloc, rules)?;
         let outer = outer_of(alloc, &sorted)?;
+        let tried = tried_of(alloc, &sorted, &outer)?;
         Ok(SortedRules {
             items: copied(alloc, rules)?,
             sorted,
             outer,
+            tried,
         })
     }
 
@@ -95,11 +132,11 @@ impl SortedRules {
         ensures first { (arcs : List ℕ)
             → I.arcs_of identifier.now ≡ Some arcs
             → option_map (λ p. (p.0.now, p.1.0)) result
-            ≡ first_begun (I.address_by identifier.now) arcs self.now }
+            ≡ first_begun (by_rule (I.address_by identifier.now)) arcs self.now }
         ensures names { IfSome result
-            (λ p. I.address_by identifier.now p.0.now ≡ Some p.1.0) }
+            (λ p. I.address_by identifier.now (before p.0.now) ≡ Some p.1.0) }
     {
-        first_of(&self.sorted, &self.outer, identifier)
+        first_of(&self.sorted, &self.outer, &self.tried, identifier)
     }
 }
 
@@ -141,18 +178,28 @@ struct Given<'a> {
     arcs: &'a [u32],
 }
 
+impl<'a> Addresses for Given<'a> {
+    ghost use Rattle.std.specs.Prelude.{None};
+
+    ghost address_by = { λ given place. None };
+
+    fn address(&self, _before: usize) -> Option<Addr> {
+        None
+    }
+}
+
 impl<'a> Identifier for Given<'a> {
-    ghost use Rattle.std.specs.Prelude.{Some, None};
+    ghost use Rattle.std.specs.Prelude.{Some};
 
     ghost arcs_of = { λ given. Some given.arcs.now };
 
-    ghost address_by = { λ given rule. None };
+    type Read = Given<'a>;
 
     fn compare(&self, rule: &OidRule) -> Compared {
         compare_arcs(self.arcs, rule.prefix.items())
     }
 
-    fn address(&self, _rule: &OidRule) -> Option<Addr> {
+    fn read(&self) -> Option<Given<'a>> {
         None
     }
 }
@@ -249,54 +296,220 @@ fn last_begun<I: Identifier>(
     None
 }
 
+// How many arcs stand before the address that a rule names.
+fn before(rule: &OidRule) -> usize
+    requires { IsTrue (is_rule rule.now) }
+    ensures value { result ≡ before rule.now }
+    ensures least { 2 ≤ result }
+    ensures most { result ≤ 191 }
+{
+    rule.prefix.items().len() + rule.skip as usize
+}
+
+fn tried_of(
+    alloc: Global,
+    sorted: &[Numbered],
+    outer: &[Option<usize>],
+) -> Result<Vec<Places>, OutOfMemory>
+    requires order { InOrder sorted.now }
+    requires rules { AllRules sorted.now }
+    requires outer { AreOuter sorted.now outer.now }
+    requires all { length outer.now ≡ length sorted.now }
+    ensures tried { IfOk result (λ tried. AreTried sorted.now tried.items) }
+    ensures every { IfOk result (λ tried. length tried.items ≡ length sorted.now) }
+{
+    let mut tried = Vec::with_capacity(alloc, sorted.len())?;
+    for at in 0..sorted.len() {
+        tried.push(tried_at(alloc, sorted, outer, &tried, at)?)?;
+    }
+    Ok(tried)
+}
+
+// What is tried where an identifier begins with the rule at a place, by what is tried with those before it.
+fn tried_at(
+    alloc: Global,
+    sorted: &[Numbered],
+    outer: &[Option<usize>],
+    tried: &[Places],
+    at: usize,
+) -> Result<Places, OutOfMemory>
+    requires order { InOrder sorted.now }
+    requires rules { AllRules sorted.now }
+    requires outer { AreOuter sorted.now outer.now }
+    requires all { length outer.now ≡ length sorted.now }
+    requires tried { AreTried sorted.now tried.now }
+    requires next { at ≡ length tried.now }
+    requires within { at < length sorted.now }
+    ensures { IfOk result (λ one. IsTried sorted.now at one) }
+{
+    match outer[at] {
+        Some(place) => with_rule(alloc, sorted, tried[place].items(), at),
+        None => with_rule(alloc, sorted, &[], at),
+    }
+}
+
+// Places with one more, which takes the place of those whose addresses stand where its own does, or of which one stands for it.
+fn with_rule(
+    alloc: Global,
+    sorted: &[Numbered],
+    places: &[usize],
+    one: usize,
+) -> Result<Places, OutOfMemory>
+    requires rules { AllRules sorted.now }
+    requires places { AreWithin sorted.now places.now }
+    requires one { one < length sorted.now }
+    ensures { IfOk result (λ more. more ≡ with_rule sorted.now places.now one) }
+{
+    let mut more = Vec::with_capacity(alloc, 1)?;
+    let mut best = one;
+    for place in places {
+        if before_at(sorted, *place) == before_at(sorted, best) {
+            best = earlier_of(sorted, best, *place);
+        } else {
+            more.push(*place)?;
+        }
+    }
+    more.push(best)?;
+    Ok(Places { items: more })
+}
+
+fn before_at(sorted: &[Numbered], place: usize) -> usize
+    requires rules { AllRules sorted.now }
+    requires within { place < length sorted.now }
+    ensures { result ≡ before_at sorted.now place }
+{
+    before(&sorted[place].rule)
+}
+
+// The earlier one in the list of two rules.
+fn earlier_of(sorted: &[Numbered], place: usize, other: usize) -> usize
+    requires place { place < length sorted.now }
+    requires other { other < length sorted.now }
+    ensures value { result ≡ earlier_of sorted.now place other }
+    ensures within { result < length sorted.now }
+{
+    if sorted[other].number < sorted[place].number {
+        other
+    } else {
+        place
+    }
+}
+
 fn first_of<'a, I: Identifier>(
     sorted: &'a [Numbered],
     outer: &[Option<usize>],
+    tried: &[Places],
     identifier: &I,
 ) -> Option<(&'a OidRule, Addr)>
     requires order { InOrder sorted.now }
     requires rules { AllRules sorted.now }
     requires outer { AreOuter sorted.now outer.now }
     requires all { length outer.now ≡ length sorted.now }
+    requires tried { AreTried sorted.now tried.now }
+    requires every { length tried.now ≡ length sorted.now }
     ensures first { (rules : List OidRule) (arcs : List ℕ)
         → AreSorted rules sorted.now
         → I.arcs_of identifier.now ≡ Some arcs
         → option_map (λ p. (p.0.now, p.1.0)) result
-        ≡ first_begun (I.address_by identifier.now) arcs rules }
+        ≡ first_begun (by_rule (I.address_by identifier.now)) arcs rules }
     ensures names { IfSome result
-        (λ p. I.address_by identifier.now p.0.now ≡ Some p.1.0) }
+        (λ p. I.address_by identifier.now (before p.0.now) ≡ Some p.1.0) }
 {
-    let mut place = last_begun(sorted, outer, identifier);
-    let mut found = None;
-    while let Some(at) = place {
-        found = earlier(sorted, found, at, identifier);
-        place = outer[at];
+    let last = last_begun(sorted, outer, identifier)?;
+    let (at, address) = first_by(sorted, tried[last].items(), identifier)?;
+    Some((&sorted[at].rule, address))
+}
+
+// The first one in the list that names an address, of those that are tried. An identifier is read only if there are more than one.
+fn first_by<I: Identifier>(
+    sorted: &[Numbered],
+    tried: &[usize],
+    identifier: &I,
+) -> Option<(usize, Addr)>
+    requires order { InOrder sorted.now }
+    requires rules { AllRules sorted.now }
+    requires within { AreWithin sorted.now tried.now }
+    ensures first { (rules : List OidRule) (arcs : List ℕ) (last : ℕ)
+        → AreSorted rules sorted.now
+        → IsTried sorted.now last tried.now
+        → IsLast (length sorted.now) sorted.now arcs (Some last)
+        → option_map (λ p. ((rule_at sorted.now p.0).rule, p.1.0)) result
+        ≡ first_begun (by_rule (I.address_by identifier.now)) arcs rules }
+    ensures found { IsFound (by_rule (I.address_by identifier.now)) sorted.now result }
+{
+    if tried.len() == 1 {
+        earlier(sorted, None, tried[0], identifier)
+    } else {
+        first_read(sorted, tried, identifier)
     }
-    match found {
-        Some((at, address)) => Some((&sorted[at].rule, address)),
+}
+
+// The same, by the identifier read.
+#[inline(never)]
+fn first_read<I: Identifier>(
+    sorted: &[Numbered],
+    tried: &[usize],
+    identifier: &I,
+) -> Option<(usize, Addr)>
+    requires order { InOrder sorted.now }
+    requires rules { AllRules sorted.now }
+    requires within { AreWithin sorted.now tried.now }
+    ensures first { (rules : List OidRule) (arcs : List ℕ) (last : ℕ)
+        → AreSorted rules sorted.now
+        → IsTried sorted.now last tried.now
+        → IsLast (length sorted.now) sorted.now arcs (Some last)
+        → option_map (λ p. ((rule_at sorted.now p.0).rule, p.1.0)) result
+        ≡ first_begun (by_rule (I.address_by identifier.now)) arcs rules }
+    ensures found { IsFound (by_rule (I.address_by identifier.now)) sorted.now result }
+{
+    match identifier.read() {
+        Some(read) => first_among(sorted, tried, &read),
         None => None,
     }
 }
 
+fn first_among<A: Addresses>(
+    sorted: &[Numbered],
+    tried: &[usize],
+    addresses: &A,
+) -> Option<(usize, Addr)>
+    requires order { InOrder sorted.now }
+    requires rules { AllRules sorted.now }
+    requires within { AreWithin sorted.now tried.now }
+    ensures first { (rules : List OidRule) (arcs : List ℕ) (last : ℕ)
+        → AreSorted rules sorted.now
+        → IsTried sorted.now last tried.now
+        → IsLast (length sorted.now) sorted.now arcs (Some last)
+        → option_map (λ p. ((rule_at sorted.now p.0).rule, p.1.0)) result
+        ≡ first_begun (by_rule (A.address_by addresses.now)) arcs rules }
+    ensures found { IsFound (by_rule (A.address_by addresses.now)) sorted.now result }
+{
+    let mut found = None;
+    for at in tried {
+        found = earlier(sorted, found, *at, addresses);
+    }
+    found
+}
+
 // The earlier one in the list: what was found, or what the rule at a place names.
-fn earlier<I: Identifier>(
+fn earlier<A: Addresses>(
     sorted: &[Numbered],
     found: Option<(usize, Addr)>,
     at: usize,
-    identifier: &I,
+    addresses: &A,
 ) -> Option<(usize, Addr)>
     requires rules { AllRules sorted.now }
     requires within { at < length sorted.now }
-    requires found { IsFound (I.address_by identifier.now) sorted.now found }
-    ensures found { IsFound (I.address_by identifier.now) sorted.now result }
+    requires found { IsFound (by_rule (A.address_by addresses.now)) sorted.now found }
+    ensures found { IsFound (by_rule (A.address_by addresses.now)) sorted.now result }
     ensures begun { (arcs : List ℕ)
         → IfSome found (λ p. BeginsAt sorted.now arcs p.0)
         → BeginsAt sorted.now arcs at
         → IfSome result (λ p. BeginsAt sorted.now arcs p.0) }
-    ensures before { (number : ℕ)
+    ensures early { (number : ℕ)
         → IsEarly sorted.now found number
         → IsEarly sorted.now result number }
-    ensures at { IsSome (I.address_by identifier.now (rule_at sorted.now at).rule)
+    ensures at { IsSome (A.address_by addresses.now (before (rule_at sorted.now at).rule))
         → IsEarly sorted.now result (rule_at sorted.now at).number }
 {
     if let Some((best, _)) = found
@@ -304,7 +517,7 @@ fn earlier<I: Identifier>(
     {
         return found;
     }
-    match identifier.address(&sorted[at].rule) {
+    match addresses.address(before(&sorted[at].rule)) {
         Some(address) => Some((at, address)),
         None => found,
     }

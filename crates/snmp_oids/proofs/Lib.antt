@@ -8,3 +8,4 @@ pub mod Tree
 pub mod Writing
 pub mod Lengths
 mod Named
+mod Small

@@ -4,8 +4,8 @@ use Rattle.std.specs.List.{starts_with}
 use Rattle.std.specs.Option.{option_or}
 use Rattle.gate_base.specs.declared.rule.OidRule.{OidRule}
 use Rattle.oid_rules.specs.declared.sorted.Compared.TheVariants.{Before}
-use Rattle.oid_rules.specs.Sorted.{compared, first_begun}
-use Rattle.snmp_oids.specs.Arcs.{arcs_of, address_of, before, named_by, named, named_in}
+use Rattle.oid_rules.specs.Sorted.{before, compared, first_begun}
+use Rattle.snmp_oids.specs.Arcs.{arcs_of, address_of, named_by, named, named_in}
 
 -- what a rule names in content that its arcs begin
 abbrev pub named_at : List ℕ → OidRule → Option ℕ

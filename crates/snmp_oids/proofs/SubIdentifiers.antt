@@ -1,7 +1,9 @@
 -- Sub-identifiers one after another.
-use Rattle.std.proofs.Common.{◌≡◌, ℕ, ◌+◌, ◌-◌, ◌*◌, ◌%◌, ◌<◌, ◌≤◌, ◌==◌, Bool, true, false, nat_lt, if◌then◌else◌, List, [], ◌∷◌, get_or, take, drop, length, ◌||◌, Option, Some, None, option_map, unwrap_or, is_some, IsSome, IfNone, refl, ap, sym, ◌∙◌, arith, drop-cons, add-one}
+use Rattle.std.proofs.Common.{◌≡◌, ℕ, ◌+◌, ◌-◌, ◌*◌, ◌%◌, ◌<◌, ◌≤◌, ◌==◌, ◌&&◌, Bool, true, false, nat_lt, if◌then◌else◌, List, [], ◌∷◌, get_or, take, drop, length, ◌||◌, Option, Some, None, option_map, unwrap_or, is_some, IsSome, IfNone, refl, ap, sym, ◌∙◌, arith, drop-cons, add-one}
+use Rattle.std.proofs.lemmas.Bool.{and_parts}
 use Rattle.std.proofs.lemmas.Bool.Decides.{nat_tests}
 use Rattle.std.proofs.lemmas.List.{drop_all, take_rest}
+use Rattle.gate_base.proofs.Options.{some_mapped}
 use Rattle.gate_base.specs.Prelude.{◌>>=◌, greatest}
 use Rattle.snmp_oids.specs.Arcs.{joined, numbers_from, numbers_of}
 
@@ -58,6 +60,20 @@ numbers_past s xs i past = rw drop_all
 pub some_test : {A : Type 0} (b : Bool) (x : A) → is_some (if b then Some x else None) ≡ b
 some_test true x = refl
 some_test false x = refl
+
+-- one octet more
+pub whole_goes : (s : ℕ) (xs : List ℕ) (i : ℕ) (b : Bool) → i < length xs → b ≡ (s == 0 && nat_lt (get_or xs i 0) 128) → b ≡ true → is_some (numbers_from s (drop (i + 1) xs)) ≡ is_some (numbers_from s (drop i xs))
+whole_goes s xs i b below is yes_is =
+    let octet = get_or xs i 0 in
+    let both = and_parts (s == 0) (nat_lt octet 128) (sym is ∙ yes_is) in
+    let first : (s == 0) ≡ true = both.0 in
+    let second : nat_lt octet 128 ≡ true = both.1 in
+    let begins : s ≡ 0 = grind (arith, nat_tests) in
+    let under : octet < 128 = grind (arith, nat_tests) in
+    ap (λ n. is_some (numbers_from n (drop (i + 1) xs))) begins
+    ∙ sym (some_mapped (λ numbers. octet ∷ numbers) (numbers_of (drop (i + 1) xs)))
+    ∙ sym (ap is_some (numbers_end 0 xs i (Some octet) octet below (sym (joined_one octet under)) refl under))
+    ∙ sym (ap (λ n. is_some (numbers_from n (drop i xs))) begins)
 
 pub number_found : (s : ℕ) (xs : List ℕ) (i : ℕ) (o : Option ℕ) (n : ℕ) → i < length xs → o ≡ joined s (get_or xs i 0) → o ≡ Some n → get_or xs i 0 < 128 → numbers_from s (drop i xs) ≡ numbers_from 0 xs → numbers_of xs ≡ option_map (λ numbers. n ∷ numbers) (numbers_of (take (length xs - (i + 1)) (drop (i + 1) xs)))
 number_found s xs i o n below found is under same =

@@ -1,9 +1,10 @@
 -- The arcs of an object identifier (X.690, 8.19), and the address that a rule finds among them (RFC 2962, 4.2).
-use Rattle.std.specs.Prelude.{ℕ, ◌+◌, ◌-◌, ◌*◌, ◌%◌, ◌==◌, nat_eq, ◌&&◌, ◌||◌, nat_lt, nat_le, if◌then◌else◌, List, [], ◌∷◌, drop, length, Option, Some, None, option_map, option_and_then, unwrap_or}
+use Rattle.std.specs.Prelude.{ℕ, zero, suc, ◌+◌, ◌-◌, ◌*◌, ◌%◌, ◌==◌, nat_eq, ◌&&◌, ◌||◌, nat_lt, nat_le, if◌then◌else◌, List, [], ◌∷◌, drop, Option, Some, None, option_map, option_and_then, unwrap_or}
 use Rattle.std.specs.List.{starts_with}
 use Rattle.std.specs.Option.{option_or}
 use Rattle.gate_base.specs.Prelude.{◌>>=◌, greatest}
 use Rattle.gate_base.specs.declared.rule.OidRule.{OidRule}
+use Rattle.oid_rules.specs.Sorted.{before}
 
 -- a sub-identifier's number with the seven bits of one more octet behind it; so_far is 0 where a sub-identifier begins, which it doesn't with the octet 128 (X.690, 8.19.2)
 abbrev pub joined : ℕ → ℕ → Option ℕ
@@ -54,9 +55,28 @@ address_of arcs = do
   (d, arcs) ← small_first arcs
   Some (((a * 256 + b) * 256 + c) * 256 + d)
 
--- how many arcs stand before the address
-abbrev pub before : OidRule → ℕ
-before rule = length rule.prefix + rule.skip
+-- an arc, if it is at most 255
+abbrev pub small : ℕ → Option ℕ
+small arc = if nat_le arc 255 then Some arc else None
+
+-- one of some arcs, if there are so many and it is at most 255
+abbrev pub small_at : List ℕ → ℕ → Option ℕ
+small_at [] place = None
+small_at (arc ∷ arcs) zero = small arc
+small_at (arc ∷ arcs) (suc place) = small_at arcs place
+
+-- the address that four arcs make
+abbrev pub four_of : Option ℕ → Option ℕ → Option ℕ → Option ℕ → Option ℕ
+four_of first second third fourth = do
+  a ← first
+  b ← second
+  c ← third
+  d ← fourth
+  Some (((a * 256 + b) * 256 + c) * 256 + d)
+
+-- the same for those from a place on
+abbrev pub four_at : (ℕ → Option ℕ) → ℕ → Option ℕ
+four_at arc place = four_of (arc place) (arc (place + 1)) (arc (place + 2)) (arc (place + 3))
 
 -- the address that a rule names: its prefix begins the arcs, and the address follows behind the skipped ones
 abbrev pub named_by : OidRule → List ℕ → Option ℕ

@@ -1,5 +1,5 @@
 // The arcs of an object identifier, read from its content without memory (X.690, 8.19).
-ghost use Rattle.std.specs.Prelude.{◌≡◌, ◌≤◌, [], ◌∷◌, length, is_some, option_map, IsSome, IfSome, IfNone};
+ghost use Rattle.std.specs.Prelude.{◌≡◌, ◌≤◌, ◌==◌, ◌&&◌, nat_lt, [], ◌∷◌, length, is_some, option_map, IsSome, IfSome, IfNone};
 ghost use Rattle.oid_rules.specs.Sorted.{compared};
 ghost use Rattle.snmp_oids.specs.Arcs.{joined, numbers_of, numbers_in, first_two, arcs_of, arcs_in, small_first, address_of};
 
@@ -19,8 +19,8 @@ fn joined(so_far: u32, octet: u8) -> Option<u32>
     }
 }
 
-// The number of the sub-identifier that octets begin with, and the octets behind it.
-fn next_number(octets: &[u8]) -> Option<(u32, &[u8])>
+/// The number of the sub-identifier that octets begin with, and the octets behind it.
+pub(crate) fn next_number(octets: &[u8]) -> Option<(u32, &[u8])>
     ensures found { IfSome result (λ p. numbers_of octets.now
         ≡ option_map (λ numbers. p.0 ∷ numbers) (numbers_of p.1.now)) }
     ensures none { IfNone result
@@ -41,12 +41,22 @@ fn next_number(octets: &[u8]) -> Option<(u32, &[u8])>
     None
 }
 
+// Whether an octet is a sub-identifier by itself.
+fn is_whole(so_far: u32, octet: u8) -> bool
+    ensures { result ≡ (so_far == 0 && nat_lt octet 128) }
+{
+    so_far == 0 && octet < 128
+}
+
 /// Whether content has arcs: sub-identifiers fill it.
 pub(crate) fn has_arcs(content: &[u8]) -> bool
     ensures { result ≡ is_some (arcs_of content.now) }
 {
     let mut number = 0;
     for octet in content {
+        if is_whole(number, *octet) {
+            continue;
+        }
         match joined(number, *octet) {
             Some(more) => number = if *octet < 128 { 0 } else { more },
             None => return false,

@@ -6,9 +6,10 @@ ghost use Rattle.snmp_oids.specs.Identifier.{place_behind, arc_octets, address_o
 ghost use Rattle.snmp_oids.specs.Written.{with_octets};
 
 use crate::arcs::{address_of, compare_content, has_arcs};
+use crate::numbers::Numbers;
 use crate::put::put;
 use gate_base::{Addr, OidRule};
-use oid_rules::{Compared, Identifier, SortedRules};
+use oid_rules::{Addresses, Compared, Identifier, SortedRules};
 use snmp_gateway::Lookup;
 
 /// The address that is to stand in place of the octets from a start to an end.
@@ -52,20 +53,30 @@ struct Content<'a> {
     octets: &'a [u8],
 }
 
-impl<'a> Identifier for Content<'a> {
+impl<'a> Addresses for Content<'a> {
     ghost use Rattle.std.specs.Prelude.{drop, option_and_then};
-    ghost use Rattle.snmp_oids.specs.Arcs.{arcs_of, address_of, before};
+    ghost use Rattle.snmp_oids.specs.Arcs.{arcs_of, address_of};
+
+    ghost address_by = { λ content place. option_and_then (λ arcs. address_of (drop place arcs)) (arcs_of content.octets.now) };
+
+    fn address(&self, before: usize) -> Option<Addr> {
+        address_behind(self.octets, before)
+    }
+}
+
+impl<'a> Identifier for Content<'a> {
+    ghost use Rattle.snmp_oids.specs.Arcs.{arcs_of};
 
     ghost arcs_of = { λ content. arcs_of content.octets.now };
 
-    ghost address_by = { λ content rule. option_and_then (λ arcs. address_of (drop (before rule) arcs)) (arcs_of content.octets.now) };
+    type Read = Numbers;
 
     fn compare(&self, rule: &OidRule) -> Compared {
         compare_content(self.octets, rule.prefix.items())
     }
 
-    fn address(&self, rule: &OidRule) -> Option<Addr> {
-        address_behind(self.octets, rule.prefix.items().len() + rule.skip as usize)
+    fn read(&self) -> Option<Numbers> {
+        Numbers::of(self.octets)
     }
 }
 

@@ -6,6 +6,7 @@ mod elements;
 mod head;
 mod identifier;
 mod laws;
+mod numbers;
 mod put;
 mod rename;
 

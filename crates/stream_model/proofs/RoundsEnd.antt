@@ -1,11 +1,13 @@
 -- Each round in which something is lacking raises what is acknowledged, so that there are no more of them than octets.
-use Rattle.std.proofs.Common.{◌≡◌, ◌≤◌, ◌<◌, ◌+◌, ℕ, true, List, [], ◌∷◌, length, sym, ◌∙◌, subst, arith, inl, inr, ◌⊎◌, max}
+use Rattle.std.proofs.Common.{◌≡◌, ◌≤◌, ◌<◌, ◌+◌, ℕ, Bool, true, false, ◌&&◌, ◌==◌, nat_le, List, [], ◌∷◌, length, sym, ◌∙◌, subst, arith, inl, inr, ◌⊎◌, max}
 use Rattle.std.proofs.lemmas.Bool.{cases_lt}
+use Rattle.std.proofs.lemmas.List.Sums.{prefix_len-le-length}
 use Rattle.gate_base.specs.declared.host.Host.{Host}
 use Rattle.gate_base.specs.declared.host.Host.TheVariants.{Client, Server}
 use Rattle.gate_base.specs.Prelude.{peer}
-use Rattle.dialogue.specs.Prelude.{IsLawful, image, back}
-use Rattle.dialogue.proofs.Laws.{back-mono, length-due-le}
+use Rattle.dialogue.specs.Prelude.{IsLawful, Meaning, image, back, back_if, spans}
+use Rattle.dialogue.specs.Places.{back_in}
+use Rattle.dialogue.proofs.Laws.{back-mono, length-due-le, length-spans}
 use Rattle.tcp_segments.specs.Prelude.{one_if}
 use Rattle.stream_model.specs.Numbers.{known}
 use Rattle.stream_model.specs.Session.{Sender, Session, Segment, Outgoing, own, due_in, extent, arrival, place_acknowledged, repeats_unlike}
@@ -119,3 +121,32 @@ rounds_raise host (x ∷ xs) s knows had st r =
     let one : Raised (own host s) (own host (after_round host s x)) knows x.has = raised host s knows had x st r.0 in
     let rest = rounds_raise host xs (after_round host s x) (acknowledged_of (own host (after_round host s x))) x.has one.stands r.1 in
     omega (arith, one.more, rest)
+
+-- ## What bounds both counts
+
+back_within : (b : Bool) (after x : ℕ) → x ≤ after → back_if b after x ≤ after
+back_within true after x h = omega arith
+back_within false after x h = h
+
+back-le : (m : Meaning) (ended : Bool) (s : List ℕ) (q : ℕ) → back m ended s q ≤ length s + 1
+back-le m ended s q = back_within (ended && (q == length (image m s) + 1)) (length s + 1) (back_in (spans m s) q)
+    (omega (arith, prefix_len-le-length (λ x. nat_le x.past q) (spans m s), length-spans m s))
+
+-- no more is acknowledged of a stream and of its image than they have, the end counted in both
+abbrev pub IsFull : Sender → Type 0
+IsFull a = a.acked + acknowledged_of a ≤ length (image a.meaning a.octets) + length a.octets + 2
+
+pub full : (a : Sender) → IsLawful a.meaning → IsBound a → IsFull a
+full a law bound = omega (arith, bound, length-due-le a.meaning law a.ended a.octets, one-le a.ended, back-le a.meaning a.ended a.octets a.acked)
+
+rounds_full : (host : Host) (xs : List Round) (s : Session) (knows had : ℕ) → Stands (own host s) knows had → AllRounds host s knows had xs
+    → IsFull (own host (after_rounds host s xs))
+rounds_full host [] s knows had st r = full (own host s) st.lawful st.bound
+rounds_full host (x ∷ xs) s knows had st r =
+    let one : Raised (own host s) (own host (after_round host s x)) knows x.has = raised host s knows had x st r.0 in
+    rounds_full host xs (after_round host s x) (acknowledged_of (own host (after_round host s x))) x.has one.stands r.1
+
+pub rounds_few : (host : Host) (xs : List Round) (s : Session) (knows had : ℕ) → Stands (own host s) knows had
+    → AllRounds host s knows had xs → let new = own host (after_rounds host s xs) in
+    length xs ≤ length (image new.meaning new.octets) + length new.octets + 2
+rounds_few host xs s knows had st r = omega (arith, rounds_raise host xs s knows had st r, rounds_full host xs s knows had st r)

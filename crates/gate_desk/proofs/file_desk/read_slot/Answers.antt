@@ -1,4 +1,4 @@
-use Rattle.std.proofs.Common.{◌≡◌, ℕ, ◌≤◌, List, [], Option, Result, Ok, Err, OnOk, length, ap, refl, sym, subst, ◌∙◌, arith}
+use Rattle.std.proofs.Common.{◌≡◌, ℕ, ◌≤◌, List, [], Option, Result, Ok, Err, OnOk, OnErr, length, ap, refl, sym, subst, ◌∙◌, arith}
 use Rattle.std.proofs.lemmas.Result.{IfOk-weaker, err_from_is_err_and}
 use Rattle.gate_desk.specs.declared.slot.PerSlot.{PerSlot}
 use Rattle.gate_desk.specs.Gathering.{ahead, ahead_in, got, got_in, unread, unread_in, waiting, waiting_in, access_of, RefusedWaits, TakesAhead, TakesNothing}
@@ -7,9 +7,13 @@ use Rattle.gate_desk.proofs.Laws.{at-mapped, mapped-put, mapped-put_only, mapped
 use Rattle.std.specs.Io.KnownBytes.{ReadConsumes}
 use Rattle.gate_desk.proofs.Unread.{keeps, none_dropped, put_behind, put_kept, read_ahead_at, read_at, takes_at}
 use Rattle.std.proofs.lemmas.Bool.{false≢true}
-use Rattle.gate_desk.proofs.Gathering.{still_waits}
+use Rattle.gate_desk.proofs.Gathering.{some_none, still_waits}
 use Rattle.gate_desk.proofs.Taken.{nothing_taken, nothing_behind}
 use Rattle.gate_desk.proofs.file_desk.read_slot.Goals as goal
+
+failed : {A E : Type 0} {P : Type 0} → P → (r : Result A E) → OnErr r P
+failed p (Ok x) = tt
+failed p (Err e) = p
 
 always : {A E : Type 0} {P : Type 0} → P → (r : Result A E) → OnOk r P
 always p (Ok x) = p
@@ -146,3 +150,25 @@ returns-in_ok-hand_out-in-None-clause-refused g c = λ some. absurd (false≢tru
 
 pub returns-in_ok-hand_out-in-None-clause-still : goal.returns-in_ok-hand_out-in-None-clause-still
 returns-in_ok-hand_out-in-None-clause-still g c = λ waits. rw c.in_ok-hand_out-in-None.ensures.none tt
+
+pub returns-in_err-hand_out-in-None-clause-fails : goal.returns-in_err-hand_out-in-None-clause-fails
+returns-in_err-hand_out-in-None-clause-fails g c = rw (err_from_is_err_and c.from_residual.result c.from_residual.ensures.1).1
+    (λ none. absurd (some_none c.hand_out.new.refused c.in_err-hand_out-in-None.ensures.err none))
+
+pub returns-in_ok-hand_out-in-None-clause-fails : goal.returns-in_ok-hand_out-in-None-clause-fails
+returns-in_ok-hand_out-in-None-clause-fails g c =
+    let contents = g.R.File.Write.contents in
+    let first = put c.args.places.now c.args.slot c.take_ahead.new.self in
+    let new = put c.hand_out.new.places c.args.slot c.read.new.self in
+    let got' = mapped-same (got contents) c.args.places.now c.args.slot c.take_ahead.new.self
+    (c.take_ahead.ensures.got contents ∙ ap (got contents) c.at_mut.ensures.value) in
+    let waiting' = mapped-same waiting c.args.places.now c.args.slot c.take_ahead.new.self
+    (c.take_ahead.ensures.waiting ∙ ap waiting c.at_mut.ensures.value) in
+    let all : TakesNothing (got_in contents first) (waiting_in first) (got_in contents new) (waiting_in new) =
+    nothing_behind (got_in contents first) (got_in contents c.hand_out.new.places) (got_in contents new) (waiting_in first)
+    (waiting_in c.hand_out.new.places) (waiting_in new) c.in_ok-hand_out-in-None.ensures.files c.in_ok-hand_out-in-None.ensures.all
+    (mapped-same (got contents) c.hand_out.new.places c.args.slot c.read.new.self
+    (c.read.ensures.got contents ∙ ap (got contents) c.at_mut-in-None.ensures.value))
+    (mapped-same waiting c.hand_out.new.places c.args.slot c.read.new.self (c.read.ensures.waiting ∙ ap waiting c.at_mut-in-None.ensures.value)) in
+    failed (λ none. subst (λ g. TakesNothing g (waiting_in c.args.places.now) (got_in contents new) (waiting_in new)) got'
+    (subst (λ w. TakesNothing (got_in contents first) w (got_in contents new) (waiting_in new)) waiting' all)) c.read.result

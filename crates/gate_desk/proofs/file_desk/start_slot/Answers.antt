@@ -1,11 +1,13 @@
-use Rattle.std.proofs.Common.{ℕ, List, [], Option, Some, ap, ◌∙◌}
+use Rattle.std.proofs.Common.{ℕ, List, [], Option, Some, ap, refl, ◌∙◌}
+use Rattle.std.proofs.lemmas.Result.{err_from_is_err_and}
 use Rattle.gate_desk.specs.declared.slot.PerSlot.{PerSlot}
 use Rattle.gate_desk.specs.declared.slot.Access.{Access}
-use Rattle.gate_desk.specs.Gathering.{ahead, ahead_in, unread, unread_in, waiting, access_of, accesses_in}
+use Rattle.gate_desk.specs.Gathering.{ahead, ahead_in, got_in, waiting_in, unread, unread_in, waiting, access_of, accesses_in}
 use Rattle.gate_desk.specs.Slots.{put}
 use Rattle.gate_desk.proofs.Laws.{at-mapped, at-put, mapped-put, mapped-put_only}
 use Rattle.gate_desk.proofs.Unread.{put_behind}
-use Rattle.gate_desk.proofs.Taken.{nothing_else}
+use Rattle.gate_desk.proofs.Gathering.{some_none}
+use Rattle.gate_desk.proofs.Taken.{nothing_behind, nothing_else}
 use Rattle.gate_desk.proofs.file_desk.start_slot.Goals as goal
 
 pub returns-in-Ok-clause-accesses : goal.returns-in-Ok-clause-accesses
@@ -31,3 +33,14 @@ returns-in-Ok-clause-unread g c =
     let remaining = g.R.File.Read.remaining in
     put_behind (unread_in remaining c.args.places.now) (unread_in remaining c.hand_out.new.places) (unread_in remaining (put c.hand_out.new.places c.args.slot c.in-Ok.place)) c.args.slot
     c.hand_out.ensures.unread (mapped-put_only (unread remaining) c.hand_out.new.places c.args.slot c.in-Ok.place)
+
+pub returns-in_err-hand_out-clause-fails : goal.returns-in_err-hand_out-clause-fails
+returns-in_err-hand_out-clause-fails g c = rw (err_from_is_err_and c.from_residual.result c.from_residual.ensures.1).1
+    (λ none. absurd (some_none c.hand_out.new.refused c.in_err-hand_out.ensures.err none))
+
+pub returns-in-Err-clause-fails : goal.returns-in-Err-clause-fails
+returns-in-Err-clause-fails g c = λ none.
+    let contents = g.R.File.Write.contents in
+    nothing_behind (got_in contents c.args.places.now) (got_in contents c.hand_out.new.places) (got_in contents c.hand_out.new.places)
+    (waiting_in c.args.places.now) (waiting_in c.hand_out.new.places) (waiting_in c.hand_out.new.places)
+    c.in_ok-hand_out.ensures.files c.in_ok-hand_out.ensures.all refl refl

@@ -1,13 +1,13 @@
-use Rattle.std.proofs.Common.{◌≡◌, ◌++◌, OnOk, ap, rules, subst, sym, ◌∙◌}
+use Rattle.std.proofs.Common.{◌≡◌, ◌++◌, None, OnErr, OnOk, ap, inl, inr, rules, subst, sym, ◌∙◌}
 use denote.Enum.Bare.{same_true}
 use Rattle.std.proofs.lemmas.Bool.{false≢true}
 use Rattle.gate_desk.specs.contracts.slot.Slot.{the_type}
 use Rattle.gate_desk.specs.declared.slot.Slot.{Slot}
 use Rattle.gate_desk.specs.declared.slot.Slot.TheVariants.{Errors}
-use Rattle.gate_desk.proofs.Gathering.{gathered_at, none_refused, waits_behind, waits_later, waits_nowhere}
+use Rattle.gate_desk.proofs.Gathering.{gathered_at, none_refused, not_gathered, waits_behind, waits_later, waits_nowhere}
 use Rattle.gate_desk.proofs.Laws.{mapped-same}
-use Rattle.gate_desk.proofs.Taken.{gathered_one, taken_later}
-use Rattle.gate_desk.specs.Gathering.{ahead, got, got_in, unread, waiting_in, access_of, TakesPiece}
+use Rattle.gate_desk.proofs.Taken.{gathered_one, nothing_taken, taken_later}
+use Rattle.gate_desk.specs.Gathering.{ahead, got, got_in, unread, waiting_in, access_of, TakesNothing, TakesPiece}
 use Rattle.gate_desk.specs.Slots.{put}
 use Rattle.gate_desk.proofs.file_desk.write_slot.Goals as goal
 
@@ -89,3 +89,30 @@ returns-in-NoRoom-clause-refused g c = λ some. absurd (false≢true (sym c.if-i
 
 pub returns-in-NoRoom-clause-still : goal.returns-in-NoRoom-clause-still
 returns-in-NoRoom-clause-still g c = λ waits. c.gather_alone.ensures.still (none_refused c.args.refused.now (waiting_in (put c.args.places.now c.args.slot c.gather.new.self)) (sym c.if-is_some.false ∙ c.is_some.ensures))
+
+pub returns-in-Refused-clause-fails : goal.returns-in-Refused-clause-fails
+returns-in-Refused-clause-fails g c = λ none.
+    let contents = g.R.File.Write.contents in
+    let new = put c.args.places.now c.args.slot c.gather.new.self in
+    nothing_taken (got_in contents c.args.places.now) (got_in contents new) (waiting_in c.args.places.now) (waiting_in new)
+    (mapped-same (got contents) c.args.places.now c.args.slot c.gather.new.self
+    (c.gather.ensures.got contents ∙ ap (got contents) c.at_mut.ensures.value))
+    (not_gathered c.args.slot (c.args.first.now ++ c.args.second.now) (waiting_in c.args.places.now) (waiting_in new) c.gather.result
+    (gathered_at c.args.places.now c.args.slot (c.args.first.now ++ c.args.second.now) c.gather.result c.at_mut.result.now
+    c.gather.new.self c.at_mut.ensures.value c.gather.ensures.waits) (inr c.in-Refused.is))
+
+pub returns-in-NoRoom-clause-fails : goal.returns-in-NoRoom-clause-fails
+returns-in-NoRoom-clause-fails g c =
+    let contents = g.R.File.Write.contents in
+    let middle = put c.args.places.now c.args.slot c.gather.new.self in
+    let got' = mapped-same (got contents) c.args.places.now c.args.slot c.gather.new.self
+    (c.gather.ensures.got contents ∙ ap (got contents) c.at_mut.ensures.value) in
+    let waits = not_gathered c.args.slot (c.args.first.now ++ c.args.second.now) (waiting_in c.args.places.now)
+    (waiting_in middle) c.gather.result (gathered_at c.args.places.now c.args.slot
+    (c.args.first.now ++ c.args.second.now) c.gather.result c.at_mut.result.now c.gather.new.self c.at_mut.ensures.value
+    c.gather.ensures.waits) (inl c.in-NoRoom.is) in
+    subst (λ x. OnErr c.gather_alone.result (c.gather_alone.new.refused ≡ None
+    → TakesNothing x (waiting_in c.args.places.now) (got_in contents c.gather_alone.new.places) (waiting_in c.gather_alone.new.places))) got'
+    (subst (λ x. OnErr c.gather_alone.result (c.gather_alone.new.refused ≡ None
+    → TakesNothing (got_in contents middle) x (got_in contents c.gather_alone.new.places) (waiting_in c.gather_alone.new.places))) waits
+    c.gather_alone.ensures.fails)

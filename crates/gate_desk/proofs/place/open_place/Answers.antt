@@ -16,7 +16,12 @@ returns-in_err-gathered-in-Write g c =
     let p = err_from_is_err_and c.from_residual-in_err-gathered-in-Write.result c.from_residual-in_err-gathered-in-Write.ensures.1 in
     record { none = rw p.1 tt; access = rw p.1 tt; ahead = rw p.1 tt }
 
-pub returns-in_err-create-in-Write : goal.returns-in_err-create-in-Write
-returns-in_err-create-in-Write g c =
-    let p = err_from_is_err_and c.from_residual-in_err-create-in-Write.result c.from_residual-in_err-create-in-Write.ensures.1 in
+pub returns-in_err-refuse_open_output-in-Write : goal.returns-in_err-refuse_open_output-in-Write
+returns-in_err-refuse_open_output-in-Write g c =
+    let p = err_from_is_err_and c.from_residual-in_err-refuse_open_output-in-Write.result c.from_residual-in_err-refuse_open_output-in-Write.ensures.1 in
+    record { none = rw p.1 tt; access = rw p.1 tt; ahead = rw p.1 tt }
+
+pub returns-in_err-file-in-Write : goal.returns-in_err-file-in-Write
+returns-in_err-file-in-Write g c =
+    let p = err_from_is_err_and c.from_residual-in_err-file-in-Write.result c.from_residual-in_err-file-in-Write.ensures.1 in
     record { none = rw p.1 tt; access = rw p.1 tt; ahead = rw p.1 tt }

@@ -1,4 +1,4 @@
-use Rattle.gate_model.proofs.FrameRounds.{frame_rounds_raise}
+use Rattle.gate_model.proofs.FrameRounds.{frame_rounds_few, frame_rounds_raise}
 use Rattle.gate_model.proofs.GoingOnKept.{waits_are, goes_on}
 use Rattle.gate_model.proofs.RememberedSessions.{run_holds}
 use Rattle.gate_model.proofs.Through.{through}
@@ -15,4 +15,9 @@ pub returns-clause-through : goal.returns-clause-through
 returns-clause-through k = through
 
 pub returns-clause-rounds : goal.returns-clause-rounds
-returns-clause-rounds k = λ settings events client t knows had rounds below acked all. frame_rounds_raise client rounds (remembered_after settings events) t knows had (run_holds events settings) below acked all
+returns-clause-rounds k = λ settings events client t knows had rounds below acked all. (
+  frame_rounds_raise client rounds (remembered_after settings events) t knows had
+      (run_holds events settings) below acked all,
+  frame_rounds_few client rounds (remembered_after settings events) t knows had
+      (run_holds events settings) below acked all,
+)

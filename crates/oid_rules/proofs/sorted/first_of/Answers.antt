@@ -1,31 +1,29 @@
-use Rattle.std.proofs.Common.{◌<◌, ℕ, Option, Some, None, IfSome, length, ◌∙◌, ap, arith, subst}
+use Rattle.std.proofs.Common.{Some, ◌∙◌, ap, option_map, subst, arith}
 use Rattle.oid_rules.specs.declared.sorted.Numbered.{Numbered}
-use Rattle.oid_rules.specs.Sorted.{IsFirst, IsFound}
-use Rattle.oid_rules.proofs.Halving.{at_rule, outer_within}
-use Rattle.oid_rules.proofs.First.{first_is, goes_on}
+use Rattle.oid_rules.specs.Sorted.{by_rule, IsLast}
+use Rattle.oid_rules.proofs.First.{not_begun}
+use Rattle.oid_rules.proofs.Halving.{at_rule}
+use Rattle.oid_rules.proofs.Tried.{tried_there}
 use Rattle.oid_rules.proofs.sorted.first_of.Goals as goal
 
-pub loop-place-preserved : goal.loop-place-preserved
-loop-place-preserved g c =
-    let here = subst (λ (p : Option ℕ). IfSome p (λ at. at < length c.args.outer.now)) c.in-Some.is c.loop-place.invariant.within in
-    let outer = c.requires.outer c.in-Some.at here in
-    record {
-      within = outer_within c.args.sorted.now _ c.in-Some.at _ here outer;
-      found = c.earlier-found.ensures.found;
-      first = λ arcs is.
-          let old = subst (λ (p : Option ℕ). IsFirst (g.I.Identifier.address_by c.args.identifier.now) c.args.sorted.now arcs p c.loop-place.found) c.in-Some.is (c.loop-place.invariant.first arcs is) in
-          goes_on (g.I.Identifier.address_by c.args.identifier.now) c.args.sorted.now _ c.in-Some.at arcs c.loop-place.found c.earlier-found.result c.requires.order (omega (arith, c.requires.all)) outer old
-          (c.earlier-found.ensures.begun arcs) c.earlier-found.ensures.before c.earlier-found.ensures.at;
-    }
+pub returns-in_err-last-clause-first : goal.returns-in_err-last-clause-first
+returns-in_err-last-clause-first g c = λ rules arcs are is.
+    ap (option_map _) c.from_residual.ensures
+    ∙ not_begun (by_rule (g.I.Addresses.address_by c.args.identifier.now)) c.args.sorted.now _ arcs rules are c.requires.all (c.in_err-last.ensures.last arcs is)
 
-pub returns-in-Some-found-clause-first : goal.returns-in-Some-found-clause-first
-returns-in-Some-found-clause-first g c = λ rules arcs are is.
-    let found = subst (IsFound (g.I.Identifier.address_by c.args.identifier.now) c.args.sorted.now) c.in-Some-found.is c.loop-place.invariant.found in
-    let first = subst (λ (p : Option ℕ). IsFirst (g.I.Identifier.address_by c.args.identifier.now) c.args.sorted.now arcs p c.loop-place.found) c.in_default.is (c.loop-place.invariant.first arcs is) in
-    ap (λ (n : Numbered). Some (n.rule, c.in-Some-found.address.0)) (at_rule c.args.sorted.now c.in-Some-found.at c.index-sorted-at.result found.0)
-    ∙ first_is (g.I.Identifier.address_by c.args.identifier.now) c.args.sorted.now arcs _ rules are found (subst (IsFirst (g.I.Identifier.address_by c.args.identifier.now) c.args.sorted.now arcs None) c.in-Some-found.is first)
+pub first_by-requires-clause-within : goal.first_by-requires-clause-within
+first_by-requires-clause-within g c = (tried_there c.args.sorted.now c.args.tried.now c.in_ok-last.last c.index-tried-last.result c.items.result.now c.requires.tried (omega (arith, c.in_ok-last.ensures.within, c.requires.all, c.requires.every)) (c.items.ensures ∙ c.index-tried-last.is)).within
 
-pub returns-in-None-clause-first : goal.returns-in-None-clause-first
-returns-in-None-clause-first g c = λ rules arcs are is.
-    let first = subst (λ (p : Option ℕ). IsFirst (g.I.Identifier.address_by c.args.identifier.now) c.args.sorted.now arcs p c.loop-place.found) c.in_default.is (c.loop-place.invariant.first arcs is) in
-    first_is (g.I.Identifier.address_by c.args.identifier.now) c.args.sorted.now arcs None rules are tt (subst (IsFirst (g.I.Identifier.address_by c.args.identifier.now) c.args.sorted.now arcs None) c.in-None.is first)
+pub returns-in_err-at-clause-first : goal.returns-in_err-at-clause-first
+returns-in_err-at-clause-first g c = λ rules arcs are is.
+    ap (option_map _) c.from_residual-in_err-at.ensures
+    ∙ c.in_err-at.ensures.first rules arcs c.in_ok-last.last are
+    (tried_there c.args.sorted.now c.args.tried.now c.in_ok-last.last c.index-tried-last.result c.items.result.now c.requires.tried (omega (arith, c.in_ok-last.ensures.within, c.requires.all, c.requires.every)) (c.items.ensures ∙ c.index-tried-last.is))
+    (subst (λ n. IsLast n c.args.sorted.now arcs (Some c.in_ok-last.last)) c.requires.all (c.in_ok-last.ensures.last arcs is))
+
+pub returns-clause-first : goal.returns-clause-first
+returns-clause-first g c = λ rules arcs are is.
+    ap (λ (n : Numbered). Some (n.rule, c.in_ok-at.address.0)) (at_rule c.args.sorted.now c.in_ok-at.at c.index-sorted-at.result c.in_ok-at.ensures.found.0)
+    ∙ c.in_ok-at.ensures.first rules arcs c.in_ok-last.last are
+    (tried_there c.args.sorted.now c.args.tried.now c.in_ok-last.last c.index-tried-last.result c.items.result.now c.requires.tried (omega (arith, c.in_ok-last.ensures.within, c.requires.all, c.requires.every)) (c.items.ensures ∙ c.index-tried-last.is))
+    (subst (λ n. IsLast n c.args.sorted.now arcs (Some c.in_ok-last.last)) c.requires.all (c.in_ok-last.ensures.last arcs is))

@@ -1,7 +1,7 @@
 use Rattle.std.proofs.Common.{sym, ◌∙◌, ap, is_some, ◌∷◌, ◌+◌, ℕ, drop}
 use Rattle.gate_base.proofs.Options.{some_mapped}
 use Rattle.snmp_oids.specs.Arcs.{arcs_for, numbers_of, numbers_from}
-use Rattle.snmp_oids.proofs.SubIdentifiers.{numbers_stop, numbers_go, numbers_end, numbers_past, some_test}
+use Rattle.snmp_oids.proofs.SubIdentifiers.{numbers_stop, numbers_go, numbers_end, numbers_past, some_test, whole_goes}
 use Rattle.snmp_oids.proofs.arcs.has_arcs.Goals as goal
 use Rattle.snmp_oids.proofs.arcs.has_arcs.Goals.{then-octet-lt128, else-octet-lt128}
 
@@ -25,6 +25,9 @@ loop-octet-preserved c =
           ∙ sym (ap is_some (numbers_go c.loop-octet.number c.args.content.now c.loop-octet.octet-index c.joined.result c.in-Some.more c.loop-octet-test.true c.joined.ensures c.in-Some.is w.if-octet-lt128.false))
           ∙ c.loop-octet.invariant
     ]
+
+pub loop-octet-preserved-then-is_whole : goal.loop-octet-preserved-then-is_whole
+loop-octet-preserved-then-is_whole c = whole_goes c.loop-octet.number c.args.content.now c.loop-octet.octet-index c.is_whole.result c.loop-octet-test.true c.is_whole.ensures c.if-is_whole.true ∙ c.loop-octet.invariant
 
 pub returns : goal.returns
 returns c =

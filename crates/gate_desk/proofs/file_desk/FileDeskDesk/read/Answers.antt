@@ -67,3 +67,6 @@ invariant_of-self g c = c.in-Ok.ensures.still c.self.invariant
 
 pub invariant_of-self-in-Err : goal.invariant_of-self-in-Err
 invariant_of-self-in-Err g c = c.in-Err.ensures.still c.self.invariant
+
+pub returns-in-Err-clause-fails : goal.returns-in-Err-clause-fails
+returns-in-Err-clause-fails g c = rw (← c.self.view_is) c.in-Err.ensures.fails

@@ -18,3 +18,6 @@ returns-in-Ok-clause-unread g c = rw (← c.self.view_is) c.in-Ok.ensures.unread
 
 pub returns-in-Err-clause-err : goal.returns-in-Err-clause-err
 returns-in-Err-clause-err g c = rw (← c.self.view_is) (untold_start_fails c.args.slot c.self.inside.faults c.self.inside.start_faults c.raise.new.self c.raise.ensures)
+
+pub returns-in-Err-clause-fails : goal.returns-in-Err-clause-fails
+returns-in-Err-clause-fails g c = rw (← c.self.view_is) c.in-Err.ensures.fails

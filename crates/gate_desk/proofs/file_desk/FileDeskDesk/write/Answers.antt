@@ -17,3 +17,7 @@ returns-clause-waits g c = subst (λ (xs : List ℕ). Waits c.args.slot xs c.arg
 
 pub returns-clause-takes : goal.returns-clause-takes
 returns-clause-takes g c = subst (λ (xs : List ℕ). TakesPiece c.args.slot xs c.args.self.now.got c.args.self.now.waiting c.write_both.new.self.got c.write_both.new.self.waiting) (append-nil c.args.piece.now) c.in_ok-write_both.ensures.takes
+
+pub returns-in_err-write_both-clause-fails : goal.returns-in_err-write_both-clause-fails
+returns-in_err-write_both-clause-fails g c = rw (err_from_is_err_and c.from_residual.result c.from_residual.ensures.1).1
+    c.in_err-write_both.ensures.fails

@@ -13,3 +13,6 @@ returns-in-Ok-clause-takes g c = rw (← c.self.view_is) c.in-Ok.ensures.takes
 
 pub returns-in-Err-clause-cause : goal.returns-in-Err-clause-cause
 returns-in-Err-clause-cause g c = rw (← c.self.view_is) (rose_one c.args.slot c.self.inside.faults c.raise.new.self c.raise.ensures)
+
+pub returns-in-Err-clause-fails : goal.returns-in-Err-clause-fails
+returns-in-Err-clause-fails g c = rw (← c.self.view_is) c.in-Err.ensures.fails

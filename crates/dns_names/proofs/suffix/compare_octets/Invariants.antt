@@ -1,9 +1,0 @@
-use Rattle.std.proofs.Common.{◌≡◌, length, reverse, nat_cmp}
-use Rattle.std.specs.Cmp.Lexicographic.{slice_cmp}
-use Rattle.dns_names.proofs.suffix.compare_octets.Given as goal
-
-abbrev pub invariant-octets : goal.invariant-octets
-invariant-octets l = (length l.front ≡ length l.other) × (slice_cmp nat_cmp (reverse l.fn.a) (reverse l.fn.b) ≡ slice_cmp nat_cmp (reverse l.front) (reverse l.other))
-
-abbrev pub decreases-octets : goal.decreases-octets
-decreases-octets l = length l.front

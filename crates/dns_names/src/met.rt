@@ -1,0 +1,158 @@
+// What was found for the labels of a message, by their places in it.
+ghost use Rattle.std.specs.Prelude.{◌≡◌, ◌≤◌, ◌<◌, ℕ, List, Some, length, IfSome};
+ghost use Rattle.dns_names.specs.Spelling.{Start, found};
+ghost use Rattle.dns_names.specs.Met.{IsRow, AreRows};
+
+use crate::way::{NOWHERE, SHORT, Way};
+use std::alloc::Global;
+
+/// How many places of a message pointers can lead to.
+const POINTED: usize = 16_384;
+
+/// A suffix that was met in a message, the lowest place at which it stands written, and the place of the label behind its first one in
+/// that message. Without octets, no place is known.
+#[derive(Clone, Copy)]
+pub struct Row<'a> {
+    pub(crate) octets: &'a [u8],
+    pub(crate) place: u16,
+    pub(crate) next: u16,
+}
+
+fn row_without_place<'a>(next: u16) -> Row<'a>
+    ensures { (starts : List Start) → IsRow starts result }
+{
+    Row {
+        octets: &[],
+        place: 0,
+        next,
+    }
+}
+
+fn no_row<'a>() -> Row<'a>
+    ensures { (starts : List Start) → IsRow starts result }
+{
+    row_without_place(NOWHERE)
+}
+
+/// Rows by the places of labels. All names of a short message, and all copies, have `SHORT` in place of these.
+#[derive(Drop)]
+pub struct Rows<'a> {
+    pub(crate) short: Row<'a>,
+    pub(crate) long: Vec<Row<'a>>,
+}
+
+impl<'a> Rows<'a> {
+    /// Nothing was met yet.
+    pub(crate) fn new(alloc: Global) -> Rows<'a>
+        ensures { (starts : List Start) → AreRows starts result }
+    {
+        Rows {
+            short: no_row(),
+            long: Vec::new(alloc),
+        }
+    }
+
+    fn at(&self, origin: u16) -> Option<Row<'a>>
+        ensures { (starts : List Start) → AreRows starts self.now → IfSome result (IsRow starts) }
+    {
+        if origin == SHORT {
+            return Some(self.short);
+        }
+        self.long.get(origin as usize).copied()
+    }
+
+    /// Where a suffix stands written, if it was kept for the place of its first label.
+    pub(crate) fn place_of(&self, origin: u16, octets: &[u8]) -> Option<u16>
+        ensures { (starts : List Start)
+            → AreRows starts self.now
+            → 1 ≤ length octets.now
+            → IfSome result (λ place. found starts octets.now ≡ Some place) }
+    {
+        let row = self.at(origin)?;
+        if row.octets == octets {
+            Some(row.place)
+        } else {
+            None
+        }
+    }
+
+    fn set(&mut self, origin: u16, row: Row<'a>)
+        ensures { (starts : List Start)
+            → AreRows starts self.old
+            → IsRow starts row.entry
+            → AreRows starts self.new }
+    {
+        if origin == SHORT {
+            self.short = row;
+            return;
+        }
+        let origin = origin as usize;
+        if origin >= POINTED {
+            return;
+        }
+        if origin >= self.long.len() && self.long.resize(origin + 1, no_row()).is_err() {
+            return;
+        }
+        self.long[origin] = row;
+    }
+
+    /// Keeps where a suffix stands written, for the place of its first label. If no pointer can lead there, only the place of the next
+    /// label is kept. Where memory runs out, nothing is.
+    pub(crate) fn keep(&mut self, origin: u16, octets: &'a [u8], place: usize, next: u16)
+        ensures { (starts : List Start)
+            → AreRows starts self.old
+            → (place < 16384 → found starts octets.now ≡ Some place)
+            → AreRows starts self.new }
+    {
+        let row = if place < POINTED {
+            let place = place as u16;
+            Row {
+                octets,
+                place,
+                next,
+            }
+        } else {
+            row_without_place(next)
+        };
+        self.set(origin, row);
+    }
+}
+
+/// A part of a name's way: the places of its labels, the last one first, and that of the label behind them.
+#[derive(Clone, Copy)]
+pub(crate) struct Steps<'w> {
+    new: &'w [u16],
+    joined: u16,
+}
+
+impl<'w> Steps<'w> {
+    pub(crate) fn of(way: &'w Way) -> Steps<'w> {
+        Steps {
+            new: &way.new,
+            joined: way.joined,
+        }
+    }
+
+    /// The place of the first label.
+    pub(crate) fn first(&self) -> u16 {
+        match self.new.last() {
+            Some(place) => *place,
+            None => self.joined,
+        }
+    }
+
+    /// The steps behind the first label.
+    pub(crate) fn behind(&self, rows: &Rows) -> Steps<'w> {
+        if let Some((_, new)) = self.new.split_last() {
+            return Steps {
+                new,
+                joined: self.joined,
+            };
+        }
+        let joined = match rows.at(self.joined) {
+            Some(row) => row.next,
+            None => NOWHERE,
+        };
+        Steps { new: &[], joined }
+    }
+}

@@ -1,0 +1,36 @@
+// Where the labels of a name stand in the message from which it was read. These are hints: no clause rests on them.
+use std::alloc::Global;
+
+/// No place of a message.
+pub(crate) const NOWHERE: u16 = u16::MAX;
+
+/// What stands for the place of each name's first label in a short message, and in a copy: no label stands at this place.
+pub(crate) const SHORT: u16 = 0;
+
+/// The places of a name's labels that no name before it led to, the last one first, and the place of the label behind them.
+#[derive(Drop)]
+pub struct Way {
+    pub(crate) new: Vec<u16>,
+    pub(crate) joined: u16,
+}
+
+impl Way {
+    /// The way of a name of a short message, or of a copy.
+    pub(crate) fn short(alloc: Global) -> Way {
+        Way {
+            new: Vec::new(alloc),
+            joined: SHORT,
+        }
+    }
+    /// The way of a name that goes out for this one: only its first label has a place.
+    pub(crate) fn of_image(&self, alloc: Global) -> Way {
+        let joined = match self.new.last() {
+            Some(place) => *place,
+            None => self.joined,
+        };
+        Way {
+            new: Vec::new(alloc),
+            joined,
+        }
+    }
+}
