@@ -59,7 +59,7 @@ class Standards(unittest.TestCase):
     def test_counts(self) -> None:
         """The page counts its rows rightly, and each row has its evidence or its reason."""
         count = Counter(row[2].strip("*") for row in self.rows)
-        said = re.search(r"of (\d+) rows (\d+) are met, (\d+) in part, and (\d+) not. (\d+) are chosen otherwise, and (\d+)\s", self.page)
+        said = re.search(r"have (\d+) requirements: (\d+) are met, (\d+) in part, and (\d+) not. (\d+) are chosen otherwise, and (\d+)\s", self.page)
         assert said is not None
         self.assertEqual([int(n) for n in said.groups()], [len(self.rows), *(count[word] for word in ("yes", "partly", "no", "chosen", "n/a"))])
         bare = [row for row in self.rows if not row[3] and row[2] != "**no**"]
