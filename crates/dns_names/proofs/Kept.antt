@@ -77,21 +77,25 @@ put_start-all P s (t ∷ ts) all =
 
 -- a new key with the greatest place comes last
 starts_in-insert : (es : List (Suffix × ℕ)) (s : Suffix) (place : ℕ) → place_in es (key s) ≡ None → AllByRecursion (IsBelow place) (starts_in es)
-    → starts_in (insert_entry (λ x y. slice_cmp nat_cmp (key x) (key y)) es s place) ≡ starts_in es ++ record { place = place; octets = s.octets.now } ∷ []
+    → starts_in (insert_entry (λ x y. slice_cmp nat_cmp (key x) (key y)) es s place)
+    ≡ starts_in es ++ record { place = place; octets = s.octets.now } ∷ []
 starts_in-insert [] s place absent all = refl
 starts_in-insert (e ∷ es) s place absent all =
     by_order (slice_cmp nat_cmp (key s) (key e.0)) refl (λ a b. starts_in-insert es s place a b)
   where
     by_order : (o : Ordering) → slice_cmp nat_cmp (key s) (key e.0) ≡ o
         → (place_in es (key s) ≡ None → AllByRecursion (IsBelow place) (starts_in es)
-        → starts_in (insert_entry (λ x y. slice_cmp nat_cmp (key x) (key y)) es s place) ≡ starts_in es ++ record { place = place; octets = s.octets.now } ∷ [])
-        → starts_in (match_ordering o ((s, place) ∷ e ∷ es) ((e.0, place) ∷ es) (e ∷ insert_entry (λ x y. slice_cmp nat_cmp (key x) (key y)) es s place))
+        → starts_in (insert_entry (λ x y. slice_cmp nat_cmp (key x) (key y)) es s place)
+        ≡ starts_in es ++ record { place = place; octets = s.octets.now } ∷ [])
+        → starts_in (match_ordering o ((s, place) ∷ e ∷ es) ((e.0, place) ∷ es)
+        (e ∷ insert_entry (λ x y. slice_cmp nat_cmp (key x) (key y)) es s place))
         ≡ starts_in (e ∷ es) ++ record { place = place; octets = s.octets.now } ∷ []
     by_order Less is next = put_start-last (record { place = place; octets = s.octets.now }) (starts_in (e ∷ es)) all
     by_order Equal is next = absurd (let q : Some e.1 ≡ None = rw is at absent in cc)
     by_order Greater is next =
         let parts = put_start-all (IsBelow place) (record { place = e.1; octets = e.0.octets.now }) (starts_in es) all in
-        rw (next (rw is at absent) parts.1) (put_start-before (record { place = e.1; octets = e.0.octets.now }) (record { place = place; octets = s.octets.now }) (starts_in es) parts.0)
+        rw (next (rw is at absent) parts.1) (put_start-before (record { place = e.1; octets = e.0.octets.now })
+        (record { place = place; octets = s.octets.now }) (starts_in es) parts.0)
 
 -- ---- one start more
 
@@ -119,7 +123,8 @@ found-with_start starts place here octets absent off =
       | inr n ↦ rw n (ap (λ (x : List Start). found x octets) (append-nil starts))
     ]
 
-pub found-more : (starts more : List Start) (octets : List ℕ) (place : ℕ) → found starts octets ≡ Some place → found (starts ++ more) octets ≡ Some place
+pub found-more : (starts more : List Start) (octets : List ℕ) (place : ℕ) → found starts octets ≡ Some place
+    → found (starts ++ more) octets ≡ Some place
 found-more [] more octets place e = absurd cc
 found-more (s ∷ starts) more octets place e =
     elim (cases_Bool (bytes_eq s.octets octets)) [
@@ -128,7 +133,8 @@ found-more (s ∷ starts) more octets place e =
     ]
 
 -- what isn't found is the last start, or isn't found with that either
-pub found-last : (starts : List Start) (s : Start) (octets : List ℕ) → found starts octets ≡ None → found (starts ++ s ∷ []) octets ≡ cond (bytes_eq s.octets octets) (Some s.place) None
+pub found-last : (starts : List Start) (s : Start) (octets : List ℕ) → found starts octets ≡ None
+    → found (starts ++ s ∷ []) octets ≡ cond (bytes_eq s.octets octets) (Some s.place) None
 found-last [] s octets none = elim (cases_Bool (bytes_eq s.octets octets)) [ inl t ↦ rw t refl | inr f ↦ rw f refl ]
 found-last (t ∷ ts) s octets none =
     elim (cases_Bool (bytes_eq t.octets octets)) [
@@ -142,7 +148,8 @@ pub near_later : (limit more : ℕ) (starts : List Start) → limit ≤ more →
 near_later limit more [] le all = tt
 near_later limit more (s ∷ starts) le all = ((omega (arith, all.0.0), all.0.1), near_later limit more starts le all.1)
 
-pub near_push : (limit : ℕ) (starts : List Start) (s : Start) → AllByRecursion (IsNear limit) starts → IsNear limit s → AllByRecursion (IsNear limit) (starts ++ s ∷ [])
+pub near_push : (limit : ℕ) (starts : List Start) (s : Start) → AllByRecursion (IsNear limit) starts → IsNear limit s
+    → AllByRecursion (IsNear limit) (starts ++ s ∷ [])
 near_push limit [] s all one = (one, tt)
 near_push limit (t ∷ ts) s all one = (all.0, near_push limit ts s all.1 one)
 
@@ -151,7 +158,8 @@ near_below limit [] all = tt
 near_below limit (s ∷ starts) all = (all.0.0, near_below limit starts all.1)
 
 -- what is found lies below the end, and can be pointed to
-pub found-is-near : (limit : ℕ) (starts : List Start) (octets : List ℕ) (place : ℕ) → AllByRecursion (IsNear limit) starts → found starts octets ≡ Some place → (place < limit) × (place < 16384)
+pub found-is-near : (limit : ℕ) (starts : List Start) (octets : List ℕ) (place : ℕ) → AllByRecursion (IsNear limit) starts
+    → found starts octets ≡ Some place → (place < limit) × (place < 16384)
 found-is-near limit [] octets place all e = absurd cc
 found-is-near limit (s ∷ starts) octets place all e =
     elim (chosen (bytes_eq s.octets octets) (Some s.place) (found starts octets) (Some place) e) [
@@ -159,13 +167,15 @@ found-is-near limit (s ∷ starts) octets place all e =
       | inr f ↦ found-is-near limit starts octets place all.1 f.1
     ]
 
-pub ends-near : (limit : ℕ) (starts : List Start) (octets : List ℕ) (place : Option ℕ) → AllByRecursion (IsNear limit) starts → EndsAt starts octets place → IfSome place (λ to. to < 16384)
+pub ends-near : (limit : ℕ) (starts : List Start) (octets : List ℕ) (place : Option ℕ) → AllByRecursion (IsNear limit) starts
+    → EndsAt starts octets place → IfSome place (λ to. to < 16384)
 ends-near limit starts octets None all e = tt
 ends-near limit starts octets (Some to) all e = (found-is-near limit starts octets to all e.1).1
 
 -- ---- what stands for places
 
-pub after-more : (starts more : List Start) (octets : List ℕ) (place : ℕ) → after_in starts octets ≡ Some place → after_in (starts ++ more) octets ≡ Some place
+pub after-more : (starts more : List Start) (octets : List ℕ) (place : ℕ) → after_in starts octets ≡ Some place
+    → after_in (starts ++ more) octets ≡ Some place
 after-more starts more [] place e = e
 after-more starts more (x ∷ xs) place e = found-more starts more (x ∷ xs) place e
 
@@ -179,12 +189,14 @@ nowhere starts [] e = absurd cc
 nowhere starts (x ∷ xs) e = record { some = omega arith; none = e }
 
 -- it is 65,535, or lies below the end
-pub after-near : (limit : ℕ) (starts : List Start) (octets : List ℕ) (place : ℕ) → AllByRecursion (IsNear limit) starts → after_in starts octets ≡ Some place
+pub after-near : (limit : ℕ) (starts : List Start) (octets : List ℕ) (place : ℕ) → AllByRecursion (IsNear limit) starts
+    → after_in starts octets ≡ Some place
     → ((octets ≡ []) × (place ≡ 65535)) ⊎ ((found starts octets ≡ Some place) × (place < limit) × (place < 16384))
 after-near limit starts [] place all e = inl (refl, (let h : Some 65535 ≡ Some place = e in let q : 65535 ≡ place = cc in sym q))
 after-near limit starts (x ∷ xs) place all e = (let near = found-is-near limit starts (x ∷ xs) place all e in inr (e, near.0, near.1))
 
-pub own-after : (limit : ℕ) (starts : List Start) (a b : List ℕ) (place : ℕ) → AllByRecursion (IsNear limit) starts → HaveOwnPlaces starts → after_in starts a ≡ Some place → after_in starts b ≡ Some place → a ≡ b
+pub own-after : (limit : ℕ) (starts : List Start) (a b : List ℕ) (place : ℕ) → AllByRecursion (IsNear limit) starts → HaveOwnPlaces starts
+    → after_in starts a ≡ Some place → after_in starts b ≡ Some place → a ≡ b
 own-after limit starts a b place all own e f =
     elim (after-near limit starts a place all e) [
       | inl root ↦
@@ -200,13 +212,17 @@ own-after limit starts a b place all own e f =
     ]
 
 -- one start more, behind the others, has a place of its own
-pub own-last : (limit : ℕ) (starts : List Start) (s : Start) → AllByRecursion (IsNear limit) starts → limit ≤ s.place → HaveOwnPlaces starts → HaveOwnPlaces (starts ++ s ∷ [])
+pub own-last : (limit : ℕ) (starts : List Start) (s : Start) → AllByRecursion (IsNear limit) starts → limit ≤ s.place → HaveOwnPlaces starts
+    → HaveOwnPlaces (starts ++ s ∷ [])
 own-last limit starts s all le own a b place e f = by_found (found starts a) (found starts b) refl refl
   where
     last : (octets : List ℕ) → found starts octets ≡ None → found (starts ++ s ∷ []) octets ≡ Some place → (s.octets ≡ octets) × (s.place ≡ place)
     last octets none is =
         elim (cases_Bool (bytes_eq s.octets octets)) [
-          | inl t ↦ ((bytes_eq-Decides s.octets octets).0 t, (let h : Some s.place ≡ Some place = sym (found-last starts s octets none ∙ rw t refl) ∙ is in cc))
+          | inl t ↦ (
+            (bytes_eq-Decides s.octets octets).0 t,
+            (let h : Some s.place ≡ Some place = sym (found-last starts s octets none ∙ rw t refl) ∙ is in cc),
+          )
           | inr n ↦ absurd (let h : None ≡ Some place = sym (found-last starts s octets none ∙ rw n refl) ∙ is in cc)
         ]
 
@@ -230,18 +246,25 @@ same-key a b x y e = (cc, cc)
 
 -- ---- a name is written
 
-pub pending-index : (entries : List (Suffix × ℕ)) (rest : List ℕ) (limit later : ℕ) → IsPending entries rest limit → limit ≤ later → IsIndex entries later
+pub pending-index : (entries : List (Suffix × ℕ)) (rest : List ℕ) (limit later : ℕ) → IsPending entries rest limit → limit ≤ later
+    → IsIndex entries later
 pending-index entries rest limit later p le = record {
   finds = λ octets after some e. p.finds octets after some (after-more (starts_in entries) (with_start limit rest []) (behind octets) after e);
   near = near_later limit later (starts_in entries) le p.near;
   own = p.own;
 }
 
-pub pending-fresh : (entries : List (Suffix × ℕ)) (rest : List ℕ) (limit later : ℕ) → IsPending entries rest limit → limit < later → IsFresh entries later
+pub pending-fresh : (entries : List (Suffix × ℕ)) (rest : List ℕ) (limit later : ℕ) → IsPending entries rest limit → limit < later
+    → IsFresh entries later
 pending-fresh entries rest limit later p lt near octets after le few = p.fresh (omega (arith, near, lt)) octets after (omega (arith, le, lt)) few
 
 pub IsIndex-later : (entries : List (Suffix × ℕ)) (limit more : ℕ) → IsIndex entries limit → limit ≤ more → IsIndex entries more
-IsIndex-later entries limit more index le = record { finds = index.finds; near = near_later limit more (starts_in entries) le index.near; own = index.own }
+IsIndex-later entries limit more index le = record {
+  finds = index.finds;
+  near =
+      near_later limit more (starts_in entries) le index.near;
+  own = index.own;
+}
 
 pub IsFresh-later : (entries : List (Suffix × ℕ)) (limit more : ℕ) → IsFresh entries limit → limit ≤ more → IsFresh entries more
 IsFresh-later entries limit more fresh le near octets after from few = fresh (omega (arith, near, le)) octets after (omega (arith, le, from)) few
@@ -260,36 +283,49 @@ remembers m n s place near entries updates = record {
 -- what can be pointed to may be added
 module _ (starts : List Start) (limit : ℕ) (rest octets : List ℕ) (after : ℕ) where
   -- what is found with it alone is it
-  only-last : found starts octets ≡ None → found (starts ++ with_start limit rest []) octets ≡ Some after → (rest ≡ octets) × (limit ≡ after) × (limit < 16384)
+  only-last : found starts octets ≡ None → found (starts ++ with_start limit rest []) octets ≡ Some after
+      → (rest ≡ octets) × (limit ≡ after) × (limit < 16384)
   only-last none e =
       elim (cases_Bool (nat_lt limit 16384)) [
         | inl t ↦
             let more : found (starts ++ record { place = limit; octets = rest } ∷ []) octets ≡ Some after = rw t at e in
             elim (cases_Bool (bytes_eq rest octets)) [
-              | inl y ↦ ((bytes_eq-Decides rest octets).0 y, (let h : Some limit ≡ Some after = sym (found-last starts (record { place = limit; octets = rest }) octets none ∙ rw y refl) ∙ more in cc), ltb-true _ _ t)
-              | inr n ↦ absurd (let h : None ≡ Some after = sym (found-last starts (record { place = limit; octets = rest }) octets none ∙ rw n refl) ∙ more in cc)
+              | inl y ↦ (
+                (bytes_eq-Decides rest octets).0 y,
+                (let h : Some limit ≡ Some after = sym (found-last starts (record { place = limit; octets = rest }) octets none
+                    ∙ rw y refl) ∙ more in cc),
+                ltb-true _ _ t,
+              )
+              | inr n ↦ absurd (let h : None ≡ Some after = sym
+                  (found-last starts (record { place = limit; octets = rest }) octets none ∙ rw n refl) ∙ more in cc)
             ]
-        | inr f ↦ absurd (let h : None ≡ Some after = sym none ∙ ap (λ (x : List Start). found x octets) (sym (append-nil starts)) ∙ (rw f at e) in cc)
+        | inr f ↦ absurd (let h : None ≡ Some after = sym none ∙ ap (λ (x : List Start). found x octets) (sym (append-nil starts))
+            ∙ (rw f at e) in cc)
       ]
 
 pub same-some : (o : Option ℕ) (a b : ℕ) → o ≡ Some a → o ≡ Some b → a ≡ b
 same-some o a b e f = let h : Some a ≡ Some b = sym e ∙ f in cc
 
 -- what stands for a place with one start more stood for it before, or is this one
-pub after-last : (starts : List Start) (limit : ℕ) (rest octets : List ℕ) (after : ℕ) → after_in (starts ++ with_start limit rest []) octets ≡ Some after
+pub after-last : (starts : List Start) (limit : ℕ) (rest octets : List ℕ) (after : ℕ)
+    → after_in (starts ++ with_start limit rest []) octets ≡ Some after
     → (after_in starts octets ≡ Some after) ⊎ (IsNowhere starts octets × (rest ≡ octets) × (limit ≡ after) × (limit < 16384))
 after-last starts limit rest octets after e = by_after (after_in starts octets) refl
   where
-    last : (octets : List ℕ) → IsNowhere starts octets → after_in (starts ++ with_start limit rest []) octets ≡ Some after → IsNowhere starts octets × (rest ≡ octets) × (limit ≡ after) × (limit < 16384)
+    last : (octets : List ℕ) → IsNowhere starts octets → after_in (starts ++ with_start limit rest []) octets ≡ Some after
+        → IsNowhere starts octets × (rest ≡ octets) × (limit ≡ after) × (limit < 16384)
     last [] off f = absurd (omega (arith, off.some))
     last (x ∷ xs) off f = let only = only-last starts limit rest (x ∷ xs) after off.none f in (off, only.0, only.1, only.2)
 
-    by_after : (o : Option ℕ) → after_in starts octets ≡ o → (after_in starts octets ≡ Some after) ⊎ (IsNowhere starts octets × (rest ≡ octets) × (limit ≡ after) × (limit < 16384))
-    by_after (Some q) is = inl (is ∙ ap Some (same-some (after_in (starts ++ with_start limit rest []) octets) q after (after-more starts (with_start limit rest []) octets q is) e))
+    by_after : (o : Option ℕ) → after_in starts octets ≡ o → (after_in starts octets ≡ Some after)
+        ⊎ (IsNowhere starts octets × (rest ≡ octets) × (limit ≡ after) × (limit < 16384))
+    by_after (Some q) is = inl (is ∙ ap Some (same-some (after_in (starts ++ with_start limit rest []) octets) q after
+        (after-more starts (with_start limit rest []) octets q is) e))
     by_after None is = inr (last octets (nowhere starts octets is) e)
 
 -- nothing that begins with a rest that isn't found is found, as long as an end can be pointed to
-pub new-front : (starts : List Start) (octets : List ℕ) → IsNowhere starts (behind octets) → ((place : ℕ) → found starts octets ≡ Some place → Ends starts (behind octets)) → found starts octets ≡ None
+pub new-front : (starts : List Start) (octets : List ℕ) → IsNowhere starts (behind octets)
+    → ((place : ℕ) → found starts octets ≡ Some place → Ends starts (behind octets)) → found starts octets ≡ None
 new-front starts octets off closed = by_found (found starts octets) refl
   where
     by_found : (o : Option ℕ) → found starts octets ≡ o → found starts octets ≡ None
@@ -303,7 +339,8 @@ new-front starts octets off closed = by_found (found starts octets) refl
         )
 
 -- a name begins
-pub pending-first : (entries : List (Suffix × ℕ)) (edge name : List ℕ) (limit : ℕ) → IsIndex entries limit → IsFresh entries limit → IsClosed (starts_in entries) edge limit → IsPending entries name limit
+pub pending-first : (entries : List (Suffix × ℕ)) (edge name : List ℕ) (limit : ℕ) → IsIndex entries limit → IsFresh entries limit
+    → IsClosed (starts_in entries) edge limit → IsPending entries name limit
 pending-first entries edge name limit index fresh closed = record {
   finds = λ octets after some e.
       elim (after-last (starts_in entries) limit name (behind octets) after e) [

@@ -26,13 +26,25 @@ skipped-all (suc n) (count ∷ rest) le = skipped-all n (drop count rest) (omega
 
 -- ---- a name is gone through from its end
 
-pub longest-here : (starts : List Start) (name : List ℕ) (place : ℕ) → 1 ≤ length name → found starts name ≡ Some place → IsLongest starts name 0 (Some place)
-longest-here starts name place some e = record { new = λ n lt. absurd (omega (arith, lt)); some = λ n lt _. absurd (omega (arith, lt)); ends = (some, e) }
+pub longest-here : (starts : List Start) (name : List ℕ) (place : ℕ) → 1 ≤ length name → found starts name ≡ Some place
+    → IsLongest starts name 0 (Some place)
+longest-here starts name place some e = record {
+  new = λ n lt. absurd (omega (arith, lt));
+  some =
+      λ n lt _. absurd (omega (arith, lt));
+  ends = (some, e);
+}
 
-pub longest-one : (starts : List Start) (name : List ℕ) (place : Option ℕ) → 1 ≤ length name → IsLongest starts (behind name) 0 place → found starts name ≡ None → IsLongest starts name 1 place
+pub longest-one : (starts : List Start) (name : List ℕ) (place : Option ℕ) → 1 ≤ length name → IsLongest starts (behind name) 0 place
+    → found starts name ≡ None → IsLongest starts name 1 place
 longest-one starts name place some is none = record {
   new = first;
-  some = λ n lt e. absurd (omega (arith, some, ap length (let zero_is : n ≡ 0 = omega (arith, lt) in subst (λ (m : ℕ). skipped m name ≡ []) zero_is e)));
+  some = λ n lt e. absurd (omega (
+    arith,
+    some,
+    ap length (let zero_is : n ≡ 0 = omega (arith, lt) in
+        subst (λ (m : ℕ). skipped m name ≡ []) zero_is e),
+  ));
   ends = is.ends;
 }
   where
@@ -41,7 +53,8 @@ longest-one starts name place some is none = record {
     first (suc n) lt = absurd (omega (arith, lt))
 
 -- what isn't written with its first label isn't written, unless it is the edge
-pub longest-more : (starts : List Start) (edge name : List ℕ) (limit count : ℕ) (place : Option ℕ) → 1 ≤ length name → IsClosed starts edge limit → (name ≡ edge → ⊥) → 1 ≤ count → 1 ≤ length (behind name)
+pub longest-more : (starts : List Start) (edge name : List ℕ) (limit count : ℕ) (place : Option ℕ) → 1 ≤ length name
+    → IsClosed starts edge limit → (name ≡ edge → ⊥) → 1 ≤ count → 1 ≤ length (behind name)
     → IsLongest starts (behind name) count place → IsLongest starts name (count + 1) place
 longest-more starts edge name limit count place some closed off more deep is =
     let one_more : count + 1 ≡ suc count = omega arith in
@@ -81,7 +94,8 @@ longest-more starts edge name limit count place some closed off more deep is =
     ends_nowhere (suc n) lt e = is.some n (omega (arith, lt)) e
 
 -- what stands for the place of what is written already, or is nothing
-pub ends-after : (starts : List Start) (octets : List ℕ) (place : Option ℕ) → EndsAt starts octets place → after_in starts octets ≡ Some (unwrap_or place 65535)
+pub ends-after : (starts : List Start) (octets : List ℕ) (place : Option ℕ) → EndsAt starts octets place
+    → after_in starts octets ≡ Some (unwrap_or place 65535)
 ends-after starts octets None e = rw e refl
 ends-after starts [] (Some place) e = absurd (omega (arith, e.0))
 ends-after starts (x ∷ xs) (Some place) e = e.1

@@ -34,14 +34,18 @@ pub record Steps (old new : List (Suffix × ℕ)) (edge rest : List ℕ) (place 
   pub places : (k : List ℕ) → place_in new k ≡ cond (bytes_eq (key_of after rest) k) (Some place) (place_in old k)
   pub key : KeyIs (known_with new (behind rest) limit) (behind rest) limit after
 
-near_known : (starts : List Start) (rest : List ℕ) (place limit : ℕ) → AllByRecursion (IsNear place) starts → place ≤ limit → AllByRecursion (IsNear (limit + 1)) (starts ++ with_start limit rest [])
+near_known : (starts : List Start) (rest : List ℕ) (place limit : ℕ) → AllByRecursion (IsNear place) starts → place ≤ limit
+    → AllByRecursion (IsNear (limit + 1)) (starts ++ with_start limit rest [])
 near_known starts rest place limit all le =
     elim (cases_Bool (nat_lt limit 16384)) [
-      | inl t ↦ rw t (near_push (limit + 1) starts (record { place = limit; octets = rest }) (near_later place (limit + 1) starts (omega (arith, le)) all) (omega arith, ltb-true _ _ t))
-      | inr f ↦ rw f (subst (λ (x : List Start). AllByRecursion (IsNear (limit + 1)) x) (sym (append-nil starts)) (near_later place (limit + 1) starts (omega (arith, le)) all))
+      | inl t ↦ rw t (near_push (limit + 1) starts (record { place = limit; octets = rest })
+          (near_later place (limit + 1) starts (omega (arith, le)) all) (omega arith, ltb-true _ _ t))
+      | inr f ↦ rw f (subst (λ (x : List Start). AllByRecursion (IsNear (limit + 1)) x) (sym (append-nil starts))
+          (near_later place (limit + 1) starts (omega (arith, le)) all))
     ]
 
-own_known : (starts : List Start) (rest : List ℕ) (place limit : ℕ) → AllByRecursion (IsNear place) starts → place ≤ limit → HaveOwnPlaces starts → HaveOwnPlaces (starts ++ with_start limit rest [])
+own_known : (starts : List Start) (rest : List ℕ) (place limit : ℕ) → AllByRecursion (IsNear place) starts → place ≤ limit
+    → HaveOwnPlaces starts → HaveOwnPlaces (starts ++ with_start limit rest [])
 own_known starts rest place limit all le own =
     elim (cases_Bool (nat_lt limit 16384)) [
       | inl t ↦ rw t (own-last place starts (record { place = limit; octets = rest }) all le own)
@@ -61,10 +65,12 @@ bytes_off x y off =
 module _ (old new : List (Suffix × ℕ)) (edge rest : List ℕ) (place limit after : ℕ) (h : Steps old new edge rest place limit after) where
   near_new : AllByRecursion (IsNear (place + 1)) (starts_in new)
   near_new = subst (λ (x : List Start). AllByRecursion (IsNear (place + 1)) x) (sym h.starts)
-      (near_push (place + 1) (starts_in old) (record { place = place; octets = rest }) (near_later place (place + 1) (starts_in old) (omega arith) h.pending.near) (omega arith, h.near))
+      (near_push (place + 1) (starts_in old) (record { place = place; octets = rest })
+      (near_later place (place + 1) (starts_in old) (omega arith) h.pending.near) (omega arith, h.near))
 
   own_new : HaveOwnPlaces (starts_in new)
-  own_new = subst (λ (x : List Start). HaveOwnPlaces x) (sym h.starts) (own-last place (starts_in old) (record { place = place; octets = rest }) h.pending.near (omega arith) h.pending.own)
+  own_new = subst (λ (x : List Start). HaveOwnPlaces x) (sym h.starts)
+      (own-last place (starts_in old) (record { place = place; octets = rest }) h.pending.near (omega arith) h.pending.own)
 
   found_new : (x : List ℕ) → found (starts_in new) x ≡ cond (bytes_eq rest x) (Some place) (found (starts_in old) x)
   found_new x = ap (λ (ss : List Start). found ss x) h.starts ∙ found-push (starts_in old) (record { place = place; octets = rest }) x h.absent
@@ -79,22 +85,27 @@ module _ (old new : List (Suffix × ℕ)) (edge rest : List ℕ) (place limit af
   all_own = own_known (starts_in new) (behind rest) (place + 1) limit near_new (omega (arith, h.on)) own_new
 
   -- the key of the label start, and of other octets
-  key_same : (x : List ℕ) (a : ℕ) → rest ≡ x → after_in (known_with new (behind rest) limit) (behind x) ≡ Some a → bytes_eq (key_of after rest) (key_of a x) ≡ true
+  key_same : (x : List ℕ) (a : ℕ) → rest ≡ x → after_in (known_with new (behind rest) limit) (behind x) ≡ Some a
+      → bytes_eq (key_of after rest) (key_of a x) ≡ true
   key_same x a same e =
-      let here : after_in (known_with new (behind rest) limit) (behind rest) ≡ Some a = ap (λ (o : List ℕ). after_in (known_with new (behind rest) limit) (behind o)) same ∙ e in
+      let here : after_in (known_with new (behind rest) limit) (behind rest) ≡ Some a =
+      ap (λ (o : List ℕ). after_in (known_with new (behind rest) limit) (behind o)) same ∙ e in
       elim h.key [
         | inl is ↦ bytes_same _ _ (ap (λ (n : ℕ). key_of n rest) (same-some _ after a is here) ∙ ap (key_of a) same)
         | inr far ↦ absurd (let q : None ≡ Some a = sym far.2 ∙ here in cc)
       ]
 
-  key_off : (x : List ℕ) (a : ℕ) → 1 ≤ length x → (rest ≡ x → ⊥) → after_in (known_with new (behind rest) limit) (behind x) ≡ Some a → bytes_eq (key_of after rest) (key_of a x) ≡ false
+  key_off : (x : List ℕ) (a : ℕ) → 1 ≤ length x → (rest ≡ x → ⊥) → after_in (known_with new (behind rest) limit) (behind x) ≡ Some a
+      → bytes_eq (key_of after rest) (key_of a x) ≡ false
   key_off x a some off e =
       bytes_off _ _ (λ same.
       let parts = same-key after a rest x same in
       elim h.key [
         | inl is ↦
-            let behinds : behind rest ≡ behind x = own-after (limit + 1) (known_with new (behind rest) limit) (behind rest) (behind x) a all_near all_own (is ∙ ap Some parts.0) e in
-            off (sym (label-behind rest h.some) ∙ ap (λ (o : List ℕ). o ++ behind rest) parts.1 ∙ ap (λ (o : List ℕ). first_label x ++ o) behinds ∙ label-behind x some)
+            let behinds : behind rest ≡ behind x = own-after (limit + 1) (known_with new (behind rest) limit) (behind rest)
+            (behind x) a all_near all_own (is ∙ ap Some parts.0) e in
+            off (sym (label-behind rest h.some) ∙ ap (λ (o : List ℕ). o ++ behind rest) parts.1
+            ∙ ap (λ (o : List ℕ). first_label x ++ o) behinds ∙ label-behind x some)
         | inr far ↦
             elim (after-near (limit + 1) (known_with new (behind rest) limit) (behind x) a all_near e) [
               | inl root ↦ omega (arith, root.1, far.0, parts.0)
@@ -103,7 +114,8 @@ module _ (old new : List (Suffix × ℕ)) (edge rest : List ℕ) (place limit af
       ])
 
   -- other octets are found as before
-  finds_other : (x : List ℕ) (a : ℕ) → 1 ≤ length x → after_in (known_with new (behind rest) limit) (behind x) ≡ Some a → place_in old (key_of a x) ≡ found (starts_in old) x
+  finds_other : (x : List ℕ) (a : ℕ) → 1 ≤ length x → after_in (known_with new (behind rest) limit) (behind x) ≡ Some a
+      → place_in old (key_of a x) ≡ found (starts_in old) x
   finds_other x a some e =
       elim (after-last (starts_in new) limit (behind rest) (behind x) a e) [
         | inl is ↦ h.pending.finds x a some (ap (λ (ss : List Start). after_in ss (behind x)) old_known ∙ is)
@@ -139,7 +151,8 @@ module _ (old new : List (Suffix × ℕ)) (edge rest : List ℕ) (place limit af
         elim (cases_Bool (bytes_eq rest x)) [
           | inl t ↦
               let same : rest ≡ x = (bytes_eq-Decides rest x).0 t in
-              h.places (key_of a x) ∙ ap (λ (b : Bool). cond b (Some place) (place_in old (key_of a x))) (key_same x a same e) ∙ sym (found_new x ∙ ap (λ (b : Bool). cond b (Some place) (found (starts_in old) x)) t)
+              h.places (key_of a x) ∙ ap (λ (b : Bool). cond b (Some place) (place_in old (key_of a x))) (key_same x a same e)
+              ∙ sym (found_new x ∙ ap (λ (b : Bool). cond b (Some place) (found (starts_in old) x)) t)
           | inr n ↦
               let off : rest ≡ x → ⊥ = λ same. absurd (let c : true ≡ false = sym (bytes_same rest x same) ∙ n in cc) in
               h.places (key_of a x) ∙ ap (λ (b : Bool). cond b (Some place) (place_in old (key_of a x))) (key_off x a some off e)
@@ -160,11 +173,13 @@ module _ (old new : List (Suffix × ℕ)) (edge rest : List ℕ) (place limit af
               ]
           | inr far ↦ omega (arith, far.1, near)
         ]) in
-        h.places (key_of a x) ∙ ap (λ (b : Bool). cond b (Some place) (place_in old (key_of a x))) off ∙ h.pending.fresh h.near x a (omega (arith, from, h.on)) few;
+        h.places (key_of a x) ∙ ap (λ (b : Bool). cond b (Some place) (place_in old (key_of a x))) off
+        ∙ h.pending.fresh h.near x a (omega (arith, from, h.on)) few;
   }
 
 -- one that can't be pointed to was left out
-pub stepped-far : (entries : List (Suffix × ℕ)) (rest later : List ℕ) (place limit : ℕ) → IsPending entries rest place → 16384 ≤ place → place < limit → IsPending entries later limit
+pub stepped-far : (entries : List (Suffix × ℕ)) (rest later : List ℕ) (place limit : ℕ) → IsPending entries rest place → 16384 ≤ place
+    → place < limit → IsPending entries later limit
 stepped-far entries rest later place limit p far on = record {
   finds = λ x a some e.
       let none : with_start limit later [] ≡ [] = (let f : nat_lt limit 16384 ≡ false = le-ltb _ _ (omega (arith, far, on)) in rw f refl) in
@@ -182,43 +197,59 @@ after-found known [] some = absurd (omega (arith, some))
 after-found known (x ∷ xs) some = refl
 
 -- that of the end of the name
-end-old : (known more : List Start) (old : List (Suffix × ℕ)) (rest : List ℕ) (end : Option ℕ) → starts_in old ≡ known ++ more → EndsAt known (behind rest) end → after_in (starts_in old) (behind rest) ≡ Some (unwrap_or end 65535)
-end-old known more old rest end grew ends = ap (λ (x : List Start). after_in x (behind rest)) grew ∙ after-more known more (behind rest) (unwrap_or end 65535) (ends-after known (behind rest) end ends)
+end-old : (known more : List Start) (old : List (Suffix × ℕ)) (rest : List ℕ) (end : Option ℕ) → starts_in old ≡ known ++ more
+    → EndsAt known (behind rest) end → after_in (starts_in old) (behind rest) ≡ Some (unwrap_or end 65535)
+end-old known more old rest end grew ends = ap (λ (x : List Start). after_in x (behind rest)) grew
+    ∙ after-more known more (behind rest) (unwrap_or end 65535) (ends-after known (behind rest) end ends)
 
-module _ (known more : List Start) (old new : List (Suffix × ℕ)) (rest : List ℕ) (place limit : ℕ) (grew : starts_in old ≡ known ++ more) (starts : starts_in new ≡ starts_in old ++ with_start place rest []) where
+module _ (known more : List Start) (old new : List (Suffix × ℕ)) (rest : List ℕ) (place limit : ℕ) (grew : starts_in old ≡ known ++ more)
+    (starts : starts_in new ≡ starts_in old ++ with_start place rest []) where
   key-ends : (end : Option ℕ) → EndsAt known (behind rest) end → KeyIs (known_with new (behind rest) limit) (behind rest) limit (unwrap_or end 65535)
   key-ends end ends =
       inl (after-more (starts_in new) (with_start limit (behind rest) []) (behind rest) (unwrap_or end 65535)
-      (ap (λ (x : List Start). after_in x (behind rest)) starts ∙ after-more (starts_in old) (with_start place rest []) (behind rest) (unwrap_or end 65535) (end-old known more old rest end grew ends)))
+      (ap (λ (x : List Start). after_in x (behind rest)) starts
+      ∙ after-more (starts_in old) (with_start place rest []) (behind rest) (unwrap_or end 65535) (end-old known more old rest end grew ends)))
 
   -- that of the next label
-  next-new : 1 ≤ length rest → found (starts_in old) rest ≡ None → found (starts_in old) (behind rest) ≡ None → found (starts_in new) (behind rest) ≡ None
+  next-new : 1 ≤ length rest → found (starts_in old) rest ≡ None → found (starts_in old) (behind rest) ≡ None
+      → found (starts_in new) (behind rest) ≡ None
   next-new some absent none =
       ap (λ (x : List Start). found x (behind rest)) starts
-      ∙ found-with_start (starts_in old) place rest (behind rest) absent (bytes_off rest (behind rest) (λ same. omega (arith, ap (λ (o : List ℕ). length o) same, behind-shorter rest some)))
+      ∙ found-with_start (starts_in old) place rest (behind rest) absent
+      (bytes_off rest (behind rest) (λ same. omega (arith, ap (λ (o : List ℕ). length o) same, behind-shorter rest some)))
       ∙ none
 
-  key-next : (end : Option ℕ) → 1 ≤ length rest → found (starts_in old) rest ≡ None → found (starts_in old) (behind rest) ≡ None → 1 ≤ length (behind rest) → KeyIs (known_with new (behind rest) limit) (behind rest) limit (key_at false limit end)
+  key-next : (end : Option ℕ) → 1 ≤ length rest → found (starts_in old) rest ≡ None → found (starts_in old) (behind rest) ≡ None
+      → 1 ≤ length (behind rest) → KeyIs (known_with new (behind rest) limit) (behind rest) limit (key_at false limit end)
   key-next end some absent none long =
       let new_none = next-new some absent none in
       elim (cases_Bool (nat_lt limit 16384)) [
         | inl t ↦
             let same : bytes_eq (behind rest) (behind rest) ≡ true = bytes_same (behind rest) (behind rest) refl in
-            rw t (inl (after-found (starts_in new ++ record { place = limit; octets = behind rest } ∷ []) (behind rest) long ∙ found-last (starts_in new) (record { place = limit; octets = behind rest }) (behind rest) new_none ∙ rw same refl))
+            rw t (inl (after-found (starts_in new ++ record { place = limit; octets = behind rest } ∷ []) (behind rest) long
+            ∙ found-last (starts_in new) (record { place = limit; octets = behind rest }) (behind rest) new_none ∙ rw same refl))
         | inr f ↦
-            rw f (inr (refl, ltb-false _ _ f, after-found (starts_in new ++ []) (behind rest) long ∙ ap (λ (x : List Start). found x (behind rest)) (append-nil (starts_in new)) ∙ new_none))
+            rw f (inr (
+              refl,
+              ltb-false _ _ f,
+              after-found (starts_in new ++ []) (behind rest) long
+                  ∙ ap (λ (x : List Start). found x (behind rest)) (append-nil (starts_in new)) ∙ new_none,
+            ))
       ]
 
 -- no key is there yet
-absent-next : (old : List (Suffix × ℕ)) (rest : List ℕ) (place limit : ℕ) (end : Option ℕ) → IsPending old rest place → place < limit → place < 16384 → place_in old (key_of (key_at false limit end) rest) ≡ None
+absent-next : (old : List (Suffix × ℕ)) (rest : List ℕ) (place limit : ℕ) (end : Option ℕ) → IsPending old rest place → place < limit
+    → place < 16384 → place_in old (key_of (key_at false limit end) rest) ≡ None
 absent-next old rest place limit end p on near =
     elim (cases_Bool (nat_lt limit 16384)) [
       | inl t ↦ rw t (p.fresh near rest limit on (omega (arith, ltb-true _ _ t)))
       | inr f ↦ rw f (p.fresh near rest 65534 (omega (arith, near)) (omega arith))
     ]
 
-absent-ends : (old : List (Suffix × ℕ)) (rest : List ℕ) (place after : ℕ) → IsPending old rest place → 1 ≤ length rest → found (starts_in old) rest ≡ None → after_in (starts_in old) (behind rest) ≡ Some after → place_in old (key_of after rest) ≡ None
-absent-ends old rest place after p some absent is = p.finds rest after some (after-more (starts_in old) (with_start place rest []) (behind rest) after is) ∙ absent
+absent-ends : (old : List (Suffix × ℕ)) (rest : List ℕ) (place after : ℕ) → IsPending old rest place → 1 ≤ length rest
+    → found (starts_in old) rest ≡ None → after_in (starts_in old) (behind rest) ≡ Some after → place_in old (key_of after rest) ≡ None
+absent-ends old rest place after p some absent is = p.finds rest after some
+    (after-more (starts_in old) (with_start place rest []) (behind rest) after is) ∙ absent
 
 -- ---- a label is put
 
@@ -263,7 +294,8 @@ module _ (known more : List Start) (old new : List (Suffix × ℕ)) (edge rest :
       by_end false e = key-next known more old new rest place limit grew put_starts end some absent (way.new e) (way.long e)
       by_end true e = by_place end (way.ends e)
         where
-          by_place : (o : Option ℕ) → EndsAt known (behind rest) o → KeyIs (known_with new (behind rest) limit) (behind rest) limit (key_at true limit o)
+          by_place : (o : Option ℕ) → EndsAt known (behind rest) o
+              → KeyIs (known_with new (behind rest) limit) (behind rest) limit (key_at true limit o)
           by_place None ends = key-ends known more old new rest place limit grew put_starts None ends
           by_place (Some to) ends = key-ends known more old new rest place limit grew put_starts (Some to) ends
 
@@ -287,13 +319,15 @@ module _ (known more : List Start) (old new : List (Suffix × ℕ)) (edge rest :
               })
           | inr f ↦
               let far : 16384 ≤ place = ltb-false _ _ f in
-              subst (λ (es : List (Suffix × ℕ)). IsPending es (behind rest) limit) (sym (r.far far)) (stepped-far old rest (behind rest) place limit pending far on)
+              subst (λ (es : List (Suffix × ℕ)). IsPending es (behind rest) limit) (sym (r.far far))
+              (stepped-far old rest (behind rest) place limit pending far on)
         ];
   }
 
 -- ---- what stood stays
 
-pub put-found : (old new : List (Suffix × ℕ)) (rest : List ℕ) (place limit : ℕ) → IsPut old new rest place limit → found (starts_in old) rest ≡ None → place < 16384 → found (starts_in new) rest ≡ Some place
+pub put-found : (old new : List (Suffix × ℕ)) (rest : List ℕ) (place limit : ℕ) → IsPut old new rest place limit
+    → found (starts_in old) rest ≡ None → place < 16384 → found (starts_in new) rest ≡ Some place
 put-found old new rest place limit is absent near =
     let t : nat_lt place 16384 ≡ true = lt-ltb _ _ near in
     let same : bytes_eq rest rest ≡ true = bytes_same rest rest refl in
@@ -302,11 +336,13 @@ put-found old new rest place limit is absent near =
 
 pub edge-later : (starts more new : List Start) (edge : Edge) → new ≡ starts ++ more → IsEdge starts edge → IsEdge new edge
 edge-later starts more new edge is (inl none) = inl none
-edge-later starts more new edge is (inr kept) = inr (ap (λ (x : List Start). found x edge.octets.now) is ∙ found-more starts more edge.octets.now edge.place kept)
+edge-later starts more new edge is (inr kept) = inr (ap (λ (x : List Start). found x edge.octets.now) is
+    ∙ found-more starts more edge.octets.now edge.place kept)
 
 row-later : (starts more new : List Start) (row : Row) → new ≡ starts ++ more → IsRow starts row → IsRow new row
 row-later starts more new row is (inl none) = inl none
-row-later starts more new row is (inr kept) = inr (ap (λ (x : List Start). found x row.octets.now) is ∙ found-more starts more row.octets.now row.place kept)
+row-later starts more new row is (inr kept) = inr (ap (λ (x : List Start). found x row.octets.now) is
+    ∙ found-more starts more row.octets.now row.place kept)
 
 pub rows-later : (starts more new : List Start) (rows : Rows) → new ≡ starts ++ more → AreRows starts rows → AreRows new rows
 rows-later starts more new rows is all = record {
@@ -322,4 +358,9 @@ pub edges-later : (entries : List (Suffix × ℕ)) (edge : Option Edge) (limit l
     → IfSome edge (λ e. IsFresh entries limit × IsEdge (starts_in entries) e × IsClosed (starts_in entries) e.octets.now limit)
     → IfSome edge (λ e. IsFresh entries later × IsEdge (starts_in entries) e × IsClosed (starts_in entries) e.octets.now later)
 edges-later entries None limit later le is = tt
-edges-later entries (Some e) limit later le is = (IsFresh-later entries limit later is.0 le, is.1, closed-later (starts_in entries) e.octets.now limit later is.2 le)
+edges-later entries (Some e) limit later le is = (
+  IsFresh-later entries limit later is.0 le,
+  is.1,
+  closed-later
+      (starts_in entries) e.octets.now limit later is.2 le,
+)

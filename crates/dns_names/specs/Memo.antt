@@ -11,7 +11,14 @@ octets_of kept k = take k.count (drop k.from kept)
 -- what is known at the place of a piece, by what is known behind it, where the kept octets of both end here
 abbrev pub known_by : Piece → ℕ → ℕ → Known → Known
 known_by Root place end k = k
-known_by (Label octets) place end k = record { from = end - (k.count + 1 + length octets); start = k.start; after = k.after; label = place; count = k.count + 1 + length octets }
+known_by (Label octets) place end k = record {
+  from = end - (k.count + 1 + length octets);
+  start = k.start;
+  after = k.after;
+  label =
+      place;
+  count = k.count + 1 + length octets;
+}
 known_by (Pointer to) place end k = record { from = k.from; start = to + 1; after = place + 2; label = k.label; count = k.count }
 known_by Nothing place end k = k
 

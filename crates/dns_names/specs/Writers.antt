@@ -40,7 +40,8 @@ after_in known (x ∷ xs) = found known (x ∷ xs)
 
 -- with octets whose rest stands at one of these starts, or is none, a map finds what its starts find
 abbrev pub FindsBy : List Start → List (Suffix × ℕ) → Type 0
-FindsBy known entries = (octets : List ℕ) (after : ℕ) → 1 ≤ length octets → after_in known (behind octets) ≡ Some after → place_in entries (key_of after octets) ≡ found (starts_in entries) octets
+FindsBy known entries = (octets : List ℕ) (after : ℕ) → 1 ≤ length octets → after_in known (behind octets) ≡ Some after
+    → place_in entries (key_of after octets) ≡ found (starts_in entries) octets
 
 -- no two octets are found at one place
 abbrev pub HaveOwnPlaces : List Start → Type 0
@@ -72,5 +73,6 @@ key_at false place end = if nat_lt place 16384 then place else 65534
 -- a map remembers that a suffix stands at a place, where a pointer can lead there
 pub record Remembers (s : Suffix) (place : ℕ) (old new : List (Suffix × ℕ)) : Type 0 where
   pub near : place < 16384 → (k : List ℕ) → place_in new k ≡ cond (bytes_eq (key s) k) (Some place) (place_in old k)
-  pub starts : place < 16384 → place_in old (key s) ≡ None → AllByRecursion (IsNear place) (starts_in old) → starts_in new ≡ starts_in old ++ record { place = place; octets = s.octets.now } ∷ []
+  pub starts : place < 16384 → place_in old (key s) ≡ None → AllByRecursion (IsNear place) (starts_in old)
+      → starts_in new ≡ starts_in old ++ record { place = place; octets = s.octets.now } ∷ []
   pub far : 16384 ≤ place → new ≡ old

@@ -75,29 +75,37 @@ all_rules place (r ∷ rs) h =
     let parts = and_parts (is_rule r) (list_all is_rule rs) h in
     All-cons (λ (one : Numbered). IsTrue (is_rule one.rule)) _ _ parts.0 (all_rules (place + 1) rs parts.1)
 
-pub first_is : (address : OidRule → Option ℕ) (sorted : List Numbered) (arcs : List ℕ) (found : Option (ℕ × Addr)) (rules : List OidRule) → AreSorted rules sorted → IsFound address sorted found → IsFirst address sorted arcs found → option_map (λ (p : ℕ × Addr). ((rule_at sorted p.0).rule, p.1.0)) found ≡ first_begun address arcs rules
+pub first_is : (address : OidRule → Option ℕ) (sorted : List Numbered) (arcs : List ℕ) (found : Option (ℕ × Addr)) (rules : List OidRule)
+    → AreSorted rules sorted → IsFound address sorted found → IsFirst address sorted arcs found
+    → option_map (λ (p : ℕ × Addr). ((rule_at sorted p.0).rule, p.1.0)) found ≡ first_begun address arcs rules
 first_is address sorted arcs None rules are is first =
-    let none = All-from_get_or (λ (one : Numbered). Passes address arcs one.rule → ⊥) sorted (rule_at [] 0) (λ k l p. first.first k l p.begins p.names) in
+    let none = All-from_get_or (λ (one : Numbered). Passes address arcs one.rule → ⊥) sorted (rule_at [] 0)
+    (λ k l p. first.first k l p.begins p.names) in
     sym (none_passes address arcs 0 rules (All-permutation (λ (one : Numbered). Passes address arcs one.rule → ⊥) sorted (numbered 0 rules) (IsPermutation-sym _ _ are.moved) none))
 first_is address sorted arcs (Some p) rules are is first =
     let one = rule_at sorted p.0 in
     let back = IsPermutation-sym _ _ are.moved in
     let there = Contains-permutation sorted (numbered 0 rules) one back (Contains-get_or sorted p.0 _ is.0) in
     let late = λ (other : Numbered). Passes address arcs other.rule → one.number ≤ other.number in
-    let least = All-permutation late sorted (numbered 0 rules) back (All-from_get_or late sorted (rule_at [] 0) (λ k l h. first.first k l h.begins h.names)) in
+    let least = All-permutation late sorted (numbered 0 rules) back
+    (All-from_get_or late sorted (rule_at [] 0) (λ k l h. first.first k l h.begins h.names)) in
     sym (first_passes address arcs 0 rules there.0 one p.1.0 there.1 there.2 first.found is.1 least)
 
 -- ## Other addresses in the same places
 
-same_begun : (f g : OidRule → Option ℕ) (arcs : List ℕ) (place : ℕ) (rules : List OidRule) → All (λ (one : Numbered). f one.rule ≡ g one.rule) (numbered place rules) → first_begun f arcs rules ≡ first_begun g arcs rules
+same_begun : (f g : OidRule → Option ℕ) (arcs : List ℕ) (place : ℕ) (rules : List OidRule)
+    → All (λ (one : Numbered). f one.rule ≡ g one.rule) (numbered place rules) → first_begun f arcs rules ≡ first_begun g arcs rules
 same_begun f g arcs place [] same = refl
 same_begun f g arcs place (r ∷ rs) same =
-    ap (λ o. option_or (if starts_with nat_eq arcs r.prefix then option_map (with_rule r) o else None) (first_begun f arcs rs)) (All-head (λ (one : Numbered). f one.rule ≡ g one.rule) _ (numbered (place + 1) rs) same)
-    ∙ ap (option_or (if starts_with nat_eq arcs r.prefix then option_map (with_rule r) (g r) else None)) (same_begun f g arcs (place + 1) rs (All-tail (λ (one : Numbered). f one.rule ≡ g one.rule) _ (numbered (place + 1) rs) same))
+    ap (λ o. option_or (if starts_with nat_eq arcs r.prefix then option_map (with_rule r) o else None) (first_begun f arcs rs))
+    (All-head (λ (one : Numbered). f one.rule ≡ g one.rule) _ (numbered (place + 1) rs) same)
+    ∙ ap (option_or (if starts_with nat_eq arcs r.prefix then option_map (with_rule r) (g r) else None))
+    (same_begun f g arcs (place + 1) rs (All-tail (λ (one : Numbered). f one.rule ≡ g one.rule) _ (numbered (place + 1) rs) same))
 
 -- a rule names what stands behind 2 to 191 arcs
 pub at_least_2 : (rule : OidRule) → IsTrue (is_rule rule) → 2 ≤ before rule
-at_least_2 rule fits = (let two : nat_le 2 (length rule.prefix) ≡ true = (and_parts _ _ (and_parts _ _ (and_parts _ _ (and_parts _ _ fits).0).0).0).0 in grind (arith, nat_tests))
+at_least_2 rule fits = (let two : nat_le 2 (length rule.prefix) ≡ true =
+    (and_parts _ _ (and_parts _ _ (and_parts _ _ (and_parts _ _ fits).0).0).0).0 in grind (arith, nat_tests))
 
 pub at_most_191 : (rule : OidRule) → IsTrue (is_rule rule) → before rule ≤ 191
 at_most_191 rule fits =
@@ -105,23 +113,31 @@ at_most_191 rule fits =
     let skipped : nat_le rule.skip 127 ≡ true = (and_parts _ _ fits).1 in
     grind (arith, nat_tests)
 
-pub first_same : (f g : ℕ → Option ℕ) (arcs : List ℕ) (sorted : List Numbered) (rules : List OidRule) → AreSorted rules sorted → ((place : ℕ) → 2 ≤ place → place ≤ 191 → f place ≡ g place) → first_begun (by_rule f) arcs rules ≡ first_begun (by_rule g) arcs rules
+pub first_same : (f g : ℕ → Option ℕ) (arcs : List ℕ) (sorted : List Numbered) (rules : List OidRule) → AreSorted rules sorted
+    → ((place : ℕ) → 2 ≤ place → place ≤ 191 → f place ≡ g place) → first_begun (by_rule f) arcs rules ≡ first_begun (by_rule g) arcs rules
 first_same f g arcs sorted rules are same =
     let alike = λ (one : Numbered). by_rule f one.rule ≡ by_rule g one.rule in
     let back = IsPermutation-sym _ _ are.moved in
     same_begun (by_rule f) (by_rule g) arcs 0 rules (All-permutation alike sorted (numbered 0 rules) back
-    (All-from_get_or alike sorted (rule_at [] 0) (λ k l. let fits = All-get_or (λ (one : Numbered). IsTrue (is_rule one.rule)) sorted k (rule_at [] 0) l are.all in same (before (rule_at sorted k).rule) (at_least_2 (rule_at sorted k).rule fits) (at_most_191 (rule_at sorted k).rule fits))))
+    (All-from_get_or alike sorted (rule_at [] 0) (λ k l. let fits =
+    All-get_or (λ (one : Numbered). IsTrue (is_rule one.rule)) sorted k (rule_at [] 0) l are.all in
+    same (before (rule_at sorted k).rule) (at_least_2 (rule_at sorted k).rule fits) (at_most_191 (rule_at sorted k).rule fits))))
 
-pub never_begun : (f : ℕ → Option ℕ) (arcs : List ℕ) (rules : List OidRule) → ((place : ℕ) → f place ≡ None) → None ≡ first_begun (by_rule f) arcs rules
+pub never_begun : (f : ℕ → Option ℕ) (arcs : List ℕ) (rules : List OidRule) → ((place : ℕ) → f place ≡ None)
+    → None ≡ first_begun (by_rule f) arcs rules
 never_begun f arcs [] none = refl
 never_begun f arcs (r ∷ rs) none =
     never_begun f arcs rs none
-    ∙ sym (ap (λ o. option_or o (first_begun (by_rule f) arcs rs)) (ap (λ o. if starts_with nat_eq arcs r.prefix then option_map (with_rule r) o else None) (none (before r)) ∙ nothing (starts_with nat_eq arcs r.prefix)))
+    ∙ sym (ap (λ o. option_or o (first_begun (by_rule f) arcs rs))
+    (ap (λ o. if starts_with nat_eq arcs r.prefix then option_map (with_rule r) o else None) (none (before r))
+    ∙ nothing (starts_with nat_eq arcs r.prefix)))
   where
     nothing : (b : Bool) → (if b then option_map (with_rule r) None else None) ≡ None
     nothing true = refl
     nothing false = refl
 
 -- no rule begins arcs
-pub not_begun : (address : OidRule → Option ℕ) (sorted : List Numbered) (count : ℕ) (arcs : List ℕ) (rules : List OidRule) → AreSorted rules sorted → count ≡ length sorted → IsLast count sorted arcs None → None ≡ first_begun address arcs rules
-not_begun address sorted count arcs rules are all none = first_is address sorted arcs None rules are tt (record { found = tt; first = λ k l begins names. absurd (none k (omega arith) begins) })
+pub not_begun : (address : OidRule → Option ℕ) (sorted : List Numbered) (count : ℕ) (arcs : List ℕ) (rules : List OidRule)
+    → AreSorted rules sorted → count ≡ length sorted → IsLast count sorted arcs None → None ≡ first_begun address arcs rules
+not_begun address sorted count arcs rules are all none = first_is address sorted arcs None rules are tt
+    (record { found = tt; first = λ k l begins names. absurd (none k (omega arith) begins) })

@@ -103,7 +103,8 @@ before_at sorted place = before (rule_at sorted place).rule
 -- rules with one more, which takes the place of those whose addresses stand where its own does, or of which one stands for it
 abbrev pub with_rule : List Numbered → List ℕ → ℕ → List ℕ
 with_rule sorted [] one = one ∷ []
-with_rule sorted (place ∷ rest) one = if before_at sorted place == before_at sorted one then with_rule sorted rest (earlier_of sorted one place) else place ∷ with_rule sorted rest one
+with_rule sorted (place ∷ rest) one = if before_at sorted place == before_at sorted one then with_rule sorted rest
+    (earlier_of sorted one place) else place ∷ with_rule sorted rest one
 
 -- a rule stands for another one: its address stands at the same place, and it comes no later in the list
 pub record StandsFor (sorted : List Numbered) (place other : ℕ) : Type 0 where
@@ -134,4 +135,5 @@ IsDone (Some last) place = last < place
 -- arcs begin with the rule that was found, which is the first of those that they begin with and that name an address
 pub record IsFirst (address : OidRule → Option ℕ) (sorted : List Numbered) (arcs : List ℕ) (best : Option (ℕ × Addr)) : Type 0 where
   pub found : IfSome best (λ p. BeginsAt sorted arcs p.0)
-  pub first : (k : ℕ) → k < length sorted → BeginsAt sorted arcs k → IsSome (address (rule_at sorted k).rule) → IsEarly sorted best (rule_at sorted k).number
+  pub first : (k : ℕ) → k < length sorted → BeginsAt sorted arcs k → IsSome (address (rule_at sorted k).rule)
+      → IsEarly sorted best (rule_at sorted k).number

@@ -25,7 +25,8 @@ pub drop_next : (ns : List ℕ) (place n : ℕ) (ms : List ℕ) → drop place n
 drop_next [] zero n ms e = cc
 drop_next [] (suc place) n ms e = cc
 drop_next (m ∷ ns) zero n ms e = ap (drop 1) e
-drop_next (m ∷ ns) (suc place) n ms e = (let more : suc place + 1 ≡ suc (place + 1) = omega arith in ap (λ k. drop k (m ∷ ns)) more ∙ drop_next ns place n ms e)
+drop_next (m ∷ ns) (suc place) n ms e = (let more : suc place + 1 ≡ suc (place + 1) = omega arith in
+    ap (λ k. drop k (m ∷ ns)) more ∙ drop_next ns place n ms e)
 
 -- ## One more that is kept
 
@@ -34,17 +35,25 @@ nothing_kept zero k = refl
 nothing_kept (suc count) zero = refl
 nothing_kept (suc count) (suc k) = nothing_kept count k
 
-pub kept_next : (ns : List ℕ) (place n : ℕ) (ms : List ℕ) (kept : List (Option ℕ)) (one : Option ℕ) (k : ℕ) → place < length kept → drop place ns ≡ n ∷ ms → one ≡ small n → ((j : ℕ) → j < place → get_or kept j None ≡ small_at ns j) → k < place + 1 → get_or (set kept place one) k None ≡ small_at ns k
-kept_next ns place n ms kept one k within is one_is before l = elim (cases_order k place) as (λ o. get_or (set kept place one) k None ≡ small_at ns k) [
-  | inl e ↦ ap (λ j. get_or (set kept place one) j None) e ∙ get_or-set_same kept place one None within ∙ one_is ∙ sym (small_head ns place n ms is) ∙ ap (small_at ns) (sym e)
-  | inr (inl s) ↦ get_or-set_other kept place k one None (λ e. let wrong : ⊥ = omega (arith, e, s) in wrong) ∙ before k s
-  | inr (inr s) ↦ absurd (omega arith)
-]
+pub kept_next : (ns : List ℕ) (place n : ℕ) (ms : List ℕ) (kept : List (Option ℕ)) (one : Option ℕ) (k : ℕ) → place < length kept
+    → drop place ns ≡ n ∷ ms → one ≡ small n → ((j : ℕ) → j < place → get_or kept j None ≡ small_at ns j) → k < place + 1
+    → get_or (set kept place one) k None ≡ small_at ns k
+kept_next ns place n ms kept one k within is one_is before l =
+    elim (cases_order k place) as (λ o. get_or (set kept place one) k None ≡ small_at ns k) [
+      | inl e ↦ ap (λ j. get_or (set kept place one) j None) e ∙ get_or-set_same kept place one None within ∙ one_is
+          ∙ sym (small_head ns place n ms is) ∙ ap (small_at ns) (sym e)
+      | inr (inl s) ↦ get_or-set_other kept place k one None (λ e. let wrong : ⊥ = omega (arith, e, s) in wrong) ∙ before k s
+      | inr (inr s) ↦ absurd (omega arith)
+    ]
 
-pub left_next : (place : ℕ) (kept : List (Option ℕ)) (one : Option ℕ) (k : ℕ) → ((j : ℕ) → place ≤ j → get_or kept j None ≡ None) → place + 1 ≤ k → get_or (set kept place one) k None ≡ None
-left_next place kept one k before l = get_or-set_other kept place k one None (λ e. let wrong : ⊥ = omega (arith, e, l) in wrong) ∙ before k (omega arith)
+pub left_next : (place : ℕ) (kept : List (Option ℕ)) (one : Option ℕ) (k : ℕ) → ((j : ℕ) → place ≤ j → get_or kept j None ≡ None)
+    → place + 1 ≤ k → get_or (set kept place one) k None ≡ None
+left_next place kept one k before l = get_or-set_other kept place k one None (λ e. let wrong : ⊥ = omega (arith, e, l) in wrong)
+    ∙ before k (omega arith)
 
-pub none_left : (ns : List ℕ) (place : ℕ) (kept : List (Option ℕ)) (k : ℕ) → drop place ns ≡ [] → ((j : ℕ) → j < place → get_or kept j None ≡ small_at ns j) → ((j : ℕ) → place ≤ j → get_or kept j None ≡ None) → get_or kept k None ≡ small_at ns k
+pub none_left : (ns : List ℕ) (place : ℕ) (kept : List (Option ℕ)) (k : ℕ) → drop place ns ≡ []
+    → ((j : ℕ) → j < place → get_or kept j None ≡ small_at ns j) → ((j : ℕ) → place ≤ j → get_or kept j None ≡ None)
+    → get_or kept k None ≡ small_at ns k
 none_left ns place kept k is before left = elim (cases_lt k place) as (λ o. get_or kept k None ≡ small_at ns k) [
   | inl s ↦ before k s
   | inr s ↦ left k s ∙ sym (small_past ns place k is s)
@@ -67,7 +76,8 @@ first_small (n ∷ ns) (suc i) j e =
     let more : j ≡ suc (i + 1) = omega arith in
     first_small ns i (i + 1) refl ∙ ap (λ k. option_map (λ a. (a, drop k (n ∷ ns))) (small_at ns i)) (sym more)
 
-step : {B : Type 0} (ns : List ℕ) (i j : ℕ) (f : ℕ × List ℕ → Option B) (g : ℕ → Option B) → j ≡ i + 1 → ((a : ℕ) → f (a, drop j ns) ≡ g a) → (small_first (drop i ns) >>= f) ≡ (small_at ns i >>= g)
+step : {B : Type 0} (ns : List ℕ) (i j : ℕ) (f : ℕ × List ℕ → Option B) (g : ℕ → Option B) → j ≡ i + 1 → ((a : ℕ) → f (a, drop j ns) ≡ g a)
+    → (small_first (drop i ns) >>= f) ≡ (small_at ns i >>= g)
 step {B} ns i j f g e same = ap (λ o. o >>= f) (first_small ns i j e) ∙ by_case (small_at ns i)
   where
     by_case : (o : Option ℕ) → (option_map (λ a. (a, drop j ns)) o >>= f) ≡ (o >>= g)
@@ -82,7 +92,9 @@ four_are ns i =
     step ns (i + 3) (i + 4) _ _ (omega arith) (λ d. refl))))
 
 -- the address behind so many arcs, by sub-identifiers of which the first two arcs share one
-pub four_behind : (content : List ℕ) (arc : ℕ → Option ℕ) (place : ℕ) → IsSome (arcs_of content) → ((k : ℕ) → k < 194 → arc k ≡ small_at (numbers_in content) k) → 2 ≤ place → place ≤ 191 → four_at arc (place - 1) ≡ option_and_then (λ arcs. address_of (drop place arcs)) (arcs_of content)
+pub four_behind : (content : List ℕ) (arc : ℕ → Option ℕ) (place : ℕ) → IsSome (arcs_of content)
+    → ((k : ℕ) → k < 194 → arc k ≡ small_at (numbers_in content) k) → 2 ≤ place → place ≤ 191
+    → four_at arc (place - 1) ≡ option_and_then (λ arcs. address_of (drop place arcs)) (arcs_of content)
 four_behind content arc zero some same least most = absurd (omega arith)
 four_behind content arc (suc zero) some same least most = absurd (omega arith)
 four_behind content arc (suc (suc k)) some same least most =
@@ -97,7 +109,8 @@ four_behind content arc (suc (suc k)) some same least most =
     ∙ ap address_of (sym (drop_arcs k ns) ∙ ap (drop (suc (suc k))) (sym (arcs_are content some)))
     ∙ sym (ap (option_and_then (λ (arcs : List ℕ). address_of (drop (suc (suc k)) arcs))) (all_of (arcs_of content) some))
 
-pub none_behind : (content : List ℕ) (place : ℕ) → is_some (arcs_of content) ≡ false → option_and_then (λ arcs. address_of (drop place arcs)) (arcs_of content) ≡ None
+pub none_behind : (content : List ℕ) (place : ℕ) → is_some (arcs_of content) ≡ false
+    → option_and_then (λ arcs. address_of (drop place arcs)) (arcs_of content) ≡ None
 none_behind content place none = by_arcs (arcs_of content) none
   where
     by_arcs : (o : Option (List ℕ)) → is_some o ≡ false → option_and_then (λ arcs. address_of (drop place arcs)) o ≡ None

@@ -62,7 +62,8 @@ some_test true x = refl
 some_test false x = refl
 
 -- one octet more
-pub whole_goes : (s : ℕ) (xs : List ℕ) (i : ℕ) (b : Bool) → i < length xs → b ≡ (s == 0 && nat_lt (get_or xs i 0) 128) → b ≡ true → is_some (numbers_from s (drop (i + 1) xs)) ≡ is_some (numbers_from s (drop i xs))
+pub whole_goes : (s : ℕ) (xs : List ℕ) (i : ℕ) (b : Bool) → i < length xs → b ≡ (s == 0 && nat_lt (get_or xs i 0) 128) → b ≡ true
+    → is_some (numbers_from s (drop (i + 1) xs)) ≡ is_some (numbers_from s (drop i xs))
 whole_goes s xs i b below is yes_is =
     let octet = get_or xs i 0 in
     let both = and_parts (s == 0) (nat_lt octet 128) (sym is ∙ yes_is) in

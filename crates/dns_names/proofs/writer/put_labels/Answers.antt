@@ -12,8 +12,17 @@ use Rattle.dns_names.proofs.writer.put_labels.Goals.{then-labels-test+else-not-i
 
 pub labels-init : goal.labels-init
 labels-init c = (
-  record { rest = labels_in c.args.name.now; left_is = c.requires.spelled.octets_are; all = c.requires.spelled.is_name.labels; octets = refl; starts = refl; fresh = λ o le. refl },
-  pending-first c.args.places.now.entries c.args.edge.octets.now c.args.name.now (length c.args.out.now.items) c.requires.index c.requires.fresh c.requires.closed,
+  record {
+    rest = labels_in c.args.name.now;
+    left_is = c.requires.spelled.octets_are;
+    all = c.requires.spelled.is_name.labels;
+    octets =
+        refl;
+    starts = refl;
+    fresh = λ o le. refl;
+  },
+  pending-first c.args.places.now.entries c.args.edge.octets.now c.args.name.now
+      (length c.args.out.now.items) c.requires.index c.requires.fresh c.requires.closed,
   grew_none (starts_in c.args.places.now.entries) c.args.out.now.items,
   c.longest-count.ensures.longest,
   closing-first (starts_in c.args.places.now.entries) c.args.edge.octets.now c.args.name.now (length c.args.out.now.items) c.requires.closed,
@@ -34,7 +43,8 @@ split_at-requires c = Left-within _ _ _ c.labels.rest.now c.labels.out.items _ (
 
 pub returns-in_err-remember-clause-index : goal.returns-in_err-remember-clause-index
 returns-in_err-remember-clause-index c =
-    subst (λ (es : List (Suffix × ℕ)). IsIndex es (length c.extend_from_slice.new.self.items)) (sym c.in_err-remember.ensures.kept) (pending-index _ c.labels.rest.now _ _ c.labels.invariant.1 (omega (arith, c.labels.out.ok.0, c.in_ok-extend_from_slice.ensures.len)))
+    subst (λ (es : List (Suffix × ℕ)). IsIndex es (length c.extend_from_slice.new.self.items)) (sym c.in_err-remember.ensures.kept)
+    (pending-index _ c.labels.rest.now _ _ c.labels.invariant.1 (omega (arith, c.labels.out.ok.0, c.in_ok-extend_from_slice.ensures.len)))
 
 pub returns-in_err-put_end-clause-index : goal.returns-in_err-put_end-clause-index
 returns-in_err-put_end-clause-index c = pending-index _ c.labels.rest.now _ _ c.labels.invariant.1 c.put_end.ensures.longer
@@ -52,30 +62,57 @@ labels-preserved c =
     let put = Left-label _ _ _ c.labels.rest.now c.labels.out.items _ some v.0 none in
     let len : c.len-place.result ≡ length c.labels.out.items = omega (arith, c.labels.out.ok.0) in
     let rest : c.split_at.result.1.now ≡ behind c.labels.rest.now = c.split_at.ensures.back ∙ sym (behind-is c.labels.rest.now some) in
-    let step = longest-step _ c.labels.rest.now (c.labels.left - 1) _ (subst (λ (n : ℕ). IsLongest (starts_in c.args.places.now.entries) c.labels.rest.now n c.longest-count.result.1) more v.3) in
+    let step = longest-step _ c.labels.rest.now (c.labels.left - 1) _
+    (subst (λ (n : ℕ). IsLongest (starts_in c.args.places.now.entries) c.labels.rest.now n c.longest-count.result.1) more v.3) in
     let limit = length c.extend_from_slice.new.self.items in
     let now : c.len.result ≡ limit = omega (arith, c.len.ensures, c.extend_from_slice.new.self.ok.0) in
-    let key_is : c.key_at-behind.result ≡ key_at c.is_end.result limit c.longest-count.result.1 = c.key_at-behind.ensures ∙ ap (λ (n : ℕ). key_at c.is_end.result n c.longest-count.result.1) now in
+    let key_is : c.key_at-behind.result ≡ key_at c.is_end.result limit c.longest-count.result.1 =
+    c.key_at-behind.ensures ∙ ap (λ (n : ℕ). key_at c.is_end.result n c.longest-count.result.1) now in
     let way : GoesOn (starts_in c.args.places.now.entries) c.labels.places.entries c.labels.rest.now c.is_end.result c.longest-count.result.1 =
     record {
-      ends = λ e. longest-ends _ (behind c.labels.rest.now) (c.labels.left - 1) _ step (subst (λ (x : List ℕ). (c.labels.left - 1 < 1) ⊎ (length x < 1)) rest (c.is_end.ensures.ends e));
+      ends = λ e. longest-ends _ (behind c.labels.rest.now) (c.labels.left - 1) _ step
+          (subst (λ (x : List ℕ). (c.labels.left - 1 < 1) ⊎ (length x < 1)) rest (c.is_end.ensures.ends e));
       new = λ e.
           let on = c.is_end.ensures.goes_on e in
-          v.0.fresh (behind c.labels.rest.now) (omega (arith, behind-shorter c.labels.rest.now some)) ∙ longest-new _ (behind c.labels.rest.now) (c.labels.left - 1) _ step on.0 (subst (λ (x : List ℕ). 1 ≤ length x) rest on.1);
+          v.0.fresh (behind c.labels.rest.now) (omega (arith, behind-shorter c.labels.rest.now some))
+          ∙ longest-new _ (behind c.labels.rest.now) (c.labels.left - 1) _ step on.0 (subst (λ (x : List ℕ). 1 ≤ length x) rest on.1);
       long = λ e. subst (λ (x : List ℕ). 1 ≤ length x) rest (c.is_end.ensures.goes_on e).1;
     } in
     let s : Suffix = record { octets = c.labels.rest; behind = c.key_at-behind.result } in
-    let on : length c.labels.out.items < limit = omega (arith, c.labels.out.ok.0, c.in_ok-extend_from_slice.ensures.len, c.split_at.ensures.front_len, c.extend_from_slice.new.self.ok.0) in
-    let is = put-label (starts_in c.args.places.now.entries) (v.2.0).starts c.labels.places.entries c.remember.new.places.entries c.labels.edge.octets.now c.labels.rest.now (length c.labels.out.items) limit s c.is_end.result c.longest-count.result.1
-    refl key_is (subst (λ (n : ℕ). Remembers s n c.labels.places.entries c.remember.new.places.entries) len c.in_ok-remember.ensures.remembers) v.1 v.4 absent some on v.2.2 way in
+    let on : length c.labels.out.items < limit = omega (
+      arith,
+      c.labels.out.ok.0,
+      c.in_ok-extend_from_slice.ensures.len,
+      c.split_at.ensures.front_len,
+      c.extend_from_slice.new.self.ok.0,
+    ) in
+    let is = put-label (starts_in c.args.places.now.entries)
+    (v.2.0).starts c.labels.places.entries c.remember.new.places.entries c.labels.edge.octets.now c.labels.rest.now
+    (length c.labels.out.items) limit s c.is_end.result c.longest-count.result.1
+    refl key_is (subst (λ (n : ℕ). Remembers s n c.labels.places.entries c.remember.new.places.entries) len
+    c.in_ok-remember.ensures.remembers) v.1 v.4 absent some on v.2.2 way in
     let found_now = put-found c.labels.places.entries c.remember.new.places.entries c.labels.rest.now (length c.labels.out.items) limit is absent in
-    let found_at : c.len-place.result < 16384 → found (starts_in c.remember.new.places.entries) c.labels.rest.now ≡ Some c.len-place.result = λ near. found_now (omega (arith, near, len)) ∙ ap Some (sym len) in
-    let starts_at : starts_in c.remember.new.places.entries ≡ starts_in c.labels.places.entries ++ with_start c.len-place.result c.labels.rest.now [] = is.starts ∙ ap (λ (n : ℕ). starts_in c.labels.places.entries ++ with_start n c.labels.rest.now []) (sym len) in (
+    let found_at : c.len-place.result < 16384 → found (starts_in c.remember.new.places.entries) c.labels.rest.now
+    ≡ Some c.len-place.result = λ near. found_now (omega (arith, near, len)) ∙ ap Some (sym len) in
+    let starts_at : starts_in c.remember.new.places.entries ≡ starts_in c.labels.places.entries ++ with_start c.len-place.result
+    c.labels.rest.now [] = is.starts ∙ ap (λ (n : ℕ). starts_in c.labels.places.entries ++ with_start n c.labels.rest.now []) (sym len) in (
       rw (c.split_at.ensures.back, c.in_ok-extend_from_slice.ensures.items, c.split_at.ensures.front, is.starts) put,
       subst (λ (x : List ℕ). IsPending c.remember.new.places.entries x limit) (sym rest) is.pending,
-      grew_more _ _ _ _ _ _ (record { octets = c.split_at.result.0.now; starts = with_start (length c.labels.out.items) c.labels.rest.now [] }) v.2 c.in_ok-extend_from_slice.ensures.items is.starts,
+      grew_more _ _ _ _ _ _ (record {
+        octets = c.split_at.result.0.now;
+        starts =
+            with_start (length c.labels.out.items) c.labels.rest.now [];
+      }) v.2 c.in_ok-extend_from_slice.ensures.items is.starts,
       subst (λ (x : List ℕ). IsLongest (starts_in c.args.places.now.entries) x (c.labels.left - 1) c.longest-count.result.1) (sym rest) step,
-      closing-put _ _ _ _ c.labels.rest.now _ _ c.len-place.result c.len-in-labels.result _ v.4 absent len (omega (arith, c.len-in-labels.ensures, c.labels.out.ok.0, c.in_ok-extend_from_slice.ensures.len, c.split_at.ensures.front_len, c.extend_from_slice.new.self.ok.0)) (search rules) starts_at c.edge_after-edge.ensures.by rest,
+      closing-put _ _ _ _ c.labels.rest.now _ _ c.len-place.result c.len-in-labels.result _ v.4 absent len
+          (omega (
+            arith,
+            c.len-in-labels.ensures,
+            c.labels.out.ok.0,
+            c.in_ok-extend_from_slice.ensures.len,
+            c.split_at.ensures.front_len,
+            c.extend_from_slice.new.self.ok.0,
+          )) (search rules) starts_at c.edge_after-edge.ensures.by rest,
       c.edge_after-edge.ensures.edge (starts_in c.remember.new.places.entries) (edge-later _ _ _ c.labels.edge is.starts v.5) found_at,
       c.keep.ensures (starts_in c.remember.new.places.entries) (rows-later _ _ _ c.labels.rows is.starts v.6) found_at,
     )
@@ -94,7 +131,14 @@ pub returns-clause-index : goal.returns-clause-index
 returns-clause-index c = pending-index _ c.labels.rest.now _ _ c.labels.invariant.1 c.in_ok-put_end.ensures.longer
 
 pub returns-clause-fresh : goal.returns-clause-fresh
-returns-clause-fresh c = pending-fresh _ c.labels.rest.now _ _ c.labels.invariant.1 (omega (arith, ap length c.in_ok-put_end.ensures.octets, length-append c.labels.out.items (ending c.longest-count.result.1), ending-some c.longest-count.result.1))
+returns-clause-fresh c = pending-fresh _ c.labels.rest.now _ _ c.labels.invariant.1
+    (omega (
+      arith,
+      ap length c.in_ok-put_end.ensures.octets,
+      length-append c.labels.out.items
+          (ending c.longest-count.result.1),
+      ending-some c.longest-count.result.1,
+    ))
 
 pub returns-clause-behind : goal.returns-clause-behind
 returns-clause-behind c = grew_octets _ _ _ _ _ _ c.in_ok-put_end.ensures.behind.0 c.labels.invariant.2 c.in_ok-put_end.ensures.behind.1 refl
@@ -105,4 +149,5 @@ returns-clause-closed c =
     closing-ends _ _ c.labels.rest.now _ _ c.labels.invariant.4 (Left-closed _ _ _ c.labels.rest.now c.labels.out.items _ _ c.labels.invariant.0 end) c.in_ok-put_end.ensures.longer
 
 pub returns-in_err-remember-clause-behind : goal.returns-in_err-remember-clause-behind
-returns-in_err-remember-clause-behind c = grew_octets _ _ _ _ _ _ c.split_at.result.0.now c.labels.invariant.2 c.in_ok-extend_from_slice.ensures.items (ap starts_in c.in_err-remember.ensures.kept)
+returns-in_err-remember-clause-behind c = grew_octets _ _ _ _ _ _ c.split_at.result.0.now c.labels.invariant.2
+    c.in_ok-extend_from_slice.ensures.items (ap starts_in c.in_err-remember.ensures.kept)

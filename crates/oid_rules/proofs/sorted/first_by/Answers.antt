@@ -15,4 +15,5 @@ returns-then-tried-eq1-clause-first g c = λ rules arcs last are is begins.
     (λ all. c.earlier.ensures.begun arcs tt (All-get_or (BeginsAt sorted arcs) tried 0 0 (omega (arith, c.if-tried-eq1.true)) all))
     (λ j l names.
     let e : 0 ≡ j = omega (arith, l, c.if-tried-eq1.true) in
-    subst (λ n. IsSome (address (before_at sorted (get_or tried n 0))) → IsEarly sorted c.earlier.result (rule_at sorted (get_or tried n 0)).number) e c.earlier.ensures.at names))
+    subst (λ n. IsSome (address (before_at sorted (get_or tried n 0)))
+    → IsEarly sorted c.earlier.result (rule_at sorted (get_or tried n 0)).number) e c.earlier.ensures.at names))

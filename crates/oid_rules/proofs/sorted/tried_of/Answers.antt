@@ -10,6 +10,8 @@ pub loop-at-preserved : goal.loop-at-preserved
 loop-at-preserved c =
     let tried = c.loop-at.tried.items in
     record {
-      tried = subst (AreTried c.args.sorted.now) (sym c.in_ok-push.ensures.items) (one_more_tried c.args.sorted.now tried c.in_ok-tried_at.field-0 c.loop-at.invariant.tried (subst (λ n. IsTried c.args.sorted.now n c.in_ok-tried_at.field-0) (sym c.loop-at.invariant.every) c.in_ok-tried_at.ensures));
+      tried = subst (AreTried c.args.sorted.now) (sym c.in_ok-push.ensures.items)
+          (one_more_tried c.args.sorted.now tried c.in_ok-tried_at.field-0 c.loop-at.invariant.tried
+          (subst (λ n. IsTried c.args.sorted.now n c.in_ok-tried_at.field-0) (sym c.loop-at.invariant.every) c.in_ok-tried_at.ensures));
       every = omega (arith, ap length c.in_ok-push.ensures.items, length-append tried (c.in_ok-tried_at.field-0 ∷ []), c.loop-at.invariant.every);
     }

@@ -27,7 +27,8 @@ loop-octet-preserved c =
     ]
 
 pub loop-octet-preserved-then-is_whole : goal.loop-octet-preserved-then-is_whole
-loop-octet-preserved-then-is_whole c = whole_goes c.loop-octet.number c.args.content.now c.loop-octet.octet-index c.is_whole.result c.loop-octet-test.true c.is_whole.ensures c.if-is_whole.true ∙ c.loop-octet.invariant
+loop-octet-preserved-then-is_whole c = whole_goes c.loop-octet.number c.args.content.now c.loop-octet.octet-index c.is_whole.result
+    c.loop-octet-test.true c.is_whole.ensures c.if-is_whole.true ∙ c.loop-octet.invariant
 
 pub returns : goal.returns
 returns c =
