@@ -15,8 +15,7 @@ known_by (Label octets) place end k = record {
   from = end - (k.count + 1 + length octets);
   start = k.start;
   after = k.after;
-  label =
-      place;
+  label = place;
   count = k.count + 1 + length octets;
 }
 known_by (Pointer to) place end k = record { from = k.from; start = to + 1; after = place + 2; label = k.label; count = k.count }
