@@ -117,6 +117,7 @@ def is_crowd(parameters):
 
 
 WORST_UDP = SIMPLE | {"tail": 113, "pre": 11, "post": 0, "width": 2, "crowd": 250, "order": "bits", "pick": "last"}
+WORST_OWN = {"tail": 91, "pre": 12, "post": 0, "width": 4, "crowd": 500, "order": "shuffled", "pick": 189, "own": 1, "base": 13, "step": 1, "seed": 0}
 WORST_TCP = SIMPLE | {"tail": 114, "pre": 11, "post": 0, "width": 2, "crowd": 250, "order": "up", "pick": 27, "led": 22, "seed": 713}
 WORST_SEVEN = {"led": 0, "crowd": 279, "pick": "last"}
 """What a climb of some 400 tries found over UDP, and one of some 60 over TCP, with the writer of names that halves over a name's ends. Seven such
@@ -220,7 +221,7 @@ FORKS = {"octets": (1, 63), "bits": (0, 504), "tail": (1, 94)}
 
 # SNMP.
 DEPTH = 62
-WORST_RULED = {"depth": 55, "base": 7, "arcs": 66, "arc": 284, "ones": 63}
+WORST_RULED = {"depth": 59, "base": 3, "arcs": 66, "arc": 280, "ones": 14}
 RULED = {"depth": (1, DEPTH), "base": (0, 127), "arcs": (66, 125), "arc": (128, 16_383), "ones": (1, 63)}
 
 

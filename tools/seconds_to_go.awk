@@ -1,14 +1,12 @@
-# How many seconds proofs still take. The first file is docs/GATE.md with the seconds of each crate, the second one the lines of crates.txt, and
+# How many seconds proofs still take. The first file is seconds.tsv with the seconds of each crate, the second one the lines of crates.txt, and
 # `proved` names the crates that are proved, as NAME, or as NAME=0 where that took no time. The plan is rt's order on so many `lanes`, within so
 # many gigabytes of `memory`: rt gives a check room by the lines below it. What is left of it is stretched as its front was by the seconds that
 # `passed`.
 
 FNR == NR {
-    if (split($0, cell, "|") > 6 && cell[4] + 0 > 0) {
-        gsub(/ /, "", cell[2])
-        seconds[cell[2]] = cell[4] + 0
-        gsub(/,/, "", cell[3])
-        lines[cell[2]] = cell[3] + 0
+    if (FNR > 1) {
+        lines[$1] = $2
+        seconds[$1] = $3
     }
     next
 }

@@ -83,7 +83,9 @@ own_read : (f : Host) (h : HeardSession) → (own f (session_in h).session).mean
 own_read Client h = refl
 own_read Server h = refl
 
-next_known : (image : Addr → Option Addr) (f : Host) (h : HeardSession) (g : Segment) → ((host : Host) → AreKnown h.lists host (own host (session_in h).session).octets) → (host : Host) → AreKnown (heard_rules.next image f h g).lists host (own host (session_in (heard_rules.next image f h g)).session).octets
+next_known : (image : Addr → Option Addr) (f : Host) (h : HeardSession) (g : Segment)
+    → ((host : Host) → AreKnown h.lists host (own host (session_in h).session).octets) → (host : Host)
+    → AreKnown (heard_rules.next image f h g).lists host (own host (session_in (heard_rules.next image f h g)).session).octets
 next_known image f h g k = both (λ (b : Host). AreKnown (heard_rules.next image f h g).lists b (own b (session_in (heard_rules.next image f h g)).session).octets) Client (next Client) (next Server)
   where
     next : (host : Host) → AreKnown (whole_next image f (session_in h) g).lists host (own host (whole_next image f (session_in h) g).session).octets

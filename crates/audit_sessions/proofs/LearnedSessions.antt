@@ -33,7 +33,9 @@ pub known_already : (f : Host) (d : DnsHeard) (one : Entry) → is_listed (liste
 known_already Client d one e = ap (λ (es : List Entry). let x : DnsHeard = record d { client_dialogue = es } in x) (let same : d.client_dialogue ≡ enter_one d.client_dialogue one = rw e refl in same)
 known_already Server d one e = ap (λ (es : List Entry). let x : DnsHeard = record d { server_dialogue = es } in x) (let same : d.server_dialogue ≡ enter_one d.server_dialogue one = rw e refl in same)
 
-pub newly_known : (f : Host) (d e : DnsHeard) (one : Entry) → is_listed (listed_of f d) one.0.0 ≡ false → listed_of f e ≡ listed_of f d ++ one ∷ [] → e.client ≡ d.client → e.server ≡ d.server → (f ≡ Client → e.server_dialogue ≡ d.server_dialogue) → (f ≡ Server → e.client_dialogue ≡ d.client_dialogue) → e ≡ with_entered f (one ∷ []) d
+pub newly_known : (f : Host) (d e : DnsHeard) (one : Entry) → is_listed (listed_of f d) one.0.0 ≡ false → listed_of f e ≡ listed_of f d ++ one ∷ []
+    → e.client ≡ d.client → e.server ≡ d.server → (f ≡ Client → e.server_dialogue ≡ d.server_dialogue)
+    → (f ≡ Server → e.client_dialogue ≡ d.client_dialogue) → e ≡ with_entered f (one ∷ []) d
 newly_known Client d e one new l c s t u = same_dns e.client_dialogue (enter_one d.client_dialogue one) e.server_dialogue d.server_dialogue e.client d.client e.server d.server (let same : d.client_dialogue ++ one ∷ [] ≡ enter_one d.client_dialogue one = rw new refl in l ∙ same) (t refl) c s
 newly_known Server d e one new l c s t u = same_dns e.client_dialogue d.client_dialogue e.server_dialogue (enter_one d.server_dialogue one) e.client d.client e.server d.server (u refl) (let same : d.server_dialogue ++ one ∷ [] ≡ enter_one d.server_dialogue one = rw new refl in l ∙ same) c s
 
@@ -100,7 +102,10 @@ sent_units image pair d f g entries e =
     ∙ ap (handed (heard_sent image f (dns_session pair d) g)) (ends_same f entries d g)
 
 -- what holds of it holds of it afterwards
-pub units_stay : (pair : Pair) (d new : DnsHeard) (f : Host) (g : Segment) (entries : List Entry) → IsSession (dns_session pair d) → ((image : Addr → Option Addr) × AreNamed image f (dns_session pair d) g entries) → length (entered_all (heard_rules.listed f (dns_session pair d)) entries) ≤ 256 → HasPassed f (with_entered f entries d) new g → IsSession (dns_session pair new)
+pub units_stay : (pair : Pair) (d new : DnsHeard) (f : Host) (g : Segment) (entries : List Entry) → IsSession (dns_session pair d)
+    → ((image : Addr → Option Addr) × AreNamed image f (dns_session pair d) g entries)
+    → length (entered_all (heard_rules.listed f (dns_session pair d)) entries) ≤ 256 → HasPassed f (with_entered f entries d) new g
+    → IsSession (dns_session pair new)
 units_stay pair d new f g entries h named few p =
     subst IsSession (sym (next_units named.0 pair d new f g entries named.1 p))
     (next_session named.0 f (dns_session pair d) g h (omega (arith, few, ap length (list_after named.0 (heard_rules.listed f (dns_session pair d)) entries (addresses_in (heard_rules.units f (dns_session pair d) g)) named.1))))

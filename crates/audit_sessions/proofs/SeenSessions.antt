@@ -48,7 +48,9 @@ next_lines image pair d new f g h n =
     let heard : Session → HeardSession = λ s. heard_in pair (record { lists = None; session = s }) in
     ap heard (n ∙ ap (λ (s : Session). session_next f s g) (lines_are pair d h ∙ same_session f (session_in (ftp_session pair d)).session))
 
-pub sent_lines : (image : Addr → Option Addr) (pair : Pair) (d : FtpHeard) (f : Host) (g : Segment) → (d.client_dialogue.pair ≡ pair) × (d.server_dialogue.pair ≡ pair) → handed (session_sent f (lines_of d) g) (session_ends f (lines_of d) g) ≡ handed (heard_sent image f (ftp_session pair d) g) (heard_rules.ends f (ftp_session pair d) g)
+pub sent_lines : (image : Addr → Option Addr) (pair : Pair) (d : FtpHeard) (f : Host) (g : Segment) → (d.client_dialogue.pair ≡ pair)
+    × (d.server_dialogue.pair ≡ pair) → handed (session_sent f (lines_of d) g) (session_ends f (lines_of d) g)
+    ≡ handed (heard_sent image f (ftp_session pair d) g) (heard_rules.ends f (ftp_session pair d) g)
 sent_lines image pair d f g h =
     let s : Session = (session_in (ftp_session pair d)).session in
     ap (λ (x : Session). handed (session_sent f x g) (session_ends f x g)) (lines_are pair d h)
@@ -70,10 +72,14 @@ side_in pair d Server h = h.known Server
 
 -- ## Steps
 
-pub next_seen : {X E : Type 0} (r : Result X E) (image : Addr → Option Addr) (pair : Pair) (d new : FtpHeard) (h : HeardSession) (f : Host) (g : Segment) → ftp_session pair d ≡ h → (d.client_dialogue.pair ≡ pair) × (d.server_dialogue.pair ≡ pair) → OnOk r (lines_of new ≡ session_next f (lines_of d) g) → OnOk r (ftp_session pair new ≡ heard_rules.next image f h g)
+pub next_seen : {X E : Type 0} (r : Result X E) (image : Addr → Option Addr) (pair : Pair) (d new : FtpHeard) (h : HeardSession) (f : Host)
+    (g : Segment) → ftp_session pair d ≡ h → (d.client_dialogue.pair ≡ pair) × (d.server_dialogue.pair ≡ pair)
+    → OnOk r (lines_of new ≡ session_next f (lines_of d) g) → OnOk r (ftp_session pair new ≡ heard_rules.next image f h g)
 next_seen r image pair d new h f g seen pairs n = on_ok_weaker r (λ e. next_lines image pair d new f g pairs e ∙ ap (λ (k : HeardSession). heard_rules.next image f k g) seen) n
 
-pub sent_seen : (image : Addr → Option Addr) (pair : Pair) (d : FtpHeard) (h : HeardSession) (f : Host) (g : Segment) → ftp_session pair d ≡ h → (d.client_dialogue.pair ≡ pair) × (d.server_dialogue.pair ≡ pair) → handed (session_sent f (lines_of d) g) (session_ends f (lines_of d) g) ≡ handed (heard_sent image f h g) (heard_rules.ends f h g)
+pub sent_seen : (image : Addr → Option Addr) (pair : Pair) (d : FtpHeard) (h : HeardSession) (f : Host) (g : Segment) → ftp_session pair d ≡ h
+    → (d.client_dialogue.pair ≡ pair) × (d.server_dialogue.pair ≡ pair) → handed (session_sent f (lines_of d) g) (session_ends f (lines_of d) g)
+    ≡ handed (heard_sent image f h g) (heard_rules.ends f h g)
 sent_seen image pair d h f g seen pairs = sent_lines image pair d f g pairs ∙ ap (λ (k : HeardSession). handed (heard_sent image f k g) (heard_rules.ends f k g)) seen
 
 pub listed_in : (f : Host) (pair : Pair) (d : DnsHeard) → heard_rules.listed f (dns_session pair d) ≡ listed_of f d

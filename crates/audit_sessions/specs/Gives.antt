@@ -3,8 +3,8 @@ use Rattle.std.specs.Prelude.{refl}
 use Rattle.lawful_files.specs.Wanted as wanted
 use Rattle.lawful_files.specs.Prelude.{Wanted, Exactly, wanted_segment}
 use Rattle.audit_records.specs.Cutting.{Cutting}
-use Rattle.event_steps.specs.Prelude.{Tells}
-use Rattle.event_engine.specs.Engines.{Gives}
+use Rattle.event_segments.specs.Prelude.{Tells}
+use Rattle.event_state.specs.Engines.{Gives}
 use Rattle.audit_sessions.specs.Heard.{HeardSession, heard_sent}
 
 abbrev pub audit_tells : Tells HeardSession Wanted

@@ -5,11 +5,11 @@ ghost use Rattle.audit_sessions.specs.Heard.{heard_rules};
 use crate::session::{AuditedSession, ftp_session};
 use audit_records::Pieces;
 use dns_plans::{Completed, Tracked};
-use event_engine::{Engine, Stepped};
-use event_steps::Workspace;
+use event_outbox::{Datagrams, Segment};
+use event_payloads::Way;
+use event_segments::Workspace;
+use event_state::{Engine, Stepped};
 use gate_base::{Host, OutOfMemory, Pair, Refusal};
-use gate_outbox::{Outbox, Segment};
-use gate_payloads::Way;
 use std::alloc::Global;
 use tcp_segments::TcpView;
 
@@ -45,7 +45,7 @@ impl Engine for AuditedSession {
         way: &Way,
         segment: &Segment<'_>,
         completed: Completed<'_>,
-        _outbox: &mut Outbox,
+        _outbox: &mut Datagrams,
     ) -> Result<Stepped<Pieces>, OutOfMemory> {
         let from = tracked.host_on(way.side);
         // No header of a segment has more than 60 octets: its options leave room for a piece.

@@ -19,7 +19,10 @@ parts Server (Ok x) n u v e f = ap (λ (z : Sender). session Client n.client z) 
 parts Server (Err x) n u v e f = tt
 
 -- both hosts after a segment of one
-pub next_at : {X E C S : Type 0} (one host : Host) (r : Result X E) (M : C → Meaning) (N : S → Meaning) (a w : HeardStreams C S) (g : Segment) (x : HeardStream C) (y : HeardStream S) → host ≡ one → a ≡ w → (let n : Session = record { client = sender_of M x; server = sender_of N y } in OnOk r (own one n ≡ own_after (own one (session_of M N a)) g) → OnOk r (other one n ≡ other_after (other one (session_of M N a)) g) → OnOk r (n ≡ session_next host (session_of M N w) g))
+pub next_at : {X E C S : Type 0} (one host : Host) (r : Result X E) (M : C → Meaning) (N : S → Meaning) (a w : HeardStreams C S) (g : Segment)
+    (x : HeardStream C) (y : HeardStream S) → host ≡ one → a ≡ w
+    → (let n : Session = record { client = sender_of M x; server = sender_of N y } in OnOk r (own one n ≡ own_after (own one (session_of M N a)) g)
+    → OnOk r (other one n ≡ other_after (other one (session_of M N a)) g) → OnOk r (n ≡ session_next host (session_of M N w) g))
 next_at one host r M N a w g x y h e i j =
     let n : Session = record { client = sender_of M x; server = sender_of N y } in
     at_host (λ b z. OnOk r (n ≡ session_next b (session_of M N z) g)) one host a w h e

@@ -72,6 +72,8 @@ opens_alone f a b g e syn =
     (or_parts _ _ (second_false g.flags.syn _ p.syn_data syn)).1
 
 -- a verdict, by what the fields hold and by which host sends
-pub verdict_here : {C S : Type 0} (of_client : C → Meaning) (of_server : S → Meaning) (f sends : Host) (inside w : HeardStreams C S) (g : Segment) → f ≡ sends → inside ≡ w → segment_refusal f (session_of of_client of_server w) g ≡ None → segment_refusal sends (session_of of_client of_server inside) g ≡ None
+pub verdict_here : {C S : Type 0} (of_client : C → Meaning) (of_server : S → Meaning) (f sends : Host) (inside w : HeardStreams C S) (g : Segment)
+    → f ≡ sends → inside ≡ w → segment_refusal f (session_of of_client of_server w) g ≡ None
+    → segment_refusal sends (session_of of_client of_server inside) g ≡ None
 verdict_here of_client of_server f sends inside w g e same v =
     ap (λ b. segment_refusal b (session_of of_client of_server inside) g) (sym e) ∙ ap (λ (x : HeardStreams _ _). segment_refusal f (session_of of_client of_server x) g) same ∙ v

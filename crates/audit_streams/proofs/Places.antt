@@ -335,7 +335,9 @@ module _ (octets image : List ℕ) (us : List ChangedUnit) (rest : ℕ) (is : Is
       refl
       refl
 
-module _ (octets image : List ℕ) (us : List ChangedUnit) (rest : ℕ) (is : IsTranscript octets image us rest) (t new : List ℕ) (w : ChangedUnit) (first : w.first ≡ rest) (past : w.past ≡ length octets + length t) (at : w.at ≡ length image - (length octets - rest)) (end : w.end ≡ w.at + length new) where
+module _ (octets image : List ℕ) (us : List ChangedUnit) (rest : ℕ) (is : IsTranscript octets image us rest) (t new : List ℕ) (w : ChangedUnit)
+    (first : w.first ≡ rest) (past : w.past ≡ length octets + length t) (at : w.at ≡ length image - (length octets - rest))
+    (end : w.end ≡ w.at + length new) where
   -- where the image of the rest begins, also with octets that follow
   begins : w.at ≡ length (image ++ t) - (length (octets ++ t) - rest)
   begins = omega (arith, at, is.within, is.before, is.behind, length-append image t, length-append octets t)

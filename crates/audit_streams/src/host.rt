@@ -1,7 +1,7 @@
 // One host of a session over whole lists.
-ghost use Rattle.std.specs.Prelude.{◌≡◌, ◌≤◌, ◌<◌, ◌+◌, ◌-◌, ◌^◌, ◌++◌, ◌∷◌, ◌||◌, ◌&&◌, ◌==◌, ℕ, false, cond, nat_le, List, [], length, max, slice_range, slice_get, Some, IfOk, OnOk};
-ghost use Rattle.dialogue.specs.Prelude.{is_unlike, differ, is_listed, listed_image, ReadAlike, AllUnitsListed, AreImages, image, fore, rear, back};
-ghost use Rattle.stream_model.specs.Prelude.{number_at, number_after, known, due_in, recent, extent, acknowledgement_to, bare_offset, inner_by, open_of};
+ghost use Rattle.std.specs.Prelude.{◌≡◌, ◌≤◌, ◌<◌, ◌+◌, ◌-◌, ◌^◌, ◌++◌, ◌∷◌, ◌||◌, ◌&&◌, ◌==◌, ℕ, false, cond, List, [], length, max, slice_range, slice_get, Some, IfOk, OnOk, nat_lt};
+ghost use Rattle.dialogue.specs.Prelude.{is_unlike, differ, is_listed, listed_image, ReadAlike, AllUnitsListed, AreImages, image, back};
+ghost use Rattle.stream_model.specs.Prelude.{due_in, recent, extent, open_of};
 ghost use Rattle.audit_streams.specs.Hosts.{sender_of, unheard, held_in};
 
 use crate::taking::take_octets;
@@ -10,7 +10,7 @@ use dialogue::{Dialogue, Learns, UnitImage};
 use gate_base::{Addr, OutOfMemory};
 use std::alloc::Global;
 use std::marker::Model;
-use stream_model::{Extent, Offset, number_after, number_at, place_near};
+use stream_model::{Extent, Stands};
 
 /// A host: what its octets become on the way, and all of them.
 #[derive(Drop)]
@@ -59,17 +59,10 @@ impl<D: Dialogue> WholeStream<D> {
         Extent {
             initial: self.initial,
             octets: self.transcript.octets().len() as u32,
-            due: self.due() as u32,
+            due: self.due_len() as u32,
             ended: self.ended,
             recent: self.recent().len() as u32,
         }
-    }
-
-    /// Its initial number, if it is known.
-    pub(crate) fn initial(&self) -> Option<u32>
-        ensures { result ≡ self.now.heard.initial }
-    {
-        self.initial
     }
 
     /// The largest segment that it takes.
@@ -79,16 +72,16 @@ impl<D: Dialogue> WholeStream<D> {
         self.mss
     }
 
-    /// How many octets it has sent so far.
-    pub(crate) fn count(&self) -> u64
+    // How many octets it has sent so far.
+    fn count(&self) -> u64
         ensures count { result ≡ length self.now.heard.octets }
         ensures few { result < 2 ^ 30 }
     {
         self.transcript.octets().len() as u64
     }
 
-    /// How many octets of their image are due.
-    pub(crate) fn due(&self) -> u64
+    // How many octets of their image are due.
+    fn due_len(&self) -> u64
         ensures due { result ≡ length (due_in (sender_of D.meaning self.now)) }
         ensures within { result
             ≤ length (image (D.meaning self.now.dialogue) self.now.heard.octets) }
@@ -101,8 +94,8 @@ impl<D: Dialogue> WholeStream<D> {
         (all - self.transcript.rest_len()) as u64
     }
 
-    /// How many octets their whole image has.
-    pub(crate) fn image_len(&self) -> u64
+    // How many octets their whole image has.
+    fn image_len(&self) -> u64
         ensures len { result
             ≡ length (image (D.meaning self.now.dialogue) self.now.heard.octets) }
         ensures few { result < 2 ^ 31 }
@@ -144,36 +137,6 @@ impl<D: Dialogue> WholeStream<D> {
         differ(&octets[skipped as usize..], &known[first as usize..])
     }
 
-    /// The least image place of an octet.
-    pub(crate) fn fore(&self, place: u64) -> u64
-        ensures { let a = sender_of D.meaning self.now in
-            result ≡ fore a.meaning a.ended a.octets place }
-    {
-        self.transcript.fore(place, self.due())
-    }
-
-    /// One more than the greatest image place of the octet before one.
-    pub(crate) fn rear(&self, end: u64) -> u64
-        ensures rear { let a = sender_of D.meaning self.now in
-            result ≡ rear a.meaning a.ended a.octets end }
-        ensures within { result
-            ≤ length (image (D.meaning self.now.dialogue) self.now.heard.octets) }
-    {
-        self.transcript.rear(end, self.due())
-    }
-
-    /// How many octets have all their image places below one.
-    pub(crate) fn back(&self, place: u64) -> u64
-        ensures back { let a = sender_of D.meaning self.now in
-            result ≡ back a.meaning a.ended a.octets place }
-        ensures few { result ≤ 2 ^ 30 }
-    {
-        if self.is_past_end(place) {
-            return self.count() + 1;
-        }
-        self.transcript.below(place)
-    }
-
     // It has ended, and the place is the one behind its end.
     fn is_past_end(&self, place: u64) -> bool
         ensures { result
@@ -183,54 +146,6 @@ impl<D: Dialogue> WholeStream<D> {
             + 1) }
     {
         self.ended && place == self.image_len() + 1
-    }
-
-    /// Back of the greatest acknowledged place.
-    pub(crate) fn back_acked(&self) -> u64
-        ensures back { let a = sender_of D.meaning self.now in
-            result ≡ back a.meaning a.ended a.octets a.acked }
-        ensures few { result ≤ 2 ^ 30 }
-    {
-        self.back(self.acked)
-    }
-
-    /// The number that acknowledges the octets whose images are acknowledged.
-    pub(crate) fn acknowledgement(&self) -> u32
-        ensures { result ≡ acknowledgement_to (sender_of D.meaning self.now) }
-    {
-        number_at(self.initial.unwrap_or(0), self.back_acked())
-    }
-
-    /// The number of a place of its image so far above the initial number.
-    pub(crate) fn number(&self, offset: u64) -> u32
-        ensures { result ≡ number_after (known self.now.heard.initial) offset }
-    {
-        number_after(self.initial.unwrap_or(0), offset)
-    }
-
-    /// Whether it has ended.
-    pub(crate) fn has_ended(&self) -> bool
-        ensures { result ≡ self.now.heard.ended }
-    {
-        self.ended
-    }
-
-    /// The greatest acknowledged place of its image.
-    pub(crate) fn acked(&self) -> u64
-        ensures { result ≡ self.now.heard.acked }
-    {
-        self.acked
-    }
-
-    /// Where a segment without octets stands, by where the segment starts for which it goes out.
-    pub(crate) fn bare_offset(&self, start: Offset) -> u64
-        requires { start.after < 2 ^ 31 }
-        ensures { result ≡ bare_offset (sender_of D.meaning self.now) start }
-    {
-        if start.before == 0 {
-            return self.due() + start.after + 1;
-        }
-        self.acked
     }
 
     /// How many changed units are not acknowledged whole.
@@ -287,59 +202,70 @@ impl<D: Dialogue> WholeStream<D> {
         self.acked = self.acked.max(place);
     }
 
-    /// Appends the octets of its image from one place to another.
+    /// The octets of its image from one place to before another, if there are any.
     pub(crate) fn copy_image(
         &self,
         alloc: Global,
         first: u64,
         past: u64,
     ) -> Result<Vec<u8>, OutOfMemory>
-        requires order { first ≤ past }
-        requires within { past
+        requires { past
             ≤ length (image (D.meaning self.now.dialogue) self.now.heard.octets) }
         ensures { IfOk result (λ octets. octets.items
-            ≡ slice_range (image (D.meaning self.now.dialogue) self.now.heard.octets)
-            first past) }
+            ≡ cond (nat_lt first past)
+            (slice_range (image (D.meaning self.now.dialogue) self.now.heard.octets)
+            first past) []) }
     {
+        if past <= first {
+            return Ok(Vec::new(alloc));
+        }
         let octets = Vec::from_slice(
             alloc,
             &self.transcript.image()[first as usize..past as usize],
         )?;
         Ok(octets)
     }
+}
 
-    /// Its own number of a place of its image, if that was sent.
-    pub(crate) fn inner(&self, sequence: u32) -> Option<u32>
-        ensures { result
-            ≡ inner_by (sender_of D.meaning self.now) self.now.heard.initial
-            sequence }
-    {
-        let initial = self.initial?;
-        let due = self.due();
-        let place = place_near(initial, due, sequence);
-        if u64::from(self.ended) < place.after {
-            return None;
-        }
-        Some(self.number_before(initial, due, place))
+impl<D: Dialogue> Stands for WholeStream<D> {
+    ghost use Rattle.stream_model.specs.Prelude.{standing};
+    ghost use Rattle.audit_streams.specs.Hosts.{sender_of};
+
+    ghost standing = { λ a. standing (sender_of D.meaning a) };
+
+    fn initial(&self) -> Option<u32> {
+        self.initial
     }
 
-    // Its own number of a place of its image that was sent.
-    fn number_before(&self, initial: u32, due: u64, place: Offset) -> u32
-        requires due { due ≡ length (due_in (sender_of D.meaning self.now)) }
-        requires small { due < 2 ^ 31 }
-        requires after { place.after < 2 ^ 31 }
-        ensures { let a = sender_of D.meaning self.now in
-            result
-            ≡ cond (nat_le (a.acked + place.before) (due + place.after))
-            (number_at initial (back a.meaning a.ended a.octets
-            (due + place.after - place.before)))
-            (number_after initial (back a.meaning a.ended a.octets a.acked)) }
-    {
-        let at = due + place.after;
-        if place.before <= at && self.acked <= at - place.before {
-            return number_at(initial, self.back(at - place.before));
+    fn octets(&self) -> u32 {
+        self.count() as u32
+    }
+
+    fn due(&self) -> u32 {
+        self.due_len() as u32
+    }
+
+    fn has_ended(&self) -> bool {
+        self.ended
+    }
+
+    fn acked(&self) -> u64 {
+        self.acked
+    }
+
+    fn back(&self, place: u64) -> u64 {
+        if self.is_past_end(place) {
+            return self.count() + 1;
         }
-        number_after(initial, self.back_acked())
+        self.transcript.below(place)
+    }
+
+    fn fore(&self, place: u64) -> u64 {
+        self.transcript.fore(place, self.due_len())
+    }
+
+    fn rear(&self, end: u64) -> u64 {
+        self.transcript.rear(end, self.due_len())
     }
 }
 

@@ -1,13 +1,13 @@
 // A session over whole lists.
-ghost use Rattle.std.specs.Prelude.{◌≡◌, ◌≤◌, ◌<◌, ◌+◌, ◌-◌, ◌^◌, ◌++◌, ◌∷◌, ℕ, List, slice_get, false, not, ◌||◌, ◌&&◌, ◌==◌, true, cond, nat_lt, is_some, is_none, [], length, drop, min, max, None, Some, IfOk, OnOk};
+ghost use Rattle.std.specs.Prelude.{◌≡◌, ◌≤◌, ◌<◌, ◌+◌, ◌-◌, ◌^◌, ◌++◌, ◌∷◌, ℕ, List, slice_get, false, true, [], length, drop, min, max, None, Some, IfOk, OnOk};
 ghost use Rattle.gate_base.specs.declared.host.Host.TheVariants.{Client, Server};
-ghost use Rattle.dialogue.specs.Prelude.{image, fore, rear, back, is_listed, listed_image, ReadAlike, AllUnitsListed, AreImages};
+ghost use Rattle.dialogue.specs.Prelude.{image, is_listed, listed_image, ReadAlike, AllUnitsListed, AreImages};
 ghost use Rattle.tcp_segments.specs.Prelude.{flags_of, flags_octet};
-ghost use Rattle.stream_model.specs.Prelude.{number_after, known, own, due_in, arrival, extent, start_of, repeats_unlike, segment_in, refusal_of, segment_refusal, session_next, session_inner, session_open, session_ends, ends_session, taken, acknowledged, own_after, other_after, limit_of, bare_offset, acknowledgement_to, session_sent};
+ghost use Rattle.stream_model.specs.Prelude.{own, arrival, extent, start_of, repeats_unlike, segment_in, refusal_of, segment_refusal, session_next, session_inner, session_open, session_ends, taken, acknowledged, own_after, other_after, standing, limit_of, acknowledgement_to, reset_sent, other_sent, sent, session_sent, ends_by};
+ghost use Rattle.stream_model.specs.Goings.{sent_with};
 ghost use Rattle.audit_streams.specs.Hosts.{sender_of, session_of, unheard, held_in};
 ghost use Rattle.audit_streams.specs.Known.{entries_of};
-ghost use Rattle.audit_streams.specs.Sending.{CanTake, handed, sent_by};
-ghost use Rattle.stream_model.specs.Cuts.{sent, reset_sent, other_sent};
+ghost use Rattle.audit_streams.specs.Sending.{CanTake, handed};
 
 use crate::host::WholeStream;
 use crate::sent::Sent;
@@ -15,18 +15,14 @@ use dialogue::{Dialogue, Learns, UnitImage};
 use gate_base::{Addr, Host, OutOfMemory, Refusal};
 use std::alloc::Global;
 use std::marker::Model;
-use stream_model::{Arrival, Extent, Offset, place_acknowledged, refusal, start_at};
-use tcp_segments::{Flags, TcpView, flags_octet, flags_of};
+use stream_model::{
+    Arrival, Going, Stands, acknowledgement_to, going_out, going_reset, going_syn, inner_number,
+    place_acknowledged, refusal, start_at,
+};
+use tcp_segments::{TcpView, flags_octet, flags_of};
 
 /// The largest payload that fits a datagram.
 const PAYLOAD: usize = 65_495;
-
-/// What was known of a sender before its segment, and where the segment starts, seen from the end of its octets.
-#[derive(Clone, Copy)]
-struct Before {
-    extent: Extent,
-    start: Offset,
-}
 
 /// A session that keeps all octets of both hosts, what their octets become on the way, and where units with another image stand. It
 /// takes some two octets of memory for each octet, and 16 for each such unit.
@@ -104,8 +100,8 @@ impl<C: Dialogue, S: Dialogue> WholeStreams<C, S> {
             ≡ session_inner host (session_of C.meaning S.meaning self.now) sequence }
     {
         match host {
-            Host::Client => self.client.inner(sequence),
-            Host::Server => self.server.inner(sequence),
+            Host::Client => inner_number(&self.client, sequence),
+            Host::Server => inner_number(&self.server, sequence),
         }
     }
 
@@ -272,132 +268,47 @@ fn pass<A: Dialogue, B: Dialogue>(
         ≡ handed
         (sent (sender_of A.meaning own.old) (sender_of B.meaning other.old)
         (segment_in segment.now))
-        (ends_session (sender_of A.meaning own.old) (segment_in segment.now))) }
+        (ends_by (standing (sender_of A.meaning own.old)) (segment_in segment.now))) }
 {
     let flags = flags_of(segment.flags());
     let limit = limit_of(other.mss(), segment.options());
     if flags.syn {
         own.open(segment.sequence(), segment.mss());
-        return Ok(bare(
-            alloc,
-            segment.sequence(),
-            segment.acknowledgement(),
-            Flags {
-                push: false,
-                ..flags
-            },
-            limit,
-            false,
-        ));
+        return hand_on(alloc, own, going_syn(segment, limit), false);
     }
     if flags.reset {
-        return Ok(sent_reset(alloc, own, other, segment, limit));
+        return pass_reset(alloc, own, other, segment, limit);
     }
-    sent_data(alloc, own, other, segment, limit)
+    pass_data(alloc, own, other, segment, limit)
 }
 
-// A segment without octets.
-fn bare(
-    alloc: Global,
-    sequence: u32,
-    acknowledgement: u32,
-    flags: Flags,
-    limit: usize,
-    ends: bool,
-) -> Sent
-    requires ecn { flags.ecn ≤ 3 }
-    ensures { result
-        ≡ record {
-          sequence = sequence;
-          acknowledgement = acknowledgement;
-          flags = flags_octet flags;
-          limit = limit;
-          octets = [];
-          ends = ends;
-        } }
-{
-    Sent {
-        sequence,
-        acknowledgement,
-        flags: flags_octet(flags),
-        limit,
-        octets: Vec::new(alloc),
-        ends,
-    }
-}
-
-// An RST goes out without octets. It ends the session, unless it stands before the end of its sender's octets.
-fn sent_reset<A: Dialogue, B: Dialogue>(
+// An RST ends the session, unless it stands before the end of its sender's octets.
+fn pass_reset<A: Dialogue, B: Dialogue>(
     alloc: Global,
     own: &WholeStream<A>,
     other: &WholeStream<B>,
     segment: &TcpView,
     limit: usize,
-) -> Sent
+) -> Result<Sent, OutOfMemory>
     requires reset { (flags_of segment.now.flags).reset ≡ true }
     requires limit { limit
-        ≡ limit_of (sender_of B.meaning other.now) (segment_in segment.now) }
-    ensures { result
+        ≡ limit_of other.now.heard.mss (segment_in segment.now) }
+    ensures { IfOk result (λ s. s
         ≡ handed
-        (reset_sent (sender_of A.meaning own.now) (sender_of B.meaning other.now)
-        (segment_in segment.now)
-        (limit_of (sender_of B.meaning other.now) (segment_in segment.now)))
-        (ends_session (sender_of A.meaning own.now) (segment_in segment.now)) }
+        (reset_sent (standing (sender_of A.meaning own.now))
+        (standing (sender_of B.meaning other.now)) (segment_in segment.now)
+        (limit_of other.now.heard.mss (segment_in segment.now)))
+        (ends_by (standing (sender_of A.meaning own.now))
+        (segment_in segment.now))) }
 {
-    let flags = flags_of(segment.flags());
     let start = start_at(own.extent(), arrival_of(segment));
-    let out = Flags {
-        fin: false,
-        push: false,
-        ..flags
-    };
-    bare(
-        alloc,
-        reset_number(own, segment.sequence(), start),
-        reset_acknowledgement(other, segment.acknowledgement(), flags.ack),
-        out,
-        limit,
-        ends_at(own, start),
-    )
-}
-
-// An RST with this start ends the session.
-fn ends_at<A: Dialogue>(own: &WholeStream<A>, start: Offset) -> bool
-    ensures { result ≡ (is_none own.now.heard.initial || (start.before == 0)) }
-{
-    own.initial().is_none() || start.before == 0
-}
-
-fn reset_number<A: Dialogue>(own: &WholeStream<A>, sequence: u32, start: Offset) -> u32
-    requires { start.after < 2 ^ 31 }
-    ensures { result
-        ≡ cond (is_some own.now.heard.initial)
-        (number_after (known own.now.heard.initial)
-        (bare_offset (sender_of A.meaning own.now) start)) sequence }
-{
-    if own.initial().is_some() {
-        return own.number(own.bare_offset(start));
-    }
-    sequence
-}
-
-fn reset_acknowledgement<B: Dialogue>(
-    other: &WholeStream<B>,
-    acknowledgement: u32,
-    ack: bool,
-) -> u32
-    ensures { result
-        ≡ cond (ack && is_some other.now.heard.initial)
-        (acknowledgement_to (sender_of B.meaning other.now)) acknowledgement }
-{
-    if ack && other.initial().is_some() {
-        return other.acknowledgement();
-    }
-    acknowledgement
+    let going = going_reset(own, other, start, segment, limit);
+    let ends = own.initial().is_none() || start.before == 0;
+    hand_on(alloc, own, going, ends)
 }
 
 // Takes a segment with neither SYN nor RST.
-fn sent_data<A: Dialogue, B: Dialogue>(
+fn pass_data<A: Dialogue, B: Dialogue>(
     alloc: Global,
     own: &mut WholeStream<A>,
     other: &mut WholeStream<B>,
@@ -406,7 +317,7 @@ fn sent_data<A: Dialogue, B: Dialogue>(
 ) -> Result<Sent, OutOfMemory>
     requires can { CanTake (sender_of A.meaning own.old) (segment_in segment.now) }
     requires limit { limit
-        ≡ limit_of (sender_of B.meaning other.old) (segment_in segment.now) }
+        ≡ limit_of other.old.heard.mss (segment_in segment.now) }
     ensures own { OnOk result (sender_of A.meaning own.new
         ≡ taken (sender_of A.meaning own.old) (segment_in segment.now)) }
     ensures other { OnOk result (sender_of B.meaning other.new
@@ -415,23 +326,22 @@ fn sent_data<A: Dialogue, B: Dialogue>(
     ensures other_dialogue { other.new.dialogue ≡ other.old.dialogue }
     ensures sent { IfOk result (λ s. s
         ≡ handed
-        (other_sent (sender_of A.meaning own.old)
-        (taken (sender_of A.meaning own.old) (segment_in segment.now))
-        (segment_in segment.now)
+        (other_sent (extent (sender_of A.meaning own.old))
+        (standing (taken (sender_of A.meaning own.old) (segment_in segment.now)))
         (start_of (sender_of A.meaning own.old) (segment_in segment.now))
-        (acknowledgement_to (acknowledged (sender_of B.meaning other.old)
-        (segment_in segment.now)))
-        (limit_of (sender_of B.meaning other.old) (segment_in segment.now)))
-        false) }
+        (segment_in segment.now) (acknowledgement_to (standing (acknowledged
+        (sender_of B.meaning other.old) (segment_in segment.now))))
+        (limit_of other.old.heard.mss (segment_in segment.now))) false) }
 {
     let arrival = arrival_of(segment);
-    let extent = own.extent();
-    let start = start_at(extent, arrival);
+    let old = own.extent();
+    let start = start_at(old, arrival);
     let fin = flags_of(segment.flags()).fin;
     own.take(alloc, from_place(segment.payload(), start.before), fin)?;
     other.acknowledge(place_acknowledged(other.extent(), arrival));
-    let before = Before { extent, start };
-    send(alloc, own, before, segment, other.acknowledgement(), limit)
+    let acknowledgement = acknowledgement_to(other);
+    let going = going_out(old, own, start, segment, acknowledgement, limit);
+    hand_on(alloc, own, going, false)
 }
 
 /// The octets from a place on.
@@ -442,92 +352,28 @@ fn from_place<'a>(octets: &'a [u8], place: u64) -> &'a [u8]
     &octets[start as usize..]
 }
 
-// What a segment makes due, or asks for again; own is the sender after it.
-fn send<A: Dialogue>(
+// What goes out, with its octets out of the image of the host that sends them.
+fn hand_on<A: Dialogue>(
     alloc: Global,
     own: &WholeStream<A>,
-    before: Before,
-    segment: &TcpView,
-    acknowledgement: u32,
-    limit: usize,
+    going: Going,
+    ends: bool,
 ) -> Result<Sent, OutOfMemory>
-    requires { before.start.after < 2 ^ 31 }
-    ensures { IfOk result (λ s. s
-        ≡ handed
-        (sent_by before.extent before.start (sender_of A.meaning own.now)
-        (segment_in segment.now) acknowledgement limit) false) }
-{
-    let flags = flags_of(segment.flags());
-    let fin = flags.fin && own.acked() <= own.image_len();
-    let first = first_place(own, before);
-    let past = past_place(own, before, segment.payload().len() as u64, fin);
-    if first < past {
-        let octets = own.copy_image(alloc, first, past)?;
-        return Ok(Sent {
-            sequence: own.number(first + 1),
-            acknowledgement,
-            flags: flags_octet(Flags { fin, ..flags }),
-            limit,
-            octets,
-            ends: false,
-        });
-    }
-    let offset = if fin {
-        own.due() + 1
-    } else {
-        own.bare_offset(before.start)
-    };
-    let out = Flags {
-        fin,
-        push: false,
-        ..flags
-    };
-    Ok(bare(
-        alloc,
-        own.number(offset),
-        acknowledgement,
-        out,
-        limit,
-        false,
-    ))
-}
-
-// The first image place that goes out.
-fn first_place<A: Dialogue>(own: &WholeStream<A>, before: Before) -> u64
-    requires { before.start.after < 2 ^ 31 }
-    ensures { let a = sender_of A.meaning own.now in
-        result
-        ≡ min before.extent.due (fore a.meaning a.ended a.octets (max
-        (before.extent.octets + before.start.after - before.start.before)
-        (back a.meaning a.ended a.octets a.acked))) }
-{
-    let Before { extent, start } = before;
-    let place = (u64::from(extent.octets) + start.after).saturating_sub(start.before);
-    own.fore(place.max(own.back_acked()))
-        .min(u64::from(extent.due))
-}
-
-// The image place after the last that goes out.
-fn past_place<A: Dialogue>(own: &WholeStream<A>, before: Before, count: u64, fin: bool) -> u64
-    requires after { before.start.after < 2 ^ 31 }
-    requires few { count ≤ 65535 }
-    ensures within { result
+    requires ecn { going.flags.ecn ≤ 3 }
+    requires within { going.past
         ≤ length (image (A.meaning own.now.dialogue) own.now.heard.octets) }
-    ensures is { let a = sender_of A.meaning own.now in
-        result
-        ≡ cond
-        ((nat_lt before.extent.octets (length a.octets)
-        || (a.ended && not before.extent.ended)) || fin)
-        (length (due_in a)) (rear a.meaning a.ended a.octets (before.extent.octets
-        + before.start.after + count - before.start.before)) }
+    ensures { IfOk result (λ s. s
+        ≡ handed (sent_with (standing (sender_of A.meaning own.now)) going) ends) }
 {
-    let Before { extent, start } = before;
-    let grows = u64::from(extent.octets) < own.count() || (own.has_ended() && !extent.ended);
-    if grows || fin {
-        return own.due();
-    }
-    let end = (u64::from(extent.octets) + start.after + count).saturating_sub(start.before);
-    own.rear(end)
+    let octets = own.copy_image(alloc, going.first, going.past)?;
+    Ok(Sent {
+        sequence: going.sequence,
+        acknowledgement: going.acknowledgement,
+        flags: flags_octet(going.flags),
+        limit: going.limit,
+        octets,
+        ends,
+    })
 }
 
 /// The largest piece: what the receiver takes, at least 88, and what fits a datagram, less the octets of the options.

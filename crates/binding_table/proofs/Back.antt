@@ -19,7 +19,8 @@ not_known None image h = cc
 not_known (Some alias) image h = cc
 
 -- an address crosses to a known one as one of the pool, or as a host
-known_by : (same pool : Bool) (host alias : Option Addr) (free : Addresses) (image : Addr) → crossed same pool host free alias ≡ Bound image → ((same ≡ false) × (pool ≡ true) × (host ≡ Some image)) ⊎ ((same ≡ false) × (pool ≡ false) × (alias ≡ Some image))
+known_by : (same pool : Bool) (host alias : Option Addr) (free : Addresses) (image : Addr) → crossed same pool host free alias ≡ Bound image
+    → ((same ≡ false) × (pool ≡ true) × (host ≡ Some image)) ⊎ ((same ≡ false) × (pool ≡ false) × (alias ≡ Some image))
 known_by true pool host alias free image h = cc
 known_by false true None alias free image h = cc
 known_by false true (Some one) alias free image h = inl (refl, refl, cc)
@@ -29,10 +30,12 @@ known_by false false host None free image h = absurd (not_known (least_free free
 abbrev nobody : Side → Addr → Binding
 nobody side address = record { side = side; host = address; alias = address; until = record { 0 = 0 }; fixed = false }
 
-pub crosses_back : (table : Bindings) (side : Side) (address image : Addr) → IsLawful table → cross table side address ≡ Bound image → cross table (other side) image ≡ Bound address
+pub crosses_back : (table : Bindings) (side : Side) (address image : Addr) → IsLawful table → cross table side address ≡ Bound image
+    → cross table (other side) image ≡ Bound address
 crosses_back table side address image lawful known =
     let d = nobody side address in
-    elim (known_by (is_same table address) (in_pool table side address) (host_of side address table.entries) (alias_of side address table.entries) (pool_of table (other side)) image (sym (cross_is table side address) ∙ known)) [
+    elim (known_by (is_same table address) (in_pool table side address) (host_of side address table.entries) (alias_of side address table.entries)
+    (pool_of table (other side)) image (sym (cross_is table side address) ∙ known)) [
       | inl by_pool ↦
           let found = finds (λ binding. binding.host) (is_of_alias side address.0) table.entries d image by_pool.2 in
           let binding = get_or table.entries found.place d in
@@ -54,9 +57,11 @@ crosses_back table side address image lawful known =
           let place = lawful.places found.place d found.within in
           let twice : same_side binding.side (other (other side)) ≡ true = rw (other_other side) parts.0 in
           let passes : is_of_alias (other side) image.0 binding ≡ true = and_from _ _ twice (rw found.gives (eq-eqb image.0 image.0 refl)) in
-          let only = find_only (is_of_alias (other side) image.0) table.entries found.place d found.within passes (λ k less. alias_alone table (other side) image.0 found.place k d lawful found.within (omega arith) (omega arith) passes) in
+          let only = find_only (is_of_alias (other side) image.0) table.entries found.place d found.within passes
+          (λ k less. alias_alone table (other side) image.0 found.place k d lawful found.within (omega arith) (omega arith) passes) in
           let S : Side → Type 0 = λ s. in_pool table (other s) binding.alias ≡ true in
           let I : Addr → Type 0 = λ a. in_pool table (other side) a ≡ true in
           let inside = subst I found.gives (subst S sides place.alias) in
-          cross_is table (other side) image ∙ rw (lawful.pools (other side) image inside, inside, only) (ap (λ (a : Addr). Bound a) (address_is binding.host address parts.1))
+          cross_is table (other side) image ∙ rw (lawful.pools (other side) image inside, inside, only)
+          (ap (λ (a : Addr). Bound a) (address_is binding.host address parts.1))
     ]

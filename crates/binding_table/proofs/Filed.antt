@@ -35,7 +35,8 @@ entries_filed (binding ∷ rest) = ap (λ more. binding ∷ more) (entries_filed
 pub entries_are : (rows : List (Row Binding)) (entries : List Binding) → rows ≡ map filed entries → entries_in rows ≡ entries
 entries_are rows entries is = ap entries_in is ∙ entries_filed entries
 
-pub found_filed : (side : Side) (host : ℕ) (entries : List Binding) → row_of (number_of side host) (map filed entries) ≡ option_map filed (find (is_of_host side host) entries)
+pub found_filed : (side : Side) (host : ℕ) (entries : List Binding) → row_of (number_of side host) (map filed entries)
+    ≡ option_map filed (find (is_of_host side host) entries)
 found_filed side host [] = refl
 found_filed side host (binding ∷ rest) = elim (cases_Bool (is_of_host side host binding)) [
   | inl e ↦ rw (named side host binding ∙ e, e) refl
@@ -54,16 +55,19 @@ pub value_filed : (found : Option Binding) → option_map (λ row. row.value) (o
 value_filed None = refl
 value_filed (Some binding) = refl
 
-pub found_value : (side : Side) (host : ℕ) (entries : List Binding) (rows : List (Row Binding)) → rows ≡ map filed entries → option_map (λ row. row.value) (row_of (number_of side host) rows) ≡ find (is_of_host side host) entries
+pub found_value : (side : Side) (host : ℕ) (entries : List Binding) (rows : List (Row Binding)) → rows ≡ map filed entries
+    → option_map (λ row. row.value) (row_of (number_of side host) rows) ≡ find (is_of_host side host) entries
 found_value side host entries rows kept =
-    ap (λ all. option_map (λ (row : Row Binding). row.value) (row_of (number_of side host) all)) kept ∙ ap (option_map (λ (row : Row Binding). row.value)) (found_filed side host entries) ∙ value_filed (find (is_of_host side host) entries)
+    ap (λ all. option_map (λ (row : Row Binding). row.value) (row_of (number_of side host) all)) kept
+    ∙ ap (option_map (λ (row : Row Binding). row.value)) (found_filed side host entries) ∙ value_filed (find (is_of_host side host) entries)
 
 ending_filed : (found : Option Binding) → option_and_then ending (option_map filed found) ≡ option_map filed (option_and_then unless_fixed found)
 ending_filed None = refl
 ending_filed (Some binding) = elim (cases_Bool binding.fixed) [ inl e ↦ rw e refl | inr e ↦ rw e refl ]
 
 -- and its row unless it is fixed
-pub found_moving : (side : Side) (host : ℕ) (entries : List Binding) → moving_row (number_of side host) entries ≡ option_map filed (option_and_then unless_fixed (find (is_of_host side host) entries))
+pub found_moving : (side : Side) (host : ℕ) (entries : List Binding)
+    → moving_row (number_of side host) entries ≡ option_map filed (option_and_then unless_fixed (find (is_of_host side host) entries))
 found_moving side host entries = ap (option_and_then ending) (found_filed side host entries) ∙ ending_filed (find (is_of_host side host) entries)
 
 found_key : (key : ℕ) (rows : List (Row Binding)) (row : Row Binding) → row_of key rows ≡ Some row → row.key ≡ key
@@ -88,18 +92,21 @@ moving_is number entries row h =
     let is = found_is number entries row kept.0 in
     let key = ap (λ (r : Row Binding). r.key) (sym is) ∙ found_key number (map filed entries) row kept.0 in
     let binding = row.value in
-    let there : option_map filed (find (is_of_host binding.side binding.host.0) entries) ≡ Some row = sym (found_filed binding.side binding.host.0 entries) ∙ ap (λ k. row_of k (map filed entries)) key ∙ kept.0 in
+    let there : option_map filed (find (is_of_host binding.side binding.host.0) entries) ≡ Some row =
+    sym (found_filed binding.side binding.host.0 entries) ∙ ap (λ k. row_of k (map filed entries)) key ∙ kept.0 in
     record {
       there = sym (value_filed _) ∙ ap (option_map (λ (r : Row Binding). r.value)) there;
       filed_is = is;
       moving = unfixed binding (ap (λ (r : Row Binding). is_some r.end) (sym is) ∙ kept.1);
     }
   where
-    chosen : (one : Row Binding) (test : Bool) → is_some one.end ≡ test → (if test then Some one else None) ≡ Some row → (Some one ≡ Some row) × (is_some row.end ≡ true)
+    chosen : (one : Row Binding) (test : Bool) → is_some one.end ≡ test → (if test then Some one else None) ≡ Some row → (Some one ≡ Some row)
+        × (is_some row.end ≡ true)
     chosen one true e same = (same, ap (λ (r : Row Binding). is_some r.end) (sym (same_Some _ _ same)) ∙ e)
     chosen one false e same = cc
 
-    from : (o : Option (Row Binding)) → row_of number (map filed entries) ≡ o → option_and_then ending o ≡ Some row → (row_of number (map filed entries) ≡ Some row) × (is_some row.end ≡ true)
+    from : (o : Option (Row Binding)) → row_of number (map filed entries) ≡ o → option_and_then ending o ≡ Some row
+        → (row_of number (map filed entries) ≡ Some row) × (is_some row.end ≡ true)
     from None e same = cc
     from (Some one) e same = let kept = chosen one (is_some one.end) refl same in (e ∙ kept.0, kept.1)
 
@@ -107,7 +114,8 @@ moving_is number entries row h =
 abbrev pub others : Binding → List Binding → List Binding
 others binding entries = filter (λ one. not (is_of_host binding.side binding.host.0 one)) entries
 
-pub without_filed : (binding : Binding) (entries : List Binding) → without (filed binding).key (map filed entries) ≡ map filed (others binding entries)
+pub without_filed : (binding : Binding) (entries : List Binding) → without (filed binding).key (map filed entries)
+    ≡ map filed (others binding entries)
 without_filed binding [] = refl
 without_filed binding (one ∷ rest) = elim (cases_Bool (is_of_host binding.side binding.host.0 one)) [
   | inl e ↦ rw (named binding.side binding.host.0 one ∙ e, e) (without_filed binding rest)
@@ -118,7 +126,8 @@ without_filed binding (one ∷ rest) = elim (cases_Bool (is_of_host binding.side
 abbrev pub replaced : Binding → Binding → Binding
 replaced binding one = cond (is_of_host binding.side binding.host.0 one) binding one
 
-pub with_filed : (binding : Binding) (entries : List Binding) → with_row (filed binding) (map filed entries) ≡ map filed (map (replaced binding) entries)
+pub with_filed : (binding : Binding) (entries : List Binding) → with_row (filed binding) (map filed entries)
+    ≡ map filed (map (replaced binding) entries)
 with_filed binding [] = refl
 with_filed binding (one ∷ rest) = elim (cases_Bool (is_of_host binding.side binding.host.0 one)) [
   | inl e ↦ rw (named binding.side binding.host.0 one ∙ e, e) (ap (λ more. filed binding ∷ more) (with_filed binding rest))
@@ -141,7 +150,8 @@ pub record HasEnded (now : Moment) (entries : List Binding) (rest : List (Row Bi
   pub ended : is_live now binding ≡ false
   pub left : rest ≡ map filed (others binding entries)
 
-pub has_ended : (now : Moment) (entries : List Binding) (rows rest : List (Row Binding)) (row : Row Binding) → rows ≡ map filed entries → row_of row.key rows ≡ Some row → lives now.0 row ≡ false → rest ≡ without row.key rows → HasEnded now entries rest row.value
+pub has_ended : (now : Moment) (entries : List Binding) (rows rest : List (Row Binding)) (row : Row Binding) → rows ≡ map filed entries
+    → row_of row.key rows ≡ Some row → lives now.0 row ≡ false → rest ≡ without row.key rows → HasEnded now entries rest row.value
 has_ended now entries rows rest row kept there ended left =
     let binding = row.value in
     let is : row ≡ filed binding = found_is row.key entries row (ap (row_of row.key) (sym kept) ∙ there) in

@@ -47,20 +47,24 @@ top_of number h =
 unicast_by : (number : ℕ) → HasTop (number / 2 ^ 24) → is_unicast_number number ≡ true
 unicast_by number h =
     let top = number / 2 ^ 24 in
-    and_from _ _ (and_from _ _ (not_from_false _ (ne_eqb top 0 (λ e. omega (arith, h.some)))) (not_from_false _ (ne_eqb top 127 h.local))) (lt-ltb top 224 h.below)
+    and_from _ _ (and_from _ _ (not_from_false _ (ne_eqb top 0 (λ e. omega (arith, h.some)))) (not_from_false _ (ne_eqb top 127 h.local)))
+    (lt-ltb top 224 h.below)
 
 -- between two addresses of hosts that are this near there are only such
-unicast_between : (first last number : ℕ) → IsRange first last → first ≤ number → number ≤ last → is_unicast_number first ≡ true → is_unicast_number last ≡ true → is_unicast_number number ≡ true
+unicast_between : (first last number : ℕ) → IsRange first last → first ≤ number → number ≤ last → is_unicast_number first ≡ true
+    → is_unicast_number last ≡ true → is_unicast_number number ≡ true
 unicast_between first last number range low high f l =
     let one = top_of first f in
     let two = top_of last l in
     unicast_by number (record {
       some = omega (arith, one.some);
-      local = λ (e : number / 2 ^ 24 ≡ 127). let before = one.local in let after = two.local in let small = range.small in omega (arith, before, after);
+      local = λ (e : number / 2 ^ 24 ≡ 127). let before = one.local in let after = two.local in let small = range.small in
+          omega (arith, before, after);
       below = omega (arith, two.below);
     })
 
-apart_block : (side : SideSettings) (address : Addr) (block : Block) → is_in_pool address side ≡ true → meets_pool side block ≡ false → is_in_block address block ≡ false
+apart_block : (side : SideSettings) (address : Addr) (block : Block) → is_in_pool address side ≡ true → meets_pool side block ≡ false
+    → is_in_block address block ≡ false
 apart_block side address block within apart =
     let bounds = and_parts (nat_le side.first.0 address.0) (nat_le address.0 side.last.0) within in
     let low = leb-true _ _ bounds.0 in
@@ -70,21 +74,26 @@ apart_block side address block within apart =
           let parts = and_parts (nat_le block.base.0 address.0) (nat_le address.0 (block_end block)) inside in
           let from = leb-true _ _ parts.0 in
           let to = leb-true _ _ parts.1 in
-          let meets = and_from (nat_le block.base.0 side.last.0) (nat_le side.first.0 (block_end block)) (le-leb _ _ (omega arith)) (le-leb _ _ (omega arith)) in
+          let meets = and_from (nat_le block.base.0 side.last.0) (nat_le side.first.0 (block_end block)) (le-leb _ _ (omega arith))
+          (le-leb _ _ (omega arith)) in
           cc (apart, meets)
       | inr outside ↦ outside
     ]
 
-apart_blocks : (side : SideSettings) (address : Addr) (blocks : List Block) → is_in_pool address side ≡ true → meets_same blocks side ≡ false → is_in_same address blocks ≡ false
+apart_blocks : (side : SideSettings) (address : Addr) (blocks : List Block) → is_in_pool address side ≡ true → meets_same blocks side ≡ false
+    → is_in_same address blocks ≡ false
 apart_blocks side address [] within apart = refl
 apart_blocks side address (block ∷ rest) within apart =
     let parts = or_parts (meets_pool side block) (meets_same rest side) apart in
     or_from _ _ (apart_block side address block within parts.0) (apart_blocks side address rest within parts.1)
 
-not_same : (side : SideSettings) (blocks : List Block) (address : Addr) → is_bad_pool side ≡ false → meets_same blocks side ≡ false → HasUnicastPool side → is_in_pool address side ≡ true → (not (is_unicast_number address.0) || is_in_same address blocks) ≡ false
+not_same : (side : SideSettings) (blocks : List Block) (address : Addr) → is_bad_pool side ≡ false → meets_same blocks side ≡ false
+    → HasUnicastPool side → is_in_pool address side ≡ true → (not (is_unicast_number address.0) || is_in_same address blocks) ≡ false
 not_same side blocks address good apart unicast within =
     let bounds = and_parts (nat_le side.first.0 address.0) (nat_le address.0 side.last.0) within in
-    or_from _ _ (not_from_true _ (unicast_between side.first.0 side.last.0 address.0 (range_is side good) (leb-true _ _ bounds.0) (leb-true _ _ bounds.1) unicast.first unicast.last)) (apart_blocks side address blocks within apart)
+    or_from _ _ (not_from_true _
+    (unicast_between side.first.0 side.last.0 address.0 (range_is side good) (leb-true _ _ bounds.0) (leb-true _ _ bounds.1) unicast.first
+    unicast.last)) (apart_blocks side address blocks within apart)
 
 -- ## The opening table
 
@@ -100,16 +109,20 @@ opening_lawful settings sound forms = record {
     ordered Left = (range_is settings.left (sound.pools Left)).ordered
     ordered Right = (range_is settings.right (sound.pools Right)).ordered
 
-    pools : (side : Side) (address : Addr) → in_pool (without_bindings settings) side address ≡ true → is_same (without_bindings settings) address ≡ false
+    pools : (side : Side) (address : Addr) → in_pool (without_bindings settings) side address ≡ true → is_same (without_bindings settings) address
+        ≡ false
     pools Left address within = not_same settings.left settings.same address (sound.pools Left) (sound.apart Left) forms.left within
     pools Right address within = not_same settings.right settings.same address (sound.pools Right) (sound.apart Right) forms.right within
 
-same_pool : (settings : Settings) (side : Side) (address : Addr) → in_pool (without_bindings settings) side address ≡ is_in_pool address (side_settings settings side)
+same_pool : (settings : Settings) (side : Side) (address : Addr) → in_pool (without_bindings settings) side address
+    ≡ is_in_pool address (side_settings settings side)
 same_pool settings Left address = refl
 same_pool settings Right address = refl
 
 -- the table with the earlier statics can hold the next one
-pub can_open : (settings : Settings) (place : ℕ) (d : Fixed) → IsSound settings → HasForms settings → place < length settings.statics → CanHold (record (without_bindings settings) { entries = map fixed_binding (take place settings.statics) }) (fixed_binding (get_or settings.statics place d))
+pub can_open : (settings : Settings) (place : ℕ) (d : Fixed) → IsSound settings → HasForms settings → place < length settings.statics
+    → CanHold (record (without_bindings settings) { entries = map fixed_binding (take place settings.statics) })
+    (fixed_binding (get_or settings.statics place d))
 unfolding host_is_taken alias_is_outside
 can_open settings place d sound forms within =
     let fixed : Fixed = get_or settings.statics place d in
@@ -125,5 +138,6 @@ can_open settings place d sound forms within =
           let short : k < place = omega (arith, length-take place settings.statics) in
           let P : Fixed → Type 0 = λ earlier. collides (fixed_binding fixed) (fixed_binding earlier) ≡ false in
           let Q : Fixed → Type 0 = λ one. collides (fixed_binding one) (fixed_binding (get_or settings.statics k e)) ≡ false in
-          subst P (sym (get_or-take place settings.statics k e short)) (subst Q (get_or_default settings.statics place e d within) (sound.once k place e short within)));
+          subst P (sym (get_or-take place settings.statics k e short))
+          (subst Q (get_or_default settings.statics place e d within) (sound.once k place e short within)));
     }

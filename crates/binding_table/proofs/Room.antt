@@ -17,7 +17,8 @@ use Rattle.binding_table.proofs.Kept.{lone, lone_between}
 abbrev pub free_in : Range → Side → List Binding → ℕ
 free_in range side entries = count_by not (pool_with range side entries).taken
 
-count_set : (flags : List Bool) (place : ℕ) → place < length flags → get_or flags place false ≡ false → count_by not (set flags place true) + 1 ≡ count_by not flags
+count_set : (flags : List Bool) (place : ℕ) → place < length flags → get_or flags place false ≡ false
+    → count_by not (set flags place true) + 1 ≡ count_by not flags
 count_set flags place within free =
     let f : Bool → ℕ = λ x. cond (not x) 1 0 in
     let e = sum_by-set f flags place true false within in
@@ -25,7 +26,8 @@ count_set flags place within free =
     omega (arith, e, one)
 
 -- where a binding comes among others, one address fewer is free
-pub free_less : (range : Range) (side : Side) (xs ys : List Binding) (binding : Binding) → same_side binding.side (other side) ≡ true → IsLone range side (xs ++ ys) binding → free_in range side (xs ++ binding ∷ ys) + 1 ≡ free_in range side (xs ++ ys)
+pub free_less : (range : Range) (side : Side) (xs ys : List Binding) (binding : Binding) → same_side binding.side (other side) ≡ true
+    → IsLone range side (xs ++ ys) binding → free_in range side (xs ++ binding ∷ ys) + 1 ≡ free_in range side (xs ++ ys)
 free_less range side xs ys binding h lone =
     let flags = map (is_used side (xs ++ ys)) (numbers range) in
     let bounds = and_parts (nat_le range.first binding.alias.0) (nat_le binding.alias.0 range.last) lone.within in
@@ -33,10 +35,12 @@ free_less range side xs ys binding h lone =
     let high = leb-true binding.alias.0 range.last bounds.1 in
     let long = length-map-range_with_len (is_used side (xs ++ ys)) range.first (range.last + 1 - range.first) in
     let e = ap (λ (aliases : Aliases). count_by not aliases.pool.taken) (rw h at (changed_some range side xs ys binding (λ _. lone))) in
-    let less = count_set flags (binding.alias.0 - range.first) (omega (arith, long)) (flag_at range side (xs ++ ys) binding.alias false lone.within ∙ lone.unused) in
+    let less = count_set flags (binding.alias.0 - range.first) (omega (arith, long))
+    (flag_at range side (xs ++ ys) binding.alias false lone.within ∙ lone.unused) in
     ap (λ (n : ℕ). n + 1) (sym e) ∙ less
 
-free_same : (range : Range) (side : Side) (rest : List Binding) (binding : Binding) → same_side binding.side (other side) ≡ false → free_in range side (binding ∷ rest) ≡ free_in range side rest
+free_same : (range : Range) (side : Side) (rest : List Binding) (binding : Binding) → same_side binding.side (other side) ≡ false
+    → free_in range side (binding ∷ rest) ≡ free_in range side rest
 free_same range side rest binding h =
     sym (ap (λ (aliases : Aliases). count_by not aliases.pool.taken) (rw h at (changed_some range side [] rest binding (λ holds. cc (h, holds)))))
 
@@ -46,29 +50,35 @@ none_free range side some =
     let m : ℕ = range.last - range.first + 1 in
     ap (λ flags. count_by not flags) (none_used range side some) ∙ sum_by-replicate f m false ∙ omega arith
 
-side_cases : (side : Side) → ((same_side side Right ≡ true) × (same_side side Left ≡ false)) ⊎ ((same_side side Right ≡ false) × (same_side side Left ≡ true))
+side_cases : (side : Side) → ((same_side side Right ≡ true) × (same_side side Left ≡ false))
+    ⊎ ((same_side side Right ≡ false) × (same_side side Left ≡ true))
 side_cases Left = inr (refl, refl)
 side_cases Right = inl (refl, refl)
 
-tail_taken : (left right : Range) (binding : Binding) (rest : List Binding) → AreTaken (plain_table left right (binding ∷ rest)) → AreTaken (plain_table left right rest)
+tail_taken : (left right : Range) (binding : Binding) (rest : List Binding) → AreTaken (plain_table left right (binding ∷ rest))
+    → AreTaken (plain_table left right rest)
 tail_taken left right binding rest are = record {
   once = λ i j d before within. are.once (suc i) (suc j) d (omega arith) (omega arith);
   aliases = All-tail (λ one. in_pool (plain_table left right rest) (other one.side) one.alias ≡ true) binding rest are.aliases;
 }
 
 -- the bindings and the free addresses of both pools are as many as the addresses of both pools
-pub total : (left right : Range) (entries : List Binding) → AreTaken (plain_table left right entries) → left.first ≤ left.last → right.first ≤ right.last → length entries + free_in left Left entries + free_in right Right entries ≡ (left.last + 1 - left.first) + (right.last + 1 - right.first)
+pub total : (left right : Range) (entries : List Binding) → AreTaken (plain_table left right entries) → left.first ≤ left.last
+    → right.first ≤ right.last → length entries + free_in left Left entries + free_in right Right entries ≡ (left.last + 1 - left.first)
+    + (right.last + 1 - right.first)
 total left right [] are some many = omega (arith, none_free left Left some, none_free right Right many)
 total left right (binding ∷ rest) are some many =
     let before = total left right rest (tail_taken left right binding rest are) some many in
     elim (side_cases binding.side) [
       | inl h ↦
-          let one = free_less left Left [] rest binding h.0 (lone_between (plain_table left right (binding ∷ rest)) Left binding [] rest are refl h.0) in
+          let one = free_less left Left [] rest binding h.0
+          (lone_between (plain_table left right (binding ∷ rest)) Left binding [] rest are refl h.0) in
           let two = free_same right Right rest binding h.1 in
           omega (arith, before, one, two)
       | inr h ↦
           let one = free_same left Left rest binding h.0 in
-          let two = free_less right Right [] rest binding h.1 (lone_between (plain_table left right (binding ∷ rest)) Right binding [] rest are refl h.1) in
+          let two = free_less right Right [] rest binding h.1
+          (lone_between (plain_table left right (binding ∷ rest)) Right binding [] rest are refl h.1) in
           omega (arith, before, one, two)
     ]
 
@@ -78,11 +88,14 @@ length_taken range side entries = length-map-range_with_len (is_used side entrie
 pub taken_of : (table : Bindings) → IsLawful table → AreTaken (plain_table table.left table.right table.entries)
 taken_of table lawful = record {
   once = lawful.once;
-  aliases = All-weaker (IsInPlace table) (λ binding. in_pool (plain_table table.left table.right table.entries) (other binding.side) binding.alias ≡ true) (λ binding place. place.alias) table.entries lawful.places;
+  aliases = All-weaker (IsInPlace table)
+      (λ binding. in_pool (plain_table table.left table.right table.entries) (other binding.side) binding.alias ≡ true) (λ binding place. place.alias)
+      table.entries lawful.places;
 }
 
 -- a table that can hold a binding more has fewer than both pools have addresses
-pub room_for : (table : Bindings) (binding : Binding) → IsLawful table → CanHold table binding → length table.entries < (table.left.last + 1 - table.left.first) + (table.right.last + 1 - table.right.first)
+pub room_for : (table : Bindings) (binding : Binding) → IsLawful table → CanHold table binding
+    → length table.entries < (table.left.last + 1 - table.left.first) + (table.right.last + 1 - table.right.first)
 room_for table binding lawful can =
     let all = total table.left table.right table.entries (taken_of table lawful) (lawful.ranges Left) (lawful.ranges Right) in
     elim (side_cases binding.side) [

@@ -87,7 +87,8 @@ counted_once = refl
 abbrev use_of : Addr → Use
 use_of one = record { side = Right; address = one; until = second 9 }
 
-images : images_after opening (use_of (address 10 0 0 5) ∷ use_of (address 10 0 0 7) ∷ use_of (address 11 1 1 1) ∷ use_of (address 10 0 0 8) ∷ use_of (address 10 0 0 7) ∷ [])
+images : images_after opening
+    (use_of (address 10 0 0 5) ∷ use_of (address 10 0 0 7) ∷ use_of (address 11 1 1 1) ∷ use_of (address 10 0 0 8) ∷ use_of (address 10 0 0 7) ∷ [])
     ≡ Some (address 192 168 200 1) ∷ Some (address 192 168 200 2) ∷ None ∷ Some (address 192 168 200 3) ∷ Some (address 192 168 200 2) ∷ []
 unfolding cross block_end
 images = refl

@@ -19,17 +19,23 @@ size range = range.last + 1 - range.first
 abbrev made : List Block → Range → Range → List OidRule → List Binding → Bindings
 made same left right oids entries = record { same = same; left = left; right = right; oids = oids; entries = entries }
 
-same_made : (s t : List Block) (k l m n : Range) (o p : List OidRule) (xs ys : List Binding) → s ≡ t → k ≡ l → m ≡ n → o ≡ p → xs ≡ ys → made s k m o xs ≡ made t l n p ys
+same_made : (s t : List Block) (k l m n : Range) (o p : List OidRule) (xs ys : List Binding) → s ≡ t → k ≡ l → m ≡ n → o ≡ p → xs ≡ ys
+    → made s k m o xs ≡ made t l n p ys
 same_made s t k l m n o p xs ys a b c d e = cc
 
 pub length_hosts : (range : Range) (side : Side) (entries : List Binding) → length (aliases_with range side entries).hosts ≡ size range
 length_hosts range side entries = length-map-range_with_len (host_at side entries) range.first (range.last + 1 - range.first)
 
-pub view_by : (inside : Inside) (table : Bindings) → inside.same ≡ table.same → inside.left ≡ aliases_of table Left → inside.right ≡ aliases_of table Right → inside.oids ≡ table.oids → inside.bindings.rows ≡ map filed table.entries → bindings_of inside ≡ table
+pub view_by : (inside : Inside) (table : Bindings) → inside.same ≡ table.same → inside.left ≡ aliases_of table Left
+    → inside.right ≡ aliases_of table Right → inside.oids ≡ table.oids → inside.bindings.rows ≡ map filed table.entries → bindings_of inside ≡ table
 view_by inside table same left right oids rows =
-    same_made inside.same table.same inside.left.pool.range table.left inside.right.pool.range table.right inside.oids table.oids (entries_in inside.bindings.rows) table.entries same (ap (λ (aliases : Aliases). aliases.pool.range) left) (ap (λ (aliases : Aliases). aliases.pool.range) right) oids (entries_are inside.bindings.rows table.entries rows)
+    same_made inside.same table.same inside.left.pool.range table.left inside.right.pool.range table.right inside.oids table.oids
+    (entries_in inside.bindings.rows) table.entries same (ap (λ (aliases : Aliases). aliases.pool.range) left)
+    (ap (λ (aliases : Aliases). aliases.pool.range) right) oids (entries_are inside.bindings.rows table.entries rows)
 
-pub whole_by : (inside : Inside) (table : Bindings) → inside.same ≡ table.same → inside.left ≡ aliases_of table Left → inside.right ≡ aliases_of table Right → inside.oids ≡ table.oids → inside.bindings.rows ≡ map filed table.entries → IsLawful table → AreRules inside.oids → size table.left + size table.right ≤ inside.bindings.most → IsWhole inside
+pub whole_by : (inside : Inside) (table : Bindings) → inside.same ≡ table.same → inside.left ≡ aliases_of table Left
+    → inside.right ≡ aliases_of table Right → inside.oids ≡ table.oids → inside.bindings.rows ≡ map filed table.entries → IsLawful table
+    → AreRules inside.oids → size table.left + size table.right ≤ inside.bindings.most → IsWhole inside
 whole_by inside table same left right oids rows lawful rules room =
     let entries = entries_are inside.bindings.rows table.entries rows in
     let is = view_by inside table same left right oids rows in

@@ -80,7 +80,8 @@ range_of table Right = table.right
 
 -- the pool of a realm in which exactly the addresses that stand for a host are taken
 abbrev pub pool_with : Range → Side → List Binding → Addresses
-pool_with range side entries = record { range = range; taken = map (is_used side entries) (range_with_len range.first (range.last + 1 - range.first)) }
+pool_with range side entries =
+    record { range = range; taken = map (is_used side entries) (range_with_len range.first (range.last + 1 - range.first)) }
 
 -- the realm's pool
 abbrev pub pool_of : Bindings → Side → Addresses

@@ -9,7 +9,13 @@ use Rattle.binding_table.specs.Steps.{aliases_of, entries_in, filed}
 
 -- the bindings of the table
 abbrev pub bindings_of : Inside → Bindings
-bindings_of table = record { same = table.same; left = table.left.pool.range; right = table.right.pool.range; oids = table.oids; entries = entries_in table.bindings.rows }
+bindings_of table = record {
+  same = table.same;
+  left = table.left.pool.range;
+  right = table.right.pool.range;
+  oids = table.oids;
+  entries = entries_in table.bindings.rows;
+}
 
 -- each binding is under its host's number, in the pools exactly the aliases are taken and stand for their hosts, there is room for a binding for each
 -- address of the pools, and each rule about object identifiers has its form

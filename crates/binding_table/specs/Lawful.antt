@@ -16,7 +16,8 @@ pub record IsInPlace (table : Bindings) (binding : Binding) : Type 0 where
   pub outside : in_pool table binding.side binding.host ≡ false
   pub host : is_same table binding.host ≡ false
 
--- hosts and aliases are in their places, no two bindings of one realm's hosts share either, no pool is empty, and no address of a pool crosses unchanged
+-- hosts and aliases are in their places, no two bindings of one realm's hosts share either, no pool is empty, and no address of a pool crosses
+-- unchanged
 pub record IsLawful (table : Bindings) : Type 0 where
   pub once : AllPairs (λ earlier binding. collides binding earlier ≡ false) table.entries
   pub places : All (IsInPlace table) table.entries

@@ -73,7 +73,8 @@ is_fresh table side earlier address = needs_binding (cross table side address) &
 abbrev pub fresh_after : Bindings → Side → List Addr → List Addr → List Addr
 fresh_after table side earlier [] = []
 fresh_after table side earlier (address ∷ rest) =
-    if is_fresh table side earlier address then address ∷ fresh_after table side (earlier ++ address ∷ []) rest else fresh_after table side (earlier ++ address ∷ []) rest
+    if is_fresh table side earlier address then address ∷ fresh_after table side (earlier ++ address ∷ []) rest else fresh_after table side
+    (earlier ++ address ∷ []) rest
 
 -- how many distinct addresses need a binding
 abbrev pub needed : Bindings → Side → List Addr → ℕ

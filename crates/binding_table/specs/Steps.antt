@@ -45,7 +45,8 @@ no_hosts first last = record { pool = unused first last; hosts = replicate (last
 
 -- the pool, one address of which stands for a host, or for none
 abbrev pub with_host : Addr → Option Addr → Aliases → Aliases
-with_host alias host aliases = record { pool = with_address alias (is_some host) aliases.pool; hosts = slice_set aliases.hosts (place_of alias aliases.pool) host }
+with_host alias host aliases =
+    record { pool = with_address alias (is_some host) aliases.pool; hosts = slice_set aliases.hosts (place_of alias aliases.pool) host }
 
 -- the host for which the address with a number stands
 abbrev pub host_at : Side → List Binding → ℕ → Option Addr
@@ -53,7 +54,8 @@ host_at side entries number = host_of side (record { 0 = number }) entries
 
 -- the pool of a realm whose addresses stand for their hosts by the bindings
 abbrev pub aliases_with : Range → Side → List Binding → Aliases
-aliases_with range side entries = record { pool = pool_with range side entries; hosts = map (host_at side entries) (range_with_len range.first (range.last + 1 - range.first)) }
+aliases_with range side entries =
+    record { pool = pool_with range side entries; hosts = map (host_at side entries) (range_with_len range.first (range.last + 1 - range.first)) }
 
 abbrev pub aliases_of : Bindings → Side → Aliases
 aliases_of table side = aliases_with (range_of table side) side table.entries
@@ -134,5 +136,7 @@ EndsAtOnce row = row.end ≡ Some 0
 pub record AreFirsts (needs : Addr → Bool) (earlier : List Addr) (seen_addresses : Table ℕ) : Type 0 where
   pub most : seen_addresses.most ≡ 8192
   pub ends : All EndsAtOnce seen_addresses.rows
-  pub found : (address : Addr) → needs address ≡ true → IfSome (row_of address.0 seen_addresses.rows) (λ row. position (is_address address) earlier ≡ Some row.value)
-  pub lacks : (address : Addr) → needs address ≡ true → row_of address.0 seen_addresses.rows ≡ None → length seen_addresses.rows < seen_addresses.most → position (is_address address) earlier ≡ None
+  pub found : (address : Addr) → needs address ≡ true → IfSome (row_of address.0 seen_addresses.rows)
+      (λ row. position (is_address address) earlier ≡ Some row.value)
+  pub lacks : (address : Addr) → needs address ≡ true → row_of address.0 seen_addresses.rows ≡ None → length seen_addresses.rows < seen_addresses.most
+      → position (is_address address) earlier ≡ None

@@ -9,7 +9,9 @@ use Rattle.compact_stream.specs.Prelude.{CompactSender, KeepsSender, InRange, se
 no_octets : (l : Kept) → StandsFor l [] 0 → StandsFor l (Plain 0 ∷ []) 0
 no_octets l st = record { proper = (tt, tt); octets_in = omega (arith, st.octets_in); octets_out = omega (arith, st.octets_out); changed = st.changed; within = omega arith }
 
-pub sender_begins : (m : Meaning) (mss : ℕ) (initial : Option ℕ) (l : Kept) → StandsFor l [] 0 → KeepsSender m (record { mss = mss; initial = initial; ended = false; acked = 0; rest = []; released = false; ledger = l; recent = [] }) (record { meaning = m; mss = mss; initial = initial; octets = []; ended = false; acked = 0 })
+pub sender_begins : (m : Meaning) (mss : ℕ) (initial : Option ℕ) (l : Kept) → StandsFor l [] 0
+    → KeepsSender m (record { mss = mss; initial = initial; ended = false; acked = 0; rest = []; released = false; ledger = l; recent = [] })
+    (record { meaning = m; mss = mss; initial = initial; octets = []; ended = false; acked = 0 })
 sender_begins m mss initial l st = record {
   is = refl;
   keeps = record {

@@ -44,7 +44,10 @@ rest_cases m true r = inl refl
 rest_cases m false r = elim (cases_Bool (is_held m r)) [ inl e ↦ inr (cond-true (is_held m r) [] r e) | inr e ↦ inl (cond-false (is_held m r) [] r e) ]
 
 -- the pushes of all octets do for those that are due
-all_pushes : (m : Meaning) (ended : Bool) (s : List ℕ) (lo hi start b : ℕ) (octets : List ℕ) → lo ≤ hi → hi ≤ end_from 0 (sent_pushes m ended (cut m s)) → NeedsOnly (sent_pushes m ended (cut m s)) lo hi b (in_from 0 (sent_pushes m ended (cut m s))) → in_from 0 (sent_pushes m ended (cut m s)) ≤ length s → let all = pushes_of m (cut m s) (cut m s).rest in (copied (sent_pushes m ended (cut m s)) lo hi start octets ≡ copied all lo hi start octets) × NeedsOnly all lo hi b (length s)
+all_pushes : (m : Meaning) (ended : Bool) (s : List ℕ) (lo hi start b : ℕ) (octets : List ℕ) → lo ≤ hi
+    → hi ≤ end_from 0 (sent_pushes m ended (cut m s)) → NeedsOnly (sent_pushes m ended (cut m s)) lo hi b (in_from 0 (sent_pushes m ended (cut m s)))
+    → in_from 0 (sent_pushes m ended (cut m s)) ≤ length s → let all = pushes_of m (cut m s) (cut m s).rest in
+    (copied (sent_pushes m ended (cut m s)) lo hi start octets ≡ copied all lo hi start octets) × NeedsOnly all lo hi b (length s)
 all_pushes m ended s lo hi start b octets l h needs short =
     let us : List Push = map (push_of m) (cut m s).units in
     let wide : NeedsOnly (sent_pushes m ended (cut m s)) lo hi b (length s) = λ q p from below is. (let x = needs q p from below is in (x.0, omega (arith, x.1))) in
@@ -59,7 +62,9 @@ all_pushes m ended s lo hi start b octets l h needs short =
           )
     ]
 
-pub image_copied : (m : Meaning) → IsLawful m → (h : CompactSender) (s : List ℕ) (lo hi : ℕ) → Keeps m h s → h.acked ≤ h.ledger.octets_out → recent_back h ≤ octets_kept h → fore_by h.ledger (recent_back h) ≤ lo → lo ≤ hi → hi ≤ h.ledger.octets_out → copied_by h.ledger lo hi (recent_start h) h.recent ≡ slice_range (image m s) lo hi
+pub image_copied : (m : Meaning) → IsLawful m → (h : CompactSender) (s : List ℕ) (lo hi : ℕ) → Keeps m h s → h.acked ≤ h.ledger.octets_out
+    → recent_back h ≤ octets_kept h → fore_by h.ledger (recent_back h) ≤ lo → lo ≤ hi → hi ≤ h.ledger.octets_out
+    → copied_by h.ledger lo hi (recent_start h) h.recent ≡ slice_range (image m s) lo hi
 image_copied m law h s lo hi k up inside from order within =
     let ps : List Push = sent_pushes m h.ended (cut m s) in
     let q : min h.acked h.ledger.octets_out ≡ h.acked = omega arith in

@@ -86,7 +86,9 @@ step_hold m rest l c x k kept none holds =
     })
 
 -- it goes on and is released
-pub step_release : (m : Meaning) (rest : List ℕ) (l : Kept) (l' : Kept) (c : Cut) (x k n : ℕ) → n ≡ length (rest ++ x ∷ []) → IsKeptOf m rest false l c k → is_some (m.first_end (rest ++ x ∷ [])) ≡ false → m.holds (rest ++ x ∷ []) ≡ false → StandsFor l' (sent_pushes m false c ++ Plain n ∷ []) k → IsKeptOf m [] true l' (add_octet m c x) k
+pub step_release : (m : Meaning) (rest : List ℕ) (l : Kept) (l' : Kept) (c : Cut) (x k n : ℕ) → n ≡ length (rest ++ x ∷ [])
+    → IsKeptOf m rest false l c k → is_some (m.first_end (rest ++ x ∷ [])) ≡ false → m.holds (rest ++ x ∷ []) ≡ false
+    → StandsFor l' (sent_pushes m false c ++ Plain n ∷ []) k → IsKeptOf m [] true l' (add_octet m c x) k
 step_release m rest l l' c x k n n_is kept none free st =
     let r : (rest ≡ c.rest) × (due_rest m false c.rest ≡ []) = open_rest m c.rest rest kept.rest_is kept.released_is in
     let u_is : rest ++ x ∷ [] ≡ c.rest ++ x ∷ [] = ap (λ t. t ++ x ∷ []) r.0 in
@@ -99,7 +101,9 @@ step_release m rest l l' c x k n n_is kept none free st =
     })
 
 -- it ends as a unit that its image equals
-pub step_plain_unit : (m : Meaning) (rest : List ℕ) (l : Kept) (l' : Kept) (c : Cut) (x k n : ℕ) → n ≡ length (rest ++ x ∷ []) → IsKeptOf m rest false l c k → is_some (m.first_end (rest ++ x ∷ [])) ≡ true → m.image (rest ++ x ∷ []) ≡ rest ++ x ∷ [] → StandsFor l' (sent_pushes m false c ++ Plain n ∷ []) k → IsKeptOf m [] false l' (add_octet m c x) k
+pub step_plain_unit : (m : Meaning) (rest : List ℕ) (l : Kept) (l' : Kept) (c : Cut) (x k n : ℕ) → n ≡ length (rest ++ x ∷ [])
+    → IsKeptOf m rest false l c k → is_some (m.first_end (rest ++ x ∷ [])) ≡ true → m.image (rest ++ x ∷ []) ≡ rest ++ x ∷ []
+    → StandsFor l' (sent_pushes m false c ++ Plain n ∷ []) k → IsKeptOf m [] false l' (add_octet m c x) k
 step_plain_unit m rest l l' c x k n n_is kept ends same st =
     let r : (rest ≡ c.rest) × (due_rest m false c.rest ≡ []) = open_rest m c.rest rest kept.rest_is kept.released_is in
     let u_is : rest ++ x ∷ [] ≡ c.rest ++ x ∷ [] = ap (λ t. t ++ x ∷ []) r.0 in
@@ -114,7 +118,10 @@ step_plain_unit m rest l l' c x k n n_is kept ends same st =
     })
 
 -- it ends as a unit with another image
-pub step_changed_unit : (m : Meaning) (rest image : List ℕ) (l : Kept) (l' : Kept) (c : Cut) (x k n : ℕ) → n ≡ length (rest ++ x ∷ []) → IsKeptOf m rest false l c k → is_some (m.first_end (rest ++ x ∷ [])) ≡ true → image ≡ m.image (rest ++ x ∷ []) → bytes_eq image (rest ++ x ∷ []) ≡ false → StandsFor l' (sent_pushes m false c ++ Changed n image ∷ []) k → IsKeptOf m [] false l' (add_octet m c x) k
+pub step_changed_unit : (m : Meaning) (rest image : List ℕ) (l : Kept) (l' : Kept) (c : Cut) (x k n : ℕ) → n ≡ length (rest ++ x ∷ [])
+    → IsKeptOf m rest false l c k → is_some (m.first_end (rest ++ x ∷ [])) ≡ true → image ≡ m.image (rest ++ x ∷ [])
+    → bytes_eq image (rest ++ x ∷ []) ≡ false → StandsFor l' (sent_pushes m false c ++ Changed n image ∷ []) k
+    → IsKeptOf m [] false l' (add_octet m c x) k
 step_changed_unit m rest image l l' c x k n n_is kept ends is other st =
     let r : (rest ≡ c.rest) × (due_rest m false c.rest ≡ []) = open_rest m c.rest rest kept.rest_is kept.released_is in
     let u_is : rest ++ x ∷ [] ≡ c.rest ++ x ∷ [] = ap (λ t. t ++ x ∷ []) r.0 in

@@ -52,7 +52,9 @@ sender_forgotten m law h a k i =
     omega (arith, back_kept-le m law h a.octets k.keeps i)
 
 -- what a ledger answers for the greatest acknowledged place is its Back
-pub sender_back : (m : Meaning) → IsLawful m → (h : CompactSender) (a : Sender) (q r : ℕ) → KeepsSender m h a → q ≡ h.acked → q ≤ h.ledger.octets_out → (StandsFor h.ledger (sent_pushes m h.ended (cut m a.octets)) (min h.acked h.ledger.octets_out) → min h.acked h.ledger.octets_out ≤ q → q ≤ h.ledger.octets_out → r ≡ back_of (sent_pushes m h.ended (cut m a.octets)) q) → r ≡ back m a.ended a.octets a.acked
+pub sender_back : (m : Meaning) → IsLawful m → (h : CompactSender) (a : Sender) (q r : ℕ) → KeepsSender m h a → q ≡ h.acked → q ≤ h.ledger.octets_out
+    → (StandsFor h.ledger (sent_pushes m h.ended (cut m a.octets)) (min h.acked h.ledger.octets_out) → min h.acked h.ledger.octets_out ≤ q
+    → q ≤ h.ledger.octets_out → r ≡ back_of (sent_pushes m h.ended (cut m a.octets)) q) → r ≡ back m a.ended a.octets a.acked
 sender_back m law h a q r k e l f =
     f k.keeps.ledger (omega arith) l
     ∙ sym (back-sent m law h.ended a.octets q (omega (arith, due_is m h a.octets k.keeps)))

@@ -72,10 +72,15 @@ closed_in_range m law h i =
     within : (n : ℕ) → h.acked ≤ h.ledger.octets_out + n + 1
     within n = omega (arith, i.acked, one-le h.ended)
 
-taken_in_range : (m : Meaning) → IsLawful m → (h : CompactSender) (g : Segment) → h.ledger.octets_in + length h.rest + (length g.octets - (start_at (extent_kept h) (arrival g)).before) < 2 ^ 30 → length h.recent + (length g.octets - (start_at (extent_kept h) (arrival g)).before) ≤ 65536 → InRange m h → InRange m (taken_kept m h g)
+taken_in_range : (m : Meaning) → IsLawful m → (h : CompactSender) (g : Segment)
+    → h.ledger.octets_in + length h.rest + (length g.octets - (start_at (extent_kept h) (arrival g)).before) < 2 ^ 30
+    → length h.recent + (length g.octets - (start_at (extent_kept h) (arrival g)).before) ≤ 65536 → InRange m h → InRange m (taken_kept m h g)
 taken_in_range m law h g small few i =
     let n : ℕ = (start_at (extent_kept h) (arrival g)).before in
-    let on : InRange m (went_on m h (drop (start_at (extent_kept h) (arrival g)).before g.octets)) = went_on_in_range m law h (drop (start_at (extent_kept h) (arrival g)).before g.octets) (omega (arith, length-drop (start_at (extent_kept h) (arrival g)).before g.octets)) (omega (arith, length-drop (start_at (extent_kept h) (arrival g)).before g.octets)) i in
+    let on : InRange m (went_on m h (drop (start_at (extent_kept h) (arrival g)).before g.octets)) =
+    went_on_in_range m law h (drop (start_at (extent_kept h) (arrival g)).before g.octets)
+    (omega (arith, length-drop (start_at (extent_kept h) (arrival g)).before g.octets))
+    (omega (arith, length-drop (start_at (extent_kept h) (arrival g)).before g.octets)) i in
     choose h.ended g.flags.fin h _ i on
   where
     choose : (ended fin : Bool) (h more : CompactSender) → InRange m h → InRange m more → InRange m (cond ended h (cond fin (closed more) more))

@@ -56,7 +56,9 @@ extent_is m h s k =
     let e : h.ledger.octets_in + length h.rest ≡ length s = octets_are m h s k in
     let f : h.ledger.octets_out ≡ length (due m h.ended s) = due_is m h s k in
     let x : extent_kept h ≡ record { initial = h.initial; octets = length s; due = h.ledger.octets_out; ended = h.ended; recent = length h.recent } = ap (λ (n : ℕ). record { initial = h.initial; octets = n; due = h.ledger.octets_out; ended = h.ended; recent = length h.recent }) e in
-    let y : record { initial = h.initial; octets = length s; due = h.ledger.octets_out; ended = h.ended; recent = length h.recent } ≡ record { initial = h.initial; octets = length s; due = length (due m h.ended s); ended = h.ended; recent = length h.recent } = ap (λ (n : ℕ). record { initial = h.initial; octets = length s; due = n; ended = h.ended; recent = length h.recent }) f in
+    let y : record { initial = h.initial; octets = length s; due = h.ledger.octets_out; ended = h.ended; recent = length h.recent }
+    ≡ record { initial = h.initial; octets = length s; due = length (due m h.ended s); ended = h.ended; recent = length h.recent } =
+    ap (λ (n : ℕ). record { initial = h.initial; octets = length s; due = n; ended = h.ended; recent = length h.recent }) f in
     x ∙ y ∙ ap (λ (r : List ℕ). record { initial = h.initial; octets = length s; due = length (due m h.ended s); ended = h.ended; recent = length r }) k.recent
 
 -- Fore, Rear and Back, ended or not
@@ -72,16 +74,24 @@ pub back-sent : (m : Meaning) → IsLawful m → (ended : Bool) (s : List ℕ) (
 back-sent m law true s q l = rw (ne_eqb q (length (image m s) + 1) (λ e. omega arith)) refl
 back-sent m law false s q l = back-due m law s q l
 
--- Back at the acknowledged place: after the end's own place the whole stream and its end
-pub back_acked : (m : Meaning) → IsLawful m → (h : CompactSender) (s : List ℕ) → Keeps m h s → h.acked ≤ h.ledger.octets_out → back m h.ended s h.acked ≡ back_of (sent_pushes m h.ended (cut m s)) (min h.acked h.ledger.octets_out)
-back_acked m law h s k l =
-    back-sent m law h.ended s h.acked (omega (arith, due_is m h s k)) ∙ ap (back_of (sent_pushes m h.ended (cut m s))) (omega arith)
-
 -- the stream ends: a held rest is pushed
 pub end_pushes : (m : Meaning) (l : Kept) (c : Cut) (k : ℕ) → StandsFor l (sent_pushes m false c) k → StandsFor (record { octets_in = l.octets_in + length (held_rest m c.rest); octets_out = l.octets_out + length (held_rest m c.rest); changed = l.changed; spare = l.spare }) (sent_pushes m true c) k
 end_pushes m l c k h =
-    let pushed : StandsFor (record { octets_in = l.octets_in + length (held_rest m c.rest); octets_out = l.octets_out + length (held_rest m c.rest); changed = l.changed; spare = l.spare }) (sent_pushes m false c ++ Plain (length (held_rest m c.rest)) ∷ []) k = StandsFor-push_plain l (sent_pushes m false c) k (length (held_rest m c.rest)) l.spare h in
+    let pushed : StandsFor (record {
+      octets_in = l.octets_in + length (held_rest m c.rest);
+      octets_out = l.octets_out + length (held_rest m c.rest);
+      changed = l.changed;
+      spare = l.spare;
+    }) (sent_pushes m false c ++ Plain (length (held_rest m c.rest)) ∷ []) k = StandsFor-push_plain l
+    (sent_pushes m false c) k (length (held_rest m c.rest)) l.spare h in
     let n : length c.rest ≡ length (due_rest m false c.rest) + length (held_rest m c.rest) = sym (rest_split m false c.rest) in
     StandsFor-same _ (map (push_of m) c.units) (Plain (length (due_rest m false c.rest)) ∷ Plain (length (held_rest m c.rest)) ∷ []) (Plain (length c.rest) ∷ []) k
     (join_plain (length (due_rest m false c.rest)) (length (held_rest m c.rest)) (length c.rest) n)
-    (subst (λ (ps : List Push). StandsFor (record { octets_in = l.octets_in + length (held_rest m c.rest); octets_out = l.octets_out + length (held_rest m c.rest); changed = l.changed; spare = l.spare }) ps k) (append_assoc (map (push_of m) c.units) (Plain (length (due_rest m false c.rest)) ∷ []) (Plain (length (held_rest m c.rest)) ∷ [])) pushed)
+    (subst (λ (ps : List Push). StandsFor
+    (record {
+      octets_in = l.octets_in + length (held_rest m c.rest);
+      octets_out = l.octets_out + length (held_rest m c.rest);
+      changed = l.changed;
+      spare = l.spare;
+    }) ps k)
+    (append_assoc (map (push_of m) c.units) (Plain (length (due_rest m false c.rest)) ∷ []) (Plain (length (held_rest m c.rest)) ∷ [])) pushed)

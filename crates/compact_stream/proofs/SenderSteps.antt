@@ -90,7 +90,9 @@ taken_keeps f m law h s b g p d l k =
           keeps = subst (λ (u : List ℕ). Keeps m h u) (sym octets) k;
         })
 
-    open_case : (m : Meaning) → IsLawful m → (h : CompactSender) (s t : List ℕ) (fin : Bool) → h.ended ≡ false → Keeps m (went_on m h t) (s ++ t) × (h.acked ≤ (went_on m h t).ledger.octets_out) → KeepsSender m (cond h.ended h (cond fin (closed (went_on m h t)) (went_on m h t))) (record { meaning = m; mss = h.mss; initial = h.initial; octets = s ++ t; ended = h.ended || fin; acked = h.acked })
+    open_case : (m : Meaning) → IsLawful m → (h : CompactSender) (s t : List ℕ) (fin : Bool) → h.ended ≡ false → Keeps m (went_on m h t) (s ++ t)
+        × (h.acked ≤ (went_on m h t).ledger.octets_out) → KeepsSender m (cond h.ended h (cond fin (closed (went_on m h t)) (went_on m h t)))
+        (record { meaning = m; mss = h.mss; initial = h.initial; octets = s ++ t; ended = h.ended || fin; acked = h.acked })
     open_case m law h s t true e k =
         subst (λ (x : CompactSender). KeepsSender m x (record { meaning = m; mss = h.mss; initial = h.initial; octets = s ++ t; ended = h.ended || true; acked = h.acked })) (sym (cond-false h.ended h (closed (went_on m h t)) e))
         (record { is = flags_same m h (s ++ t) (h.ended || true) true (ap (λ b. b || true) e); keeps = closed_keeps m law (went_on m h t) (s ++ t) e k.1 k.0 })

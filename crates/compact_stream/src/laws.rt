@@ -4,11 +4,11 @@ ghost use Rattle.gate_base.specs.declared.host.Host.{Host};
 ghost use Rattle.dialogue.specs.Prelude.{Meaning, IsLawful, cut, due, image, fore, rear, back, ReadAlike};
 ghost use Rattle.shift_ledger.specs.Prelude.{fore_by, copied_by, Kept, StandsFor, fore_of, rear_of, back_of};
 ghost use Rattle.tcp_segments.specs.Prelude.{one_if};
-ghost use Rattle.stream_model.specs.Prelude.{Sender, Session, Segment, extent, arrival, repeats_unlike, refusal_of, segment_refusal, own_after, other_after, session_next, session_made, open_of};
+ghost use Rattle.stream_model.specs.Prelude.{Sender, Session, Segment, extent, arrival, repeats_unlike, refusal_of, segment_refusal, own_after, other_after, session_next, session_made, open_of, Agree, standing};
 ghost use Rattle.stream_model.specs.declared.refusals.Extent.{Extent};
 ghost use Rattle.compact_stream.specs.Runs.{held_rest};
 ghost use Rattle.compact_stream.specs.Kept.{CompactSender, Keeps, KeepsSender, InRange, octets_kept, recent_start, sent_pushes, extent_kept, own_kept, other_kept};
-ghost use Rattle.compact_stream.specs.Outs.{recent_back};
+ghost use Rattle.compact_stream.specs.Outs.{recent_back, standing_kept};
 ghost use Rattle.compact_stream.specs.Sessions.{CompactState, StandsForSession, sender_kept, kept_made, kept_refusal, kept_next};
 
 /// Of the session that a client's first SYN makes, what is kept is two ledgers of which nothing was pushed.
@@ -39,6 +39,15 @@ pub fn kept_session_judges()
         (from : Host) (g : Segment)
         → StandsForSession m n h x
         → kept_refusal from h g ≡ segment_refusal from x g }
+{}
+
+/// What is kept of a sender answers as the sender does, from the greatest acknowledged place on. So it sends what the sender sends.
+pub fn kept_answers_agree()
+    ensures { (m : Meaning) (h : CompactSender) (a : Sender)
+        → IsLawful m
+        → InRange m h
+        → KeepsSender m h a
+        → Agree (standing_kept h) (standing a) }
 {}
 
 /// What is kept after a segment that passes is determined by what was kept before it, and is that of the session after it.

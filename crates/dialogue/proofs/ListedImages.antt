@@ -14,10 +14,12 @@ image_of_listed (entry ∷ entries) address =
       | inr f ↦ rw f (image_of_listed entries address)
     ]
 
-mapped_or : (o p : Option Entry) → option_map (λ (entry : Entry). entry.1) (option_or o p) ≡ option_or (option_map (λ (entry : Entry). entry.1) o) (option_map (λ (entry : Entry). entry.1) p)
+mapped_or : (o p : Option Entry) → option_map (λ (entry : Entry). entry.1) (option_or o p) ≡ option_or (option_map (λ (entry : Entry). entry.1) o)
+    (option_map (λ (entry : Entry). entry.1) p)
 mapped_or None p = refl
 mapped_or (Some x) p = refl
 
 -- of two lists that are joined, the first that has an entry gives the image
-pub image_of_joined : (entries more : List Entry) (address : ℕ) → listed_image (entries ++ more) address ≡ option_or (listed_image entries address) (listed_image more address)
+pub image_of_joined : (entries more : List Entry) (address : ℕ) → listed_image (entries ++ more) address ≡ option_or (listed_image entries address)
+    (listed_image more address)
 image_of_joined entries more address = ap (option_map (λ (entry : Entry). entry.1)) (find-append (is_of address) entries more) ∙ mapped_or _ _

@@ -11,7 +11,8 @@ use Rattle.dns_gateway.specs.Replies.{cut}
 
 -- a name is no longer than its labels and a root octet
 
-spell_by-short : (o : Option ℕ) (place : ℕ) (l whole : List ℕ) (rest : Added) (n : ℕ) → length rest.octets ≤ n + 1 → length (Added.octets (spell_by o place l whole rest)) ≤ 1 + length l + n + 1
+spell_by-short : (o : Option ℕ) (place : ℕ) (l whole : List ℕ) (rest : Added) (n : ℕ) → length rest.octets ≤ n + 1
+    → length (Added.octets (spell_by o place l whole rest)) ≤ 1 + length l + n + 1
 spell_by-short None place l whole rest n le = omega (arith, length-append l rest.octets)
 spell_by-short (Some to) place l whole rest n le = omega arith
 
@@ -19,10 +20,12 @@ spell-short : (starts : List Start) (place : ℕ) (ls : List (List ℕ)) → len
 unfolding spell
 spell-short starts place [] = omega arith
 spell-short starts place (l ∷ ls) =
-    let h = spell_by-short (found starts (spelled (l ∷ ls))) place l (spelled (l ∷ ls)) (spell starts (place + 1 + length l) ls) (length (spelled ls)) (spell-short starts (place + 1 + length l) ls) in
+    let h = spell_by-short (found starts (spelled (l ∷ ls))) place l (spelled (l ∷ ls)) (spell starts (place + 1 + length l) ls) (length (spelled ls))
+    (spell-short starts (place + 1 + length l) ls) in
     omega (arith, h, length-append l (spelled ls))
 
-question-short : (q : Option Question) (starts : List Start) (place n : ℕ) → IfSome q (λ q. length (spelled q.name) ≤ n) → length (Added.octets (questions_written q starts place)) ≤ n + 5
+question-short : (q : Option Question) (starts : List Start) (place n : ℕ) → IfSome q (λ q. length (spelled q.name) ≤ n)
+    → length (Added.octets (questions_written q starts place)) ≤ n + 5
 question-short None starts place n ok = omega arith
 question-short (Some q) starts place n ok =
     let name = spell starts place q.name in
@@ -36,5 +39,7 @@ cut-within m n ok =
 
 pub cut-short : (m : Message) → IfSome m.question (λ q. IsName q.name) → length (spelling (cut m)) ≤ 512
 cut-short m ok =
-    let short : IfSome m.question (λ (q : Question). length (spelled q.name) ≤ 254) = IfSome_then m.question {P = λ (q : Question). IsName q.name} {Q = λ (q : Question). length (spelled q.name) ≤ 254} ok (λ q name. name.short) in
+    let short : IfSome m.question (λ (q : Question). length (spelled q.name) ≤ 254) =
+    IfSome_then m.question {P = λ (q : Question). IsName q.name} {Q = λ (q : Question). length (spelled q.name) ≤ 254} ok
+    (λ q name. name.short) in
     omega (arith, cut-within m 254 short)

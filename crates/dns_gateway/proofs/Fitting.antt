@@ -17,7 +17,8 @@ address-suits : (f : Form) (a : Addr) (image : Option Addr) → f ≡ form.Addre
 address-suits f a None ok = ok
 address-suits f a (Some image) ok = ok
 
-content-suits : (f : Form) (c : Content) (images : List (Option Addr)) (place : ℕ) → Suits f c → Suits f (content_to (image_of (content_address c) images place) c)
+content-suits : (f : Form) (c : Content) (images : List (Option Addr)) (place : ℕ) → Suits f c
+    → Suits f (content_to (image_of (content_address c) images place) c)
 content-suits f (Address a) images place ok = address-suits f a (image_at images place) ok
 content-suits f (One n) images place ok = ok
 content-suits f (Soa n m octets) images place ok = ok
@@ -25,7 +26,10 @@ content-suits f (Two n m) images place ok = ok
 content-suits f (Mx p n) images place ok = ok
 content-suits f (Octets octets) images place ok = ok
 
-pub resources-suit : (images : List (Option Addr)) (place : ℕ) (rs : List Resource) → AllByRecursion ResourceSuits rs → AllByRecursion ResourceSuits (resources_renamed images place rs)
+pub resources-suit : (images : List (Option Addr)) (place : ℕ) (rs : List Resource) → AllByRecursion ResourceSuits rs
+    → AllByRecursion ResourceSuits (resources_renamed images place rs)
 resources-suit images place [] ok = tt
-resources-suit images place (r ∷ rs) ok =
-    (content-suits (form_of r.kind r.class) r.content images (place + length (at_most_one (full_reverse r.name))) ok.0, resources-suit images (place + length (resource_addresses r)) rs ok.1)
+resources-suit images place (r ∷ rs) ok = (
+  content-suits (form_of r.kind r.class) r.content images (place + length (at_most_one (full_reverse r.name))) ok.0,
+  resources-suit images (place + length (resource_addresses r)) rs ok.1,
+)

@@ -33,4 +33,5 @@ resources_addresses rs = flat_map resource_addresses rs
 
 -- of a message, in its order
 abbrev pub message_addresses : Message → List ℕ
-message_addresses m = question_addresses m.question ++ resources_addresses m.answers ++ resources_addresses m.authority ++ resources_addresses m.additional
+message_addresses m = question_addresses m.question ++ resources_addresses m.answers ++ resources_addresses m.authority
+    ++ resources_addresses m.additional

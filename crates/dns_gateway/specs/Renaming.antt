@@ -41,7 +41,8 @@ resource_to owner value r = record {
 -- a record whose images stand from a place on, its owner's before its data's
 abbrev pub resource_renamed : List (Option Addr) → ℕ → Resource → Resource
 resource_renamed images place r =
-    resource_to (image_of (full_reverse r.name) images place) (image_of (content_address r.content) images (place + length (at_most_one (full_reverse r.name)))) r
+    resource_to (image_of (full_reverse r.name) images place)
+    (image_of (content_address r.content) images (place + length (at_most_one (full_reverse r.name)))) r
 
 -- records whose images stand from a place on, one after the other
 abbrev pub resources_renamed : List (Option Addr) → ℕ → List Resource → List Resource

@@ -26,13 +26,17 @@ Knows m starts place x = AreKnown m (place + length x.octets) (starts ++ x.start
 
 -- ---- the fields
 
-put-knows : (m : List ℕ) (starts : List Start) (place : ℕ) (octets : List ℕ) → AreKnown m place starts → Knows m starts place (put octets starts place)
+put-knows : (m : List ℕ) (starts : List Start) (place : ℕ) (octets : List ℕ) → AreKnown m place starts
+    → Knows m starts place (put octets starts place)
 put-knows m starts place octets known = rw append-nil (AreKnown-later m place _ starts (omega arith) known)
 
-join-knows : (m : List ℕ) (starts : List Start) (place : ℕ) (x y : Added) → Knows m (starts ++ x.starts) (place + length x.octets) y → Knows m starts place (join x y)
+join-knows : (m : List ℕ) (starts : List Start) (place : ℕ) (x y : Added) → Knows m (starts ++ x.starts) (place + length x.octets) y
+    → Knows m starts place (join x y)
 join-knows m starts place x y known =
-    let place_is : place + length x.octets + length y.octets ≡ place + length (x.octets ++ y.octets) = omega (arith, length-append x.octets y.octets) in
-    subst (λ (k : ℕ). AreKnown m k (starts ++ (x.starts ++ y.starts))) place_is (subst (λ (s : List Start). AreKnown m (place + length x.octets + length y.octets) s) (append_assoc starts x.starts y.starts) known)
+    let place_is : place + length x.octets + length y.octets ≡ place + length (x.octets ++ y.octets) =
+    omega (arith, length-append x.octets y.octets) in
+    subst (λ (k : ℕ). AreKnown m k (starts ++ (x.starts ++ y.starts))) place_is
+    (subst (λ (s : List Start). AreKnown m (place + length x.octets + length y.octets) s) (append_assoc starts x.starts y.starts) known)
 
 pub record IsWide (w limit : ℕ) : Type 0 where
   pub len : (n : ℕ) → length (big_bytes w n) ≡ w
@@ -47,14 +51,16 @@ wide32 = record { len = λ n. refl; again = λ n rest lt. omega arith }
 octets-within : (m : List ℕ) (place : ℕ) (octets : List ℕ) → Holds m place octets → place + length octets ≤ length m
 octets-within m place octets h = omega (arith, ap length h.is, length-drop place m, length-append octets h.rest, h.within)
 
-pub number-again : (w limit : ℕ) → IsWide w limit → (m : List ℕ) (place n : ℕ) → n < limit → Holds m place (big_bytes w n) → number_at w m place ≡ Some (n, place + length (big_bytes w n))
+pub number-again : (w limit : ℕ) → IsWide w limit → (m : List ℕ) (place n : ℕ) → n < limit → Holds m place (big_bytes w n)
+    → number_at w m place ≡ Some (n, place + length (big_bytes w n))
 number-again w limit wide m place n lt h =
     let len = wide.len n in
     let inside = octets-within m place (big_bytes w n) h in
     let test : ltb (length m) (place + w) ≡ false = le-ltb _ _ (omega arith) in
     rw (test, h.is, wide.again n h.rest lt, len) refl
 
-pub octets-again : (m : List ℕ) (place : ℕ) (octets : List ℕ) → Holds m place octets → octets_at m place (length octets) ≡ Some (octets, place + length octets)
+pub octets-again : (m : List ℕ) (place : ℕ) (octets : List ℕ) → Holds m place octets
+    → octets_at m place (length octets) ≡ Some (octets, place + length octets)
 octets-again m place octets h =
     let test : ltb (length m) (place + length octets) ≡ false = le-ltb _ _ (octets-within m place octets h) in
     rw (test, h.is, take_at octets h.rest (length octets) refl) refl
@@ -63,7 +69,8 @@ pub record NameAgain (m : List ℕ) (starts : List Start) (place : ℕ) (ls : Li
   pub reads : name_at m place ≡ Some (ls, place + length (Added.octets (spell starts place ls)))
   pub knows : Knows m starts place (spell starts place ls)
 
-pub name-again : (m : List ℕ) (starts : List Start) (place : ℕ) (ls : List (List ℕ)) → IsName ls → AreKnown m place starts → Holds m place (Added.octets (spell starts place ls)) → NameAgain m starts place ls
+pub name-again : (m : List ℕ) (starts : List Start) (place : ℕ) (ls : List (List ℕ)) → IsName ls → AreKnown m place starts
+    → Holds m place (Added.octets (spell starts place ls)) → NameAgain m starts place ls
 name-again m starts place ls ok known h =
     let back = spell-reads m starts place place ls known (omega arith) ok.labels h in
     record {
@@ -94,7 +101,8 @@ pub record ContentAgain (m : List ℕ) (starts : List Start) (place : ℕ) (x : 
   pub reads : content_by (form_for x) m place (place + length (Added.octets (content_written x starts place))) ≡ Some x
   pub knows : Knows m starts place (content_written x starts place)
 
-content-again : (m : List ℕ) (starts : List Start) (place : ℕ) (x : Content) → ContentFits x → Sized x → AreKnown m place starts → Holds m place (Added.octets (content_written x starts place)) → ContentAgain m starts place x
+content-again : (m : List ℕ) (starts : List Start) (place : ℕ) (x : Content) → ContentFits x → Sized x → AreKnown m place starts
+    → Holds m place (Added.octets (content_written x starts place)) → ContentAgain m starts place x
 unfolding content_by
 content-again m starts place (Address a) fits size known h =
     let n = number-again 4 (2 ^ 32) wide32 m place a.0 fits h in
@@ -119,11 +127,15 @@ content-again m starts place (Soa n k octets) fits size known h =
     let a = name-again m starts place n fits.0 known (Holds-front m place x.octets (y.octets ++ octets) h) in
     let b = name-again m (starts ++ x.starts) (place + length x.octets) k fits.1 a.knows (Holds-front m _ y.octets octets rest) in
     let o = octets-again m (place + length x.octets + length y.octets) octets (Holds-back m _ y.octets octets rest) in
-    let o20 : octets_at m (place + length x.octets + length y.octets) 20 ≡ Some (octets, place + length x.octets + length y.octets + length octets) = subst (λ (c : ℕ). octets_at m (place + length x.octets + length y.octets) c ≡ Some (octets, place + length x.octets + length y.octets + length octets)) size o in
-    let end : place + length x.octets + length y.octets + length octets ≡ place + length (x.octets ++ (y.octets ++ octets)) = omega (arith, length-append x.octets (y.octets ++ octets), length-append y.octets octets) in
+    let o20 : octets_at m (place + length x.octets + length y.octets) 20 ≡ Some (octets, place + length x.octets + length y.octets + length octets) =
+    subst (λ (c : ℕ). octets_at m (place + length x.octets + length y.octets) c
+    ≡ Some (octets, place + length x.octets + length y.octets + length octets)) size o in
+    let end : place + length x.octets + length y.octets + length octets ≡ place + length (x.octets ++ (y.octets ++ octets)) =
+    omega (arith, length-append x.octets (y.octets ++ octets), length-append y.octets octets) in
     record {
       reads = rw (a.reads, b.reads, o20, ends _ _ (Soa n k octets) end) refl;
-      knows = join-knows m starts place x (join y (put octets [] 0)) (join-knows m (starts ++ x.starts) (place + length x.octets) y (put octets [] 0) (put-knows m _ _ octets b.knows));
+      knows = join-knows m starts place x (join y (put octets [] 0))
+          (join-knows m (starts ++ x.starts) (place + length x.octets) y (put octets [] 0) (put-knows m _ _ octets b.knows));
     }
 content-again m starts place (Mx p n) fits size known h =
     let x = big_bytes 2 p in
@@ -154,7 +166,8 @@ form-by f g count e le =
     let some : eqb count 0 ≡ false = grind arith in
     rw some e
 
-form-is : (k c : ℕ) (starts : List Start) (place : ℕ) (x : Content) → Suits (form_of k c) x → form_at k c (length (Added.octets (content_written x starts place))) ≡ form_for x
+form-is : (k c : ℕ) (starts : List Start) (place : ℕ) (x : Content) → Suits (form_of k c) x
+    → form_at k c (length (Added.octets (content_written x starts place))) ≡ form_for x
 form-is k c starts place (Address a) ok = form-by (form_of k c) form.Address 4 ok (omega arith)
 form-is k c starts place (One n) ok = form-by (form_of k c) form.One _ ok (spell-some starts place n)
 form-is k c starts place (Two n m) ok =
@@ -165,7 +178,8 @@ form-is k c starts place (Soa n m octets) ok =
     let x = spell starts place n in
     let y = spell (starts ++ x.starts) (place + length x.octets) m in
     form-by (form_of k c) form.Soa _ ok.0 (omega (arith, spell-some starts place n, length-append x.octets (y.octets ++ octets)))
-form-is k c starts place (Mx p n) ok = form-by (form_of k c) form.Mx _ ok (omega (arith, length-append (big_bytes 2 p) (Added.octets (spell (starts ++ []) (place + 2) n))))
+form-is k c starts place (Mx p n) ok = form-by (form_of k c) form.Mx _ ok
+    (omega (arith, length-append (big_bytes 2 p) (Added.octets (spell (starts ++ []) (place + 2) n))))
 form-is k c starts place (Octets octets) (inl e) = rw e refl
 form-is k c starts place (Octets octets) (inr e) =
     elim (cases_Bool (length octets == 0)) [
@@ -186,7 +200,9 @@ pub record ResourceAgain (m : List ℕ) (starts : List Start) (place : ℕ) (e :
   pub knows : Knows m starts place (resource_written e starts place)
 
 -- The data of the record has less than 65,536 octets where the record has.
-pub resource-again : (m : List ℕ) (starts : List Start) (place : ℕ) (e : Resource) → ResourceFits e → ResourceSuits e → length (Added.octets (resource_written e starts place)) < 2 ^ 16 → AreKnown m place starts → Holds m place (Added.octets (resource_written e starts place)) → ResourceAgain m starts place e
+pub resource-again : (m : List ℕ) (starts : List Start) (place : ℕ) (e : Resource) → ResourceFits e → ResourceSuits e
+    → length (Added.octets (resource_written e starts place)) < 2 ^ 16 → AreKnown m place starts
+    → Holds m place (Added.octets (resource_written e starts place)) → ResourceAgain m starts place e
 unfolding resource_at
 resource-again m starts place e ok suits short known h =
     let x0 = spell starts place e.name in
@@ -208,7 +224,15 @@ resource-again m starts place e ok suits short known h =
     let x3 = join (put o3 s3 p3) x4 in
     let x2 = join (put o2 s2 p2) x3 in
     let x1 = join (put o1 s1 p1) x2 in
-    let lengths : length (Added.octets (resource_written e starts place)) ≡ length x0.octets + (2 + (2 + (4 + (2 + n)))) = omega (arith, length-append x0.octets x1.octets, length-append o1 x2.octets, length-append o2 x3.octets, length-append o3 x4.octets, length-append o4 inner.octets) in
+    let lengths : length (Added.octets (resource_written e starts place)) ≡ length x0.octets + (2 + (2 + (4 + (2 + n)))) =
+    omega (
+      arith,
+      length-append x0.octets x1.octets,
+      length-append o1 x2.octets,
+      length-append o2 x3.octets,
+      length-append o3 x4.octets,
+      length-append o4 inner.octets,
+    ) in
     let h1 = Holds-back m place x0.octets x1.octets h in
     let h2 = Holds-back m p1 o1 x2.octets h1 in
     let h3 = Holds-back m p2 o2 x3.octets h2 in
@@ -231,14 +255,17 @@ resource-again m starts place e ok suits short known h =
     let k6 : Knows m s4 p4 x4 = subst (λ (k : ℕ). AreKnown m k (s4 ++ inner.starts)) after content.knows in
     record {
       reads = rw (a.reads, kind, class, lifetime, count, data_at, form_there, content.reads, end) refl;
-      knows = join-knows m starts place x0 x1 (join-knows m s1 p1 (put o1 s1 p1) x2 (join-knows m s2 p2 (put o2 s2 p2) x3 (join-knows m s3 p3 (put o3 s3 p3) x4 k6)));
+      knows = join-knows m starts place x0 x1
+          (join-knows m s1 p1 (put o1 s1 p1) x2 (join-knows m s2 p2 (put o2 s2 p2) x3 (join-knows m s3 p3 (put o3 s3 p3) x4 k6)));
     }
 
 pub record ResourcesAgain (m : List ℕ) (starts : List Start) (place : ℕ) (es : List Resource) : Type 0 where
   pub reads : resources_at (length es) m place ≡ Some (es, place + length (Added.octets (resources_written es starts place)))
   pub knows : Knows m starts place (resources_written es starts place)
 
-pub resources-again : (m : List ℕ) (starts : List Start) (place : ℕ) (es : List Resource) → AllByRecursion ResourceFits es → AllByRecursion ResourceSuits es → length (Added.octets (resources_written es starts place)) < 2 ^ 16 → AreKnown m place starts → Holds m place (Added.octets (resources_written es starts place)) → ResourcesAgain m starts place es
+pub resources-again : (m : List ℕ) (starts : List Start) (place : ℕ) (es : List Resource) → AllByRecursion ResourceFits es
+    → AllByRecursion ResourceSuits es → length (Added.octets (resources_written es starts place)) < 2 ^ 16 → AreKnown m place starts
+    → Holds m place (Added.octets (resources_written es starts place)) → ResourcesAgain m starts place es
 unfolding resources_at
 resources-again m starts place [] ok suits short known h = record { reads = rw add-zero refl; knows = put-knows m starts place [] known }
 resources-again m starts place (e ∷ es) ok suits short known h =
@@ -246,7 +273,8 @@ resources-again m starts place (e ∷ es) ok suits short known h =
     let y = resources_written es (starts ++ x.starts) (place + length x.octets) in
     let len = length-append x.octets y.octets in
     let a = resource-again m starts place e ok.0 suits.0 (omega arith) known (Holds-front m place x.octets y.octets h) in
-    let b = resources-again m (starts ++ x.starts) (place + length x.octets) es ok.1 suits.1 (omega arith) a.knows (Holds-back m place x.octets y.octets h) in
+    let b = resources-again m (starts ++ x.starts) (place + length x.octets) es ok.1 suits.1 (omega arith) a.knows
+    (Holds-back m place x.octets y.octets h) in
     let end : place + length x.octets + length y.octets ≡ place + length (x.octets ++ y.octets) = omega arith in
     record { reads = rw (a.reads, b.reads, end) refl; knows = join-knows m starts place x y b.knows }
 
@@ -256,7 +284,8 @@ pub record QuestionsAgain (m : List ℕ) (starts : List Start) (place : ℕ) (q 
   pub reads : questions_at (question_count q) m place ≡ Some (q, place + length (Added.octets (questions_written q starts place)))
   pub knows : Knows m starts place (questions_written q starts place)
 
-questions-again : (m : List ℕ) (starts : List Start) (place : ℕ) (q : Option Question) → IfSome q QuestionFits → AreKnown m place starts → Holds m place (Added.octets (questions_written q starts place)) → QuestionsAgain m starts place q
+questions-again : (m : List ℕ) (starts : List Start) (place : ℕ) (q : Option Question) → IfSome q QuestionFits → AreKnown m place starts
+    → Holds m place (Added.octets (questions_written q starts place)) → QuestionsAgain m starts place q
 unfolding questions_at question_at
 questions-again m starts place None ok known h = record { reads = rw add-zero refl; knows = put-knows m starts place [] known }
 questions-again m starts place (Some q) ok known h =
@@ -282,7 +311,8 @@ questions-again m starts place (Some q) ok known h =
       knows = join-knows m starts place x0 x1 (join-knows m s1 p1 (put o1 s1 p1) x2 k3);
     }
 
-whole-again : (m : List ℕ) (w : Message) → MessageFits w → MessageSuits w → length (Added.octets (message_written w [] 0)) < 2 ^ 16 → length m ≡ length (Added.octets (message_written w [] 0)) → Holds m 0 (Added.octets (message_written w [] 0)) → message_at m ≡ Some w
+whole-again : (m : List ℕ) (w : Message) → MessageFits w → MessageSuits w → length (Added.octets (message_written w [] 0)) < 2 ^ 16
+    → length m ≡ length (Added.octets (message_written w [] 0)) → Holds m 0 (Added.octets (message_written w [] 0)) → message_at m ≡ Some w
 unfolding message_at
 whole-again m w ok suits short same h =
     let o0 = big_bytes 2 w.id in
@@ -347,4 +377,5 @@ whole-again m w ok suits short same h =
 -- What was written reads back as the message.
 pub message-again : (w : Message) → MessageFits w → MessageSuits w → length (spelling w) < 2 ^ 16 → message_at (spelling w) ≡ Some w
 unfolding spelling
-message-again w ok suits short = whole-again (Added.octets (message_written w [] 0)) w ok suits short refl (record { rest = []; is = sym (append-nil (Added.octets (message_written w [] 0))); within = omega arith })
+message-again w ok suits short = whole-again (Added.octets (message_written w [] 0)) w ok suits short refl
+    (record { rest = []; is = sym (append-nil (Added.octets (message_written w [] 0))); within = omega arith })

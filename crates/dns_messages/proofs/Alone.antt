@@ -13,7 +13,8 @@ spell-first : (place : ℕ) (ls : List (List ℕ)) → Added.octets (spell [] pl
 unfolding spell
 spell-first place [] = refl
 spell-first place (l ∷ ls) =
-    ap (λ (o : List ℕ). length l ∷ (l ++ o)) (spell-first (place + 1 + length l) ls) ∙ ap (λ (o : List ℕ). length l ∷ o) (sym (append_assoc l (spelled ls) (0 ∷ [])))
+    ap (λ (o : List ℕ). length l ∷ (l ++ o)) (spell-first (place + 1 + length l) ls)
+    ∙ ap (λ (o : List ℕ). length l ∷ o) (sym (append_assoc l (spelled ls) (0 ∷ [])))
 
 -- the header, with so many questions and no records
 abbrev header : Message → ℕ → List ℕ
@@ -23,12 +24,14 @@ pub spelling-none : (m : Message) → HasNoRecords m → m.question ≡ None →
 unfolding spelling
 spelling-none m bare e = rw (e, bare.0, bare.1, bare.2) refl
 
-pub spelling-some : (m : Message) (q : Question) → HasNoRecords m → m.question ≡ Some q → spelling m ≡ (header m 1 ++ spelled q.name) ++ 0 ∷ (big_bytes 2 q.kind ++ big_bytes 2 q.class)
+pub spelling-some : (m : Message) (q : Question) → HasNoRecords m → m.question ≡ Some q → spelling m ≡ (header m 1 ++ spelled q.name) ++ 0
+    ∷ (big_bytes 2 q.kind ++ big_bytes 2 q.class)
 unfolding spelling
 spelling-some m q bare e =
     let words = big_bytes 2 q.kind ++ big_bytes 2 q.class in
     let name = Added.octets (spell [] 12 q.name) in
-    let whole : name ++ words ≡ spelled q.name ++ 0 ∷ words = ap (λ (o : List ℕ). o ++ words) (spell-first 12 q.name) ∙ append_assoc (spelled q.name) (0 ∷ []) words in
+    let whole : name ++ words ≡ spelled q.name ++ 0 ∷ words = ap (λ (o : List ℕ). o ++ words) (spell-first 12 q.name)
+    ∙ append_assoc (spelled q.name) (0 ∷ []) words in
     rw (e, bare.0, bare.1, bare.2) (ap (λ (o : List ℕ). header m 1 ++ o) (append-nil (name ++ words) ∙ whole))
 
 pub bare-fits : (m : Message) → HasNoRecords m → m.id < 2 ^ 16 → m.flags < 2 ^ 16 → IfSome m.question QuestionFits → MessageFits m

@@ -26,10 +26,12 @@ octets-long m place count octets a =
     let there : count ≤ length (drop place m) = omega (arith, length-drop place m, a.within) in
     ap length a.are ∙ length-take-le count (drop place m) there
 
-content-suits : (m : List ℕ) (kind class count place : ℕ) (x : Content) → ContentAt m (form_at kind class count) place (place + count) x → Suits (form_of kind class) x
+content-suits : (m : List ℕ) (kind class count place : ℕ) (x : Content) → ContentAt m (form_at kind class count) place (place + count) x
+    → Suits (form_of kind class) x
 content-suits m kind class count place (Address a) r = not_octets count (form_of kind class) form.Address r.0 (λ e. cc)
 content-suits m kind class count place (One n) r = not_octets count (form_of kind class) form.One r.0 (λ e. cc)
-content-suits m kind class count place (Soa n k octets) r = (not_octets count (form_of kind class) form.Soa r.0 (λ e. cc), octets-long m r.1.1 20 octets r.1.4)
+content-suits m kind class count place (Soa n k octets) r =
+    (not_octets count (form_of kind class) form.Soa r.0 (λ e. cc), octets-long m r.1.1 20 octets r.1.4)
 content-suits m kind class count place (Two n k) r = not_octets count (form_of kind class) form.Two r.0 (λ e. cc)
 content-suits m kind class count place (Mx p n) r = not_octets count (form_of kind class) form.Mx r.0 (λ e. cc)
 content-suits m kind class count place (Octets octets) r =
@@ -42,7 +44,8 @@ content-suits m kind class count place (Octets octets) r =
 
 resources-suit : (m : List ℕ) (place : ℕ) (rs : List Resource) (after : ℕ) → ResourcesAt m place rs after → AllByRecursion ResourceSuits rs
 resources-suit m place [] after at = tt
-resources-suit m place (r ∷ rs) after at = (content-suits m r.kind r.class at.1.count (at.1.fields + 10) r.content at.1.content, resources-suit m at.0 rs after at.2)
+resources-suit m place (r ∷ rs) after at =
+    (content-suits m r.kind r.class at.1.count (at.1.fields + 10) r.content at.1.content, resources-suit m at.0 rs after at.2)
 
 message-suits : (o : List ℕ) (m : Message) → IsMessage o m → MessageSuits m
 message-suits o m is = record {

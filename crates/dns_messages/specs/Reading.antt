@@ -79,7 +79,8 @@ question_at message place = do
 
 -- so many questions: at most one
 unfoldable pub questions_at : ℕ → List ℕ → ℕ → Option (Option Question × ℕ)
-questions_at count message place = if count == 0 then Some (None, place) else if count == 1 then (question_at message place >>= λ q. Some (Some q.0, q.1)) else None
+questions_at count message place = if count == 0 then Some (None, place) else if count ==
+    1 then (question_at message place >>= λ q. Some (Some q.0, q.1)) else None
 
 -- the message that octets are, with nothing behind it
 unfoldable pub message_at : List ℕ → Option Message
@@ -94,4 +95,12 @@ message_at message = do
   answers ← resources_at answered.0 message question.1
   authority ← resources_at backed.0 message answers.1
   additional ← resources_at added.0 message authority.1
-  if additional.1 == length message then Some (record { id = id.0; flags = flags.0; question = question.0; answers = answers.0; authority = authority.0; additional = additional.0 }) else None
+  if additional.1 == length message then Some
+      (record {
+        id = id.0;
+        flags = flags.0;
+        question = question.0;
+        answers = answers.0;
+        authority = authority.0;
+        additional = additional.0;
+      }) else None

@@ -25,7 +25,8 @@ pub record NumberAt (count : ℕ) (m : List ℕ) (place n : ℕ) : Type 0 where
 abbrev pub ContentAt : List ℕ → Form → ℕ → ℕ → Content → Type 0
 ContentAt m f place end (Address a) = (f ≡ form.Address) × NumberAt 4 m place a.0 × (end ≡ place + 4)
 ContentAt m f place end (One n) = (f ≡ form.One) × NameAt m place n end
-ContentAt m f place end (Soa n k octets) = (f ≡ form.Soa) × ((p : ℕ) × (q : ℕ) × NameAt m place n p × NameAt m p k q × OctetsAt m q 20 octets × (end ≡ q + 20))
+ContentAt m f place end (Soa n k octets) = (f ≡ form.Soa)
+    × ((p : ℕ) × (q : ℕ) × NameAt m place n p × NameAt m p k q × OctetsAt m q 20 octets × (end ≡ q + 20))
 ContentAt m f place end (Two n k) = (f ≡ form.Two) × ((p : ℕ) × NameAt m place n p × NameAt m p k end)
 ContentAt m f place end (Mx preference n) = (f ≡ form.Mx) × NumberAt 2 m place preference × NameAt m (place + 2) n end
 ContentAt m f place end (Octets octets) = (f ≡ form.Octets) × ((count : ℕ) × OctetsAt m place count octets × (end ≡ place + count))

@@ -52,7 +52,8 @@ head_written r = name r.name ⨟ put (big_bytes 2 r.kind) ⨟ put (big_bytes 2 r
 
 -- a record
 abbrev pub resource_written : Resource → Writer
-resource_written r = name r.name ⨟ put (big_bytes 2 r.kind) ⨟ put (big_bytes 2 r.class) ⨟ put (big_bytes 4 r.lifetime) ⨟ sized (content_written r.content)
+resource_written r = name r.name ⨟ put (big_bytes 2 r.kind) ⨟ put (big_bytes 2 r.class) ⨟ put (big_bytes 4 r.lifetime) ⨟ sized
+    (content_written r.content)
 
 -- records
 abbrev pub resources_written : List Resource → Writer
@@ -71,11 +72,13 @@ question_count (Some q) = 1
 
 -- the header
 abbrev pub header_written : Message → Writer
-header_written m = put (big_bytes 2 m.id) ⨟ put (big_bytes 2 m.flags) ⨟ put (big_bytes 2 (question_count m.question)) ⨟ put (big_bytes 2 (length m.answers)) ⨟ put (big_bytes 2 (length m.authority)) ⨟ put (big_bytes 2 (length m.additional))
+header_written m = put (big_bytes 2 m.id) ⨟ put (big_bytes 2 m.flags) ⨟ put (big_bytes 2 (question_count m.question)) ⨟ put
+    (big_bytes 2 (length m.answers)) ⨟ put (big_bytes 2 (length m.authority)) ⨟ put (big_bytes 2 (length m.additional))
 
 -- the whole message
 abbrev pub message_written : Message → Writer
-message_written m = header_written m ⨟ questions_written m.question ⨟ resources_written m.answers ⨟ resources_written m.authority ⨟ resources_written m.additional
+message_written m = header_written m ⨟ questions_written m.question ⨟ resources_written m.answers ⨟ resources_written m.authority ⨟ resources_written
+    m.additional
 
 -- the octets of a message
 unfoldable pub spelling : Message → List ℕ

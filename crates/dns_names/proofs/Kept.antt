@@ -32,7 +32,8 @@ apart bs cs ks n y =
 apart_in_order : (bs cs ks : List ℕ) → bytes_eq bs cs ≡ false → is_eq (slice_cmp nat_cmp bs ks) ≡ true → is_eq (slice_cmp nat_cmp cs ks) ≡ false
 apart_in_order bs cs ks n y = is_eq-slice_cmp cs ks ∙ apart bs cs ks n (sym (is_eq-slice_cmp bs ks) ∙ y)
 
-others : {K X : Type 0} (eq : K → K → Bool) (test : K → Bool) (old new : List (K × X)) → KeepsOthers eq test old new → (other : K → Bool) → IsKeyTest eq other → AreApart test other → lookup other new ≡ lookup other old
+others : {K X : Type 0} (eq : K → K → Bool) (test : K → Bool) (old new : List (K × X)) → KeepsOthers eq test old new → (other : K → Bool)
+    → IsKeyTest eq other → AreApart test other → lookup other new ≡ lookup other old
 unfolding KeepsOthers
 others eq test old new h = h
 
@@ -99,7 +100,8 @@ starts_in-insert (e ∷ es) s place absent all =
 
 -- ---- one start more
 
-pub found-push : (starts : List Start) (s : Start) (octets : List ℕ) → found starts s.octets ≡ None → found (starts ++ s ∷ []) octets ≡ cond (bytes_eq s.octets octets) (Some s.place) (found starts octets)
+pub found-push : (starts : List Start) (s : Start) (octets : List ℕ) → found starts s.octets ≡ None
+    → found (starts ++ s ∷ []) octets ≡ cond (bytes_eq s.octets octets) (Some s.place) (found starts octets)
 found-push [] s octets absent = refl
 found-push (t ∷ ts) s octets absent =
     elim (cases_Bool (bytes_eq t.octets s.octets)) [
@@ -116,7 +118,8 @@ found-push (t ∷ ts) s octets absent =
     ]
 
 -- with_start adds what comes next, if it is near
-pub found-with_start : (starts : List Start) (place : ℕ) (here octets : List ℕ) → found starts here ≡ None → bytes_eq here octets ≡ false → found (starts ++ with_start place here []) octets ≡ found starts octets
+pub found-with_start : (starts : List Start) (place : ℕ) (here octets : List ℕ) → found starts here ≡ None → bytes_eq here octets ≡ false
+    → found (starts ++ with_start place here []) octets ≡ found starts octets
 found-with_start starts place here octets absent off =
     elim (cases_Bool (nat_lt place 16384)) [
       | inl y ↦ rw y (found-push starts (record { place = place; octets = here }) octets absent ∙ rw off refl)

@@ -102,21 +102,24 @@ ends-after starts (x ∷ xs) (Some place) e = e.1
 
 -- ---- a name is gone through, label by label
 
-pub longest-step : (starts : List Start) (name : List ℕ) (count : ℕ) (place : Option ℕ) → IsLongest starts name (suc count) place → IsLongest starts (behind name) count place
+pub longest-step : (starts : List Start) (name : List ℕ) (count : ℕ) (place : Option ℕ) → IsLongest starts name (suc count) place
+    → IsLongest starts (behind name) count place
 longest-step starts name count place is = record {
   new = λ n lt. is.new (suc n) (omega (arith, lt));
   some = λ n lt e. is.some (suc n) (omega (arith, lt)) e;
   ends = is.ends;
 }
 
-pub longest-new : (starts : List Start) (name : List ℕ) (count : ℕ) (place : Option ℕ) → IsLongest starts name count place → 1 ≤ count → 1 ≤ length name → found starts name ≡ None
+pub longest-new : (starts : List Start) (name : List ℕ) (count : ℕ) (place : Option ℕ) → IsLongest starts name count place → 1 ≤ count
+    → 1 ≤ length name → found starts name ≡ None
 longest-new starts name count place is some long =
     elim (is.new 0 some) [
       | inl e ↦ absurd (omega (arith, long, ap length e))
       | inr none ↦ none
     ]
 
-pub longest-ends : (starts : List Start) (name : List ℕ) (count : ℕ) (place : Option ℕ) → IsLongest starts name count place → (count < 1) ⊎ (length name < 1) → EndsAt starts name place
+pub longest-ends : (starts : List Start) (name : List ℕ) (count : ℕ) (place : Option ℕ) → IsLongest starts name count place → (count < 1)
+    ⊎ (length name < 1) → EndsAt starts name place
 longest-ends starts name zero place is way = is.ends
 longest-ends starts [] (suc count) place is way = subst (λ (o : Option ℕ). EndsAt starts [] o) (sym (is.some 0 (omega arith) refl)) refl
 longest-ends starts (x ∷ name) (suc count) place is (inl lt) = absurd (omega (arith, lt))
@@ -148,7 +151,8 @@ ends-more : (starts more : List Start) (octets : List ℕ) → Ends starts octet
 ends-more starts more octets (inl e) = inl e
 ends-more starts more octets (inr kept) = inr (kept-more starts more octets kept)
 
-kept-push : (starts : List Start) (s : Start) (octets : List ℕ) → found starts s.octets ≡ None → IsKept (starts ++ s ∷ []) octets → (octets ≡ s.octets) ⊎ IsKept starts octets
+kept-push : (starts : List Start) (s : Start) (octets : List ℕ) → found starts s.octets ≡ None → IsKept (starts ++ s ∷ []) octets
+    → (octets ≡ s.octets) ⊎ IsKept starts octets
 kept-push starts s octets absent kept =
     elim (chosen (bytes_eq s.octets octets) (Some s.place) (found starts octets) (Some kept.0) (sym (found-push starts s octets absent) ∙ kept.1)) [
       | inl t ↦ inl (sym ((bytes_eq-Decides s.octets octets).0 t.0))
@@ -178,7 +182,8 @@ closing-first starts edge left limit is = record {
   near = is.near;
 }
 
-pub closing-ends : (starts : List Start) (edge left : List ℕ) (limit later : ℕ) → Closing starts edge left limit → Ends starts left → limit ≤ later → IsClosed starts edge later
+pub closing-ends : (starts : List Start) (edge left : List ℕ) (limit later : ℕ) → Closing starts edge left limit → Ends starts left → limit ≤ later
+    → IsClosed starts edge later
 closing-ends starts edge left limit later is end le = record {
   closed = λ o kept.
       elim (is.closed o kept) [
@@ -194,7 +199,8 @@ closing-ends starts edge left limit later is end le = record {
 }
 
 -- a label start that can be pointed to, where the name goes on before or behind the last such place
-closing-near : (starts : List Start) (edge left later : List ℕ) (limit end : ℕ) → Closing starts edge left limit → found starts left ≡ None → limit < 16384 → ((later ≡ edge) × (end < 16384)) ⊎ ((later ≡ left) × (16384 ≤ end))
+closing-near : (starts : List Start) (edge left later : List ℕ) (limit end : ℕ) → Closing starts edge left limit → found starts left ≡ None
+    → limit < 16384 → ((later ≡ edge) × (end < 16384)) ⊎ ((later ≡ left) × (16384 ≤ end))
     → Closing (starts ++ record { place = limit; octets = left } ∷ []) later (behind left) end
 closing-near starts edge left later limit end is absent near way =
     let s : Start = record { place = limit; octets = left } in
@@ -229,7 +235,8 @@ closing-near starts edge left later limit end is absent near way =
           ];
     }
 
-pub closing-step : (starts : List Start) (edge left : List ℕ) (limit end : ℕ) → Closing starts edge left limit → found starts left ≡ None → limit < end → Closing (starts ++ with_start limit left []) (edge_by edge left limit end) (behind left) end
+pub closing-step : (starts : List Start) (edge left : List ℕ) (limit end : ℕ) → Closing starts edge left limit → found starts left ≡ None
+    → limit < end → Closing (starts ++ with_start limit left []) (edge_by edge left limit end) (behind left) end
 closing-step starts edge left limit end is absent lt =
     elim (cases_Bool (nat_lt limit 16384)) [
       | inl t ↦
@@ -255,7 +262,9 @@ closing-step starts edge left limit end is absent lt =
     ]
 
 -- the same, where what was written is known by equations
-pub closing-put : (starts new : List Start) (edge later left rest : List ℕ) (limit place end length_now : ℕ) → Closing starts edge left limit → found starts left ≡ None → place ≡ limit → limit < end → end ≡ length_now → new ≡ starts ++ with_start place left [] → later ≡ edge_by edge left place end → rest ≡ behind left → Closing new later rest length_now
+pub closing-put : (starts new : List Start) (edge later left rest : List ℕ) (limit place end length_now : ℕ) → Closing starts edge left limit
+    → found starts left ≡ None → place ≡ limit → limit < end → end ≡ length_now → new ≡ starts ++ with_start place left []
+    → later ≡ edge_by edge left place end → rest ≡ behind left → Closing new later rest length_now
 closing-put starts new edge later left rest limit place end length_now is absent at lt len starts_are edge_is rest_is =
     rw (starts_are, edge_is, rest_is, at, ← len) (closing-step starts edge left limit end is absent lt)
 

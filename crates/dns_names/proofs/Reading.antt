@@ -7,19 +7,22 @@ pub record GoesOn (m : List ℕ) (start next : ℕ) (l : List ℕ) (ls : List (L
   pub is : ls ≡ l ∷ rest
   pub stands : Stands m start next rest after
 
-pub at_root : (m : List ℕ) (start place : ℕ) (ls : List (List ℕ)) (after : ℕ) → Stands m start place ls after → piece_at m place ≡ Root → (ls ≡ []) × (after ≡ place + 1)
+pub at_root : (m : List ℕ) (start place : ℕ) (ls : List (List ℕ)) (after : ℕ) → Stands m start place ls after → piece_at m place ≡ Root → (ls ≡ [])
+    × (after ≡ place + 1)
 at_root m _ _ _ _ (AtRoot start place e) p = (refl, refl)
 at_root m _ _ _ _ (AtLabel start place l ls after e s) p = absurd cc
 at_root m _ _ _ _ (AtPointer start place to ls after e lt s) p = absurd cc
 
-pub at_label : (m : List ℕ) (start place : ℕ) (ls : List (List ℕ)) (after : ℕ) (l : List ℕ) → Stands m start place ls after → piece_at m place ≡ Label l → GoesOn m start (place + 1 + length l) l ls after
+pub at_label : (m : List ℕ) (start place : ℕ) (ls : List (List ℕ)) (after : ℕ) (l : List ℕ) → Stands m start place ls after
+    → piece_at m place ≡ Label l → GoesOn m start (place + 1 + length l) l ls after
 at_label m _ _ _ _ k (AtRoot start place e) p = absurd cc
 at_label m _ _ _ _ k (AtLabel start place l ls after e s) p =
     let q : l ≡ k = cc in
     record { rest = ls; is = ap (λ (x : List ℕ). x ∷ ls) q; stands = subst (λ (x : List ℕ). Stands m start (place + 1 + length x) ls after) q s }
 at_label m _ _ _ _ k (AtPointer start place to ls after e lt s) p = absurd cc
 
-pub at_pointer : (m : List ℕ) (start place : ℕ) (ls : List (List ℕ)) (after to : ℕ) → Stands m start place ls after → piece_at m place ≡ Pointer to → (to < start) × (after ≡ place + 2) × ((b : ℕ) × Stands m to to ls b)
+pub at_pointer : (m : List ℕ) (start place : ℕ) (ls : List (List ℕ)) (after to : ℕ) → Stands m start place ls after → piece_at m place ≡ Pointer to
+    → (to < start) × (after ≡ place + 2) × ((b : ℕ) × Stands m to to ls b)
 at_pointer m _ _ _ _ k (AtRoot start place e) p = absurd cc
 at_pointer m _ _ _ _ k (AtLabel start place l ls after e s) p = absurd cc
 at_pointer m _ _ _ _ k (AtPointer start place to ls after e lt s) p =
@@ -32,7 +35,8 @@ at_nothing m _ _ _ _ (AtLabel start place l ls after e s) p = absurd cc
 at_nothing m _ _ _ _ (AtPointer start place to ls after e lt s) p = absurd cc
 
 -- The labels and the place after them are determined.
-pub same_name : (m : List ℕ) (start place : ℕ) (ls ks : List (List ℕ)) (after past : ℕ) → Stands m start place ls after → Stands m start place ks past → (ls ≡ ks) × (after ≡ past)
+pub same_name : (m : List ℕ) (start place : ℕ) (ls ks : List (List ℕ)) (after past : ℕ) → Stands m start place ls after → Stands m start place ks past
+    → (ls ≡ ks) × (after ≡ past)
 same_name m _ _ _ ks _ past (AtRoot start place e) t =
     let r = at_root m start place ks past t e in (sym r.0, sym r.1)
 same_name m _ _ _ ks _ past (AtLabel start place l ls after e s) t =

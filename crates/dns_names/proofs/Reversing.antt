@@ -23,7 +23,8 @@ behind-spelled : (l : List ℕ) (ls : List (List ℕ)) → behind (spelled (l �
 behind-spelled l ls = drop_at l (spelled ls) (length l) refl
 
 -- nothing may stand behind the sixth label
-at_end : (d c b a z t : List ℕ) (more : List (List ℕ)) → cond (length (spelled more) == 0) (full_reverse (d ∷ c ∷ b ∷ a ∷ z ∷ t ∷ [])) None ≡ full_reverse (d ∷ c ∷ b ∷ a ∷ z ∷ t ∷ more)
+at_end : (d c b a z t : List ℕ) (more : List (List ℕ)) → cond (length (spelled more) == 0) (full_reverse (d ∷ c ∷ b ∷ a ∷ z ∷ t ∷ [])) None
+    ≡ full_reverse (d ∷ c ∷ b ∷ a ∷ z ∷ t ∷ more)
 unfolding full_reverse
 at_end d c b a z t [] = refl
 at_end d c b a z t (x ∷ xs) = let more : (length (spelled (x ∷ xs)) == 0) ≡ false = grind arith in rw more refl
@@ -34,10 +35,25 @@ reverse_in-spelled [] = refl
 reverse_in-spelled (d ∷ []) = rw (label_in-spelled d []) refl
 reverse_in-spelled (d ∷ c ∷ []) = rw (label_in-spelled d (c ∷ []), label_in-spelled c []) refl
 reverse_in-spelled (d ∷ c ∷ b ∷ []) = rw (label_in-spelled d (c ∷ b ∷ []), label_in-spelled c (b ∷ []), label_in-spelled b []) refl
-reverse_in-spelled (d ∷ c ∷ b ∷ a ∷ []) = rw (label_in-spelled d (c ∷ b ∷ a ∷ []), label_in-spelled c (b ∷ a ∷ []), label_in-spelled b (a ∷ []), label_in-spelled a []) refl
-reverse_in-spelled (d ∷ c ∷ b ∷ a ∷ z ∷ []) = rw (label_in-spelled d (c ∷ b ∷ a ∷ z ∷ []), label_in-spelled c (b ∷ a ∷ z ∷ []), label_in-spelled b (a ∷ z ∷ []), label_in-spelled a (z ∷ []), label_in-spelled z []) refl
+reverse_in-spelled (d ∷ c ∷ b ∷ a ∷ []) =
+    rw (label_in-spelled d (c ∷ b ∷ a ∷ []), label_in-spelled c (b ∷ a ∷ []), label_in-spelled b (a ∷ []), label_in-spelled a []) refl
+reverse_in-spelled (d ∷ c ∷ b ∷ a ∷ z ∷ []) =
+    rw (
+      label_in-spelled d (c ∷ b ∷ a ∷ z ∷ []),
+      label_in-spelled c (b ∷ a ∷ z ∷ []),
+      label_in-spelled b (a ∷ z ∷ []),
+      label_in-spelled a (z ∷ []),
+      label_in-spelled z [],
+    ) refl
 reverse_in-spelled (d ∷ c ∷ b ∷ a ∷ z ∷ t ∷ more) =
-    rw (label_in-spelled d (c ∷ b ∷ a ∷ z ∷ t ∷ more), label_in-spelled c (b ∷ a ∷ z ∷ t ∷ more), label_in-spelled b (a ∷ z ∷ t ∷ more), label_in-spelled a (z ∷ t ∷ more), label_in-spelled z (t ∷ more), label_in-spelled t more) (at_end d c b a z t more)
+    rw (
+      label_in-spelled d (c ∷ b ∷ a ∷ z ∷ t ∷ more),
+      label_in-spelled c (b ∷ a ∷ z ∷ t ∷ more),
+      label_in-spelled b (a ∷ z ∷ t ∷ more),
+      label_in-spelled a (z ∷ t ∷ more),
+      label_in-spelled z (t ∷ more),
+      label_in-spelled t more,
+    ) (at_end d c b a z t more)
 
 -- ---- the parts of a full reverse name
 
@@ -68,19 +84,29 @@ parts (d ∷ c ∷ b ∷ a ∷ []) x e = absurd cc
 parts (d ∷ c ∷ b ∷ a ∷ z ∷ []) x e = absurd cc
 parts (d ∷ c ∷ b ∷ a ∷ z ∷ t ∷ k ∷ ks) x e = absurd cc
 parts (d ∷ c ∷ b ∷ a ∷ z ∷ t ∷ []) x e =
-    let p = bind_some (number_of d) (λ d. number_of c >>= (λ c. number_of b >>= (λ b. number_of a >>= (λ a. cond (is_zone z t) (Some (((a * 256 + b) * 256 + c) * 256 + d)) None)))) x e in
-    let q = bind_some (number_of c) (λ c. number_of b >>= (λ b. number_of a >>= (λ a. cond (is_zone z t) (Some (((a * 256 + b) * 256 + c) * 256 + p.0)) None))) x p.2 in
+    let p = bind_some (number_of d)
+    (λ d. number_of c >>= (λ c. number_of b >>=
+    (λ b. number_of a >>= (λ a. cond (is_zone z t) (Some (((a * 256 + b) * 256 + c) * 256 + d)) None)))) x e in
+    let q = bind_some (number_of c)
+    (λ c. number_of b >>= (λ b. number_of a >>= (λ a. cond (is_zone z t) (Some (((a * 256 + b) * 256 + c) * 256 + p.0)) None))) x p.2 in
     let r = bind_some (number_of b) (λ b. number_of a >>= (λ a. cond (is_zone z t) (Some (((a * 256 + b) * 256 + q.0) * 256 + p.0)) None)) x q.2 in
     let s = bind_some (number_of a) (λ a. cond (is_zone z t) (Some (((a * 256 + r.0) * 256 + q.0) * 256 + p.0)) None) x r.2 in
     record { d = d; c = c; b = b; a = a; zone = z; top = t; is = refl; zone_is = zone_known z t (((s.0 * 256 + r.0) * 256 + q.0) * 256 + p.0) x s.2 }
 
 -- ---- the reverse name of another address
 
-pub reverse_again : (address : ℕ) (zone top : List ℕ) → address < 2 ^ 32 → is_zone zone top ≡ true → full_reverse (numbers address ++ zone ∷ top ∷ []) ≡ Some address
+pub reverse_again : (address : ℕ) (zone top : List ℕ) → address < 2 ^ 32 → is_zone zone top ≡ true → full_reverse (numbers address ++ zone ∷ top ∷ [])
+    ≡ Some address
 unfolding full_reverse
 reverse_again address zone top lt is =
     let whole : ((address / 16777216 * 256 + address / 65536 % 256) * 256 + address / 256 % 256) * 256 + address % 256 ≡ address = omega arith in
-    rw (number_again (address % 256) (omega arith), number_again (address / 256 % 256) (omega arith), number_again (address / 65536 % 256) (omega arith), number_again (address / 16777216) (omega arith), is) (ap (λ (n : ℕ). Some n) whole)
+    rw (
+      number_again (address % 256) (omega arith),
+      number_again (address / 256 % 256) (omega arith),
+      number_again (address / 65536 % 256) (omega arith),
+      number_again (address / 16777216) (omega arith),
+      is,
+    ) (ap (λ (n : ℕ). Some n) whole)
 
 pub zone_sizes : (zone top : List ℕ) → is_zone zone top ≡ true → (length zone ≡ 7) × (length top ≡ 4)
 zone_sizes zone top e =
@@ -113,13 +139,16 @@ address_is_name address zone top lt is =
     let t : IsLabel top = (omega arith, omega arith) in
     record {
       labels = (d.0, (c.0, (b.0, (a.0, (z, (t, tt))))));
-      short = is_short (decimal (address % 256)) (decimal (address / 256 % 256)) (decimal (address / 65536 % 256)) (decimal (address / 16777216)) zone top d.1 c.1 b.1 a.1 (omega arith) (omega arith);
+      short = is_short (decimal (address % 256)) (decimal (address / 256 % 256)) (decimal (address / 65536 % 256)) (decimal (address / 16777216)) zone
+          top d.1 c.1 b.1 a.1 (omega arith) (omega arith);
     }
   where
-    is_short : (d c b a z t : List ℕ) → length d ≤ 3 → length c ≤ 3 → length b ≤ 3 → length a ≤ 3 → length z ≤ 7 → length t ≤ 4 → length (spelled (d ∷ c ∷ b ∷ a ∷ z ∷ t ∷ [])) ≤ 254
+    is_short : (d c b a z t : List ℕ) → length d ≤ 3 → length c ≤ 3 → length b ≤ 3 → length a ≤ 3 → length z ≤ 7 → length t ≤ 4
+        → length (spelled (d ∷ c ∷ b ∷ a ∷ z ∷ t ∷ [])) ≤ 254
     is_short d c b a z t ld lc lb la lz lt = simp length-append (omega arith)
 
-renames_by : (address : ℕ) (old : List (List ℕ)) (octets : List ℕ) → address < 2 ^ 32 → Parts old → octets ≡ spelled (numbers address) ++ behind (behind (behind (behind (spelled old)))) → Names address (with_address address old) octets
+renames_by : (address : ℕ) (old : List (List ℕ)) (octets : List ℕ) → address < 2 ^ 32 → Parts old
+    → octets ≡ spelled (numbers address) ++ behind (behind (behind (behind (spelled old)))) → Names address (with_address address old) octets
 renames_by address old octets lt p e =
     let name = numbers address ++ p.zone ∷ p.top ∷ [] in
     let with_is : with_address address old ≡ name = ap (with_address address) p.is in
@@ -128,7 +157,8 @@ renames_by address old octets lt p e =
     ∙ ap (λ (x : List ℕ). behind (behind (behind x))) (behind-spelled p.d (p.c ∷ p.b ∷ p.a ∷ p.zone ∷ p.top ∷ []))
     ∙ ap (λ (x : List ℕ). behind (behind x)) (behind-spelled p.c (p.b ∷ p.a ∷ p.zone ∷ p.top ∷ []))
     ∙ ap behind (behind-spelled p.b (p.a ∷ p.zone ∷ p.top ∷ [])) ∙ behind-spelled p.a (p.zone ∷ p.top ∷ []) in
-    let octets_are : octets ≡ spelled name = e ∙ ap (λ (x : List ℕ). spelled (numbers address) ++ x) rest ∙ sym (flat_map-append spelled_label (numbers address) (p.zone ∷ p.top ∷ [])) in
+    let octets_are : octets ≡ spelled name = e ∙ ap (λ (x : List ℕ). spelled (numbers address) ++ x) rest
+    ∙ sym (flat_map-append spelled_label (numbers address) (p.zone ∷ p.top ∷ [])) in
     subst (λ (x : List (List ℕ)). Names address x octets) (sym with_is) (record {
       spelled_is = record { octets_are = octets_are; is_name = address_is_name address p.zone p.top lt p.zone_is };
       labels_are = labels_in-spelled octets name octets_are;
@@ -139,5 +169,6 @@ parts_by : (old : List (List ℕ)) (o : Option ℕ) → full_reverse old ≡ o �
 parts_by old (Some x) e some = parts old x e
 parts_by old None e some = absurd cc
 
-pub renames : (address : ℕ) (old : List (List ℕ)) (octets : List ℕ) → address < 2 ^ 32 → IsSome (full_reverse old) → octets ≡ spelled (numbers address) ++ behind (behind (behind (behind (spelled old)))) → Names address (with_address address old) octets
+pub renames : (address : ℕ) (old : List (List ℕ)) (octets : List ℕ) → address < 2 ^ 32 → IsSome (full_reverse old)
+    → octets ≡ spelled (numbers address) ++ behind (behind (behind (behind (spelled old)))) → Names address (with_address address old) octets
 renames address old octets lt some e = renames_by address old octets lt (parts_by old (full_reverse old) refl some) e

@@ -30,7 +30,8 @@ unfolding name_at piece_at
 itself = refl
 
 -- ftp.example, then example, then w.ftp.example
-written : Text.octets (put_name (put_name (put_name (record { octets = 9 ∷ 9 ∷ []; starts = [] }) (ftp ∷ example ∷ [])) (example ∷ [])) ((119 ∷ []) ∷ ftp ∷ example ∷ []))
+written : Text.octets (put_name (put_name (put_name (record { octets = 9 ∷ 9 ∷ []; starts = [] }) (ftp ∷ example ∷ [])) (example ∷ []))
+    ((119 ∷ []) ∷ ftp ∷ example ∷ []))
     ≡ 9 ∷ 9 ∷ 3 ∷ 102 ∷ 116 ∷ 112 ∷ 7 ∷ 101 ∷ 120 ∷ 97 ∷ 109 ∷ 112 ∷ 108 ∷ 101 ∷ 0 ∷ 192 ∷ 6 ∷ 1 ∷ 119 ∷ 192 ∷ 2 ∷ []
 unfolding spell
 written = refl

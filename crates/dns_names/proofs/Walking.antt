@@ -67,7 +67,8 @@ pub record IsCounted (first : ℕ) (rest l : List ℕ) : Type 0 where
 
 piece_by-counted : (first : ℕ) (rest l : List ℕ) → piece_by first rest ≡ Label l → IsCounted first rest l
 piece_by-counted first rest l e =
-    elim (chosen (first == 0) Root (cond (nat_lt first 64) (label_of first rest) (cond (nat_lt first 192) Nothing (pointer_of first rest))) (Label l) e) [
+    elim (chosen (first == 0) Root (cond (nat_lt first 64) (label_of first rest) (cond (nat_lt first 192) Nothing (pointer_of first rest)))
+    (Label l) e) [
       | inl t ↦ absurd (let q : Root ≡ Label l = t.1 in cc)
       | inr f ↦
           let positive : 1 ≤ first = not_zero first f.0 in
@@ -116,7 +117,8 @@ pub run-length : (m : List ℕ) (from at : ℕ) → from ≤ at → at ≤ lengt
 run-length m from at order within = length-take-le (at - from) (drop from m) (omega (arith, length-drop from m))
 
 -- with the label behind them
-pub run-label : (m : List ℕ) (from at : ℕ) (l : List ℕ) → from ≤ at → piece_at m at ≡ Label l → run m from (at + 1 + length l) ≡ run m from at ++ length l ∷ l
+pub run-label : (m : List ℕ) (from at : ℕ) (l : List ℕ) → from ≤ at → piece_at m at ≡ Label l → run m from (at + 1 + length l) ≡ run m from at
+    ++ length l ∷ l
 run-label m from at l order e =
     let more : at + 1 + length l - from ≡ (at - from) + suc (length l) = omega arith in
     let back : from + (at - from) ≡ at = omega arith in
@@ -146,7 +148,8 @@ pub record Reads (m : List ℕ) (place start at : ℕ) (octets : List ℕ) (afte
   pub keeps : (ls : List (List ℕ)) (a : ℕ) → Stands m start at ls a → Stands m place place (labels ++ ls) (unwrap_or after a)
   pub only : (ls : List (List ℕ)) (a : ℕ) → Stands m place place ls a → Rest m start at labels ls
 
-pub Reads-label : (m : List ℕ) (place start at : ℕ) (octets : List ℕ) (after : Option ℕ) (l : List ℕ) → Reads m place start at octets after → piece_at m at ≡ Label l → length octets + 1 + length l ≤ 254
+pub Reads-label : (m : List ℕ) (place start at : ℕ) (octets : List ℕ) (after : Option ℕ) (l : List ℕ) → Reads m place start at octets after
+    → piece_at m at ≡ Label l → length octets + 1 + length l ≤ 254
     → Reads m place start (at + 1 + length l) (octets ++ length l ∷ l) after
 Reads-label m place start at octets after l r e fits = record {
   labels = r.labels ++ l ∷ [];
@@ -157,14 +160,20 @@ Reads-label m place start at octets after l r e fits = record {
   only = λ ls a s.
       let q = r.only ls a s in
       let g = at_label m start at q.rest q.end l q.stands e in
-      record { rest = g.rest; is = q.is ∙ ap (λ (x : List (List ℕ)). r.labels ++ x) g.is ∙ sym (append_assoc r.labels (l ∷ []) g.rest); end = q.end; stands = g.stands };
+      record {
+        rest = g.rest;
+        is = q.is ∙ ap (λ (x : List (List ℕ)). r.labels ++ x) g.is ∙ sym (append_assoc r.labels (l ∷ []) g.rest);
+        end = q.end;
+        stands = g.stands;
+      };
 }
 
 unwrap_or-or : (after : Option ℕ) (here a : ℕ) → unwrap_or (option_or after (Some here)) a ≡ unwrap_or after here
 unwrap_or-or None here a = refl
 unwrap_or-or (Some place) here a = refl
 
-pub Reads-pointer : (m : List ℕ) (place start at : ℕ) (octets : List ℕ) (after : Option ℕ) (to : ℕ) → Reads m place start at octets after → piece_at m at ≡ Pointer to → to < start → Reads m place to to octets (option_or after (Some (at + 2)))
+pub Reads-pointer : (m : List ℕ) (place start at : ℕ) (octets : List ℕ) (after : Option ℕ) (to : ℕ) → Reads m place start at octets after
+    → piece_at m at ≡ Pointer to → to < start → Reads m place to to octets (option_or after (Some (at + 2)))
 Reads-pointer m place start at octets after to r e lt = record {
   labels = r.labels;
   octets_are = r.octets_are;
@@ -178,10 +187,13 @@ Reads-pointer m place start at octets after to r e lt = record {
 }
 
 -- the labels of the octets that were read
-pub Reads-name : (m : List ℕ) (place start at : ℕ) (octets : List ℕ) (after : Option ℕ) → Reads m place start at octets after → IsSpelled octets (labels_in octets)
-Reads-name m place start at octets after r = IsSpelled-spelled octets r.labels r.octets_are (record { labels = r.all_labels; short = rw (← r.octets_are) r.short })
+pub Reads-name : (m : List ℕ) (place start at : ℕ) (octets : List ℕ) (after : Option ℕ) → Reads m place start at octets after
+    → IsSpelled octets (labels_in octets)
+Reads-name m place start at octets after r = IsSpelled-spelled octets r.labels r.octets_are
+    (record { labels = r.all_labels; short = rw (← r.octets_are) r.short })
 
-pub Reads-root : (m : List ℕ) (place start at : ℕ) (octets : List ℕ) (after : Option ℕ) → Reads m place start at octets after → piece_at m at ≡ Root → NameAt m place (labels_in octets) (unwrap_or after (at + 1))
+pub Reads-root : (m : List ℕ) (place start at : ℕ) (octets : List ℕ) (after : Option ℕ) → Reads m place start at octets after → piece_at m at ≡ Root
+    → NameAt m place (labels_in octets) (unwrap_or after (at + 1))
 Reads-root m place start at octets after r e =
     let whole = r.keeps [] (at + 1) (AtRoot start at e) in
     let name = Reads-name m place start at octets after r in
@@ -191,19 +203,23 @@ Reads-root m place start at octets after r e =
       short = name.is_name.short;
     }
 
-pub Reads-nothing : (m : List ℕ) (place start at : ℕ) (octets : List ℕ) (after : Option ℕ) → Reads m place start at octets after → piece_at m at ≡ Nothing → (ls : List (List ℕ)) (a : ℕ) → NameAt m place ls a → ⊥
+pub Reads-nothing : (m : List ℕ) (place start at : ℕ) (octets : List ℕ) (after : Option ℕ) → Reads m place start at octets after
+    → piece_at m at ≡ Nothing → (ls : List (List ℕ)) (a : ℕ) → NameAt m place ls a → ⊥
 Reads-nothing m place start at octets after r e ls a n =
     let q = r.only ls a n.stands in at_nothing m start at q.rest q.end q.stands e
 
-pub Reads-up : (m : List ℕ) (place start at : ℕ) (octets : List ℕ) (after : Option ℕ) (to : ℕ) → Reads m place start at octets after → piece_at m at ≡ Pointer to → start ≤ to → (ls : List (List ℕ)) (a : ℕ) → NameAt m place ls a → ⊥
+pub Reads-up : (m : List ℕ) (place start at : ℕ) (octets : List ℕ) (after : Option ℕ) (to : ℕ) → Reads m place start at octets after
+    → piece_at m at ≡ Pointer to → start ≤ to → (ls : List (List ℕ)) (a : ℕ) → NameAt m place ls a → ⊥
 Reads-up m place start at octets after to r e le ls a n =
     let q = r.only ls a n.stands in
     let g = at_pointer m start at q.rest q.end to q.stands e in omega (arith, g.0)
 
-pub Reads-long : (m : List ℕ) (place start at : ℕ) (octets : List ℕ) (after : Option ℕ) (l : List ℕ) → Reads m place start at octets after → piece_at m at ≡ Label l → 254 < length octets + 1 + length l → (ls : List (List ℕ)) (a : ℕ) → NameAt m place ls a → ⊥
+pub Reads-long : (m : List ℕ) (place start at : ℕ) (octets : List ℕ) (after : Option ℕ) (l : List ℕ) → Reads m place start at octets after
+    → piece_at m at ≡ Label l → 254 < length octets + 1 + length l → (ls : List (List ℕ)) (a : ℕ) → NameAt m place ls a → ⊥
 Reads-long m place start at octets after l r e long ls a n =
     let q = r.only ls a n.stands in
     let g = at_label m start at q.rest q.end l q.stands e in
     let whole : ls ≡ r.labels ++ l ∷ g.rest = q.is ∙ ap (λ (x : List (List ℕ)). r.labels ++ x) g.is in
-    let all : spelled ls ≡ octets ++ length l ∷ (l ++ spelled g.rest) = ap spelled whole ∙ flat_map-append spelled_label r.labels (l ∷ g.rest) ∙ ap (λ (o : List ℕ). o ++ length l ∷ (l ++ spelled g.rest)) (sym r.octets_are) in
+    let all : spelled ls ≡ octets ++ length l ∷ (l ++ spelled g.rest) = ap spelled whole ∙ flat_map-append spelled_label r.labels (l ∷ g.rest)
+    ∙ ap (λ (o : List ℕ). o ++ length l ∷ (l ++ spelled g.rest)) (sym r.octets_are) in
     omega (arith, ap length all, length-append octets (length l ∷ (l ++ spelled g.rest)), length-append l (spelled g.rest), n.short)

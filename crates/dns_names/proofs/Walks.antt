@@ -7,7 +7,8 @@ use Rattle.dns_names.proofs.Walking.{chosen}
 use Rattle.dns_names.specs.declared.stop.NameStop.{NameStop}
 use Rattle.dns_names.specs.declared.stop.NameStop.TheVariants.{BadDns, OutOfMemory}
 
-walk-finds : (m : List ℕ) (start place : ℕ) (ls : List (List ℕ)) (after : ℕ) → Stands m start place ls after → (n room : ℕ) → length (spelled ls) ≤ room → start + room < n → walk n m room start place ≡ Some (ls, after)
+walk-finds : (m : List ℕ) (start place : ℕ) (ls : List (List ℕ)) (after : ℕ) → Stands m start place ls after → (n room : ℕ)
+    → length (spelled ls) ≤ room → start + room < n → walk n m room start place ≡ Some (ls, after)
 walk-finds m _ _ _ _ s zero room le fuel = absurd (omega arith)
 walk-finds m _ _ _ _ (AtRoot start place e) (suc n) room le fuel = rw e refl
 walk-finds m _ _ _ _ (AtLabel start place l ls after e s) (suc n) room le fuel =
@@ -48,8 +49,10 @@ ended at (Some x) ls after e =
     let q : x.0 ≡ ls = ap (λ (y : List (List ℕ) × ℕ). y.0) p in
     record { before = x.1; is = ap (λ (y : List (List ℕ) × ℕ). y.1) (sym p); was = ap (λ (k : List (List ℕ)). Some (k, x.1)) q }
 
-walk_on-stands : (go : ℕ → ℕ → ℕ → Walked) (m : List ℕ) → ((room start place : ℕ) (ls : List (List ℕ)) (after : ℕ) → go room start place ≡ Some (ls, after) → IsWalked m room start place ls after) →
-    (room start place : ℕ) (ls : List (List ℕ)) (after : ℕ) (p : Piece) → piece_at m place ≡ p → walk_on go p room start place ≡ Some (ls, after) → IsWalked m room start place ls after
+walk_on-stands : (go : ℕ → ℕ → ℕ → Walked) (m : List ℕ)
+    → ((room start place : ℕ) (ls : List (List ℕ)) (after : ℕ) → go room start place ≡ Some (ls, after) → IsWalked m room start place ls after) →
+    (room start place : ℕ) (ls : List (List ℕ)) (after : ℕ) (p : Piece) → piece_at m place ≡ p → walk_on go p room start place ≡ Some (ls, after)
+    → IsWalked m room start place ls after
 walk_on-stands go m finds room start place ls after Root is e =
     let p : ([], place + 1) ≡ (ls, after) = cc in
     subst (λ (x : List (List ℕ) × ℕ). IsWalked m room start place x.0 x.1) p (record { stands = AtRoot start place is; short = omega arith })
@@ -78,9 +81,11 @@ walk_on-stands go m finds room start place ls after (Pointer to) is e =
     ]
 walk_on-stands go m finds room start place ls after Nothing is e = absurd cc
 
-walk-stands : (n : ℕ) (m : List ℕ) (room start place : ℕ) (ls : List (List ℕ)) (after : ℕ) → walk n m room start place ≡ Some (ls, after) → IsWalked m room start place ls after
+walk-stands : (n : ℕ) (m : List ℕ) (room start place : ℕ) (ls : List (List ℕ)) (after : ℕ) → walk n m room start place ≡ Some (ls, after)
+    → IsWalked m room start place ls after
 walk-stands zero m room start place ls after e = absurd cc
-walk-stands (suc n) m room start place ls after e = walk_on-stands (λ r s p. walk n m r s p) m (λ r s p k a w. walk-stands n m r s p k a w) room start place ls after (piece_at m place) refl e
+walk-stands (suc n) m room start place ls after e = walk_on-stands (λ r s p. walk n m r s p) m (λ r s p k a w. walk-stands n m r s p k a w) room start
+    place ls after (piece_at m place) refl e
 
 pub name_at-finds : (m : List ℕ) (place : ℕ) (ls : List (List ℕ)) (after : ℕ) → NameAt m place ls after → name_at m place ≡ Some (ls, after)
 unfolding name_at
@@ -92,11 +97,13 @@ name_at-is m place ls after e = let r = walk-stands (suc (place + 254)) m 254 pl
 
 -- ---- what the reader returned
 
-no_name : (m : List ℕ) (place : ℕ) (w : Walked) → name_at m place ≡ w → ((ls : List (List ℕ)) (after : ℕ) → NameAt m place ls after → ⊥) → name_at m place ≡ None
+no_name : (m : List ℕ) (place : ℕ) (w : Walked) → name_at m place ≡ w → ((ls : List (List ℕ)) (after : ℕ) → NameAt m place ls after → ⊥)
+    → name_at m place ≡ None
 no_name m place None e h = e
 no_name m place (Some x) e h = absurd (h x.0 x.1 (name_at-is m place x.0 x.1 e))
 
-pub name-gives : (m : List ℕ) (place : ℕ) (r : Result (List (List ℕ) × ℕ) NameStop) → IfOk r (λ x. NameAt m place x.0 x.1) → (r ≡ Err BadDns → (ls : List (List ℕ)) (after : ℕ) → NameAt m place ls after → ⊥) → ReturnsRead (λ x. (x.0, x.1)) r (name_at m place)
+pub name-gives : (m : List ℕ) (place : ℕ) (r : Result (List (List ℕ) × ℕ) NameStop) → IfOk r (λ x. NameAt m place x.0 x.1)
+    → (r ≡ Err BadDns → (ls : List (List ℕ)) (after : ℕ) → NameAt m place ls after → ⊥) → ReturnsRead (λ x. (x.0, x.1)) r (name_at m place)
 name-gives m place (Ok x) found none = name_at-finds m place x.0 x.1 found
 name-gives m place (Err BadDns) found none = no_name m place (name_at m place) refl (none refl)
 name-gives m place (Err OutOfMemory) found none = tt

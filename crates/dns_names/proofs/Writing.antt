@@ -39,8 +39,11 @@ Holds-back m place a b h = record {
 -- ---- the spelling of labels has one reading
 
 label_cancel : (a b x y : List ℕ) → length a ≡ length b → a ++ x ≡ b ++ y → (a ≡ b) × (x ≡ y)
-label_cancel a b x y n e =
-    (sym (take_at a x (length a) refl) ∙ ap (take (length a)) e ∙ take_at b y (length a) (sym n), sym (drop_at a x (length a) refl) ∙ ap (drop (length a)) e ∙ drop_at b y (length a) (sym n))
+label_cancel a b x y n e = (
+  sym (take_at a x (length a) refl) ∙ ap (take (length a)) e ∙ take_at b y (length a) (sym n),
+  sym (drop_at a x (length a) refl)
+      ∙ ap (drop (length a)) e ∙ drop_at b y (length a) (sym n),
+)
 
 spelled-same : (ls ks : List (List ℕ)) → spelled ls ≡ spelled ks → ls ≡ ks
 spelled-same [] [] e = refl
@@ -87,7 +90,8 @@ pub record IsFound (m : List ℕ) (limit : ℕ) (ls : List (List ℕ)) (to : ℕ
 none : Option ℕ
 none = None
 
-found-stands : (m : List ℕ) (limit : ℕ) (starts : List Start) (ls : List (List ℕ)) (to : ℕ) → AreKnown m limit starts → found starts (spelled ls) ≡ Some to → IsFound m limit ls to
+found-stands : (m : List ℕ) (limit : ℕ) (starts : List Start) (ls : List (List ℕ)) (to : ℕ) → AreKnown m limit starts
+    → found starts (spelled ls) ≡ Some to → IsFound m limit ls to
 found-stands m limit [] ls to known e = absurd cc
 found-stands m limit (s ∷ starts) ls to known e =
     elim (chosen (bytes_eq s.octets (spelled ls)) (Some s.place) (found starts (spelled ls)) (Some to) e) [
@@ -113,36 +117,52 @@ pub record Reads_back (m : List ℕ) (limit place : ℕ) (labels : List (List �
 
 pub AreKnown-later : (m : List ℕ) (limit more : ℕ) (starts : List Start) → limit ≤ more → AreKnown m limit starts → AreKnown m more starts
 AreKnown-later m limit more [] le known = tt
-AreKnown-later m limit more (s ∷ starts) le known =
-    (record { labels = known.0.labels; octets_are = known.0.octets_are; after = known.0.after; stands = known.0.stands; below = omega (arith, known.0.below); near = known.0.near }, AreKnown-later m limit more starts le known.1)
+AreKnown-later m limit more (s ∷ starts) le known = (
+  record {
+    labels = known.0.labels;
+    octets_are = known.0.octets_are;
+    after = known.0.after;
+    stands = known.0.stands;
+    below = omega (arith, known.0.below);
+    near = known.0.near;
+  },
+  AreKnown-later m limit more starts le known.1,
+)
 
 pub AreKnown-append : (m : List ℕ) (limit : ℕ) (xs ys : List Start) → AreKnown m limit xs → AreKnown m limit ys → AreKnown m limit (xs ++ ys)
 AreKnown-append m limit [] ys p q = q
 AreKnown-append m limit (x ∷ xs) ys p q = (p.0, AreKnown-append m limit xs ys p.1 q)
 
-AreKnown-with_start : (m : List ℕ) (limit place : ℕ) (octets : List ℕ) (starts : List Start) → (place < 16384 → IsKnown m limit (record { place = place; octets = octets })) → AreKnown m limit starts → AreKnown m limit (with_start place octets starts)
+AreKnown-with_start : (m : List ℕ) (limit place : ℕ) (octets : List ℕ) (starts : List Start)
+    → (place < 16384 → IsKnown m limit (record { place = place; octets = octets })) → AreKnown m limit starts
+    → AreKnown m limit (with_start place octets starts)
 AreKnown-with_start m limit place octets starts one rest =
     elim (cases_Bool (nat_lt place 16384)) [
       | inl t ↦ rw t (one (ltb-true _ _ t), rest)
       | inr f ↦ rw f rest
     ]
 
-spell-pointer : (m : List ℕ) (limit place to : ℕ) (ls : List (List ℕ)) → IsFound m limit ls to → Holds m place (pointer to) → Reads_back m limit place ls (record { octets = pointer to; starts = [] })
+spell-pointer : (m : List ℕ) (limit place to : ℕ) (ls : List (List ℕ)) → IsFound m limit ls to → Holds m place (pointer to)
+    → Reads_back m limit place ls (record { octets = pointer to; starts = [] })
 spell-pointer m limit place to ls known h = record {
   stands = λ start le. AtPointer start place to ls known.after (piece-pointer m place to h) (omega (arith, known.below)) known.stands;
   known = tt;
 }
 
-spell-label : (m : List ℕ) (limit place : ℕ) (l : List ℕ) (ls : List (List ℕ)) (rest : Added) → limit ≤ place → IsLabel l → Holds m place (length l ∷ (l ++ rest.octets)) → Reads_back m limit (place + 1 + length l) ls rest
+spell-label : (m : List ℕ) (limit place : ℕ) (l : List ℕ) (ls : List (List ℕ)) (rest : Added) → limit ≤ place → IsLabel l
+    → Holds m place (length l ∷ (l ++ rest.octets)) → Reads_back m limit (place + 1 + length l) ls rest
     → Reads_back m limit place (l ∷ ls) (record { octets = length l ∷ (l ++ rest.octets); starts = with_start place (spelled (l ∷ ls)) rest.starts })
 spell-label m limit place l ls rest le ok h back =
     let front : Holds m place (length l ∷ l) = Holds-front m place (length l ∷ l) rest.octets h in
     let piece = piece-label m place l ok front in
     let end : place + 1 + length l + length rest.octets ≡ place + suc (length (l ++ rest.octets)) = omega (arith, length-append l rest.octets) in
-    let stands : (start : ℕ) → limit ≤ start → Stands m start place (l ∷ ls) (place + suc (length (l ++ rest.octets))) = λ start le. subst (λ (k : ℕ). Stands m start place (l ∷ ls) k) end (AtLabel start place l ls _ piece (back.stands start le)) in
+    let stands : (start : ℕ) → limit ≤ start → Stands m start place (l ∷ ls) (place + suc (length (l ++ rest.octets))) =
+    λ start le. subst (λ (k : ℕ). Stands m start place (l ∷ ls) k) end (AtLabel start place l ls _ piece (back.stands start le)) in
     record {
       stands = stands;
-      known = AreKnown-with_start m _ place (spelled (l ∷ ls)) rest.starts (λ near. record { labels = l ∷ ls; octets_are = refl; after = _; stands = stands place le; below = omega arith; near = near }) (AreKnown-later m _ _ rest.starts (omega arith) back.known);
+      known = AreKnown-with_start m _ place (spelled (l ∷ ls)) rest.starts
+          (λ near. record { labels = l ∷ ls; octets_are = refl; after = _; stands = stands place le; below = omega arith; near = near })
+          (AreKnown-later m _ _ rest.starts (omega arith) back.known);
     }
 
 Holds-rest : (m : List ℕ) (place : ℕ) (l more : List ℕ) → Holds m place (length l ∷ (l ++ more)) → Holds m (place + 1 + length l) more
@@ -150,12 +170,17 @@ Holds-rest m place l more h =
     let e : place + length (length l ∷ l) ≡ place + 1 + length l = omega arith in
     subst (λ (k : ℕ). Holds m k more) e (Holds-back m place (length l ∷ l) more h)
 
-spell_by-reads : (m : List ℕ) (limit place : ℕ) (l : List ℕ) (ls : List (List ℕ)) (rest : Added) (o : Option ℕ) → limit ≤ place → IsLabel l → ((to : ℕ) → o ≡ Some to → IsFound m limit (l ∷ ls) to) → (Holds m (place + 1 + length l) rest.octets → Reads_back m limit (place + 1 + length l) ls rest)
-    → Holds m place (Added.octets (spell_by o place l (spelled (l ∷ ls)) rest)) → Reads_back m limit place (l ∷ ls) (spell_by o place l (spelled (l ∷ ls)) rest)
-spell_by-reads m limit place l ls rest None le ok known more h = spell-label m limit place l ls rest le ok h (more (Holds-rest m place l rest.octets h))
+spell_by-reads : (m : List ℕ) (limit place : ℕ) (l : List ℕ) (ls : List (List ℕ)) (rest : Added) (o : Option ℕ) → limit ≤ place → IsLabel l
+    → ((to : ℕ) → o ≡ Some to → IsFound m limit (l ∷ ls) to)
+    → (Holds m (place + 1 + length l) rest.octets → Reads_back m limit (place + 1 + length l) ls rest)
+    → Holds m place (Added.octets (spell_by o place l (spelled (l ∷ ls)) rest))
+    → Reads_back m limit place (l ∷ ls) (spell_by o place l (spelled (l ∷ ls)) rest)
+spell_by-reads m limit place l ls rest None le ok known more h =
+    spell-label m limit place l ls rest le ok h (more (Holds-rest m place l rest.octets h))
 spell_by-reads m limit place l ls rest (Some to) le ok known more h = spell-pointer m limit place to (l ∷ ls) (known to refl) h
 
-pub spell-reads : (m : List ℕ) (starts : List Start) (limit place : ℕ) (ls : List (List ℕ)) → AreKnown m limit starts → limit ≤ place → AllByRecursion IsLabel ls → Holds m place (Added.octets (spell starts place ls)) → Reads_back m limit place ls (spell starts place ls)
+pub spell-reads : (m : List ℕ) (starts : List Start) (limit place : ℕ) (ls : List (List ℕ)) → AreKnown m limit starts → limit ≤ place
+    → AllByRecursion IsLabel ls → Holds m place (Added.octets (spell starts place ls)) → Reads_back m limit place ls (spell starts place ls)
 unfolding spell
 spell-reads m starts limit place [] known le ok h = record {
   stands = λ start le. AtRoot start place (piece-root m place h);
@@ -169,13 +194,22 @@ spell-reads m starts limit place (l ∷ ls) known le ok h =
 
 -- ---- a name in a text, and what comes after it
 
-pub put_name-reads : (m : List ℕ) (text : Text) (ls : List (List ℕ)) → IsName ls → AreKnown m (length text.octets) text.starts → Holds m 0 (Text.octets (put_name text ls))
-    → NameAt m (length text.octets) ls (length (Text.octets (put_name text ls))) × AreKnown m (length (Text.octets (put_name text ls))) (Text.starts (put_name text ls))
+pub put_name-reads : (m : List ℕ) (text : Text) (ls : List (List ℕ)) → IsName ls → AreKnown m (length text.octets) text.starts
+    → Holds m 0 (Text.octets (put_name text ls))
+    → NameAt m (length text.octets) ls (length (Text.octets (put_name text ls)))
+    × AreKnown m (length (Text.octets (put_name text ls))) (Text.starts (put_name text ls))
 put_name-reads m text ls ok known h =
     let added = spell text.starts (length text.octets) ls in
-    let here : Holds m (length text.octets) added.octets = subst (λ (k : ℕ). Holds m k added.octets) (zero-add (length text.octets)) (Holds-back m 0 text.octets added.octets h) in
+    let here : Holds m (length text.octets) added.octets = subst (λ (k : ℕ). Holds m k added.octets) (zero-add (length text.octets))
+    (Holds-back m 0 text.octets added.octets h) in
     let back = spell-reads m text.starts (length text.octets) (length text.octets) ls known (omega arith) ok.labels here in
-    let end : length text.octets + length added.octets ≡ length (text.octets ++ added.octets) = omega (arith, length-append text.octets added.octets) in (
-      record { stands = subst (λ (k : ℕ). Stands m (length text.octets) (length text.octets) ls k) end (back.stands (length text.octets) (omega arith)); short = ok.short },
-      AreKnown-append m _ text.starts added.starts (AreKnown-later m _ _ text.starts (omega (arith, length-append text.octets added.octets)) known) (subst (λ (k : ℕ). AreKnown m k added.starts) end back.known),
+    let end : length text.octets + length added.octets ≡ length (text.octets ++ added.octets) =
+    omega (arith, length-append text.octets added.octets) in (
+      record {
+        stands = subst (λ (k : ℕ). Stands m (length text.octets) (length text.octets) ls k) end
+            (back.stands (length text.octets) (omega arith));
+        short = ok.short;
+      },
+      AreKnown-append m _ text.starts added.starts (AreKnown-later m _ _ text.starts (omega (arith, length-append text.octets added.octets)) known)
+          (subst (λ (k : ℕ). AreKnown m k added.starts) end back.known),
     )

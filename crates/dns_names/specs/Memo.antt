@@ -59,7 +59,8 @@ Step message from at before start place octets =
 -- The way from a place over these, the last first: where it is then, in a name with this start, and the octets of its labels.
 abbrev pub Trail : List ℕ → ℕ → List ℕ → ℕ → ℕ → List ℕ → Type 0
 Trail message first [] start place octets = (start ≡ first) × (place ≡ first) × (octets ≡ [])
-Trail message first (at ∷ path) start place octets = (from : ℕ) × (before : List ℕ) × Trail message first path from at before × Step message from at before start place octets
+Trail message first (at ∷ path) start place octets = (from : ℕ) × (before : List ℕ) × Trail message first path from at before
+    × Step message from at before start place octets
 
 -- The way over these places leads to where a name is known that may end the one that begins at its first place.
 -- The octets of the labels on the way are kept behind those that were kept before.

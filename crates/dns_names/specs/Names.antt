@@ -20,7 +20,8 @@ pointer_of high (low ∷ rest) = Pointer ((high - 192) * 256 + low)
 
 -- The first octet decides: 0, from 1 to 63, from 192 on.
 abbrev pub piece_by : ℕ → List ℕ → Piece
-piece_by first rest = if first == 0 then Root else if nat_lt first 64 then label_of first rest else if nat_lt first 192 then Nothing else pointer_of first rest
+piece_by first rest = if first == 0 then Root else if nat_lt first 64 then label_of first rest else if nat_lt first 192 then Nothing else pointer_of
+    first rest
 
 -- what begins at the front of octets
 abbrev pub piece_of : List ℕ → Piece
@@ -35,8 +36,10 @@ piece_at message place = piece_of (drop place message)
 -- that start, and begins a name of its own there.
 pub data Stands (message : List ℕ) : ℕ → ℕ → List (List ℕ) → ℕ → Type 0 where
   AtRoot : (start place : ℕ) → piece_at message place ≡ Root → Stands message start place [] (place + 1)
-  AtLabel : (start place : ℕ) (label : List ℕ) (labels : List (List ℕ)) (after : ℕ) → piece_at message place ≡ Label label → Stands message start (place + 1 + length label) labels after → Stands message start place (label ∷ labels) after
-  AtPointer : (start place to : ℕ) (labels : List (List ℕ)) (after : ℕ) → piece_at message place ≡ Pointer to → to < start → Stands message to to labels after → Stands message start place labels (place + 2)
+  AtLabel : (start place : ℕ) (label : List ℕ) (labels : List (List ℕ)) (after : ℕ) → piece_at message place ≡ Label label
+      → Stands message start (place + 1 + length label) labels after → Stands message start place (label ∷ labels) after
+  AtPointer : (start place to : ℕ) (labels : List (List ℕ)) (after : ℕ) → piece_at message place ≡ Pointer to → to < start
+      → Stands message to to labels after → Stands message start place labels (place + 2)
 
 -- a label behind its length
 abbrev pub spelled_label : List ℕ → List ℕ

@@ -36,7 +36,8 @@ spell_by None place label octets rest = record { octets = length label ∷ (labe
 -- least one label stands already with equal octets. Then the pointer to the first such start ends it.
 unfoldable pub spell : List Start → ℕ → List (List ℕ) → Added
 spell starts place [] = record { octets = 0 ∷ []; starts = [] }
-spell starts place (label ∷ labels) = spell_by (found starts (spelled (label ∷ labels))) place label (spelled (label ∷ labels)) (spell starts (place + 1 + length label) labels)
+spell starts place (label ∷ labels) = spell_by (found starts (spelled (label ∷ labels))) place label (spelled (label ∷ labels))
+    (spell starts (place + 1 + length label) labels)
 
 -- Octets that were written, and the label starts in them.
 pub record Text : Type 0 where

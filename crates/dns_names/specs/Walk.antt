@@ -19,7 +19,8 @@ ending_at after (Some x) = Some (x.0, after)
 -- how a walk goes on from a piece, where the labels to come have room for so many octets
 abbrev pub walk_on : (ℕ → ℕ → ℕ → Walked) → Piece → ℕ → ℕ → ℕ → Walked
 walk_on go Root room start place = Some ([], place + 1)
-walk_on go (Label label) room start place = if nat_lt room (1 + length label) then None else with_label label (go (room - (1 + length label)) start (place + 1 + length label))
+walk_on go (Label label) room start place = if nat_lt room (1 + length label) then None else with_label label
+    (go (room - (1 + length label)) start (place + 1 + length label))
 walk_on go (Pointer to) room start place = if nat_lt to start then ending_at (place + 2) (go room to to) else None
 walk_on go Nothing room start place = None
 

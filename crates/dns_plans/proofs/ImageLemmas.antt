@@ -34,7 +34,9 @@ pub record ImagedSoFar (es : List Entry) (units rest : List ReadUnit) (images : 
 pub first_read : (rest more : List ReadUnit) (one : ReadUnit) → rest ≡ one ∷ more → AreRead rest → IsRead one
 first_read rest more one e each = All-head IsRead one more (subst AreRead e each)
 
-pub images_on : (es : List Entry) (units rest more : List ReadUnit) (one : ReadUnit) (images after : List UnitImage) (image : UnitImage) → rest ≡ one ∷ more → ImagedSoFar es units rest images → false ≡ grows_too_much es (unit_of one) → after ≡ images ++ image ∷ [] → image.unit.items ≡ unit_of one → image.image.items ≡ (dns_units es).image image.unit.items → ImagedSoFar es units more after
+pub images_on : (es : List Entry) (units rest more : List ReadUnit) (one : ReadUnit) (images after : List UnitImage) (image : UnitImage)
+    → rest ≡ one ∷ more → ImagedSoFar es units rest images → false ≡ grows_too_much es (unit_of one) → after ≡ images ++ image ∷ []
+    → image.unit.items ≡ unit_of one → image.image.items ≡ (dns_units es).image image.unit.items → ImagedSoFar es units more after
 images_on es units rest more one images after image e w small is of right =
     let Right : UnitImage → Type 0 = λ one. one.image.items ≡ (dns_units es).image one.unit.items in
     record {

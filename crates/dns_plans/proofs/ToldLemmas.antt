@@ -29,19 +29,28 @@ some_whole octets e = from (unit_end octets) refl e
     from (Some n) f e = let g = units-first octets n f in rw g (omega arith)
 
 -- there are too many entries afterwards
-pub full_told : (t : Bindings) (called : Addr → Option Addr) (ends : Endpoints) (es named : List Entry) (octets : List ℕ) → list_any is_bad (whole_units octets) ≡ false → list_any (is_new_unbound t ends.side es) (names_in octets) ≡ false → map (λ (entry : Entry). entry.0) named ≡ names_in octets → nat_lt 256 (length (entered_all es named)) ≡ true → first_that_holds (plan_tests t called ends es octets) ≡ Some RenamesFull
+pub full_told : (t : Bindings) (called : Addr → Option Addr) (ends : Endpoints) (es named : List Entry) (octets : List ℕ)
+    → list_any is_bad (whole_units octets) ≡ false → list_any (is_new_unbound t ends.side es) (names_in octets) ≡ false
+    → map (λ (entry : Entry). entry.0) named ≡ names_in octets → nat_lt 256 (length (entered_all es named)) ≡ true
+    → first_that_holds (plan_tests t called ends es octets) ≡ Some RenamesFull
 full_told t called ends es named octets good bound are full =
     let many : nat_lt 256 (length (entered called es (names_in octets))) ≡ true = ap (nat_lt 256) (sym (same_count called es named (names_in octets) are)) ∙ full in
     rw (good, bound, many) refl
 
 -- or not, and the other realm's pool has too few free addresses
-pub empty_told : (t : Bindings) (called : Addr → Option Addr) (ends : Endpoints) (es named : List Entry) (octets : List ℕ) → list_any is_bad (whole_units octets) ≡ false → list_any (is_new_unbound t ends.side es) (names_in octets) ≡ false → map (λ (entry : Entry). entry.0) named ≡ names_in octets → nat_lt 256 (length (entered_all es named)) ≡ false → nat_lt (free t (other ends.side)) (needed t ends.side (all_addresses ends (names_in octets))) ≡ true → first_that_holds (plan_tests t called ends es octets) ≡ Some PoolEmpty
+pub empty_told : (t : Bindings) (called : Addr → Option Addr) (ends : Endpoints) (es named : List Entry) (octets : List ℕ)
+    → list_any is_bad (whole_units octets) ≡ false → list_any (is_new_unbound t ends.side es) (names_in octets) ≡ false
+    → map (λ (entry : Entry). entry.0) named ≡ names_in octets → nat_lt 256 (length (entered_all es named)) ≡ false
+    → nat_lt (free t (other ends.side)) (needed t ends.side (all_addresses ends (names_in octets))) ≡ true
+    → first_that_holds (plan_tests t called ends es octets) ≡ Some PoolEmpty
 empty_told t called ends es named octets good bound are few lacks =
     let some : nat_lt 256 (length (entered called es (names_in octets))) ≡ false = ap (nat_lt 256) (sym (same_count called es named (names_in octets) are)) ∙ few in
     rw (good, bound, some, lacks) refl
 
 -- or it has enough, and what is left is whether an image grows too much
-pub last_told : (t : Bindings) (called : Addr → Option Addr) (ends : Endpoints) (es named : List Entry) (octets : List ℕ) (grows : Bool) → list_any is_bad (whole_units octets) ≡ false → list_any (is_new_unbound t ends.side es) (names_in octets) ≡ false → named ≡ beside called (names_in octets) → nat_lt 256 (length (entered_all es named)) ≡ false
+pub last_told : (t : Bindings) (called : Addr → Option Addr) (ends : Endpoints) (es named : List Entry) (octets : List ℕ) (grows : Bool)
+    → list_any is_bad (whole_units octets) ≡ false → list_any (is_new_unbound t ends.side es) (names_in octets) ≡ false
+    → named ≡ beside called (names_in octets) → nat_lt 256 (length (entered_all es named)) ≡ false
     → nat_lt (free t (other ends.side)) (needed t ends.side (all_addresses ends (names_in octets))) ≡ false → list_any (grows_too_much (entered_all es named)) (whole_units octets) ≡ grows → first_that_holds (plan_tests t called ends es octets) ≡ cond grows (Some UnitGrows) None
 last_told t called ends es named octets grows good bound is few enough long =
     let after : entered_all es named ≡ entered called es (names_in octets) = list_after called es named (names_in octets) is in

@@ -1,12 +1,12 @@
 -- What the whole units in octets do that follow a unit's end.
 use Rattle.std.specs.Prelude.{◌≡◌, ◌≢◌, ℕ, Bool, nat_lt, List, [], ◌∷◌, map, length, Option, Some, All}
 use Rattle.std.specs.List.{list_any}
-use Rattle.gate_base.specs.Prelude.{other}
+use Rattle.gate_base.specs.Prelude.{first_that_holds, other}
 use Rattle.gate_base.specs.declared.address.Addr.{Addr}
 use Rattle.gate_base.specs.declared.refusal.Refusal.{Refusal}
 use Rattle.gate_base.specs.declared.refusal.Refusal.TheVariants.{BadUnit, UnitUnbound, RenamesFull, PoolEmpty, UnitGrows}
 use Rattle.gate_base.specs.declared.side.Side.{Side}
-use Rattle.binding_table.specs.Prelude.{Bindings, cross, free, Use, after_uses, image_after, needed}
+use Rattle.binding_table.specs.Prelude.{AreUsesOf, Bindings, cross, free, Use, after_uses, image_after, needed}
 use Rattle.binding_table.specs.declared.binding.Crossing.TheVariants.{Unbound}
 use Rattle.dialogue.specs.Prelude.{Entry, cut}
 use Rattle.dns_stream.specs.Prelude.{dns_units}
@@ -55,6 +55,14 @@ plan_tests table called ends entries octets =
     ∷ (nat_lt (free table (other ends.side)) (needed table ends.side (all_addresses ends names)), PoolEmpty)
     ∷ (list_any (grows_too_much after) units, UnitGrows)
     ∷ []
+
+-- these are uses of all addresses of a segment whose units end in these octets
+abbrev pub AreAllUses : Endpoints → List ℕ → List Use → Type 0
+AreAllUses ends octets uses = AreUsesOf ends.side (all_addresses ends (names_in octets)) uses
+
+-- the first test that holds, by what addresses are called once these uses are made
+abbrev pub first_reason : Bindings → List Use → Endpoints → List Entry → List ℕ → Option Refusal
+first_reason table uses ends entries octets = first_that_holds (plan_tests table (called_after table uses ends.side) ends entries octets)
 
 -- there is no plan since a test holds, which is told, or since memory is wanting
 abbrev pub TellsFirst : Option Refusal → PlanStop → Type 0

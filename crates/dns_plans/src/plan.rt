@@ -3,9 +3,9 @@ ghost use Rattle.std.specs.Prelude.{◌≡◌, ◌≢◌, ◌≤◌, List, ◌�
 ghost use Rattle.dialogue.specs.Prelude.{AreImages};
 ghost use Rattle.dns_stream.specs.Prelude.{dns_units};
 ghost use Rattle.gate_base.specs.Prelude.{first_that_holds};
-ghost use Rattle.binding_table.specs.Prelude.{Use, AreUsesOf};
+ghost use Rattle.binding_table.specs.Prelude.{Use};
 ghost use Rattle.dns_plans.specs.Steps.{entered_all, image_unit, none_tests};
-ghost use Rattle.dns_plans.specs.Plans.{whole_units, names_in, all_addresses, called_after, beside, AreBound, IsListBound, plan_tests, TellsFirst};
+ghost use Rattle.dns_plans.specs.Plans.{whole_units, names_in, called_after, beside, AreAllUses, AreBound, IsListBound, first_reason, TellsFirst};
 
 use crate::called::called_beside;
 use crate::entered::{has_new_unbound, new_entries};
@@ -77,21 +77,17 @@ pub fn plan_units<S: Session>(
     requires listed { IsListBound table.now endpoints.now.side
         (S.rules.listed sender.now.host sender.now.session.now) }
     ensures refused { (uses : List Use)
-        → AreUsesOf endpoints.now.side
-        (all_addresses endpoints.now (names_in octets.now)) uses
-        → IfErr result (TellsFirst (first_that_holds (plan_tests table.now
-        (called_after table.now uses endpoints.now.side) endpoints.now
-        (S.rules.listed sender.now.host sender.now.session.now) octets.now))) }
+        → AreAllUses endpoints.now octets.now uses
+        → IfErr result (TellsFirst (first_reason table.now uses endpoints.now
+        (S.rules.listed sender.now.host sender.now.session.now) octets.now)) }
     ensures passes { (uses : List Use)
-        → AreUsesOf endpoints.now.side
-        (all_addresses endpoints.now (names_in octets.now)) uses
-        → IfOk result (λ _. first_that_holds (plan_tests table.now
-        (called_after table.now uses endpoints.now.side) endpoints.now
-        (S.rules.listed sender.now.host sender.now.session.now) octets.now) ≡ None) }
+        → AreAllUses endpoints.now octets.now uses
+        → IfOk result (λ _. first_reason table.now uses endpoints.now
+        (S.rules.listed sender.now.host sender.now.session.now) octets.now
+        ≡ None) }
     ensures named { IfOk result (λ plan. plan.named.items ≡ names_in octets.now) }
     ensures entries { (uses : List Use)
-        → AreUsesOf endpoints.now.side
-        (all_addresses endpoints.now (names_in octets.now)) uses
+        → AreAllUses endpoints.now octets.now uses
         → IfOk result (λ plan. plan.entries.items
         ≡ beside (called_after table.now uses endpoints.now.side)
         (names_in octets.now)) }
@@ -154,21 +150,17 @@ fn plan_some<S: Session>(
     requires listed { IsListBound table.now endpoints.now.side
         (S.rules.listed sender.now.host sender.now.session.now) }
     ensures refused { (uses : List Use)
-        → AreUsesOf endpoints.now.side
-        (all_addresses endpoints.now (names_in octets.now)) uses
-        → IfErr result (TellsFirst (first_that_holds (plan_tests table.now
-        (called_after table.now uses endpoints.now.side) endpoints.now
-        (S.rules.listed sender.now.host sender.now.session.now) octets.now))) }
+        → AreAllUses endpoints.now octets.now uses
+        → IfErr result (TellsFirst (first_reason table.now uses endpoints.now
+        (S.rules.listed sender.now.host sender.now.session.now) octets.now)) }
     ensures passes { (uses : List Use)
-        → AreUsesOf endpoints.now.side
-        (all_addresses endpoints.now (names_in octets.now)) uses
-        → IfOk result (λ _. first_that_holds (plan_tests table.now
-        (called_after table.now uses endpoints.now.side) endpoints.now
-        (S.rules.listed sender.now.host sender.now.session.now) octets.now) ≡ None) }
+        → AreAllUses endpoints.now octets.now uses
+        → IfOk result (λ _. first_reason table.now uses endpoints.now
+        (S.rules.listed sender.now.host sender.now.session.now) octets.now
+        ≡ None) }
     ensures named { IfOk result (λ plan. plan.named.items ≡ names_in octets.now) }
     ensures entries { (uses : List Use)
-        → AreUsesOf endpoints.now.side
-        (all_addresses endpoints.now (names_in octets.now)) uses
+        → AreAllUses endpoints.now octets.now uses
         → IfOk result (λ plan. plan.entries.items
         ≡ beside (called_after table.now uses endpoints.now.side)
         (names_in octets.now)) }

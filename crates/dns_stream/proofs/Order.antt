@@ -16,7 +16,8 @@ use Rattle.dns_stream.specs.Order.{no_entry, address_at, Rises, IsAt, IsGapFor}
 
 -- ---- a look-up, by an entry at a time
 
-image_over : (b : Bool) (e : Entry) (o : Option Entry) → option_map (λ entry. entry.1) (cond b (Some e) o) ≡ cond b (Some e.1) (option_map (λ entry. entry.1) o)
+image_over : (b : Bool) (e : Entry) (o : Option Entry) → option_map (λ entry. entry.1) (cond b (Some e) o)
+    ≡ cond b (Some e.1) (option_map (λ entry. entry.1) o)
 image_over true e o = refl
 image_over false e o = refl
 
@@ -40,14 +41,17 @@ absent (e ∷ l) a none = rw image_step (grind (arith, nat_tests, none 0 (omega 
 present : (l : List Entry) (a i : ℕ) → IsAt l a i → NoneBefore l a i → listed_image l a ≡ Some (get_or l i no_entry).1
 present [] a i at none = absurd (omega (arith, at.in_range))
 present (e ∷ l) a zero at none = rw image_step (grind (arith, nat_tests, at.is_this))
-present (e ∷ l) a (suc i) at none = rw image_step (grind (arith, nat_tests, none 0 (omega arith), present l a i (at_in_tail e l a i at) (none_in_tail e l a i none)))
+present (e ∷ l) a (suc i) at none =
+    rw image_step (grind (arith, nat_tests, none 0 (omega arith), present l a i (at_in_tail e l a i at) (none_in_tail e l a i none)))
 
 -- an entry that is put in gives its address its image, and changes no other
-inserted : (l : List Entry) (e : Entry) (i : ℕ) → NoneBefore l e.0.0 i → (a : ℕ) → listed_image (insert l i e) a ≡ cond (eqb e.0.0 a) (Some e.1) (listed_image l a)
+inserted : (l : List Entry) (e : Entry) (i : ℕ) → NoneBefore l e.0.0 i → (a : ℕ)
+    → listed_image (insert l i e) a ≡ cond (eqb e.0.0 a) (Some e.1) (listed_image l a)
 inserted l e zero none a = image_step e l a
 inserted [] e (suc i) none a = image_step e [] a
 inserted (x ∷ l) e (suc i) none a =
-    rw (image_step x (insert l i e) a, image_step x l a) (grind (arith, nat_tests, none 0 (omega arith), inserted l e i (none_in_tail x l e.0.0 i none) a))
+    rw (image_step x (insert l i e) a, image_step x l a)
+    (grind (arith, nat_tests, none 0 (omega arith), inserted l e i (none_in_tail x l e.0.0 i none) a))
 
 -- the image that an entry adds to a list's
 abbrev added : Entry → ℕ → Option (Option Addr) → Option (Option Addr)
@@ -65,7 +69,8 @@ module _ (l : List Entry) (rises : Rises l) (a : ℕ) where
       grind (arith, nat_tests))
 
   -- halving ends at the address, or at the place for it
-  pub searched : (r : Result ℕ ℕ) → IsSearchInRange r (length l) → IsBinarySearchResult (λ entry. nat_cmp entry.0.0 a) l r → record { found : IfOk r (IsAt l a); absent : IfErr r (IsGapFor l a) }
+  pub searched : (r : Result ℕ ℕ) → IsSearchInRange r (length l) → IsBinarySearchResult (λ entry. nat_cmp entry.0.0 a) l r
+      → record { found : IfOk r (IsAt l a); absent : IfErr r (IsGapFor l a) }
   searched (Ok i) in_range equal = record { found = record { in_range = in_range; is_this = ranked _ a _ (sym (equal no_entry)) }; absent = tt }
   searched (Err i) in_range parted = record {
     found = tt;
@@ -82,7 +87,8 @@ module _ (l : List Entry) (rises : Rises l) (a : ℕ) where
 image_in_gap : (l : List Entry) (a i : ℕ) → IsGapFor l a i → listed_image l a ≡ None
 image_in_gap l a i gap = absent l a (λ j lt same. grind (arith, gap.lower_before j, gap.higher_after j))
 
-pub found : (entries sorted : List Entry) → AreOneList entries sorted → (a i : ℕ) → IsAt sorted a i → (e : Entry) → e ≡ get_or sorted i e → Some e.1 ≡ listed_image entries a
+pub found : (entries sorted : List Entry) → AreOneList entries sorted → (a i : ℕ) → IsAt sorted a i → (e : Entry) → e ≡ get_or sorted i e
+    → Some e.1 ≡ listed_image entries a
 found entries sorted one a i at e read =
     ap (λ (x : Entry). Some x.1) (get_or_read sorted i e at.in_range read no_entry)
     ∙ sym (image_at sorted one.rises a i at)
@@ -98,25 +104,44 @@ rises_inserted l e at gap rises i j lt in_range =
     let new = insert l at e in
     let address = λ (x : Entry). x.0.0 in
     let length_new = length-insert l at e gap.in_range in
-    let below : (i : ℕ) → i < at → address_at new i ≡ address_at l i = λ i below. ap address (get_or-insert_below l at e no_entry i below gap.in_range) in
+    let below : (i : ℕ) → i < at → address_at new i ≡ address_at l i =
+    λ i below. ap address (get_or-insert_below l at e no_entry i below gap.in_range) in
     let here : (i : ℕ) → i ≡ at → address_at new i ≡ e.0.0 = λ i here. rw here (ap address (get_or-insert_at l at e no_entry gap.in_range)) in
-    let above : (i : ℕ) → at < i → address_at new i ≡ address_at l (i - 1) = λ i above. subst (λ q. address_at new q ≡ address_at l (i - 1)) {x = i - 1 + 1} (omega arith) (ap address (get_or-insert_above l at e no_entry (i - 1) (omega arith) gap.in_range)) in
-    grind (arith, below i, here i, above i, below j, here j, above j, rises i j, rises i (j - 1), rises (i - 1) (j - 1), gap.lower_before i, gap.higher_after (j - 1))
+    let above : (i : ℕ) → at < i → address_at new i ≡ address_at l (i - 1) =
+    λ i above. subst (λ q. address_at new q ≡ address_at l (i - 1)) {x = i - 1 + 1} (omega arith)
+    (ap address (get_or-insert_above l at e no_entry (i - 1) (omega arith) gap.in_range)) in
+    grind (
+      arith,
+      below i,
+      here i,
+      above i,
+      below j,
+      here j,
+      above j,
+      rises i j,
+      rises i (j - 1),
+      rises (i - 1) (j - 1),
+      gap.lower_before i,
+      gap.higher_after (j - 1),
+    )
 
 -- in the gap for its address
-new_image : (b : Bool) (image : Option Addr) (o : Option (Option Addr)) → (b ≡ true → o ≡ None) → cond b (Some image) o ≡ option_or o (cond b (Some image) None)
+new_image : (b : Bool) (image : Option Addr) (o : Option (Option Addr)) → (b ≡ true → o ≡ None)
+    → cond b (Some image) o ≡ option_or o (cond b (Some image) None)
 new_image true image o none = rw (none refl) refl
 new_image false image None none = refl
 new_image false image (Some x) none = refl
 
-pub put_new : (entries sorted : List Entry) (e : Entry) (i : ℕ) → IsGapFor sorted e.0.0 i → length entries < 256 → AreOneList entries sorted → AreOneList (entries ++ e ∷ []) (insert sorted i e)
+pub put_new : (entries sorted : List Entry) (e : Entry) (i : ℕ) → IsGapFor sorted e.0.0 i → length entries < 256 → AreOneList entries sorted
+    → AreOneList (entries ++ e ∷ []) (insert sorted i e)
 put_new entries sorted e i gap few one = record {
   few = omega (arith, length_push entries e);
   fewer = omega (arith, length_push entries e, length-insert sorted i e gap.in_range, one.fewer);
   rises = rises_inserted sorted e i gap one.rises;
   same = λ a.
       inserted sorted e i (λ j lt same. omega (arith, gap.lower_before j lt)) a
-      ∙ new_image (eqb e.0.0 a) e.1 (listed_image sorted a) (λ t. subst (λ q. listed_image sorted q ≡ None) (eqb-true e.0.0 a t) (image_in_gap sorted e.0.0 i gap))
+      ∙ new_image (eqb e.0.0 a) e.1 (listed_image sorted a)
+      (λ t. subst (λ q. listed_image sorted q ≡ None) (eqb-true e.0.0 a t) (image_in_gap sorted e.0.0 i gap))
       ∙ ap (added e a) (one.same a)
       ∙ sym (appended entries e a);
 }
@@ -127,13 +152,15 @@ known_image true image x o some = rw (some refl) refl
 known_image false image x None some = refl
 known_image false image x (Some y) some = refl
 
-pub put_known : (entries sorted : List Entry) (e : Entry) (i : ℕ) → IsAt sorted e.0.0 i → length entries < 256 → AreOneList entries sorted → AreOneList (entries ++ e ∷ []) sorted
+pub put_known : (entries sorted : List Entry) (e : Entry) (i : ℕ) → IsAt sorted e.0.0 i → length entries < 256 → AreOneList entries sorted
+    → AreOneList (entries ++ e ∷ []) sorted
 put_known entries sorted e i at few one = record {
   few = omega (arith, length_push entries e);
   fewer = omega (arith, length_push entries e, one.fewer);
   rises = one.rises;
   same = λ a.
-      known_image (eqb e.0.0 a) e.1 (get_or sorted i no_entry).1 (listed_image sorted a) (λ t. subst (λ q. listed_image sorted q ≡ Some (get_or sorted i no_entry).1) (eqb-true e.0.0 a t) (image_at sorted one.rises e.0.0 i at))
+      known_image (eqb e.0.0 a) e.1 (get_or sorted i no_entry).1 (listed_image sorted a)
+      (λ t. subst (λ q. listed_image sorted q ≡ Some (get_or sorted i no_entry).1) (eqb-true e.0.0 a t) (image_at sorted one.rises e.0.0 i at))
       ∙ ap (added e a) (one.same a)
       ∙ sym (appended entries e a);
 }

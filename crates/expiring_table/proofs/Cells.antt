@@ -12,7 +12,8 @@ ahead place same = absurd (omega arith)
 module _ {T : Type 0} where
   -- a row stands within the cells
   pub row_within : (cells : List (Option (Row T))) (place : ℕ) (row : Row T) → row_at cells place ≡ Some row → place < length cells
-  row_within cells place row at = elim (cases_lt place (length cells)) [ inl h ↦ h | inr h ↦ absurd (none-some row (sym (get_or_past cells place None h) ∙ at)) ]
+  row_within cells place row at =
+      elim (cases_lt place (length cells)) [ inl h ↦ h | inr h ↦ absurd (none-some row (sym (get_or_past cells place None h) ∙ at)) ]
 
   -- the rows behind the first cell are distinct
   pub once_tail : (cell : Option (Row T)) (cells : List (Option (Row T))) → AreOnce (cell ∷ cells) → AreOnce cells
@@ -20,7 +21,8 @@ module _ {T : Type 0} where
       let e : suc one ≡ suc other = once (suc one) (suc other) row next at_one at_other same in omega arith
 
   -- no row has the key
-  pub none_found : (key : ℕ) (cells : List (Option (Row T))) → ((place : ℕ) (row : Row T) → row_at cells place ≡ Some row → row.key ≢ key) → row_of key (rows_in cells) ≡ None
+  pub none_found : (key : ℕ) (cells : List (Option (Row T))) → ((place : ℕ) (row : Row T) → row_at cells place ≡ Some row → row.key ≢ key)
+      → row_of key (rows_in cells) ≡ None
   none_found key [] none = refl
   none_found key (None ∷ cells) none = none_found key cells (λ place row at. none (suc place) row at)
   none_found key (Some row ∷ cells) none =
@@ -28,7 +30,8 @@ module _ {T : Type 0} where
       rw e (none_found key cells (λ place other at. none (suc place) other at))
 
   -- the row with the key is the one that is found
-  pub found : (key : ℕ) (cells : List (Option (Row T))) (place : ℕ) (row : Row T) → AreOnce cells → row_at cells place ≡ Some row → row.key ≡ key → row_of key (rows_in cells) ≡ Some row
+  pub found : (key : ℕ) (cells : List (Option (Row T))) (place : ℕ) (row : Row T) → AreOnce cells → row_at cells place ≡ Some row → row.key ≡ key
+      → row_of key (rows_in cells) ≡ Some row
   found key [] place row once at is = at
   found key (None ∷ cells) zero row once at is = cc
   found key (None ∷ cells) (suc place) row once at is = found key cells place row (once_tail None cells once) at is
@@ -46,7 +49,8 @@ module _ {T : Type 0} where
 
   -- ## One more cell
 
-  pub push_cases : (cells : List (Option (Row T))) (cell : Option (Row T)) (place : ℕ) (row : Row T) → row_at (cells ++ cell ∷ []) place ≡ Some row → ((place < length cells) × (row_at cells place ≡ Some row)) ⊎ ((place ≡ length cells) × (cell ≡ Some row))
+  pub push_cases : (cells : List (Option (Row T))) (cell : Option (Row T)) (place : ℕ) (row : Row T) → row_at (cells ++ cell ∷ []) place ≡ Some row
+      → ((place < length cells) × (row_at cells place ≡ Some row)) ⊎ ((place ≡ length cells) × (cell ≡ Some row))
   push_cases [] cell zero row at = inr (refl, at)
   push_cases [] cell (suc place) row at = absurd (none-some row at)
   push_cases (first ∷ cells) cell zero row at = inl (omega arith, at)

@@ -17,7 +17,8 @@ bucket_small hash width small some =
     div_below (hash * width) (2 ^ 32) width (omega arith) (omega (arith, less))
 
 module _ {T : Type 0} where
-  pub set_cases : (cells : List (Option (Row T))) (place : ℕ) (cell : Option (Row T)) (other : ℕ) (row : Row T) → place < length cells → row_at (set cells place cell) other ≡ Some row → ((other ≡ place) × (cell ≡ Some row)) ⊎ ((other ≢ place) × (row_at cells other ≡ Some row))
+  pub set_cases : (cells : List (Option (Row T))) (place : ℕ) (cell : Option (Row T)) (other : ℕ) (row : Row T) → place < length cells
+      → row_at (set cells place cell) other ≡ Some row → ((other ≡ place) × (cell ≡ Some row)) ⊎ ((other ≢ place) × (row_at cells other ≡ Some row))
   set_cases [] place cell other row within at = absurd (omega arith)
   set_cases (first ∷ cells) zero cell zero row within at = inl (refl, at)
   set_cases (first ∷ cells) zero cell (suc other) row within at = inr ((λ is. omega arith), at)
@@ -44,14 +45,18 @@ module _ {T : Type 0} where
       let e : (row.key == key) ≡ false = ne_eqb row.key key (none 0 row refl) in
       rw e (ap (λ rows. row ∷ rows) (without_other key cells (λ place other at. none (suc place) other at)))
 
-  other_key : (one other : Row T) → one.key ≡ other.key → (cells : List (Option (Row T))) → IsPlaceOf one.key cells None → IsPlaceOf other.key cells None
+  other_key : (one other : Row T) → one.key ≡ other.key → (cells : List (Option (Row T))) → IsPlaceOf one.key cells None
+      → IsPlaceOf other.key cells None
   other_key one other same cells none place row at is = none place row at (is ∙ sym same)
 
-  key_at : (cells : List (Option (Row T))) (first : Row T) (place : ℕ) (was : Row T) → AreOnce (Some first ∷ cells) → row_at cells place ≡ Some was → (first.key == was.key) ≡ false
-  key_at cells first place was once at = ne_eqb first.key was.key (λ same. let clash : 0 ≡ suc place = once 0 (suc place) first was refl at same in omega arith)
+  key_at : (cells : List (Option (Row T))) (first : Row T) (place : ℕ) (was : Row T) → AreOnce (Some first ∷ cells) → row_at cells place ≡ Some was
+      → (first.key == was.key) ≡ false
+  key_at cells first place was once at = ne_eqb first.key was.key
+      (λ same. let clash : 0 ≡ suc place = once 0 (suc place) first was refl at same in omega arith)
 
   -- the row at a place becomes another with its key
-  pub rows_set : (cells : List (Option (Row T))) (place : ℕ) (was new : Row T) → AreOnce cells → row_at cells place ≡ Some was → was.key ≡ new.key → rows_in (set cells place (Some new)) ≡ with_row new (rows_in cells)
+  pub rows_set : (cells : List (Option (Row T))) (place : ℕ) (was new : Row T) → AreOnce cells → row_at cells place ≡ Some was → was.key ≡ new.key
+      → rows_in (set cells place (Some new)) ≡ with_row new (rows_in cells)
   rows_set [] place was new once at same = absurd (none-some was at)
   rows_set (None ∷ cells) zero was new once at same = absurd (none-some was at)
   rows_set (None ∷ cells) (suc place) was new once at same = rows_set cells place was new (once_tail None cells once) at same
@@ -64,7 +69,8 @@ module _ {T : Type 0} where
       rw e (ap (λ rows. first ∷ rows) (rows_set cells place was new (once_tail (Some first) cells once) at same))
 
   -- the row at a place goes
-  pub rows_clear : (cells : List (Option (Row T))) (place : ℕ) (was : Row T) → AreOnce cells → row_at cells place ≡ Some was → rows_in (set cells place None) ≡ without was.key (rows_in cells)
+  pub rows_clear : (cells : List (Option (Row T))) (place : ℕ) (was : Row T) → AreOnce cells → row_at cells place ≡ Some was
+      → rows_in (set cells place None) ≡ without was.key (rows_in cells)
   rows_clear [] place was once at = absurd (none-some was at)
   rows_clear (None ∷ cells) zero was once at = absurd (none-some was at)
   rows_clear (None ∷ cells) (suc place) was once at = rows_clear cells place was (once_tail None cells once) at
@@ -76,14 +82,16 @@ module _ {T : Type 0} where
       let e : (first.key == was.key) ≡ false = key_at cells first place was once at in
       rw e (ap (λ rows. first ∷ rows) (rows_clear cells place was (once_tail (Some first) cells once) at))
 
-  pub count_clear : (cells : List (Option (Row T))) (place : ℕ) (was : Row T) → row_at cells place ≡ Some was → length (rows_in (set cells place None)) + 1 ≡ length (rows_in cells)
+  pub count_clear : (cells : List (Option (Row T))) (place : ℕ) (was : Row T) → row_at cells place ≡ Some was
+      → length (rows_in (set cells place None)) + 1 ≡ length (rows_in cells)
   count_clear [] place was at = absurd (none-some was at)
   count_clear (None ∷ cells) zero was at = absurd (none-some was at)
   count_clear (None ∷ cells) (suc place) was at = count_clear cells place was at
   count_clear (Some first ∷ cells) zero was at = omega arith
   count_clear (Some first ∷ cells) (suc place) was at = omega (arith, count_clear cells place was at)
 
-  pub count_set : (cells : List (Option (Row T))) (place : ℕ) (was new : Row T) → row_at cells place ≡ Some was → length (rows_in (set cells place (Some new))) ≡ length (rows_in cells)
+  pub count_set : (cells : List (Option (Row T))) (place : ℕ) (was new : Row T) → row_at cells place ≡ Some was
+      → length (rows_in (set cells place (Some new))) ≡ length (rows_in cells)
   count_set [] place was new at = absurd (none-some was at)
   count_set (None ∷ cells) zero was new at = absurd (none-some was at)
   count_set (None ∷ cells) (suc place) was new at = count_set cells place was new at
@@ -100,7 +108,8 @@ module _ {T : Type 0} where
         ]
       ]
 
-  pub once_set : (cells : List (Option (Row T))) (place : ℕ) (was new : Row T) → place < length cells → AreOnce cells → row_at cells place ≡ Some was → was.key ≡ new.key → AreOnce (set cells place (Some new))
+  pub once_set : (cells : List (Option (Row T))) (place : ℕ) (was new : Row T) → place < length cells → AreOnce cells → row_at cells place ≡ Some was
+      → was.key ≡ new.key → AreOnce (set cells place (Some new))
   once_set cells place was new within once at is one other row next at_one at_other same =
       elim (set_cases cells place (Some new) one row within at_one) [
         | inl a ↦ elim (set_cases cells place (Some new) other next within at_other) [
@@ -113,21 +122,39 @@ module _ {T : Type 0} where
         ]
       ]
 
-  pub indexed_clear : (cells : List (Option (Row T))) (moments : List ℕ) (chained : Chained) (alarms : List (Reverse (ℕ × ℕ))) (place : ℕ) → place < length cells → IsIndexed cells moments chained alarms → IsIndexed (set cells place None) moments (without_place place chained) alarms
+  pub indexed_clear : (cells : List (Option (Row T))) (moments : List ℕ) (chained : Chained) (alarms : List (Reverse (ℕ × ℕ))) (place : ℕ)
+      → place < length cells → IsIndexed cells moments chained alarms → IsIndexed (set cells place None) moments (without_place place chained) alarms
   indexed_clear cells moments chained alarms place within indexed = record {
     watches = indexed.watches ∙ sym (length-set cells place None);
     links = length-set chained.buckets place chained.width ∙ indexed.links ∙ sym (length-set cells place None);
-    hashed = λ other row at. elim (set_cases cells place None other row within at) [ inl h ↦ absurd (none-some row (h.1)) | inr h ↦ stays chained.buckets place chained.width other (h.0) ∙ indexed.hashed other row (h.1) ];
-    watched = λ other row end at ends. elim (set_cases cells place None other row within at) [ inl h ↦ absurd (none-some row (h.1)) | inr h ↦ indexed.watched other row end (h.1) ends ];
+    hashed = λ other row at.
+        elim (set_cases cells place None other row within at) [
+          | inl h ↦ absurd (none-some row (h.1))
+          | inr h ↦ stays chained.buckets place
+              chained.width other (h.0) ∙ indexed.hashed other row (h.1)
+        ];
+    watched = λ other row end at ends.
+        elim (set_cases cells place None other row within at) [
+          | inl h ↦ absurd (none-some row (h.1))
+          | inr h ↦ indexed.watched other row end
+              (h.1) ends
+        ];
   }
 
   -- the place of a row is in a bucket
-  pub row_there : (cells : List (Option (Row T))) (chained : Chained) (place : ℕ) (row : Row T) → 0 < chained.width → AreHashed cells chained → row_at cells place ≡ Some row → slice_index chained.buckets place < chained.width
+  pub row_there : (cells : List (Option (Row T))) (chained : Chained) (place : ℕ) (row : Row T) → 0 < chained.width → AreHashed cells chained
+      → row_at cells place ≡ Some row → slice_index chained.buckets place < chained.width
   row_there cells chained place row some hashed at =
       let small : bucket_of chained row.key < chained.width = bucket_small (hash_of chained.seed row.key) chained.width (omega arith) some in
       let P : ℕ → Type 0 = λ bucket. bucket < chained.width in subst P (sym (hashed place row at)) small
 
-  pub indexed_set : (cells : List (Option (Row T))) (moments moments' : List ℕ) (chained : Chained) (alarms alarms' : List (Reverse (ℕ × ℕ))) (place : ℕ) (was new : Row T) → place < length cells → row_at cells place ≡ Some was → was.key ≡ new.key → IsIndexed cells moments chained alarms → length moments' ≡ length moments → ((other : ℕ) → other ≢ place → slice_index moments' other ≡ slice_index moments other) → ((one : Reverse (ℕ × ℕ)) → Contains alarms one → Contains alarms' one) → ((end : ℕ) → new.end ≡ Some end → (slice_index moments' place ≤ end) × Contains alarms' (alarm (slice_index moments' place) place)) → IsIndexed (set cells place (Some new)) moments' chained alarms'
+  pub indexed_set : (cells : List (Option (Row T))) (moments moments' : List ℕ) (chained : Chained) (alarms alarms' : List (Reverse (ℕ × ℕ)))
+      (place : ℕ) (was new : Row T) → place < length cells → row_at cells place ≡ Some was → was.key ≡ new.key
+      → IsIndexed cells moments chained alarms → length moments' ≡ length moments
+      → ((other : ℕ) → other ≢ place → slice_index moments' other ≡ slice_index moments other)
+      → ((one : Reverse (ℕ × ℕ)) → Contains alarms one → Contains alarms' one)
+      → ((end : ℕ) → new.end ≡ Some end → (slice_index moments' place ≤ end) × Contains alarms' (alarm (slice_index moments' place) place))
+      → IsIndexed (set cells place (Some new)) moments' chained alarms'
   indexed_set cells moments moments' chained alarms alarms' place was new within at is indexed long same more own = record {
     watches = long ∙ indexed.watches ∙ sym (length-set cells place (Some new));
     links = indexed.links ∙ sym (length-set cells place (Some new));
@@ -148,11 +175,17 @@ module _ {T : Type 0} where
     ];
   }
 
-  watched_end : (cells : List (Option (Row T))) (moments : List ℕ) (alarms : List (Reverse (ℕ × ℕ))) (place : ℕ) (row : Row T) (was : Option ℕ) (end : ℕ) → AreWatched cells moments alarms → row_at cells place ≡ Some row → row.end ≡ was → (is_some was && nat_le (slice_index moments place) end) ≡ true → (slice_index moments place ≤ end) × Contains alarms (alarm (slice_index moments place) place)
+  watched_end : (cells : List (Option (Row T))) (moments : List ℕ) (alarms : List (Reverse (ℕ × ℕ))) (place : ℕ) (row : Row T) (was : Option ℕ)
+      (end : ℕ) → AreWatched cells moments alarms → row_at cells place ≡ Some row → row.end ≡ was
+      → (is_some was && nat_le (slice_index moments place) end) ≡ true → (slice_index moments place ≤ end)
+      × Contains alarms (alarm (slice_index moments place) place)
   watched_end cells moments alarms place row None end watched at ends is = let bad : ⊥ = cc in absurd bad
-  watched_end cells moments alarms place row (Some was) end watched at ends is = (leb-true (slice_index moments place) end is, (watched place row was at ends).1)
+  watched_end cells moments alarms place row (Some was) end watched at ends is =
+      (leb-true (slice_index moments place) end is, (watched place row was at ends).1)
 
   -- a row whose place is looked at before its new end is looked at soon enough
-  pub watched_then : (cells : List (Option (Row T))) (moments : List ℕ) (alarms : List (Reverse (ℕ × ℕ))) (place : ℕ) (cell : Option (Row T)) (end : ℕ) → AreWatched cells moments alarms → row_at cells place ≡ cell → is_watched (slice_index moments place) end cell ≡ true → (slice_index moments place ≤ end) × Contains alarms (alarm (slice_index moments place) place)
+  pub watched_then : (cells : List (Option (Row T))) (moments : List ℕ) (alarms : List (Reverse (ℕ × ℕ))) (place : ℕ) (cell : Option (Row T))
+      (end : ℕ) → AreWatched cells moments alarms → row_at cells place ≡ cell → is_watched (slice_index moments place) end cell ≡ true
+      → (slice_index moments place ≤ end) × Contains alarms (alarm (slice_index moments place) place)
   watched_then cells moments alarms place None end watched at is = let bad : ⊥ = cc in absurd bad
   watched_then cells moments alarms place (Some row) end watched at is = watched_end cells moments alarms place row row.end end watched at refl is

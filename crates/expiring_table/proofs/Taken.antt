@@ -18,7 +18,8 @@ module _ {T : Type 0} where
   without_none key (row ∷ rows) none =
       elim (cases_Bool (row.key == key)) [
         | inl e ↦ let found : Some row ≡ None = sym (rw e refl) ∙ none in absurd (none-some row (sym found))
-        | inr e ↦ let rest : row_of key rows ≡ None = (let p : row_of key (row ∷ rows) ≡ row_of key rows = rw e refl in sym p ∙ none) in rw e (ap (λ more. row ∷ more) (without_none key rows rest))
+        | inr e ↦ let rest : row_of key rows ≡ None = (let p : row_of key (row ∷ rows) ≡ row_of key rows = rw e refl in sym p ∙ none) in
+            rw e (ap (λ more. row ∷ more) (without_none key rows rest))
       ]
 
   pub with_none : (new : Row T) (rows : List (Row T)) → row_of new.key rows ≡ None → with_row new rows ≡ rows
@@ -26,11 +27,13 @@ module _ {T : Type 0} where
   with_none new (row ∷ rows) none =
       elim (cases_Bool (row.key == new.key)) [
         | inl e ↦ let found : row_of new.key (row ∷ rows) ≡ Some row = rw e refl in absurd (none-some row (sym none ∙ found))
-        | inr e ↦ let rest : row_of new.key (row ∷ rows) ≡ row_of new.key rows = rw e refl in rw e (ap (λ more. row ∷ more) (with_none new rows (sym rest ∙ none)))
+        | inr e ↦ let rest : row_of new.key (row ∷ rows) ≡ row_of new.key rows = rw e refl in
+            rw e (ap (λ more. row ∷ more) (with_none new rows (sym rest ∙ none)))
       ]
 
   -- the first row is the one that is found, or the rest has it
-  found_cases : (first row : Row T) (rows : List (Row T)) → row_of row.key (first ∷ rows) ≡ Some row → ((first.key == row.key) ≡ true × (first ≡ row)) ⊎ ((first.key == row.key) ≡ false × (row_of row.key rows ≡ Some row))
+  found_cases : (first row : Row T) (rows : List (Row T)) → row_of row.key (first ∷ rows) ≡ Some row → ((first.key == row.key) ≡ true × (first ≡ row))
+      ⊎ ((first.key == row.key) ≡ false × (row_of row.key rows ≡ Some row))
   found_cases first row rows found =
       elim (cases_Bool (first.key == row.key)) [
         | inl e ↦ let p : row_of row.key (first ∷ rows) ≡ Some first = rw e refl in inl (e, same_Some first row (sym p ∙ found))
@@ -42,7 +45,8 @@ module _ {T : Type 0} where
   rest_is first row rows distinct same =
       let P : ℕ → Type 0 = λ key. row_of key rows ≡ None in without_none row.key rows (subst P (ap (λ (one : Row T). one.key) same) (distinct.0))
 
-  pub taken_fewer : (row : Row T) (rows : List (Row T)) → AreDistinct rows → row_of row.key rows ≡ Some row → length (without row.key rows) + 1 ≡ length rows
+  pub taken_fewer : (row : Row T) (rows : List (Row T)) → AreDistinct rows → row_of row.key rows ≡ Some row
+      → length (without row.key rows) + 1 ≡ length rows
   taken_fewer row [] distinct found = absurd (none-some row found)
   taken_fewer row (first ∷ rows) distinct found =
       elim (found_cases first row rows found) [

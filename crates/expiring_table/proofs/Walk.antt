@@ -28,11 +28,13 @@ module _ {T : Type 0} where
     pub ahead : (place : ℕ) (row : Row T) → row_at cells place ≡ Some row → row.key ≡ key → IsAhead place at
 
 -- what stands before the places, and in the bucket, is still ahead
-ahead_of : (bucket : ℕ) (buckets : List ℕ) (places : ℕ) (at : Option ℕ) (place : ℕ) → IsLast bucket buckets places at → place < places → slice_index buckets place ≡ bucket → IsAhead place at
+ahead_of : (bucket : ℕ) (buckets : List ℕ) (places : ℕ) (at : Option ℕ) (place : ℕ) → IsLast bucket buckets places at → place < places
+    → slice_index buckets place ≡ bucket → IsAhead place at
 ahead_of bucket buckets places None place last within is = last place within is
 ahead_of bucket buckets places (Some at) place last within is = elim (cases_lt at place) [ inl h ↦ absurd (last.2 place h within is) | inr h ↦ h ]
 
-in_bucket : (bucket : ℕ) (buckets : List ℕ) (places : ℕ) (at : Option ℕ) → IsLast bucket buckets places at → places ≤ length buckets → IsInBucket bucket buckets at
+in_bucket : (bucket : ℕ) (buckets : List ℕ) (places : ℕ) (at : Option ℕ) → IsLast bucket buckets places at → places ≤ length buckets
+    → IsInBucket bucket buckets at
 in_bucket bucket buckets places None last within = tt
 in_bucket bucket buckets places (Some at) last within = (omega (arith, last.0), last.1)
 
@@ -41,29 +43,37 @@ fewer bucket buckets places None last = omega arith
 fewer bucket buckets places (Some at) last = omega (arith, last.0)
 
 module _ {T : Type 0} where
-  pub walk_start : (key : ℕ) (cells : List (Option (Row T))) (chained : Chained) (at : Option ℕ) → length chained.buckets ≡ length cells → AreHashed cells chained → IsLast (bucket_of chained key) chained.buckets (length chained.buckets) at → IsWalk key cells chained at
+  pub walk_start : (key : ℕ) (cells : List (Option (Row T))) (chained : Chained) (at : Option ℕ) → length chained.buckets ≡ length cells
+      → AreHashed cells chained → IsLast (bucket_of chained key) chained.buckets (length chained.buckets) at → IsWalk key cells chained at
   walk_start key cells chained at links hashed last = record {
     bucket = in_bucket (bucket_of chained key) chained.buckets (length chained.buckets) at last (omega arith);
     ahead = λ place row at_place same.
         let within : place < length cells = row_within cells place row at_place in
-        ahead_of (bucket_of chained key) chained.buckets (length chained.buckets) at place last (omega arith) (hashed place row at_place ∙ ap (bucket_of chained) same);
+        ahead_of (bucket_of chained key) chained.buckets (length chained.buckets) at place last (omega arith)
+        (hashed place row at_place ∙ ap (bucket_of chained) same);
   }
 
   -- another cell than that of the key was met
-  pub walk_on : (key : ℕ) (cells : List (Option (Row T))) (chained : Chained) (met : ℕ) (at : Option ℕ) → AreHashed cells chained → IsWalk key cells chained (Some met) → is_cell_of key (row_at cells met) ≡ false → IsLast (slice_index chained.buckets met) chained.buckets met at → IsWalk key cells chained at
+  pub walk_on : (key : ℕ) (cells : List (Option (Row T))) (chained : Chained) (met : ℕ) (at : Option ℕ) → AreHashed cells chained
+      → IsWalk key cells chained (Some met) → is_cell_of key (row_at cells met) ≡ false
+      → IsLast (slice_index chained.buckets met) chained.buckets met at → IsWalk key cells chained at
   walk_on key cells chained met at hashed walk other last =
       let last' : IsLast (bucket_of chained key) chained.buckets met at = rw (walk.bucket.1) at last in record {
         bucket = in_bucket (bucket_of chained key) chained.buckets met at last' (omega (arith, walk.bucket.0));
         ahead = λ place row at_place same.
             let before : place ≤ met = walk.ahead place row at_place same in
-            let not_met : place ≡ met → ⊥ = λ is. true≢false (sym (eq-eqb row.key key same) ∙ ap (is_cell_of key) (sym at_place ∙ ap (row_at cells) is) ∙ other) in
-            ahead_of (bucket_of chained key) chained.buckets met at place last' (elim (eq-or-lt_of_le before) [ inl is ↦ absurd (not_met is) | inr h ↦ h ]) (hashed place row at_place ∙ ap (bucket_of chained) same);
+            let not_met : place ≡ met
+            → ⊥ = λ is. true≢false (sym (eq-eqb row.key key same) ∙ ap (is_cell_of key) (sym at_place ∙ ap (row_at cells) is) ∙ other) in
+            ahead_of (bucket_of chained key) chained.buckets met at place last'
+            (elim (eq-or-lt_of_le before) [ inl is ↦ absurd (not_met is) | inr h ↦ h ]) (hashed place row at_place ∙ ap (bucket_of chained) same);
       }
 
   -- the cell of the key was met
-  pub walk_found : (key : ℕ) (cells : List (Option (Row T))) (met : ℕ) → met < length cells → (cell : Option (Row T)) → row_at cells met ≡ cell → is_cell_of key cell ≡ true → IsPlaceOf key cells (Some met)
+  pub walk_found : (key : ℕ) (cells : List (Option (Row T))) (met : ℕ) → met < length cells → (cell : Option (Row T)) → row_at cells met ≡ cell
+      → is_cell_of key cell ≡ true → IsPlaceOf key cells (Some met)
   walk_found key cells met within None at is = absurd (true≢false (sym is))
   walk_found key cells met within (Some row) at is = (within, (row, at, eqb-true row.key key is))
 
-  pub met_within : (key : ℕ) (cells : List (Option (Row T))) (chained : Chained) (met : ℕ) → length chained.buckets ≡ length cells → IsWalk key cells chained (Some met) → met < length cells
+  pub met_within : (key : ℕ) (cells : List (Option (Row T))) (chained : Chained) (met : ℕ) → length chained.buckets ≡ length cells
+      → IsWalk key cells chained (Some met) → met < length cells
   met_within key cells chained met links walk = omega (arith, walk.bucket.0)

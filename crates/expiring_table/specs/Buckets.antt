@@ -8,7 +8,8 @@ wrapped n = n % 2 ^ 64
 -- a sum of the key's four words of 32 bits, each times a part of the seed, of which the upper half is taken
 abbrev pub hash_of : Seed → ℕ → ℕ
 hash_of seed key =
-    wrapped (wrapped (wrapped (wrapped (seed.base + wrapped (seed.first * (key % 2 ^ 32))) + wrapped (seed.second * (key / 2 ^ 32 % 2 ^ 32))) + wrapped (seed.third * (key / 2 ^ 64 % 2 ^ 32))) + wrapped (seed.fourth * (key / 2 ^ 96))) / 2 ^ 32
+    wrapped (wrapped (wrapped (wrapped (seed.base + wrapped (seed.first * (key % 2 ^ 32))) + wrapped (seed.second * (key / 2 ^ 32 % 2 ^ 32)))
+    + wrapped (seed.third * (key / 2 ^ 64 % 2 ^ 32))) + wrapped (seed.fourth * (key / 2 ^ 96))) / 2 ^ 32
 
 -- the bucket of a key, of so many: the hash, which is below 2^32, drawn down to their number
 abbrev pub bucket_in : Seed → ℕ → ℕ → ℕ

@@ -23,7 +23,8 @@ with_place bucket chained = record chained { buckets = chained.buckets ++ bucket
 -- the last of the first places that is in the bucket, and None where none of them is
 abbrev pub IsLast : ℕ → List ℕ → ℕ → Option ℕ → Type 0
 IsLast bucket buckets places None = (other : ℕ) → other < places → slice_index buckets other ≢ bucket
-IsLast bucket buckets places (Some place) = (place < places) × (slice_index buckets place ≡ bucket) × ((other : ℕ) → place < other → other < places → slice_index buckets other ≢ bucket)
+IsLast bucket buckets places (Some place) = (place < places) × (slice_index buckets place ≡ bucket)
+    × ((other : ℕ) → place < other → other < places → slice_index buckets other ≢ bucket)
 
 -- a place is in no bucket any more
 abbrev pub without_place : ℕ → Chained → Chained
@@ -32,4 +33,5 @@ without_place place chained = record chained { buckets = slice_set chained.bucke
 -- the first place behind another that is in the bucket, and None where none is
 abbrev pub IsNext : ℕ → List ℕ → ℕ → Option ℕ → Type 0
 IsNext bucket buckets place None = (other : ℕ) → place < other → other < length buckets → slice_index buckets other ≢ bucket
-IsNext bucket buckets place (Some next) = (place < next) × (next < length buckets) × (slice_index buckets next ≡ bucket) × ((other : ℕ) → place < other → other < next → slice_index buckets other ≢ bucket)
+IsNext bucket buckets place (Some next) = (place < next) × (next < length buckets) × (slice_index buckets next ≡ bucket)
+    × ((other : ℕ) → place < other → other < next → slice_index buckets other ≢ bucket)

@@ -68,7 +68,8 @@ module _ {T : Type 0} where
 
   -- each row that ends has an alarm, no later than its end
   abbrev pub AreWatched : List (Option (Row T)) → List ℕ → List (Reverse (ℕ × ℕ)) → Type 0
-  AreWatched cells moments alarms = (place : ℕ) (row : Row T) (end : ℕ) → row_at cells place ≡ Some row → row.end ≡ Some end → (slice_index moments place ≤ end) × Contains alarms (alarm (slice_index moments place) place)
+  AreWatched cells moments alarms = (place : ℕ) (row : Row T) (end : ℕ) → row_at cells place ≡ Some row → row.end ≡ Some end
+      → (slice_index moments place ≤ end) × Contains alarms (alarm (slice_index moments place) place)
 
   -- the rows of these cells can be found by their keys and by their ends
   pub record IsIndexed (cells : List (Option (Row T))) (moments : List ℕ) (chained : Chained) (alarms : List (Reverse (ℕ × ℕ))) : Type 0 where

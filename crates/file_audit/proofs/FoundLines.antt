@@ -1,5 +1,5 @@
 -- The line that octets go on with.
-use Rattle.std.proofs.Common.{◌≡◌, ◌<◌, ◌≤◌, ◌+◌, ◌-◌, ◌*◌, ◌^◌, ℕ, zero, suc, Bool, true, false, cond, ◌&&◌, ◌==◌, nat_lt, nat_le, List, [], ◌∷◌, ◌++◌, length, min, take, drop, get_or, refl, sym, ap, ◌∙◌, arith, append-nil, length-drop, codes, decimal, take_at, drop_at}
+use Rattle.std.proofs.Common.{◌≡◌, ◌<◌, ◌≤◌, ◌+◌, ◌-◌, ◌*◌, ◌^◌, ℕ, zero, suc, Bool, true, false, cond, ◌&&◌, ◌==◌, nat_lt, nat_le, List, [], ◌∷◌, ◌++◌, length, min, take, drop, get_or, refl, sym, ap, ◌∙◌, arith, append-nil, length-drop, decimal, take_at, drop_at}
 use Rattle.std.specs.Char.{digit_value, is_ascii_digit}
 use Rattle.std.specs.Str.Parse.{AllDigits, digits_value_after}
 use Rattle.std.proofs.lemmas.Bool.{and_parts, and_from, false≢true, true≢false, eq-eqb, eqb-true, lt-ltb, le-leb, leb-true}
@@ -7,10 +7,12 @@ use Rattle.std.proofs.lemmas.Fmt.{decimal_is_IsNumeral, decimal_digit, first_dec
 use Rattle.std.proofs.lemmas.List.Sums.{common_prefix_len-le}
 use Rattle.std.proofs.lemmas.Str.{digit_value_digit}
 use Rattle.std.proofs.lemmas.Str.Parse.{digit_from_value}
-use Rattle.lawful_files.proofs.LineEnds.{behind_number, text_is, json_is}
+use Rattle.gate_report.proofs.LineEnds.{cut}
+use Rattle.gate_report.specs.Lines.{line_octets, front_octets}
+use Rattle.gate_settings.specs.declared.settings.ReportForm.{ReportForm}
 use Rattle.file_audit.specs.declared.line.Extent.{Extent}
 use Rattle.file_audit.specs.declared.line.LineHead.{LineHead}
-use Rattle.file_audit.specs.Lines.{agreed, agreement, number_after, octets_of, line_with}
+use Rattle.file_audit.specs.Lines.{agreed, agreement, number_after, line_with}
 
 -- ## How far octets agree
 
@@ -82,18 +84,6 @@ number_is n (d ∷ ds) mark q h none small =
 
 -- ## The line of a frame
 
--- it is cut in front of the number that it tells and behind it
-record Cut (json : Bool) (h : LineHead) : Type 0 where
-  front : List ℕ
-  mark : ℕ
-  none : 10 ≤ digit_value mark
-  behind : List ℕ → List ℕ
-  line : (n : ℕ) (r : List ℕ) → octets_of json (line_with h n) ++ r ≡ front ++ (decimal n ++ mark ∷ behind r)
-
-cut : (json : Bool) (h : LineHead) → Cut json h
-cut true h = record { front = codes "{\"event\":" ++ decimal h.number ++ codes ",\"frames\":"; mark = 44; none = omega arith; behind = behind_number h.side h.moment.0 h.verdict; line = λ n r. json_is h.number h.side h.moment.0 h.verdict n r }
-cut false h = record { front = _; mark = 10; none = omega arith; behind = λ r. r; line = λ n r. text_is h.number h.side h.moment.0 h.verdict n r }
-
 unlike : (x y : ℕ) → x < y → same x y ≡ false
 unlike x y less = by_test (same x y) refl
   where
@@ -107,21 +97,22 @@ apart front [] mark xs ys first = let none : 48 < 0 = first in absurd (omega (ar
 apart front (d ∷ ds) mark xs ys first = agreed_until front 48 d (mark ∷ xs) (ds ++ mark ∷ ys) (unlike 48 d first)
 
 -- so the number that stands there is that of the line with which the octets go on
-pub told : (json : Bool) (h : LineHead) (m : ℕ) (octets rest : List ℕ) → m < 2 ^ 32 → octets ≡ octets_of json (line_with h m) ++ rest → (agreed (octets_of json (line_with h 0)) octets ≡ length (octets_of json (line_with h 0)) → ⊥)
-    → number_after 0 (drop (agreed (octets_of json (line_with h 0)) octets) octets) ≡ m
-told json h zero octets rest small e other = absurd (other (ap (agreed (octets_of json (line_with h 0))) e ∙ agreed_whole (octets_of json (line_with h 0)) rest))
-told json h (suc k) octets rest small e other =
+pub told : (form : ReportForm) (h : LineHead) (m : ℕ) (octets rest : List ℕ) → m < 2 ^ 32 → octets ≡ line_octets form (line_with h m) ++ rest → (agreed (line_octets form (line_with h 0)) octets ≡ length (line_octets form (line_with h 0)) → ⊥)
+    → number_after 0 (drop (agreed (line_octets form (line_with h 0)) octets) octets) ≡ m
+told form h zero octets rest small e other = absurd (other (ap (agreed (line_octets form (line_with h 0))) e ∙ agreed_whole (line_octets form (line_with h 0)) rest))
+told form h (suc k) octets rest small e other =
     let m : ℕ = suc k in
-    let c = cut json h in
-    let none = octets_of json (line_with h 0) in
+    let c = cut form h.number h.side h.moment.0 h.verdict in
+    let front = front_octets form h.number h.side h.moment.0 h.verdict in
+    let none = line_octets form (line_with h 0) in
     let number = decimal_is_IsNumeral m (omega (arith, small)) in
-    let there : octets ≡ c.front ++ (decimal m ++ c.mark ∷ c.behind rest) = e ∙ c.line m rest in
-    let zero_line : none ≡ c.front ++ (48 ∷ c.mark ∷ c.behind []) = sym (append-nil none) ∙ c.line 0 [] ∙ ap (λ (ds : List ℕ). c.front ++ (ds ++ c.mark ∷ c.behind [])) (decimal_digit 0 (omega arith)) in
-    let extent : agreed none octets ≡ length c.front =
-    ap (λ (xs : List ℕ). agreed xs octets) zero_line ∙ ap (agreed (c.front ++ (48 ∷ c.mark ∷ c.behind []))) there
-    ∙ apart c.front (decimal m) c.mark (c.behind []) (c.behind rest) (first_decimal m (omega arith) (omega (arith, small))) in
-    ap (λ (n : ℕ). number_after 0 (drop n octets)) extent ∙ ap (λ (xs : List ℕ). number_after 0 (drop (length c.front) xs)) there
-    ∙ ap (number_after 0) (drop_at c.front (decimal m ++ c.mark ∷ c.behind rest) (length c.front) refl)
+    let there : octets ≡ front ++ (decimal m ++ c.mark ∷ c.behind rest) = e ∙ c.line m rest in
+    let zero_line : none ≡ front ++ (48 ∷ c.mark ∷ c.behind []) = sym (append-nil none) ∙ c.line 0 [] ∙ ap (λ (ds : List ℕ). front ++ (ds ++ c.mark ∷ c.behind [])) (decimal_digit 0 (omega arith)) in
+    let extent : agreed none octets ≡ length front =
+    ap (λ (xs : List ℕ). agreed xs octets) zero_line ∙ ap (agreed (front ++ (48 ∷ c.mark ∷ c.behind []))) there
+    ∙ apart front (decimal m) c.mark (c.behind []) (c.behind rest) (first_decimal m (omega arith) (omega (arith, small))) in
+    ap (λ (n : ℕ). number_after 0 (drop n octets)) extent ∙ ap (λ (xs : List ℕ). number_after 0 (drop (length front) xs)) there
+    ∙ ap (number_after 0) (drop_at front (decimal m ++ c.mark ∷ c.behind rest) (length front) refl)
     ∙ number_is 0 (decimal m) c.mark (c.behind rest) number.0.1 c.none (omega (arith, number.1, small)) ∙ number.1
 
 -- ## What is found

@@ -1,5 +1,6 @@
 -- What is taken of the given files, and what is left of them.
 use Rattle.std.proofs.Common.{◌≡◌, ◌<◌, ◌+◌, ◌-◌, ℕ, List, Bool, true, false, Result, Ok, Err, Option, Some, None, IfSome, length, drop, refl, sym, ap, subst, ◌∙◌, arith, drop-drop}
+use Rattle.gate_settings.specs.declared.settings.ReportForm.{ReportForm}
 use Rattle.gate_base.specs.declared.side.Side.TheVariants.{Left, Right}
 use Rattle.gate_desk.specs.declared.desk.Failed.{Failed}
 use Rattle.gate_desk.specs.declared.slot.Slot.TheVariants.{LeftGiven, RightGiven, ReportGiven}
@@ -162,13 +163,13 @@ next_right true frames r r' a a' old new running h = took_right frames r r' a a'
 next_right false frames r r' a a' old new running h = few_right frames r old.left (subst (λ s. IfSome (told_at old.left s) (λ octets. length (records_from r.right.form r.right.place octets).packets < frames)) running.right_slot h.1)
 
 -- what is taken for a line
-pub line_some : (result : Result (Option ℕ) AuditStop) (json : Bool) (h : LineHead) (ahead ahead' : List ℕ) (old new : Outside) → TakesLine result json h ahead ahead' old new → ReadsGiven old new
-line_some (Ok (Some frames)) json h ahead ahead' old new k = reads_report old new (k.count, k.takes)
-line_some (Ok None) json h ahead ahead' old new k = reads_report old new k.0
-line_some (Err (Desk slot)) json h ahead ahead' old new k = reads_report old new k.0
-line_some (Err OutOfMemory) json h ahead ahead' old new k = reads_report old new k.0
-line_some (Err (Unlawful number reason)) json h ahead ahead' old new k = absurd k
-line_some (Err (Capture side fault place)) json h ahead ahead' old new k = absurd k
+pub line_some : (result : Result (Option ℕ) AuditStop) (form : ReportForm) (h : LineHead) (ahead ahead' : List ℕ) (old new : Outside) → TakesLine result form h ahead ahead' old new → ReadsGiven old new
+line_some (Ok (Some frames)) form h ahead ahead' old new k = reads_report old new (k.count, k.takes)
+line_some (Ok None) form h ahead ahead' old new k = reads_report old new k.0
+line_some (Err (Desk slot)) form h ahead ahead' old new k = reads_report old new k.0
+line_some (Err OutOfMemory) form h ahead ahead' old new k = reads_report old new k.0
+line_some (Err (Unlawful number reason)) form h ahead ahead' old new k = absurd k
+line_some (Err (Capture side fault place)) form h ahead ahead' old new k = absurd k
 
 pub end_some : (result : Result Bool Failed) (r : Reading) (old new : Outside) → FindsEnd result r old new → TakesSome r old new
 end_some (Ok true) r old new k = k.0

@@ -1,5 +1,6 @@
 -- How far an audit has come: the steps of its loop.
 use Rattle.std.proofs.Common.{◌≡◌, ℕ, ◌+◌, List, [], ◌∷◌, ◌++◌, Ok, Err, Option, Some, None, IfSome, inl, inr, length, refl, sym, ap, subst, ◌∙◌, arith, append_assoc, append-nil, length-append, option_map}
+use Rattle.gate_report.specs.Lines.{takes_memory}
 use Rattle.frag_join.specs.Prelude.{Arrival, arrival, arrival_by, arrivals_of, arrivals_from, joined_in, joiner_after, joiner_of, known_joiner, opened, by_list, by_known, Coverage}
 use Rattle.frag_join.specs.Arrivals.{taken_by}
 use Rattle.frag_join.specs.declared.taken.Taken.{Taken}
@@ -199,7 +200,7 @@ finds_at (stops.Unlawful number reason) settings m0 m m' r0 r r' a a' joiner s e
     (subst (λ o. IfSome o (λ g. IsReasonAt a.settings s (arrival by_known joiner e) g number reason)) (same_given r now mid came.reads) f))
 finds_at (stops.Capture side fault place) settings m0 m m' r0 r r' a a' joiner s e old now mid new h grows came is f = absurd f
 finds_at (stops.Desk slot) settings m0 m m' r0 r r' a a' joiner s e old now mid new h grows came is f = (f.0, failed_since slot old mid new (grows_on old now mid grows came.reads.grows) f.1)
-finds_at stops.OutOfMemory settings m0 m m' r0 r r' a a' joiner s e old now mid new h grows came is f = inl (sym (ap (λ (x : Settings). x.json) is) ∙ f)
+finds_at stops.OutOfMemory settings m0 m m' r0 r r' a a' joiner s e old now mid new h grows came is f = inl (sym (ap (λ (x : Settings). takes_memory x.report) is) ∙ f)
 
 wants-of : (settings : Settings) (s : State) (done : List Event) (joiner : Joined) (e : Event) (o : Option Merged) (p q : Option Given) → joiner ≡ known_joiner (joiner_of settings.join done)
     → Alike (λ g left. CameTo settings (opening settings) g (arrivals_of settings.join done) s left) p q → MayWantFor s.world (arrival by_known joiner e) → IfBoth (option_map (front_of done) (option_map (with_event e) o)) p (WantsAt settings)

@@ -1,5 +1,7 @@
 -- Where memory is wanting.
 use Rattle.std.proofs.Common.{◌≡◌, ℕ, List, Bool, Err, sym, ap, subst, ◌∙◌}
+use Rattle.gate_settings.specs.declared.settings.ReportForm.{ReportForm}
+use Rattle.gate_report.specs.Lines.{takes_memory}
 use Rattle.frag_join.specs.Prelude.{Arrival}
 use Rattle.gate_base.specs.Prelude.{Event}
 use Rattle.gate_base.specs.declared.side.Side.{Side}
@@ -22,11 +24,11 @@ use Rattle.file_audit.specs.Lines.{TakesLine}
 use Rattle.gate_audit.specs.Auditing.{Auditing}
 
 -- a line could not be taken
-pub line_stops : (stop : AuditStop) (json : Bool) (h : LineHead) (ahead ahead' : List ℕ) (s : State) (x : Arrival) (r r' : GivenFiles) (a a' : Auditing) (old new : Outside) → json ≡ a.settings.json → TakesLine (Err stop) json h ahead ahead' old new → FindsAt (Err stop) s x r r' a a' old new
-line_stops (Unlawful number reason) json h ahead ahead' s x r r' a a' old new is k = absurd k
-line_stops (Capture side fault place) json h ahead ahead' s x r r' a a' old new is k = absurd k
-line_stops (Desk slot) json h ahead ahead' s x r r' a a' old new is k = (subst IsReadInAudit (sym k.1) tt, subst (λ u. HasFailed u old new) (sym k.1) k.2)
-line_stops OutOfMemory json h ahead ahead' s x r r' a a' old new is k = sym is ∙ k.1
+pub line_stops : (stop : AuditStop) (form : ReportForm) (h : LineHead) (ahead ahead' : List ℕ) (s : State) (x : Arrival) (r r' : GivenFiles) (a a' : Auditing) (old new : Outside) → form ≡ a.settings.report → TakesLine (Err stop) form h ahead ahead' old new → FindsAt (Err stop) s x r r' a a' old new
+line_stops (Unlawful number reason) form h ahead ahead' s x r r' a a' old new is k = absurd k
+line_stops (Capture side fault place) form h ahead ahead' s x r r' a a' old new is k = absurd k
+line_stops (Desk slot) form h ahead ahead' s x r r' a a' old new is k = (subst IsReadInAudit (sym k.1) tt, subst (λ u. HasFailed u old new) (sym k.1) k.2)
+line_stops OutOfMemory form h ahead ahead' s x r r' a a' old new is k = sym (ap takes_memory is) ∙ k.1
 
 -- ## What was taken of the incoming captures
 

@@ -10,6 +10,7 @@ use Rattle.gate_desk.specs.declared.slot.PerSlot.{PerSlot}
 use Rattle.gate_desk.specs.Outside.{Outside, HasFailed}
 use Rattle.gate_report.specs.declared.totals.Totals.{Totals}
 use Rattle.gate_report.specs.Counts.{nothing_counted}
+use Rattle.gate_report.specs.Lines.{takes_memory}
 use Rattle.gate_settings.specs.declared.settings.Settings.{Settings}
 use Rattle.gate_model.specs.Prelude.{WholeSession, World, at_moment}
 use Rattle.pcap_merge.specs.Prelude.{Merged, Ending, Done, Fault, TakenFor, Merging, HasGiven, ahead}
@@ -90,7 +91,7 @@ abbrev pub FindsAt : Result Totals AuditStop → State → Arrival → GivenFile
 FindsAt (Ok totals) s x r r' a a' old new = (frames : ℕ) × FoundLawful frames totals s x r r' a a' old new
 FindsAt (Err (stops.Unlawful number reason)) s x r r' a a' old new = IfSome (given_told r old.left) (λ g. IsReasonAt a.settings s x g number reason)
 FindsAt (Err (stops.Desk slot)) s x r r' a a' old new = IsReadInAudit slot × HasFailed slot old new
-FindsAt (Err stops.OutOfMemory) s x r r' a a' old new = a.settings.json ≡ true
+FindsAt (Err stops.OutOfMemory) s x r r' a a' old new = takes_memory a.settings.report ≡ true
 FindsAt (Err (stops.Capture side fault place)) s x r r' a a' old new = ⊥
 
 -- this frame is expected, and this was known and counted before it
@@ -107,7 +108,7 @@ abbrev pub FindsLast : Result (Unit {0}) AuditStop → Settings → State → Gi
 FindsLast (Ok u) settings s r old new = IfSome (given_told r old.left) (IsAtLast settings s)
 FindsLast (Err (stops.Unlawful number reason)) settings s r old new = IfSome (given_told r old.left) (λ g. IsFirst settings s [] Done g number reason)
 FindsLast (Err (stops.Desk slot)) settings s r old new = IsReadInAudit slot × HasFailed slot old new
-FindsLast (Err stops.OutOfMemory) settings s r old new = settings.json ≡ true
+FindsLast (Err stops.OutOfMemory) settings s r old new = takes_memory settings.report ≡ true
 FindsLast (Err (stops.Capture side fault place)) settings s r old new = ⊥
 
 -- ## What is found over all
@@ -123,7 +124,7 @@ pub record WantsAt (settings : Settings) (all : Merged) (g : Given) : Type 0 whe
   pub came : CameTo settings (opening settings) g (arrivals_of settings.join handled) state left
   pub wants : MayWantFor state.world (arrival by_list (joiner_of settings.join handled) next)
 
--- they are lawful and the captures end; or this is the first reason; or a capture is faulty behind frames that are lawful; or a read failed; or memory was wanting, for a line in JSON or for an event
+-- they are lawful and the captures end; or this is the first reason; or a capture is faulty behind frames that are lawful; or a read failed; or memory was wanting, for a line in a form that takes some or for an event
 abbrev pub Finds : Result ℕ AuditStop → Settings → Merging → GivenFiles → Outside → Outside → Type 0
 Finds (Ok events) settings m r old new =
     IfBoth (ahead m old.left) (given_told r old.left) (λ all g. (all.ending ≡ Done) × (events ≡ length all.events) × LawfulFrom settings (opening settings) (arrivals_of settings.join all.events) all.ending g)
@@ -132,7 +133,7 @@ Finds (Err (stops.Unlawful number reason)) settings m r old new =
 Finds (Err (stops.Capture side fault place)) settings m r old new =
     IfBoth (ahead m old.left) (given_told r old.left) (λ all g. (all.ending ≡ Fault side fault place) × LawfulFrom settings (opening settings) (arrivals_of settings.join all.events) all.ending g)
 Finds (Err (stops.Desk slot)) settings m r old new = IsReadInAudit slot × HasFailed slot old new
-Finds (Err stops.OutOfMemory) settings m r old new = (settings.json ≡ true) ⊎ IfBoth (ahead m old.left) (given_told r old.left) (WantsAt settings)
+Finds (Err stops.OutOfMemory) settings m r old new = (takes_memory settings.report ≡ true) ⊎ IfBoth (ahead m old.left) (given_told r old.left) (WantsAt settings)
 
 -- these are the first of the events, and the given files are lawful for them
 pub record IsLawfulFront (settings : Settings) (all : Merged) (g : Given) (handled : List Event) : Type 0 where

@@ -4,9 +4,10 @@ use Rattle.std.specs.Char.{is_ascii_digit}
 use Rattle.std.specs.List.{common_prefix_len}
 use Rattle.gate_desk.specs.Outside.{Outside, Takes, HasFailed, told_at}
 use Rattle.gate_desk.specs.declared.slot.Slot.TheVariants.{ReportGiven}
-use Rattle.gate_report.specs.Lines.{text_of, json_of}
+use Rattle.gate_report.specs.Lines.{line_octets, takes_memory}
 use Rattle.gate_report.specs.declared.line.Line.{Line}
 use Rattle.gate_report.specs.declared.line.Line.TheVariants.{Event}
+use Rattle.gate_settings.specs.declared.settings.ReportForm.{ReportForm}
 use Rattle.file_audit.specs.declared.line.Extent.{Extent}
 use Rattle.file_audit.specs.declared.line.LineFound.{LineFound}
 use Rattle.file_audit.specs.declared.line.LineHead.{LineHead}
@@ -16,10 +17,6 @@ use Rattle.file_audit.specs.declared.stop.AuditStop.TheVariants.{Unlawful, Captu
 -- the line of a frame for which so many were sent
 abbrev pub line_with : LineHead → ℕ → Line
 line_with h frames = Event h.number h.side h.moment h.verdict frames
-
--- the octets of a line
-abbrev pub octets_of : Bool → Line → List ℕ
-octets_of json line = if json then json_of line else text_of line
 
 -- ## How a line is found
 
@@ -40,13 +37,13 @@ number_after number [] = number
 number_after number (octet ∷ octets) = if is_ascii_digit octet && nat_lt number (2 ^ 32) then number_after (10 * number + (octet - 48)) octets else number
 
 -- octets go on with the line for no number of frames
-abbrev pub HasNoLine : Bool → LineHead → List ℕ → Type 0
-HasNoLine json h octets = (frames : ℕ) (rest : List ℕ) → frames < 2 ^ 32 → octets ≡ octets_of json (line_with h frames) ++ rest → ⊥
+abbrev pub HasNoLine : ReportForm → LineHead → List ℕ → Type 0
+HasNoLine form h octets = (frames : ℕ) (rest : List ℕ) → frames < 2 ^ 32 → octets ≡ line_octets form (line_with h frames) ++ rest → ⊥
 
 -- octets go on with the line for this number of frames, or for none
-abbrev pub FindsLine : Option LineFound → Bool → LineHead → List ℕ → Type 0
-FindsLine (Some found) json h octets = (found.frames < 2 ^ 32) × (found.length ≡ length (octets_of json (line_with h found.frames))) × (take found.length octets ≡ octets_of json (line_with h found.frames))
-FindsLine None json h octets = HasNoLine json h octets
+abbrev pub FindsLine : Option LineFound → ReportForm → LineHead → List ℕ → Type 0
+FindsLine (Some found) form h octets = (found.frames < 2 ^ 32) × (found.length ≡ length (line_octets form (line_with h found.frames))) × (take found.length octets ≡ line_octets form (line_with h found.frames))
+FindsLine None form h octets = HasNoLine form h octets
 
 -- ## What is taken
 
@@ -55,30 +52,30 @@ abbrev pub TakesReport : Outside → Outside → Type 0
 TakesReport old new = (count : ℕ) × Takes ReportGiven count old new
 
 -- the report goes on with the line for this many frames, and it was taken
-pub record TakesFrames (frames : ℕ) (json : Bool) (h : LineHead) (ahead ahead' : List ℕ) (old new : Outside) : Type 0 where
+pub record TakesFrames (frames : ℕ) (form : ReportForm) (h : LineHead) (ahead ahead' : List ℕ) (old new : Outside) : Type 0 where
   pub few : frames < 2 ^ 32
   pub count : ℕ
   pub takes : Takes ReportGiven count old new
-  pub goes : IfSome (told_at old.left ReportGiven) (λ all. ahead ++ all ≡ octets_of json (line_with h frames) ++ (ahead' ++ drop count all))
+  pub goes : IfSome (told_at old.left ReportGiven) (λ all. ahead ++ all ≡ line_octets form (line_with h frames) ++ (ahead' ++ drop count all))
 
--- or it goes on with that line for no number; or a read failed; or memory was wanting for a line in JSON
-abbrev pub TakesLine : Result (Option ℕ) AuditStop → Bool → LineHead → List ℕ → List ℕ → Outside → Outside → Type 0
-TakesLine (Ok (Some frames)) json h ahead ahead' old new = TakesFrames frames json h ahead ahead' old new
-TakesLine (Ok None) json h ahead ahead' old new = TakesReport old new × IfSome (told_at old.left ReportGiven) (λ all. HasNoLine json h (ahead ++ all))
-TakesLine (Err (Desk slot)) json h ahead ahead' old new = TakesReport old new × (slot ≡ ReportGiven) × HasFailed ReportGiven old new
-TakesLine (Err OutOfMemory) json h ahead ahead' old new = TakesReport old new × (json ≡ true)
-TakesLine (Err (Unlawful number reason)) json h ahead ahead' old new = ⊥
-TakesLine (Err (Capture side fault place)) json h ahead ahead' old new = ⊥
+-- or it goes on with that line for no number; or a read failed; or memory was wanting for a line in a form that takes some
+abbrev pub TakesLine : Result (Option ℕ) AuditStop → ReportForm → LineHead → List ℕ → List ℕ → Outside → Outside → Type 0
+TakesLine (Ok (Some frames)) form h ahead ahead' old new = TakesFrames frames form h ahead ahead' old new
+TakesLine (Ok None) form h ahead ahead' old new = TakesReport old new × IfSome (told_at old.left ReportGiven) (λ all. HasNoLine form h (ahead ++ all))
+TakesLine (Err (Desk slot)) form h ahead ahead' old new = TakesReport old new × (slot ≡ ReportGiven) × HasFailed ReportGiven old new
+TakesLine (Err OutOfMemory) form h ahead ahead' old new = TakesReport old new × (takes_memory form ≡ true)
+TakesLine (Err (Unlawful number reason)) form h ahead ahead' old new = ⊥
+TakesLine (Err (Capture side fault place)) form h ahead ahead' old new = ⊥
 
 -- these octets are this line and nothing more, or they aren't
-abbrev pub IsLast : Bool → Bool → Line → List ℕ → Type 0
-IsLast true json line octets = octets ≡ octets_of json line
-IsLast false json line octets = octets ≡ octets_of json line → ⊥
+abbrev pub IsLast : Bool → ReportForm → Line → List ℕ → Type 0
+IsLast true form line octets = octets ≡ line_octets form line
+IsLast false form line octets = octets ≡ line_octets form line → ⊥
 
 -- the rest of the report was taken
-abbrev pub TakesLast : Result Bool AuditStop → Bool → Line → List ℕ → List ℕ → Outside → Outside → Type 0
-TakesLast (Ok answer) json line ahead ahead' old new = TakesReport old new × IfSome (told_at old.left ReportGiven) (λ all. IsLast answer json line (ahead ++ all))
-TakesLast (Err (Desk slot)) json line ahead ahead' old new = TakesReport old new × (slot ≡ ReportGiven) × HasFailed ReportGiven old new
-TakesLast (Err OutOfMemory) json line ahead ahead' old new = TakesReport old new × (json ≡ true)
-TakesLast (Err (Unlawful number reason)) json line ahead ahead' old new = ⊥
-TakesLast (Err (Capture side fault place)) json line ahead ahead' old new = ⊥
+abbrev pub TakesLast : Result Bool AuditStop → ReportForm → Line → List ℕ → List ℕ → Outside → Outside → Type 0
+TakesLast (Ok answer) form line ahead ahead' old new = TakesReport old new × IfSome (told_at old.left ReportGiven) (λ all. IsLast answer form line (ahead ++ all))
+TakesLast (Err (Desk slot)) form line ahead ahead' old new = TakesReport old new × (slot ≡ ReportGiven) × HasFailed ReportGiven old new
+TakesLast (Err OutOfMemory) form line ahead ahead' old new = TakesReport old new × (takes_memory form ≡ true)
+TakesLast (Err (Unlawful number reason)) form line ahead ahead' old new = ⊥
+TakesLast (Err (Capture side fault place)) form line ahead ahead' old new = ⊥

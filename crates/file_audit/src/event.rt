@@ -65,8 +65,8 @@ pub fn take_event<D: Desk>(
     ensures leaves { LeavesFaults result (D.outside desk.old) (D.outside desk.new) }
 {
     have_addresses(auditor.settings());
-    let json = auditor.settings().json;
-    let frames = match take_line(alloc, desk, &mut given.report, json, head) {
+    let form = auditor.settings().report;
+    let frames = match take_line(alloc, desk, &mut given.report, form, head) {
         Ok(Some(frames)) => frames,
         Ok(None) => return Err(AuditStop::Unlawful(head.number, AuditReason::Line)),
         Err(stop) => return Err(stop),
@@ -121,7 +121,7 @@ pub fn take_rest<D: Desk>(
         alloc,
         desk,
         &mut given.report,
-        auditor.settings().json,
+        auditor.settings().report,
         &line,
     ) {
         Ok(true) => Ok(()),

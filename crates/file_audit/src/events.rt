@@ -56,13 +56,7 @@ pub fn audit_events<D: Desk>(
     ensures counts { Grows (D.outside desk.old) (D.outside desk.new) }
     ensures leaves { LeavesCounts result (D.outside desk.old) (D.outside desk.new) }
 {
-    let mut totals = Totals {
-        events: 0,
-        passed: 0,
-        refused: 0,
-        to_left: 0,
-        to_right: 0,
-    };
+    let mut totals = Totals::new();
     'events: loop {
         let more = match merge.advance(desk) {
             Ok(more) => more,

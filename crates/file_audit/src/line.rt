@@ -3,14 +3,16 @@ ghost use Rattle.std.specs.Prelude.{OnErr, true, ◌≡◌, ◌<◌, ◌≤◌, 
 ghost use Rattle.gate_base.specs.Prelude.{IsMoment};
 ghost use Rattle.gate_desk.specs.declared.slot.Slot.TheVariants.{ReportGiven};
 ghost use Rattle.gate_desk.specs.Outside.{CanRead};
-ghost use Rattle.file_audit.specs.Lines.{agreed, agreement, number_after, with_digit, octets_of, line_with, FindsLine, IsLast, TakesLine, TakesLast};
+ghost use Rattle.gate_report.specs.Lines.{line_octets, takes_memory};
+ghost use Rattle.file_audit.specs.Lines.{agreed, agreement, number_after, with_digit, line_with, FindsLine, IsLast, TakesLine, TakesLast};
 ghost use Rattle.file_audit.specs.Stops.{LeavesFaults};
 
 use crate::ahead::Ahead;
 use crate::stop::AuditStop;
 use gate_base::{Moment, OutOfMemory, Side, Verdict};
 use gate_desk::{Desk, Failed, Slot};
-use gate_report::{LINE, Line, json_line, text_line};
+use gate_report::{Line, LineRoom};
+use gate_settings::ReportForm;
 use std::alloc::Global;
 
 /// What the line of a frame tells but for how many were sent for it.
@@ -79,29 +81,31 @@ fn agreement(line: &[u8], octets: &[u8]) -> Extent
     }
 }
 
-/// Compares octets with a line, as JSON or as text. As text it takes no memory.
-fn compare(alloc: Global, json: bool, line: &Line, octets: &[u8]) -> Result<Extent, OutOfMemory>
+/// Compares octets with a line in a form.
+fn compare(
+    alloc: Global,
+    form: ReportForm,
+    line: &Line,
+    octets: &[u8],
+) -> Result<Extent, OutOfMemory>
     ensures is { IfOk result
-        (λ found. found ≡ agreement (octets_of json line.now) octets.now) }
+        (λ found. found ≡ agreement (line_octets form line.now) octets.now) }
     ensures bound { IfOk result (λ found. found.count ≤ length octets.now) }
-    ensures memory { OnErr result (json ≡ true) }
+    ensures memory { OnErr result (takes_memory form ≡ true) }
 {
-    if json {
-        let made = json_line(alloc, line)?;
-        Ok(agreement(&made, octets))
-    } else {
-        let mut room = [0; LINE];
-        let begin = text_line(line, &mut room);
-        Ok(agreement(&room[begin..], octets))
+    let mut room = LineRoom::new(alloc);
+    match room.line(form, line) {
+        Ok(made) => Ok(agreement(made, octets)),
+        Err(OutOfMemory) => Err(OutOfMemory),
     }
 }
 
 /// Whether octets are a line and nothing more.
-fn is_line(alloc: Global, json: bool, line: &Line, octets: &[u8]) -> Result<bool, OutOfMemory>
-    ensures is { IfOk result (λ answer. IsLast answer json line.now octets.now) }
-    ensures memory { OnErr result (json ≡ true) }
+fn is_line(alloc: Global, form: ReportForm, line: &Line, octets: &[u8]) -> Result<bool, OutOfMemory>
+    ensures is { IfOk result (λ answer. IsLast answer form line.now octets.now) }
+    ensures memory { OnErr result (takes_memory form ≡ true) }
 {
-    let found = compare(alloc, json, line, octets)?;
+    let found = compare(alloc, form, line, octets)?;
     Ok(found.whole && found.count == octets.len())
 }
 
@@ -133,14 +137,14 @@ fn number_in_front(octets: &[u8]) -> u64
 /// The line that octets go on with, with whatever number of frames; or none.
 fn find_line(
     alloc: Global,
-    json: bool,
+    form: ReportForm,
     head: LineHead,
     octets: &[u8],
 ) -> Result<Option<LineFound>, OutOfMemory>
-    ensures is { IfOk result (λ found. FindsLine found json head octets.now) }
-    ensures memory { OnErr result (json ≡ true) }
+    ensures is { IfOk result (λ found. FindsLine found form head octets.now) }
+    ensures memory { OnErr result (takes_memory form ≡ true) }
 {
-    let none = compare(alloc, json, &head.with(0), octets)?;
+    let none = compare(alloc, form, &head.with(0), octets)?;
     if none.whole {
         return Ok(Some(LineFound {
             frames: 0,
@@ -152,7 +156,7 @@ fn find_line(
         return Ok(None);
     }
     let frames = number as u32;
-    let found = compare(alloc, json, &head.with(frames), octets)?;
+    let found = compare(alloc, form, &head.with(frames), octets)?;
     if found.whole {
         Ok(Some(LineFound {
             frames,
@@ -169,13 +173,13 @@ pub fn take_line<D: Desk>(
     alloc: Global,
     desk: &mut D,
     report: &mut Ahead,
-    json: bool,
+    form: ReportForm,
     head: LineHead,
 ) -> Result<Option<u32>, AuditStop>
     requires can { CanRead (D.outside desk.old) ReportGiven }
     requires number { head.number < 2 ^ 64 }
     requires moment { IsMoment head.moment.0 }
-    ensures takes { TakesLine result json head report.old report.new
+    ensures takes { TakesLine result form head report.old report.new
         (D.outside desk.old) (D.outside desk.new) }
     ensures leaves { LeavesFaults result (D.outside desk.old) (D.outside desk.new) }
 {
@@ -183,7 +187,7 @@ pub fn take_line<D: Desk>(
         Ok(()) => {}
         Err(Failed) => return Err(AuditStop::Desk(Slot::ReportGiven)),
     }
-    match find_line(alloc, json, head, report.octets()) {
+    match find_line(alloc, form, head, report.octets()) {
         Ok(Some(found)) => {
             report.take(found.length);
             Ok(Some(found.frames))
@@ -198,12 +202,12 @@ pub fn take_last<D: Desk>(
     alloc: Global,
     desk: &mut D,
     report: &mut Ahead,
-    json: bool,
+    form: ReportForm,
     line: &Line,
 ) -> Result<bool, AuditStop>
     requires can { CanRead (D.outside desk.old) ReportGiven }
-    requires short { length (octets_of json line.now) < 256 }
-    ensures takes { TakesLast result json line.now report.old report.new
+    requires short { length (line_octets form line.now) < 256 }
+    ensures takes { TakesLast result form line.now report.old report.new
         (D.outside desk.old) (D.outside desk.new) }
     ensures leaves { LeavesFaults result (D.outside desk.old) (D.outside desk.new) }
 {
@@ -211,7 +215,7 @@ pub fn take_last<D: Desk>(
         Ok(()) => {}
         Err(Failed) => return Err(AuditStop::Desk(Slot::ReportGiven)),
     }
-    match is_line(alloc, json, line, report.octets()) {
+    match is_line(alloc, form, line, report.octets()) {
         Ok(answer) => Ok(answer),
         Err(OutOfMemory) => Err(AuditStop::OutOfMemory),
     }

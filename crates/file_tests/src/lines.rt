@@ -1,5 +1,6 @@
 use gate_base::{Moment, Refusal, Side, Verdict};
-use gate_report::{LINE, Line, Totals, json_line, text_line};
+use gate_report::{Line, LineRoom, Totals};
+use gate_settings::ReportForm;
 use std::test::Fail;
 
 const PASSED: Line = Line::Event {
@@ -35,20 +36,24 @@ const LARGEST: Line = Line::Event {
 };
 
 const DONE: Line = Line::Done {
-    events: 1,
-    passed: 1,
-    refused: 0,
-    to_left: 0,
-    to_right: 1,
+    totals: Totals {
+        events: 1,
+        passed: 1,
+        refused: 0,
+        to_left: 0,
+        to_right: 1,
+    },
     pending: 0,
 };
 
 const DONE_LARGEST: Line = Line::Done {
-    events: u64::MAX,
-    passed: u64::MAX - 1,
-    refused: u64::MAX - 2,
-    to_left: u64::MAX - 3,
-    to_right: u64::MAX - 4,
+    totals: Totals {
+        events: u64::MAX,
+        passed: u64::MAX - 1,
+        refused: u64::MAX - 2,
+        to_left: u64::MAX - 3,
+        to_right: u64::MAX - 4,
+    },
     pending: u64::MAX - 5,
 };
 
@@ -89,11 +94,9 @@ const LINES: [(Line, &[u8], &[u8]); 6] = [
 #[test]
 fn writes_lines(rt: HostRuntime) -> Result<(), Fail> {
     for (line, text, json) in LINES {
-        let mut room = [0u8; LINE];
-        let begin = text_line(&line, &mut room);
-        assert!(rt; &room[begin..] == text);
-        let octets = json_line(rt.alloc(), &line)?;
-        assert!(rt; octets.as_slice() == json);
+        let mut room = LineRoom::new(rt.alloc());
+        assert!(rt; room.line(ReportForm::Text, &line)? == text);
+        assert!(rt; room.line(ReportForm::Json, &line)? == json);
     }
     Ok(())
 }

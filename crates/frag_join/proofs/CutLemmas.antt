@@ -18,13 +18,15 @@ covered_at f place is =
     let parts = and_parts (leb f.start place) (ltb place (end_of f)) is in
     (leb-true f.start place parts.0, ltb-true place (end_of f) parts.1)
 
-octet-cut_at : (d : Original) (f : Fragment) (place : ℕ) → IsCut d f → (covers f place ≡ true) ⊎ (covers f place ≡ false) → IsOctet d place (octet_in f place)
+octet-cut_at : (d : Original) (f : Fragment) (place : ℕ) → IsCut d f → (covers f place ≡ true) ⊎ (covers f place ≡ false)
+    → IsOctet d place (octet_in f place)
 octet-cut_at d f place cut (inl inside) =
     let at = covered_at f place inside in
     let there : f.start + (place - f.start) ≡ place = omega (arith, at.0) in
     inr
     (octet-covered f place inside
-    ∙ ap Some (ap (λ xs. get_or xs (place - f.start) 0) cut.octets ∙ get_or-between d.payload f.start (end_of f) (place - f.start) 0 (omega (arith, at.0, at.1)) ∙ ap (λ n. get_or d.payload n 0) there))
+    ∙ ap Some (ap (λ xs. get_or xs (place - f.start) 0) cut.octets ∙ get_or-between d.payload f.start (end_of f) (place - f.start) 0
+    (omega (arith, at.0, at.1)) ∙ ap (λ n. get_or d.payload n 0) there))
 octet-cut_at d f place cut (inr outside) = inl (octet-outside f place outside)
 
 octet-cut : (d : Original) (f : Fragment) (place : ℕ) → IsCut d f → IsOctet d place (octet_in f place)
@@ -37,7 +39,8 @@ or-octet d place (Some x) other one_is other_is = one_is
 pub octet_at-cut : (d : Original) (fragments : List Fragment) (place : ℕ) → All (IsCut d) fragments → IsOctet d place (octet_at fragments place)
 octet_at-cut d [] place cuts = inl refl
 octet_at-cut d (f ∷ others) place cuts =
-    or-octet d place (octet_in f place) (octet_at others place) (octet-cut d f place (All-head (IsCut d) f others cuts)) (octet_at-cut d others place (All-tail (IsCut d) f others cuts))
+    or-octet d place (octet_in f place) (octet_at others place) (octet-cut d f place (All-head (IsCut d) f others cuts))
+    (octet_at-cut d others place (All-tail (IsCut d) f others cuts))
 
 -- ## None of them contradicts the others
 
@@ -70,7 +73,8 @@ or-end d (Some x) other p q = p
 pub end-cut : (d : Original) (fragments : List Fragment) → All (IsCut d) fragments → IsEnd d (end_by fragments)
 end-cut d [] cuts = inl refl
 end-cut d (f ∷ others) cuts =
-    or-end d (end_told f) (end_by others) (told-cut_at d f f.more (All-head (IsCut d) f others cuts) refl) (end-cut d others (All-tail (IsCut d) f others cuts))
+    or-end d (end_told f) (end_by others) (told-cut_at d f f.more (All-head (IsCut d) f others cuts) refl)
+    (end-cut d others (All-tail (IsCut d) f others cuts))
 
 not-above : (d : Original) (end : ℕ) (o : Option ℕ) → end ≤ length d.payload → IsEnd d o → is_above end o ≡ false
 not-above d end None within is = refl
@@ -82,10 +86,12 @@ not-other d end None whole is = refl
 not-other d end (Some known) whole (inl is) = absurd cc
 not-other d end (Some known) whole (inr is) = let same : end ≡ known = cc in ap not (eq-eqb end known same)
 
-ends-cut : (d : Original) (f : Fragment) (o : Option ℕ) (reach : ℕ) (more : Bool) → IsCut d f → f.more ≡ more → IsEnd d o → reach ≤ length d.payload → cond more (is_above (end_of f) o) (is_other (end_of f) o || ltb (end_of f) reach) ≡ false
+ends-cut : (d : Original) (f : Fragment) (o : Option ℕ) (reach : ℕ) (more : Bool) → IsCut d f → f.more ≡ more → IsEnd d o → reach ≤ length d.payload
+    → cond more (is_above (end_of f) o) (is_other (end_of f) o || ltb (end_of f) reach) ≡ false
 ends-cut d f o reach true cut is end within = not-above d (end_of f) o cut.within end
 ends-cut d f o reach false cut is end within =
-    ap (λ b. b || ltb (end_of f) reach) (not-other d (end_of f) o (last_end d f cut is) end) ∙ le-ltb (end_of f) reach (omega (arith, last_end d f cut is))
+    ap (λ b. b || ltb (end_of f) reach) (not-other d (end_of f) o (last_end d f cut is) end)
+    ∙ le-ltb (end_of f) reach (omega (arith, last_end d f cut is))
 
 whole_units : (more : Bool) (n : ℕ) → (more ≡ true → n ≡ 0) → (more && not (eqb n 0)) ≡ false
 whole_units true n even = ap not (eq-eqb n 0 (even refl))
@@ -97,10 +103,12 @@ or_none true b c p q r = absurd cc
 or_none false true c p q r = absurd cc
 or_none false false true p q r = absurd cc
 
-pub cut-good : (d : Original) (fragments : List Fragment) (f : Fragment) → length d.payload ≤ 65515 → All (IsCut d) fragments → IsCut d f → is_bad (known_by fragments) f ≡ false
+pub cut-good : (d : Original) (fragments : List Fragment) (f : Fragment) → length d.payload ≤ 65515 → All (IsCut d) fragments → IsCut d f
+    → is_bad (known_by fragments) f ≡ false
 cut-good d fragments f fits cuts cut =
     let k = known_by fragments in
-    let reach : length k.places ≤ length d.payload = omega (arith, length-table (octet_at fragments) (reach_of fragments), reach-cut d fragments cuts) in
+    let reach : length k.places ≤ length d.payload =
+    omega (arith, length-table (octet_at fragments) (reach_of fragments), reach-cut d fragments cuts) in
     or_none (is_torn f) (ends_otherwise k f) (is_unlike k f)
     (or_none (eqb (length f.payload) 0) (f.more && not (eqb (length f.payload % 8) 0)) (ltb 65535 (20 + end_of f))
     (ne_eqb (length f.payload) 0 (λ e. omega (arith, cut.some)))
@@ -126,19 +134,25 @@ or_more : {X : Type 0} (one other : Option X) → is_some other ≡ true → is_
 or_more None other is = is
 or_more (Some x) other is = refl
 
-more_octets_at : (f : Fragment) (others more : List Fragment) (place : ℕ) → (is_some (octet_at others place) ≡ true → is_some (octet_at (others ++ more) place) ≡ true) → (is_some (octet_in f place) ≡ true) ⊎ (is_some (octet_at others place) ≡ true) → is_some (option_or (octet_in f place) (octet_at (others ++ more) place)) ≡ true
+more_octets_at : (f : Fragment) (others more : List Fragment) (place : ℕ)
+    → (is_some (octet_at others place) ≡ true → is_some (octet_at (others ++ more) place) ≡ true) → (is_some (octet_in f place) ≡ true)
+    ⊎ (is_some (octet_at others place) ≡ true) → is_some (option_or (octet_in f place) (octet_at (others ++ more) place)) ≡ true
 more_octets_at f others more place before (inl here) = more_or (octet_in f place) (octet_at (others ++ more) place) here
 more_octets_at f others more place before (inr there) = or_more (octet_in f place) (octet_at (others ++ more) place) (before there)
 
-more_octets : (fragments more : List Fragment) (place : ℕ) → is_some (octet_at fragments place) ≡ true → is_some (octet_at (fragments ++ more) place) ≡ true
+more_octets : (fragments more : List Fragment) (place : ℕ) → is_some (octet_at fragments place) ≡ true → is_some (octet_at (fragments ++ more) place)
+    ≡ true
 more_octets [] more place is = absurd cc
-more_octets (f ∷ others) more place is = more_octets_at f others more place (more_octets others more place) (some_or (octet_in f place) (octet_at others place) is)
+more_octets (f ∷ others) more place is = more_octets_at f others more place (more_octets others more place)
+    (some_or (octet_in f place) (octet_at others place) is)
 
-cover_cases : (f : Fragment) (place : ℕ) → is_some (octet_in f place) ≡ true → (covers f place ≡ true) ⊎ (covers f place ≡ false) → covers f place ≡ true
+cover_cases : (f : Fragment) (place : ℕ) → is_some (octet_in f place) ≡ true → (covers f place ≡ true) ⊎ (covers f place ≡ false)
+    → covers f place ≡ true
 cover_cases f place is (inl inside) = inside
 cover_cases f place is (inr outside) = absurd (false≢true (sym (ap is_some (octet-outside f place outside)) ∙ is))
 
-told_last : (d : Original) (f : Fragment) (more : Bool) (o : Option ℕ) → IsCut d f → f.more ≡ more → more ≡ false → option_or (cond more None (Some (end_of f))) o ≡ Some (length d.payload)
+told_last : (d : Original) (f : Fragment) (more : Bool) (o : Option ℕ) → IsCut d f → f.more ≡ more → more ≡ false
+    → option_or (cond more None (Some (end_of f))) o ≡ Some (length d.payload)
 told_last d f true o cut is last = absurd cc
 told_last d f false o cut is last = ap Some (last_end d f cut is)
 
@@ -148,24 +162,33 @@ or_same (Some x) other n (inl is) same = absurd cc
 or_same (Some x) other n (inr is) same = is
 
 -- where the last place is covered, the end is told
-end_there_at : (d : Original) (f : Fragment) (others : List Fragment) (place : ℕ) → IsCut d f → place + 1 ≡ length d.payload → (is_some (octet_at others place) ≡ true → end_by others ≡ Some (length d.payload)) → (is_some (octet_in f place) ≡ true) ⊎ (is_some (octet_at others place) ≡ true) → option_or (end_told f) (end_by others) ≡ Some (length d.payload)
+end_there_at : (d : Original) (f : Fragment) (others : List Fragment) (place : ℕ) → IsCut d f → place + 1 ≡ length d.payload
+    → (is_some (octet_at others place) ≡ true → end_by others ≡ Some (length d.payload)) → (is_some (octet_in f place) ≡ true)
+    ⊎ (is_some (octet_at others place) ≡ true) → option_or (end_told f) (end_by others) ≡ Some (length d.payload)
 end_there_at d f others place cut last before (inl here) =
     let inside : covers f place ≡ true = cover_cases f place here (cases_Bool (covers f place)) in
     let at = covered_at f place inside in
     told_last d f f.more (end_by others) cut refl (cut.more ∙ le-ltb (end_of f) (length d.payload) (omega (arith, at.1)))
-end_there_at d f others place cut last before (inr there) = or_same (end_told f) (end_by others) (length d.payload) (told-cut_at d f f.more cut refl) (before there)
+end_there_at d f others place cut last before (inr there) = or_same (end_told f) (end_by others) (length d.payload) (told-cut_at d f f.more cut refl)
+    (before there)
 
-end_there : (d : Original) (fragments : List Fragment) (place : ℕ) → All (IsCut d) fragments → place + 1 ≡ length d.payload → is_some (octet_at fragments place) ≡ true → end_by fragments ≡ Some (length d.payload)
+end_there : (d : Original) (fragments : List Fragment) (place : ℕ) → All (IsCut d) fragments → place + 1 ≡ length d.payload
+    → is_some (octet_at fragments place) ≡ true → end_by fragments ≡ Some (length d.payload)
 end_there d [] place cuts last is = absurd cc
 end_there d (f ∷ others) place cuts last is =
-    end_there_at d f others place (All-head (IsCut d) f others cuts) last (end_there d others place (All-tail (IsCut d) f others cuts) last) (some_or (octet_in f place) (octet_at others place) is)
+    end_there_at d f others place (All-head (IsCut d) f others cuts) last (end_there d others place (All-tail (IsCut d) f others cuts) last)
+    (some_or (octet_in f place) (octet_at others place) is)
 
-header_or : (d : Original) (f : Fragment) (starts : Bool) (o : Option (List ℕ)) → IsCut d f → (starts ≡ true) ⊎ (whole_head (unwrap_or o []) (20 + length d.payload) ≡ d.header) → whole_head (unwrap_or (option_or (cond starts (Some f.header) None) o) []) (20 + length d.payload) ≡ d.header
+header_or : (d : Original) (f : Fragment) (starts : Bool) (o : Option (List ℕ)) → IsCut d f → (starts ≡ true)
+    ⊎ (whole_head (unwrap_or o []) (20 + length d.payload) ≡ d.header) → whole_head (unwrap_or (option_or (cond starts (Some f.header) None) o) [])
+    (20 + length d.payload) ≡ d.header
 header_or d f true o cut is = cut.header
 header_or d f false o cut (inl is) = absurd cc
 header_or d f false o cut (inr is) = is
 
-header_there_at : (d : Original) (f : Fragment) (others : List Fragment) → IsCut d f → (is_some (octet_at others 0) ≡ true → whole_head (unwrap_or (header_by others) []) (20 + length d.payload) ≡ d.header) → (is_some (octet_in f 0) ≡ true) ⊎ (is_some (octet_at others 0) ≡ true)
+header_there_at : (d : Original) (f : Fragment) (others : List Fragment) → IsCut d f
+    → (is_some (octet_at others 0) ≡ true → whole_head (unwrap_or (header_by others) []) (20 + length d.payload) ≡ d.header)
+    → (is_some (octet_in f 0) ≡ true) ⊎ (is_some (octet_at others 0) ≡ true)
     → whole_head (unwrap_or (option_or (header_told f) (header_by others)) []) (20 + length d.payload) ≡ d.header
 header_there_at d f others cut before (inl here) =
     let at = covered_at f 0 (cover_cases f 0 here (cases_Bool (covers f 0))) in
@@ -173,10 +196,12 @@ header_there_at d f others cut before (inl here) =
 header_there_at d f others cut before (inr there) = header_or d f (eqb f.start 0) (header_by others) cut (inr (before there))
 
 -- where the first place is covered, the header is told
-header_there : (d : Original) (fragments : List Fragment) → All (IsCut d) fragments → is_some (octet_at fragments 0) ≡ true → whole_head (unwrap_or (header_by fragments) []) (20 + length d.payload) ≡ d.header
+header_there : (d : Original) (fragments : List Fragment) → All (IsCut d) fragments → is_some (octet_at fragments 0) ≡ true
+    → whole_head (unwrap_or (header_by fragments) []) (20 + length d.payload) ≡ d.header
 header_there d [] cuts is = absurd cc
 header_there d (f ∷ others) cuts is =
-    header_there_at d f others (All-head (IsCut d) f others cuts) (header_there d others (All-tail (IsCut d) f others cuts)) (some_or (octet_in f 0) (octet_at others 0) is)
+    header_there_at d f others (All-head (IsCut d) f others cuts) (header_there d others (All-tail (IsCut d) f others cuts))
+    (some_or (octet_in f 0) (octet_at others 0) is)
 
 value_of : (d : Original) (place : ℕ) (o : Option ℕ) → IsOctet d place o → is_some o ≡ true → get_or d.payload place 0 ≡ unwrap_or o 0
 value_of d place None is some = absurd cc
@@ -185,33 +210,44 @@ value_of d place (Some x) (inr is) some = cc
 
 known_cover : (d : Original) (fragments : List Fragment) → is_covered (known_by fragments) (Some (length d.payload)) ≡ cover d fragments
 known_cover d fragments =
-    same-all (λ place. is_some (octet_of (known_by fragments) place)) (λ place. is_some (octet_at fragments place)) (length d.payload) (λ place below. ap is_some (octet_of-known fragments place))
+    same-all (λ place. is_some (octet_of (known_by fragments) place)) (λ place. is_some (octet_at fragments place)) (length d.payload)
+    (λ place below. ap is_some (octet_of-known fragments place))
 
-end_whole : (d : Original) (fragments : List Fragment) → 0 < length d.payload → All (IsCut d) fragments → cover d fragments ≡ true → end_by fragments ≡ Some (length d.payload)
+end_whole : (d : Original) (fragments : List Fragment) → 0 < length d.payload → All (IsCut d) fragments → cover d fragments ≡ true
+    → end_by fragments ≡ Some (length d.payload)
 end_whole d fragments some cuts covered =
-    end_there d fragments (length d.payload - 1) cuts (omega arith) (all-each (λ place. is_some (octet_at fragments place)) (length d.payload) (length d.payload - 1) covered (omega arith))
+    end_there d fragments (length d.payload - 1) cuts (omega arith)
+    (all-each (λ place. is_some (octet_at fragments place)) (length d.payload) (length d.payload - 1) covered (omega arith))
 
 -- fragments that cover it complete it
-pub cover-complete : (d : Original) (fragments : List Fragment) → 0 < length d.payload → All (IsCut d) fragments → cover d fragments ≡ true → is_complete (known_by fragments) ≡ true
-cover-complete d fragments some cuts covered = ap (is_covered (known_by fragments)) (end_whole d fragments some cuts covered) ∙ known_cover d fragments ∙ covered
+pub cover-complete : (d : Original) (fragments : List Fragment) → 0 < length d.payload → All (IsCut d) fragments → cover d fragments ≡ true
+    → is_complete (known_by fragments) ≡ true
+cover-complete d fragments some cuts covered = ap (is_covered (known_by fragments)) (end_whole d fragments some cuts covered)
+    ∙ known_cover d fragments ∙ covered
 
-incomplete_at : (d : Original) (fragments : List Fragment) → IsEnd d (end_by fragments) → cover d fragments ≡ false → is_complete (known_by fragments) ≡ false
+incomplete_at : (d : Original) (fragments : List Fragment) → IsEnd d (end_by fragments) → cover d fragments ≡ false
+    → is_complete (known_by fragments) ≡ false
 incomplete_at d fragments (inl none) open_ = ap (is_covered (known_by fragments)) none
 incomplete_at d fragments (inr told) open_ = ap (is_covered (known_by fragments)) told ∙ known_cover d fragments ∙ open_
 
 -- and others don't
-pub open-incomplete : (d : Original) (fragments : List Fragment) → All (IsCut d) fragments → cover d fragments ≡ false → is_complete (known_by fragments) ≡ false
+pub open-incomplete : (d : Original) (fragments : List Fragment) → All (IsCut d) fragments → cover d fragments ≡ false
+    → is_complete (known_by fragments) ≡ false
 open-incomplete d fragments cuts open_ = incomplete_at d fragments (end-cut d fragments cuts) open_
 
 -- what they tell is then the datagram
-pub cover-datagram : (d : Original) (fragments : List Fragment) → 0 < length d.payload → All (IsCut d) fragments → cover d fragments ≡ true → datagram_of (known_by fragments) ≡ d.header ++ d.payload
+pub cover-datagram : (d : Original) (fragments : List Fragment) → 0 < length d.payload → All (IsCut d) fragments → cover d fragments ≡ true
+    → datagram_of (known_by fragments) ≡ d.header ++ d.payload
 cover-datagram d fragments some cuts covered =
-    let each : (place : ℕ) → place < length d.payload → is_some (octet_at fragments place) ≡ true = λ place below. all-each (λ place. is_some (octet_at fragments place)) (length d.payload) place covered below in
+    let each : (place : ℕ) → place < length d.payload → is_some (octet_at fragments place) ≡ true =
+    λ place below. all-each (λ place. is_some (octet_at fragments place)) (length d.payload) place covered below in
     let octets : ℕ → ℕ = λ place. unwrap_or (octet_of (known_by fragments) place) 0 in
     let payload : d.payload ≡ table octets (length d.payload) =
     is-table octets d.payload (length d.payload) 0 refl
-    (λ place below. value_of d place (octet_at fragments place) (octet_at-cut d fragments place cuts) (each place below) ∙ ap (λ o. unwrap_or o 0) (sym (octet_of-known fragments place))) in
-    ap (λ o. whole_head (unwrap_or (header_by fragments) []) (20 + unwrap_or o 0) ++ table octets (unwrap_or o 0)) (end_whole d fragments some cuts covered)
+    (λ place below. value_of d place (octet_at fragments place) (octet_at-cut d fragments place cuts) (each place below)
+    ∙ ap (λ o. unwrap_or o 0) (sym (octet_of-known fragments place))) in
+    ap (λ o. whole_head (unwrap_or (header_by fragments) []) (20 + unwrap_or o 0) ++ table octets (unwrap_or o 0))
+    (end_whole d fragments some cuts covered)
     ∙ ap (λ head. head ++ table octets (length d.payload)) (header_there d fragments cuts (each 0 some))
     ∙ ap (λ rest. d.header ++ rest) (sym payload)
 
@@ -221,9 +257,11 @@ cover-datagram d fragments some cuts covered =
 pub cover-more : (d : Original) (fragments others : List Fragment) → cover d fragments ≡ true → cover d (fragments ++ others) ≡ true
 cover-more d fragments others covered =
     each-all (λ place. is_some (octet_at (fragments ++ others) place)) (length d.payload)
-    (λ place below. more_octets fragments others place (all-each (λ place. is_some (octet_at fragments place)) (length d.payload) place covered below))
+    (λ place below. more_octets fragments others place
+    (all-each (λ place. is_some (octet_at fragments place)) (length d.payload) place covered below))
 
-open_by : (d : Original) (fragments others : List Fragment) → cover d (fragments ++ others) ≡ false → (cover d fragments ≡ true) ⊎ (cover d fragments ≡ false) → cover d fragments ≡ false
+open_by : (d : Original) (fragments others : List Fragment) → cover d (fragments ++ others) ≡ false → (cover d fragments ≡ true)
+    ⊎ (cover d fragments ≡ false) → cover d fragments ≡ false
 open_by d fragments others open_ (inl covered) = absurd (true≢false (sym (cover-more d fragments others covered) ∙ open_))
 open_by d fragments others open_ (inr is) = is
 

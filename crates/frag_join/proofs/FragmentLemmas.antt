@@ -25,22 +25,27 @@ unlike-none None = refl
 unlike-none (Some x) = refl
 
 -- no place before the fragment is unlike, or new
-pub unlike-before : (known : Coverage) (f : Fragment) (start : ℕ) → start ≡ f.start → any_below (λ place. are_unlike (octet_of known place) (octet_in f place)) start ≡ false
+pub unlike-before : (known : Coverage) (f : Fragment) (start : ℕ) → start ≡ f.start
+    → any_below (λ place. are_unlike (octet_of known place) (octet_in f place)) start ≡ false
 unlike-before known f start is =
     none-any (λ place. are_unlike (octet_of known place) (octet_in f place)) start
-    (λ place below. ap (are_unlike (octet_of known place)) (octet-outside f place (covers-before f place (omega arith))) ∙ unlike-none (octet_of known place))
+    (λ place below. ap (are_unlike (octet_of known place)) (octet-outside f place (covers-before f place (omega arith)))
+    ∙ unlike-none (octet_of known place))
 
-pub fresh-before : (known : Coverage) (f : Fragment) (start : ℕ) → start ≡ f.start → count_below (λ place. covers f place && not (is_some (octet_of known place))) start ≡ 0
+pub fresh-before : (known : Coverage) (f : Fragment) (start : ℕ) → start ≡ f.start
+    → count_below (λ place. covers f place && not (is_some (octet_of known place))) start ≡ 0
 fresh-before known f start is =
     none-count (λ place. covers f place && not (is_some (octet_of known place))) start
     (λ place below. ap (λ c. c && not (is_some (octet_of known place))) (covers-before f place (omega arith)))
 
 -- ## Its header is put at the front
 
-pub header-put : (headed : Bool) (old new header : List ℕ) (f : Fragment) → headed ≡ false → f.start ≡ 0 → header ≡ f.header → length header ≡ 20 → new ≡ header ++ drop (0 + length header) old → Some (take 20 new) ≡ option_or (header_held headed old) (header_told f)
+pub header-put : (headed : Bool) (old new header : List ℕ) (f : Fragment) → headed ≡ false → f.start ≡ 0 → header ≡ f.header → length header ≡ 20
+    → new ≡ header ++ drop (0 + length header) old → Some (take 20 new) ≡ option_or (header_held headed old) (header_told f)
 header-put headed old new header f none first is long put =
     ap Some (ap (take 20) put ∙ take_at header (drop (0 + length header) old) 20 long ∙ is)
-    ∙ sym (ap (λ h. option_or (cond h (Some (take 20 old)) None) (header_told f)) none ∙ ap (λ b. cond b (Some f.header) None) (eq-eqb f.start 0 first))
+    ∙ sym (ap (λ h. option_or (cond h (Some (take 20 old)) None) (header_told f)) none
+    ∙ ap (λ b. cond b (Some f.header) None) (eq-eqb f.start 0 first))
 
 pub header-rest : (old new header : List ℕ) → length header ≡ 20 → new ≡ header ++ drop (0 + length header) old → drop 20 new ≡ drop 20 old
 header-rest old new header long put =

@@ -13,7 +13,8 @@ or-or (Some x) b c = refl
 
 -- ## One fragment more
 
-pub octet_at-push : (fragments : List Fragment) (f : Fragment) (place : ℕ) → octet_at (fragments ++ f ∷ []) place ≡ option_or (octet_at fragments place) (octet_in f place)
+pub octet_at-push : (fragments : List Fragment) (f : Fragment) (place : ℕ)
+    → octet_at (fragments ++ f ∷ []) place ≡ option_or (octet_at fragments place) (octet_in f place)
 octet_at-push [] f place = or_none (octet_in f place)
 octet_at-push (g ∷ others) f place =
     ap (option_or (octet_in g place)) (octet_at-push others f place) ∙ or-or (octet_in g place) (octet_at others place) (octet_in f place)
@@ -33,11 +34,14 @@ header_by-push (g ∷ others) f = ap (option_or (header_told g)) (header_by-push
 past-reach : (fragments : List Fragment) (place : ℕ) → reach_of fragments ≤ place → octet_at fragments place ≡ None
 past-reach [] place past = refl
 past-reach (g ∷ others) place past =
-    ap (λ o. option_or o (octet_at others place)) (octet-outside g place (covers-behind g place (omega arith))) ∙ past-reach others place (omega arith)
+    ap (λ o. option_or o (octet_at others place)) (octet-outside g place (covers-behind g place (omega arith)))
+    ∙ past-reach others place (omega arith)
 
-known_at_place : (fragments : List Fragment) (place : ℕ) → (place < reach_of fragments) ⊎ (reach_of fragments ≤ place) → octet_of (known_by fragments) place ≡ octet_at fragments place
+known_at_place : (fragments : List Fragment) (place : ℕ) → (place < reach_of fragments) ⊎ (reach_of fragments ≤ place)
+    → octet_of (known_by fragments) place ≡ octet_at fragments place
 known_at_place fragments place (inl below) = at-table (octet_at fragments) (reach_of fragments) place None below
-known_at_place fragments place (inr past) = past-table (octet_at fragments) (reach_of fragments) place None past ∙ sym (past-reach fragments place past)
+known_at_place fragments place (inr past) = past-table (octet_at fragments) (reach_of fragments) place None past
+    ∙ sym (past-reach fragments place past)
 
 -- the octet that is known at a place is that of the fragments
 pub octet_of-known : (fragments : List Fragment) (place : ℕ) → octet_of (known_by fragments) place ≡ octet_at fragments place
@@ -47,7 +51,8 @@ octet_of-known fragments place = known_at_place fragments place (cases_lt place 
 pub known-push : (fragments : List Fragment) (f : Fragment) → known_by (fragments ++ f ∷ []) ≡ added (known_by fragments) f
 known-push fragments f =
     let at : ℕ → Option ℕ = λ place. option_or (octet_of (known_by fragments) place) (octet_in f place) in
-    let places : table (octet_at (fragments ++ f ∷ [])) (reach_of (fragments ++ f ∷ [])) ≡ table at (max (length (known_by fragments).places) (end_of f)) =
+    let places : table (octet_at (fragments ++ f ∷ [])) (reach_of (fragments ++ f ∷ []))
+    ≡ table at (max (length (known_by fragments).places) (end_of f)) =
     same-tables (octet_at (fragments ++ f ∷ [])) at (reach_of (fragments ++ f ∷ [])) None
     (λ place below. octet_at-push fragments f place ∙ ap (λ o. option_or o (octet_in f place)) (sym (octet_of-known fragments place)))
     ∙ ap (table at) (reach_of-push fragments f ∙ ap (λ n. max n (end_of f)) (sym (length-table (octet_at fragments) (reach_of fragments)))) in

@@ -18,31 +18,39 @@ pub past-table : {X : Type 0} (at : ℕ → X) (bound place : ℕ) (d : X) → b
 past-table at bound place d past = get_or_past (table at bound) place d (omega (arith, length-table at bound))
 
 -- a list is the table of what stands in it
-pub is-table : {X : Type 0} (at : ℕ → X) (xs : List X) (bound : ℕ) (d : X) → length xs ≡ bound → ((place : ℕ) → place < bound → get_or xs place d ≡ at place) → xs ≡ table at bound
+pub is-table : {X : Type 0} (at : ℕ → X) (xs : List X) (bound : ℕ) (d : X) → length xs ≡ bound
+    → ((place : ℕ) → place < bound → get_or xs place d ≡ at place) → xs ≡ table at bound
 is-table at xs bound d long same = fill_by_all at xs bound d long same
 
-pub same-tables : {X : Type 0} (at other : ℕ → X) (bound : ℕ) (d : X) → ((place : ℕ) → place < bound → at place ≡ other place) → table at bound ≡ table other bound
-same-tables at other bound d same = is-table other (table at bound) bound d (length-table at bound) (λ place below. at-table at bound place d below ∙ same place below)
+pub same-tables : {X : Type 0} (at other : ℕ → X) (bound : ℕ) (d : X) → ((place : ℕ) → place < bound → at place ≡ other place)
+    → table at bound ≡ table other bound
+same-tables at other bound d same = is-table other (table at bound) bound d (length-table at bound)
+    (λ place below. at-table at bound place d below ∙ same place below)
 
 -- ## Tests
 
-pub same-all : (test other : ℕ → Bool) (bound : ℕ) → ((place : ℕ) → place < bound → test place ≡ other place) → all_below test bound ≡ all_below other bound
+pub same-all : (test other : ℕ → Bool) (bound : ℕ) → ((place : ℕ) → place < bound → test place ≡ other place)
+    → all_below test bound ≡ all_below other bound
 same-all test other zero same = refl
 same-all test other (suc n) same =
     ap (λ b. b && test n) (same-all test other n (λ place below. same place (omega arith))) ∙ ap (λ b. all_below other n && b) (same n (omega arith))
 
-pub same-count : (test other : ℕ → Bool) (bound : ℕ) → ((place : ℕ) → place < bound → test place ≡ other place) → count_below test bound ≡ count_below other bound
+pub same-count : (test other : ℕ → Bool) (bound : ℕ) → ((place : ℕ) → place < bound → test place ≡ other place)
+    → count_below test bound ≡ count_below other bound
 same-count test other zero same = refl
 same-count test other (suc n) same =
-    ap (λ m. m + cond (test n) 1 0) (same-count test other n (λ place below. same place (omega arith))) ∙ ap (λ b. count_below other n + cond b 1 0) (same n (omega arith))
+    ap (λ m. m + cond (test n) 1 0) (same-count test other n (λ place below. same place (omega arith)))
+    ∙ ap (λ b. count_below other n + cond b 1 0) (same n (omega arith))
 
 pub none-any : (test : ℕ → Bool) (bound : ℕ) → ((place : ℕ) → place < bound → test place ≡ false) → any_below test bound ≡ false
 none-any test zero none = refl
 none-any test (suc n) none = ap (λ b. b || test n) (none-any test n (λ place below. none place (omega arith))) ∙ none n (omega arith)
 
-none-any_at : (test : ℕ → Bool) (n place : ℕ) → (any_below test n ≡ false → place < n → test place ≡ false) → any_below test (suc n) ≡ false → place < suc n → (place < n) ⊎ (n ≤ place) → test place ≡ false
+none-any_at : (test : ℕ → Bool) (n place : ℕ) → (any_below test n ≡ false → place < n → test place ≡ false) → any_below test (suc n) ≡ false
+    → place < suc n → (place < n) ⊎ (n ≤ place) → test place ≡ false
 none-any_at test n place before none below (inl less) = before (or_parts (any_below test n) (test n) none).0 less
-none-any_at test n place before none below (inr more) = let last : place ≡ n = omega arith in ap test last ∙ (or_parts (any_below test n) (test n) none).1
+none-any_at test n place before none below (inr more) = let last : place ≡ n = omega arith in ap test last
+    ∙ (or_parts (any_below test n) (test n) none).1
 
 -- where none passes, each fails
 pub any-none : (test : ℕ → Bool) (bound place : ℕ) → any_below test bound ≡ false → place < bound → test place ≡ false
@@ -53,9 +61,11 @@ pub each-all : (test : ℕ → Bool) (bound : ℕ) → ((place : ℕ) → place 
 each-all test zero each = refl
 each-all test (suc n) each = ap (λ b. b && test n) (each-all test n (λ place below. each place (omega arith))) ∙ each n (omega arith)
 
-all-each_at : (test : ℕ → Bool) (n place : ℕ) → (all_below test n ≡ true → place < n → test place ≡ true) → all_below test (suc n) ≡ true → place < suc n → (place < n) ⊎ (n ≤ place) → test place ≡ true
+all-each_at : (test : ℕ → Bool) (n place : ℕ) → (all_below test n ≡ true → place < n → test place ≡ true) → all_below test (suc n) ≡ true
+    → place < suc n → (place < n) ⊎ (n ≤ place) → test place ≡ true
 all-each_at test n place before all below (inl less) = before (and_parts (all_below test n) (test n) all).0 less
-all-each_at test n place before all below (inr more) = let last : place ≡ n = omega arith in ap test last ∙ (and_parts (all_below test n) (test n) all).1
+all-each_at test n place before all below (inr more) = let last : place ≡ n = omega arith in ap test last
+    ∙ (and_parts (all_below test n) (test n) all).1
 
 pub all-each : (test : ℕ → Bool) (bound place : ℕ) → all_below test bound ≡ true → place < bound → test place ≡ true
 all-each test zero place all below = absurd (omega arith)
@@ -73,16 +83,20 @@ count-le test (suc n) = omega (arith, count-le test n, one_at_most (test n))
 
 pub none-count : (test : ℕ → Bool) (bound : ℕ) → ((place : ℕ) → place < bound → test place ≡ false) → count_below test bound ≡ 0
 none-count test zero none = refl
-none-count test (suc n) none = ap (λ b. count_below test n + cond b 1 0) (none n (omega arith)) ∙ omega (arith, none-count test n (λ place below. none place (omega arith)))
+none-count test (suc n) none = ap (λ b. count_below test n + cond b 1 0) (none n (omega arith))
+    ∙ omega (arith, none-count test n (λ place below. none place (omega arith)))
 
 -- no place between two bounds passes
-pub count-on : (test : ℕ → Bool) (low more : ℕ) → ((place : ℕ) → low ≤ place → test place ≡ false) → count_below test (low + more) ≡ count_below test low
+pub count-on : (test : ℕ → Bool) (low more : ℕ) → ((place : ℕ) → low ≤ place → test place ≡ false)
+    → count_below test (low + more) ≡ count_below test low
 count-on test low zero none = ap (count_below test) (omega arith)
 count-on test low (suc n) none =
     let one : low + suc n ≡ suc (low + n) = omega arith in
-    ap (count_below test) one ∙ ap (λ b. count_below test (low + n) + cond b 1 0) (none (low + n) (omega arith)) ∙ omega (arith, count-on test low n none)
+    ap (count_below test) one ∙ ap (λ b. count_below test (low + n) + cond b 1 0) (none (low + n) (omega arith))
+    ∙ omega (arith, count-on test low n none)
 
-pub count-from : (test : ℕ → Bool) (low high : ℕ) → low ≤ high → ((place : ℕ) → low ≤ place → test place ≡ false) → count_below test high ≡ count_below test low
+pub count-from : (test : ℕ → Bool) (low high : ℕ) → low ≤ high → ((place : ℕ) → low ≤ place → test place ≡ false)
+    → count_below test high ≡ count_below test low
 count-from test low high up none = let e : high ≡ low + (high - low) = omega arith in ap (count_below test) e ∙ count-on test low (high - low) none
 
 and-true : (x : Bool) → (x && true) ≡ x
@@ -109,7 +123,9 @@ count_more : (a b c : Bool) (x y z : ℕ) → cond a 1 0 ≡ cond b 1 0 + cond c
 count_more a b c x y z one sum = omega arith
 
 -- what passes passes one of two tests, and none passes both
-pub count-sum : (test one other : ℕ → Bool) (bound : ℕ) → ((place : ℕ) → place < bound → cond (test place) 1 0 ≡ cond (one place) 1 0 + cond (other place) 1 0) → count_below test bound ≡ count_below one bound + count_below other bound
+pub count-sum : (test one other : ℕ → Bool) (bound : ℕ)
+    → ((place : ℕ) → place < bound → cond (test place) 1 0 ≡ cond (one place) 1 0 + cond (other place) 1 0)
+    → count_below test bound ≡ count_below one bound + count_below other bound
 count-sum test one other zero each = omega arith
 count-sum test one other (suc n) each =
     count_more (test n) (one n) (other n) _ _ _ (each n (omega arith)) (count-sum test one other n (λ place below. each place (omega arith)))

@@ -13,19 +13,25 @@ abbrev pub with_kept : Part Coverage → Coverage → Part Coverage
 with_kept part kept = record { name = part.name; since = part.since; kept = kept }
 
 -- what is good for the datagram at a place is so for the buffer there
-pub good-there : (parts seen : List (Part Coverage)) (place : ℕ) (now : Part Coverage) (f : Fragment) → parts ≡ seen → place < length seen → now ≡ get_or parts place now → is_bad (known_at seen (Some place)) f ≡ false → is_bad now.kept f ≡ false
+pub good-there : (parts seen : List (Part Coverage)) (place : ℕ) (now : Part Coverage) (f : Fragment) → parts ≡ seen → place < length seen
+    → now ≡ get_or parts place now → is_bad (known_at seen (Some place)) f ≡ false → is_bad now.kept f ≡ false
 good-there parts seen place now f same within read good =
-    let there : slice_get seen place ≡ Some now = slice_get-get_or seen place now within ∙ ap Some (sym (read ∙ ap (λ all. get_or all place now) same)) in
+    let there : slice_get seen place ≡ Some now = slice_get-get_or seen place now within
+    ∙ ap Some (sym (read ∙ ap (λ all. get_or all place now) same)) in
     ap (λ o. is_bad (known_or_nothing o) f) (sym there) ∙ good
 
 -- what was put into a part is complete where that part is taken out
-pub complete-there : (parts seen : List (Part Coverage)) (place : ℕ) (now removed : Part Coverage) (kept : Coverage) → parts ≡ seen → place < length seen → removed ≡ get_or (set parts place (with_kept now kept)) place removed → is_complete kept ≡ true → is_complete removed.kept ≡ true
+pub complete-there : (parts seen : List (Part Coverage)) (place : ℕ) (now removed : Part Coverage) (kept : Coverage) → parts ≡ seen
+    → place < length seen → removed ≡ get_or (set parts place (with_kept now kept)) place removed → is_complete kept ≡ true
+    → is_complete removed.kept ≡ true
 complete-there parts seen place now removed kept same within removed_is complete =
-    let gone : removed ≡ with_kept now kept = removed_is ∙ get_or-set_same parts place (with_kept now kept) removed (subst (λ all. place < length all) (sym same) within) in
+    let gone : removed ≡ with_kept now kept = removed_is ∙ get_or-set_same parts place (with_kept now kept) removed
+    (subst (λ all. place < length all) (sym same) within) in
     ap (λ p. is_complete p.kept) gone ∙ complete
 
 -- a fragment is put into the part at a place
-module _ (parts seen : List (Part Coverage)) (place : ℕ) (e : Event) (part now : Part Coverage) (kept : Coverage) (f : Fragment) (same : parts ≡ seen) (there : slice_get seen place ≡ Some part) (read : now ≡ get_or parts place now) (put : kept ≡ added now.kept f) (is : f ≡ fragment_in e) where
+module _ (parts seen : List (Part Coverage)) (place : ℕ) (e : Event) (part now : Part Coverage) (kept : Coverage) (f : Fragment) (same : parts ≡ seen)
+    (there : slice_get seen place ≡ Some part) (read : now ≡ get_or parts place now) (put : kept ≡ added now.kept f) (is : f ≡ fragment_in e) where
   -- the buffer there is that part's
   now-is : now ≡ part
   now-is = read ∙ ap (λ all. get_or all place now) same ∙ get_or_from_slice_get seen place part now there
@@ -35,7 +41,8 @@ module _ (parts seen : List (Part Coverage)) (place : ℕ) (e : Event) (part now
   kept-is = put ∙ ap (λ p. added p.kept f) now-is ∙ ap (added part.kept) is
 
   -- what isn't complete stays in its place
-  pub put-held : is_complete kept ≡ false → record { answer = Held; state = record { parts = set parts place (with_kept now kept); joined = None } } ≡ put_at seen place e part
+  pub put-held : is_complete kept ≡ false → record { answer = Held; state = record { parts = set parts place (with_kept now kept); joined = None } }
+      ≡ put_at seen place e part
   put-held incomplete =
       ap (λ all. record { answer = Held; state = record { parts = set all place (with_kept now kept); joined = None } }) same
       ∙ ap (λ p. record { answer = Held; state = record { parts = set seen place (with_kept p kept); joined = None } }) now-is
@@ -43,11 +50,19 @@ module _ (parts seen : List (Part Coverage)) (place : ℕ) (e : Event) (part now
       ∙ sym (settled-held by_known seen (Some place) e (with_fragment by_known part e) (ap is_complete (sym kept-is) ∙ incomplete))
 
   -- what completes its datagram leaves the list without it
-  pub put-joined : (later : List (Part Coverage)) (removed : Part Coverage) (event : Event) → is_complete kept ≡ true → later ≡ remove (set parts place (with_kept now kept)) place → removed ≡ get_or (set parts place (with_kept now kept)) place removed → event ≡ event_from e.side e.moment (datagram_of removed.kept)
+  pub put-joined : (later : List (Part Coverage)) (removed : Part Coverage) (event : Event) → is_complete kept ≡ true
+      → later ≡ remove (set parts place (with_kept now kept)) place → removed ≡ get_or (set parts place (with_kept now kept)) place removed
+      → event ≡ event_from e.side e.moment (datagram_of removed.kept)
       → record { answer = Joined; state = record { parts = later; joined = Some event } } ≡ put_at seen place e part
   put-joined later removed event complete later_is removed_is event_is =
-      let gone : removed ≡ with_kept now kept = removed_is ∙ get_or-set_same parts place (with_kept now kept) removed (subst (λ all. place < length all) (sym same) (slice_get_within seen place part there)) in
+      let gone : removed ≡ with_kept now kept = removed_is ∙ get_or-set_same parts place (with_kept now kept) removed
+      (subst (λ all. place < length all) (sym same) (slice_get_within seen place part there)) in
       let rest : later ≡ remove seen place = later_is ∙ remove_set parts place (with_kept now kept) ∙ ap (λ all. remove all place) same in
-      let whole : event ≡ event_from e.side e.moment (datagram_of (added part.kept (fragment_in e))) = event_is ∙ ap (λ p. event_from e.side e.moment (datagram_of p.kept)) gone ∙ ap (λ k. event_from e.side e.moment (datagram_of k)) kept-is in
-      let joined : ◌≡◌ {A = Step Coverage} (record { answer = Joined; state = record { parts = later; joined = Some event } }) (record { answer = Joined; state = record { parts = remove seen place; joined = Some (event_from e.side e.moment (datagram_of (added part.kept (fragment_in e)))) } }) = λ i. record { answer = Joined; state = record { parts = rest i; joined = Some (whole i) } } in
+      let whole : event ≡ event_from e.side e.moment (datagram_of (added part.kept (fragment_in e))) = event_is
+      ∙ ap (λ p. event_from e.side e.moment (datagram_of p.kept)) gone ∙ ap (λ k. event_from e.side e.moment (datagram_of k)) kept-is in
+      let joined : ◌≡◌ {A = Step Coverage} (record { answer = Joined; state = record { parts = later; joined = Some event } })
+      (record {
+        answer = Joined;
+        state = record { parts = remove seen place; joined = Some (event_from e.side e.moment (datagram_of (added part.kept (fragment_in e)))) };
+      }) = λ i. record { answer = Joined; state = record { parts = rest i; joined = Some (whole i) } } in
       joined ∙ sym (settled-joined by_known seen (Some place) e (with_fragment by_known part e) (ap is_complete (sym kept-is) ∙ complete))

@@ -93,14 +93,18 @@ pub record ArrivalIs (joiner : Option (State (List Fragment))) (e : Event) : Typ
   pub alone : joiner ≡ None → arrival by_list joiner e ≡ Reaches e
   pub plain : (state : State (List Fragment)) → joiner ≡ Some state → is_fragment e ≡ false → arrival by_list joiner e ≡ Reaches e
   -- where there is a reason to refuse a fragment, it is refused by the name of the first one;
-  pub refused : (state : State (List Fragment)) (r : Refusal) → joiner ≡ Some state → is_fragment e ≡ true → fragment_reason state e ≡ Some r → arrival by_list joiner e ≡ Stopped e (verdicts.Refused r)
+  pub refused : (state : State (List Fragment)) (r : Refusal) → joiner ≡ Some state → is_fragment e ≡ true → fragment_reason state e ≡ Some r
+      → arrival by_list joiner e ≡ Stopped e (verdicts.Refused r)
   -- else it is taken: with the fragment that completes it a datagram comes to the gate, and any other is held
-  pub joined : (state : State (List Fragment)) → joiner ≡ Some state → is_fragment e ≡ true → fragment_reason state e ≡ None → is_complete (known_with state e) ≡ true
+  pub joined : (state : State (List Fragment)) → joiner ≡ Some state → is_fragment e ≡ true → fragment_reason state e ≡ None
+      → is_complete (known_with state e) ≡ true
       → arrival by_list joiner e ≡ Reaches (event_from e.side e.moment (datagram_of (known_with state e)))
-  pub held : (state : State (List Fragment)) → joiner ≡ Some state → is_fragment e ≡ true → fragment_reason state e ≡ None → is_complete (known_with state e) ≡ false → arrival by_list joiner e ≡ Stopped e verdicts.Held
+  pub held : (state : State (List Fragment)) → joiner ≡ Some state → is_fragment e ≡ true → fragment_reason state e ≡ None
+      → is_complete (known_with state e) ≡ false → arrival by_list joiner e ≡ Stopped e verdicts.Held
 
 -- of each of these frames, one after another
 pub record ArrivalsAre (join : Bool) (events : List Event) : Type 0 where
   pub each : (done others : List Event) (e : Event) → events ≡ done ++ e ∷ others → ArrivalIs (joiner_of join done) e
   pub in_order : (done others : List Event) (e : Event) → events ≡ done ++ e ∷ others
-      → arrivals_of join events ≡ arrivals_of join done ++ arrival by_list (joiner_of join done) e ∷ arrivals_from by_list (joiner_after by_list (joiner_of join done) e) others
+      → arrivals_of join events ≡ arrivals_of join done ++ arrival by_list (joiner_of join done) e ∷ arrivals_from by_list
+      (joiner_after by_list (joiner_of join done) e) others

@@ -6,7 +6,8 @@ use Rattle.inet_sum.specs.Sum.{checksum}
 use Rattle.frag_join.specs.Places.{table, any_below, all_below}
 use Rattle.frag_join.specs.Fragments.{Fragment, end_of, octet_in}
 
--- the octet at each place, if a fragment covers it, up to the greatest place that is covered; the place behind the datagram's last octet, which a fragment without MF tells; and the header of the fragment that starts it
+-- the octet at each place, if a fragment covers it, up to the greatest place that is covered; the place behind the datagram's last octet, which a
+-- fragment without MF tells; and the header of the fragment that starts it
 pub record Coverage : Type 0 where
   pub places : List (Option ℕ)
   pub known_end : Option ℕ
@@ -90,7 +91,8 @@ is_torn f = (length f.payload == 0 || f.more && not (length f.payload % 8 == 0))
 
 -- with MF its end is above the known end; or without MF its end isn't the known end, or is at or below a place that is covered
 abbrev pub ends_otherwise : Coverage → Fragment → Bool
-ends_otherwise known f = if f.more then is_above (end_of f) known.known_end else is_other (end_of f) known.known_end || nat_lt (end_of f) (length known.places)
+ends_otherwise known f = if f.more then is_above (end_of f) known.known_end else is_other (end_of f) known.known_end
+    || nat_lt (end_of f) (length known.places)
 
 -- it contradicts itself or what is known
 abbrev pub is_bad : Coverage → Fragment → Bool

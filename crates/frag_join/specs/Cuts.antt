@@ -16,7 +16,8 @@ pub record Original : Type 0 where
   pub header : List ℕ
   pub payload : List ℕ
 
--- a fragment of it: some of the octets of its payload, at least one, up to a multiple of 8 unless they are the last; MF says whether others follow; and but for its length, its fragmentation and its checksum the header is the datagram's
+-- a fragment of it: some of the octets of its payload, at least one, up to a multiple of 8 unless they are the last; MF says whether others
+-- follow; and but for its length, its fragmentation and its checksum the header is the datagram's
 pub record IsCut (d : Original) (f : Fragment) : Type 0 where
   pub some : 0 < length f.payload
   pub within : end_of f ≤ length d.payload
@@ -47,7 +48,8 @@ cover d fragments = all_below (λ place. is_some (octet_at fragments place)) (le
 abbrev pub covered_by : Original → List Event → Bool
 covered_by d events = cover d (fragments_among d.name events)
 
--- frames that bring it: no part of one with its name lives when the first of its fragments is taken, which isn't refused for want of room; all come less than 30 seconds after it; and the last of them covers what was left open
+-- frames that bring it: no part of one with its name lives when the first of its fragments is taken, which isn't refused for want of room; all
+-- come less than 30 seconds after it; and the last of them covers what was left open
 pub record Arrives (d : Original) (state : State (List Fragment)) (first : Event) (more : List Event) (last : Event) : Type 0 where
   pub fits : length d.payload ≤ 65515
   pub none : part_of d.name (live first.moment state.parts) ≡ None

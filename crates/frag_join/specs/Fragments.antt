@@ -25,7 +25,8 @@ is_fragment_fault (Err IpOptions) = false
 abbrev pub is_fragment_at : List ℕ → Bool
 is_fragment_at octets = is_fragment_fault (read_datagram octets)
 
--- the first reason to refuse the frame is that it is a fragment: the capture kept all of it, it has a good IPv4 header, and it is a part of a datagram
+-- the first reason to refuse the frame is that it is a fragment: the capture kept all of it, it has a good IPv4 header, and it is a part of a
+-- datagram
 abbrev pub is_fragment : Event → Bool
 is_fragment e = e.whole && is_fragment_at (octets_of e)
 
@@ -46,10 +47,12 @@ name_in e = name_of e.side (octets_of e)
 
 abbrev pub same_name : Name → Name → Bool
 same_name one other =
-    (((same_side one.side other.side && one.source.0 == other.source.0) && one.destination.0 == other.destination.0) && one.protocol == other.protocol)
+    (((same_side one.side other.side && one.source.0 == other.source.0) && one.destination.0 == other.destination.0)
+    && one.protocol == other.protocol)
     && one.identification == other.identification
 
--- a fragment: its header of 20 octets, the place in the datagram's payload at which its own starts, its payload, and whether more follow behind it (the flag MF)
+-- a fragment: its header of 20 octets, the place in the datagram's payload at which its own starts, its payload, and whether more follow behind it
+-- (the flag MF)
 pub record Fragment : Type 0 where
   pub header : List ℕ
   pub start : ℕ

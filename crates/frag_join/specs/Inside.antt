@@ -17,7 +17,8 @@ known_inside b = record {
   header = header_held b.headed b.octets.items;
 }
 
--- there is room for the longest datagram; the held octets are counted; no unit is held at or behind the reach, which lies between two units unless it is the end; and where the first unit is held, the header is there
+-- there is room for the longest datagram; the held octets are counted; no unit is held at or behind the reach, which lies between two units unless
+-- it is the end; and where the first unit is held, the header is there
 pub record IsWhole (b : Inside) : Type 0 where
   pub octets : length b.octets.items ≡ 65535
   pub units : length b.held.items ≡ 8190

@@ -103,7 +103,10 @@ event_from side moment octets = record { side = side; moment = moment; link = Ra
 abbrev pub settled : {K : Type 0} → Keeping K → List (Part K) → Option ℕ → Event → Part K → Step K
 settled keeping parts place e part =
     if is_complete (keeping.known part.kept)
-    then record { answer = Joined; state = record { parts = changed parts place None; joined = Some (event_from e.side e.moment (datagram_of (keeping.known part.kept))) } }
+    then record {
+      answer = Joined;
+      state = record { parts = changed parts place None; joined = Some (event_from e.side e.moment (datagram_of (keeping.known part.kept))) };
+    }
     else record { answer = Held; state = record { parts = changed parts place (Some part); joined = None } }
 
 abbrev pub with_fragment : {K : Type 0} → Keeping K → Part K → Event → Part K

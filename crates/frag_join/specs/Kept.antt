@@ -28,7 +28,8 @@ new_part name since = record { name = name; since = since; kept = nothing }
 abbrev pub put_at : List (Part Coverage) → ℕ → Event → Part Coverage → Step Coverage
 put_at parts place e part = settled by_known parts (Some place) e (with_fragment by_known part e)
 
--- there are as many buffers as datagrams may be joined, for those of which parts are there, the one that is joined, and the others; and there is room for all
+-- there are as many buffers as datagrams may be joined, for those of which parts are there, the one that is joined, and the others; and there is
+-- room for all
 pub record IsFull (j : Inside) : Type 0 where
   pub buffers : (length j.parts.items + length j.spare.items) + (if is_some j.joined then 1 else 0) ≡ limit
   pub parts : limit ≤ vec_capacity j.parts

@@ -4,7 +4,7 @@ use Rattle.gate_base.specs.Prelude.{Event, first_that_holds}
 use Rattle.gate_base.specs.declared.refusal.Refusal.{Refusal}
 use Rattle.gate_base.specs.declared.side.Side.{Side}
 use Rattle.ipv4_frames.specs.Ipv4.{Datagram}
-use Rattle.gate_model.specs.Prelude.{Kind, Udp, Echo, Error, Dns, Snmp, Stream, datagram_in, kind_of, world_as, whole_rules, next, next_by, tests, verdict_of, World, at_moment}
+use Rattle.gate_model.specs.Prelude.{Whole, Kind, Stream, datagram_in, kind_of, world_as, whole_rules, next, next_by, tests, verdict_of, World, at_moment}
 use Rattle.gate_model.specs.Verdict.{verdict}
 use Rattle.gate_model.proofs.ReadWorlds.{verdict_as}
 use Rattle.gate_model.proofs.ReadSteps.{next_as}
@@ -13,19 +13,15 @@ use Rattle.lawful_files.specs.Wanted.{wanted_kind, wanted_by, wanted_in}
 use Rattle.lawful_files.proofs.ReadWanted.{wanted_as}
 use Rattle.audit_sessions.specs.Heard.{HeardSession, heard_rules, heard_sent, session_in}
 use Rattle.audit_sessions.proofs.HeardLaws.{reads_whole}
-use Rattle.event_steps.specs.Prelude.{told_by, told_kind}
-use Rattle.event_steps.proofs.Stepping.{left_next}
+use Rattle.event_segments.specs.Prelude.{told_by, told_kind}
+use Rattle.event_segments.proofs.Stepping.{left_next}
 use Rattle.audit_records.specs.Cutting.{Cutting}
 use Rattle.audit_sessions.specs.Gives.{audit_tells, heard_gives}
-use Rattle.event_engine.specs.Given.{refusal_of, given_by, IsGiven}
-use Rattle.event_engine.specs.declared.taken.Taken.{Taken}
+use Rattle.event_state.specs.Given.{refusal_of, given_by, IsGiven}
+use Rattle.event_state.specs.declared.taken.Taken.{Taken}
 
 kind_wanted : (live : World HeardSession) (side : Side) (d : Datagram) (kind : Kind) → told_kind heard_rules audit_tells live side d kind ≡ wanted_kind heard_rules heard_sent live side live.clock d kind
-kind_wanted live side d Udp = refl
-kind_wanted live side d Echo = refl
-kind_wanted live side d Error = refl
-kind_wanted live side d Dns = refl
-kind_wanted live side d Snmp = refl
+kind_wanted live side d (Whole payload) = refl
 kind_wanted live side d Stream = refl
 
 event_wanted : (live : World HeardSession) (e : Event) (r : Option Refusal) → live.clock ≡ e.moment → told_by audit_tells r (told_kind heard_rules audit_tells live e.side (datagram_in e) (kind_of (datagram_in e))) ≡ wanted_by heard_rules heard_sent live e (verdict_of r)
@@ -39,7 +35,9 @@ pub record IsExpected (w : World HeardSession) (e : Event) (taken : Taken Cuttin
   pub next_is : world_as session_in after ≡ next whole_rules (world_as session_in w) e
   pub wanted_is : given_by heard_gives taken sent ≡ wanted (world_as session_in w) e
 
-pub expected : (w : World HeardSession) (e : Event) (taken : Taken Cutting) (after : World HeardSession) (sent : List (List ℕ)) → IsGiven heard_rules heard_gives (first_that_holds (tests heard_rules (at_moment w e.moment) e)) (kind_of (datagram_in e)) (at_moment w e.moment) e.side (datagram_in e) taken after sent → IsExpected w e taken after sent
+pub expected : (w : World HeardSession) (e : Event) (taken : Taken Cutting) (after : World HeardSession) (sent : List (List ℕ))
+    → IsGiven heard_rules heard_gives (first_that_holds (tests heard_rules (at_moment w e.moment) e)) (kind_of (datagram_in e)) (at_moment w e.moment)
+    e.side (datagram_in e) taken after sent → IsExpected w e taken after sent
 unfolding verdict
 expected w e taken after sent h =
     let live = at_moment w e.moment in

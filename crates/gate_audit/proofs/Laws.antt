@@ -11,8 +11,8 @@ use Rattle.gate_model.specs.Prelude.{is_opening}
 use Rattle.audit_sessions.specs.Heard.{HeardSession, heard_rules, session_in}
 use Rattle.audit_sessions.proofs.FreshSessions.{fresh_verdict}
 use Rattle.audit_sessions.proofs.HeardLaws.{heard_lists}
-use Rattle.event_steps.proofs.NoUnits.{syn_held}
-use Rattle.event_engine.specs.Engines.{HasLaws}
+use Rattle.event_segments.proofs.NoUnits.{syn_held}
+use Rattle.event_state.specs.Engines.{HasLaws}
 
 -- a SYN that passes has no RST
 opens_plain : (pair : Pair) (tcp : Tcp) → is_opening tcp.flags ≡ true → heard_rules.refusal Client (heard_rules.made tcp.destination_port pair tcp.sequence tcp.mss) (segment_in tcp) ≡ None → (flags_of tcp.flags).reset ≡ false

@@ -4,15 +4,15 @@ use Rattle.gate_base.specs.declared.address.Addr.{Addr}
 use Rattle.gate_base.specs.declared.refusal.Refusal.{Refusal}
 use Rattle.gate_base.specs.declared.side.Side.{Side}
 use Rattle.ipv4_frames.specs.Ipv4.{Datagram}
-use Rattle.gate_model.specs.Prelude.{Kind, Udp, Echo, Error, Dns, Snmp, Stream, taker_in, table_after, image_in, World, Tracked, called, source_of, destination_of}
+use Rattle.gate_model.specs.Prelude.{Whole, Kind, Stream, taker_in, table_after, image_in, World, Tracked, called, source_of, destination_of}
 use Rattle.lawful_files.specs.Prelude.{Wanted, Exactly, Cut, wanted_segment}
 use Rattle.audit_records.specs.Cutting.{Cutting}
 use Rattle.audit_sessions.specs.Gives.{audit_tells, heard_gives}
 use Rattle.audit_sessions.specs.Heard.{HeardSession, heard_rules, heard_sent}
-use Rattle.event_steps.specs.Prelude.{told_kind}
-use Rattle.event_engine.specs.Given.{IsGiven}
-use Rattle.event_engine.specs.declared.taken.Taken.{Taken}
-use Rattle.event_engine.specs.declared.taken.Taken.TheVariants as takes
+use Rattle.event_segments.specs.Prelude.{told_kind}
+use Rattle.event_state.specs.Given.{IsGiven}
+use Rattle.event_state.specs.declared.taken.Taken.{Taken}
+use Rattle.event_state.specs.declared.taken.Taken.TheVariants as takes
 use Rattle.gate_audit.specs.Given.{IsWhole}
 
 abbrev datagrams_of : Wanted → List (List ℕ)
@@ -24,11 +24,7 @@ one_segment image side d source destination None sent e = ap (λ (w : Wanted). l
 one_segment image side d source destination (Some t) sent e = absurd cc
 
 one_kind : (live : World HeardSession) (side : Side) (d : Datagram) (kind : Kind) (sent : List (List ℕ)) → Exactly sent ≡ told_kind heard_rules audit_tells live side d kind → length sent ≡ 1
-one_kind live side d Udp sent e = ap (λ (w : Wanted). length (datagrams_of w)) e
-one_kind live side d Echo sent e = ap (λ (w : Wanted). length (datagrams_of w)) e
-one_kind live side d Error sent e = ap (λ (w : Wanted). length (datagrams_of w)) e
-one_kind live side d Dns sent e = ap (λ (w : Wanted). length (datagrams_of w)) e
-one_kind live side d Snmp sent e = ap (λ (w : Wanted). length (datagrams_of w)) e
+one_kind live side d (Whole payload) sent e = ap (λ (w : Wanted). length (datagrams_of w)) e
 one_kind live side d Stream sent e =
     let table = table_after heard_rules live side live.clock d Stream in
     one_segment (image_in heard_rules live side live.clock d) side d (called table side (source_of d)).0 (called table side (destination_of d)).0 (taker_in heard_rules live side live.clock d) sent e

@@ -7,15 +7,15 @@ ghost use Rattle.lawful_files.specs.Prelude.{begun, behind, is_closed, Exactly};
 ghost use Rattle.gate_audit.specs.Auditing.{IsOpening, Expects, whole_world};
 ghost use Rattle.gate_audit.specs.Given.{IsWhole};
 ghost use Rattle.gate_audit.specs.Memory.{MayWant};
-ghost use Rattle.event_engine.specs.Given.{given_by, refusal_of};
+ghost use Rattle.event_state.specs.Given.{given_by, refusal_of};
 ghost use Rattle.audit_sessions.specs.Gives.{heard_gives};
 
 use audit_records::{Expected, Pieces};
 use audit_sessions::AuditedSession;
-use event_engine::{State, Taken};
+use event_outbox::Datagrams;
+use event_state::{State, Taken};
 use expiring_table::Seed;
 use gate_base::{Event, Moment, OutOfMemory, Side, Verdict};
-use gate_outbox::Outbox;
 use gate_settings::Settings;
 use pcap_files::Packet;
 use std::alloc::Global;
@@ -25,7 +25,7 @@ use std::marker::Model;
 pub struct Auditor {
     settings: Settings,
     state: State<AuditedSession>,
-    outbox: Outbox,
+    outbox: Datagrams,
     expected: Expected,
     // memory ran out in the middle of an event: nothing is said of what is known any more
     lost: bool,
@@ -49,7 +49,7 @@ impl Model for Auditor {
     ghost use Rattle.gate_model.specs.Prelude.{KeepsListed};
     ghost use Rattle.audit_sessions.specs.Heard.{heard_rules};
     ghost use Rattle.gate_audit.specs.Auditing.{Auditing};
-    ghost use Rattle.event_engine.specs.Knowing.{world_in};
+    ghost use Rattle.event_state.specs.Knowing.{world_in};
 
     ghost Value = { Auditing };
 
@@ -68,7 +68,7 @@ impl Auditor {
     {
         Ok(Auditor {
             state: State::new(alloc, &settings, Seed::from_number(seed))?,
-            outbox: Outbox::new(alloc)?,
+            outbox: Datagrams::new(alloc)?,
             expected: Expected::new(alloc)?,
             lost: false,
             settings,
@@ -177,7 +177,7 @@ fn want(
     side: Side,
     moment: Moment,
     taken: Taken<Pieces>,
-    outbox: &Outbox,
+    outbox: &Datagrams,
 ) -> Verdict
     requires { IsWhole taken outbox.now }
     ensures wanted { expected.new

@@ -15,7 +15,8 @@ pub find_filter : {A : Type 0} (p q : A → Bool) (xs : List A) (x : A) → find
 find_filter p q [] x e k = cc
 find_filter {A = A} p q (y ∷ ys) x e k = by_tests (p y) (q y) (λ h. find_filter p q ys x h k) refl refl e
   where
-    by_tests : (b c : Bool) → (find p ys ≡ Some x → find p (filter q ys) ≡ Some x) → p y ≡ b → q y ≡ c → cond b (Some y) (find p ys) ≡ Some x → find p (cond c (y ∷ filter q ys) (filter q ys)) ≡ Some x
+    by_tests : (b c : Bool) → (find p ys ≡ Some x → find p (filter q ys) ≡ Some x) → p y ≡ b → q y ≡ c → cond b (Some y) (find p ys) ≡ Some x
+        → find p (cond c (y ∷ filter q ys) (filter q ys)) ≡ Some x
     by_tests true true more h i e = rw h e
     by_tests true false more h i e = let same : y ≡ x = cc in absurd (true≢false (sym k ∙ ap q (sym same) ∙ i))
     by_tests false true more h i e = rw h (more e)
@@ -28,19 +29,23 @@ remove_set (x ∷ xs) (suc i) y = ap (λ ys. x ∷ ys) (remove_set xs i y)
 
 -- ## Lists read as others
 
-pub filter_as : {A B : Type 0} (f : A → B) (p : B → Bool) (q : A → Bool) → ((x : A) → p (f x) ≡ q x) → (xs : List A) → filter p (map f xs) ≡ map f (filter q xs)
+pub filter_as : {A B : Type 0} (f : A → B) (p : B → Bool) (q : A → Bool) → ((x : A) → p (f x) ≡ q x) → (xs : List A)
+    → filter p (map f xs) ≡ map f (filter q xs)
 filter_as f p q same [] = refl
 filter_as f p q same (x ∷ xs) = rw (same x) (by_test (q x) (filter_as f p q same xs))
   where
-    by_test : (b : Bool) → filter p (map f xs) ≡ map f (filter q xs) → cond b (f x ∷ filter p (map f xs)) (filter p (map f xs)) ≡ map f (cond b (x ∷ filter q xs) (filter q xs))
+    by_test : (b : Bool) → filter p (map f xs) ≡ map f (filter q xs) → cond b (f x ∷ filter p (map f xs)) (filter p (map f xs))
+        ≡ map f (cond b (x ∷ filter q xs) (filter q xs))
     by_test true e = ap (λ ys. f x ∷ ys) e
     by_test false e = e
 
-place_as : {A B : Type 0} (f : A → B) (p : B → Bool) (q : A → Bool) → ((x : A) → p (f x) ≡ q x) → (xs : List A) → position_or_len p (map f xs) ≡ position_or_len q xs
+place_as : {A B : Type 0} (f : A → B) (p : B → Bool) (q : A → Bool) → ((x : A) → p (f x) ≡ q x) → (xs : List A)
+    → position_or_len p (map f xs) ≡ position_or_len q xs
 place_as f p q same [] = refl
 place_as f p q same (x ∷ xs) = rw (same x, place_as f p q same xs) refl
 
-pub position_as : {A B : Type 0} (f : A → B) (p : B → Bool) (q : A → Bool) → ((x : A) → p (f x) ≡ q x) → (xs : List A) → position p (map f xs) ≡ position q xs
+pub position_as : {A B : Type 0} (f : A → B) (p : B → Bool) (q : A → Bool) → ((x : A) → p (f x) ≡ q x) → (xs : List A)
+    → position p (map f xs) ≡ position q xs
 position_as f p q same xs = rw (place_as f p q same xs, length-map) refl
 
 pub remove_as : {A B : Type 0} (f : A → B) (i : ℕ) (xs : List A) → remove (map f xs) i ≡ map f (remove xs i)

@@ -10,8 +10,8 @@ use Rattle.stream_model.specs.Prelude.{segment_in}
 use Rattle.gate_model.specs.Prelude.{is_opening}
 use Rattle.gate_sessions.specs.Compact.{CompactSession, compact_rules}
 use Rattle.gate_sessions.proofs.Listing.{kept_have_lists}
-use Rattle.event_steps.proofs.NoUnits.{syn_held}
-use Rattle.event_engine.specs.Engines.{HasLaws}
+use Rattle.event_segments.proofs.NoUnits.{syn_held}
+use Rattle.event_state.specs.Engines.{HasLaws}
 
 -- a SYN that passes has no RST
 opens_plain : (tcp : Tcp) → is_opening tcp.flags ≡ true → kept_refusal Client (kept_made tcp.sequence tcp.mss nothing_pushed nothing_pushed) (segment_in tcp) ≡ None → (flags_of tcp.flags).reset ≡ false

@@ -6,8 +6,8 @@ use Rattle.gate_base.specs.declared.side.Side.{Side}
 use Rattle.ipv4_frames.specs.Ipv4.{Datagram}
 use Rattle.gate_model.specs.Prelude.{segment_of, found_in, session_in, session_refusal, units_in, Tracked, World, host_on, Lists}
 use Rattle.gate_sessions.specs.Compact.{CompactSession, compact_rules}
-use Rattle.event_steps.specs.Prelude.{stream_refusal}
-use Rattle.event_engine.specs.Lost as state
+use Rattle.event_segments.specs.Prelude.{stream_refusal}
+use Rattle.event_state.specs.Lost as state
 use Rattle.gate_core.specs.Memory.{SegmentMayWant}
 use Rattle.gate_sessions.specs.Gives.{kept_gives}
 use Rattle.gate_sessions.specs.Sessions.{MayWantBy}

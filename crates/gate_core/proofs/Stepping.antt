@@ -4,26 +4,22 @@ use Rattle.gate_base.specs.Prelude.{Event, first_that_holds}
 use Rattle.gate_base.specs.declared.refusal.Refusal.{Refusal}
 use Rattle.gate_base.specs.declared.side.Side.{Side}
 use Rattle.ipv4_frames.specs.Ipv4.{Datagram}
-use Rattle.gate_model.specs.Prelude.{datagram_in, kind_of, out_kind, next, next_by, out, out_by, tests, verdict_of, World, at_moment, Kind, Udp, Echo, Error, Dns, Snmp, Stream}
+use Rattle.gate_model.specs.Prelude.{Whole, datagram_in, kind_of, out_kind, next, next_by, out, out_by, tests, verdict_of, World, at_moment, Kind, Dns, Stream}
 use Rattle.gate_model.specs.Verdict.{verdict}
 use Rattle.gate_sessions.specs.Compact.{CompactSession, compact_rules}
 use Rattle.gate_core.specs.Memory.{MayWant, MayWantAs}
 use Rattle.gate_core.proofs.Lost.{segment_wants}
-use Rattle.event_engine.specs.Given.{given_by}
-use Rattle.event_engine.specs.Lost as state
-use Rattle.event_engine.specs.Lost.{early_tests, IsLost}
-use Rattle.event_engine.specs.declared.taken.Taken.{Taken}
-use Rattle.event_engine.specs.declared.taken.Taken.TheVariants as takes
+use Rattle.event_state.specs.Given.{given_by}
+use Rattle.event_state.specs.Lost as state
+use Rattle.event_state.specs.Lost.{early_tests, IsLost}
+use Rattle.event_state.specs.declared.taken.Taken.{Taken}
+use Rattle.event_state.specs.declared.taken.Taken.TheVariants as takes
 use Rattle.gate_sessions.specs.Gives.{gate_tells, kept_gives}
-use Rattle.event_steps.specs.Prelude.{IsPassed, told_by, told_kind}
-use Rattle.event_steps.proofs.Stepping.{left_next}
+use Rattle.event_segments.specs.Prelude.{IsPassed, told_by, told_kind}
+use Rattle.event_segments.proofs.Stepping.{left_next}
 
 kind_out : (live : World CompactSession) (side : Side) (d : Datagram) (kind : Kind) → told_kind compact_rules gate_tells live side d kind ≡ out_kind compact_rules live side live.clock d kind
-kind_out live side d Udp = refl
-kind_out live side d Echo = refl
-kind_out live side d Error = refl
-kind_out live side d Dns = refl
-kind_out live side d Snmp = refl
+kind_out live side d (Whole payload) = refl
 kind_out live side d Stream = refl
 
 sent_out : (live : World CompactSession) (e : Event) (r : Option Refusal) → live.clock ≡ e.moment → told_by gate_tells r (told_kind compact_rules gate_tells live e.side (datagram_in e) (kind_of (datagram_in e))) ≡ out_by compact_rules live e (verdict_of r)
@@ -54,6 +50,8 @@ put_is (takes.Cut x) sent = refl
 pub wanted : (live : World CompactSession) (e : Event) (after : World CompactSession) (sent : List (List ℕ)) → IsLost compact_rules (kept_gives {P = Unit {0}}) (first_that_holds (early_tests live e)) (kind_of (datagram_in e)) live e.side (datagram_in e) after sent → MayWant live e
 wanted live e after sent h = record { early = h.allowed; needs = needs_by h.wants }
   where
-    needs_by : (kind_of (datagram_in e) ≡ Dns) ⊎ ((kind_of (datagram_in e) ≡ Stream) × state.SegmentMayWant compact_rules (kept_gives {P = Unit {0}}) live e.side (datagram_in e)) → MayWantAs (kind_of (datagram_in e)) live e.side (datagram_in e)
+    needs_by : (kind_of (datagram_in e) ≡ Whole Dns) ⊎
+        ((kind_of (datagram_in e) ≡ Stream) × state.SegmentMayWant compact_rules (kept_gives {P = Unit {0}}) live e.side (datagram_in e))
+        → MayWantAs (kind_of (datagram_in e)) live e.side (datagram_in e)
     needs_by (inl dns) = inl dns
     needs_by (inr (stream, wants)) = inr (stream, segment_wants live e.side (datagram_in e) wants)

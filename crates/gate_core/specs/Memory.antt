@@ -5,10 +5,10 @@ use Rattle.gate_base.specs.declared.side.Side.{Side}
 use Rattle.ftp_lines.specs.Renaming.{client_lines, server_lines}
 use Rattle.ipv4_frames.specs.Ipv4.{Datagram}
 use Rattle.stream_gate.specs.Prelude.{KeptCompletes}
-use Rattle.gate_model.specs.Prelude.{Kind, Dns, Stream, datagram_in, kind_of, begins, found_in, segment_of, session_in, Tracked, World, host_on}
+use Rattle.gate_model.specs.Prelude.{Whole, Kind, Dns, Stream, datagram_in, kind_of, begins, found_in, segment_of, session_in, Tracked, World, host_on}
 use Rattle.gate_sessions.specs.Compact.{CompactSession, compact_rules}
-use Rattle.event_steps.specs.Prelude.{refusal_as, CompletesUnit}
-use Rattle.event_engine.specs.Lost.{early_tests}
+use Rattle.event_segments.specs.Prelude.{refusal_as, CompletesUnit}
+use Rattle.event_state.specs.Lost.{early_tests}
 
 -- the segment is of a session of FTP, and completes a line that bears an address
 pub record CompletesLine (live : World CompactSession) (side : Side) (d : Datagram) : Type 0 where
@@ -22,7 +22,7 @@ SegmentMayWant live side d = ((refusal_as compact_rules Stream live side d ≡ N
 
 -- a datagram of DNS, or such a segment
 abbrev pub MayWantAs : Kind → World CompactSession → Side → Datagram → Type 0
-MayWantAs kind live side d = (kind ≡ Dns) ⊎ ((kind ≡ Stream) × SegmentMayWant live side d)
+MayWantAs kind live side d = (kind ≡ Whole Dns) ⊎ ((kind ≡ Stream) × SegmentMayWant live side d)
 
 -- a frame that is refused neither by itself nor for its addresses carries one of these
 pub record MayWant (live : World CompactSession) (e : Event) : Type 0 where

@@ -5,13 +5,13 @@ ghost use Rattle.gate_model.specs.Prelude.{opening_world, at_moment, next, out, 
 ghost use Rattle.gate_sessions.specs.Compact.{compact_rules};
 ghost use Rattle.gate_core.specs.Memory.{MayWant};
 ghost use Rattle.gate_settings.specs.Prelude.{IsSound, HasForms};
-ghost use Rattle.event_engine.specs.Given.{refusal_of};
+ghost use Rattle.event_state.specs.Given.{refusal_of};
 
 use crate::salt::salt_of;
-use event_engine::{State, Taken};
+use event_outbox::Datagrams;
+use event_state::{State, Taken};
 use expiring_table::Seed;
 use gate_base::{Event, Moment, OutOfMemory, Verdict};
-use gate_outbox::Outbox;
 use gate_sessions::AnySession;
 use gate_settings::Settings;
 use std::alloc::Global;
@@ -40,7 +40,7 @@ impl Model for Gate {
     ghost use Rattle.gate_model.specs.Prelude.{KeepsListed};
     ghost use Rattle.gate_sessions.specs.Compact.{compact_rules};
     ghost use Rattle.gate_core.specs.Gates.{Gateway};
-    ghost use Rattle.event_engine.specs.Knowing.{world_in};
+    ghost use Rattle.event_state.specs.Knowing.{world_in};
 
     ghost Value = { Gateway };
 
@@ -86,7 +86,11 @@ impl Gate {
     /// Memory may run out only at these frames, if neither the frame by itself nor its addresses are refused. The first is a
     /// datagram of DNS. The second is a segment that isn't refused, and that is the first of a session or completes a line that
     /// bears an address. The third is one that completes a unit of a session of DNS, which doesn't refuse it.
-    pub fn step(&mut self, event: &Event<'_>, outbox: &mut Outbox) -> Result<Verdict, OutOfMemory>
+    pub fn step(
+        &mut self,
+        event: &Event<'_>,
+        outbox: &mut Datagrams,
+    ) -> Result<Verdict, OutOfMemory>
         requires moment { IsMoment event.now.moment.0 }
         ensures verdict { IfOk result
             (λ v. v ≡ verdict compact_rules self.old.world (event_of event.now)) }

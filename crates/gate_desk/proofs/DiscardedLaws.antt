@@ -16,7 +16,8 @@ pub discarded_takes : (s : Slot) (n : ℕ) (l k : PerSlot (List ℕ)) → k ≡ 
 unfolding took
 discarded_takes s n l k e = record { left = ap Some e; written = refl; starts = refl; start_faults = refl; faults = rises_not s (each 0) }
 
-pub discarded_next : (s : Slot) (n : ℕ) (l : PerSlot (List ℕ)) (buffer : List ℕ) → n ≤ length buffer → take n buffer ≡ take n (at l s) → AreNext (take n buffer) (told_by l) s
+pub discarded_next : (s : Slot) (n : ℕ) (l : PerSlot (List ℕ)) (buffer : List ℕ) → n ≤ length buffer → take n buffer ≡ take n (at l s)
+    → AreNext (take n buffer) (told_by l) s
 unfolding told_at
 discarded_next s n l buffer fits e = ap (λ (k : ℕ). take k (at l s)) (length-take-le n buffer fits) ∙ sym e
 

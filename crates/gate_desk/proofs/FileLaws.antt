@@ -33,7 +33,8 @@ pub untold_writes : (s : Slot) (xs : List ℕ) (a b : PerSlot ℕ) → Writes s 
 unfolding wrote
 untold_writes s xs a b = record { written = refl; left = refl; starts = refl; start_faults = refl; faults = rises_not s a }
 
-pub untold_writes_same : (s : Slot) (xs ys : List ℕ) (a a' b b' : PerSlot ℕ) → Writes s xs (untold a b) (untold a' b') → Writes s ys (untold a b) (untold a' b')
+pub untold_writes_same : (s : Slot) (xs ys : List ℕ) (a a' b b' : PerSlot ℕ) → Writes s xs (untold a b) (untold a' b')
+    → Writes s ys (untold a b) (untold a' b')
 unfolding wrote
 untold_writes_same s xs ys a a' b b' h = record { written = refl; left = refl; starts = refl; start_faults = h.start_faults; faults = h.faults }
 
@@ -48,4 +49,5 @@ rose_one s a b e =
     omega (arith, there)
 
 pub untold_start_fails : (s : Slot) (a b b' : PerSlot ℕ) → b' ≡ put b s (raised (at b s)) → FailsToStart s (untold a b) (untold a b')
-untold_start_fails s a b b' e = record { cause = rose_one s b b' e; starts = refl; left = refl; written = refl; faults = refl; start_faults = rises_one s b b' e }
+untold_start_fails s a b b' e =
+    record { cause = rose_one s b b' e; starts = refl; left = refl; written = refl; faults = refl; start_faults = rises_one s b b' e }

@@ -16,22 +16,30 @@ waits_put : (s : Slot) (piece : List ℕ) (old : PerSlot (List ℕ)) → Waits s
 waits_put Errors piece old = tt
 waits_put s piece old = inr refl
 
-pub waits_alone : (s : Slot) (piece : List ℕ) (old a b : PerSlot (List ℕ)) (r : Gathering) → a ≡ each [] → b ≡ put a s (gathered_after r piece (at a s)) → r ≡ Gathered → Waits s piece old b
+pub waits_alone : (s : Slot) (piece : List ℕ) (old a b : PerSlot (List ℕ)) (r : Gathering) → a ≡ each []
+    → b ≡ put a s (gathered_after r piece (at a s)) → r ≡ Gathered → Waits s piece old b
 waits_alone s piece old a b r none e is =
-    subst (Waits s piece old) (sym (e ∙ ap (λ x. put a s (gathered_after x piece (at a s))) is ∙ ap (λ x. put x s (at x s ++ piece)) none ∙ ap (λ x. put (each []) s (x ++ piece)) (at-each [] s))) (waits_put s piece old)
+    subst (Waits s piece old)
+    (sym (e ∙ ap (λ x. put a s (gathered_after x piece (at a s))) is ∙ ap (λ x. put x s (at x s ++ piece)) none
+    ∙ ap (λ x. put (each []) s (x ++ piece)) (at-each [] s))) (waits_put s piece old)
 
 -- a piece that found no room changed nothing
-pub waits_later : {A E : Type 0} (result : Result A E) (s : Slot) (piece : List ℕ) (old a b : PerSlot (List ℕ)) (r : Gathering) → a ≡ put old s (gathered_after r piece (at old s)) → r ≡ NoRoom → OnOk result (Waits s piece a b) → OnOk result (Waits s piece old b)
-waits_later result s piece old a b r e is waits = subst (λ x. OnOk result (Waits s piece x b)) (e ∙ ap (λ x. put old s (gathered_after x piece (at old s))) is ∙ put-at old s) waits
+pub waits_later : {A E : Type 0} (result : Result A E) (s : Slot) (piece : List ℕ) (old a b : PerSlot (List ℕ)) (r : Gathering)
+    → a ≡ put old s (gathered_after r piece (at old s)) → r ≡ NoRoom → OnOk result (Waits s piece a b) → OnOk result (Waits s piece old b)
+waits_later result s piece old a b r e is waits = subst (λ x. OnOk result (Waits s piece x b))
+    (e ∙ ap (λ x. put old s (gathered_after x piece (at old s))) is ∙ put-at old s) waits
 
 -- a piece was gathered at the place of its slot
-pub gathered_at : {F A : Type 0} (places : PerSlot (Place F A)) (s : Slot) (piece : List ℕ) (r : Gathering) (before after : Place F A) → before ≡ at places s → waiting after ≡ gathered_after r piece (waiting before)
+pub gathered_at : {F A : Type 0} (places : PerSlot (Place F A)) (s : Slot) (piece : List ℕ) (r : Gathering) (before after : Place F A)
+    → before ≡ at places s → waiting after ≡ gathered_after r piece (waiting before)
     → waiting_in (put places s after) ≡ put (waiting_in places) s (gathered_after r piece (at (waiting_in places) s))
 gathered_at places s piece r before after there e =
-    mapped-put waiting places s after ∙ ap (put (waiting_in places) s) (e ∙ ap (gathered_after r piece) (ap waiting there ∙ sym (at-mapped waiting places s)))
+    mapped-put waiting places s after ∙ ap (put (waiting_in places) s)
+    (e ∙ ap (gathered_after r piece) (ap waiting there ∙ sym (at-mapped waiting places s)))
 
 -- a line of errors waits nowhere
-pub waits_nowhere : {A E : Type 0} (result : Result A E) (s : Slot) (piece : List ℕ) (old new : PerSlot (List ℕ)) → s ≡ Errors → OnOk result (Waits s piece old new)
+pub waits_nowhere : {A E : Type 0} (result : Result A E) (s : Slot) (piece : List ℕ) (old new : PerSlot (List ℕ)) → s ≡ Errors
+    → OnOk result (Waits s piece old new)
 waits_nowhere (Ok x) s piece old new e = subst (λ (s : Slot). Waits s piece old new) (sym e) tt
 waits_nowhere (Err x) s piece old new e = tt
 
@@ -40,8 +48,10 @@ waits_more : (s : Slot) (piece : List ℕ) (old : PerSlot (List ℕ)) → Waits 
 waits_more Errors piece old = tt
 waits_more s piece old = inl refl
 
-pub waits_behind : (s : Slot) (piece : List ℕ) (old new : PerSlot (List ℕ)) (r : Gathering) → new ≡ put old s (gathered_after r piece (at old s)) → r ≡ Gathered → Waits s piece old new
-waits_behind s piece old new r e is = subst (Waits s piece old) (sym (e ∙ ap (λ x. put old s (gathered_after x piece (at old s))) is)) (waits_more s piece old)
+pub waits_behind : (s : Slot) (piece : List ℕ) (old new : PerSlot (List ℕ)) (r : Gathering) → new ≡ put old s (gathered_after r piece (at old s))
+    → r ≡ Gathered → Waits s piece old new
+waits_behind s piece old new r e is = subst (Waits s piece old) (sym (e ∙ ap (λ x. put old s (gathered_after x piece (at old s))) is))
+    (waits_more s piece old)
 
 -- where none was refused, nothing has to wait
 pub none_refused : (refused : Option Slot) (waiting : PerSlot (List ℕ)) → false ≡ is_some refused → RefusedWaits refused waiting

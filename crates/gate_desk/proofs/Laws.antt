@@ -15,7 +15,8 @@ use Rattle.gate_desk.specs.Counts.{raised}
 use Rattle.gate_desk.specs.Outside.{Outside, wrote, took, told_at, Trace, Rises, NoneFailed, Writes, Takes, AreNext, IsAtEnd, AreUpTo, HasFailed, HasFailedToStart, Grows, NoneFell, WritesPart, Starts, FailsToStart, Start, started, last_access, CanRead, CanWrite}
 
 -- the ten slots, one by one
-pub every : (P : Slot → Type 0) → P Settings → P LeftIn → P RightIn → P LeftGiven → P RightGiven → P ReportGiven → P LeftOut → P RightOut → P Report → P Errors → (s : Slot) → P s
+pub every : (P : Slot → Type 0) → P Settings → P LeftIn → P RightIn → P LeftGiven → P RightGiven → P ReportGiven → P LeftOut → P RightOut → P Report
+    → P Errors → (s : Slot) → P s
 every P a b c d e f g h i j Settings = a
 every P a b c d e f g h i j LeftIn = b
 every P a b c d e f g h i j RightIn = c
@@ -51,7 +52,8 @@ pub mapped-same : {A B : Type 0} (f : A → B) (p : PerSlot A) (s : Slot) (x : A
 mapped-same f p s x e = mapped-put f p s x ∙ ap (put (mapped f p) s) (e ∙ sym (at-mapped f p s)) ∙ put-at (mapped f p) s
 
 -- no value but that of one slot changed
-pub mapped-put_only : {A B : Type 0} (f : A → B) (p : PerSlot A) (s : Slot) (x : A) → mapped f (put p s x) ≡ put (mapped f p) s (at (mapped f (put p s x)) s)
+pub mapped-put_only : {A B : Type 0} (f : A → B) (p : PerSlot A) (s : Slot) (x : A)
+    → mapped f (put p s x) ≡ put (mapped f p) s (at (mapped f (put p s x)) s)
 mapped-put_only f p s x = mapped-put f p s x ∙ ap (put (mapped f p) s) (sym (at-mapped f (put p s x) s ∙ ap f (at-put p s x)))
 
 pub wrote-wrote : (s : Slot) (xs ys : List ℕ) (told : Trace) → wrote s ys (wrote s xs told) ≡ wrote s (xs ++ ys) told
@@ -128,19 +130,24 @@ next_none s a = next_none-of (told_at a.left s)
 -- all that is left, where it is told
 pub next_all : (s : Slot) (p : PerSlot (List ℕ)) (a : Outside) (xs : List ℕ) → a.left ≡ Some p → xs ≡ at p s → AreNext xs a s
 unfolding told_at
-next_all s p a xs e f = subst (λ (o : Trace). IfSome (told_at o s) (λ all. take (length xs) all ≡ xs)) (sym e) (ap (take (length xs)) (sym f) ∙ take_all (length xs) xs (omega arith))
+next_all s p a xs e f = subst (λ (o : Trace). IfSome (told_at o s) (λ all. take (length xs) all ≡ xs)) (sym e)
+    (ap (take (length xs)) (sym f) ∙ take_all (length xs) xs (omega arith))
 
-next_on-of : (xs ys : List ℕ) (o : Option (List ℕ)) → IfSome o (λ all. take (length xs) all ≡ xs) → IfSome (option_map (drop (length xs)) o) (λ all. take (length ys) all ≡ ys) → IfSome o (λ all. take (length (xs ++ ys)) all ≡ xs ++ ys)
+next_on-of : (xs ys : List ℕ) (o : Option (List ℕ)) → IfSome o (λ all. take (length xs) all ≡ xs)
+    → IfSome (option_map (drop (length xs)) o) (λ all. take (length ys) all ≡ ys) → IfSome o (λ all. take (length (xs ++ ys)) all ≡ xs ++ ys)
 next_on-of xs ys None h k = tt
 next_on-of xs ys (Some all) h k = rw (length-append, take-add, h, k) refl
 
 -- more of the slot's next octets
-pub next_on : (s : Slot) (xs ys : List ℕ) (m : ℕ) (a b : Outside) → length xs ≡ m → Takes s m a b → AreNext xs a s → AreNext ys b s → AreNext (xs ++ ys) a s
+pub next_on : (s : Slot) (xs ys : List ℕ) (m : ℕ) (a b : Outside) → length xs ≡ m → Takes s m a b → AreNext xs a s → AreNext ys b s
+    → AreNext (xs ++ ys) a s
 next_on s xs ys m a b e t h k =
-    let there : told_at b.left s ≡ option_map (drop (length xs)) (told_at a.left s) = ap (λ (o : Trace). told_at o s) t.left ∙ told_at-took s m a.left ∙ ap (λ (n : ℕ). option_map (drop n) (told_at a.left s)) (sym e) in
+    let there : told_at b.left s ≡ option_map (drop (length xs)) (told_at a.left s) = ap (λ (o : Trace). told_at o s) t.left ∙ told_at-took s m a.left
+    ∙ ap (λ (n : ℕ). option_map (drop n) (told_at a.left s)) (sym e) in
     next_on-of xs ys (told_at a.left s) h (subst (λ o. IfSome o (λ all. take (length ys) all ≡ ys)) there k)
 
-up_to_end-of : (xs : List ℕ) (wanted : ℕ) (o : Option (List ℕ)) → length xs ≤ wanted → IfSome o (λ all. take (length xs) all ≡ xs) → IfSome (option_map (drop (length xs)) o) (λ all. length all ≡ 0) → IfSome o (λ all. xs ≡ take wanted all)
+up_to_end-of : (xs : List ℕ) (wanted : ℕ) (o : Option (List ℕ)) → length xs ≤ wanted → IfSome o (λ all. take (length xs) all ≡ xs)
+    → IfSome (option_map (drop (length xs)) o) (λ all. length all ≡ 0) → IfSome o (λ all. xs ≡ take wanted all)
 up_to_end-of xs wanted None le h k = tt
 up_to_end-of xs wanted (Some all) le h k =
     let short : length all ≤ length xs = omega (arith, length-drop (length xs) all, k) in
@@ -148,9 +155,11 @@ up_to_end-of xs wanted (Some all) le h k =
     sym h ∙ whole ∙ sym (take_all wanted all (omega arith))
 
 -- all that was left
-pub up_to_end : (s : Slot) (xs : List ℕ) (m wanted : ℕ) (a b : Outside) → length xs ≡ m → m ≤ wanted → Takes s m a b → AreNext xs a s → IsAtEnd b s → AreUpTo wanted xs a s
+pub up_to_end : (s : Slot) (xs : List ℕ) (m wanted : ℕ) (a b : Outside) → length xs ≡ m → m ≤ wanted → Takes s m a b → AreNext xs a s → IsAtEnd b s
+    → AreUpTo wanted xs a s
 up_to_end s xs m wanted a b e le t h k =
-    let there : told_at b.left s ≡ option_map (drop (length xs)) (told_at a.left s) = ap (λ (o : Trace). told_at o s) t.left ∙ told_at-took s m a.left ∙ ap (λ (n : ℕ). option_map (drop n) (told_at a.left s)) (sym e) in
+    let there : told_at b.left s ≡ option_map (drop (length xs)) (told_at a.left s) = ap (λ (o : Trace). told_at o s) t.left ∙ told_at-took s m a.left
+    ∙ ap (λ (n : ℕ). option_map (drop n) (told_at a.left s)) (sym e) in
     up_to_end-of xs wanted (told_at a.left s) (omega arith) h (subst (λ o. IfSome o (λ all. length all ≡ 0)) there k)
 
 -- a buffer after more was read into it
@@ -158,7 +167,8 @@ pub buffer_on : (xs ys : List ℕ) (a n : ℕ) → a ≤ length xs → n ≤ len
 buffer_on xs ys a n le fits =
     let front : length (take a xs) ≡ a = length-take-le a xs le in
     let e : take (a + n) (take a xs ++ (ys ++ post_of a (length xs - a) xs)) ≡ take a xs ++ take n (ys ++ post_of a (length xs - a) xs) =
-    subst (λ (k : ℕ). take (k + n) (take a xs ++ (ys ++ post_of a (length xs - a) xs)) ≡ take a xs ++ take n (ys ++ post_of a (length xs - a) xs)) front (take-append-add (take a xs) (ys ++ post_of a (length xs - a) xs) n) in
+    subst (λ (k : ℕ). take (k + n) (take a xs ++ (ys ++ post_of a (length xs - a) xs)) ≡ take a xs ++ take n (ys ++ post_of a (length xs - a) xs))
+    front (take-append-add (take a xs) (ys ++ post_of a (length xs - a) xs) n) in
     e ∙ ap (λ (zs : List ℕ). take a xs ++ zs) (take-append-le n ys (post_of a (length xs - a) xs) fits)
 
 moved-of : (n : ℕ) (o : Option (List ℕ)) (P : List ℕ → Type 0) → IfSome (option_map (drop n) o) P → IfSome o (λ all. P (drop n all))
@@ -166,7 +176,8 @@ moved-of n None P h = tt
 moved-of n (Some all) P h = h
 
 -- a fact of all the octets, from one of what was left after some were taken
-pub moved : (s : Slot) (n : ℕ) (a b : Outside) (P : List ℕ → Type 0) → Takes s n a b → IfSome (told_at b.left s) P → IfSome (told_at a.left s) (λ all. P (drop n all))
+pub moved : (s : Slot) (n : ℕ) (a b : Outside) (P : List ℕ → Type 0) → Takes s n a b → IfSome (told_at b.left s) P
+    → IfSome (told_at a.left s) (λ all. P (drop n all))
 moved s n a b P t h = moved-of n (told_at a.left s) P (subst (λ o. IfSome o P) (ap (λ (o : Trace). told_at o s) t.left ∙ told_at-took s n a.left) h)
 
 -- a failure in a later call
@@ -222,19 +233,25 @@ pub grows_not : (a : Outside) → Grows a a
 grows_not a = record { faults = λ s. omega arith; start_faults = λ s. omega arith }
 
 pub grows_on : (a b c : Outside) → Grows a b → Grows b c → Grows a c
-grows_on a b c h k = record { faults = λ s. omega (arith, h.faults s, k.faults s); start_faults = λ s. omega (arith, h.start_faults s, k.start_faults s) }
+grows_on a b c h k = record {
+  faults = λ s. omega (arith, h.faults s, k.faults s);
+  start_faults = λ s. omega (arith, h.start_faults s, k.start_faults s);
+}
 
 keeps : (a b : PerSlot ℕ) → b ≡ a → NoneFell a b
 keeps a b e s = omega (arith, ap (λ (p : PerSlot ℕ). at p s) e)
 
 pub grows_writes : (s : Slot) (xs : List ℕ) (a b : Outside) → Writes s xs a b → Grows a b
-grows_writes s xs a b h = record { faults = NoneFell-from_rises s a.faults b.faults h.faults; start_faults = keeps a.start_faults b.start_faults h.start_faults }
+grows_writes s xs a b h =
+    record { faults = NoneFell-from_rises s a.faults b.faults h.faults; start_faults = keeps a.start_faults b.start_faults h.start_faults }
 
 pub grows_takes : (s : Slot) (n : ℕ) (a b : Outside) → Takes s n a b → Grows a b
-grows_takes s n a b h = record { faults = NoneFell-from_rises s a.faults b.faults h.faults; start_faults = keeps a.start_faults b.start_faults h.start_faults }
+grows_takes s n a b h =
+    record { faults = NoneFell-from_rises s a.faults b.faults h.faults; start_faults = keeps a.start_faults b.start_faults h.start_faults }
 
 pub grows_starts : (s : Slot) (name : List ℕ) (access : Access) (a b : Outside) → Starts s name access a b → Grows a b
-grows_starts s name access a b h = record { faults = keeps a.faults b.faults h.faults; start_faults = NoneFell-from_rises s a.start_faults b.start_faults h.start_faults }
+grows_starts s name access a b h =
+    record { faults = keeps a.faults b.faults h.faults; start_faults = NoneFell-from_rises s a.start_faults b.start_faults h.start_faults }
 
 pub failed_since : (s : Slot) (a b c : Outside) → Grows a b → HasFailed s b c → HasFailed s a c
 failed_since s a b c h k = omega (arith, h.faults s, k)
@@ -253,32 +270,43 @@ writes_part_first s xs ys a b h =
     (h.0, omega (arith, h.1, length-append xs ys), subst (λ zs. Writes s zs a b) (sym (take-append-le h.0 xs ys h.1)) h.2)
 
 -- what may be read and written
-last-started : (slot s : Slot) (name : List ℕ) (access : Access) (starts : List Start) → last_access slot (starts ++ (record { slot = s; name = name; access = access }) ∷ []) ≡ cond (same_slot s slot) (Some access) (last_access slot starts)
+last-started : (slot s : Slot) (name : List ℕ) (access : Access) (starts : List Start)
+    → last_access slot (starts ++ (record { slot = s; name = name; access = access }) ∷ []) ≡ cond (same_slot s slot) (Some access)
+    (last_access slot starts)
 last-started slot s name access starts = fold-append _ None starts _
 
 same-self : (s : Slot) → same_slot s s ≡ true
 same-self s = every (λ s. same_slot s s ≡ true) refl refl refl refl refl refl refl refl refl refl s
 
-can_read_started-of : (s : Slot) (name : List ℕ) (o : Option (List Start)) → IfSome (started s name Read o) (λ starts. last_access s starts ≡ Some Read)
+can_read_started-of : (s : Slot) (name : List ℕ) (o : Option (List Start))
+    → IfSome (started s name Read o) (λ starts. last_access s starts ≡ Some Read)
 unfolding started
 can_read_started-of s name None = tt
-can_read_started-of s name (Some starts) = last-started s s name Read starts ∙ ap (λ (r : Bool). cond r (Some Read) (last_access s starts)) (same-self s)
+can_read_started-of s name (Some starts) = last-started s s name Read starts
+    ∙ ap (λ (r : Bool). cond r (Some Read) (last_access s starts)) (same-self s)
 
 pub can_read_started : (s : Slot) (name : List ℕ) (a b : Outside) → Starts s name Read a b → CanRead b s
-can_read_started s name a b h = subst (λ o. IfSome o (λ starts. last_access s starts ≡ Some Read)) (sym h.starts) (can_read_started-of s name a.starts)
+can_read_started s name a b h = subst (λ o. IfSome o (λ starts. last_access s starts ≡ Some Read)) (sym h.starts)
+    (can_read_started-of s name a.starts)
 
-kept-of : (s t : Slot) (name : List ℕ) (access access' : Access) (o : Option (List Start)) → same_slot s t ≡ false → IfSome o (λ starts. last_access t starts ≡ Some access') → IfSome (started s name access o) (λ starts. last_access t starts ≡ Some access')
+kept-of : (s t : Slot) (name : List ℕ) (access access' : Access) (o : Option (List Start)) → same_slot s t ≡ false
+    → IfSome o (λ starts. last_access t starts ≡ Some access') → IfSome (started s name access o) (λ starts. last_access t starts ≡ Some access')
 unfolding started
 kept-of s t name access access' None e h = tt
-kept-of s t name access access' (Some starts) e h = last-started t s name access starts ∙ ap (λ (r : Bool). cond r (Some access) (last_access t starts)) e ∙ h
+kept-of s t name access access' (Some starts) e h = last-started t s name access starts
+    ∙ ap (λ (r : Bool). cond r (Some access) (last_access t starts)) e ∙ h
 
-pub can_read_kept : (s t : Slot) (name : List ℕ) (access : Access) (a b : Outside) → Starts s name access a b → same_slot s t ≡ false → CanRead a t → CanRead b t
-can_read_kept s t name access a b h e k = subst (λ o. IfSome o (λ starts. last_access t starts ≡ Some Read)) (sym h.starts) (kept-of s t name access Read a.starts e k)
+pub can_read_kept : (s t : Slot) (name : List ℕ) (access : Access) (a b : Outside) → Starts s name access a b → same_slot s t ≡ false → CanRead a t
+    → CanRead b t
+can_read_kept s t name access a b h e k = subst (λ o. IfSome o (λ starts. last_access t starts ≡ Some Read)) (sym h.starts)
+    (kept-of s t name access Read a.starts e k)
 
-can_write_started-of : (s : Slot) (name : List ℕ) (o : Option (List Start)) → IfSome (started s name Write o) (λ starts. last_access s starts ≡ Some Write)
+can_write_started-of : (s : Slot) (name : List ℕ) (o : Option (List Start))
+    → IfSome (started s name Write o) (λ starts. last_access s starts ≡ Some Write)
 unfolding started
 can_write_started-of s name None = tt
-can_write_started-of s name (Some starts) = last-started s s name Write starts ∙ ap (λ (r : Bool). cond r (Some Write) (last_access s starts)) (same-self s)
+can_write_started-of s name (Some starts) = last-started s s name Write starts
+    ∙ ap (λ (r : Bool). cond r (Some Write) (last_access s starts)) (same-self s)
 
 can_write-of : (s : Slot) (a : Outside) → IfSome a.starts (λ starts. last_access s starts ≡ Some Write) → CanWrite a s
 can_write-of Errors a h = tt
@@ -289,10 +317,14 @@ of-can_write Errors a e h = absurd (false≢true (sym e))
 of-can_write s a e h = h
 
 pub can_write_started : (s : Slot) (name : List ℕ) (a b : Outside) → Starts s name Write a b → CanWrite b s
-can_write_started s name a b h = can_write-of s b (subst (λ o. IfSome o (λ starts. last_access s starts ≡ Some Write)) (sym h.starts) (can_write_started-of s name a.starts))
+can_write_started s name a b h =
+    can_write-of s b (subst (λ o. IfSome o (λ starts. last_access s starts ≡ Some Write)) (sym h.starts) (can_write_started-of s name a.starts))
 
-pub can_write_kept : (s t : Slot) (name : List ℕ) (access : Access) (a b : Outside) → Starts s name access a b → same_slot s t ≡ false → same_slot t Errors ≡ false → CanWrite a t → CanWrite b t
-can_write_kept s t name access a b h e f k = can_write-of t b (subst (λ o. IfSome o (λ starts. last_access t starts ≡ Some Write)) (sym h.starts) (kept-of s t name access Write a.starts e (of-can_write t a f k)))
+pub can_write_kept : (s t : Slot) (name : List ℕ) (access : Access) (a b : Outside) → Starts s name access a b → same_slot s t ≡ false
+    → same_slot t Errors ≡ false → CanWrite a t → CanWrite b t
+can_write_kept s t name access a b h e f k = can_write-of t b
+    (subst (λ o. IfSome o (λ starts. last_access t starts ≡ Some Write)) (sym h.starts)
+    (kept-of s t name access Write a.starts e (of-can_write t a f k)))
 
 -- what another slot holds
 pub told_at-took_other : (s t : Slot) (n : ℕ) (o : Trace) → same_slot s t ≡ false → told_at (took s n o) t ≡ told_at o t
@@ -301,7 +333,8 @@ told_at-took_other s t n None e = refl
 told_at-took_other s t n (Some p) e = ap Some (at-put_any p s t (drop n (at p s)) ∙ ap (λ (r : Bool). cond r (drop n (at p s)) (at p t)) e)
 
 pub grows_fails_to_start : (s : Slot) (a b : Outside) → FailsToStart s a b → Grows a b
-grows_fails_to_start s a b h = record { faults = keeps a.faults b.faults h.faults; start_faults = NoneFell-from_rises s a.start_faults b.start_faults h.start_faults }
+grows_fails_to_start s a b h =
+    record { faults = keeps a.faults b.faults h.faults; start_faults = NoneFell-from_rises s a.start_faults b.start_faults h.start_faults }
 
 pub can_read_same : (s : Slot) (a b : Outside) → b.starts ≡ a.starts → CanRead a s → CanRead b s
 can_read_same s a b e h = subst (λ o. IfSome o (λ starts. last_access s starts ≡ Some Read)) (sym e) h

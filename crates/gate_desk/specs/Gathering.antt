@@ -114,7 +114,8 @@ IsFile s = Unit {0}
 
 -- of each such slot, what its file got and what waits for it grew by the piece, where it is the piece's own, and stayed else
 abbrev pub TakesPiece : Slot → List ℕ → PerSlot (Option (List ℕ)) → PerSlot (List ℕ) → PerSlot (Option (List ℕ)) → PerSlot (List ℕ) → Type 0
-TakesPiece slot piece got waiting got' waiting' = (s : Slot) → IsFile s → Appends (taken_at got waiting s) (taken_at got' waiting' s) (if same_slot slot s then piece else [])
+TakesPiece slot piece got waiting got' waiting' = (s : Slot) → IsFile s
+    → Appends (taken_at got waiting s) (taken_at got' waiting' s) (if same_slot slot s then piece else [])
 
 -- of no slot did what its file got and what waits for it change together
 abbrev pub TakesNothing : PerSlot (Option (List ℕ)) → PerSlot (List ℕ) → PerSlot (Option (List ℕ)) → PerSlot (List ℕ) → Type 0
@@ -122,4 +123,5 @@ TakesNothing got waiting got' waiting' = (s : Slot) → Appends (taken_at got wa
 
 -- nor of any but this one
 abbrev pub TakesNothingElse : Slot → PerSlot (Option (List ℕ)) → PerSlot (List ℕ) → PerSlot (Option (List ℕ)) → PerSlot (List ℕ) → Type 0
-TakesNothingElse slot got waiting got' waiting' = (s : Slot) → same_slot slot s ≡ false → Appends (taken_at got waiting s) (taken_at got' waiting' s) []
+TakesNothingElse slot got waiting got' waiting' = (s : Slot) → same_slot slot s ≡ false
+    → Appends (taken_at got waiting s) (taken_at got' waiting' s) []

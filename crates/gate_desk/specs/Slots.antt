@@ -38,7 +38,18 @@ lends_slot X p slot r = Lends (the_row X) X p r (put p.now slot)
 
 -- the same value in each slot
 abbrev pub each : {A : Type 0} → A → PerSlot A
-each x = record { settings = x; left_in = x; right_in = x; left_given = x; right_given = x; report_given = x; left_out = x; right_out = x; report = x; errors = x }
+each x = record {
+  settings = x;
+  left_in = x;
+  right_in = x;
+  left_given = x;
+  right_given = x;
+  report_given = x;
+  left_out = x;
+  right_out = x;
+  report = x;
+  errors = x;
+}
 
 -- settings and two captures to be read
 abbrev pub inputs : List ℕ → List ℕ → List ℕ → PerSlot (List ℕ)

@@ -8,7 +8,9 @@ use Rattle.gate_desk.specs.Counts.{raised}
 use Rattle.gate_desk.specs.Gathering.{HandsOut}
 use Rattle.gate_desk.specs.Outside.{Outside}
 
--- for what each slot is open, what was read ahead of it, what is still to be read of it, where its file tells that, what its file got, where it tells that, what is taken for each slot and isn't handed to the system yet, the slot of which the system refused such octets, and how often a read or write, and how often a start of each slot failed
+-- for what each slot is open, what was read ahead of it, what is still to be read of it, where its file tells that, what its file got, where it
+-- tells that, what is taken for each slot and isn't handed to the system yet, the slot of which the system refused such octets, and how often a
+-- read or write, and how often a start of each slot failed
 pub record Files : Type 0 where
   pub accesses : PerSlot (Option Access)
   pub ahead : PerSlot (List ℕ)
@@ -37,7 +39,10 @@ ready d slot = ready_of d.refused (at d.ahead slot)
 
 -- so many octets that were read ahead of a slot, or all, are gone, and nothing else changed
 abbrev pub skipped : Slot → ℕ → Files → Files
-skipped slot count d = record d { ahead = put d.ahead slot (drop count (at d.ahead slot)); unread = put d.unread slot (option_map (drop (min count (length (at d.ahead slot)))) (at d.unread slot)) }
+skipped slot count d = record d {
+  ahead = put d.ahead slot (drop count (at d.ahead slot));
+  unread = put d.unread slot (option_map (drop (min count (length (at d.ahead slot)))) (at d.unread slot));
+}
 
 -- nothing waits any more, and these are what the files got
 abbrev pub all_written : PerSlot (Option (List ℕ)) → Files → Files
@@ -50,4 +55,13 @@ pub record HandsOutAll (old new : Files) : Type 0 where
 
 -- all files are closed, and nothing waits any more, since the system refused octets of this slot, which counts as a failed write
 abbrev pub all_dropped : Slot → Files → Files
-all_dropped slot d = record { accesses = each None; ahead = each []; unread = each None; got = each None; waiting = each []; refused = None; faults = put d.faults slot (raised (at d.faults slot)); start_faults = d.start_faults }
+all_dropped slot d = record {
+  accesses = each None;
+  ahead = each [];
+  unread = each None;
+  got = each None;
+  waiting = each [];
+  refused = None;
+  faults = put d.faults slot (raised (at d.faults slot));
+  start_faults = d.start_faults;
+}

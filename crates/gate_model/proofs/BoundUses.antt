@@ -34,7 +34,9 @@ lasts_until until b = elim (cases_Bool b.fixed) [ inl f ↦ rw f (inl refl) | in
 through_lasts : (from_pool : Bool) (from : Side) (address until : ℕ) (b : Binding) → is_through from_pool from (record { 0 = address }) b ≡ true → let c = extend_through from_pool from (record { 0 = address }) (record { 0 = until }) b in (c.fixed ≡ true) ⊎ (until ≤ c.until.0)
 through_lasts from_pool from address until b h = rw h (lasts_until until b)
 
-extended_lasts : (table : Bindings) (side : Side) (host alias sooner : ℕ) (from : Side) (address until : ℕ) (h : IsBoundTo table side host alias sooner) → is_through (in_pool table from (record { 0 = address })) from (record { 0 = address }) h.binding ≡ true → IsBoundTo (extended table from (record { 0 = address }) (record { 0 = until })) side host alias until
+extended_lasts : (table : Bindings) (side : Side) (host alias sooner : ℕ) (from : Side) (address until : ℕ)
+    (h : IsBoundTo table side host alias sooner) → is_through (in_pool table from (record { 0 = address })) from (record { 0 = address }) h.binding
+    ≡ true → IsBoundTo (extended table from (record { 0 = address }) (record { 0 = until })) side host alias until
 extended_lasts table side host alias sooner from address until h through =
     let a : Addr = record { 0 = address } in
     let later : Moment = record { 0 = until } in
@@ -102,7 +104,9 @@ none_free table side host rest none room empty =
     first_none None h = refl
     first_none (Some one) h = cc
 
-pub source_bound : (table : Bindings) (side : Side) (host until : ℕ) (rest : List Addr) → IsLawful table → in_pool table side (record { 0 = host }) ≡ false → nat_lt (free table (other side)) (needed table side (record { 0 = host } ∷ rest)) ≡ false → (alias : ℕ) × IsKnownAs (used table (use_of side host until)) side host alias until
+pub source_bound : (table : Bindings) (side : Side) (host until : ℕ) (rest : List Addr) → IsLawful table
+    → in_pool table side (record { 0 = host }) ≡ false → nat_lt (free table (other side)) (needed table side (record { 0 = host } ∷ rest)) ≡ false
+    → (alias : ℕ) × IsKnownAs (used table (use_of side host until)) side host alias until
 source_bound table side host until rest lawful outside room = elim (crosses_so table side host outside) [
   | inl same ↦ (host, inl (same_used table (use_of side host until) (record { 0 = host }) ∙ same, refl))
   | inr k ↦ elim k [
@@ -157,7 +161,9 @@ far_known table side address lawful reach = elim (or_cases _ _ reach) [
       by_host (host_of side (record { 0 = address }) table.entries) refl parts.0 (lawful.pools side (record { 0 = address }) parts.0) parts.1
 ]
   where
-    by_host : (o : Option Addr) → host_of side (record { 0 = address }) table.entries ≡ o → in_pool table side (record { 0 = address }) ≡ true → is_same table (record { 0 = address }) ≡ false → is_some (seen table side (record { 0 = address })) ≡ true → IsKnownAs table (other side) (called table side (record { 0 = address })).0 address 0
+    by_host : (o : Option Addr) → host_of side (record { 0 = address }) table.entries ≡ o → in_pool table side (record { 0 = address }) ≡ true
+        → is_same table (record { 0 = address }) ≡ false → is_some (seen table side (record { 0 = address })) ≡ true
+        → IsKnownAs table (other side) (called table side (record { 0 = address })).0 address 0
     by_host None e pool same some = absurd (true≢false (sym some ∙ rw (same, pool, e) refl))
     by_host (Some host) e pool same some =
         let crosses : cross table side (record { 0 = address }) ≡ Bound host = rw (same, pool, e) refl in

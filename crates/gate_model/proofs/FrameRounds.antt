@@ -91,7 +91,10 @@ raised_by_segments : (image other_image : Addr → Option Addr) (f by : Host) (t
 raised_by_segments image other_image f by t g h knows had has other_host holds v d lacks hears answered e all below acked =
     subst (λ (b : Host). segment_refusal b (after_segment image f t.session g) h ≡ None → Raised (own f (streams_of t)) (own f (after_segment other_image b (remembering_rules.next image f t.session g) h)) knows has) (sym other_host)
     (λ w. subst (λ (z : Sender). Raised (own f (streams_of t)) z knows has)
-    (sym (answer_is f (option_map (with_list (peer f) (entered other_image (entries_by (remembering_rules.next image f t.session g).session.lists (peer f)) (addresses_in (whole_units (peer f) (remembering_rules.next image f t.session g).session h)))) (remembering_rules.next image f t.session g).session.lists) (after_segment image f t.session g) h))
+    (sym (answer_is f (option_map
+    (with_list (peer f) (entered other_image (entries_by (remembering_rules.next image f t.session g).session.lists (peer f))
+    (addresses_in (whole_units (peer f) (remembering_rules.next image f t.session g).session h))))
+    (remembering_rules.next image f t.session g).session.lists) (after_segment image f t.session g) h))
     (raised_learned t.session.session.lists f (streams_of t) g h es (own (peer f) (after_segment image f t.session g)) knows had has
     (learned_stands t.session.session.lists t.pair f (streams_of t) (stream_of f t.session) es knows had more (holds.streams.units f) (holds.streams.holds f) below acked)
     (verdict_learned t.session.session.lists t.pair f (streams_of t) g es more (holds.streams.units f) (holds.streams.holds f).meaning ∙ v)
@@ -129,7 +132,9 @@ round_raises host w t knows had x reached below acked r =
         raised_by_segments (image_in remembering_rules (at_moment (at_repeat w x) x.repeat.moment) x.repeat.side x.repeat.moment (datagram_in x.repeat)) (image_in remembering_rules (at_moment (at_answer w x) x.answer.moment) x.answer.side x.answer.moment (datagram_in x.answer))
         (host_on x.repeat.side t) (host_on x.answer.side t) t (segment_of (datagram_in x.repeat)) (segment_of (datagram_in x.answer)) knows had x.has r.answers_by before.0 before.1 r.kind r.lacks r.hears behind.1 r.answer_kind r.all below acked
 
-pub frame_rounds_raise : (host : Host) (xs : List FrameRound) (w : World RememberedSession) (t : Tracked RememberedSession) (knows had : ℕ) → EachTracked TrackedHolds w.connections → knows ≤ acknowledged_of (own host (streams_of t)) → (own host (streams_of t)).acked ≤ had → AllFrameRounds host w t knows had xs
+pub frame_rounds_raise : (host : Host) (xs : List FrameRound) (w : World RememberedSession) (t : Tracked RememberedSession) (knows had : ℕ)
+    → EachTracked TrackedHolds w.connections → knows ≤ acknowledged_of (own host (streams_of t)) → (own host (streams_of t)).acked ≤ had
+    → AllFrameRounds host w t knows had xs
     → let new = own host (streams_of (after_frame_rounds w t xs)) in length xs + (own host (streams_of t)).acked + knows ≤ new.acked + acknowledged_of new
 frame_rounds_raise host [] w t knows had reached below acked all = omega (arith, below)
 frame_rounds_raise host (x ∷ xs) w t knows had reached below acked all =

@@ -54,10 +54,15 @@ goes_by image f t g h v d waits =
     }
   where
     holds : Holds (meaning_by (whole_learned image f t.session.session g).lists t.pair f) (own f (whole_learned image f t.session.session g).session) (stream_of f t.session)
-    holds = holds_learned t.session.session.lists t.pair f f t.session.session.session (stream_of f t.session) (entered image (entries_by t.session.session.lists f) (addresses_in (whole_units f t.session.session g))) (longer t.session.session.lists f image (addresses_in (whole_units f t.session.session g))) (h.streams.units f) (h.streams.holds f)
+    holds = holds_learned t.session.session.lists t.pair f f t.session.session.session (stream_of f t.session)
+        (entered image (entries_by t.session.session.lists f) (addresses_in (whole_units f t.session.session g)))
+        (longer t.session.session.lists f image (addresses_in (whole_units f t.session.session g))) (h.streams.units f) (h.streams.holds f)
 
     passes : segment_refusal f (whole_learned image f t.session.session g).session g ≡ None
-    passes = verdict_learned t.session.session.lists t.pair f t.session.session.session g (entered image (entries_by t.session.session.lists f) (addresses_in (whole_units f t.session.session g))) (longer t.session.session.lists f image (addresses_in (whole_units f t.session.session g))) (h.streams.units f) (h.streams.holds f).meaning ∙ v
+    passes = verdict_learned t.session.session.lists t.pair f t.session.session.session g
+        (entered image (entries_by t.session.session.lists f) (addresses_in (whole_units f t.session.session g)))
+        (longer t.session.session.lists f image (addresses_in (whole_units f t.session.session g))) (h.streams.units f) (h.streams.holds f).meaning
+        ∙ v
 
 -- nothing but held rests waits in what holds
 rests_wait : (t : Tracked RememberedSession) → TrackedHolds t → OnlyRestsWait (streams_of t)

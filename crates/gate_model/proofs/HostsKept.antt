@@ -23,7 +23,7 @@ use Rattle.tcp_segments.specs.Prelude.{flags_of}
 use Rattle.tcp_tracker.specs.Prelude.{is_of, place_of, connection_of, is_reset, starts_anew, unused, kept, kept_or_begun, with_flags, held, timeout, timeout_or_short, short_timeout, after, live, with_session}
 use Rattle.tcp_tracker.specs.declared.connection.ConnKey.{ConnKey}
 use Rattle.tcp_tracker.specs.declared.connection.Connection.{Connection}
-use Rattle.gate_model.specs.Prelude.{Kind, Udp, Echo, Error, Dns, Snmp, Stream, datagram_in, kind_of, SessionRules, Tracked, World, at_moment, called, source_of, destination_of, tcp_of, key_of, key_in, found_in, session_in, begins, pair_in, made_by, taker_by, stepped, ends_by, stream_timeout, connection_after, payload_addresses, payload_uses, image_in, uses_of, table_after, is_reachable, verdict, taker_in, after_kind, next_by, next, host_in, IsPairOf, KeepsHosts}
+use Rattle.gate_model.specs.Prelude.{Whole, Kind, Stream, datagram_in, kind_of, SessionRules, Tracked, World, at_moment, called, source_of, destination_of, tcp_of, key_of, key_in, found_in, session_in, begins, pair_in, made_by, taker_by, stepped, ends_by, stream_timeout, connection_after, payload_addresses, payload_uses, image_in, uses_of, table_after, is_reachable, verdict, taker_in, after_kind, next_by, next, host_in, IsPairOf, KeepsHosts}
 use Rattle.gate_model.proofs.Passing.{Passes, passes, none_head, none_tail}
 use Rattle.gate_model.proofs.Tracking.{all_changed}
 use Rattle.gate_model.proofs.BoundTables.{known_expired, known_seen, known_once, lawful_after, bound_crosses}
@@ -42,7 +42,9 @@ hosts_live {S = S} table now (c ∷ all) h = by_test (nat_lt now c.until.0) refl
     later d = KeepsHosts (expired table (record { 0 = now })) d
 
     by_test : (b : Bool) → nat_lt now c.until.0 ≡ b → All (KeepsHosts (expired table (record { 0 = now }))) (live (record { 0 = now }) all) → All (KeepsHosts (expired table (record { 0 = now }))) (cond b (c ∷ live (record { 0 = now }) all) (live (record { 0 = now }) all))
-    by_test true e more = All-cons (KeepsHosts (expired table (record { 0 = now }))) c (live (record { 0 = now }) all) (hosts_move table (expired table (record { 0 = now })) c (λ side host alias. known_expired table side host alias c.until.0 now (ltb-true now c.until.0 e)) (All-head (KeepsHosts table) c all h)) more
+    by_test true e more = All-cons (KeepsHosts (expired table (record { 0 = now }))) c (live (record { 0 = now }) all)
+        (hosts_move table (expired table (record { 0 = now })) c
+        (λ side host alias. known_expired table side host alias c.until.0 now (ltb-true now c.until.0 e)) (All-head (KeepsHosts table) c all h)) more
     by_test false e more = more
 
 hosts_used : {S : Type 0} (table : Bindings) (uses : List Use) (all : List (Connection (Tracked S))) → All (KeepsHosts table) all → All (KeepsHosts (after_uses table uses)) all
@@ -132,7 +134,9 @@ left_of {S = S} rules image live side moment d table found f named = by_ends (en
     key : ConnKey
     key = key_in live.table side d
 
-    by_found : (o : Option (Connection (Tracked S))) → IfSome o (λ c. is_of (key_in live.table side d) c ≡ true) → ends_by rules side d (taker_by rules table side d o) ≡ false → (k : Connection (Tracked S)) → kept_or_begun (key_in live.table side d) (tcp_of d).flags (taker_by rules table side d o) o ≡ Some k
+    by_found : (o : Option (Connection (Tracked S))) → IfSome o (λ c. is_of (key_in live.table side d) c ≡ true)
+        → ends_by rules side d (taker_by rules table side d o) ≡ false → (k : Connection (Tracked S))
+        → kept_or_begun (key_in live.table side d) (tcp_of d).flags (taker_by rules table side d o) o ≡ Some k
         → ((s : Side) → host_in s k.key ≡ host_in s (key_in live.table side d)) × (timeout_with rules live side d o ≡ timeout (with_flags side (tcp_of d).flags k)) × (is_key (key_in live.table side d) k.key ≡ true)
     by_found None n e k h =
         let is = begun_is (key_in live.table side d) (tcp_of d).flags (taker_by rules table side d None) k h in (
@@ -159,7 +163,9 @@ left_of {S = S} rules image live side moment d table found f named = by_ends (en
         }
 
     by_ends : (b : Bool) → ends_by rules side d (taker_by rules table side d found) ≡ b
-        → IfSome (if b then None else option_map (with_session (option_map (stepped rules image side d) (taker_by rules table side d found))) (after (key_in live.table side d) side (tcp_of d).flags (taker_by rules table side d found) (record { 0 = moment }) found)) (IsLeft rules image live side moment d (taker_by rules table side d found))
+        → IfSome (if b then None else option_map (with_session (option_map (stepped rules image side d) (taker_by rules table side d found)))
+        (after (key_in live.table side d) side (tcp_of d).flags (taker_by rules table side d found) (record { 0 = moment }) found))
+        (IsLeft rules image live side moment d (taker_by rules table side d found))
     by_ends true e = tt
     by_ends false e = by_kept e (kept_or_begun (key_in live.table side d) (tcp_of d).flags (taker_by rules table side d found) found) refl
 
@@ -208,7 +214,9 @@ pair_moves client pair hosts hosts' aliases aliases' h a p = record {
 }
 
 -- the pair of a session that begins
-made_pair : (live table : Bindings) (side : Side) (d : Datagram) (until : ℕ) (hosts : Side → ℕ) → IsLawful table → (k : BothKnown live table side d.source d.destination until) → hosts side ≡ d.source → hosts (other side) ≡ (called live side (destination_of d)).0 → IsPairOf side (pair_in table side d) hosts (pick side k.alias d.destination)
+made_pair : (live table : Bindings) (side : Side) (d : Datagram) (until : ℕ) (hosts : Side → ℕ) → IsLawful table
+    → (k : BothKnown live table side d.source d.destination until) → hosts side ≡ d.source
+    → hosts (other side) ≡ (called live side (destination_of d)).0 → IsPairOf side (pair_in table side d) hosts (pick side k.alias d.destination)
 made_pair live table side d until hosts lawful k own far = record {
   client_host = sym own;
   client_alias = called_is table side (source_of d) (record { 0 = k.alias }) (known_seen table side d.source k.alias until lawful k.own) ∙ sym (pick_own side k.alias d.destination);
@@ -217,7 +225,9 @@ made_pair live table side d until hosts lawful k own far = record {
 }
 
 -- the connection that is left keeps its hosts
-left_keeps : {S : Type 0} (rules : SessionRules S) (image : Addr → Option Addr) (live : World S) (side : Side) (moment until : ℕ) (d : Datagram) (table : Bindings) (found : Option (Connection (Tracked S))) → IsLawful table → until ≡ moment + stream_timeout rules live side d → BothKnown live.table table side d.source d.destination until
+left_keeps : {S : Type 0} (rules : SessionRules S) (image : Addr → Option Addr) (live : World S) (side : Side) (moment until : ℕ) (d : Datagram)
+    (table : Bindings) (found : Option (Connection (Tracked S))) → IsLawful table → until ≡ moment + stream_timeout rules live side d
+    → BothKnown live.table table side d.source d.destination until
     → IfSome found (λ c. KeepsHosts table c × (is_of (key_in live.table side d) c ≡ true)) → (c : Connection (Tracked S)) → IsLeft rules image live side moment d (taker_by rules table side d found) c → KeepsHosts table c
 left_keeps {S = S} rules image live side moment until d table found lawful timeout k kept c left =
     let hosts : Side → ℕ = λ s. host_in s c.key in
@@ -235,7 +245,9 @@ left_keeps {S = S} rules image live side moment until d table found lawful timeo
           (by_found found kept own far all left.hosts);
     }
   where
-    begins_so : (b : Bool) → host_in side c.key ≡ d.source → host_in (other side) c.key ≡ (called live.table side (destination_of d)).0 → IfSome (option_map (stepped rules image side d) (if b then Some (made_by rules table side d) else None)) (λ t. IsPairOf t.client t.pair (λ s. host_in s c.key) (pick side k.alias d.destination))
+    begins_so : (b : Bool) → host_in side c.key ≡ d.source → host_in (other side) c.key ≡ (called live.table side (destination_of d)).0
+        → IfSome (option_map (stepped rules image side d) (if b then Some (made_by rules table side d) else None))
+        (λ t. IsPairOf t.client t.pair (λ s. host_in s c.key) (pick side k.alias d.destination))
     begins_so true own far = made_pair live.table table side d until (λ s. host_in s c.key) lawful k own far
     begins_so false own far = tt
 
@@ -253,12 +265,10 @@ left_keeps {S = S} rules image live side moment until d table found lawful timeo
     by_found None h own far all same = begins_so (begins {S = S} None d) own far
     by_found (Some e) h own far all same = goes_on e h.0 h.1 all same e.session h.0.pair
 
-kind_hosts : {S : Type 0} (rules : SessionRules S) (live : World S) (side : Side) (moment : ℕ) (d : Datagram) (kind : Kind) → Passes rules live side moment d kind → IsLawful live.table → All (KeepsHosts live.table) live.connections → All (KeepsHosts (table_after rules live side moment d kind)) (after_kind rules live side moment d kind).connections
-kind_hosts rules live side moment d Udp p lawful h = hosts_used live.table (uses_of rules live side moment d Udp) live.connections h
-kind_hosts rules live side moment d Echo p lawful h = hosts_used live.table (uses_of rules live side moment d Echo) live.connections h
-kind_hosts rules live side moment d Error p lawful h = hosts_used live.table (uses_of rules live side moment d Error) live.connections h
-kind_hosts rules live side moment d Dns p lawful h = hosts_used live.table (uses_of rules live side moment d Dns) live.connections h
-kind_hosts rules live side moment d Snmp p lawful h = hosts_used live.table (uses_of rules live side moment d Snmp) live.connections h
+kind_hosts : {S : Type 0} (rules : SessionRules S) (live : World S) (side : Side) (moment : ℕ) (d : Datagram) (kind : Kind)
+    → Passes rules live side moment d kind → IsLawful live.table → All (KeepsHosts live.table) live.connections
+    → All (KeepsHosts (table_after rules live side moment d kind)) (after_kind rules live side moment d kind).connections
+kind_hosts rules live side moment d (Whole payload) p lawful h = hosts_used live.table (uses_of rules live side moment d (Whole payload)) live.connections h
 kind_hosts {S = S} rules live side moment d Stream p lawful h =
     let table = table_after rules live side moment d Stream in
     let key = key_in live.table side d in
@@ -281,7 +291,10 @@ kind_hosts {S = S} rules live side moment d Stream p lawful h =
     only None x = tt
     only (Some c) x = x.1
 
-    keeps : (o : Option (Connection (Tracked S))) → IfSome o (IsLeft rules (image_in rules live side moment d) live side moment d (taker_in rules live side moment d)) → ((c : Connection (Tracked S)) → IsLeft rules (image_in rules live side moment d) live side moment d (taker_in rules live side moment d) c → KeepsHosts (table_after rules live side moment d Stream) c) → IfSome o (KeepsHosts (table_after rules live side moment d Stream))
+    keeps : (o : Option (Connection (Tracked S)))
+        → IfSome o (IsLeft rules (image_in rules live side moment d) live side moment d (taker_in rules live side moment d))
+        → ((c : Connection (Tracked S)) → IsLeft rules (image_in rules live side moment d) live side moment d (taker_in rules live side moment d) c
+        → KeepsHosts (table_after rules live side moment d Stream) c) → IfSome o (KeepsHosts (table_after rules live side moment d Stream))
     keeps None x f = tt
     keeps (Some c) x f = f c x
 
@@ -295,11 +308,7 @@ moment_hosts : {S : Type 0} (w : World S) (moment : ℕ) → KeepsAll w → Keep
 moment_hosts w moment h = record { lawful = lawful_expired w.table (record { 0 = moment }) h.lawful; hosts = hosts_live w.table moment w.connections h.hosts }
 
 pub table_is : {S : Type 0} (rules : SessionRules S) (live : World S) (side : Side) (moment : ℕ) (d : Datagram) (kind : Kind) → (after_kind rules live side moment d kind).table ≡ table_after rules live side moment d kind
-table_is rules live side moment d Udp = refl
-table_is rules live side moment d Echo = refl
-table_is rules live side moment d Error = refl
-table_is rules live side moment d Dns = refl
-table_is rules live side moment d Snmp = refl
+table_is rules live side moment d (Whole payload) = refl
 table_is rules live side moment d Stream = refl
 
 pub next_hosts : {S : Type 0} (rules : SessionRules S) (w : World S) (e : Event) → KeepsAll w → KeepsAll (next rules w e)

@@ -148,7 +148,9 @@ name_image table later side until address lawful same (inr h) =
     unless (cross table side address) (seen later side address) (differs_cross table side address (sym same ∙ as_differs later side address.0 h.0.0 until lawful h.1)) ∙ as_seen later side address.0 h.0.0 until lawful h.1 in
     subst (λ (o : Option Addr). IsImage later side until address o) (sym is) h.1
 
-names_images : (table later : Bindings) (side : Side) (until : ℕ) (names : List Addr) → IsLawful later → ((address : Addr) → is_same later address ≡ is_same table address) → AllByRecursion (Crosses later side until) names → AllByRecursion (λ a. IsImage later side until a (image_after table later side a)) names
+names_images : (table later : Bindings) (side : Side) (until : ℕ) (names : List Addr) → IsLawful later
+    → ((address : Addr) → is_same later address ≡ is_same table address) → AllByRecursion (Crosses later side until) names
+    → AllByRecursion (λ a. IsImage later side until a (image_after table later side a)) names
 names_images table later side until [] lawful same h = tt
 names_images table later side until (a ∷ names) lawful same h = (name_image table later side until a lawful (same a) h.0, names_images table later side until names lawful same h.1)
 
@@ -159,7 +161,9 @@ enter_bound table side until image es a h k = by_test (is_listed es a.0)
     by_test true = h
     by_test false = all_append (IsEntryBound table side until) es ((a, image a) ∷ []) h (k, tt)
 
-pub entered_bound : (table : Bindings) (side : Side) (until : ℕ) (image : Addr → Option Addr) (es : List Entry) (names : List Addr) → AllByRecursion (IsEntryBound table side until) es → AllByRecursion (λ a. IsImage table side until a (image a)) names → AllByRecursion (IsEntryBound table side until) (entered image es names)
+pub entered_bound : (table : Bindings) (side : Side) (until : ℕ) (image : Addr → Option Addr) (es : List Entry) (names : List Addr)
+    → AllByRecursion (IsEntryBound table side until) es → AllByRecursion (λ a. IsImage table side until a (image a)) names
+    → AllByRecursion (IsEntryBound table side until) (entered image es names)
 entered_bound table side until image es [] h k = h
 entered_bound table side until image es (a ∷ names) h k = entered_bound table side until image (enter image es a) names (enter_bound table side until image es a h k.0) k.1
 
@@ -196,7 +200,10 @@ pub record ListsLast (l : Listing) : Type 0 where
   pub two : AllByRecursion (IsEntryBound (table_with l) (other l.client) l.until) l.two
   pub names : AllByRecursion (λ a. IsImage (table_with l) l.side l.until a (image_after l.table (table_with l) l.side a)) l.names
 
-pub lists_last : (l : Listing) (sooner : ℕ) → IsLawful l.table → AllByRecursion (IsEntryBound l.table l.client sooner) l.one → AllByRecursion (IsEntryBound l.table (other l.client) sooner) l.two → All (λ address. cross l.table l.side address ≢ Unbound) (l.header ++ l.names) → needed l.table l.side (l.header ++ l.names) ≤ free l.table (other l.side) → ListsLast l
+pub lists_last : (l : Listing) (sooner : ℕ) → IsLawful l.table → AllByRecursion (IsEntryBound l.table l.client sooner) l.one
+    → AllByRecursion (IsEntryBound l.table (other l.client) sooner) l.two
+    → All (λ address. cross l.table l.side address ≢ Unbound) (l.header ++ l.names) → needed l.table l.side (l.header ++ l.names)
+    ≤ free l.table (other l.side) → ListsLast l
 lists_last l sooner lawful h k bound room =
     let first = uses_until l.side l.until (l.header ++ l.names) in
     let ones = uses_until l.client l.until (renamed_in l.one) in

@@ -22,7 +22,7 @@ use Rattle.stream_model.specs.Prelude.{Segment, own}
 use Rattle.tcp_segments.specs.Prelude.{flags_of}
 use Rattle.tcp_tracker.specs.Prelude.{is_of, place_of, live}
 use Rattle.tcp_tracker.specs.declared.connection.Connection.{Connection}
-use Rattle.gate_model.specs.Prelude.{is_tracked_port, Kind, Udp, Echo, Error, Dns, Snmp, Stream, datagram_in, kind_of, IsImage, IsEntryBound, HasLists, KeepsListed, EntryCrosses, ListsCross, Lists, with_list, addresses_in, entered, is_bad, most_entries, SessionRules, whole_rules, entries_by, units_by, completed, Tracked, World, at_moment, called, source_of, destination_of, addresses_of, host_on, opening_world, tcp_of, segment_of, is_opening, key_in, found_in, session_in, begins, made_by, taker_by, session_refusal, stepped, stream_timeout, connection_after, uses_until, units_in, names_in, entries_after, uses_of_lists, is_new_unbound, unit_tests, uses_of, table_after, image_in, is_reachable, verdict, taker_in, after_kind, next_by, next, EachTracked}
+use Rattle.gate_model.specs.Prelude.{Whole, is_tracked_port, Kind, Stream, datagram_in, kind_of, IsImage, IsEntryBound, HasLists, KeepsListed, EntryCrosses, ListsCross, Lists, with_list, addresses_in, entered, is_bad, most_entries, SessionRules, whole_rules, entries_by, units_by, completed, Tracked, World, at_moment, called, source_of, destination_of, addresses_of, host_on, opening_world, tcp_of, segment_of, is_opening, key_in, found_in, session_in, begins, made_by, taker_by, session_refusal, stepped, stream_timeout, connection_after, uses_until, units_in, names_in, entries_after, uses_of_lists, is_new_unbound, unit_tests, uses_of, table_after, image_in, is_reachable, verdict, taker_in, after_kind, next_by, next, EachTracked}
 use Rattle.gate_model.specs.Held.{side_of, ListsAreBound, KeepsLists, ListsAreFew}
 use Rattle.gate_base.specs.declared.refusal.Refusal.TheVariants.{BadUnit, UnitUnbound, RenamesFull}
 use Rattle.gate_base.proofs.Hosts.{both}
@@ -102,7 +102,9 @@ lists_used rules table uses all lawful h = All-weaker (KeepsLists rules table) (
 abbrev list_after : {S : Type 0} → SessionRules S → (Addr → Option Addr) → Host → S → Segment → List Entry
 list_after rules image f s g = entered image (rules.listed f s) (addresses_in (rules.units f s g))
 
-both_listed : {S : Type 0} (rules : SessionRules S) → HasLists rules → (P : Host → List Entry → Type 0) (image : Addr → Option Addr) (f : Host) (s : S) (g : Segment) → P f (list_after rules image f s g) → P (peer f) (rules.listed (peer f) s) → (host : Host) → P host (rules.listed host (rules.next image f s g))
+both_listed : {S : Type 0} (rules : SessionRules S) → HasLists rules → (P : Host → List Entry → Type 0) (image : Addr → Option Addr) (f : Host)
+    (s : S) (g : Segment) → P f (list_after rules image f s g) → P (peer f) (rules.listed (peer f) s) → (host : Host)
+    → P host (rules.listed host (rules.next image f s g))
 both_listed rules has P image f s g mine theirs =
     both (λ (h : Host). P h (rules.listed h (rules.next image f s g))) f
     (subst (P f) (sym (has.own image f s g)) mine)
@@ -149,7 +151,10 @@ session_keeps {S = S} rules has live side moment d p t sooner k = by_sender (hos
 
     same_table : table_after rules live side moment d Stream ≡ table_with listing
     same_table =
-        ap (λ (o : Option (Tracked S)). after_uses live.table (uses_until side (moment + stream_timeout rules live side d) (addresses_of d) ++ (uses_until side (moment + stream_timeout rules live side d) (names_in rules side d o) ++ uses_of_lists rules (moment + stream_timeout rules live side d) o))) k.holder
+        ap (λ (o : Option (Tracked S)). after_uses live.table
+        (uses_until side (moment + stream_timeout rules live side d) (addresses_of d)
+        ++ (uses_until side (moment + stream_timeout rules live side d) (names_in rules side d o) ++ uses_of_lists rules
+        (moment + stream_timeout rules live side d) o))) k.holder
 
     outside : in_pool live.table side (source_of d) ≡ false
     outside = none_head {test = (in_pool live.table side (source_of d), SourceInPool)} {more = (not (is_reachable live.table side (destination_of d)), NoBinding) ∷ []} p.address
@@ -188,12 +193,21 @@ session_keeps {S = S} rules has live side moment d p t sooner k = by_sender (hos
 
     mine : (f : Host) → host_on side t ≡ f → AllByRecursion (IsEntryBound (table_after rules live side moment d Stream) (side_of f t) (moment + stream_timeout rules live side d)) (list_after rules (image_in rules live side moment d) f t.session (segment_of d))
     mine f e =
-        subst (λ (s : Side). AllByRecursion (IsEntryBound (table_after rules live side moment d Stream) s (moment + stream_timeout rules live side d)) (list_after rules (image_in rules live side moment d) f t.session (segment_of d))) (sym (ap (λ (h : Host). side_of h t) (sym e) ∙ sender_side t side))
+        subst (λ (s : Side). AllByRecursion (IsEntryBound (table_after rules live side moment d Stream) s (moment + stream_timeout rules live side d))
+        (list_after rules (image_in rules live side moment d) f t.session (segment_of d)))
+        (sym (ap (λ (h : Host). side_of h t) (sym e) ∙ sender_side t side))
         (entered_bound (table_after rules live side moment d Stream) side (moment + stream_timeout rules live side d) (image_in rules live side moment d) (rules.listed f t.session) (addresses_in (rules.units f t.session (segment_of d)))
         (subst (λ (s : Side). AllByRecursion (IsEntryBound (table_after rules live side moment d Stream) s (moment + stream_timeout rules live side d)) (rules.listed f t.session)) (ap (λ (h : Host). side_of h t) (sym e) ∙ sender_side t side) (old f e f)) (named f e))
 
-    by_sender : (f : Host) → host_on side t ≡ f → (host : Host) → AllByRecursion (IsEntryBound (table_after rules live side moment d Stream) (side_of host (stepped rules (image_in rules live side moment d) side d t)) (moment + stream_timeout rules live side d)) (rules.listed host (rules.next (image_in rules live side moment d) (host_on side t) t.session (segment_of d)))
-    by_sender f e host = subst (λ (x : Host). AllByRecursion (IsEntryBound (table_after rules live side moment d Stream) (side_of host (stepped rules (image_in rules live side moment d) side d t)) (moment + stream_timeout rules live side d)) (rules.listed host (rules.next (image_in rules live side moment d) x t.session (segment_of d)))) (sym e)
+    by_sender : (f : Host) → host_on side t ≡ f → (host : Host)
+        → AllByRecursion (IsEntryBound (table_after rules live side moment d Stream)
+        (side_of host (stepped rules (image_in rules live side moment d) side d t)) (moment + stream_timeout rules live side d))
+        (rules.listed host (rules.next (image_in rules live side moment d) (host_on side t) t.session (segment_of d)))
+    by_sender f e host = subst
+        (λ (x : Host). AllByRecursion
+        (IsEntryBound (table_after rules live side moment d Stream) (side_of host (stepped rules (image_in rules live side moment d) side d t))
+        (moment + stream_timeout rules live side d)) (rules.listed host (rules.next (image_in rules live side moment d) x t.session (segment_of d))))
+        (sym e)
         (same_sides host (both_listed rules has (λ c es. AllByRecursion (IsEntryBound (table_after rules live side moment d Stream) (side_of c t) (moment + stream_timeout rules live side d)) es) (image_in rules live side moment d) f t.session (segment_of d) (mine f e) (old f e (peer f)) host))
       where
         same_sides : (c : Host) → AllByRecursion (IsEntryBound (table_after rules live side moment d Stream) (side_of c t) (moment + stream_timeout rules live side d)) (rules.listed c (rules.next (image_in rules live side moment d) f t.session (segment_of d)))
@@ -259,12 +273,10 @@ left_lists {S = S} rules has live side moment d p lawful found f kept c left =
     by_found None h k = begun_keeps rules has (image_in rules live side moment d) (table_after rules live side moment d Stream) (table_after rules live side moment d Stream) side (moment + stream_timeout rules live side d) d (begins {S = S} None d) refl
     by_found (Some e) h k = by_session e.session (ap session_in h) (ap (taker_by rules (table_after rules live side moment d Stream) side d) h) e.until.0 k.0
 
-kind_lists : {S : Type 0} (rules : SessionRules S) → HasLists rules → (live : World S) (side : Side) (moment : ℕ) (d : Datagram) (kind : Kind) → Passes rules live side moment d kind → IsLawful live.table → All (KeepsLists rules live.table) live.connections → All (KeepsLists rules (table_after rules live side moment d kind)) (after_kind rules live side moment d kind).connections
-kind_lists rules has live side moment d Udp p lawful h = lists_used rules live.table (uses_of rules live side moment d Udp) live.connections lawful h
-kind_lists rules has live side moment d Echo p lawful h = lists_used rules live.table (uses_of rules live side moment d Echo) live.connections lawful h
-kind_lists rules has live side moment d Error p lawful h = lists_used rules live.table (uses_of rules live side moment d Error) live.connections lawful h
-kind_lists rules has live side moment d Dns p lawful h = lists_used rules live.table (uses_of rules live side moment d Dns) live.connections lawful h
-kind_lists rules has live side moment d Snmp p lawful h = lists_used rules live.table (uses_of rules live side moment d Snmp) live.connections lawful h
+kind_lists : {S : Type 0} (rules : SessionRules S) → HasLists rules → (live : World S) (side : Side) (moment : ℕ) (d : Datagram) (kind : Kind)
+    → Passes rules live side moment d kind → IsLawful live.table → All (KeepsLists rules live.table) live.connections
+    → All (KeepsLists rules (table_after rules live side moment d kind)) (after_kind rules live side moment d kind).connections
+kind_lists rules has live side moment d (Whole payload) p lawful h = lists_used rules live.table (uses_of rules live side moment d (Whole payload)) live.connections lawful h
 kind_lists {S = S} rules has live side moment d Stream p lawful h =
     let table = table_after rules live side moment d Stream in
     let key = key_in live.table side d in
@@ -278,7 +290,11 @@ kind_lists {S = S} rules has live side moment d Stream p lawful h =
     only None x = tt
     only (Some c) x = x.1
 
-    keeps : (o : Option (Connection (Tracked S))) → IfSome o (IsLeft rules (image_in rules live side moment d) live side moment d (taker_in rules live side moment d)) → ((c : Connection (Tracked S)) → IsLeft rules (image_in rules live side moment d) live side moment d (taker_in rules live side moment d) c → KeepsLists rules (table_after rules live side moment d Stream) c) → IfSome o (KeepsLists rules (table_after rules live side moment d Stream))
+    keeps : (o : Option (Connection (Tracked S)))
+        → IfSome o (IsLeft rules (image_in rules live side moment d) live side moment d (taker_in rules live side moment d))
+        → ((c : Connection (Tracked S)) → IsLeft rules (image_in rules live side moment d) live side moment d (taker_in rules live side moment d) c
+        → KeepsLists rules (table_after rules live side moment d Stream) c)
+        → IfSome o (KeepsLists rules (table_after rules live side moment d Stream))
     keeps None x f = tt
     keeps (Some c) x f = f c x
 
@@ -332,7 +348,9 @@ lists_grow rules has image f s g host =
     both_listed rules has (λ c es. (more : List Entry) × (es ≡ rules.listed c s ++ more)) image f s g (entered_more image (rules.listed f s) (addresses_in (rules.units f s g))) ([], sym (append-nil (rules.listed (peer f) s))) host
 
 -- what is listed has one image for good
-pub images_stay : {S : Type 0} (rules : SessionRules S) → HasLists rules → (image : Addr → Option Addr) (f : Host) (s : S) (g : Segment) (host : Host) (number : ℕ) → is_listed (rules.listed host s) number ≡ true → listed_image (rules.listed host (rules.next image f s g)) number ≡ listed_image (rules.listed host s) number
+pub images_stay : {S : Type 0} (rules : SessionRules S) → HasLists rules → (image : Addr → Option Addr) (f : Host) (s : S) (g : Segment) (host : Host)
+    (number : ℕ) → is_listed (rules.listed host s) number ≡ true → listed_image (rules.listed host (rules.next image f s g)) number
+    ≡ listed_image (rules.listed host s) number
 images_stay rules has image f s g host number h =
     let more = lists_grow rules has image f s g host in
     ap (λ (es : List Entry). listed_image es number) more.1 ∙ image-stays (rules.listed host s) more.0 number h

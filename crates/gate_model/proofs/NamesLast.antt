@@ -18,7 +18,7 @@ use Rattle.binding_table.proofs.Kept.{lawful_expired}
 use Rattle.binding_table.proofs.Used.{all_seen}
 use Rattle.ipv4_frames.specs.Ipv4.{Datagram}
 use Rattle.gate_model.specs.Called.{table_by, called_by, IsKeptUntil, header_until}
-use Rattle.gate_model.specs.Prelude.{SessionRules, Kind, Dns, World, at_moment, called, source_of, destination_of, addresses_of, datagram_in, kind_of, message_in, named_in, has_unbound, named_timeout, uses_until, is_reachable, table_after}
+use Rattle.gate_model.specs.Prelude.{Whole, SessionRules, Kind, Dns, World, at_moment, called, source_of, destination_of, addresses_of, datagram_in, kind_of, message_in, named_in, has_unbound, named_timeout, uses_until, is_reachable, table_after}
 use Rattle.gate_model.specs.Transparent.{NamesAreCalled}
 use Rattle.gate_model.specs.Verdict.{timeout_by, verdict}
 use Rattle.gate_model.proofs.AliasesLast.{StandFor, cross_back, stands_as, lawful_by, HostsAre, hosts_are}
@@ -92,12 +92,12 @@ crosses_stands table side until address lawful (inr h) = elim h.1 [
 
 -- the addresses that a message names
 names_stand : {S : Type 0} (rules : SessionRules S) (live : World S) (side : Side) (moment : ℕ) (d : Datagram) → IsLawful live.table
-    → Passes rules live side moment d Dns → All (λ (a : Addr). StandFor (table_after rules live side moment d Dns) side a.0
-    (called (table_after rules live side moment d Dns) side a).0 (moment + named_timeout)) (named_in (message_in d))
+    → Passes rules live side moment d (Whole Dns) → All (λ (a : Addr). StandFor (table_after rules live side moment d (Whole Dns)) side a.0
+    (called (table_after rules live side moment d (Whole Dns)) side a).0 (moment + named_timeout)) (named_in (message_in d))
 names_stand rules live side moment d lawful p =
     let names = named_in (message_in d) in
-    let header = uses_until side (moment + timeout_by rules live side d Dns) (addresses_of d) in
-    let table = table_after rules live side moment d Dns in
+    let header = uses_until side (moment + timeout_by rules live side d (Whole Dns)) (addresses_of d) in
+    let table = table_after rules live side moment d (Whole Dns) in
     let outside : in_pool live.table side (source_of d) ≡ false =
     none_head {test = (in_pool live.table side (source_of d), SourceInPool)}
     {more = (not (is_reachable live.table side (destination_of d)), NoBinding) ∷ []} p.address in
@@ -118,7 +118,7 @@ names_stand rules live side moment d lawful p =
     (names_bound_once live.table side 0 [] names lawful tt unbound)) in
     let room : needed live.table side (addresses_of d ++ names) ≤ free live.table (other side) = ltb-false _ _ p.pool in
     let crossing = behind_cross names live.table side (moment + named_timeout) (addresses_of d) header lawful
-    (uses_are side (moment + timeout_by rules live side d Dns) (addresses_of d)) bound room in
+    (uses_are side (moment + timeout_by rules live side d (Whole Dns)) (addresses_of d)) bound room in
     let is : table ≡ after_uses (after_uses live.table header) (uses_until side (moment + named_timeout) names) =
     fold-append used live.table header (uses_until side (moment + named_timeout) names) in
     let lawful_later : IsLawful table = lawful_after (header ++ uses_until side (moment + named_timeout) names) live.table lawful in
@@ -150,7 +150,7 @@ kept_stands {S = S} rules w e address until lawful v kept = elim kept [
     by_place (inr destination) = subst (λ (a : Addr). StandFor (table_by rules w e) e.side a.0 (called_by rules w e a).0
         (header_until rules w e)) (sym destination) (inr (hosts_are rules w e lawful v).far)
 
-    by_name : kind_of (datagram_in e) ≡ Dns → Contains (named_in (message_in (datagram_in e))) address
+    by_name : kind_of (datagram_in e) ≡ Whole Dns → Contains (named_in (message_in (datagram_in e))) address
         → StandFor (table_by rules w e) e.side address.0 (called_by rules w e address).0 (e.moment + named_timeout)
     by_name dns has =
         let live = at_moment w e.moment in
@@ -159,8 +159,8 @@ kept_stands {S = S} rules w e address until lawful v kept = elim kept [
         let all = names_stand rules live e.side e.moment d (lawful_expired w.table (record { 0 = e.moment }) lawful) p in
         subst (λ (kind : Kind). StandFor (table_after rules live e.side e.moment d kind) e.side address.0
         (called (table_after rules live e.side e.moment d kind) e.side address).0 (e.moment + named_timeout)) (sym dns)
-        (All-contains (λ (a : Addr). StandFor (table_after rules live e.side e.moment d Dns) e.side a.0
-        (called (table_after rules live e.side e.moment d Dns) e.side a).0 (e.moment + named_timeout)) (named_in (message_in d)) address all has)
+        (All-contains (λ (a : Addr). StandFor (table_after rules live e.side e.moment d (Whole Dns)) e.side a.0
+        (called (table_after rules live e.side e.moment d (Whole Dns)) e.side a).0 (e.moment + named_timeout)) (named_in (message_in d)) address all has)
 
 -- ## What goes out for the names
 
@@ -173,7 +173,7 @@ image_called table later side a image e = by_same (is_same table a) refl
     by_same false s = unless (cross table side a) (seen later side a) (differs_cross table side a s) ∙ e
 
 pub names_called : {S : Type 0} (rules : SessionRules S) (w : World S) (e : Event) → IsLawful w.table → verdict rules w e ≡ Pass
-    → kind_of (datagram_in e) ≡ Dns → NamesAreCalled rules w e
+    → kind_of (datagram_in e) ≡ Whole Dns → NamesAreCalled rules w e
 names_called rules w e lawful v dns = λ k a within.
     let names = named_in (message_in (datagram_in e)) in
     let x : Addr = get_or names k a in

@@ -14,7 +14,7 @@ use Rattle.ipv4_frames.specs.Ipv4.{Datagram}
 use Rattle.tcp_tracker.specs.Prelude.{is_of, is_live, place_of}
 use Rattle.tcp_tracker.specs.declared.connection.ConnKey.{ConnKey}
 use Rattle.tcp_tracker.specs.declared.connection.Connection.{Connection}
-use Rattle.gate_model.specs.Prelude.{SessionRules, Kind, Udp, Echo, Error, Dns, Snmp, Stream, Tracked, World, at_moment, opening_world, called, destination_of, datagram_in, kind_of, tcp_of, is_tracked_port, is_opening, begins, made_by, taker_by, taker_in, key_of, key_in, found_in, session_in, stepped, connection_after, image_in, table_after, verdict, after_kind, next_by, next}
+use Rattle.gate_model.specs.Prelude.{Whole, SessionRules, Kind, Stream, Tracked, World, at_moment, opening_world, called, destination_of, datagram_in, kind_of, tcp_of, is_tracked_port, is_opening, begins, made_by, taker_by, taker_in, key_of, key_in, found_in, session_in, stepped, connection_after, image_in, table_after, verdict, after_kind, next_by, next}
 use Rattle.gate_model.specs.Transparent.{has_tracked_port, IsUntracked}
 use Rattle.gate_model.proofs.HostsKept.{found_is, left_of, IsLeft}
 use Rattle.gate_model.proofs.Tracking.{all_changed}
@@ -73,11 +73,7 @@ left_tracked {S = S} rules image live side moment d taker (Some c) k left =
 
 kind_tracked : {S : Type 0} (rules : SessionRules S) (live : World S) (side : Side) (moment : ℕ) (d : Datagram) (kind : Kind)
     → All HasTrackedPort live.connections → All HasTrackedPort (after_kind rules live side moment d kind).connections
-kind_tracked rules live side moment d Udp h = h
-kind_tracked rules live side moment d Echo h = h
-kind_tracked rules live side moment d Error h = h
-kind_tracked rules live side moment d Dns h = h
-kind_tracked rules live side moment d Snmp h = h
+kind_tracked rules live side moment d (Whole payload) h = h
 kind_tracked {S = S} rules live side moment d Stream h =
     let key = key_in live.table side d in
     let table = table_after rules live side moment d Stream in

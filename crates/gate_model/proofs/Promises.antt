@@ -8,7 +8,7 @@ use Rattle.gate_settings.specs.Prelude.{HasForms, IsSound}
 use Rattle.gate_settings.specs.declared.settings.Settings.{Settings}
 use Rattle.binding_table.specs.Prelude.{Bindings, IsLawful}
 use Rattle.ipv4_frames.specs.Ipv4.{Datagram}
-use Rattle.gate_model.specs.Prelude.{WholeSession, Kind, Udp, Echo, Error, Dns, Snmp, Stream, datagram_in, kind_of, known_after, remembered_after, Promised, world_as, whole_rules, out, out_by, out_between, stream_out, taker_in, RememberedSession, remembering_rules, table_after, image_in, verdict_of, segment_of, World, at_moment, called, source_of, destination_of, opening_world, host_on}
+use Rattle.gate_model.specs.Prelude.{Whole, WholeSession, Kind, Stream, datagram_in, kind_of, known_after, remembered_after, Promised, world_as, whole_rules, out, out_by, out_between, stream_out, taker_in, RememberedSession, remembering_rules, table_after, image_in, verdict_of, segment_of, World, at_moment, called, source_of, destination_of, opening_world, host_on}
 use Rattle.twice_translate.specs.Renamed.{renamed}
 use Rattle.gate_model.specs.Promise.{reason, FrameIs}
 use Rattle.gate_model.specs.Step.{next, translated}
@@ -39,11 +39,7 @@ verdict_is w e = refl
 -- a datagram that no session takes goes out once
 goes_once : (live : World WholeSession) (table : Bindings) (side : Side) (moment : ℕ) (d : Datagram) (source destination : ℕ) (kind : Kind) → (kind ≡ Stream → taker_in whole_rules live side moment d ≡ None)
     → out_between whole_rules live table side moment d source destination kind ≡ renamed (translated whole_rules live table side d kind) source destination ∷ []
-goes_once live table side moment d source destination Udp plain = refl
-goes_once live table side moment d source destination Echo plain = refl
-goes_once live table side moment d source destination Error plain = refl
-goes_once live table side moment d source destination Dns plain = refl
-goes_once live table side moment d source destination Snmp plain = refl
+goes_once live table side moment d source destination (Whole payload) plain = refl
 goes_once live table side moment d source destination Stream plain = ap (stream_out whole_rules (image_in whole_rules live side moment d) side d source destination) (plain refl)
 
 frame_is : (w : World WholeSession) (e : Event) → FrameIs w e
@@ -65,7 +61,9 @@ promised settings events sound forms =
       taken = λ done others e split t h. session_is _ (taken_keeps remembering_rules TrackedHolds remembered_keeps (remembered_after settings done) e t h (run_holds done settings));
       images = λ done others e split t h host number listed. images_stay whole_rules whole_lists (image_in remembering_rules (at_moment (remembered_after settings done) e.moment) e.side e.moment (datagram_in e)) (host_on e.side t) t.session.session (segment_of (datagram_in e)) host number listed;
       remembers = λ done others split. sym (known done);
-      said_is = λ done others e split t h. ap (λ (w : World WholeSession). out whole_rules w e) (known done) ∙ out_as (λ (x : RememberedSession). x.session) remembering_rules whole_rules remembered_reads (remembered_after settings done) e ∙ taken_out remembering_rules (remembered_after settings done) e t h;
+      said_is = λ done others e split t h. ap (λ (w : World WholeSession). out whole_rules w e) (known done)
+          ∙ out_as (λ (x : RememberedSession). x.session) remembering_rules whole_rules remembered_reads (remembered_after settings done) e
+          ∙ taken_out remembering_rules (remembered_after settings done) e t h;
       pairs = λ done others split. pairs_cross _ (run_hosts whole_rules done (opening_world settings) (opening_hosts settings sound forms));
       lists = λ done others split. let h = run_lists whole_rules whole_lists done (opening_world settings) (opening_lists whole_rules settings sound forms) in (h.lists, lists_cross whole_rules (known_after settings done) h);
       waits = λ done others split. waits_are done settings;

@@ -14,7 +14,7 @@ use Rattle.tcp_segments.specs.Prelude.{flags_of}
 use Rattle.tcp_tracker.specs.Prelude.{is_of, is_tracked, is_live, place_of, changed, kept_or_begun, held, with_flags, after, live, with_session}
 use Rattle.tcp_tracker.specs.declared.connection.Connection.{Connection}
 use Rattle.tcp_tracker.proofs.Joining.{place_within, none_past}
-use Rattle.gate_model.specs.Prelude.{Kind, Udp, Echo, Error, Dns, Snmp, Stream, datagram_in, kind_of, SessionRules, Tracked, World, at_moment, tcp_of, key_in, found_in, begins, made_by, taker_by, stepped, ends_by, is_full, most_connections, most_sessions, connection_after, table_after, image_in, verdict, taker_in, after_kind, next_by, next}
+use Rattle.gate_model.specs.Prelude.{Whole, Kind, Stream, datagram_in, kind_of, SessionRules, Tracked, World, at_moment, tcp_of, key_in, found_in, begins, made_by, taker_by, stepped, ends_by, is_full, most_connections, most_sessions, connection_after, table_after, image_in, verdict, taker_in, after_kind, next_by, next}
 use Rattle.gate_model.specs.Ranges.{InRange}
 use Rattle.gate_model.proofs.Passing.{Passes, passes, StreamPasses, stream_passes}
 use Rattle.gate_model.proofs.HostsKept.{begun_is}
@@ -83,9 +83,14 @@ session_left {S = S} rules image live side moment d taker = by_cases (ends_by ru
     by_cases false (Some c) = some_mapped (stepped rules image side d) taker
 
 -- a connection that begins does so without RST
-begins_plain : {S : Type 0} (rules : SessionRules S) (image : Addr → Option Addr) (live : World S) (side : Side) (moment : ℕ) (d : Datagram) (taker : Option (Tracked S)) → found_in live side d ≡ None → IfSome (connection_after rules image live side moment d taker) (λ c. (flags_of (tcp_of d).flags).reset ≡ false)
+begins_plain : {S : Type 0} (rules : SessionRules S) (image : Addr → Option Addr) (live : World S) (side : Side) (moment : ℕ) (d : Datagram)
+    (taker : Option (Tracked S)) → found_in live side d ≡ None → IfSome (connection_after rules image live side moment d taker)
+    (λ c. (flags_of (tcp_of d).flags).reset ≡ false)
 begins_plain {S = S} rules image live side moment d taker none =
-    subst (λ (f : Option (Connection (Tracked S))). IfSome (if ends_by rules side d taker then None else option_map (with_session (option_map (stepped rules image side d) taker)) (after (key_in live.table side d) side (tcp_of d).flags taker (record { 0 = moment }) f)) (λ c. (flags_of (tcp_of d).flags).reset ≡ false)) (sym none)
+    subst (λ (f : Option (Connection (Tracked S))). IfSome
+    (if ends_by rules side d taker then None else option_map (with_session (option_map (stepped rules image side d) taker))
+    (after (key_in live.table side d) side (tcp_of d).flags taker (record { 0 = moment }) f)) (λ c. (flags_of (tcp_of d).flags).reset ≡ false))
+    (sym none)
     (by_cases (ends_by rules side d taker) (kept_or_begun (key_in live.table side d) (tcp_of d).flags taker None) refl)
   where
     by_cases : (b : Bool) (o : Option (Connection (Tracked S))) → kept_or_begun (key_in live.table side d) (tcp_of d).flags taker None ≡ o
@@ -156,21 +161,31 @@ stream_fits {S = S} rules live side moment d p f =
         let r = room live.connections d full a in
         (r.0, λ t. let less : count_by is_tracked live.connections < most_sessions = r.1 (sym (begun none) ∙ sym b ∙ t) in omega (arith, counted))
 
-    new : place_of (key_in live.table side d) live.connections ≡ None → IfSome (connection_after rules (image_in rules live side moment d) live side moment d (taker_in rules live side moment d)) (λ x. (length live.connections < most_connections) × (is_tracked x ≡ true → many is_tracked live.connections < most_sessions))
-    new e = both (connection_after rules (image_in rules live side moment d) live side moment d (taker_in rules live side moment d)) (found_none e) (begins_plain rules (image_in rules live side moment d) live side moment d (taker_in rules live side moment d) (found_none e)) (session_left rules (image_in rules live side moment d) live side moment d (taker_in rules live side moment d))
+    new : place_of (key_in live.table side d) live.connections ≡ None
+        → IfSome (connection_after rules (image_in rules live side moment d) live side moment d (taker_in rules live side moment d))
+        (λ x. (length live.connections < most_connections) × (is_tracked x ≡ true → many is_tracked live.connections < most_sessions))
+    new e = both (connection_after rules (image_in rules live side moment d) live side moment d (taker_in rules live side moment d)) (found_none e)
+        (begins_plain rules (image_in rules live side moment d) live side moment d (taker_in rules live side moment d) (found_none e))
+        (session_left rules (image_in rules live side moment d) live side moment d (taker_in rules live side moment d))
 
     joined : (c : Connection (Tracked S)) → is_some (taker_in rules live side moment d) ≡ is_tracked c → (o : Option (Connection (Tracked S))) → IfSome o (λ x. is_tracked x ≡ is_some (taker_in rules live side moment d)) → IfSome o (λ x. is_tracked x ≡ is_tracked c)
     joined c taker None h = tt
     joined c taker (Some x) h = h ∙ taker
 
-    at : (i : ℕ) (o : Option (Connection (Tracked S))) → slice_get live.connections i ≡ o → place_of (key_in live.table side d) live.connections ≡ Some i → (old : Connection (Tracked S)) × (slice_get live.connections i ≡ Some old) × IfSome (connection_after rules (image_in rules live side moment d) live side moment d (taker_in rules live side moment d)) (λ x. is_tracked x ≡ is_tracked old)
+    at : (i : ℕ) (o : Option (Connection (Tracked S))) → slice_get live.connections i ≡ o → place_of (key_in live.table side d) live.connections
+        ≡ Some i → (old : Connection (Tracked S)) × (slice_get live.connections i ≡ Some old)
+        × IfSome (connection_after rules (image_in rules live side moment d) live side moment d (taker_in rules live side moment d))
+        (λ x. is_tracked x ≡ is_tracked old)
     at i None e h = absurd (omega (arith, place_within (is_of (key_in live.table side d)) live.connections i h, none_past live.connections i e))
     at i (Some c) e h =
         let found : found_in live side d ≡ Some c = ap (option_and_then (slice_get live.connections)) h ∙ e in
         let taker : is_some (taker_in rules live side moment d) ≡ is_tracked c = ap (λ (o : Option (Connection (Tracked S))). is_some (taker_by rules (table_after rules live side moment d Stream) side d o)) found in
         (c, e, joined c taker (connection_after rules (image_in rules live side moment d) live side moment d (taker_in rules live side moment d)) (session_left rules (image_in rules live side moment d) live side moment d (taker_in rules live side moment d)))
 
-    old : (i : ℕ) → place_of (key_in live.table side d) live.connections ≡ Some i → (old : Connection (Tracked S)) × (slice_get live.connections i ≡ Some old) × IfSome (connection_after rules (image_in rules live side moment d) live side moment d (taker_in rules live side moment d)) (λ x. is_tracked x ≡ is_tracked old)
+    old : (i : ℕ) → place_of (key_in live.table side d) live.connections ≡ Some i → (old : Connection (Tracked S))
+        × (slice_get live.connections i ≡ Some old)
+        × IfSome (connection_after rules (image_in rules live side moment d) live side moment d (taker_in rules live side moment d))
+        (λ x. is_tracked x ≡ is_tracked old)
     old i h = at i (slice_get live.connections i) refl h
 
 -- ## Worlds
@@ -182,11 +197,7 @@ fits_live now all f = record {
 }
 
 kind_fits : {S : Type 0} (rules : SessionRules S) (live : World S) (side : Side) (moment : ℕ) (d : Datagram) (kind : Kind) → Passes rules live side moment d kind → Fits live.connections → Fits (after_kind rules live side moment d kind).connections
-kind_fits rules live side moment d Udp p f = f
-kind_fits rules live side moment d Echo p f = f
-kind_fits rules live side moment d Error p f = f
-kind_fits rules live side moment d Dns p f = f
-kind_fits rules live side moment d Snmp p f = f
+kind_fits rules live side moment d (Whole payload) p f = f
 kind_fits rules live side moment d Stream p f = stream_fits rules live side moment d (stream_passes rules live side moment d p.content) f
 
 next_fits : {S : Type 0} (rules : SessionRules S) (w : World S) (e : Event) → Fits w.connections → Fits (next rules w e).connections

@@ -48,7 +48,9 @@ kept_as h flags c = rw (some_mapped (tracked_as h) c.session) (by_tests (is_rese
     by_tests false true = refl
     by_tests false false = refl
 
-pub kept_or_begun_as : {S T : Type 0} (h : S → T) (key : ConnKey) (flags : ℕ) (t : Option (Tracked S)) (found : Option (Connection (Tracked S))) → kept_or_begun key flags (option_map (tracked_as h) t) (option_map (connection_as h) found) ≡ option_map (connection_as h) (kept_or_begun key flags t found)
+pub kept_or_begun_as : {S T : Type 0} (h : S → T) (key : ConnKey) (flags : ℕ) (t : Option (Tracked S)) (found : Option (Connection (Tracked S)))
+    → kept_or_begun key flags (option_map (tracked_as h) t) (option_map (connection_as h) found) ≡ option_map (connection_as h)
+    (kept_or_begun key flags t found)
 kept_or_begun_as h key flags t None = by_test (flags_of flags).reset
   where
     by_test : (b : Bool) → (if b then None else Some (unused key (option_map (tracked_as h) t))) ≡ option_map (connection_as h) (if b then None else Some (unused key t))
@@ -67,7 +69,9 @@ timeout_as {S = S} h all key from flags = rw (connection_of_as h key all, kept_o
     by_left None = refl
     by_left (Some c) = ap timeout (flags_as h from flags c)
 
-pub after_as : {S T : Type 0} (h : S → T) (key : ConnKey) (from : Side) (flags : ℕ) (t : Option (Tracked S)) (now : Moment) (found : Option (Connection (Tracked S))) → after key from flags (option_map (tracked_as h) t) now (option_map (connection_as h) found) ≡ option_map (connection_as h) (after key from flags t now found)
+pub after_as : {S T : Type 0} (h : S → T) (key : ConnKey) (from : Side) (flags : ℕ) (t : Option (Tracked S)) (now : Moment)
+    (found : Option (Connection (Tracked S))) → after key from flags (option_map (tracked_as h) t) now (option_map (connection_as h) found)
+    ≡ option_map (connection_as h) (after key from flags t now found)
 after_as {S = S} h key from flags t now found = rw (kept_or_begun_as h key flags t found) (by_left (kept_or_begun key flags t found))
   where
     by_left : (o : Option (Connection (Tracked S))) → option_map (λ c. held now (with_flags from flags c)) (option_map (connection_as h) o) ≡ option_map (connection_as h) (option_map (λ c. held now (with_flags from flags c)) o)

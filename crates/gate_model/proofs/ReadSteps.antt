@@ -11,14 +11,16 @@ use Rattle.ipv4_frames.specs.Ipv4.{Datagram}
 use Rattle.stream_model.specs.Prelude.{Outgoing}
 use Rattle.tcp_tracker.specs.Prelude.{after, place_of, changed, with_session}
 use Rattle.tcp_tracker.specs.declared.connection.Connection.{Connection}
-use Rattle.gate_model.specs.Prelude.{Kind, Udp, Echo, Error, Dns, Snmp, Stream, datagram_in, kind_of, SessionRules, Tracked, World, at_moment, called, source_of, destination_of, host_on, tracked_as, connection_as, world_as, Reads, tcp_of, segment_of, key_in, found_in, session_in, session_refusal, stepped, ends_by, connection_after, connections_with, pending_by, pending_in, sent_as, inside, table_after, image_in, verdict, taker_in, with_connection, after_kind, next_by, next, stream_out, out_between, out_kind, out_by, out}
+use Rattle.gate_model.specs.Prelude.{Whole, Kind, Udp, Echo, Error, Dns, Snmp, Stream, datagram_in, kind_of, SessionRules, Tracked, World, at_moment, called, source_of, destination_of, host_on, tracked_as, connection_as, world_as, Reads, tcp_of, segment_of, key_in, found_in, session_in, session_refusal, stepped, ends_by, connection_after, connections_with, pending_by, pending_in, sent_as, inside, table_after, image_in, verdict, taker_in, with_connection, after_kind, next_by, next, stream_out, out_between, out_kind, out_by, out}
 use Rattle.gate_model.proofs.ReadLists.{place_of_as, after_as, changed_as}
 use Rattle.gate_model.proofs.ReadWorlds.{found_as, session_as, ends_as, table_as, image_as, taker_as, inner_number_as, moment_as, verdict_as}
 use Rattle.gate_model.proofs.Passing.{Passes, passes, stream_passes}
 
 -- ## Afterwards
 
-stepped_as : {S T : Type 0} (h : S → T) (a : SessionRules S) (b : SessionRules T) → Reads h a b → (image : Addr → Option Addr) (side : Side) (d : Datagram) (t : Option (Tracked S)) → session_refusal a side d t ≡ None → option_map (stepped b image side d) (option_map (tracked_as h) t) ≡ option_map (tracked_as h) (option_map (stepped a image side d) t)
+stepped_as : {S T : Type 0} (h : S → T) (a : SessionRules S) (b : SessionRules T) → Reads h a b
+    → (image : Addr → Option Addr) (side : Side) (d : Datagram) (t : Option (Tracked S)) → session_refusal a side d t ≡ None
+    → option_map (stepped b image side d) (option_map (tracked_as h) t) ≡ option_map (tracked_as h) (option_map (stepped a image side d) t)
 stepped_as h a b r image side d None e = refl
 stepped_as {T = T} h a b r image side d (Some t) e = ap (λ (s : T). Some (record { client = t.client; pair = t.pair; session = s })) (r.next image (host_on side t) t.session (segment_of d) e)
 
@@ -46,7 +48,9 @@ pending_as {S = S} h a b r c = ap (pending_by b) (session_as h c) ∙ by_session
     by_session None = refl
     by_session (Some t) = r.pending t.session
 
-with_connection_as : {S T : Type 0} (h : S → T) (a : SessionRules S) (b : SessionRules T) → Reads h a b → (live : World S) (side : Side) (d : Datagram) (table : Bindings) (c : Option (Connection (Tracked S))) → with_connection b (world_as h live) side d table (option_map (connection_as h) c) ≡ world_as h (with_connection a live side d table c)
+with_connection_as : {S T : Type 0} (h : S → T) (a : SessionRules S) (b : SessionRules T) → Reads h a b
+    → (live : World S) (side : Side) (d : Datagram) (table : Bindings) (c : Option (Connection (Tracked S)))
+    → with_connection b (world_as h live) side d table (option_map (connection_as h) c) ≡ world_as h (with_connection a live side d table c)
 with_connection_as {T = T} h a b r live side d table c =
     let key = key_in live.table side d in
     let all : connections_with (world_as h live) side d (option_map (connection_as h) c) ≡ map (connection_as h) (connections_with live side d c) =
@@ -54,12 +58,10 @@ with_connection_as {T = T} h a b r live side d table c =
     ap (λ (xs : List (Connection (Tracked T))). record { clock = live.clock; table = table; connections = xs; pending = max live.pending (pending_in b (option_map (connection_as h) c)) }) all
     ∙ ap (λ (n : ℕ). record { clock = live.clock; table = table; connections = map (connection_as h) (connections_with live side d c); pending = max live.pending n }) (pending_as h a b r c)
 
-after_kind_as : {S T : Type 0} (h : S → T) (a : SessionRules S) (b : SessionRules T) → Reads h a b → (live : World S) (side : Side) (moment : ℕ) (d : Datagram) (kind : Kind) → Passes a live side moment d kind → after_kind b (world_as h live) side moment d kind ≡ world_as h (after_kind a live side moment d kind)
-after_kind_as h a b r live side moment d Udp p = refl
-after_kind_as h a b r live side moment d Echo p = refl
-after_kind_as h a b r live side moment d Error p = refl
-after_kind_as h a b r live side moment d Dns p = refl
-after_kind_as h a b r live side moment d Snmp p = refl
+after_kind_as : {S T : Type 0} (h : S → T) (a : SessionRules S) (b : SessionRules T) → Reads h a b
+    → (live : World S) (side : Side) (moment : ℕ) (d : Datagram) (kind : Kind) → Passes a live side moment d kind
+    → after_kind b (world_as h live) side moment d kind ≡ world_as h (after_kind a live side moment d kind)
+after_kind_as h a b r live side moment d (Whole payload) p = refl
 after_kind_as h a b r live side moment d Stream p =
     let taken = (stream_passes a live side moment d p.content).taken in
     let table = table_after a live side moment d Stream in
@@ -85,17 +87,19 @@ next_as {S = S} h a b r w e =
 
 -- ## What goes out
 
-stream_out_as : {S T : Type 0} (h : S → T) (a : SessionRules S) (b : SessionRules T) → Reads h a b → (image : Addr → Option Addr) (side : Side) (d : Datagram) (source destination : ℕ) (t : Option (Tracked S)) → session_refusal a side d t ≡ None → stream_out b image side d source destination (option_map (tracked_as h) t) ≡ stream_out a image side d source destination t
+stream_out_as : {S T : Type 0} (h : S → T) (a : SessionRules S) (b : SessionRules T) → Reads h a b
+    → (image : Addr → Option Addr) (side : Side) (d : Datagram) (source destination : ℕ) (t : Option (Tracked S)) → session_refusal a side d t ≡ None
+    → stream_out b image side d source destination (option_map (tracked_as h) t) ≡ stream_out a image side d source destination t
 stream_out_as h a b r image side d source destination None e = refl
 stream_out_as h a b r image side d source destination (Some t) e = ap (λ (os : List Outgoing). map (sent_as d source destination) os) (r.out image (host_on side t) t.session (segment_of d) e)
 
 out_between_as : {S T : Type 0} (h : S → T) (a : SessionRules S) (b : SessionRules T) → Reads h a b → (live : World S) (table : Bindings) (side : Side) (moment : ℕ) (d : Datagram) (source destination : ℕ) (kind : Kind) → Passes a live side moment d kind
     → out_between b (world_as h live) table side moment d source destination kind ≡ out_between a live table side moment d source destination kind
-out_between_as h a b r live table side moment d source destination Udp p = refl
-out_between_as h a b r live table side moment d source destination Echo p = refl
-out_between_as h a b r live table side moment d source destination Dns p = refl
-out_between_as h a b r live table side moment d source destination Snmp p = refl
-out_between_as h a b r live table side moment d source destination Error p = rw (inner_number_as h a b r live side (inner_fields (inside d))) refl
+out_between_as h a b r live table side moment d source destination (Whole Udp) p = refl
+out_between_as h a b r live table side moment d source destination (Whole Echo) p = refl
+out_between_as h a b r live table side moment d source destination (Whole Dns) p = refl
+out_between_as h a b r live table side moment d source destination (Whole Snmp) p = refl
+out_between_as h a b r live table side moment d source destination (Whole Error) p = rw (inner_number_as h a b r live side (inner_fields (inside d))) refl
 out_between_as h a b r live table side moment d source destination Stream p =
     ap (λ (i : Addr → Option Addr). stream_out b i side d source destination (taker_in b (world_as h live) side moment d)) (image_as h a b r live side moment d)
     ∙ ap (stream_out b (image_in a live side moment d) side d source destination) (taker_as h a b r live side moment d)

@@ -14,7 +14,7 @@ use Rattle.ipv4_frames.specs.Ipv4.{Datagram}
 use Rattle.gate_base.specs.declared.host.Host.TheVariants.{Client, Server}
 use Rattle.tcp_tracker.specs.Prelude.{connection_of, short_timeout, timeout_of}
 use Rattle.tcp_tracker.specs.declared.connection.Connection.{Connection}
-use Rattle.gate_model.specs.Prelude.{Kind, Udp, Echo, Error, Dns, Snmp, Stream, datagram_in, header_tests, datagram_tests, transport_tests, kind_of, addresses_in, renamed_in, SessionRules, uses_until, units_in, names_in, entries_in, uses_of_lists, unit_tests, growth_tests, Tracked, World, at_moment, called, addresses_of, host_on, tracked_as, connection_as, world_as, Reads, tcp_of, segment_of, key_in, key_of, found_in, session_in, begins, made_by, taker_by, session_refusal, ends_by, lacks_session, is_full, stream_timeout, inside, inner_number, is_inner_unbound, payload_addresses, payload_uses, uses_of, table_after, image_in, is_pool_empty, refusal_tests, address_tests, kind_tests, late_tests, tests, verdict_of, taker_in}
+use Rattle.gate_model.specs.Prelude.{Whole, Kind, Udp, Echo, Error, Dns, Snmp, Stream, datagram_in, header_tests, datagram_tests, transport_tests, kind_of, addresses_in, renamed_in, SessionRules, uses_until, units_in, names_in, entries_in, uses_of_lists, unit_tests, growth_tests, Tracked, World, at_moment, called, addresses_of, host_on, tracked_as, connection_as, world_as, Reads, tcp_of, segment_of, key_in, key_of, found_in, session_in, begins, made_by, taker_by, session_refusal, ends_by, lacks_session, is_full, stream_timeout, inside, inner_number, is_inner_unbound, payload_addresses, payload_uses, uses_of, table_after, image_in, is_pool_empty, refusal_tests, address_tests, kind_tests, late_tests, tests, verdict_of, taker_in}
 use Rattle.gate_model.specs.Inner.{inner_session}
 use Rattle.gate_model.specs.Verdict.{verdict}
 use Rattle.gate_model.proofs.ReadLists.{live_as, connection_of_as, tracked_as_many, timeout_as}
@@ -68,11 +68,7 @@ lists_as h a b r until (Some t) =
     ∙ ap (λ (es : List Entry). uses_until t.client until (renamed_in (a.listed Client t.session)) ++ uses_until (other t.client) until (renamed_in es)) (r.listed Server t.session)
 
 payload_as : {S T : Type 0} (h : S → T) (a : SessionRules S) (b : SessionRules T) → Reads h a b → (live : World S) (side : Side) (d : Datagram) (kind : Kind) → payload_addresses b (world_as h live) side d kind ≡ payload_addresses a live side d kind
-payload_as h a b r live side d Udp = refl
-payload_as h a b r live side d Echo = refl
-payload_as h a b r live side d Error = refl
-payload_as h a b r live side d Dns = refl
-payload_as h a b r live side d Snmp = refl
+payload_as h a b r live side d (Whole payload) = refl
 payload_as h a b r live side d Stream = ap (names_in b side d) (holder_as h live side d) ∙ names_as h a b r side d (session_in (found_in live side d))
 
 stream_uses_as : {S T : Type 0} (h : S → T) (a : SessionRules S) (b : SessionRules T) → Reads h a b → (live : World S) (side : Side) (moment until : ℕ) (d : Datagram) → payload_uses b (world_as h live) side moment until d Stream ≡ payload_uses a live side moment until d Stream
@@ -88,11 +84,7 @@ uses_as h a b r live side moment d =
     ∙ ap (λ (us : List Use). uses_until side until (addresses_of d) ++ us) (stream_uses_as h a b r live side moment until d)
 
 pub table_as : {S T : Type 0} (h : S → T) (a : SessionRules S) (b : SessionRules T) → Reads h a b → (live : World S) (side : Side) (moment : ℕ) (d : Datagram) (kind : Kind) → table_after b (world_as h live) side moment d kind ≡ table_after a live side moment d kind
-table_as h a b r live side moment d Udp = refl
-table_as h a b r live side moment d Echo = refl
-table_as h a b r live side moment d Error = refl
-table_as h a b r live side moment d Dns = refl
-table_as h a b r live side moment d Snmp = refl
+table_as h a b r live side moment d (Whole payload) = refl
 table_as h a b r live side moment d Stream = ap (after_uses live.table) (uses_as h a b r live side moment d)
 
 pub image_as : {S T : Type 0} (h : S → T) (a : SessionRules S) (b : SessionRules T) → Reads h a b → (live : World S) (side : Side) (moment : ℕ) (d : Datagram) → image_in b (world_as h live) side moment d ≡ image_in a live side moment d
@@ -106,7 +98,9 @@ pool_as h a b r live side d kind = ap (λ (ns : List Addr). nat_lt (free live.ta
 made_as : {S T : Type 0} (h : S → T) (a : SessionRules S) (b : SessionRules T) → Reads h a b → (table : Bindings) (side : Side) (d : Datagram) → made_by b table side d ≡ tracked_as h (made_by a table side d)
 made_as {T = T} h a b r table side d = ap (λ (s : T). record { client = side; pair = (made_by a table side d).pair; session = s }) (sym (r.made (tcp_of d).destination_port (made_by a table side d).pair (tcp_of d).sequence (tcp_of d).mss))
 
-taker_by_as : {S T : Type 0} (h : S → T) (a : SessionRules S) (b : SessionRules T) → Reads h a b → (table : Bindings) (side : Side) (d : Datagram) (found : Option (Connection (Tracked S))) → taker_by b table side d (option_map (connection_as h) found) ≡ option_map (tracked_as h) (taker_by a table side d found)
+taker_by_as : {S T : Type 0} (h : S → T) (a : SessionRules S) (b : SessionRules T) → Reads h a b
+    → (table : Bindings) (side : Side) (d : Datagram) (found : Option (Connection (Tracked S)))
+    → taker_by b table side d (option_map (connection_as h) found) ≡ option_map (tracked_as h) (taker_by a table side d found)
 taker_by_as {S = S} {T = T} h a b r table side d None = by_test (begins {S = S} None d)
   where
     by_test : (x : Bool) → (if x then Some (made_by b table side d) else None) ≡ option_map (tracked_as h) (if x then Some (made_by a table side d) else None)
@@ -132,7 +126,9 @@ full_as : {S T : Type 0} (h : S → T) (all : List (Connection (Tracked S))) (d 
 full_as h all d None = rw (length-map, tracked_as_many h all) refl
 full_as h all d (Some c) = refl
 
-unit_tests_as : {S T : Type 0} (h : S → T) (a : SessionRules S) (b : SessionRules T) → Reads h a b → (image : Addr → Option Addr) (table : Bindings) (side : Side) (d : Datagram) (t : Option (Tracked S)) → unit_tests b image table side d (option_map (tracked_as h) t) ≡ unit_tests a image table side d t
+unit_tests_as : {S T : Type 0} (h : S → T) (a : SessionRules S) (b : SessionRules T) → Reads h a b
+    → (image : Addr → Option Addr) (table : Bindings) (side : Side) (d : Datagram) (t : Option (Tracked S))
+    → unit_tests b image table side d (option_map (tracked_as h) t) ≡ unit_tests a image table side d t
 unit_tests_as h a b r image table side d t = rw (units_as h a b r side d t, entries_as h a b r side t) refl
 
 growth_as : {S T : Type 0} (h : S → T) (a : SessionRules S) (b : SessionRules T) → Reads h a b → (image : Addr → Option Addr) (side : Side) (d : Datagram) (t : Option (Tracked S)) → growth_tests b image side d (option_map (tracked_as h) t) ≡ growth_tests a image side d t
@@ -164,11 +160,11 @@ unbound_as h a b r live side inner = rw (inner_number_as h a b r live side inner
 -- ## The verdict
 
 kind_tests_as : {S T : Type 0} (h : S → T) (a : SessionRules S) (b : SessionRules T) → Reads h a b → (live : World S) (side : Side) (moment : ℕ) (d : Datagram) (kind : Kind) → kind_tests b (world_as h live) side moment d kind ≡ kind_tests a live side moment d kind
-kind_tests_as h a b r live side moment d Udp = refl
-kind_tests_as h a b r live side moment d Echo = refl
-kind_tests_as h a b r live side moment d Dns = refl
-kind_tests_as h a b r live side moment d Snmp = refl
-kind_tests_as h a b r live side moment d Error = rw (unbound_as h a b r live side (inner_fields (inside d))) refl
+kind_tests_as h a b r live side moment d (Whole Udp) = refl
+kind_tests_as h a b r live side moment d (Whole Echo) = refl
+kind_tests_as h a b r live side moment d (Whole Dns) = refl
+kind_tests_as h a b r live side moment d (Whole Snmp) = refl
+kind_tests_as h a b r live side moment d (Whole Error) = rw (unbound_as h a b r live side (inner_fields (inside d))) refl
 kind_tests_as h a b r live side moment d Stream =
     let refusal : session_refusal b side d (taker_in b (world_as h live) side moment d) ≡ session_refusal a side d (taker_in a live side moment d) =
     ap (session_refusal b side d) (taker_as h a b r live side moment d) ∙ refusal_as h a b r side d (taker_in a live side moment d) in
@@ -186,11 +182,7 @@ kind_tests_as h a b r live side moment d Stream =
     same_tests l m x y us vs f g p q r s = rw (p, q, r, s) refl
 
 late_as : {S T : Type 0} (h : S → T) (a : SessionRules S) (b : SessionRules T) → Reads h a b → (live : World S) (side : Side) (moment : ℕ) (d : Datagram) (kind : Kind) → late_tests b (world_as h live) side moment d kind ≡ late_tests a live side moment d kind
-late_as h a b r live side moment d Udp = refl
-late_as h a b r live side moment d Echo = refl
-late_as h a b r live side moment d Error = refl
-late_as h a b r live side moment d Dns = refl
-late_as h a b r live side moment d Snmp = refl
+late_as h a b r live side moment d (Whole payload) = refl
 late_as h a b r live side moment d Stream =
     ap (λ (image : Addr → Option Addr). growth_tests b image side d (taker_in b (world_as h live) side moment d)) (image_as h a b r live side moment d)
     ∙ ap (growth_tests b (image_in a live side moment d) side d) (taker_as h a b r live side moment d)

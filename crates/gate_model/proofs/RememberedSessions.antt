@@ -229,7 +229,9 @@ new_listed image (Some l) f units = split_listed (entered image (list_of f l) (a
 abbrev pub EachUnit : (List Entry → List ℕ → Type 0) → Option Lists → Host → List ℕ → Type 0
 EachUnit P lists host octets = IfSome lists (λ l. AllByRecursion (P (list_of host l)) (cut (dns_units (list_of host l)) octets).units)
 
-pub units_next : (P : List Entry → List ℕ → Type 0) → Goes P → (lists : Option Lists) (pair : Pair) (host f : Host) (s : Session) (g : Segment) (es : List Entry) → IsLonger lists f es → (own f s).meaning ≡ meaning_by lists pair f → EachUnit P lists f (own f s).octets → EachUnit P lists host (own host s).octets → IfSome lists (λ l. AllByRecursion (P es) (completed (own f s) g))
+pub units_next : (P : List Entry → List ℕ → Type 0) → Goes P → (lists : Option Lists) (pair : Pair) (host f : Host) (s : Session) (g : Segment)
+    (es : List Entry) → IsLonger lists f es → (own f s).meaning ≡ meaning_by lists pair f → EachUnit P lists f (own f s).octets
+    → EachUnit P lists host (own host s).octets → IfSome lists (λ l. AllByRecursion (P es) (completed (own f s) g))
     → EachUnit P (option_map (with_list f es) lists) host (own host (session_next f (learned f (option_map (with_list f es) lists) s) g)).octets
 units_next P goes None pair host f s g es more is mine units new = tt
 units_next P goes (Some l) pair Client Client s g es more is mine units new = own_units P goes l.client es s.client g is more mine new
@@ -299,12 +301,19 @@ streams_next image f t g v fit h =
     y = (whole_learned image f t.session.session g).session
 
     passes : segment_refusal f (whole_learned image f t.session.session g).session g ≡ None
-    passes = verdict_learned t.session.session.lists t.pair f t.session.session.session g (entered image (entries_by t.session.session.lists f) (addresses_in (whole_units f t.session.session g))) (longer t.session.session.lists f image (addresses_in (whole_units f t.session.session g))) (h.units f) (h.holds f).meaning ∙ v
+    passes = verdict_learned t.session.session.lists t.pair f t.session.session.session g
+        (entered image (entries_by t.session.session.lists f) (addresses_in (whole_units f t.session.session g)))
+        (longer t.session.session.lists f image (addresses_in (whole_units f t.session.session g))) (h.units f) (h.holds f).meaning ∙ v
 
-    one : (host : Host) → Holds (meaning_by (whole_learned image f t.session.session g).lists t.pair host) (own host (session_next f (whole_learned image f t.session.session g).session g)) (remembered host f (whole_learned image f t.session.session g).session g (session_out f (whole_learned image f t.session.session g).session g) (stream_of host t.session))
+    one : (host : Host) → Holds (meaning_by (whole_learned image f t.session.session g).lists t.pair host)
+        (own host (session_next f (whole_learned image f t.session.session g).session g))
+        (remembered host f (whole_learned image f t.session.session g).session g (session_out f (whole_learned image f t.session.session g).session g)
+        (stream_of host t.session))
     one host =
         holds_step (meaning_by (whole_learned image f t.session.session g).lists t.pair host) host f (whole_learned image f t.session.session g).session g (stream_of host t.session) passes
-        (holds_learned t.session.session.lists t.pair host f t.session.session.session (stream_of host t.session) (entered image (entries_by t.session.session.lists f) (addresses_in (whole_units f t.session.session g))) (longer t.session.session.lists f image (addresses_in (whole_units f t.session.session g))) (h.units f) (h.holds host))
+        (holds_learned t.session.session.lists t.pair host f t.session.session.session (stream_of host t.session)
+        (entered image (entries_by t.session.session.lists f) (addresses_in (whole_units f t.session.session g)))
+        (longer t.session.session.lists f image (addresses_in (whole_units f t.session.session g))) (h.units f) (h.holds host))
 
     -- who takes the segment is the same before and after
     same : (host : Host) (outs : List Outgoing) (r : Remembered) → remembered host f (whole_learned image f t.session.session g).session g outs r ≡ remembered host f t.session.session.session g outs r
@@ -313,8 +322,12 @@ streams_next image f t g v fit h =
         (other_same f (reads_by (whole_learned image f t.session.session g).lists f (own f t.session.session.session)) (other f t.session.session.session))
 
     both : (host : Host) → Holds (meaning_by (whole_learned image f t.session.session g).lists t.pair host) (own host (session_next f (whole_learned image f t.session.session g).session g)) (stream_of host (remembering_rules.next image f t.session g))
-    both Client = subst (λ (r : Remembered). Holds (meaning_by (whole_learned image f t.session.session g).lists t.pair Client) (own Client (session_next f (whole_learned image f t.session.session g).session g)) r) (same Client (session_out f (whole_learned image f t.session.session g).session g) t.session.client) (one Client)
-    both Server = subst (λ (r : Remembered). Holds (meaning_by (whole_learned image f t.session.session g).lists t.pair Server) (own Server (session_next f (whole_learned image f t.session.session g).session g)) r) (same Server (session_out f (whole_learned image f t.session.session g).session g) t.session.server) (one Server)
+    both Client = subst (λ (r : Remembered). Holds (meaning_by (whole_learned image f t.session.session g).lists t.pair Client)
+        (own Client (session_next f (whole_learned image f t.session.session g).session g)) r)
+        (same Client (session_out f (whole_learned image f t.session.session g).session g) t.session.client) (one Client)
+    both Server = subst (λ (r : Remembered). Holds (meaning_by (whole_learned image f t.session.session g).lists t.pair Server)
+        (own Server (session_next f (whole_learned image f t.session.session g).session g)) r)
+        (same Server (session_out f (whole_learned image f t.session.session g).session g) t.session.server) (one Server)
 
 -- ## What is remembered is true
 

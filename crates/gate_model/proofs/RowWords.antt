@@ -11,6 +11,7 @@ use Rattle.gate_base.specs.declared.side.Link.TheVariants.{Raw}
 use Rattle.gate_base.specs.declared.side.Side.{Side}
 use Rattle.gate_settings.specs.declared.settings.Block.{Block}
 use Rattle.gate_settings.specs.declared.settings.Fixed.{Fixed}
+use Rattle.gate_settings.specs.declared.settings.ReportForm.TheVariants.{Text}
 use Rattle.gate_settings.specs.declared.settings.Settings.{Settings}
 use Rattle.gate_settings.specs.declared.settings.SideSettings.{SideSettings}
 use Rattle.gate_model.specs.Prelude.{WholeSession, whole_rules, World, opening_world, at_moment, verdict, next_by, out_by}
@@ -29,7 +30,7 @@ abbrev pub pool : ℕ → ℕ → SideSettings
 pool first last = record { first = record { 0 = first }; last = record { 0 = last }; link = Raw; gateway_mac = []; next_mac = [] }
 
 abbrev pub set : List Block → SideSettings → SideSettings → List Fixed → Settings
-set same left right statics = record { json = false; join = false; same = same; left = left; right = right; statics = statics; oids = [] }
+set same left right statics = record { report = Text; join = false; same = same; left = left; right = right; statics = statics; oids = [] }
 
 abbrev pub rule : List ℕ → ℕ → OidRule
 rule prefix skip = record { prefix = prefix; skip = skip }

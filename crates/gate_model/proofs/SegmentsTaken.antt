@@ -56,12 +56,18 @@ taken_next {S = S} rules w e t c k is =
     let taker = taker_in rules live e.side e.moment d in
     let image = image_in rules live e.side e.moment d in
     let found = found_is {S = S} (λ x. Unit {0}) key live.connections (λ n x lt. tt) in
-    let left : IsLeft rules image live e.side e.moment d taker c = only (connection_after rules image live e.side e.moment d taker) is (left_of rules image live e.side e.moment d (table_after rules live e.side e.moment d Stream) (found_in live e.side d) refl (named (found_in live e.side d) found)) in (
+    let left : IsLeft rules image live e.side e.moment d taker c = only (connection_after rules image live e.side e.moment d taker) is
+    (left_of rules image live e.side e.moment d (table_after rules live e.side e.moment d Stream) (found_in live e.side d) refl
+    (named (found_in live e.side d) found)) in (
       ap (connection_of key) (connections_are rules w e t k ∙ ap (changed live.connections (place_of key live.connections)) is) ∙ changed_found key live.connections c left.named,
       left.session ∙ ap (option_map (stepped rules image e.side d)) k.taker,
     )
   where
-    only : (o : Option (Connection (Tracked S))) → o ≡ Some c → IfSome o (IsLeft rules (image_in rules (at_moment w e.moment) e.side e.moment (datagram_in e)) (at_moment w e.moment) e.side e.moment (datagram_in e) (taker_in rules (at_moment w e.moment) e.side e.moment (datagram_in e))) → IsLeft rules (image_in rules (at_moment w e.moment) e.side e.moment (datagram_in e)) (at_moment w e.moment) e.side e.moment (datagram_in e) (taker_in rules (at_moment w e.moment) e.side e.moment (datagram_in e)) c
+    only : (o : Option (Connection (Tracked S))) → o ≡ Some c → IfSome o
+        (IsLeft rules (image_in rules (at_moment w e.moment) e.side e.moment (datagram_in e)) (at_moment w e.moment) e.side e.moment (datagram_in e)
+        (taker_in rules (at_moment w e.moment) e.side e.moment (datagram_in e)))
+        → IsLeft rules (image_in rules (at_moment w e.moment) e.side e.moment (datagram_in e)) (at_moment w e.moment) e.side e.moment (datagram_in e)
+        (taker_in rules (at_moment w e.moment) e.side e.moment (datagram_in e)) c
     only None q h = absurd (cc)
     only (Some x) q h = let same : x ≡ c = cc in subst (IsLeft rules (image_in rules (at_moment w e.moment) e.side e.moment (datagram_in e)) (at_moment w e.moment) e.side e.moment (datagram_in e) (taker_in rules (at_moment w e.moment) e.side e.moment (datagram_in e))) same h
 

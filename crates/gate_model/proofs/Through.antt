@@ -6,7 +6,7 @@ use Rattle.gate_base.specs.declared.event.Verdict.{Verdict}
 use Rattle.gate_base.specs.declared.event.Verdict.TheVariants.{Pass, Refused, Held}
 use Rattle.tcp_tracker.specs.Prelude.{place_of, is_live}
 use Rattle.tcp_tracker.specs.declared.connection.Connection.{Connection}
-use Rattle.gate_model.specs.Prelude.{Kind, Udp, Echo, Error, Dns, Snmp, Stream, datagram_in, kind_of, RememberedSession, remembering_rules, EachTracked, taker_in, after_kind, next_by, next, key_in, stepped, connection_after, image_in, verdict, Tracked, World, at_moment}
+use Rattle.gate_model.specs.Prelude.{Whole, Kind, Stream, datagram_in, kind_of, RememberedSession, remembering_rules, EachTracked, taker_in, after_kind, next_by, next, key_in, stepped, connection_after, image_in, verdict, Tracked, World, at_moment}
 use Rattle.gate_model.specs.GoingOn.{IsTracked, ComesThrough}
 use Rattle.gate_model.proofs.Tracking.{all_changed, after_keeps}
 
@@ -40,11 +40,7 @@ through w e = by_verdict (verdict remembering_rules w e) refl
     steps p k (Some t) q = inr (record { before = t; takes = record { passes = p; stream = k; taker = q }; is = refl })
 
     by_kind : (kind : Kind) → verdict remembering_rules w e ≡ Pass → kind_of (datagram_in e) ≡ kind → EachTracked (ComesThrough w e) (after_kind remembering_rules (at_moment w e.moment) e.side e.moment (datagram_in e) kind).connections
-    by_kind Udp p k = stays
-    by_kind Echo p k = stays
-    by_kind Error p k = stays
-    by_kind Dns p k = stays
-    by_kind Snmp p k = stays
+    by_kind (Whole payload) p k = stays
     by_kind Stream p k =
         let d = datagram_in e in
         let image = image_in remembering_rules live e.side e.moment d in

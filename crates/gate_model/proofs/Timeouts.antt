@@ -5,7 +5,7 @@ use Rattle.ipv4_frames.specs.Ipv4.{Datagram}
 use Rattle.tcp_tracker.specs.Connections.{is_established, timeout, timeout_or_short, short_timeout, with_flags, kept, kept_or_begun}
 use Rattle.tcp_tracker.specs.declared.connection.Connection.{Connection}
 use Rattle.gate_model.specs.Called.{least_seconds}
-use Rattle.gate_model.specs.Prelude.{Kind, Udp, Echo, Error, Dns, Snmp, Stream, SessionRules, Tracked, World, found_in, session_in, ends_by, tcp_of, key_in}
+use Rattle.gate_model.specs.Prelude.{Udp, Echo, Error, Dns, Snmp, Whole, Kind, Stream, SessionRules, Tracked, World, found_in, session_in, ends_by, tcp_of, key_in}
 use Rattle.gate_model.specs.Verdict.{timeout_by}
 
 either_least : (b : Bool) → 240 * 1000000000 ≤ (if b then 7440 * 1000000000 else short_timeout)
@@ -25,11 +25,11 @@ least_ended false n h = h
 
 pub least : {S : Type 0} (rules : SessionRules S) (live : World S) (side : Side) (d : Datagram) (kind : Kind)
     → least_seconds kind * 1000000000 ≤ timeout_by rules live side d kind
-least rules live side d Udp = omega arith
-least rules live side d Dns = omega arith
-least rules live side d Snmp = omega arith
-least rules live side d Echo = omega arith
-least rules live side d Error = omega arith
+least rules live side d (Whole Udp) = omega arith
+least rules live side d (Whole Echo) = omega arith
+least rules live side d (Whole Error) = omega arith
+least rules live side d (Whole Dns) = omega arith
+least rules live side d (Whole Snmp) = omega arith
 least rules live side d Stream =
     least_ended (ends_by rules side d (session_in (found_in live side d)))
     (timeout_or_short (option_map (with_flags side (tcp_of d).flags)

@@ -19,7 +19,7 @@ use Rattle.stream_model.specs.Prelude.{Segment}
 use Rattle.tcp_tracker.specs.Prelude.{place_of, connection_of, changed, is_live, after, with_session}
 use Rattle.tcp_tracker.specs.declared.connection.ConnKey.{ConnKey}
 use Rattle.tcp_tracker.specs.declared.connection.Connection.{Connection}
-use Rattle.gate_model.specs.Prelude.{Kind, Udp, Echo, Error, Dns, Snmp, Stream, datagram_in, kind_of, most_entries, addresses_in, entered, is_bad, grows_too_much, SessionRules, Tracked, World, at_moment, host_on, tcp_of, segment_of, key_in, found_in, begins, made_by, taker_by, session_refusal, stepped, ends_by, connection_after, units_in, names_in, entries_in, entries_after, is_new_unbound, unit_tests, growth_tests, table_after, image_in, verdict, taker_in, after_kind, next_by, next, TakesSegment, EachTracked}
+use Rattle.gate_model.specs.Prelude.{Whole, Kind, Stream, datagram_in, kind_of, most_entries, addresses_in, entered, is_bad, grows_too_much, SessionRules, Tracked, World, at_moment, host_on, tcp_of, segment_of, key_in, found_in, begins, made_by, taker_by, session_refusal, stepped, ends_by, connection_after, units_in, names_in, entries_in, entries_after, is_new_unbound, unit_tests, growth_tests, table_after, image_in, verdict, taker_in, after_kind, next_by, next, TakesSegment, EachTracked}
 use Rattle.gate_model.proofs.Passing.{NoneHolds, none_head, none_tail, Passes, passes, stream_passes}
 
 -- ## Connections that come and go
@@ -64,7 +64,9 @@ taker_keeps {S = S} rules Q k table side d None h = by_test (begins {S = S} None
 taker_keeps rules Q k table side d (Some c) h = h
 
 -- no unit of a segment that passes is bad or grows
-units_fit : {S : Type 0} (rules : SessionRules S) (image : Addr → Option Addr) (table : Bindings) (side : Side) (d : Datagram) (t : Option (Tracked S)) → NoneHolds (unit_tests rules image table side d t) → NoneHolds (growth_tests rules image side d t) → UnitsFit (entries_after rules image side d t) (units_in rules side d t)
+units_fit : {S : Type 0} (rules : SessionRules S) (image : Addr → Option Addr) (table : Bindings) (side : Side) (d : Datagram)
+    (t : Option (Tracked S)) → NoneHolds (unit_tests rules image table side d t) → NoneHolds (growth_tests rules image side d t)
+    → UnitsFit (entries_after rules image side d t) (units_in rules side d t)
 units_fit rules image table side d t units growth = record {
   good = none_head {test = (list_any is_bad (units_in rules side d t), BadUnit)} {more = (list_any (is_new_unbound table side (entries_in rules side t)) (names_in rules side d t), UnitUnbound) ∷ (nat_lt most_entries (length (entries_after rules image side d t)), RenamesFull) ∷ []} units;
   few = none_head {test = (nat_lt most_entries (length (entries_after rules image side d t)), RenamesFull)} {more = []}
@@ -73,13 +75,17 @@ units_fit rules image table side d t units growth = record {
   small = none_head {test = (list_any (grows_too_much (entries_after rules image side d t)) (units_in rules side d t), UnitGrows)} {more = []} growth;
 }
 
-stepped_keeps : {S : Type 0} (rules : SessionRules S) (Q : Tracked S → Type 0) → Keeps rules Q → (image : Addr → Option Addr) (side : Side) (d : Datagram) (t : Option (Tracked S)) → session_refusal rules side d t ≡ None → UnitsFit (entries_after rules image side d t) (units_in rules side d t) → IfSome t Q → IfSome (option_map (stepped rules image side d) t) Q
+stepped_keeps : {S : Type 0} (rules : SessionRules S) (Q : Tracked S → Type 0) → Keeps rules Q
+    → (image : Addr → Option Addr) (side : Side) (d : Datagram) (t : Option (Tracked S)) → session_refusal rules side d t ≡ None
+    → UnitsFit (entries_after rules image side d t) (units_in rules side d t) → IfSome t Q → IfSome (option_map (stepped rules image side d) t) Q
 stepped_keeps rules Q k image side d None e f h = tt
 stepped_keeps rules Q k image side d (Some t) e f h =
     k.next image (host_on side t) t (segment_of d) e
     (subst (λ (v : Option Refusal). UnitsFit (entered image (rules.listed (host_on side t) t.session) (addresses_in (unless_refused v (rules.units (host_on side t) t.session (segment_of d)) []))) (unless_refused v (rules.units (host_on side t) t.session (segment_of d)) [])) e f) h
 
-pub after_keeps : {S : Type 0} (rules : SessionRules S) (Q : Tracked S → Type 0) (image : Addr → Option Addr) (live : World S) (side : Side) (moment : ℕ) (d : Datagram) (t : Option (Tracked S)) → IfSome (option_map (stepped rules image side d) t) Q → IfSome (connection_after rules image live side moment d t) (λ c. IfSome c.session Q)
+pub after_keeps : {S : Type 0} (rules : SessionRules S) (Q : Tracked S → Type 0) (image : Addr → Option Addr) (live : World S) (side : Side)
+    (moment : ℕ) (d : Datagram) (t : Option (Tracked S)) → IfSome (option_map (stepped rules image side d) t) Q
+    → IfSome (connection_after rules image live side moment d t) (λ c. IfSome c.session Q)
 after_keeps {S = S} rules Q image live side moment d t h = by_test (ends_by rules side d t) (after (key_in live.table side d) side (tcp_of d).flags t (record { 0 = moment }) (found_in live side d))
   where
     by_test : (b : Bool) (o : Option (Connection (Tracked S))) → IfSome (if b then None else option_map (with_session (option_map (stepped rules image side d) t)) o) (λ c. IfSome c.session Q)
@@ -87,12 +93,10 @@ after_keeps {S = S} rules Q image live side moment d t h = by_test (ends_by rule
     by_test false None = tt
     by_test false (Some c) = h
 
-kind_keeps : {S : Type 0} (rules : SessionRules S) (Q : Tracked S → Type 0) → Keeps rules Q → (live : World S) (side : Side) (moment : ℕ) (d : Datagram) (kind : Kind) → Passes rules live side moment d kind → EachTracked Q live.connections → EachTracked Q (after_kind rules live side moment d kind).connections
-kind_keeps rules Q k live side moment d Udp p h = h
-kind_keeps rules Q k live side moment d Echo p h = h
-kind_keeps rules Q k live side moment d Error p h = h
-kind_keeps rules Q k live side moment d Dns p h = h
-kind_keeps rules Q k live side moment d Snmp p h = h
+kind_keeps : {S : Type 0} (rules : SessionRules S) (Q : Tracked S → Type 0) → Keeps rules Q
+    → (live : World S) (side : Side) (moment : ℕ) (d : Datagram) (kind : Kind) → Passes rules live side moment d kind → EachTracked Q live.connections
+    → EachTracked Q (after_kind rules live side moment d kind).connections
+kind_keeps rules Q k live side moment d (Whole payload) p h = h
 kind_keeps {S = S} rules Q k live side moment d Stream p h =
     let P : Connection (Tracked S) → Type 0 = λ c. IfSome c.session Q in
     let key = key_in live.table side d in
@@ -116,7 +120,9 @@ run_keeps rules Q k [] w h = h
 run_keeps rules Q k (e ∷ events) w h = run_keeps rules Q k events (next rules w e) (next_keeps rules Q k w e h)
 
 -- so has one that has taken a segment, also where it ends with that
-pub taken_keeps : {S : Type 0} (rules : SessionRules S) (Q : Tracked S → Type 0) → Keeps rules Q → (w : World S) (e : Event) (t : Tracked S) → TakesSegment rules w e t → EachTracked Q w.connections → Q (stepped rules (image_in rules (at_moment w e.moment) e.side e.moment (datagram_in e)) e.side (datagram_in e) t)
+pub taken_keeps : {S : Type 0} (rules : SessionRules S) (Q : Tracked S → Type 0) → Keeps rules Q → (w : World S) (e : Event) (t : Tracked S)
+    → TakesSegment rules w e t → EachTracked Q w.connections → Q
+    (stepped rules (image_in rules (at_moment w e.moment) e.side e.moment (datagram_in e)) e.side (datagram_in e) t)
 taken_keeps {S = S} rules Q k w e t takes h =
     let live = at_moment w e.moment in
     let d = datagram_in e in

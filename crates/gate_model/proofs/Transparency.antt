@@ -23,7 +23,7 @@ use Rattle.binding_table.proofs.Used.{known_after}
 use Rattle.gate_model.specs.Called.{table_by, called_by, sent_from, sent_to, header_until, CrossBack, AllBefore}
 use Rattle.gate_model.specs.Frame.{has_other_address, is_other_protocol}
 use Rattle.gate_model.specs.Inner.{inner_session}
-use Rattle.gate_model.specs.Prelude.{SessionRules, Kind, Udp, Echo, Error, Dns, Snmp, Stream, Tracked, World, host_on, at_moment, called, source_of, destination_of, addresses_of, datagram_in, kind_of, header_tests, datagram_tests, transport_tests, address_tests, world_tests, is_pool_empty, is_reachable, is_unknown, inside, uses_of, table_after, tests, verdict_of, next, out, out_by, out_kind, tcp_of, is_tracked_port, found_in, session_in, begins, is_opening, made_by, taker_by, taker_in, session_refusal, refusal_tests, unit_tests, growth_tests, lacks_session, is_full, names_in, image_in, stream_out}
+use Rattle.gate_model.specs.Prelude.{SessionRules, Kind, Whole, Udp, Echo, Error, Dns, Snmp, Stream, Tracked, World, host_on, at_moment, called, source_of, destination_of, addresses_of, datagram_in, kind_of, header_tests, datagram_tests, transport_tests, address_tests, world_tests, is_pool_empty, is_reachable, is_unknown, inside, uses_of, table_after, tests, verdict_of, next, out, out_by, out_kind, tcp_of, is_tracked_port, found_in, session_in, begins, is_opening, made_by, taker_by, taker_in, session_refusal, refusal_tests, unit_tests, growth_tests, lacks_session, is_full, names_in, image_in, stream_out}
 use Rattle.gate_model.specs.Verdict.{verdict}
 use Rattle.gate_model.specs.Transparent.{IsTranslated, KeepsAlias, IsReply, own_tests, own_reason, has_tracked_port, IsUntracked, IsPlainKind, ComesBack, IsAbout, ComesHome}
 use Rattle.gate_model.proofs.AliasesLast.{StandFor, cross_back, called_is, stand_after, stand_expired, stand_through, lawful_through, lawful_next, lawful_by, passed_table, HostsAre, hosts_are, hosts_later}
@@ -227,11 +227,11 @@ pool_enough table side d addresses room =
 world_none : {S : Type 0} (rules : SessionRules S) (live : World S) (side : Side) (moment : ℕ) (d : Datagram) (kind : Kind)
     → IsPlainKind kind → first_that_holds (address_tests live.table side d) ≡ None → needed live.table side (addresses_of d) ≡ 0
     → first_that_holds (world_tests rules live side moment d kind) ≡ None
-world_none rules live side moment d Udp plain addresses room = pool_enough live.table side d addresses room
-world_none rules live side moment d Echo plain addresses room = pool_enough live.table side d addresses room
-world_none rules live side moment d Error plain addresses room = absurd plain
-world_none rules live side moment d Dns plain addresses room = absurd plain
-world_none rules live side moment d Snmp plain addresses room = absurd plain
+world_none rules live side moment d (Whole Udp) plain addresses room = pool_enough live.table side d addresses room
+world_none rules live side moment d (Whole Echo) plain addresses room = pool_enough live.table side d addresses room
+world_none rules live side moment d (Whole Error) plain addresses room = absurd plain
+world_none rules live side moment d (Whole Dns) plain addresses room = absurd plain
+world_none rules live side moment d (Whole Snmp) plain addresses room = absurd plain
 world_none rules live side moment d Stream plain addresses room = absurd plain
 
 in_order : (a b c d : List (Bool × Refusal)) → (a ++ (b ++ c)) ++ d ≡ a ++ (b ++ (c ++ d))
@@ -340,11 +340,7 @@ segment_out {S = S} rules v r is =
         → taker_in rules live side moment d ≡ None → out_kind rules live side moment d kind
         ≡ renamed d (called (table_after rules live side moment d kind) side (source_of d)).0
         (called (table_after rules live side moment d kind) side (destination_of d)).0 ∷ []
-    by_kind live side moment d Udp e t = refl
-    by_kind live side moment d Echo e t = refl
-    by_kind live side moment d Error e t = absurd (cc)
-    by_kind live side moment d Dns e t = absurd (cc)
-    by_kind live side moment d Snmp e t = absurd (cc)
+    by_kind live side moment d (Whole payload) e t = absurd (cc)
     by_kind live side moment d Stream e t =
         let table = table_after rules live side moment d Stream in
         ap (stream_out rules (image_in rules live side moment d) side d (called table side (source_of d)).0
@@ -354,11 +350,11 @@ plain_out : {S : Type 0} (rules : SessionRules S) (live : World S) (side : Side)
     → IsPlainKind kind → out_kind rules live side moment d kind
     ≡ renamed d (called (table_after rules live side moment d kind) side (source_of d)).0
     (called (table_after rules live side moment d kind) side (destination_of d)).0 ∷ []
-plain_out rules live side moment d Udp plain = refl
-plain_out rules live side moment d Echo plain = refl
-plain_out rules live side moment d Error plain = absurd plain
-plain_out rules live side moment d Dns plain = absurd plain
-plain_out rules live side moment d Snmp plain = absurd plain
+plain_out rules live side moment d (Whole Udp) plain = refl
+plain_out rules live side moment d (Whole Echo) plain = refl
+plain_out rules live side moment d (Whole Error) plain = absurd plain
+plain_out rules live side moment d (Whole Dns) plain = absurd plain
+plain_out rules live side moment d (Whole Snmp) plain = absurd plain
 plain_out rules live side moment d Stream plain = absurd plain
 
 pub comes_back : {S : Type 0} (rules : SessionRules S) (w : World S) (e : Event) (between : List Event) (r : Event) → IsLawful w.table

@@ -1,5 +1,5 @@
 -- The names of this crate that others cite most, passed on from one place. Declares nothing.
-pub use Rattle.gate_model.specs.Frame.{Dns, Echo, Error, Kind, Snmp, Stream, Udp, datagram_in, datagram_tests, header_tests, icmp_kind, is_tracked_port, kind_of, transport_tests, udp_kind}
+pub use Rattle.gate_model.specs.Frame.{Dns, Echo, Error, Kind, Payload, Snmp, Stream, Udp, Whole, datagram_in, datagram_tests, header_tests, icmp_payload, is_tracked_port, kind_of, transport_tests, udp_payload}
 pub use Rattle.gate_model.specs.Lists.{Lists, addresses_in, enter, entered, grows_too_much, is_bad, list_of, most_entries, renamed_in, with_list}
 pub use Rattle.gate_model.specs.Sessions.{WholeSession, completed, entries_by, lists_at, meaning_by, reads_by, units_by, whole_learned, whole_next, whole_units}
 pub use Rattle.gate_model.specs.Rules.{SessionRules, whole_rules}

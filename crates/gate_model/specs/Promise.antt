@@ -11,7 +11,7 @@ use Rattle.gate_settings.specs.declared.settings.Settings.{Settings}
 use Rattle.binding_table.specs.Prelude.{is_same}
 use Rattle.twice_translate.specs.Renamed.{renamed}
 use Rattle.gate_model.specs.Called.{IsKeptUntil, AllBefore, header_until}
-use Rattle.gate_model.specs.Frame.{Dns, Stream, datagram_in, kind_of}
+use Rattle.gate_model.specs.Frame.{Dns, Whole, Stream, datagram_in, kind_of}
 use Rattle.gate_model.specs.GoingOn.{streams_of, OnlyRestsWait, HasDataSegment, GoesOnBy, ComesThrough}
 use Rattle.gate_model.specs.Held.{PairCrosses, KeepsLists, ListsCross, KeepsImages}
 use Rattle.gate_model.specs.Origins.{ComesFromUse, IsMeant}
@@ -107,7 +107,7 @@ pub record Promised (settings : Settings) (events : List Event) : Type 0 where
       → KeepsAlias whole_rules (known_after settings done) e address (known_after settings (done ++ e ∷ between)) x
   -- and a DNS message over UDP goes out with what the addresses that it names are called
   pub named : (done others : List Event) (e : Event) → events ≡ done ++ e ∷ others
-      → verdict whole_rules (known_after settings done) e ≡ Pass → kind_of (datagram_in e) ≡ Dns
+      → verdict whole_rules (known_after settings done) e ≡ Pass → kind_of (datagram_in e) ≡ Whole Dns
       → NamesAreCalled whole_rules (known_after settings done) e
   -- while the header of a frame keeps its addresses, a reply to it comes back,
   pub replies : (done between others : List Event) (e r : Event) → events ≡ done ++ e ∷ (between ++ r ∷ others)

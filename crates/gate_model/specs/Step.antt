@@ -9,7 +9,7 @@ use Rattle.binding_table.specs.Prelude.{Bindings}
 use Rattle.ipv4_frames.specs.Ipv4.{Datagram}
 use Rattle.tcp_tracker.specs.declared.connection.Connection.{Connection}
 use Rattle.twice_translate.specs.Renamed.{renamed, with_payload}
-use Rattle.gate_model.specs.Frame.{Kind, Udp, Echo, Error, Dns, Snmp, Stream, datagram_in, kind_of}
+use Rattle.gate_model.specs.Frame.{Error, Dns, Snmp, Kind, Whole, Stream, datagram_in, kind_of}
 use Rattle.gate_model.specs.Inner.{inside, inner_after, with_inside}
 use Rattle.gate_model.specs.Management.{management_after}
 use Rattle.gate_model.specs.Names.{names_after}
@@ -32,11 +32,7 @@ with_connection rules live side d table c = record live { table = table; connect
 abbrev pub after_kind : {S : Type 0} → SessionRules S → World S → Side → ℕ → Datagram → Kind → World S
 after_kind rules live side moment d Stream =
     with_connection rules live side d (table_after rules live side moment d Stream) (connection_after rules (image_in rules live side moment d) live side moment d (taker_in rules live side moment d))
-after_kind rules live side moment d Udp = record live { table = table_after rules live side moment d Udp }
-after_kind rules live side moment d Echo = record live { table = table_after rules live side moment d Echo }
-after_kind rules live side moment d Error = record live { table = table_after rules live side moment d Error }
-after_kind rules live side moment d Dns = record live { table = table_after rules live side moment d Dns }
-after_kind rules live side moment d Snmp = record live { table = table_after rules live side moment d Snmp }
+after_kind rules live side moment d (Whole payload) = record live { table = table_after rules live side moment d (Whole payload) }
 
 -- by the verdict: a frame that is refused moves the clock, by which bindings and connections may end, and changes nothing else
 abbrev pub next_by : {S : Type 0} → SessionRules S → World S → Event → Verdict → World S
@@ -57,20 +53,14 @@ stream_out rules image side d source destination (Some t) = map (sent_as d sourc
 
 -- a datagram with the addresses in its payload renamed, by its kind; table is that of afterwards
 abbrev pub translated : {S : Type 0} → SessionRules S → World S → Bindings → Side → Datagram → Kind → Datagram
-translated rules live table side d Udp = d
-translated rules live table side d Echo = d
-translated rules live table side d Error = with_inside d (inner_after rules live side (inside d))
-translated rules live table side d Dns = with_payload d (names_after live.table table side d)
-translated rules live table side d Snmp = with_payload d (management_after table side d)
-translated rules live table side d Stream = d
+translated rules live table side d (Whole Error) = with_inside d (inner_after rules live side (inside d))
+translated rules live table side d (Whole Dns) = with_payload d (names_after live.table table side d)
+translated rules live table side d (Whole Snmp) = with_payload d (management_after table side d)
+translated rules live table side d _ = d
 
 -- the datagrams that go out for one of a kind that passes, between these addresses
 abbrev pub out_between : {S : Type 0} → SessionRules S → World S → Bindings → Side → ℕ → Datagram → ℕ → ℕ → Kind → List (List ℕ)
-out_between rules live table side moment d source destination Udp = renamed (translated rules live table side d Udp) source destination ∷ []
-out_between rules live table side moment d source destination Echo = renamed (translated rules live table side d Echo) source destination ∷ []
-out_between rules live table side moment d source destination Error = renamed (translated rules live table side d Error) source destination ∷ []
-out_between rules live table side moment d source destination Dns = renamed (translated rules live table side d Dns) source destination ∷ []
-out_between rules live table side moment d source destination Snmp = renamed (translated rules live table side d Snmp) source destination ∷ []
+out_between rules live table side moment d source destination (Whole payload) = renamed (translated rules live table side d (Whole payload)) source destination ∷ []
 out_between rules live table side moment d source destination Stream = stream_out rules (image_in rules live side moment d) side d source destination (taker_in rules live side moment d)
 
 -- between the addresses as they are called afterwards

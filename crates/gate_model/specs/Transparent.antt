@@ -12,7 +12,7 @@ use Rattle.icmp_errors.specs.Inner.{inner_fields}
 use Rattle.ipv4_frames.specs.Ipv4.{Datagram}
 use Rattle.twice_translate.specs.Renamed.{renamed}
 use Rattle.gate_model.specs.Called.{table_by, called_by, sent_from, sent_to, CrossBack}
-use Rattle.gate_model.specs.Frame.{Kind, Udp, Echo, Stream, datagram_in, is_tracked_port, header_tests, datagram_tests, transport_tests, kind_of}
+use Rattle.gate_model.specs.Frame.{Udp, Echo, Kind, Whole, Stream, datagram_in, is_tracked_port, header_tests, datagram_tests, transport_tests, kind_of}
 use Rattle.gate_model.specs.Inner.{inside, inner_session, is_inner_unbound}
 use Rattle.gate_model.specs.Names.{message_in, named_in}
 use Rattle.gate_model.specs.Rules.{SessionRules}
@@ -72,8 +72,8 @@ own_reason e = first_that_holds (own_tests e)
 
 -- a kind of which nothing behind the header of its protocol is looked at
 abbrev pub IsPlainKind : Kind → Type 0
-IsPlainKind Udp = Unit {0}
-IsPlainKind Echo = Unit {0}
+IsPlainKind (Whole Udp) = Unit {0}
+IsPlainKind (Whole Echo) = Unit {0}
 IsPlainKind _ = ⊥
 
 -- one of both ports is one at which connections are tracked

@@ -11,7 +11,7 @@ use Rattle.gate_settings.specs.Prelude.{is_in_same}
 use Rattle.binding_table.specs.Prelude.{Bindings, in_pool, free, seen, Use, needed, after_uses, image_after}
 use Rattle.icmp_errors.specs.Inner.{is_inner, inner_fields}
 use Rattle.ipv4_frames.specs.Ipv4.{Datagram}
-use Rattle.gate_model.specs.Frame.{Kind, Udp, Echo, Error, Dns, Snmp, Stream, datagram_in, header_tests, datagram_tests, transport_tests, kind_of}
+use Rattle.gate_model.specs.Frame.{Payload, Udp, Echo, Error, Dns, Snmp, Kind, Whole, Stream, datagram_in, header_tests, datagram_tests, transport_tests, kind_of}
 use Rattle.gate_model.specs.Inner.{inside, is_inner_unbound}
 use Rattle.gate_model.specs.Management.{is_bad_snmp, is_snmp_too_long}
 use Rattle.gate_model.specs.Names.{message_in, named_in, has_unbound}
@@ -33,30 +33,29 @@ abbrev pub named_timeout : ℕ
 named_timeout = 60 * 1000000000
 
 -- the timeout of a header
+abbrev pub payload_timeout : Payload → ℕ
+payload_timeout Udp = udp_timeout
+payload_timeout Echo = icmp_timeout
+payload_timeout Error = icmp_timeout
+payload_timeout Dns = udp_timeout
+payload_timeout Snmp = udp_timeout
+
 abbrev pub timeout_by : {S : Type 0} → SessionRules S → World S → Side → Datagram → Kind → ℕ
-timeout_by rules live side d Udp = udp_timeout
-timeout_by rules live side d Echo = icmp_timeout
-timeout_by rules live side d Error = icmp_timeout
-timeout_by rules live side d Dns = udp_timeout
-timeout_by rules live side d Snmp = udp_timeout
+timeout_by rules live side d (Whole payload) = payload_timeout payload
 timeout_by rules live side d Stream = stream_timeout rules live side d
 
--- the addresses that a payload uses
+-- the addresses that a payload uses: those that a DNS message names, or that a segment's messages name
+abbrev pub named_by : Payload → Datagram → List Addr
+named_by Dns d = named_in (message_in d)
+named_by _ d = []
+
 abbrev pub payload_addresses : {S : Type 0} → SessionRules S → World S → Side → Datagram → Kind → List Addr
-payload_addresses rules live side d Dns = named_in (message_in d)
-payload_addresses rules live side d Udp = []
-payload_addresses rules live side d Echo = []
-payload_addresses rules live side d Error = []
-payload_addresses rules live side d Snmp = []
+payload_addresses rules live side d (Whole payload) = named_by payload d
 payload_addresses rules live side d Stream = names_in rules side d (session_in (found_in live side d))
 
 -- their uses, until a moment where they hold as the header does: behind those of a DNS session stand the addresses that its lists rename
 abbrev pub payload_uses : {S : Type 0} → SessionRules S → World S → Side → ℕ → ℕ → Datagram → Kind → List Use
-payload_uses rules live side moment until d Dns = uses_until side (moment + named_timeout) (payload_addresses rules live side d Dns)
-payload_uses rules live side moment until d Udp = []
-payload_uses rules live side moment until d Echo = []
-payload_uses rules live side moment until d Error = []
-payload_uses rules live side moment until d Snmp = []
+payload_uses rules live side moment until d (Whole payload) = uses_until side (moment + named_timeout) (named_by payload d)
 payload_uses rules live side moment until d Stream = uses_until side until (payload_addresses rules live side d Stream) ++ uses_of_lists rules until (session_in (found_in live side d))
 
 -- the uses of a frame that passes: its source, its destination, and those of its payload in their order
@@ -95,19 +94,23 @@ address_tests table side d =
     ∷ (not (is_reachable table side (destination_of d)), NoBinding)
     ∷ []
 
--- of what it carries, by its kind; the tests of a session stand among those of a segment
-abbrev pub kind_tests : {S : Type 0} → SessionRules S → World S → Side → ℕ → Datagram → Kind → List (Bool × Refusal)
-kind_tests rules live side moment d Udp = []
-kind_tests rules live side moment d Echo = []
-kind_tests rules live side moment d Error =
+-- of what a datagram carries
+abbrev pub payload_tests : {S : Type 0} → SessionRules S → World S → Side → Datagram → Payload → List (Bool × Refusal)
+payload_tests rules live side d Udp = []
+payload_tests rules live side d Echo = []
+payload_tests rules live side d Error =
     (not (is_inner (inside d)), BadInner)
     ∷ (is_inner_unbound rules live side (inner_fields (inside d)), InnerUnbound)
     ∷ []
-kind_tests rules live side moment d Dns =
+payload_tests rules live side d Dns =
     (is_none (message_in d), BadDns)
     ∷ (has_unbound live.table side (named_in (message_in d)), DnsUnbound)
     ∷ []
-kind_tests rules live side moment d Snmp = (is_bad_snmp d, BadSnmp) ∷ []
+payload_tests rules live side d Snmp = (is_bad_snmp d, BadSnmp) ∷ []
+
+-- by its kind; the tests of a session stand among those of a segment
+abbrev pub kind_tests : {S : Type 0} → SessionRules S → World S → Side → ℕ → Datagram → Kind → List (Bool × Refusal)
+kind_tests rules live side moment d (Whole payload) = payload_tests rules live side d payload
 kind_tests rules live side moment d Stream =
     let found = found_in live side d in
     let taker = taker_by rules (table_after rules live side moment d Stream) side d found in
@@ -115,13 +118,14 @@ kind_tests rules live side moment d Stream =
     ∷ refusal_tests (session_refusal rules side d taker)
     ++ (unit_tests rules (image_in rules live side moment d) live.table side d taker ++ (is_full live.connections found d, SessionsFull) ∷ [])
 
--- behind the test of the pool, of what goes on in place of its payload, by the bindings after its uses
+-- of what goes on in place of a payload, by the bindings after its uses
+abbrev pub image_tests : Bindings → Side → Datagram → Payload → List (Bool × Refusal)
+image_tests table side d Snmp = (is_snmp_too_long table side d, SnmpTooLong) ∷ []
+image_tests table side d _ = []
+
+-- the tests behind that of the pool
 abbrev pub late_tests : {S : Type 0} → SessionRules S → World S → Side → ℕ → Datagram → Kind → List (Bool × Refusal)
-late_tests rules live side moment d Udp = []
-late_tests rules live side moment d Echo = []
-late_tests rules live side moment d Error = []
-late_tests rules live side moment d Dns = []
-late_tests rules live side moment d Snmp = (is_snmp_too_long (table_after rules live side moment d Snmp) side d, SnmpTooLong) ∷ []
+late_tests rules live side moment d (Whole payload) = image_tests (table_after rules live side moment d (Whole payload)) side d payload
 late_tests rules live side moment d Stream =
     growth_tests rules (image_in rules live side moment d) side d (taker_by rules (table_after rules live side moment d Stream) side d (found_in live side d))
 

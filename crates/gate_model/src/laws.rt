@@ -37,7 +37,7 @@ ghost use Rattle.binding_table.specs.Prelude.{IsLawful, is_same};
 ghost use Rattle.gate_model.specs.World.{destination_of};
 ghost use Rattle.tcp_tracker.specs.Connections.{is_established, kept, with_flags};
 ghost use Rattle.ipv4_frames.specs.Ipv4.{Datagram};
-ghost use Rattle.gate_model.specs.Frame.{Kind, Dns, Stream, kind_of};
+ghost use Rattle.gate_model.specs.Frame.{Kind, Dns, Whole, Stream, kind_of};
 ghost use Rattle.gate_model.specs.Stream.{tcp_of, found_in, ends_by};
 ghost use Rattle.gate_model.specs.Verdict.{named_timeout, timeout_by};
 ghost use Rattle.gate_model.specs.Called.{IsKeptUntil, AllBefore, header_until, least_seconds};
@@ -274,7 +274,7 @@ pub fn aliases_last<S>()
     ensures named { (rules : SessionRules S) (w : World S) (e : Event)
         → IsLawful w.table
         → verdict rules w e ≡ Pass
-        → kind_of (datagram_in e) ≡ Dns
+        → kind_of (datagram_in e) ≡ Whole Dns
         → NamesAreCalled rules w e }
 {}
 

@@ -1,3 +1,4 @@
 pub mod Lines
+pub mod LineEnds
 pub mod Counts
 mod Texts

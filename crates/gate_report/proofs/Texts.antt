@@ -11,9 +11,10 @@ use Rattle.gate_base.specs.declared.side.Side.{Side}
 use Rattle.gate_base.specs.declared.side.Side.TheVariants.{Left, Right}
 use Rattle.gate_base.specs.Prelude.{verdict_name, name_of}
 use Rattle.gate_base.specs.Refusal as refusal
+use Rattle.gate_settings.specs.declared.settings.ReportForm.TheVariants.{Json}
 use Rattle.gate_report.specs.declared.line.Line.{Line}
 use Rattle.gate_report.specs.declared.line.Line.TheVariants.{Event, Done}
-use Rattle.gate_report.specs.Lines.{event_json, done_json, json_of}
+use Rattle.gate_report.specs.Lines.{event_json, done_json, line_octets}
 use Rattle.gate_report.specs.Values.{event_value, done_value, value_of}
 
 side_quoted : (side : Side) → compact_text (string (name_of side)) ≡ 34 ∷ (name_of side ++ 34 ∷ [])
@@ -71,7 +72,7 @@ verdict_quoted Held = refl
 pub no_floats : (line : Line) → has_float (value_of line) ≡ false
 unfolding event_value done_value
 no_floats (Event event side moment verdict frames) = refl
-no_floats (Done events passed refused to_left to_right pending) = refl
+no_floats (Done totals pending) = refl
 
 -- the text of an event's value, and a line feed, of the texts of what it has
 abbrev enclosed : List ℕ → List ℕ → List ℕ → List ℕ → List ℕ → List ℕ
@@ -86,10 +87,10 @@ joined : (number frames moment side verdict : List ℕ)
 joined number frames moment side verdict = simp append_assoc
 
 -- its text, and a line feed
-pub json_text : (line : Line) → compact_text (value_of line) ++ 10 ∷ [] ≡ json_of line
+pub json_text : (line : Line) → compact_text (value_of line) ++ 10 ∷ [] ≡ line_octets Json line
 unfolding event_value done_value event_json done_json serde_json_on_literals
 json_text (Event event side moment verdict frames) =
     ap (λ s. enclosed (decimal event) (decimal frames) (decimal moment.0) s (compact_text (string (verdict_name verdict)))) (side_quoted side)
     ∙ ap (λ v. enclosed (decimal event) (decimal frames) (decimal moment.0) (34 ∷ (name_of side ++ 34 ∷ [])) v) (verdict_quoted verdict)
     ∙ joined (decimal event) (decimal frames) (decimal moment.0) (name_of side) (verdict_name verdict)
-json_text (Done events passed refused to_left to_right pending) = simp append_assoc
+json_text (Done totals pending) = simp append_assoc

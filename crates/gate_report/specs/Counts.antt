@@ -44,4 +44,4 @@ counted totals side verdict frames = record {
 
 -- the last line of a report: what was counted, and the greatest number of changed lines that ever waited to be acknowledged
 abbrev pub done_line : Totals → ℕ → Line
-done_line totals pending = Done totals.events totals.passed totals.refused totals.to_left totals.to_right pending
+done_line totals pending = Done totals pending

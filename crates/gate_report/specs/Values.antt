@@ -6,6 +6,7 @@ use Rattle.gate_base.specs.declared.side.Side.{Side}
 use Rattle.gate_base.specs.Prelude.{verdict_name, name_of}
 use Rattle.gate_report.specs.declared.line.Line.{Line}
 use Rattle.gate_report.specs.declared.line.Line.TheVariants.{Event, Done}
+use Rattle.gate_report.specs.declared.totals.Totals.{Totals}
 
 -- an event's line
 unfoldable pub event_value : ℕ → Side → ℕ → Verdict → ℕ → Data
@@ -17,17 +18,17 @@ event_value event side moment verdict frames =
     (member (codes "verdict") (string (verdict_name verdict)) no_members)))))
 
 -- the last line
-unfoldable pub done_value : ℕ → ℕ → ℕ → ℕ → ℕ → ℕ → Data
-done_value events passed refused to_left to_right pending =
+unfoldable pub done_value : Totals → ℕ → Data
+done_value totals pending =
     object (member (codes "done") (boolean true)
-    (member (codes "events") (number (unsigned events))
-    (member (codes "passed") (number (unsigned passed))
+    (member (codes "events") (number (unsigned totals.events))
+    (member (codes "passed") (number (unsigned totals.passed))
     (member (codes "pending") (number (unsigned pending))
-    (member (codes "refused") (number (unsigned refused))
-    (member (codes "to_left") (number (unsigned to_left))
-    (member (codes "to_right") (number (unsigned to_right)) no_members)))))))
+    (member (codes "refused") (number (unsigned totals.refused))
+    (member (codes "to_left") (number (unsigned totals.to_left))
+    (member (codes "to_right") (number (unsigned totals.to_right)) no_members)))))))
 
 -- a line
 abbrev pub value_of : Line → Data
 value_of (Event event side moment verdict frames) = event_value event side moment.0 verdict frames
-value_of (Done events passed refused to_left to_right pending) = done_value events passed refused to_left to_right pending
+value_of (Done totals pending) = done_value totals pending

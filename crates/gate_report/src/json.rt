@@ -1,7 +1,8 @@
 // Lines in JSON.
-ghost use Rattle.std.specs.Prelude.{◌≡◌, IfOk, OnOk};
+ghost use Rattle.std.specs.Prelude.{◌≡◌, OnOk};
 ghost use Rattle.serde_json.specs.Events.{SendsValue};
-ghost use Rattle.gate_report.specs.Lines.{json_of};
+ghost use Rattle.gate_settings.specs.declared.settings.ReportForm.TheVariants.{Json};
+ghost use Rattle.gate_report.specs.Lines.{line_octets};
 ghost use Rattle.gate_report.specs.Values.{value_of, event_value, done_value};
 
 use crate::line::Line;
@@ -10,16 +11,18 @@ use gate_base::{Side, Verdict};
 use serde::{Described, Serialize, Serializer};
 use std::alloc::{AllocError, Global};
 
-/// A line in JSON, with its line feed.
-pub fn json_line(alloc: Global, line: &Line) -> Result<Vec<u8>, AllocError>
-    ensures { IfOk result (λ octets. octets.items ≡ json_of line.now) }
+/// Puts a line in JSON, with its line feed, in place of other octets. By a call of its own, so that a line in text pays nothing for it.
+#[inline(never)]
+pub fn put_json(alloc: Global, line: &Line, octets: &mut Vec<u8>) -> Result<(), AllocError>
+    ensures { OnOk result (octets.new.items ≡ line_octets Json line.now) }
 {
-    let mut octets = match serde_json::to_vec(alloc, line) {
-        Ok(octets) => octets,
+    let mut made = match serde_json::to_vec(alloc, line) {
+        Ok(made) => made,
         Err(_) => return Err(AllocError),
     };
-    octets.push(b'\n')?;
-    Ok(octets)
+    made.push(b'\n')?;
+    *octets = made;
+    Ok(())
 }
 
 impl Described for Line {
@@ -36,23 +39,7 @@ impl Serialize for Line {
                 verdict,
                 frames,
             } => send_event(out, number, side, moment.0, verdict, frames),
-            Line::Done {
-                events,
-                passed,
-                refused,
-                to_left,
-                to_right,
-                pending,
-            } => {
-                let totals = Totals {
-                    events,
-                    passed,
-                    refused,
-                    to_left,
-                    to_right,
-                };
-                send_done(out, totals, pending)
-            }
+            Line::Done { totals, pending } => send_done(out, totals, pending),
         }
     }
 }
@@ -86,9 +73,7 @@ fn send_event<S: Serializer>(
 
 // The last line, key by key.
 fn send_done<S: Serializer>(out: &mut S, totals: Totals, pending: u64) -> Result<(), S::Error>
-    ensures { let t = totals in
-        OnOk result (SendsValue
-        (done_value t.events t.passed t.refused t.to_left t.to_right pending)
+    ensures { OnOk result (SendsValue (done_value totals pending)
         (S.written out.old) (S.written out.new)) }
 {
     out.begin_map(Some(7))?;

@@ -3,10 +3,10 @@
 
 mod json;
 mod line;
+mod room;
 mod text;
 mod totals;
 
-pub use json::json_line;
 pub use line::Line;
-pub use text::{LINE, text_line};
+pub use room::LineRoom;
 pub use totals::Totals;

@@ -1,3 +1,4 @@
+use crate::totals::Totals;
 use gate_base::{Moment, Side, Verdict};
 
 /// What a report says: one line for each event, and a last line.
@@ -18,16 +19,8 @@ pub enum Line {
     },
     /// What was counted over all events.
     Done {
-        /// The events.
-        events: u64,
-        /// Those that passed.
-        passed: u64,
-        /// Those that were refused.
-        refused: u64,
-        /// The frames that were sent to the left realm.
-        to_left: u64,
-        /// The frames that were sent to the right realm.
-        to_right: u64,
+        /// The counts.
+        totals: Totals,
         /// The greatest number of changed lines that ever waited to be acknowledged.
         pending: u64,
     },

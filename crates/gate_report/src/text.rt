@@ -1,7 +1,8 @@
 // Lines in text.
 ghost use Rattle.std.specs.Prelude.{◌≡◌, ◌+◌, ◌≤◌, ◌++◌, drop, length, decimal};
 ghost use Rattle.gate_base.specs.Prelude.{verdict_name, name_of};
-ghost use Rattle.gate_report.specs.Lines.{text_of, event_text, done_text};
+ghost use Rattle.gate_settings.specs.declared.settings.ReportForm.TheVariants.{Text};
+ghost use Rattle.gate_report.specs.Lines.{line_octets, event_text, done_text};
 
 use crate::line::Line;
 use crate::totals::Totals;
@@ -15,7 +16,7 @@ pub const LINE: usize = 192;
 pub fn text_line(line: &Line, room: &mut [u8]) -> usize
     requires { length room.old ≡ LINE }
     ensures begin { result ≤ LINE }
-    ensures octets { drop result room.new ≡ text_of line.now }
+    ensures octets { drop result room.new ≡ line_octets Text line.now }
 {
     match *line {
         Line::Event {
@@ -25,23 +26,7 @@ pub fn text_line(line: &Line, room: &mut [u8]) -> usize
             verdict,
             frames,
         } => put_event(room, number, side, moment.0, verdict, frames),
-        Line::Done {
-            events,
-            passed,
-            refused,
-            to_left,
-            to_right,
-            pending,
-        } => {
-            let totals = Totals {
-                events,
-                passed,
-                refused,
-                to_left,
-                to_right,
-            };
-            put_done(room, totals, pending)
-        }
+        Line::Done { totals, pending } => put_done(room, totals, pending),
     }
 }
 
@@ -123,9 +108,7 @@ fn put_word_before(room: &mut [u8], end: usize, word: &str) -> usize
 fn put_done(room: &mut [u8], totals: Totals, pending: u64) -> usize
     requires { length room.old ≡ LINE }
     ensures begin { result ≤ LINE }
-    ensures line { let t = totals in
-        drop result room.new
-        ≡ done_text t.events t.passed t.refused t.to_left t.to_right pending }
+    ensures line { drop result room.new ≡ done_text totals pending }
 {
     let end = put_word_before(room, LINE, "\n");
     let end = put_field_before(room, end, " pending=", pending);

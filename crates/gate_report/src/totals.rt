@@ -1,6 +1,6 @@
 // What is counted over a run.
 ghost use Rattle.std.specs.Prelude.{◌≡◌, ◌+◌, ◌≤◌, ◌<◌, ◌^◌};
-ghost use Rattle.gate_report.specs.Counts.{counted, done_line};
+ghost use Rattle.gate_report.specs.Counts.{nothing_counted, counted, done_line};
 
 use crate::line::Line;
 use gate_base::{Side, Verdict};
@@ -21,6 +21,19 @@ pub struct Totals {
 }
 
 impl Totals {
+    /// Nothing is counted.
+    pub fn new() -> Totals
+        ensures { result ≡ nothing_counted }
+    {
+        Totals {
+            events: 0,
+            passed: 0,
+            refused: 0,
+            to_left: 0,
+            to_right: 0,
+        }
+    }
+
     /// The totals with one event more, a frame of the side with this verdict, for which so many frames were sent to the other.
     pub fn count(self, side: Side, verdict: Verdict, frames: u32) -> Totals
         requires events { self.events + 1 < 2 ^ 64 }
@@ -54,11 +67,7 @@ impl Totals {
         ensures { result ≡ done_line self pending }
     {
         Line::Done {
-            events: self.events,
-            passed: self.passed,
-            refused: self.refused,
-            to_left: self.to_left,
-            to_right: self.to_right,
+            totals: self,
             pending,
         }
     }

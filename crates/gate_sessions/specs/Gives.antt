@@ -2,8 +2,8 @@
 use Rattle.std.specs.Prelude.{ℕ, List, refl}
 use Rattle.gate_model.specs.Prelude.{stream_out}
 use Rattle.gate_sessions.specs.Compact.{CompactSession, compact_rules}
-use Rattle.event_steps.specs.Prelude.{Tells}
-use Rattle.event_engine.specs.Engines.{Gives}
+use Rattle.event_segments.specs.Prelude.{Tells}
+use Rattle.event_state.specs.Engines.{Gives}
 use Rattle.gate_sessions.specs.Sessions.{MayWantIn}
 
 abbrev pub gate_tells : Tells CompactSession (List (List ℕ))

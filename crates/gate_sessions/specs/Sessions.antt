@@ -14,7 +14,7 @@ use Rattle.gate_sessions.specs.declared.kinds.SessionKind.TheVariants.{Lines, Un
 -- the session of hosts of this pair
 abbrev pub session_of : Pair → SessionKind → CompactSession
 session_of pair (Lines session) = record { pair = pair; lists = None; kept = session.kept }
-session_of pair (Units session) = dns_session pair session.value
+session_of pair (Units session) = dns_session pair session
 
 -- both dialogues of lines have this pair
 abbrev pub IsOfPair : Pair → SessionKind → Type 0

@@ -5,11 +5,11 @@ ghost use Rattle.gate_sessions.specs.Compact.{compact_rules};
 use crate::kinds::FtpSession;
 use crate::session::{AnySession, Passing};
 use dns_plans::{Completed, Tracked};
-use event_engine::{Engine, Stepped};
-use event_steps::Workspace;
+use event_outbox::{Datagrams, Segment};
+use event_payloads::Way;
+use event_segments::Workspace;
+use event_state::{Engine, Stepped};
 use gate_base::{OutOfMemory, Pair, Refusal};
-use gate_outbox::{Outbox, Segment};
-use gate_payloads::Way;
 use std::alloc::Global;
 use tcp_segments::TcpView;
 
@@ -43,7 +43,7 @@ impl Engine for AnySession {
         way: &Way,
         segment: &Segment<'_>,
         completed: Completed<'_>,
-        outbox: &mut Outbox,
+        outbox: &mut Datagrams,
     ) -> Result<Stepped<()>, OutOfMemory> {
         let passing = Passing {
             from: tracked.host_on(way.side),

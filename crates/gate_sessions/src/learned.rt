@@ -12,8 +12,8 @@ use crate::kinds::DnsSession;
 use crate::segments::put_segments;
 use crate::session::Passing;
 use dns_plans::{Completed, Entry};
+use event_outbox::{Datagrams, Scratch};
 use gate_base::{Addr, Host, OutOfMemory};
-use gate_outbox::{Outbox, Scratch};
 
 /// Whether a host's list has an entry of an address.
 fn knows(session: &DnsSession, host: Host, address: Addr) -> bool
@@ -62,7 +62,7 @@ pub fn step_units(
     session: &mut DnsSession,
     passing: &Passing<'_>,
     completed: Completed<'_>,
-    outbox: &mut Outbox,
+    outbox: &mut Datagrams,
     scratch: &mut Scratch,
 ) -> Result<bool, OutOfMemory>
     requires few { length

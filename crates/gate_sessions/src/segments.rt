@@ -6,16 +6,16 @@ ghost use Rattle.gate_model.specs.Prelude.{tcp_of, segment_of, sent_as};
 
 use crate::session::Passing;
 use dialogue::Dialogue;
+use event_outbox::{Datagrams, Scratch};
 use gate_base::OutOfMemory;
-use gate_outbox::{Outbox, Scratch};
 use stream_gate::{DatagramModel, StreamGate};
 
 /// Passes a segment: puts what its session sends into the outbox, and says whether the session ends. There is too little memory only where
 /// the segment completes a unit that bears, and then nothing has changed.
-pub fn put_segments<C: Dialogue, S: Dialogue, const N: usize>(
-    session: &mut StreamGate<C, S, N>,
+pub fn put_segments<C: Dialogue, S: Dialogue>(
+    session: &mut StreamGate<C, S>,
     passing: &Passing<'_>,
-    outbox: &mut Outbox,
+    outbox: &mut Datagrams,
     scratch: &mut Scratch,
 ) -> Result<bool, OutOfMemory>
     requires empty { outbox.old ≡ [] }
@@ -49,20 +49,11 @@ pub fn put_segments<C: Dialogue, S: Dialogue, const N: usize>(
     ensures nothing { OnErr result (outbox.new ≡ []) }
 {
     let segment = passing.segment;
-    // No datagram is longer than 65,535 octets: the segment's own header leaves room for a piece.
-    let _header = segment.tcp.header();
     let model = DatagramModel {
         ip: segment.datagram.header(),
         source: passing.source,
         destination: passing.destination,
         lifetime: segment.datagram.lifetime() - 1,
     };
-    session.step(
-        passing.from,
-        segment.tcp,
-        &model,
-        &mut outbox.octets,
-        &mut outbox.ends,
-        &mut scratch.octets,
-    )
+    session.step(passing.from, segment.tcp, &model, outbox, scratch)
 }

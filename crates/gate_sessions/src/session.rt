@@ -16,12 +16,11 @@ use crate::learned::step_units;
 use crate::segments::put_segments;
 use dns_plans::{Completed, Entry, Session, UnitOctets};
 use dns_stream::DnsUnits;
+use event_outbox::{Datagrams, Scratch, Segment};
 use ftp_lines::{ClientLines, ServerLines};
 use gate_base::{Addr, DNS_PORT, Host, OutOfMemory, Pair, Refusal};
-use gate_outbox::{Outbox, Scratch, Segment};
 use shift_ledger::Recent;
 use std::alloc::Global;
-use std::boxed::Box;
 use std::marker::Model;
 use stream_gate::{FirstSyn, StreamGate};
 use tcp_segments::{TcpView, flags_of};
@@ -164,7 +163,7 @@ impl AnySession {
             let session = dns_session(alloc, initial, mss)?;
             return Ok(AnySession {
                 pair,
-                kind: SessionKind::Units(Box::new(alloc, session)?),
+                kind: SessionKind::Units(session),
             });
         }
         Ok(AnySession {
@@ -191,7 +190,7 @@ impl AnySession {
         &mut self,
         passing: &Passing<'_>,
         completed: Completed<'_>,
-        outbox: &mut Outbox,
+        outbox: &mut Datagrams,
         scratch: &mut Scratch,
     ) -> Result<bool, OutOfMemory>
         requires few { length (entered_all
@@ -241,7 +240,7 @@ impl AnySession {
         match &mut self.kind {
             SessionKind::Lines(session) => return put_segments(session, passing, outbox, scratch),
             SessionKind::Units(session) => {
-                return step_units(&mut **session, passing, completed, outbox, scratch);
+                return step_units(session, passing, completed, outbox, scratch);
             }
         }
     }

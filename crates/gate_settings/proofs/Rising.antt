@@ -17,7 +17,8 @@ use Rattle.gate_settings.specs.Ranges.{is_in_range, Rise}
 abbrev Ordered : List Block → Type 0
 Ordered blocks = IsNonDecreasingBy (λ (b : Block). b.base.0) blocks
 
-same_firsts : (last : ℕ) (blocks : List Block) (j : ℕ) (d : SameRange) (e : Block) → j < length (ranges_from last blocks) → (j < length blocks) × ((get_or (ranges_from last blocks) j d).first ≡ (get_or blocks j e).base.0)
+same_firsts : (last : ℕ) (blocks : List Block) (j : ℕ) (d : SameRange) (e : Block) → j < length (ranges_from last blocks) → (j < length blocks)
+    × ((get_or (ranges_from last blocks) j d).first ≡ (get_or blocks j e).base.0)
 same_firsts last [] j d e l = absurd (omega arith)
 same_firsts last (b ∷ bs) zero d e l = (omega arith, refl)
 same_firsts last (b ∷ bs) (suc j) d e l = let found = same_firsts (max last (block_end b)) bs j d e (omega arith) in (omega (arith, found.0), found.1)
@@ -29,7 +30,8 @@ firsts_rise last blocks h i j d l m =
     omega (arith, later.1, (same_firsts last blocks i d e (omega arith)).1, h i j e l later.0)
 
 -- none ends before an earlier block
-above : (last : ℕ) (blocks : List Block) (j : ℕ) (d : SameRange) → j < length (ranges_from last blocks) → last ≤ (get_or (ranges_from last blocks) j d).last
+above : (last : ℕ) (blocks : List Block) (j : ℕ) (d : SameRange) → j < length (ranges_from last blocks)
+    → last ≤ (get_or (ranges_from last blocks) j d).last
 above last [] j d l = absurd (omega arith)
 above last (b ∷ bs) zero d l = omega arith
 above last (b ∷ bs) (suc j) d l = omega (arith, above (max last (block_end b)) bs j d (omega arith))
@@ -47,10 +49,13 @@ abbrev within : ℕ → ℕ → ℕ → Bool
 within first last a = nat_le first a && nat_le a last
 
 -- what an earlier block reaches is no new address
-no_new : (f g last end a : ℕ) (rest : Bool) → f ≤ g → (within f last a || (within g (max last end) a || rest)) ≡ (within f last a || (within g end a || rest))
+no_new : (f g last end a : ℕ) (rest : Bool) → f ≤ g → (within f last a || (within g (max last end) a || rest))
+    ≡ (within f last a || (within g end a || rest))
 no_new f g last end a rest l = grind (arith, nat_tests)
 
-carried : (b : Block) (last : ℕ) (bs : List Block) (a : ℕ) → Ordered (b ∷ bs) → (within b.base.0 last a || list_any (is_in_range a) (ranges_from last bs)) ≡ (within b.base.0 last a || list_any (is_in_block (record { 0 = a })) bs)
+carried : (b : Block) (last : ℕ) (bs : List Block) (a : ℕ) → Ordered (b ∷ bs)
+    → (within b.base.0 last a || list_any (is_in_range a) (ranges_from last bs))
+    ≡ (within b.base.0 last a || list_any (is_in_block (record { 0 = a })) bs)
 carried b last [] a h = refl
 carried b last (x ∷ xs) a h =
     let rest = carried x (max last (block_end x)) xs a (λ i j d l m. h (suc i) (suc j) d (omega arith) (omega arith)) in
@@ -85,7 +90,8 @@ none_begun a ranges h =
     let d : SameRange = record { first = 0; last = 0 } in
     list_any_none (is_in_range a) ranges (All-from_get_or (λ r. is_in_range a r ≡ false) ranges d (λ i l. not_below _ _ a (h.1 i d (omega arith) l)))
 
-pub last_decides : (a n : ℕ) (ranges : List SameRange) (d : SameRange) → Rise ranges → 0 < n → n ≤ length ranges → IsPoint a ranges n → nat_le a (get_or ranges (n - 1) d).last ≡ list_any (is_in_range a) ranges
+pub last_decides : (a n : ℕ) (ranges : List SameRange) (d : SameRange) → Rise ranges → 0 < n → n ≤ length ranges → IsPoint a ranges n
+    → nat_le a (get_or ranges (n - 1) d).last ≡ list_any (is_in_range a) ranges
 last_decides a n ranges d rise some few point = by_last (cases_lt (get_or ranges (n - 1) d).last a)
   where
     begun : (i : ℕ) → i < n → (get_or ranges i d).first ≤ a
@@ -97,9 +103,12 @@ last_decides a n ranges d rise some few point = by_last (cases_lt (get_or ranges
       | inr b ↦ not_below _ (get_or ranges i d).last a (point.1 i d b m)
     ]
 
-    by_last : ((get_or ranges (n - 1) d).last < a) ⊎ (a ≤ (get_or ranges (n - 1) d).last) → nat_le a (get_or ranges (n - 1) d).last ≡ list_any (is_in_range a) ranges
-    by_last (inl l) = (let test : nat_le a (get_or ranges (n - 1) d).last ≡ false = grind (arith, nat_tests) in test ∙ sym (list_any_none (is_in_range a) ranges (All-from_get_or (λ r. is_in_range a r ≡ false) ranges d (outside l))))
+    by_last : ((get_or ranges (n - 1) d).last < a) ⊎ (a ≤ (get_or ranges (n - 1) d).last)
+        → nat_le a (get_or ranges (n - 1) d).last ≡ list_any (is_in_range a) ranges
+    by_last (inl l) = (let test : nat_le a (get_or ranges (n - 1) d).last ≡ false = grind (arith, nat_tests) in test
+        ∙ sym (list_any_none (is_in_range a) ranges (All-from_get_or (λ r. is_in_range a r ≡ false) ranges d (outside l))))
     by_last (inr l) =
         let test : nat_le a (get_or ranges (n - 1) d).last ≡ true = le-leb _ _ l in
-        let both : is_in_range a (get_or ranges (n - 1) d) ≡ true = ap (λ b. b && nat_le a (get_or ranges (n - 1) d).last) (le-leb _ _ (begun (n - 1) (omega arith))) ∙ test in
+        let both : is_in_range a (get_or ranges (n - 1) d) ≡ true = ap (λ b. b && nat_le a (get_or ranges (n - 1) d).last)
+        (le-leb _ _ (begun (n - 1) (omega arith))) ∙ test in
         test ∙ sym (list_any_at (is_in_range a) ranges (n - 1) d (omega arith) both)

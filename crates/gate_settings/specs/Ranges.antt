@@ -14,7 +14,8 @@ is_in_range address range = nat_le range.first address && nat_le address range.l
 -- for each block its first address, and the last one of any block up to there or of earlier ones
 abbrev pub ranges_from : ℕ → List Block → List SameRange
 ranges_from last [] = []
-ranges_from last (block ∷ blocks) = record { first = block.base.0; last = max last (block_end block) } ∷ ranges_from (max last (block_end block)) blocks
+ranges_from last (block ∷ blocks) = record { first = block.base.0; last = max last (block_end block) }
+    ∷ ranges_from (max last (block_end block)) blocks
 
 -- first and last addresses are in order
 pub record Rise (ranges : List SameRange) : Type 0 where

@@ -5,4 +5,4 @@ mod same;
 mod settings;
 
 pub use same::SameRanges;
-pub use settings::{Block, Blocks, Fixed, OidRules, Settings, SideSettings, Statics};
+pub use settings::{Block, Blocks, Fixed, OidRules, ReportForm, Settings, SideSettings, Statics};

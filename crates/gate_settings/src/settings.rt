@@ -152,10 +152,17 @@ impl OidRules {
     }
 }
 
+/// How the lines of a report are written: as plain text, or each as an object of JSON.
+#[derive(Clone, Copy, Debug, PartialEq, Eq)]
+pub enum ReportForm {
+    Text,
+    Json,
+}
+
 /// What a gateway is set to.
 pub struct Settings {
-    /// Whether the report is JSON, and else plain text.
-    pub json: bool,
+    /// How the report is written.
+    pub report: ReportForm,
     /// Whether fragments are joined, and else refused.
     pub join: bool,
     /// The blocks whose addresses mean the same host in both realms.
@@ -174,7 +181,7 @@ pub struct Settings {
 impl Drop for Settings {
     fn drop(self) {
         let Self {
-            json,
+            report,
             join,
             same,
             left,

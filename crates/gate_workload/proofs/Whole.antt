@@ -30,7 +30,8 @@ tame_more (x ∷ entries) e h k = (h.0, tame_more entries e h.1 k)
 
 spelled_more : (entries : List Entry) (e : Entry) → all_spelled Little (entries ++ e ∷ []) ≡ all_spelled Little entries ++ spelled Little e
 spelled_more [] e = append-nil (spelled Little e)
-spelled_more (x ∷ entries) e = ap (λ (xs : List ℕ). spelled Little x ++ xs) (spelled_more entries e) ∙ sym (append_assoc (spelled Little x) (all_spelled Little entries) (spelled Little e))
+spelled_more (x ∷ entries) e = ap (λ (xs : List ℕ). spelled Little x ++ xs) (spelled_more entries e)
+    ∙ sym (append_assoc (spelled Little x) (all_spelled Little entries) (spelled Little e))
 
 length_more : (entries : List Entry) (e : Entry) → length (entries ++ e ∷ []) ≡ suc (length entries)
 length_more entries e = let both = length-append entries (e ∷ []) in omega (arith, both)
@@ -66,17 +67,20 @@ side_longer all most h = record { entries = h.entries; joined = h.joined; tame =
 entry_of : ℕ → List ℕ → Entry
 entry_of n datagram = record { seconds = 1000 + n / 1000; fraction = n % 1000 * 1000; original = length datagram; octets = datagram }
 
-side_more : (all datagram : List ℕ) (n most : ℕ) → n ≤ 1000000000 → length datagram ≤ 200 → IsSide all most → IsSide (all ++ record_of n datagram) (suc most)
+side_more : (all datagram : List ℕ) (n most : ℕ) → n ≤ 1000000000 → length datagram ≤ 200 → IsSide all most
+    → IsSide (all ++ record_of n datagram) (suc most)
 unfolding record_of
 side_more all datagram n most small short h =
     let e : Entry = record { seconds = 1000 + n / 1000; fraction = n % 1000 * 1000; original = length datagram; octets = datagram } in record {
       entries = h.entries ++ e ∷ [];
-      joined = ap (λ (xs : List ℕ). xs ++ spelled Little e) h.joined ∙ append_assoc capture_head (all_spelled Little h.entries) (spelled Little e) ∙ ap (λ (xs : List ℕ). capture_head ++ xs) (sym (spelled_more h.entries e));
+      joined = ap (λ (xs : List ℕ). xs ++ spelled Little e) h.joined ∙ append_assoc capture_head (all_spelled Little h.entries) (spelled Little e)
+          ∙ ap (λ (xs : List ℕ). capture_head ++ xs) (sym (spelled_more h.entries e));
       tame = tame_more h.entries e h.tame (record { seconds = omega arith; fraction = omega arith; original = refl; short = short });
       few = let few = h.few in let more = length_more h.entries e in omega (arith, few, more);
     }
 
-is_capture : (all : List ℕ) (most : ℕ) → 24 + most * 216 ≤ 2 ^ 40 → (h : IsSide all most) → IsCapture all capture_form (map (packet_from capture_form) h.entries) Whole
+is_capture : (all : List ℕ) (most : ℕ) → 24 + most * 216 ≤ 2 ^ 40 → (h : IsSide all most)
+    → IsCapture all capture_form (map (packet_from capture_form) h.entries) Whole
 is_capture all most fits h = record {
   between = 2 ∷ 0 ∷ 4 ∷ 0 ∷ 0 ∷ 0 ∷ 0 ∷ 0 ∷ 0 ∷ 0 ∷ 0 ∷ 0 ∷ 0 ∷ 0 ∷ 4 ∷ 0 ∷ [];
   entries = h.entries;
@@ -96,16 +100,23 @@ record AreSides (left right : List ℕ) (frames most : ℕ) : Type 0 where
   count : frames ≤ most
 
 sides_longer : (left right : List ℕ) (frames most : ℕ) → AreSides left right frames most → AreSides left right frames (suc most)
-sides_longer left right frames most h = record { of_left = side_longer left most h.of_left; of_right = side_longer right most h.of_right; count = let few = h.count in omega (arith, few) }
+sides_longer left right frames most h =
+    record {
+      of_left = side_longer left most h.of_left;
+      of_right = side_longer right most h.of_right;
+      count = let few = h.count in omega (arith, few);
+    }
 
-left_more : (left right datagram : List ℕ) (frames most : ℕ) → most ≤ 1000000000 → length datagram ≤ 200 → AreSides left right frames most → AreSides (left ++ record_of frames datagram) right (frames + 1) (suc most)
+left_more : (left right datagram : List ℕ) (frames most : ℕ) → most ≤ 1000000000 → length datagram ≤ 200 → AreSides left right frames most
+    → AreSides (left ++ record_of frames datagram) right (frames + 1) (suc most)
 left_more left right datagram frames most small short h = let count = h.count in record {
   of_left = side_more left datagram frames most (omega (arith, count, small)) short h.of_left;
   of_right = side_longer right most h.of_right;
   count = omega (arith, count);
 }
 
-right_more : (left right datagram : List ℕ) (frames most : ℕ) → most ≤ 1000000000 → length datagram ≤ 200 → AreSides left right frames most → AreSides left (right ++ record_of frames datagram) (frames + 1) (suc most)
+right_more : (left right datagram : List ℕ) (frames most : ℕ) → most ≤ 1000000000 → length datagram ≤ 200 → AreSides left right frames most
+    → AreSides left (right ++ record_of frames datagram) (frames + 1) (suc most)
 right_more left right datagram frames most small short h = let count = h.count in record {
   of_left = side_longer left most h.of_left;
   of_right = side_more right datagram frames most (omega (arith, count, small)) short h.of_right;
@@ -120,41 +131,53 @@ unfolding shaken
 shaken_sides number =
     left_more _ _ (tcp_datagram client_flow [] 1001 5001 16 []) 2 2 (omega arith) (omega (arith, tcp_long client_flow 1001 5001 16 []))
     (right_more _ _ (tcp_datagram server_flow segment_size 5000 1001 18 []) 1 1 (omega arith) (omega (arith, syn_long server_flow 5000 1001 18))
-    (left_more capture_head capture_head (tcp_datagram client_flow segment_size 1000 0 2 []) 0 0 (omega arith) (omega (arith, syn_long client_flow 1000 0 2)) (record { of_left = no_records; of_right = no_records; count = omega arith })))
+    (left_more capture_head capture_head (tcp_datagram client_flow segment_size 1000 0 2 []) 0 0 (omega arith)
+    (omega (arith, syn_long client_flow 1000 0 2)) (record { of_left = no_records; of_right = no_records; count = omega arith })))
 
 plain_sides : (k most : ℕ) (s : State) → k < 100000 → most ≤ 1000000 → Sides s most → Sides (plain_round k s) (suc (suc most))
 unfolding plain_round
 plain_sides k most s small few h =
     sides_longer _ _ _ (suc most)
-    (left_more s.left s.right (udp_datagram (plain_flow k) (decimal k)) s.frames most (omega (arith, few)) (omega (arith, udp_long (plain_flow k) (decimal k), length-decimal-le 20 k (omega arith) (omega arith) (omega (arith, small)))) h)
+    (left_more s.left s.right (udp_datagram (plain_flow k) (decimal k)) s.frames most (omega (arith, few))
+    (omega (arith, udp_long (plain_flow k) (decimal k), length-decimal-le 20 k (omega arith) (omega arith) (omega (arith, small)))) h)
 
 names_sides : (most : ℕ) (s : State) → most ≤ 1000000 → Sides s most → Sides (names_round s) (suc (suc most))
 unfolding names_round
 names_sides most s few h =
     sides_longer _ _ _ (suc most)
-    (right_more s.left s.right (udp_datagram names_flow (names (0x0a010001 + drawn (stepped s).random 200))) s.frames most (omega (arith, few)) (omega (arith, udp_long names_flow (names (0x0a010001 + drawn (stepped s).random 200)))) h)
+    (right_more s.left s.right (udp_datagram names_flow (names (0x0a010001 + drawn (stepped s).random 200))) s.frames most (omega (arith, few))
+    (omega (arith, udp_long names_flow (names (0x0a010001 + drawn (stepped s).random 200)))) h)
 
 trap_sides : (most : ℕ) (s : State) → most ≤ 1000000 → Sides s most → Sides (trap_round s) (suc (suc most))
 unfolding trap_round
 trap_sides most s few h =
-    sides_longer _ _ _ (suc most) (left_more s.left s.right (udp_datagram trap_flow trap) s.frames most (omega (arith, few)) (omega (arith, udp_long trap_flow trap)) h)
+    sides_longer _ _ _ (suc most)
+    (left_more s.left s.right (udp_datagram trap_flow trap) s.frames most (omega (arith, few)) (omega (arith, udp_long trap_flow trap)) h)
 
 line_sides : (most : ℕ) (s : State) → most ≤ 1000000 → Sides s most → Sides (line_round s) (suc (suc most))
 unfolding line_sent reply_sent
 line_sides most s few h =
     let number = drawn (stepped s).random 250 in
     let line = line_sent number (stepped s) in
-    right_more _ _ (tcp_datagram server_flow [] line.server line.image 24 reply) _ (suc most) (omega (arith, few)) (omega (arith, tcp_long server_flow line.server line.image 24 reply))
-    (left_more s.left s.right (tcp_datagram client_flow [] s.client s.server 24 (port_line number)) s.frames most (omega (arith, few)) (omega (arith, tcp_long client_flow s.client s.server 24 (port_line number), line_short number (omega arith))) h)
+    right_more _ _ (tcp_datagram server_flow [] line.server line.image 24 reply) _ (suc most) (omega (arith, few))
+    (omega (arith, tcp_long server_flow line.server line.image 24 reply))
+    (left_more s.left s.right (tcp_datagram client_flow [] s.client s.server 24 (port_line number)) s.frames most (omega (arith, few))
+    (omega (arith, tcp_long client_flow s.client s.server 24 (port_line number), line_short number (omega arith))) h)
 
 kind_sides : (kind k most : ℕ) (s : State) → k < 100000 → most ≤ 1000000 → Sides s most → Sides (round_of kind k s) (suc (suc most))
 kind_sides kind k most s small few h =
-    elim (kind == 0) as (λ b. Sides (cond b (plain_round k s) (cond (kind == 1) (names_round s) (cond (kind == 2) (line_round s) (trap_round s)))) (suc (suc most))) [
+    elim (kind == 0) as (λ b. Sides (cond b (plain_round k s) (cond (kind == 1) (names_round s) (cond (kind == 2) (line_round s) (trap_round s))))
+    (suc (suc most))) [
       | true ↦ plain_sides k most s small few h
       | false ↦
           elim (kind == 1) as (λ b. Sides (cond b (names_round s) (cond (kind == 2) (line_round s) (trap_round s))) (suc (suc most))) [
             | true ↦ names_sides most s few h
-            | false ↦ elim (kind == 2) as (λ b. Sides (cond b (line_round s) (trap_round s)) (suc (suc most))) [ true ↦ line_sides most s few h | false ↦ trap_sides most s few h ]
+            | false ↦ elim (kind == 2) as
+                (λ b. Sides (cond b (line_round s) (trap_round s)) (suc (suc most))) [
+                  | true ↦ line_sides most s few h
+                  | false ↦ trap_sides most s few
+                      h
+                ]
           ]
     ]
 
@@ -175,7 +198,8 @@ made_sides number count small = rounds_sides count (shaken (opening number)) sma
 
 side_whole : (all : List ℕ) (most : ℕ) → 24 + most * 216 ≤ 2 ^ 40 → IsSide all most → IsWhole all
 side_whole all most fits h =
-    let read = reads all capture_form (map (packet_from capture_form) h.entries) Whole (is_capture all most fits h) in (read.0, ap (λ (r : Records). r.ending) read.1)
+    let read = reads all capture_form (map (packet_from capture_form) h.entries) Whole (is_capture all most fits h) in
+    (read.0, ap (λ (r : Records). r.ending) read.1)
 
 pub left_whole : (number count : ℕ) → count ≤ 100000 → IsWhole (workload number count).left
 left_whole number count small = side_whole (made number count).left (3 + 2 * count) (omega (arith, small)) (made_sides number count small).of_left

@@ -5,7 +5,8 @@ use Rattle.gate_workload.specs.Captures.{capture_head, record_of}
 use Rattle.gate_workload.specs.Datagrams.{udp_datagram, tcp_datagram}
 use Rattle.gate_workload.specs.Payloads.{client_flow, server_flow, plain_flow, trap_flow, names_flow, segment_size, port_line, port_image, reply, names, trap}
 
--- what is known between two frames: the state of the draw, how many frames there are, the next sequence number of the client and of the server, the one that follows the image of the client's stream, and both captures
+-- what is known between two frames: the state of the draw, how many frames there are, the next sequence number of the client and of the server,
+-- the one that follows the image of the client's stream, and both captures
 pub record State : Type 0 where
   pub random : ℕ
   pub frames : ℕ

@@ -7,12 +7,13 @@ use Rattle.gate_base.specs.declared.side.Side.{Side}
 use Rattle.gate_base.specs.declared.side.Side.TheVariants.{Left, Right}
 use Rattle.gate_base.specs.declared.side.Link.TheVariants.{Raw}
 use Rattle.settings_file.specs.declared.fault.SettingsFault.{SettingsFault}
+use Rattle.gate_settings.specs.declared.settings.ReportForm.TheVariants.{Text}
 use Rattle.gate_settings.specs.declared.settings.Settings.{Settings}
 use Rattle.gate_settings.specs.declared.settings.SideSettings.{SideSettings}
-use Rattle.settings_file.specs.Document.{json, join, link, side, mac, address, block, blocks, side_keys, static_keys, static_entry, statics, side_table, all_keys, document_of, keys_of}
+use Rattle.settings_file.specs.Document.{report, join, link, side, mac, address, block, blocks, side_keys, static_keys, static_entry, statics, side_table, all_keys, document_of, keys_of}
 use Rattle.gate_settings.specs.Cross.{block_end, host_is_taken, alias_is_outside}
 use Rattle.settings_file.specs.Accepting.{pool_size, same_in_pool, host_in_pool, static_outside_pool, static_repeated, mac_missing, first_fault, settings_of}
-use Rattle.settings_file.specs.Texts.{json_text, join_text, link_text, side_text, address_text, block_text, hex_pair, mac_text}
+use Rattle.settings_file.specs.Texts.{report_text, join_text, link_text, side_text, address_text, block_text, hex_pair, mac_text}
 use Rattle.settings_file.specs.Keys.{name_of, key_text}
 use Rattle.gate_workload.specs.Captures.{capture_form}
 use Rattle.gate_workload.specs.Workloads.{settings, workload, IsWhole}
@@ -32,7 +33,7 @@ raw_side first last = record { first = record { 0 = first }; last = record { 0 =
 
 abbrev accepted_settings : Settings
 accepted_settings = record {
-  json = false;
+  report = Text;
   join = false;
   same = [];
   left = raw_side 0xc0a8c801 0xc0a8c8fe;
@@ -46,7 +47,7 @@ accepted_settings = record {
 }
 
 accepted : settings_of settings ≡ Ok accepted_settings
-unfolding toml_on_literals is_utf8 chars quad number_of json join link side mac address block blocks side_keys static_keys static_entry statics side_table all_keys document_of keys_of block_end host_is_taken alias_is_outside pool_size same_in_pool host_in_pool static_outside_pool static_repeated mac_missing first_fault settings_of json_text join_text link_text side_text address_text block_text hex_pair mac_text name_of key_text
+unfolding toml_on_literals is_utf8 chars quad number_of report join link side mac address block blocks side_keys static_keys static_entry statics side_table all_keys document_of keys_of block_end host_is_taken alias_is_outside pool_size same_in_pool host_in_pool static_outside_pool static_repeated mac_missing first_fault settings_of report_text join_text link_text side_text address_text block_text hex_pair mac_text name_of key_text
 accepted = refl
 
 pub never_refused : (f : SettingsFault) → settings_of settings ≡ Err f → ⊥

@@ -1,5 +1,6 @@
 -- A run over a workload in memory.
-use Rattle.std.proofs.Common.{◌≡◌, ℕ, List, [], ◌∷◌, ◌≤◌, Result, Ok, Err, MatchResult, refl, sym, ap, subst, ◌∙◌, arith}
+use Rattle.std.proofs.Common.{◌≡◌, ◌⊎◌, inl, inr, ℕ, List, [], ◌∷◌, ◌≤◌, Result, Ok, Err, MatchResult, refl, sym, ap, subst, ◌∙◌, arith}
+use Rattle.std.proofs.lemmas.Bool.{false≢true}
 use Rattle.gate_desk.specs.declared.slot.Slot.{Slot}
 use Rattle.gate_desk.specs.declared.slot.Slot.TheVariants.{Report}
 use Rattle.gate_desk.specs.declared.slot.PerSlot.{PerSlot}
@@ -8,13 +9,14 @@ use Rattle.gate_desk.specs.Outside.{Outside, Trace, FailsToStart, HasFailed, Has
 use Rattle.gate_desk.proofs.Laws.{at-each, grows_on, grows_fails_to_start, none_failed_on, failed_since}
 use Rattle.gate_desk.specs.Slots.{inputs}
 use Rattle.gate_report.specs.declared.line.Line.{Line}
+use Rattle.gate_settings.specs.declared.settings.ReportForm.TheVariants.{Text}
 use Rattle.gate_workload.specs.declared.workload.Workload.{Workload}
 use Rattle.gate_workload.specs.Workloads.{workload}
 use Rattle.run_setup.specs.declared.status.Status.{Status}
 use Rattle.run_setup.specs.declared.status.Status.TheVariants.{Done, SettingsRefused, CaptureRefused, ReadFault, WriteFault, OpenFault, OutOfMemory}
 use Rattle.run_setup.specs.Prelude.{StartsAll}
 use Rattle.run_setup.specs.RunNames.{Names, make_starts}
-use Rattle.gateway.specs.Prelude.{WritesPieces, wrote_pieces, WritesAll, IsFront, workload_in, IsLineOf, IsMake, Runs}
+use Rattle.gateway.specs.Prelude.{WritesReportLine, wrote_pieces, WritesAll, IsFront, workload_in, IsLineOf, IsMake, Runs}
 use Rattle.gateway.specs.Making.{made_piece}
 use Rattle.gateway.proofs.Accepted.{never_refused, never_faulty}
 
@@ -70,10 +72,14 @@ made line number count report a b c h is k = record {
   grows = grows_on a b c h.grows k.only.grows;
 }
 
--- or it wasn't
-pub not_written : (e : Status) (line : Line) (number count : ℕ) (report : List ℕ) (a b c : Outside) → StartsAll (make_starts report) a b → IsLineOf line number count → e ≡ WriteFault Report → WritesPieces (Err e) (made_piece line ∷ []) b c → IsMake e number count report a c
-not_written e line number count report a b c h is same k =
-    let failed = subst (λ (s : Status). WritesPieces (Err s) (made_piece line ∷ []) b c) same k in
+-- or it wasn't, for which memory is never the reason
+pub not_written : (e : Status) (line : Line) (number count : ℕ) (report : List ℕ) (a b c : Outside) → StartsAll (make_starts report) a b → IsLineOf line number count
+    → (e ≡ OutOfMemory) ⊎ (e ≡ WriteFault Report) → WritesReportLine (Err e) Text (made_piece line ∷ []) b c → IsMake e number count report a c
+not_written e line number count report a b c h is (inl same) k =
+    let wanted = subst (λ (s : Status). WritesReportLine (Err s) Text (made_piece line ∷ []) b c) same k in
+    absurd (false≢true wanted.0)
+not_written e line number count report a b c h is (inr same) k =
+    let failed = subst (λ (s : Status). WritesReportLine (Err s) Text (made_piece line ∷ []) b c) same k in
     subst (λ (s : Status). IsMake s number count report a c) (sym same) (record {
       made = (failed_since Report a b c h.grows failed.0.1, line, is, failed.1.only.starts ∙ h.starts, subst (λ (t : Trace). IsFront (made_piece line ∷ []) t c.written) h.written failed.1.front);
       left = failed.1.only.left ∙ h.left;

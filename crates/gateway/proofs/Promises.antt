@@ -49,14 +49,14 @@ counted_after (Stopped e v ∷ others) s = let more = counted_after others (afte
 -- what a frame gives after others
 given_after : (settings : GateSettings) (done : List Arrival) (a : Arrival) → given_by whole_rules settings (after whole_rules (opening settings) done) a ≡ promised_of settings done a
 given_after settings done (Reaches e) =
-    let gives : ℕ → World WholeSession → List Piece = λ n w. sent settings (other e.side) e.moment (out whole_rules w e) ++ event_piece settings.json (n + 1) e.side e.moment (verdict whole_rules w e) (length (out whole_rules w e)) ∷ [] in
+    let gives : ℕ → World WholeSession → List Piece = λ n w. sent settings (other e.side) e.moment (out whole_rules w e) ++ event_piece settings.report (n + 1) e.side e.moment (verdict whole_rules w e) (length (out whole_rules w e)) ∷ [] in
     let s = after whole_rules (opening settings) done in
     let counted : s.totals.events ≡ length done = omega (arith, counted_after done (opening settings)) in
     ap (λ (n : ℕ). gives n s.world) counted ∙ ap (gives (length done)) (world_after done (opening settings))
 given_after settings done (Stopped e v) =
     let s = after whole_rules (opening settings) done in
     let counted : s.totals.events ≡ length done = omega (arith, counted_after done (opening settings)) in
-    ap (λ (n : ℕ). event_piece settings.json (n + 1) e.side e.moment v 0 ∷ []) counted
+    ap (λ (n : ℕ). event_piece settings.report (n + 1) e.side e.moment v 0 ∷ []) counted
 
 each_stands : (settings : GateSettings) (all : Merged) → EachStands settings all
 unfolding given_by_merged

@@ -1,10 +1,11 @@
 -- What a run took of the captures.
-use Rattle.std.proofs.Common.{◌≡◌, inl, inr, List, [], ◌∷◌, Bool, Result, Ok, Err, Option, Some, None, IfSome, option_map, refl, sym, ap, subst, ◌∙◌}
+use Rattle.std.proofs.Common.{◌≡◌, inl, inr, List, [], ◌∷◌, Result, Ok, Err, Option, Some, None, IfSome, option_map, refl, sym, ap, subst, ◌∙◌}
 use Rattle.std.proofs.lemmas.Option.{IfSome_then}
 use Rattle.gate_base.specs.Prelude.{Event}
 use Rattle.frag_join.specs.Prelude.{Arrival}
 use Rattle.gate_desk.specs.Outside.{Outside, Trace, Start, told_at}
 use Rattle.gate_report.specs.declared.line.Line.{Line}
+use Rattle.gate_settings.specs.declared.settings.ReportForm.{ReportForm}
 use Rattle.gate_settings.specs.declared.settings.Settings.{Settings as GateSettings}
 use Rattle.pcap_merge.specs.declared.stop.MergeStop.{MergeStop}
 use Rattle.pcap_merge.specs.declared.stop.MergeStop.TheVariants as merges
@@ -59,33 +60,33 @@ took_stop stop settings m0 m old now new s joiner h k =
     }
 
 -- of the last line a front was written, or all of it
-line_front : (r : Result Line Status) (json : Bool) (line : Line) (mid new : Outside) → WritesLastLine r json line mid new → (new.left ≡ mid.left) × IsFront (line_piece json line ∷ []) mid.written new.written
-line_front (Ok done) json line mid new f = (f.1.only.left, is_front_all (line_piece json line ∷ []) mid.written new.written f.1.written)
-line_front (Err OutOfMemory) json line mid new f = (ap (λ (o : Outside). o.left) f.1, subst (λ (o : Outside). IsFront (line_piece json line ∷ []) mid.written o.written) (sym f.1) (is_front_none (line_piece json line ∷ []) mid.written))
-line_front (Err Done) json line mid new f = (f.1.only.left, f.1.front)
-line_front (Err Usage) json line mid new f = (f.1.only.left, f.1.front)
-line_front (Err (SettingsRefused x)) json line mid new f = (f.1.only.left, f.1.front)
-line_front (Err (CaptureRefused x y z)) json line mid new f = (f.1.only.left, f.1.front)
-line_front (Err (ReadFault x)) json line mid new f = (f.1.only.left, f.1.front)
-line_front (Err (WriteFault x)) json line mid new f = (f.1.only.left, f.1.front)
-line_front (Err (OpenFault x)) json line mid new f = (f.1.only.left, f.1.front)
-line_front (Err (Unlawful x y)) json line mid new f = (f.1.only.left, f.1.front)
+line_front : (r : Result Line Status) (form : ReportForm) (line : Line) (mid new : Outside) → WritesLastLine r form line mid new → (new.left ≡ mid.left) × IsFront (line_piece form line ∷ []) mid.written new.written
+line_front (Ok done) form line mid new f = (f.1.only.left, is_front_all (line_piece form line ∷ []) mid.written new.written f.1.written)
+line_front (Err OutOfMemory) form line mid new f = (ap (λ (o : Outside). o.left) f.1, subst (λ (o : Outside). IsFront (line_piece form line ∷ []) mid.written o.written) (sym f.1) (is_front_none (line_piece form line ∷ []) mid.written))
+line_front (Err Done) form line mid new f = (f.1.only.left, f.1.front)
+line_front (Err Usage) form line mid new f = (f.1.only.left, f.1.front)
+line_front (Err (SettingsRefused x)) form line mid new f = (f.1.only.left, f.1.front)
+line_front (Err (CaptureRefused x y z)) form line mid new f = (f.1.only.left, f.1.front)
+line_front (Err (ReadFault x)) form line mid new f = (f.1.only.left, f.1.front)
+line_front (Err (WriteFault x)) form line mid new f = (f.1.only.left, f.1.front)
+line_front (Err (OpenFault x)) form line mid new f = (f.1.only.left, f.1.front)
+line_front (Err (Unlawful x y)) form line mid new f = (f.1.only.left, f.1.front)
 
 -- all events were handled, and the last line was written or not
-pub took_end : (r : Result Line Status) (settings : GateSettings) (m0 m m' : Merging) (old now mid new : Outside) (s : State CompactSession) (joiner : Joiner) (line : Line) → Progress settings m0 old now m s joiner → FinishesMerge m m' now mid → WritesLastLine r settings.json line mid new → TookFew settings m0 old new
+pub took_end : (r : Result Line Status) (settings : GateSettings) (m0 m m' : Merging) (old now mid new : Outside) (s : State CompactSession) (joiner : Joiner) (line : Line) → Progress settings m0 old now m s joiner → FinishesMerge m m' now mid → WritesLastLine r settings.report line mid new → TookFew settings m0 old new
 took_end r settings m0 m m' old now mid new s joiner line h k f =
-    let front = line_front r settings.json line mid new f in
+    let front = line_front r settings.report line mid new f in
     record {
       handled = h.done;
       few = λ start given. taken_later start mid new h.done (λ side. ap (λ (t : Trace). told_at t (slot_of side)) front.0) (k.few start h.done (h.given start given));
-      stand = stands settings m0 m old now s joiner (line_piece settings.json line ∷ []) new h (subst (λ (t : Trace). IsFront (line_piece settings.json line ∷ []) t new.written) k.reads.written front.1);
+      stand = stands settings m0 m old now s joiner (line_piece settings.report line ∷ []) new h (subst (λ (t : Trace). IsFront (line_piece settings.report line ∷ []) t new.written) k.reads.written front.1);
       captures = captures_later old mid new front.0 (captures_read old now mid h.captures k.reads);
     }
 
 event_front : (e : Status) (gate gate' : Gateway) (totals : Totals) (event : Arrival) (mid new : Outside) → Handles (Err e) gate gate' totals event mid new → (behind : List Piece) × IsFront behind mid.written new.written
 event_front OutOfMemory gate gate' totals event mid new k = elim k as (λ x. (behind : List Piece) × IsFront behind mid.written new.written) [
   | inl wants ↦ ([], is_front_all [] mid.written new.written (ap (λ (o : Outside). o.written) wants.1 ∙ sym (wrote_pieces-nil mid.written)))
-  | inr json ↦ (frames_of compact_rules gate.settings (state_of gate totals) event, is_front_all (frames_of compact_rules gate.settings (state_of gate totals) event) mid.written new.written json.1.written)
+  | inr line ↦ (frames_of compact_rules gate.settings (state_of gate totals) event, is_front_all (frames_of compact_rules gate.settings (state_of gate totals) event) mid.written new.written line.1.written)
 ]
 event_front e gate gate' totals event mid new k = (_, k.1.front)
 

@@ -45,11 +45,11 @@ alike_after settings arrivals = alike_all arrivals (opening settings) (opening s
 
 pub same_given : (settings : GateSettings) (v : State CompactSession) (w : State WholeSession) (a : Arrival) → AreAlike v w → given_by compact_rules settings v a ≡ given_by whole_rules settings w a
 same_given settings v w (Reaches e) h =
-    let gives : Totals → Verdict → List (List ℕ) → List Piece = λ t x xs. sent settings (other e.side) e.moment xs ++ event_piece settings.json (t.events + 1) e.side e.moment x (length xs) ∷ [] in
+    let gives : Totals → Verdict → List (List ℕ) → List Piece = λ t x xs. sent settings (other e.side) e.moment xs ++ event_piece settings.report (t.events + 1) e.side e.moment x (length xs) ∷ [] in
     ap (λ (t : Totals). gives t (verdict compact_rules v.world e) (out compact_rules v.world e)) h.totals
     ∙ ap (λ (x : Verdict). gives w.totals x (out compact_rules v.world e)) (same_verdict v w e h)
     ∙ ap (gives w.totals (verdict whole_rules w.world e)) (same_out v w e h)
-same_given settings v w (Stopped e verdict) h = ap (λ (t : Totals). event_piece settings.json (t.events + 1) e.side e.moment verdict 0 ∷ []) h.totals
+same_given settings v w (Stopped e verdict) h = ap (λ (t : Totals). event_piece settings.report (t.events + 1) e.side e.moment verdict 0 ∷ []) h.totals
 
 pub same_frames : (settings : GateSettings) (v : State CompactSession) (w : State WholeSession) (a : Arrival) → AreAlike v w → frames_of compact_rules settings v a ≡ frames_of whole_rules settings w a
 same_frames settings v w (Reaches e) h = ap (sent settings (other e.side) e.moment) (same_out v w e h)
@@ -59,5 +59,5 @@ pub same_line : (v : State CompactSession) (w : State WholeSession) → AreAlike
 same_line v w h = ap (λ (t : Totals). done_line t v.world.pending) h.totals ∙ ap (done_line w.totals) (pending_related w.world v.world h.related)
 
 pub same_end : (settings : GateSettings) (v : State CompactSession) (w : State WholeSession) (ending : Ending) → AreAlike v w → ended_by settings v ending ≡ ended_by settings w ending
-same_end settings v w Done h = ap (λ (l : Line). line_piece settings.json l ∷ []) (same_line v w h)
+same_end settings v w Done h = ap (λ (l : Line). line_piece settings.report l ∷ []) (same_line v w h)
 same_end settings v w (Fault side fault place) h = refl

@@ -4,6 +4,7 @@ use Rattle.gate_base.specs.Prelude.{Event}
 use Rattle.gate_desk.specs.declared.slot.Slot.TheVariants.{LeftIn, RightIn}
 use Rattle.gate_desk.specs.declared.slot.PerSlot.{PerSlot}
 use Rattle.gate_desk.specs.Outside.{Outside, Trace, Grows, NoneFailed, IsAtEnd}
+use Rattle.gate_report.specs.Lines.{takes_memory}
 use Rattle.gate_settings.specs.declared.settings.Settings.{Settings as GateSettings}
 use Rattle.settings_file.specs.Accepting.{settings_of}
 use Rattle.pcap_merge.specs.Prelude.{Merged, Ending, Done as BothEnded, Fault as EndsFaulty, have_good_heads}
@@ -79,6 +80,6 @@ pub record WantsLine (settings : GateSettings) (all : Merged) (old new : Trace) 
   pub split : all.events ≡ handled ++ others
   pub written : WroteFrames settings all.ending handled others (wrote_pieces (given_by_all whole_rules settings (opening settings) (arrivals_by settings handled)) old) new
 
--- memory was wanting behind the heads: for an event on which the gate may want it, or for a line in JSON
+-- memory was wanting behind the heads: for an event on which the gate may want it, or for a line in a form that takes some
 abbrev pub Wants : GateSettings → Merged → Trace → Trace → Type 0
-Wants settings all old new = WantsAt settings all.events old new ⊎ ((settings.json ≡ true) × WantsLine settings all old new)
+Wants settings all old new = WantsAt settings all.events old new ⊎ ((takes_memory settings.report ≡ true) × WantsLine settings all old new)

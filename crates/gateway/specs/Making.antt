@@ -1,9 +1,10 @@
 -- What a make answers: a run over the workload of two numbers, whose outputs are thrown away, but for the last line.
-use Rattle.std.specs.Prelude.{◌≡◌, ℕ, List, [], ◌∷◌, false}
+use Rattle.std.specs.Prelude.{◌≡◌, ℕ, List, [], ◌∷◌}
 use Rattle.gate_desk.specs.declared.slot.PerSlot.{PerSlot}
 use Rattle.gate_desk.specs.declared.slot.Slot.TheVariants.{Report}
 use Rattle.gate_desk.specs.Slots.{inputs}
 use Rattle.gate_desk.specs.Outside.{Outside, Grows, NoneFailed, HasFailed, HasFailedToStart}
+use Rattle.gate_settings.specs.declared.settings.ReportForm.TheVariants.{Text}
 use Rattle.gate_settings.specs.declared.settings.Settings.{Settings as GateSettings}
 use Rattle.gate_report.specs.declared.line.Line.{Line}
 use Rattle.gate_workload.specs.Workloads.{workload}
@@ -19,9 +20,9 @@ use Rattle.gateway.specs.Machine.{line_piece, line_of}
 abbrev pub workload_in : ℕ → ℕ → PerSlot (List ℕ)
 workload_in number count = inputs (workload number count).settings (workload number count).left (workload number count).right
 
--- the last line of the report, as text: the settings of a workload ask for no JSON
+-- the last line of the report, as text: the settings of a workload ask for no other form
 abbrev pub made_piece : Line → Piece
-made_piece line = line_piece false line
+made_piece line = line_piece Text line
 
 -- the line is the last one of the run over the workload
 pub record IsLineOf (line : Line) (number count : ℕ) : Type 0 where

@@ -16,8 +16,8 @@ abbrev pub promised_of : Settings → List Arrival → Arrival → List Piece
 promised_of settings done (Reaches e) =
     let known = known_after settings (coming done) in
     sent settings (other e.side) e.moment (out whole_rules known e)
-    ++ event_piece settings.json (length done + 1) e.side e.moment (verdict whole_rules known e) (length (out whole_rules known e)) ∷ []
-promised_of settings done (Stopped e verdict) = event_piece settings.json (length done + 1) e.side e.moment verdict 0 ∷ []
+    ++ event_piece settings.report (length done + 1) e.side e.moment (verdict whole_rules known e) (length (out whole_rules known e)) ∷ []
+promised_of settings done (Stopped e verdict) = event_piece settings.report (length done + 1) e.side e.moment verdict 0 ∷ []
 
 -- this stands together, behind what the frames before it give
 pub record StandsBehind (settings : Settings) (all : Merged) (done : List Arrival) (a : Arrival) : Type 0 where

@@ -9,13 +9,12 @@ ghost use Rattle.gateway.specs.Machine.{out_slot, frame_piece, sent};
 ghost use Rattle.gateway.specs.Causes.{WritesPieces};
 ghost use Rattle.gateway.specs.Phases.{CanCount, Handles, counting};
 
-use crate::report::{Reporter, put_line};
+use crate::report::Reporter;
 use ether_frames::put_head;
 use frag_join::{Joiner, Taken, ask, joined};
 use gate_base::{Event, Link, Moment, Side, Verdict};
-use gate_core::{Gate, Outbox};
+use gate_core::{Datagrams, Gate};
 use gate_desk::{Desk, Slot};
-use gate_report::Line;
 use gate_settings::{Settings, SideSettings};
 use pcap_files::write_packet;
 use run_setup::Status;
@@ -96,7 +95,7 @@ fn send_all<D: Desk>(
     settings: &Settings,
     side: Side,
     moment: Moment,
-    outbox: &Outbox,
+    outbox: &Datagrams,
 ) -> Result<(), Status>
     requires left { CanWrite (D.outside desk.old) LeftOut }
     requires right { CanWrite (D.outside desk.old) RightOut }
@@ -115,7 +114,7 @@ fn send_all<D: Desk>(
 fn handle<D: Desk>(
     desk: &mut D,
     gate: &mut Gate,
-    outbox: &mut Outbox,
+    outbox: &mut Datagrams,
     reporter: &mut Reporter,
     event: Event<'_>,
 ) -> Result<(), Status>
@@ -133,22 +132,7 @@ fn handle<D: Desk>(
     let frames = outbox.len() as u32;
     let settings = gate.settings();
     send_all(desk, settings, event.side.other(), event.moment, outbox)?;
-    let line = Line::Event {
-        number: reporter.totals.events + 1,
-        side: event.side,
-        moment: event.moment,
-        verdict,
-        frames,
-    };
-    put_line(
-        reporter.alloc,
-        desk,
-        &mut reporter.room,
-        settings.json,
-        &line,
-    )?;
-    reporter.totals = reporter.totals.count(event.side, verdict, frames);
-    Ok(())
+    reporter.report(desk, settings.report, &event, verdict, frames)
 }
 
 /// Takes a frame that doesn't come to the gate: its line is written, and it is counted.
@@ -167,22 +151,7 @@ fn leave<D: Desk>(
         reporter.old.totals (Stopped (event_of event.entry) verdict)
         (D.outside desk.old) (D.outside desk.new) }
 {
-    let line = Line::Event {
-        number: reporter.totals.events + 1,
-        side: event.side,
-        moment: event.moment,
-        verdict,
-        frames: 0,
-    };
-    put_line(
-        reporter.alloc,
-        desk,
-        &mut reporter.room,
-        gate.settings().json,
-        &line,
-    )?;
-    reporter.totals = reporter.totals.count(event.side, verdict, 0);
-    Ok(())
+    reporter.report(desk, gate.settings().report, &event, verdict, 0)
 }
 
 /// Takes the datagram that the last frame completed, as an event that comes to the gate.
@@ -191,7 +160,7 @@ fn handle_joined<D: Desk>(
     desk: &mut D,
     joiner: &Option<Joiner>,
     gate: &mut Gate,
-    outbox: &mut Outbox,
+    outbox: &mut Datagrams,
     reporter: &mut Reporter,
 ) -> Result<(), Status>
     requires left { CanWrite (D.outside desk.old) LeftOut }
@@ -213,7 +182,7 @@ pub fn take<D: Desk>(
     desk: &mut D,
     joiner: &mut Option<Joiner>,
     gate: &mut Gate,
-    outbox: &mut Outbox,
+    outbox: &mut Datagrams,
     reporter: &mut Reporter,
     event: Event<'_>,
 ) -> Result<(), Status>

@@ -2,10 +2,11 @@
 ghost use Rattle.std.specs.Prelude.{◌≡◌, ◌≤◌, MatchResult};
 ghost use Rattle.gateway.specs.Making.{IsMake, IsLineOf};
 
-use crate::report::put_text;
+use crate::report::put_line;
 use crate::running::run;
 use gate_desk::{Access, Desk, DiscardingDesk, Slot};
-use gate_report::{LINE, Line};
+use gate_report::{Line, LineRoom};
+use gate_settings::ReportForm;
 use gate_workload::Workload;
 use run_setup::{FileNames, Status};
 use std::alloc::Global;
@@ -56,7 +57,7 @@ pub fn make<D: Desk>(alloc: Global, desk: &mut D, number: u32, count: u32, repor
         Ok(line) => line,
         Err(status) => return status,
     };
-    match put_text(desk, &mut [0; LINE], &line) {
+    match put_line(desk, &mut LineRoom::new(alloc), ReportForm::Text, &line) {
         Ok(()) => Status::Done,
         Err(status) => status,
     }

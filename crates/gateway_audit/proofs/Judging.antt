@@ -1,7 +1,6 @@
 -- A whole audit, by its parts.
-use Rattle.std.proofs.Common.{◌≡◌, ◌+◌, ◌++◌, ℕ, List, [], true, Option, Some, None, Result, Ok, Err, IfSome, OnOk, option_map, take, length, inl, inr, refl, sym, ap, subst, ◌∙◌, ◌⊎◌}
+use Rattle.std.proofs.Common.{◌≡◌, ◌+◌, ℕ, List, [], true, Option, Some, None, Result, Ok, Err, IfSome, OnOk, option_map, take, length, inl, inr, refl, sym, ap, subst, ◌∙◌, ◌⊎◌}
 use Rattle.std.proofs.lemmas.Option.{IfSome_then}
-use Rattle.gate_base.specs.Prelude.{Event}
 use Rattle.gate_base.specs.declared.side.Side.{Side}
 use Rattle.gate_base.specs.declared.side.Side.TheVariants.{Left, Right}
 use Rattle.gate_desk.specs.declared.slot.Slot.{Slot}
@@ -196,7 +195,7 @@ walks_of (Err stops.OutOfMemory) settings m r old new finds leaves left right = 
 wanted : (settings : GateSettings) (m : Merging) (r : GivenFiles) (names : Names) (a b c d : Outside) → Prepared settings m names a b → Readied (Some r) settings names b c → Walks (Err OutOfMemory) settings m r c d
     → TakenFor [] a d ⊎ IfSome a.left (λ all. (s : GateSettings) × IsAccepted s all × MayHaveWanted s all)
 wanted settings m r names a b c d h k (inl same) = inl (taken_later a b d [] (λ side. ap (λ (t : Trace). told_at t (slot_of side)) same ∙ incoming_left k.left_count k.right_count k.report_count b c k.left side) (given_few a m b [] h.given))
-wanted settings m r names a b c d h k (inr (inl json)) = inr (IfSome_then a.left h.accepted (λ all is. (settings, is, inl json)))
+wanted settings m r names a b c d h k (inr (inl takes)) = inr (IfSome_then a.left h.accepted (λ all is. (settings, is, inl takes)))
 wanted settings m r names a b c d h k (inr (inr both)) =
     inr (of_files settings m r names a b c (WantsAt settings) (λ all. (s : GateSettings) × IsAccepted s all × MayHaveWanted s all) h k both (λ all is links q. (settings, is.0, inr q)))
 

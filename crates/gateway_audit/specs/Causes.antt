@@ -1,5 +1,6 @@
 -- The cause of each status of an audit, by what the desk tells of its files as it begins.
 use Rattle.std.specs.Prelude.{◌≡◌, ◌⊎◌, ℕ, List, [], true, IfSome, IsTrue, Err, length}
+use Rattle.gate_report.specs.Lines.{takes_memory}
 use Rattle.frag_join.specs.Prelude.{arrivals_of}
 use Rattle.gate_desk.specs.declared.slot.Slot.{Slot}
 use Rattle.gate_desk.specs.declared.slot.Slot.TheVariants.{Settings, LeftIn, RightIn, LeftGiven, RightGiven, ReportGiven, Report}
@@ -31,9 +32,9 @@ abbrev pub IsVerdict : AuditVerdict → PerSlot (List ℕ) → Type 0
 IsVerdict (verdicts.Lawful events) all = (settings : GateSettings) × IsAccepted settings all × ((events_in all).ending ≡ BothEnded) × AreLawful settings all × (events ≡ length (events_in all).events)
 IsVerdict (verdicts.Unlawful number reason) all = (settings : GateSettings) × IsAccepted settings all × (have_good_heads all.left_in all.right_in ≡ true) × IsFirstReason settings all number reason
 
--- memory may have been wanting for a line in JSON; or it was for an event, behind others at which the given files are lawful
+-- memory may have been wanting for a line in a form that takes some; or it was for an event, behind others at which the given files are lawful
 abbrev pub MayHaveWanted : GateSettings → PerSlot (List ℕ) → Type 0
-MayHaveWanted settings all = (settings.json ≡ true) ⊎ WantsAt settings (events_in all) (given_of all.left_given all.right_given all.report_given)
+MayHaveWanted settings all = (takes_memory settings.report ≡ true) ⊎ WantsAt settings (events_in all) (given_of all.left_given all.right_given all.report_given)
 
 -- the slots that an audit reads
 abbrev pub IsRead : Slot → Type 0

@@ -1,16 +1,10 @@
 //! The audit as a command: given captures and their report are lawful for two incoming captures, or this is the first reason why not.
 #![tactic(auto)]
 
-mod answer;
-mod audit_all;
-mod call;
-mod judge;
+mod auditing;
+mod files;
 mod laws;
-mod open;
-mod prepare;
-mod ready;
-mod stops;
 mod verdict;
 
-pub use call::audit;
+pub use auditing::audit;
 pub use laws::files_decide;

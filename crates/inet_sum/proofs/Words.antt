@@ -137,7 +137,8 @@ part_more s n part rest even folds =
     ap fold_of left ∙ fold_same before (256 * n) (total part) folds ∙ ap fold_of right
 
 -- a right sum, of which a part is replaced
-pub fold_moved : (a b f t : ℕ) → a ≤ 262140 → f ≤ 65535 → 0 < t → fold_of (a + (f + t)) ≡ 65535 → fold_of ((b + (327675 - a)) + (65535 - f)) ≡ fold_of (b + t)
+pub fold_moved : (a b f t : ℕ) → a ≤ 262140 → f ≤ 65535 → 0 < t → fold_of (a + (f + t)) ≡ 65535 → fold_of ((b + (327675 - a)) + (65535 - f))
+    ≡ fold_of (b + t)
 unfolding fold_of
 fold_moved a b f t = grind (arith, nat_tests)
 
@@ -152,13 +153,16 @@ first_word (x ∷ []) two = absurd (omega arith)
 first_word (x ∷ y ∷ rest) two = total_pair x y rest ∙ omega arith
 
 -- the word at an even place, and the total of the rest
-pub total_at : (place : ℕ) (octets : List ℕ) → place % 2 ≡ 0 → place + 2 ≤ length octets → total octets ≡ total (take place octets) + (u16_at place octets + total (drop (place + 2) octets))
+pub total_at : (place : ℕ) (octets : List ℕ) → place % 2 ≡ 0 → place + 2 ≤ length octets
+    → total octets ≡ total (take place octets) + (u16_at place octets + total (drop (place + 2) octets))
 total_at place octets even within =
     let long : 2 ≤ length (drop place octets) = omega (arith, length-drop place octets) in
     total_cut place octets even (omega arith)
-    ∙ ap (λ n. total (take place octets) + n) (first_word (drop place octets) long ∙ ap (λ back. u16_at place octets + total back) (drop-drop 2 place octets))
+    ∙ ap (λ n. total (take place octets) + n)
+    (first_word (drop place octets) long ∙ ap (λ back. u16_at place octets + total back) (drop-drop 2 place octets))
 
-pub total_with : (place value : ℕ) (octets : List ℕ) → value < 2 ^ 16 → place % 2 ≡ 0 → place + 2 ≤ length octets → total (with_u16 place value octets) ≡ total (take place octets) + (value + total (drop (place + 2) octets))
+pub total_with : (place value : ℕ) (octets : List ℕ) → value < 2 ^ 16 → place % 2 ≡ 0 → place + 2 ≤ length octets
+    → total (with_u16 place value octets) ≡ total (take place octets) + (value + total (drop (place + 2) octets))
 total_with place value octets small even within =
     let front : length (take place octets) % 2 ≡ 0 = rw (length-take-le place octets (omega arith)) even in
     ap total (append_assoc (take place octets) (big_bytes 2 value) (drop (place + 2) octets))
@@ -166,7 +170,8 @@ total_with place value octets small even within =
     ∙ ap (λ n. total (take place octets) + n) (total_pair (value / 256 % 256) (value % 256) (drop (place + 2) octets) ∙ omega arith)
 
 -- a checksum in its field makes the list right
-pub right_again : (place : ℕ) (octets : List ℕ) → place % 2 ≡ 0 → place + 2 ≤ length octets → u16_at place octets ≡ 0 → IsRight (with_u16 place (checksum octets) octets)
+pub right_again : (place : ℕ) (octets : List ℕ) → place % 2 ≡ 0 → place + 2 ≤ length octets → u16_at place octets ≡ 0
+    → IsRight (with_u16 place (checksum octets) octets)
 right_again place octets even within empty =
     let new : total (with_u16 place (checksum octets) octets) ≡ total octets + checksum octets =
     omega (arith, total_with place (checksum octets) octets (omega arith) even within, total_at place octets even within)
@@ -182,9 +187,17 @@ low_word n = omega arith
 -- an address, and what follows
 total_address : (n : ℕ) (rest : List ℕ) → n < 2 ^ 32 → total (big_bytes 4 n ++ rest) ≡ (n / 65536 + n % 65536) + total rest
 total_address n rest small =
-    omega (arith, high_word n small, low_word n, total_pair (n / 16777216 % 256) (n / 65536 % 256) ((n / 256 % 256) ∷ (n % 256) ∷ rest), total_pair (n / 256 % 256) (n % 256) rest)
+    omega (
+      arith,
+      high_word n small,
+      low_word n,
+      total_pair (n / 16777216 % 256) (n / 65536 % 256) ((n / 256 % 256) ∷ (n % 256) ∷ rest),
+      total_pair (n / 256 % 256) (n % 256) rest,
+    )
 
-pub total_pseudo : (source destination protocol count : ℕ) (octets : List ℕ) → source < 2 ^ 32 → destination < 2 ^ 32 → count < 2 ^ 16 → total (pseudo_header source destination protocol count ++ octets) ≡ ((((source / 65536 + source % 65536) + (destination / 65536 + destination % 65536)) + protocol) + count) + total octets
+pub total_pseudo : (source destination protocol count : ℕ) (octets : List ℕ) → source < 2 ^ 32 → destination < 2 ^ 32 → count < 2 ^ 16
+    → total (pseudo_header source destination protocol count ++ octets)
+    ≡ ((((source / 65536 + source % 65536) + (destination / 65536 + destination % 65536)) + protocol) + count) + total octets
 total_pseudo source destination protocol count octets s d n =
     let last = big_bytes 2 count ++ octets in
     let from_protocol = 0 ∷ protocol ∷ last in
@@ -199,4 +212,10 @@ total_pseudo source destination protocol count octets s d n =
 
 pub length-with_u16 : (place value : ℕ) (octets : List ℕ) → place + 2 ≤ length octets → length (with_u16 place value octets) ≡ length octets
 length-with_u16 place value octets within =
-    omega (arith, length-append (take place octets) (value / 256 % 256 ∷ value % 256 ∷ []), length-append (take place octets ++ (value / 256 % 256 ∷ value % 256 ∷ [])) (drop (place + 2) octets), length-take-le place octets (omega arith), length-drop (place + 2) octets)
+    omega (
+      arith,
+      length-append (take place octets) (value / 256 % 256 ∷ value % 256 ∷ []),
+      length-append (take place octets ++ (value / 256 % 256 ∷ value % 256 ∷ [])) (drop (place + 2) octets),
+      length-take-le place octets (omega arith),
+      length-drop (place + 2) octets,
+    )

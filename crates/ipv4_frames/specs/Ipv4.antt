@@ -41,7 +41,8 @@ is_not_ipv4 octets = length octets == 0 || not (slice_index octets 0 / 16 == 4)
 -- fewer than 20 octets, a header of fewer than 20, a total length below the header's or above the octets present
 abbrev pub has_bad_header : List ℕ → Bool
 has_bad_header octets =
-    ((nat_lt (length octets) 20 || nat_lt (header_length_of octets) 20) || nat_lt (total_length_of octets) (header_length_of octets)) || nat_lt (length octets) (total_length_of octets)
+    ((nat_lt (length octets) 20 || nat_lt (header_length_of octets) 20) || nat_lt (total_length_of octets) (header_length_of octets))
+    || nat_lt (length octets) (total_length_of octets)
 
 -- the header's words don't sum to FFFF
 abbrev pub has_bad_header_sum : List ℕ → Bool
@@ -70,11 +71,13 @@ read_datagram octets = first_fault_or
 
 -- a header with this total length, lifetime, source and destination, and a checksum field of 0
 unfoldable pub head_with : List ℕ → ℕ → ℕ → ℕ → ℕ → List ℕ
-head_with model total lifetime source destination = with_u32 16 destination (with_u32 12 source (with_u16 10 0 (slice_set (with_u16 2 total model) 8 lifetime)))
+head_with model total lifetime source destination = with_u32 16 destination
+    (with_u32 12 source (with_u16 10 0 (slice_set (with_u16 2 total model) 8 lifetime)))
 
 -- the same with its right checksum
 abbrev pub spelled_head : List ℕ → ℕ → ℕ → ℕ → ℕ → List ℕ
-spelled_head model total lifetime source destination = let head = head_with model total lifetime source destination in with_u16 10 (checksum head) head
+spelled_head model total lifetime source destination = let head = head_with model total lifetime source destination in
+    with_u16 10 (checksum head) head
 
 -- version 4, a header of 20 octets, no fragment
 abbrev pub IsPlainHead : List ℕ → Type 0

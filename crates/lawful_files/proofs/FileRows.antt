@@ -1,6 +1,7 @@
 -- Worked cases, computed: whole files, and the first reason against them.
 use Rattle.std.proofs.Common.{◌≡◌, ℕ, true, List, [], ◌∷◌, ◌++◌, Option, Some, None, refl, map, codes, take}
 use Rattle.gate_base.specs.declared.side.Side.TheVariants.{Left, Right}
+use Rattle.gate_settings.specs.declared.settings.ReportForm.TheVariants.{Json}
 use Rattle.gate_settings.specs.declared.settings.Settings.{Settings}
 use Rattle.ether_frames.specs.Ether.{read_frame}
 use Rattle.inet_sum.specs.Sum.{words, fold_of}
@@ -117,7 +118,7 @@ one_holds = refl
 
 -- the report as JSON, where the settings ask for it
 abbrev json_settings : Settings
-json_settings = record row_settings { json = true }
+json_settings = record row_settings { report = Json }
 
 abbrev json_rows : List Row
 json_rows =

@@ -1,5 +1,5 @@
 -- The function finds the first reason, and none exactly where the files are lawful.
-use Rattle.std.proofs.Common.{◌≡◌, ◌≤◌, ◌<◌, ◌+◌, ◌^◌, ℕ, Bool, true, false, cond, List, [], ◌∷◌, ◌++◌, length, take, drop, Option, Some, None, refl, sym, ◌∙◌, ap, subst, arith, inl, inr, map, not, ◌&&◌, ◌==◌, nat_lt, if◌then◌else◌, codes, decimal, bytes_eq}
+use Rattle.std.proofs.Common.{◌≡◌, ◌≤◌, ◌<◌, ◌+◌, ◌^◌, ℕ, Bool, true, false, cond, List, [], ◌∷◌, ◌++◌, length, take, drop, Option, Some, None, refl, sym, ◌∙◌, ap, subst, arith, inl, inr, map, not, ◌&&◌, ◌==◌, nat_lt, if◌then◌else◌, decimal, bytes_eq}
 use Rattle.std.specs.Char.{digit_value}
 use Rattle.std.specs.Str.Parse.{AllDigits, digits_value}
 use Rattle.std.proofs.lemmas.Bool.{and_parts, and_from, eqb-true, true≢false, false≢true, lt-ltb, le-ltb, ltb-true, ltb-false}
@@ -7,9 +7,8 @@ use Rattle.std.proofs.lemmas.Fmt.{decimal_is_IsNumeral}
 use Rattle.std.proofs.lemmas.List.{take_at, drop_at, take-append-drop, length-take-le, length-map, nil_from_length}
 use Rattle.std.proofs.lemmas.Slice.Eq.{bytes_eq-Decides}
 use Rattle.frag_join.specs.Prelude.{Arrival, Reaches, Stopped}
-use Rattle.gate_base.specs.Prelude.{verdict_name, name_of, other}
-use Rattle.gate_base.specs.declared.event.Verdict.{Verdict}
-use Rattle.gate_report.specs.Lines.{event_text, event_json}
+use Rattle.gate_base.specs.Prelude.{other}
+use Rattle.gate_report.proofs.LineEnds.{cut}
 use Rattle.gate_base.specs.declared.side.Link.{Link}
 use Rattle.gate_base.specs.declared.side.Link.TheVariants.{Ethernet, Raw}
 use Rattle.gate_base.specs.declared.side.Side.{Side}
@@ -25,7 +24,7 @@ use Rattle.lawful_files.specs.Judging.{AllOctets, digits_in, before_number, fram
 use Rattle.lawful_files.specs.Wanted.{event_in, verdict_of, wanted_of}
 use Rattle.lawful_files.specs.Progress.{IsSound, AreLawful, behind_all, is_closed}
 use Rattle.lawful_files.specs.Reasons.{GoesOn, HasNoLine, there_for, IsFirst, FirstReason}
-use Rattle.lawful_files.proofs.LineEnds.{line_same, behind_number, text_is, json_is}
+use Rattle.lawful_files.proofs.LineEnds.{line_same}
 use Rattle.lawful_files.proofs.Progressed.{is_whole as closed_is_lawful, whole_is_closed}
 use Rattle.lawful_files.proofs.SoundWanted.{wanted_sound}
 use Rattle.lawful_files.proofs.ReasonsApart.{no_reason, one_reason}
@@ -38,31 +37,13 @@ digits_stop (x ∷ xs) mark r h none =
     let digit : nat_lt (digit_value x) 10 ≡ true = lt-ltb (digit_value x) 10 h.0 in
     ap (λ (b : Bool). cond b (x ∷ digits_in (xs ++ mark ∷ r)) []) digit ∙ ap (λ (ys : List ℕ). x ∷ ys) (digits_stop xs mark r h.1 none)
 
--- a line, cut in front of its number and behind it
-record IsCutLine (settings : Settings) (k : State) (f : Arrival) (n : ℕ) (r : List ℕ) : Type 0 where
-  mark : ℕ
-  none : 10 ≤ digit_value mark
-  behind : List ℕ
-  joined : line_of settings k f n ++ r ≡ before_number settings k f ++ (decimal n ++ mark ∷ behind)
-
-cut_by : (json : Bool) (number : ℕ) (side : Side) (moment : ℕ) (v : Verdict) (n : ℕ) (r : List ℕ)
-    → (mark : ℕ) × (10 ≤ digit_value mark) × (behind : List ℕ) × (cond json (event_json number side moment v n) (event_text number side moment v n) ++ r
-    ≡ cond json (codes "{\"event\":" ++ decimal number ++ codes ",\"frames\":") (decimal number ++ codes " " ++ name_of side ++ codes " " ++ decimal moment ++ codes " " ++ verdict_name v ++ codes " ") ++ (decimal n ++ mark ∷ behind))
-cut_by true number side moment v n r = (44, omega arith, behind_number side moment v r, json_is number side moment v n r)
-cut_by false number side moment v n r = (10, omega arith, r, text_is number side moment v n r)
-
-cut_line : (settings : Settings) (k : State) (f : Arrival) (n : ℕ) (r : List ℕ) → IsCutLine settings k f n r
-cut_line settings k f n r =
-    let found = cut_by settings.json (k.totals.events + 1) (event_in f).side (event_in f).moment (verdict_of k.world f) n r in
-    record { mark = found.0; none = found.1; behind = found.2; joined = found.3 }
-
 told_is : (settings : Settings) (k : State) (f : Arrival) (report : List ℕ) (n : ℕ) (r : List ℕ) → n < 2 ^ 32 → report ≡ line_of settings k f n ++ r → frames_told settings k f report ≡ n
 told_is settings k f report n r small e =
-    let c = cut_line settings k f n r in
+    let c = cut settings.report (k.totals.events + 1) (event_in f).side (event_in f).moment (verdict_of k.world f) in
     let front = before_number settings k f in
     let number = decimal_is_IsNumeral n (omega (arith, small)) in
-    let there : drop (length front) report ≡ decimal n ++ c.mark ∷ c.behind = ap (drop (length front)) (e ∙ c.joined) ∙ drop_at front (decimal n ++ c.mark ∷ c.behind) (length front) refl in
-    ap (digits_value 10) (ap digits_in there ∙ digits_stop (decimal n) c.mark c.behind number.0.1 c.none) ∙ number.1
+    let there : drop (length front) report ≡ decimal n ++ c.mark ∷ c.behind r = ap (drop (length front)) (e ∙ c.line n r) ∙ drop_at front (decimal n ++ c.mark ∷ c.behind r) (length front) refl in
+    ap (digits_value 10) (ap digits_in there ∙ digits_stop (decimal n) c.mark (c.behind r) number.0.1 c.none) ∙ number.1
 
 on_line : (settings : Settings) (k : State) (f : Arrival) (report : List ℕ) (n : ℕ) (r : List ℕ) → n < 2 ^ 32 → report ≡ line_of settings k f n ++ r → goes_on_with settings k f report n ≡ true
 on_line settings k f report n r small e =

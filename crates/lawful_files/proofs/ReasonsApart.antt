@@ -13,7 +13,8 @@ use Rattle.lawful_files.specs.declared.reason.AuditReason.TheVariants.{Line, Mis
 use Rattle.lawful_files.specs.Wanted.{event_in}
 use Rattle.lawful_files.specs.Files.{Given, given_at, given_of, State, opening, after, record_of, IsLawfulAt, LawfulFrom, Lawful}
 use Rattle.lawful_files.specs.Reasons.{GoesOn, there_for, IsFirst, FirstReason}
-use Rattle.lawful_files.proofs.LineEnds.{IsSame, line_same}
+use Rattle.gate_report.proofs.LineEnds.{IsSame}
+use Rattle.lawful_files.proofs.LineEnds.{line_same}
 
 -- ## One event
 

@@ -14,7 +14,7 @@ use Rattle.gate_base.specs.declared.side.Side.{Side}
 use Rattle.ipv4_frames.specs.Ipv4.{Datagram, total_length_of}
 use Rattle.stream_model.specs.Prelude.{Sender, Segment, other, session_out, limit_of}
 use Rattle.tcp_segments.specs.Prelude.{tcp_header_length_of}
-use Rattle.gate_model.specs.Prelude.{Kind, Udp, Echo, Error, Dns, Snmp, Stream, datagram_in, kind_of, whole_rules, WholeSession, whole_learned, out, out_by, out_kind, stream_out, taker_in, segment_of, table_after, image_in, verdict, World, Tracked, at_moment, called, source_of, destination_of, host_on}
+use Rattle.gate_model.specs.Prelude.{Whole, Kind, Stream, datagram_in, kind_of, whole_rules, WholeSession, whole_learned, out, out_by, out_kind, stream_out, taker_in, segment_of, table_after, image_in, verdict, World, Tracked, at_moment, called, source_of, destination_of, host_on}
 use Rattle.twice_translate.specs.Renamed.{datagram_of}
 use Rattle.lawful_files.specs.Wanted.{whole_sent, wanted_segment, wanted_kind, wanted_by, wanted, IsLawfulList}
 use Rattle.stream_model.proofs.Ways.{session_lawful}
@@ -60,10 +60,11 @@ event_options e h = few_options (datagram_in e) (payload_octets (octets_in e.lin
 
 -- ## Lawful lists
 
-pub limit_some : (receiver : Sender) (g : Segment) → g.options ≤ 40 → 1 ≤ limit_of receiver g
+pub limit_some : (receiver : Sender) (g : Segment) → g.options ≤ 40 → 1 ≤ limit_of receiver.mss g
 limit_some receiver g few = omega (arith, few)
 
-segment_lawful : (image : Addr → Option Addr) (side : Side) (d : Datagram) (source destination : ℕ) (t : Option (Tracked WholeSession)) → (segment_of d).options ≤ 40
+segment_lawful : (image : Addr → Option Addr) (side : Side) (d : Datagram) (source destination : ℕ) (t : Option (Tracked WholeSession))
+    → (segment_of d).options ≤ 40
     → IsLawfulList (wanted_segment whole_sent image side d source destination t) (stream_out whole_rules image side d source destination t)
 segment_lawful image side d source destination None few = refl
 segment_lawful image side d source destination (Some t) few =
@@ -72,20 +73,19 @@ segment_lawful image side d source destination (Some t) few =
     let x = (whole_learned image host t.session g).session in
     (session_out host x g, session_lawful host x g (limit_some (other host x) g few), refl)
 
-kind_lawful : (live : World WholeSession) (side : Side) (moment : ℕ) (d : Datagram) (kind : Kind) → (segment_of d).options ≤ 40 → IsLawfulList (wanted_kind whole_rules whole_sent live side moment d kind) (out_kind whole_rules live side moment d kind)
-kind_lawful live side moment d Udp few = refl
-kind_lawful live side moment d Echo few = refl
-kind_lawful live side moment d Error few = refl
-kind_lawful live side moment d Dns few = refl
-kind_lawful live side moment d Snmp few = refl
+kind_lawful : (live : World WholeSession) (side : Side) (moment : ℕ) (d : Datagram) (kind : Kind) → (segment_of d).options ≤ 40
+    → IsLawfulList (wanted_kind whole_rules whole_sent live side moment d kind) (out_kind whole_rules live side moment d kind)
+kind_lawful live side moment d (Whole payload) few = refl
 kind_lawful live side moment d Stream few =
     let table = table_after whole_rules live side moment d Stream in
-    segment_lawful (image_in whole_rules live side moment d) side d (called table side (source_of d)).0 (called table side (destination_of d)).0 (taker_in whole_rules live side moment d) few
+    segment_lawful (image_in whole_rules live side moment d) side d (called table side (source_of d)).0 (called table side (destination_of d)).0
+    (taker_in whole_rules live side moment d) few
 
 pub own_lawful : (w : World WholeSession) (e : Event) → AreOctets e.octets → IsLawfulList (wanted w e) (out whole_rules w e)
 own_lawful w e octets = by_verdict (verdict whole_rules w e)
   where
-    by_verdict : (v : Verdict) → IsLawfulList (wanted_by whole_rules whole_sent (at_moment w e.moment) e v) (out_by whole_rules (at_moment w e.moment) e v)
+    by_verdict : (v : Verdict)
+        → IsLawfulList (wanted_by whole_rules whole_sent (at_moment w e.moment) e v) (out_by whole_rules (at_moment w e.moment) e v)
     by_verdict Pass = kind_lawful (at_moment w e.moment) e.side e.moment (datagram_in e) (kind_of (datagram_in e)) (event_options e octets)
     by_verdict (Refused r) = refl
     by_verdict Held = refl

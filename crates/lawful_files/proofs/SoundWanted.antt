@@ -14,9 +14,8 @@ use Rattle.ipv4_frames.specs.Ipv4.{Datagram, header_length_of, total_length_of, 
 use Rattle.stream_model.specs.Prelude.{other}
 use Rattle.tcp_segments.specs.Prelude.{are_options, IsTcpHeader, tcp_header_length_of, has_bad_offset, has_bad_options}
 use Rattle.udp_icmp.specs.Udp.{has_bad_length}
-use Rattle.gate_model.specs.Prelude.{Kind, Udp, Echo, Error, Dns, Snmp, Stream, datagram_in, kind_of, udp_kind, icmp_kind, header_tests, datagram_tests, transport_tests, whole_rules, WholeSession, whole_learned, taker_in, segment_of, tests, world_tests, World, Tracked, at_moment, host_on}
-use Rattle.gate_model.specs.Frame.{is_bad_transport, is_bad_sum, has_port, dns_port, snmp_port, trap_port}
-use Rattle.udp_icmp.specs.Icmp.{is_error_type}
+use Rattle.gate_model.specs.Prelude.{Whole, Kind, Stream, datagram_in, kind_of, udp_payload, icmp_payload, header_tests, datagram_tests, transport_tests, whole_rules, WholeSession, whole_learned, taker_in, segment_of, tests, world_tests, World, Tracked, at_moment, host_on}
+use Rattle.gate_model.specs.Frame.{is_bad_transport, is_bad_sum}
 use Rattle.gate_model.specs.Verdict.{verdict}
 use Rattle.gate_model.proofs.Passing.{NoneHolds, none_head, none_tail, none_left, none_right, pass_is}
 use Rattle.lawful_files.specs.Wanted.{whole_sent, wanted_segment, wanted_kind, wanted_by, wanted}
@@ -59,29 +58,14 @@ header_is octets h =
     let long : 20 ≤ length octets = let t = c.0 in grind (arith, nat_tests) in
     length-take-le 20 octets long
 
-no_udp : (d : Datagram) → udp_kind d ≡ Stream → ⊥
-no_udp d e = by_ports (has_port dns_port d) (has_port snmp_port d || has_port trap_port d) e
-  where
-    by_ports : (dns snmp : Bool) → (if dns then Dns else if snmp then Snmp else Udp) ≡ Stream → ⊥
-    by_ports true snmp f = cc
-    by_ports false true f = cc
-    by_ports false false f = cc
-
-no_icmp : (d : Datagram) → icmp_kind d ≡ Stream → ⊥
-no_icmp d e = by_type (is_error_type (slice_index d.payload 0)) e
-  where
-    by_type : (error : Bool) → (if error then Error else Echo) ≡ Stream → ⊥
-    by_type true f = cc
-    by_type false f = cc
-
 transport_is : (d : Datagram) → kind_of d ≡ Stream → is_bad_transport d ≡ false → (has_bad_offset d.payload || has_bad_options d.payload) ≡ false
 transport_is d e h = by_protocol (d.protocol == 17) (d.protocol == 6) e h
   where
-    by_protocol : (udp tcp : Bool) → (if udp then udp_kind d else if tcp then Stream else icmp_kind d) ≡ Stream
+    by_protocol : (udp tcp : Bool) → (if udp then Whole (udp_payload d) else if tcp then Stream else Whole (icmp_payload d)) ≡ Stream
         → (if udp then has_bad_length d.payload else if tcp then has_bad_offset d.payload || has_bad_options d.payload else nat_lt (length d.payload) 8) ≡ false → (has_bad_offset d.payload || has_bad_options d.payload) ≡ false
-    by_protocol true tcp f i = absurd (no_udp d f)
+    by_protocol true tcp f i = absurd (cc)
     by_protocol false true f i = i
-    by_protocol false false f i = absurd (no_icmp d f)
+    by_protocol false false f i = absurd (cc)
 
 tcp_is : (payload : List ℕ) → (has_bad_offset payload || has_bad_options payload) ≡ false → IsTcpHeader (take (tcp_header_length_of payload) payload)
 tcp_is payload h =
@@ -114,11 +98,7 @@ pub wanted_sound : (w : World WholeSession) (e : Event) → AreOctets e.octets �
 wanted_sound w e h = by_verdict (verdict whole_rules w e) refl
   where
     by_kind : verdict whole_rules w e ≡ Pass → (kind : Kind) → kind_of (datagram_in e) ≡ kind → IsSound (wanted_kind whole_rules whole_sent (at_moment w e.moment) e.side e.moment (datagram_in e) kind)
-    by_kind p Udp k = tt
-    by_kind p Echo k = tt
-    by_kind p Error k = tt
-    by_kind p Dns k = tt
-    by_kind p Snmp k = tt
+    by_kind p (Whole payload) k = tt
     by_kind p Stream k = segment_sound _ e.side (datagram_in e) _ _ (taker_in whole_rules (at_moment w e.moment) e.side e.moment (datagram_in e)) (heads_of w e p k) (event_options e h)
 
     by_verdict : (v : Verdict) → verdict whole_rules w e ≡ v → IsSound (wanted_by whole_rules whole_sent (at_moment w e.moment) e v)

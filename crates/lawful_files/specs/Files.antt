@@ -1,5 +1,5 @@
 -- Which files are lawful for two captures: outgoing captures and a report that some gateway could have made of them.
-use Rattle.std.specs.Prelude.{◌≡◌, ◌<◌, ◌+◌, ◌^◌, ℕ, true, List, [], ◌∷◌, ◌++◌, if◌then◌else◌, length, map}
+use Rattle.std.specs.Prelude.{◌≡◌, ◌<◌, ◌+◌, ◌^◌, ℕ, true, List, [], ◌∷◌, ◌++◌, length, map}
 use Rattle.ether_frames.specs.Ether.{framed_on}
 use Rattle.frag_join.specs.Prelude.{Arrival, arrivals_of}
 use Rattle.gate_base.specs.Prelude.{other}
@@ -7,7 +7,7 @@ use Rattle.gate_base.specs.declared.side.Link.{Link}
 use Rattle.gate_base.specs.declared.side.Side.{Side}
 use Rattle.gate_base.specs.declared.side.Side.TheVariants.{Left, Right}
 use Rattle.gate_report.specs.Counts.{nothing_counted, counted, done_line}
-use Rattle.gate_report.specs.Lines.{event_text, event_json, text_of, json_of}
+use Rattle.gate_report.specs.Lines.{line_octets, event_line}
 use Rattle.gate_report.specs.declared.totals.Totals.{Totals}
 use Rattle.gate_settings.specs.Prelude.{side_settings}
 use Rattle.gate_settings.specs.declared.settings.Settings.{Settings}
@@ -56,13 +56,11 @@ record_of settings side moment datagram = let realm = side_settings settings sid
 
 -- the line of a frame for which so many were sent
 abbrev pub line_of : Settings → State → Arrival → ℕ → List ℕ
-line_of settings s a frames =
-    if settings.json then event_json (s.totals.events + 1) (event_in a).side (event_in a).moment (verdict_of s.world a) frames
-    else event_text (s.totals.events + 1) (event_in a).side (event_in a).moment (verdict_of s.world a) frames
+line_of settings s a frames = line_octets settings.report (event_line (s.totals.events + 1) (event_in a).side (event_in a).moment (verdict_of s.world a) frames)
 
 -- the last line
 abbrev pub last_line : Settings → State → List ℕ
-last_line settings s = if settings.json then json_of (done_line s.totals s.world.pending) else text_of (done_line s.totals s.world.pending)
+last_line settings s = line_octets settings.report (done_line s.totals s.world.pending)
 
 -- both Ethernet addresses of a realm have six octets
 pub record HasMacAddresses (side : SideSettings) : Type 0 where

@@ -1,14 +1,15 @@
 -- The first reason against given files as a function, which looks at one frame after the other.
-use Rattle.std.specs.Prelude.{ℕ, ◌+◌, ◌^◌, ◌<◌, Bool, true, false, not, ◌&&◌, ◌==◌, nat_lt, if◌then◌else◌, List, [], ◌∷◌, ◌++◌, length, take, drop, All, Option, Some, None, codes, decimal}
+use Rattle.std.specs.Prelude.{ℕ, ◌+◌, ◌^◌, ◌<◌, Bool, true, false, not, ◌&&◌, ◌==◌, nat_lt, if◌then◌else◌, List, [], ◌∷◌, length, take, drop, All, Option, Some, None}
 use Rattle.std.specs.Char.{is_digit}
 use Rattle.std.specs.Str.{bytes_eq}
 use Rattle.std.specs.Str.Parse.{digits_value}
 use Rattle.frag_join.specs.Prelude.{Arrival, Reaches, Stopped, arrivals_of}
-use Rattle.gate_base.specs.Prelude.{verdict_name, name_of, other}
+use Rattle.gate_base.specs.Prelude.{other}
 use Rattle.gate_base.specs.declared.side.Link.{Link}
 use Rattle.gate_base.specs.declared.side.Link.TheVariants.{Ethernet, Raw}
 use Rattle.gate_base.specs.declared.side.Side.{Side}
 use Rattle.gate_base.specs.declared.side.Side.TheVariants as sides
+use Rattle.gate_report.specs.Lines.{front_octets}
 use Rattle.gate_settings.specs.declared.settings.Settings.{Settings}
 use Rattle.pcap_files.specs.Prelude.{Records, Ending as CaptureEnding, Whole, Fault as CaptureEndsFaulty, Head, Good, Bad, head_of}
 use Rattle.pcap_merge.specs.Prelude.{Merged, Ending, Done, Fault}
@@ -27,9 +28,7 @@ digits_in (octet ∷ octets) = if is_digit octet 10 then octet ∷ digits_in oct
 
 -- what stands in a frame's line before the number of frames that were sent for it
 abbrev pub before_number : Settings → State → Arrival → List ℕ
-before_number settings s a =
-    if settings.json then codes "{\"event\":" ++ decimal (s.totals.events + 1) ++ codes ",\"frames\":"
-    else decimal (s.totals.events + 1) ++ codes " " ++ name_of (event_in a).side ++ codes " " ++ decimal (event_in a).moment ++ codes " " ++ verdict_name (verdict_of s.world a) ++ codes " "
+before_number settings s a = front_octets settings.report (s.totals.events + 1) (event_in a).side (event_in a).moment (verdict_of s.world a)
 
 -- the number that the report has there
 abbrev pub frames_told : Settings → State → Arrival → List ℕ → ℕ

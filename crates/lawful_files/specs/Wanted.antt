@@ -10,7 +10,7 @@ use Rattle.frag_join.specs.Prelude.{Arrival, Reaches, Stopped}
 use Rattle.ipv4_frames.specs.Ipv4.{Datagram}
 use Rattle.stream_model.specs.Prelude.{Segment, Outgoing, Sent, session_sent}
 use Rattle.twice_translate.specs.Renamed.{renamed}
-use Rattle.gate_model.specs.Prelude.{Kind, Udp, Echo, Error, Dns, Snmp, Stream, datagram_in, kind_of, SessionRules, whole_rules, WholeSession, whole_learned, next, out_kind, taker_in, segment_of, sent_as, table_after, image_in, verdict, World, Tracked, at_moment, called, source_of, destination_of, host_on}
+use Rattle.gate_model.specs.Prelude.{Whole, Kind, Stream, datagram_in, kind_of, SessionRules, whole_rules, WholeSession, whole_learned, next, out_kind, taker_in, segment_of, sent_as, table_after, image_in, verdict, World, Tracked, at_moment, called, source_of, destination_of, host_on}
 use Rattle.stream_model.specs.Cuts.{IsLawfulWay}
 
 -- ## What is wanted of an event
@@ -42,11 +42,7 @@ abbrev pub wanted_kind : {S : Type 0} → SessionRules S → Sends S → World S
 wanted_kind rules sends live side moment d Stream =
     let table = table_after rules live side moment d Stream in
     wanted_segment sends (image_in rules live side moment d) side d (called table side (source_of d)).0 (called table side (destination_of d)).0 (taker_in rules live side moment d)
-wanted_kind rules sends live side moment d Udp = Exactly (out_kind rules live side moment d Udp)
-wanted_kind rules sends live side moment d Echo = Exactly (out_kind rules live side moment d Echo)
-wanted_kind rules sends live side moment d Error = Exactly (out_kind rules live side moment d Error)
-wanted_kind rules sends live side moment d Dns = Exactly (out_kind rules live side moment d Dns)
-wanted_kind rules sends live side moment d Snmp = Exactly (out_kind rules live side moment d Snmp)
+wanted_kind rules sends live side moment d (Whole payload) = Exactly (out_kind rules live side moment d (Whole payload))
 
 -- by the verdict
 abbrev pub wanted_by : {S : Type 0} → SessionRules S → Sends S → World S → Event → Verdict → Wanted

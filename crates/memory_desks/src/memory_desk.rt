@@ -35,7 +35,7 @@ pub struct Given {
     pub left: Vec<u8>,
     /// The capture of the frames that go to the right realm.
     pub right: Vec<u8>,
-    /// The report, as text or as JSON.
+    /// The report, in whatever form.
     pub report: Vec<u8>,
 }
 

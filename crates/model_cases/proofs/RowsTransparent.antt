@@ -13,7 +13,7 @@ use Rattle.tcp_tracker.specs.Connections.{is_established, kept, with_flags}
 use Rattle.tcp_tracker.specs.declared.connection.Connection.{Connection}
 use Rattle.icmp_errors.specs.Inner.{inner_fields}
 use Rattle.gate_model.specs.Called.{AllBefore, IsKeptUntil, called_by, header_until, sent_from}
-use Rattle.gate_model.specs.Frame.{Dns, Stream, datagram_in, kind_of}
+use Rattle.gate_model.specs.Frame.{Whole, Dns, datagram_in, kind_of}
 use Rattle.gate_model.specs.Inner.{inside, inner_session}
 use Rattle.gate_model.specs.Prelude.{Tracked, WholeSession, World, ends_by, found_in, source_of, tcp_of, whole_rules}
 use Rattle.gate_model.specs.Step.{next}
@@ -145,7 +145,7 @@ answer_passes : verdict whole_rules (after (question ∷ [])) answer ≡ Pass
 unfolding frames_on_literals
 answer_passes = refl
 
-answer_kind : kind_of (datagram_in answer) ≡ Dns
+answer_kind : kind_of (datagram_in answer) ≡ Whole Dns
 unfolding frames_on_literals
 answer_kind = refl
 

@@ -28,7 +28,8 @@ with_rule rule a = (rule, a)
 head_gives : (OidRule → Option ℕ) → List ℕ → OidRule → Option (OidRule × ℕ)
 head_gives address arcs rule = if starts_with nat_eq arcs rule.prefix then option_map (with_rule rule) (address rule) else None
 
-number_at : (place : ℕ) (rules : List OidRule) (i : ℕ) (d : Numbered) → i < length (numbered place rules) → (get_or (numbered place rules) i d).number ≡ place + i
+number_at : (place : ℕ) (rules : List OidRule) (i : ℕ) (d : Numbered) → i < length (numbered place rules) → (get_or (numbered place rules) i d).number
+    ≡ place + i
 number_at place [] i d l = absurd (omega arith)
 number_at place (r ∷ rs) zero d l = omega arith
 number_at place (r ∷ rs) (suc i) d l = omega (arith, number_at (place + 1) rs i d (omega arith))
@@ -37,28 +38,37 @@ no_head : (address : OidRule → Option ℕ) (arcs : List ℕ) (rule : OidRule) 
 unfolding head_gives
 no_head address arcs rule not = by_test (starts_with nat_eq arcs rule.prefix) (address rule) refl refl
   where
-    by_test : (b : Bool) (o : Option ℕ) → b ≡ starts_with nat_eq arcs rule.prefix → o ≡ address rule → (if b then option_map (with_rule rule) o else None) ≡ None
+    by_test : (b : Bool) (o : Option ℕ) → b ≡ starts_with nat_eq arcs rule.prefix → o ≡ address rule
+        → (if b then option_map (with_rule rule) o else None) ≡ None
     by_test false o e f = refl
     by_test true None e f = refl
     by_test true (Some a) e f = absurd (not (record { begins = starts_begins arcs rule.prefix (sym e); names = ap is_some (sym f) }))
 
-own_head : (address : OidRule → Option ℕ) (arcs : List ℕ) (rule : OidRule) (a : ℕ) → compared arcs rule.prefix ≡ Begins → address rule ≡ Some a → head_gives address arcs rule ≡ Some (rule, a)
+own_head : (address : OidRule → Option ℕ) (arcs : List ℕ) (rule : OidRule) (a : ℕ) → compared arcs rule.prefix ≡ Begins → address rule ≡ Some a
+    → head_gives address arcs rule ≡ Some (rule, a)
 unfolding head_gives
 own_head address arcs rule a begins names =
     ap (λ b. if b then option_map (with_rule rule) (address rule) else None) (begins_starts arcs rule.prefix begins)
     ∙ ap (option_map (with_rule rule)) names
 
-none_passes : (address : OidRule → Option ℕ) (arcs : List ℕ) (place : ℕ) (rules : List OidRule) → All (λ (one : Numbered). Passes address arcs one.rule → ⊥) (numbered place rules) → first_begun address arcs rules ≡ None
+none_passes : (address : OidRule → Option ℕ) (arcs : List ℕ) (place : ℕ) (rules : List OidRule)
+    → All (λ (one : Numbered). Passes address arcs one.rule → ⊥) (numbered place rules) → first_begun address arcs rules ≡ None
 unfolding head_gives
 none_passes address arcs place [] none = refl
-none_passes address arcs place (r ∷ rs) none = ap (λ o. option_or o (first_begun address arcs rs)) (no_head address arcs r (All-head (λ (one : Numbered). Passes address arcs one.rule → ⊥) _ (numbered (place + 1) rs) none)) ∙ none_passes address arcs (place + 1) rs (All-tail (λ (one : Numbered). Passes address arcs one.rule → ⊥) _ (numbered (place + 1) rs) none)
+none_passes address arcs place (r ∷ rs) none = ap (λ o. option_or o (first_begun address arcs rs))
+    (no_head address arcs r (All-head (λ (one : Numbered). Passes address arcs one.rule → ⊥) _ (numbered (place + 1) rs) none))
+    ∙ none_passes address arcs (place + 1) rs (All-tail (λ (one : Numbered). Passes address arcs one.rule → ⊥) _ (numbered (place + 1) rs) none)
 
-first_passes : (address : OidRule → Option ℕ) (arcs : List ℕ) (place : ℕ) (rules : List OidRule) (i : ℕ) (one : Numbered) (a : ℕ) → i < length (numbered place rules) → get_or (numbered place rules) i one ≡ one → compared arcs one.rule.prefix ≡ Begins → address one.rule ≡ Some a → All (λ (other : Numbered). Passes address arcs other.rule → one.number ≤ other.number) (numbered place rules) → first_begun address arcs rules ≡ Some (one.rule, a)
+first_passes : (address : OidRule → Option ℕ) (arcs : List ℕ) (place : ℕ) (rules : List OidRule) (i : ℕ) (one : Numbered) (a : ℕ)
+    → i < length (numbered place rules) → get_or (numbered place rules) i one ≡ one → compared arcs one.rule.prefix ≡ Begins
+    → address one.rule ≡ Some a → All (λ (other : Numbered). Passes address arcs other.rule → one.number ≤ other.number) (numbered place rules)
+    → first_begun address arcs rules ≡ Some (one.rule, a)
 unfolding head_gives
 first_passes address arcs place [] i one a l is begins names least = absurd (omega arith)
 first_passes address arcs place (r ∷ rs) zero one a l is begins names least =
     let rule : r ≡ one.rule = ap (λ (n : Numbered). n.rule) is in
-    ap (λ o. option_or o (first_begun address arcs rs)) (subst (λ x. head_gives address arcs x ≡ Some (one.rule, a)) (sym rule) (own_head address arcs one.rule a begins names))
+    ap (λ o. option_or o (first_begun address arcs rs))
+    (subst (λ x. head_gives address arcs x ≡ Some (one.rule, a)) (sym rule) (own_head address arcs one.rule a begins names))
 first_passes address arcs place (r ∷ rs) (suc i) one a l is begins names least =
     let number = number_at (place + 1) rs i one (omega arith) in
     let same : (get_or (numbered (place + 1) rs) i one).number ≡ one.number = ap (λ (n : Numbered). n.number) is in
@@ -81,7 +91,8 @@ pub first_is : (address : OidRule → Option ℕ) (sorted : List Numbered) (arcs
 first_is address sorted arcs None rules are is first =
     let none = All-from_get_or (λ (one : Numbered). Passes address arcs one.rule → ⊥) sorted (rule_at [] 0)
     (λ k l p. first.first k l p.begins p.names) in
-    sym (none_passes address arcs 0 rules (All-permutation (λ (one : Numbered). Passes address arcs one.rule → ⊥) sorted (numbered 0 rules) (IsPermutation-sym _ _ are.moved) none))
+    sym (none_passes address arcs 0 rules
+    (All-permutation (λ (one : Numbered). Passes address arcs one.rule → ⊥) sorted (numbered 0 rules) (IsPermutation-sym _ _ are.moved) none))
 first_is address sorted arcs (Some p) rules are is first =
     let one = rule_at sorted p.0 in
     let back = IsPermutation-sym _ _ are.moved in

@@ -65,7 +65,8 @@ order_goes_on (x ∷ xs) (y ∷ ys) (z ∷ zs) f g e = elim (not_before y x ys x
     | inr m ↦ (let wrong = sym (greater_first z x zs xs (omega arith)) ∙ e in cc)
   ]
   | inl s ↦ elim (not_before z y zs ys g) as (λ o. ⊥) [
-    | inl t ↦ order_goes_on xs ys zs (λ h. f (same_first y x ys xs s ∙ h)) (λ h. g (same_first z y zs ys t ∙ h)) (sym (same_first z x zs xs (t ∙ s)) ∙ e)
+    | inl t ↦ order_goes_on xs ys zs (λ h. f (same_first y x ys xs s ∙ h)) (λ h. g (same_first z y zs ys t ∙ h))
+        (sym (same_first z x zs xs (t ∙ s)) ∙ e)
     | inr m ↦ (let wrong = sym (greater_first z x zs xs (omega arith)) ∙ e in cc)
   ]
 ]
@@ -79,7 +80,8 @@ between_begins (x ∷ xs) (y ∷ ys) (z ∷ zs) b f g =
     let both = both_begin z x zs xs b in
     elim (not_before y x ys xs f) as (λ o. compared (y ∷ ys) (x ∷ xs) ≡ Begins) [
       | inr l ↦ absurd (g (less_first z y zs ys (omega (arith, both.first))))
-      | inl s ↦ same_first y x ys xs s ∙ between_begins xs ys zs both.rest (λ h. f (same_first y x ys xs s ∙ h)) (λ h. g (same_first z y zs ys (both.first ∙ sym s) ∙ h))
+      | inl s ↦ same_first y x ys xs s ∙ between_begins xs ys zs both.rest (λ h. f (same_first y x ys xs s ∙ h))
+          (λ h. g (same_first z y zs ys (both.first ∙ sym s) ∙ h))
     ]
 
 pub begins_goes_on : (p q s : List ℕ) → compared q p ≡ Begins → compared s q ≡ Begins → compared s p ≡ Begins
@@ -113,7 +115,8 @@ before_less : (xs ys : List ℕ) → compared xs ys ≡ Before → is_lt (slice_
 before_less xs [] h = absurd cc
 before_less [] (y ∷ ys) h = refl
 before_less (x ∷ xs) (y ∷ ys) h = elim (cases_order x y) as (λ o. is_lt (slice_cmp nat_cmp (x ∷ xs) (y ∷ ys)) ≡ true) [
-  | inl e ↦ ap (λ o. is_lt (ordering_then o (slice_cmp nat_cmp xs ys))) (sym (nat_cmp_is x y Equal e)) ∙ before_less xs ys (sym (same_first x y xs ys e) ∙ h)
+  | inl e ↦ ap (λ o. is_lt (ordering_then o (slice_cmp nat_cmp xs ys))) (sym (nat_cmp_is x y Equal e))
+      ∙ before_less xs ys (sym (same_first x y xs ys e) ∙ h)
   | inr (inl l) ↦ ap (λ o. is_lt (ordering_then o (slice_cmp nat_cmp xs ys))) (sym (nat_cmp_is x y Less l))
   | inr (inr l) ↦ (let wrong = sym (greater_first x y xs ys l) ∙ h in absurd cc)
 ]

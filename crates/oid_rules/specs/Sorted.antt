@@ -31,7 +31,8 @@ by_rule address rule = address (before rule)
 -- the first rule whose arcs begin these and which names an address, and that address
 abbrev pub first_begun : (OidRule → Option ℕ) → List ℕ → List OidRule → Option (OidRule × ℕ)
 first_begun address arcs [] = None
-first_begun address arcs (rule ∷ rules) = option_or (if starts_with nat_eq arcs rule.prefix then option_map (λ a. (rule, a)) (address rule) else None) (first_begun address arcs rules)
+first_begun address arcs (rule ∷ rules) = option_or (if starts_with nat_eq arcs rule.prefix then option_map (λ a. (rule, a)) (address rule) else None)
+    (first_begun address arcs rules)
 
 -- ## Rules with their places in the list
 

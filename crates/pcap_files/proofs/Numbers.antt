@@ -44,7 +44,8 @@ four a b c d a' b' c' d' e f g h = cc
 
 low_first : (a b c d n : ℕ) → a < 256 → b < 256 → c < 256 → d < 256 → n ≡ a + 256 * (b + 256 * (c + 256 * d))
     → n % 256 ∷ n / 256 % 256 ∷ n / 65536 % 256 ∷ n / 16777216 % 256 ∷ [] ≡ a ∷ b ∷ c ∷ d ∷ []
-low_first a b c d n ha hb hc hd e = four (n % 256) (n / 256 % 256) (n / 65536 % 256) (n / 16777216 % 256) a b c d (omega arith) (omega arith) (omega arith) (omega arith)
+low_first a b c d n ha hb hc hd e = four (n % 256) (n / 256 % 256) (n / 65536 % 256) (n / 16777216 % 256) a b c d (omega arith) (omega arith)
+    (omega arith) (omega arith)
 
 abbrev backwards : List ℕ → List ℕ
 backwards (d ∷ c ∷ b ∷ a ∷ xs) = a ∷ b ∷ c ∷ d ∷ []
@@ -57,6 +58,7 @@ number_octets-number order [] few h = absurd (omega arith)
 number_octets-number order (a ∷ []) few h = absurd (omega arith)
 number_octets-number order (a ∷ b ∷ []) few h = absurd (omega arith)
 number_octets-number order (a ∷ b ∷ c ∷ []) few h = absurd (omega arith)
-number_octets-number Little (a ∷ b ∷ c ∷ d ∷ xs) few h = low_first a b c d (a + 256 * (b + 256 * (c + 256 * (d + 0)))) h.0 h.1.0 h.1.1.0 h.1.1.1.0 (omega arith)
+number_octets-number Little (a ∷ b ∷ c ∷ d ∷ xs) few h = low_first a b c d (a + 256 * (b + 256 * (c + 256 * (d + 0)))) h.0 h.1.0 h.1.1.0 h.1.1.1.0
+    (omega arith)
 number_octets-number Big (a ∷ b ∷ c ∷ d ∷ xs) few h =
     ap backwards (low_first d c b a (a * 16777216 + (b * 65536 + (c * 256 + (d * 1 + 0)))) h.1.1.1.0 h.1.1.0 h.1.0 h.0 (omega arith))

@@ -17,7 +17,8 @@ use Rattle.pcap_files.specs.Heads.{after_head, body_of}
 use Rattle.pcap_files.proofs.Records.{nothing_is_ended}
 
 -- a number is read of its own octets alone
-pub number_at-take : (order : Order) (place n : ℕ) (octets : List ℕ) → 4 ≤ n → number_at order place (take (place + n) octets) ≡ number_at order place octets
+pub number_at-take : (order : Order) (place n : ℕ) (octets : List ℕ) → 4 ≤ n → number_at order place (take (place + n) octets)
+    ≡ number_at order place octets
 number_at-take Little place n octets fits = ap (little_number 4) (drop-take place n octets) ∙ little_from-take 0 4 n (drop place octets) fits
 number_at-take Big place n octets fits = ap (big_number 4) (drop-take place n octets) ∙ big_from-take 0 4 n (drop place octets) fits
 
@@ -29,7 +30,8 @@ short_body : (all : List ℕ) (kept : ℕ) → 16 ≤ length all → nat_lt (len
 short_body all kept enough = let len = length-drop 16 all in grind (arith, nat_tests)
 
 -- a whole head
-pub enough_octets : (form : Form) (place : ℕ) (all : List ℕ) → 16 ≤ length all → next_at form place all ≡ after_head form place (take 16 all) (drop 16 all)
+pub enough_octets : (form : Form) (place : ℕ) (all : List ℕ) → 16 ≤ length all
+    → next_at form place all ≡ after_head form place (take 16 all) (drop 16 all)
 unfolding next_at after_head body_of
 enough_octets form place all enough =
     let some : (length all == 0) ≡ false = grind (arith, nat_tests) in
@@ -47,7 +49,8 @@ ended form place None h = tt
 ended form place (Some all) h = nothing_is_ended form place all (omega (arith, ap length h, length-take 16 all))
 
 -- a part of a head was read
-pub torn_head : (form : Form) (place n : ℕ) (head : List ℕ) (o : Option (List ℕ)) → 0 < n → n < 16 → n ≤ length head → IfSome o (λ all. take n head ≡ take 16 all) → IfSome o (λ all. next_at form place all ≡ Broken Torn)
+pub torn_head : (form : Form) (place n : ℕ) (head : List ℕ) (o : Option (List ℕ)) → 0 < n → n < 16 → n ≤ length head
+    → IfSome o (λ all. take n head ≡ take 16 all) → IfSome o (λ all. next_at form place all ≡ Broken Torn)
 torn_head form place n head None some few fits h = tt
 torn_head form place n head (Some all) some few fits h =
     let size : length (take n head) ≡ n = length-take-le n head fits in
@@ -60,39 +63,45 @@ some_is None h = tt
 some_is (Some octets) h = h octets
 
 -- a whole head was there
-pub enough_left : (n : ℕ) (head : List ℕ) (o : Option (List ℕ)) → 16 ≤ n → n ≤ length head → IfSome o (λ all. take n head ≡ take 16 all) → IfSome o (λ all. 16 ≤ length all)
+pub enough_left : (n : ℕ) (head : List ℕ) (o : Option (List ℕ)) → 16 ≤ n → n ≤ length head → IfSome o (λ all. take n head ≡ take 16 all)
+    → IfSome o (λ all. 16 ≤ length all)
 enough_left n head None enough fits h = tt
 enough_left n head (Some all) enough fits h =
     let size : length (take n head) ≡ n = length-take-le n head fits in
     omega (arith, size, ap length h, length-take 16 all)
 
 -- of a torn head all that was left was taken
-pub all_left : (n : ℕ) (head : List ℕ) (o : Option (List ℕ)) → n < 16 → n ≤ length head → IfSome o (λ all. take n head ≡ take 16 all) → IfSome o (λ all. n ≡ length all)
+pub all_left : (n : ℕ) (head : List ℕ) (o : Option (List ℕ)) → n < 16 → n ≤ length head → IfSome o (λ all. take n head ≡ take 16 all)
+    → IfSome o (λ all. n ≡ length all)
 all_left n head None few fits h = tt
 all_left n head (Some all) few fits h =
     let size : length (take n head) ≡ n = length-take-le n head fits in
     omega (arith, size, ap length h, length-take 16 all)
 
 -- a whole head was read
-pub by_the_head : (form : Form) (place n : ℕ) (head : List ℕ) (P : List ℕ → Next) (o : Option (List ℕ)) → length head ≡ 16 → 16 ≤ n → IfSome o (λ all. take n head ≡ take 16 all)
+pub by_the_head : (form : Form) (place n : ℕ) (head : List ℕ) (P : List ℕ → Next) (o : Option (List ℕ)) → length head ≡ 16 → 16 ≤ n
+    → IfSome o (λ all. take n head ≡ take 16 all)
     → ((rest : List ℕ) → after_head form place head rest ≡ P rest) → IfSome o (λ all. next_at form place all ≡ P (drop 16 all))
 by_the_head form place n head P None len enough h judged = tt
 by_the_head form place n head P (Some all) len enough h judged =
     let whole : take n head ≡ head = take_all n head (omega arith) in
     let same : head ≡ take 16 all = sym whole ∙ h in
     let size : length head ≡ length (take 16 all) = ap length same in
-    enough_octets form place all (omega (arith, size, length-take 16 all)) ∙ ap (λ (x : List ℕ). after_head form place x (drop 16 all)) (sym same) ∙ judged (drop 16 all)
+    enough_octets form place all (omega (arith, size, length-take 16 all)) ∙ ap (λ (x : List ℕ). after_head form place x (drop 16 all)) (sym same)
+    ∙ judged (drop 16 all)
 
 torn-of : (stamp kept : ℕ) (whole : Bool) (rest : List ℕ) → length rest < kept → body_of stamp whole kept rest ≡ Broken Torn
 unfolding body_of
 torn-of stamp kept whole rest few = grind (arith, nat_tests)
 
-came-of : (stamp kept : ℕ) (whole : Bool) (rest octets : List ℕ) → kept ≤ length rest → octets ≡ take kept rest → body_of stamp whole kept rest ≡ Came (record { stamp = stamp; whole = whole; octets = octets })
+came-of : (stamp kept : ℕ) (whole : Bool) (rest octets : List ℕ) → kept ≤ length rest → octets ≡ take kept rest
+    → body_of stamp whole kept rest ≡ Came (record { stamp = stamp; whole = whole; octets = octets })
 unfolding body_of
 came-of stamp kept whole rest octets enough same = rw same (grind (arith, nat_tests))
 
 -- fewer octets than the head says were read
-pub torn_body : (form : Form) (place n stamp kept : ℕ) (whole : Bool) (buffer : List ℕ) (o : Option (List ℕ)) → n < kept → n ≤ length buffer → IfSome o (λ all. next_at form place all ≡ body_of stamp whole kept (drop 16 all))
+pub torn_body : (form : Form) (place n stamp kept : ℕ) (whole : Bool) (buffer : List ℕ) (o : Option (List ℕ)) → n < kept → n ≤ length buffer
+    → IfSome o (λ all. next_at form place all ≡ body_of stamp whole kept (drop 16 all))
     → IfSome o (λ all. take n buffer ≡ take kept (drop 16 all)) → IfSome o (λ all. next_at form place all ≡ Broken Torn)
 torn_body form place n stamp kept whole buffer None few fits h k = tt
 torn_body form place n stamp kept whole buffer (Some all) few fits h k =
@@ -101,44 +110,55 @@ torn_body form place n stamp kept whole buffer (Some all) few fits h k =
     h ∙ torn-of stamp kept whole (drop 16 all) (omega (arith, same, length-take kept (drop 16 all)))
 
 -- of a torn record all that was left was taken
-pub all_left_behind : (kept n : ℕ) (buffer : List ℕ) (o : Option (List ℕ)) → n < kept → n ≤ length buffer → IfSome o (λ all. 16 ≤ length all) → IfSome o (λ all. take n buffer ≡ take kept (drop 16 all)) → IfSome o (λ all. 16 + n ≡ length all)
+pub all_left_behind : (kept n : ℕ) (buffer : List ℕ) (o : Option (List ℕ)) → n < kept → n ≤ length buffer → IfSome o (λ all. 16 ≤ length all)
+    → IfSome o (λ all. take n buffer ≡ take kept (drop 16 all)) → IfSome o (λ all. 16 + n ≡ length all)
 all_left_behind kept n buffer None few fits h k = tt
 all_left_behind kept n buffer (Some all) few fits h k =
     let size : length (take n buffer) ≡ n = length-take-le n buffer fits in
     omega (arith, size, ap length k, length-take kept (drop 16 all), length-drop 16 all, h, few)
 
 -- as many octets as the head says were read
-pub whole_body : (form : Form) (place n stamp kept : ℕ) (whole : Bool) (buffer : List ℕ) (o : Option (List ℕ)) → kept ≡ n → n ≤ length buffer → IfSome o (λ all. next_at form place all ≡ body_of stamp whole kept (drop 16 all))
-    → IfSome o (λ all. take n buffer ≡ take kept (drop 16 all)) → IfSome o (λ all. next_at form place all ≡ Came (record { stamp = stamp; whole = whole; octets = take kept buffer }))
+pub whole_body : (form : Form) (place n stamp kept : ℕ) (whole : Bool) (buffer : List ℕ) (o : Option (List ℕ)) → kept ≡ n → n ≤ length buffer
+    → IfSome o (λ all. next_at form place all ≡ body_of stamp whole kept (drop 16 all))
+    → IfSome o (λ all. take n buffer ≡ take kept (drop 16 all))
+    → IfSome o (λ all. next_at form place all ≡ Came (record { stamp = stamp; whole = whole; octets = take kept buffer }))
 whole_body form place n stamp kept whole buffer None all_of fits h k = tt
 whole_body form place n stamp kept whole buffer (Some all) all_of fits h k =
     let size : length (take n buffer) ≡ n = length-take-le n buffer fits in
     let same : n ≡ length (take kept (drop 16 all)) = sym size ∙ ap length k in
-    h ∙ came-of stamp kept whole (drop 16 all) (take kept buffer) (omega (arith, same, length-take kept (drop 16 all))) (ap (λ (m : ℕ). take m buffer) all_of ∙ k)
+    h ∙ came-of stamp kept whole (drop 16 all) (take kept buffer) (omega (arith, same, length-take kept (drop 16 all)))
+    (ap (λ (m : ℕ). take m buffer) all_of ∙ k)
 
 -- a record that stands whole at the front of octets comes next of all that begins with them
-pub whole_ahead : (form : Form) (place stamp kept : ℕ) (whole : Bool) (octets buffer all : List ℕ) → 16 + kept ≤ length octets → ((rest : List ℕ) → after_head form place (take 16 octets) rest ≡ body_of stamp whole kept rest)
-    → take kept buffer ≡ take kept (drop 16 octets) → take (length octets) all ≡ octets → next_at form place all ≡ Came (record { stamp = stamp; whole = whole; octets = take kept buffer })
+pub whole_ahead : (form : Form) (place stamp kept : ℕ) (whole : Bool) (octets buffer all : List ℕ) → 16 + kept ≤ length octets
+    → ((rest : List ℕ) → after_head form place (take 16 octets) rest ≡ body_of stamp whole kept rest)
+    → take kept buffer ≡ take kept (drop 16 octets) → take (length octets) all ≡ octets
+    → next_at form place all ≡ Came (record { stamp = stamp; whole = whole; octets = take kept buffer })
 whole_ahead form place stamp kept whole octets buffer all fits judged copied begins =
     let n : ℕ = length octets in
     let enough : n ≤ length all = omega (arith, ap length begins, length-take n all) in
     let head : take 16 octets ≡ take 16 all = ap (take 16) (sym begins) ∙ take-take 16 n all (omega arith) in
     let long : n ≡ 16 + (n - 16) = omega arith in
     let rest : take kept (drop 16 octets) ≡ take kept (drop 16 all) =
-    ap (λ (xs : List ℕ). take kept (drop 16 xs)) (sym begins) ∙ ap (λ (k : ℕ). take kept (drop 16 (take k all))) long ∙ ap (take kept) (drop-take 16 (n - 16) all) ∙ take-take kept (n - 16) (drop 16 all) (omega arith) in
+    ap (λ (xs : List ℕ). take kept (drop 16 xs)) (sym begins) ∙ ap (λ (k : ℕ). take kept (drop 16 (take k all))) long
+    ∙ ap (take kept) (drop-take 16 (n - 16) all) ∙ take-take kept (n - 16) (drop 16 all) (omega arith) in
     enough_octets form place all (omega arith) ∙ ap (λ (xs : List ℕ). after_head form place xs (drop 16 all)) (sym head) ∙ judged (drop 16 all)
     ∙ came-of stamp kept whole (drop 16 all) (take kept buffer) (omega (arith, length-drop 16 all)) (copied ∙ rest)
 
 no_body-of : (stamp kept n : ℕ) (whole : Bool) (rest : List ℕ) → n < kept → TakesNoRecord (body_of stamp whole kept rest) (16 + n)
 unfolding body_of
 no_body-of stamp kept n whole rest few =
-    elim (nat_lt (length rest) kept) as (λ b. nat_lt (length rest) kept ≡ b → TakesNoRecord (cond b (Broken Torn) (Came (record { stamp = stamp; whole = whole; octets = take kept rest }))) (16 + n)) [
+    elim (nat_lt (length rest) kept) as
+    (λ b. nat_lt (length rest) kept ≡ b
+    → TakesNoRecord (cond b (Broken Torn) (Came (record { stamp = stamp; whole = whole; octets = take kept rest }))) (16 + n)) [
       | true ↦ λ e. tt
       | false ↦ λ e. (let enough : kept ≤ length rest = grind (arith, nat_tests) in omega (arith, length-take kept rest))
     ] refl
 
 -- the desk failed behind the head
-pub no_body : (form : Form) (place n stamp kept : ℕ) (whole : Bool) (o : Option (List ℕ)) → n < kept → IfSome o (λ all. next_at form place all ≡ body_of stamp whole kept (drop 16 all)) → IfSome o (λ all. TakesNoRecord (next_at form place all) (16 + n))
+pub no_body : (form : Form) (place n stamp kept : ℕ) (whole : Bool) (o : Option (List ℕ)) → n < kept
+    → IfSome o (λ all. next_at form place all ≡ body_of stamp whole kept (drop 16 all))
+    → IfSome o (λ all. TakesNoRecord (next_at form place all) (16 + n))
 no_body form place n stamp kept whole None few h = tt
 no_body form place n stamp kept whole (Some all) few h = rw h (no_body-of stamp kept n whole (drop 16 all) few)
 
@@ -147,13 +167,40 @@ refilled : (len : ℕ) (ws xs : List ℕ) → length ws ≡ len → take len (ws
 refilled len ws xs e = take_at ws (drop (length ws) xs) len e
 
 -- the reader after a record
-pub same_reading : (slot : Slot) (form : Form) (place kept stamp len : ℕ) (whole : Bool) (stop : Option ReadStop) (ws xs : List ℕ) → length ws ≡ len → kept ≤ len
-    → (let x : Reading = record { slot = slot; form = form; place = place + (16 + kept); packet = Some (record { stamp = stamp; whole = whole; octets = take kept (take len (ws ++ drop (length ws) xs)) }); stop = stop } in x)
-    ≡ record { slot = slot; form = form; place = place + (16 + length (take kept ws)); packet = Some (record { stamp = stamp; whole = whole; octets = take kept ws }); stop = stop }
+pub same_reading : (slot : Slot) (form : Form) (place kept stamp len : ℕ) (whole : Bool) (stop : Option ReadStop) (ws xs : List ℕ) → length ws ≡ len
+    → kept ≤ len
+    → (let x : Reading = record {
+      slot = slot;
+      form = form;
+      place = place + (16 + kept);
+      packet = Some (record { stamp = stamp; whole = whole; octets = take kept (take len (ws ++ drop (length ws) xs)) });
+      stop = stop;
+    } in x)
+    ≡ record {
+      slot = slot;
+      form = form;
+      place = place + (16 + length (take kept ws));
+      packet = Some (record { stamp = stamp; whole = whole; octets = take kept ws });
+      stop = stop;
+    }
 same_reading slot form place kept stamp len whole stop ws xs e fits =
     let size : kept ≡ length (take kept ws) = sym (length-take-le kept ws (omega arith)) in
-    ap (λ (k : ℕ). let x : Reading = record { slot = slot; form = form; place = place + (16 + k); packet = Some (record { stamp = stamp; whole = whole; octets = take kept (take len (ws ++ drop (length ws) xs)) }); stop = stop } in x) size
-    ∙ ap (λ (ys : List ℕ). let x : Reading = record { slot = slot; form = form; place = place + (16 + length (take kept ws)); packet = Some (record { stamp = stamp; whole = whole; octets = take kept ys }); stop = stop } in x) (refilled len ws xs e)
+    ap (λ (k : ℕ). let x : Reading =
+    record {
+      slot = slot;
+      form = form;
+      place = place + (16 + k);
+      packet = Some (record { stamp = stamp; whole = whole; octets = take kept (take len (ws ++ drop (length ws) xs)) });
+      stop = stop;
+    } in x) size
+    ∙ ap (λ (ys : List ℕ). let x : Reading =
+    record {
+      slot = slot;
+      form = form;
+      place = place + (16 + length (take kept ws));
+      packet = Some (record { stamp = stamp; whole = whole; octets = take kept ys });
+      stop = stop;
+    } in x) (refilled len ws xs e)
 
 few_for_head : (all : List ℕ) → length all < 24 → head_of all ≡ Bad NoHead
 unfolding head_of
@@ -180,7 +227,8 @@ head_of-take all enough =
     ∙ ap (λ (b : Bool). cond b (Bad NoHead) (by_layout all (layout_at all))) (sym long)
 
 -- fewer octets than a head were read
-pub no_capture_head : (n : ℕ) (head : List ℕ) (o : Option (List ℕ)) → n < 24 → n ≤ length head → IfSome o (λ all. take n head ≡ take 24 all) → IfSome o (λ all. head_of all ≡ Bad NoHead)
+pub no_capture_head : (n : ℕ) (head : List ℕ) (o : Option (List ℕ)) → n < 24 → n ≤ length head → IfSome o (λ all. take n head ≡ take 24 all)
+    → IfSome o (λ all. head_of all ≡ Bad NoHead)
 no_capture_head n head None few fits h = tt
 no_capture_head n head (Some all) few fits h =
     let size : length (take n head) ≡ n = length-take-le n head fits in
@@ -188,7 +236,8 @@ no_capture_head n head (Some all) few fits h =
     few_for_head all (omega (arith, same, length-take 24 all))
 
 -- a whole capture's head was read
-pub by_capture_head : (n : ℕ) (head : List ℕ) (answer : Head) (o : Option (List ℕ)) → length head ≡ 24 → 24 ≤ n → IfSome o (λ all. take n head ≡ take 24 all) → answer ≡ head_of head → IfSome o (λ all. head_of all ≡ answer)
+pub by_capture_head : (n : ℕ) (head : List ℕ) (answer : Head) (o : Option (List ℕ)) → length head ≡ 24 → 24 ≤ n
+    → IfSome o (λ all. take n head ≡ take 24 all) → answer ≡ head_of head → IfSome o (λ all. head_of all ≡ answer)
 by_capture_head n head answer None len enough h e = tt
 by_capture_head n head answer (Some all) len enough h e =
     let whole : take n head ≡ head = take_all n head (omega arith) in

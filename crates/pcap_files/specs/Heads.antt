@@ -19,7 +19,8 @@ head_answer (Err f) = Bad f
 
 -- what stands next where a record's head says this, by the octets behind that head
 unfoldable pub body_of : ℕ → Bool → ℕ → List ℕ → Next
-body_of stamp whole kept rest = if nat_lt (length rest) kept then Broken Torn else Came (record { stamp = stamp; whole = whole; octets = take kept rest })
+body_of stamp whole kept rest = if nat_lt (length rest) kept then Broken Torn else Came
+    (record { stamp = stamp; whole = whole; octets = take kept rest })
 
 -- what stands next where a record's head stands in these octets, by the octets behind it
 unfoldable pub after_head : Form → ℕ → List ℕ → List ℕ → Next
@@ -27,7 +28,8 @@ after_head form place head rest =
     if nat_le 1000000000 (nanoseconds_of form head) then Broken Stamp else
     (if nat_lt 262144 (kept_of form head) then Broken RecordTooLong else
     (if nat_lt (2 ^ 40) (place + 16 + kept_of form head) then Broken CaptureTooLong else
-    body_of (seconds_of form head * 1000000000 + nanoseconds_of form head) (nat_le (original_of form head) (kept_of form head)) (kept_of form head) rest))
+    body_of (seconds_of form head * 1000000000 + nanoseconds_of form head) (nat_le (original_of form head) (kept_of form head))
+    (kept_of form head) rest))
 
 -- the record fits
 pub record Fits (place : ℕ) (h : RecordHead) : Type 0 where
@@ -44,11 +46,13 @@ Judges (Ok h) form place head = Fits place h × ((rest : List ℕ) → after_hea
 pub record StandsWhole (h : RecordHead) (form : Form) (place : ℕ) (octets buffer : List ℕ) : Type 0 where
   pub fits : Fits place h
   pub size : 16 + h.kept ≤ length octets
-  pub next : (all : List ℕ) → take (length octets) all ≡ octets → next_at form place all ≡ Came (record { stamp = h.stamp; whole = h.whole; octets = take h.kept buffer })
+  pub next : (all : List ℕ) → take (length octets) all ≡ octets
+      → next_at form place all ≡ Came (record { stamp = h.stamp; whole = h.whole; octets = take h.kept buffer })
 
 -- what stops the reading of a record
 abbrev pub StopsAt : ReadStop → Form → ℕ → Slot → Outside → Outside → Type 0
-StopsAt (Fault f at) form place slot old new = (at ≡ place) × TakesToFault slot place f old new × IfSome (told_at old.left slot) (λ octets. next_at form place octets ≡ Broken f)
+StopsAt (Fault f at) form place slot old new = (at ≡ place) × TakesToFault slot place f old new
+    × IfSome (told_at old.left slot) (λ octets. next_at form place octets ≡ Broken f)
 StopsAt (Desk s) form place slot old new = (s ≡ slot) × HasFailed slot old new × TakesToFailure slot form place old new
 StopsAt OutOfMemory form place slot old new = ⊥
 
@@ -62,14 +66,17 @@ TakesHead (Err e) form place slot old new = StopsAt e form place slot old new
 
 -- what reading a record answers, its octets standing in the buffer
 abbrev pub TakesRecord : Result (Option RecordHead) ReadStop → Form → ℕ → Slot → List ℕ → Outside → Outside → Type 0
-TakesRecord (Ok None) form place slot buffer old new = Takes slot 0 old new × IfSome (told_at old.left slot) (λ octets. next_at form place octets ≡ Ended)
+TakesRecord (Ok None) form place slot buffer old new = Takes slot 0 old new
+    × IfSome (told_at old.left slot) (λ octets. next_at form place octets ≡ Ended)
 TakesRecord (Ok (Some h)) form place slot buffer old new = Fits place h × Takes slot (16 + h.kept) old new
-    × IfSome (told_at old.left slot) (λ octets. next_at form place octets ≡ Came (record { stamp = h.stamp; whole = h.whole; octets = take h.kept buffer }))
+    × IfSome (told_at old.left slot)
+    (λ octets. next_at form place octets ≡ Came (record { stamp = h.stamp; whole = h.whole; octets = take h.kept buffer }))
 TakesRecord (Err e) form place slot buffer old new = StopsAt e form place slot old new
 
 -- what reading a capture's head answers
 abbrev pub TakesCaptureHead : Result Form ReadStop → Slot → Outside → Outside → Type 0
 TakesCaptureHead (Ok form) slot old new = Takes slot 24 old new × IfSome (told_at old.left slot) (λ octets. head_of octets ≡ Good form)
-TakesCaptureHead (Err (Fault f place)) slot old new = (place ≡ 0) × ((n : ℕ) × (n ≤ 24) × Takes slot n old new) × IfSome (told_at old.left slot) (λ octets. head_of octets ≡ Bad f)
+TakesCaptureHead (Err (Fault f place)) slot old new = (place ≡ 0) × ((n : ℕ) × (n ≤ 24) × Takes slot n old new)
+    × IfSome (told_at old.left slot) (λ octets. head_of octets ≡ Bad f)
 TakesCaptureHead (Err (Desk s)) slot old new = (s ≡ slot) × HasFailed slot old new × ((n : ℕ) × (n < 24) × Takes slot n old new)
 TakesCaptureHead (Err OutOfMemory) slot old new = ⊥

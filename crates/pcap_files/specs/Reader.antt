@@ -70,7 +70,8 @@ Advances (Err (Desk slot)) r s old new = (slot ≡ r.slot) × (s ≡ record r { 
     × TakesToFailure r.slot r.form r.place old new
 Advances (Err OutOfMemory) r s old new = ⊥
 
--- what a beginning answers: the reader stands behind a good head; or the head is faulty; or the desk failed before a whole head was taken; or memory ran out behind a good head
+-- what a beginning answers: the reader stands behind a good head; or the head is faulty; or the desk failed before a whole head was taken; or
+-- memory ran out behind a good head
 abbrev pub Begins : Result Reading ReadStop → Slot → Outside → Outside → Type 0
 Begins (Ok r) slot old new = (form : Form) × (r ≡ record { slot = slot; form = form; place = 24; packet = None; stop = None }) × Takes slot 24 old new
     × IfSome (told_at old.left slot) (λ octets. head_of octets ≡ Good form)

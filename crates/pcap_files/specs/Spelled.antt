@@ -24,7 +24,11 @@ all_spelled order (e ∷ entries) = spelled order e ++ all_spelled order entries
 
 -- what its reader makes of it
 abbrev pub packet_from : Form → Entry → Packet
-packet_from form e = record { stamp = e.seconds * 1000000000 + e.fraction * unit form.precision; whole = nat_le e.original (length e.octets); octets = e.octets }
+packet_from form e = record {
+  stamp = e.seconds * 1000000000 + e.fraction * unit form.precision;
+  whole = nat_le e.original (length e.octets);
+  octets = e.octets;
+}
 
 -- a record at this place of the capture is free of faults: its numbers have 32 bits, its fraction is less than a second, and it is not too long
 pub record IsGood (form : Form) (place : ℕ) (e : Entry) : Type 0 where

@@ -19,7 +19,8 @@ spelled_head order precision between link = number_octets order (magic precision
 
 -- the head of a record: seconds, fraction, kept and original length
 abbrev pub spelled_numbers : Order → ℕ → ℕ → ℕ → ℕ → List ℕ
-spelled_numbers order seconds fraction kept original = number_octets order seconds ++ number_octets order fraction ++ number_octets order kept ++ number_octets order original
+spelled_numbers order seconds fraction kept original = number_octets order seconds ++ number_octets order fraction ++ number_octets order kept
+    ++ number_octets order original
 
 -- the head of an outgoing capture: version 2.4, zone 0, accuracy 0, records of at most 262,144 octets
 abbrev pub head_octets : Link → List ℕ

@@ -43,7 +43,8 @@ pub data Turn : Type 0 where
   Ends : Turn
   Stops : Side → CaptureFault → ℕ → Turn
 
--- a side at a fault stops the merge, the left one first; else the left record is next where the right side has none or the left stamp isn't greater; else the right one
+-- a side at a fault stops the merge, the left one first; else the left record is next where the right side has none or the left stamp isn't
+-- greater; else the right one
 abbrev pub turn_of : Front → Front → Turn
 turn_of (AtFault f place) _ = Stops Left f place
 turn_of AtEnd (AtFault f place) = Stops Right f place
@@ -119,7 +120,8 @@ have_good_heads left right = are_good (head_of left) (head_of right)
 abbrev pub by_heads : List ℕ → List ℕ → Head → Head → Merged
 by_heads left right (Bad f) _ = record { events = []; ending = Fault Left f 0 }
 by_heads left right (Good l) (Bad f) = record { events = []; ending = Fault Right f 0 }
-by_heads left right (Good l) (Good r) = merge_from (record { clock = 0; left_link = l.link; right_link = r.link; left = capture_of left; right = capture_of right })
+by_heads left right (Good l) (Good r) =
+    merge_from (record { clock = 0; left_link = l.link; right_link = r.link; left = capture_of left; right = capture_of right })
 
 -- the events of two captures
 unfoldable pub events_of : List ℕ → List ℕ → Merged

@@ -24,14 +24,16 @@ count_of_side side events = count_by (λ (e : Event). same_side e.side side) eve
 abbrev pub EndsOn : Side → List Event → Type 0
 EndsOn side events = (events ≡ []) ⊎ ((front : List Event) × (e : Event) × (events ≡ front ++ e ∷ []) × (e.side ≡ side))
 
--- where reading a side failed, the last of these events is that of the last record that was taken whole from it since the captures began; where none was, there are no events
+-- where reading a side failed, the last of these events is that of the last record that was taken whole from it since the captures began; where
+-- none was, there are no events
 pub record EndsAtTaken (side : Side) (start now : Outside) (events : List Event) : Type 0 where
   pub count : ℕ
   pub taken : told_at now.left (slot_of side) ≡ option_map (drop count) (told_at start.left (slot_of side))
   pub whole : IfSome (told_at start.left (slot_of side)) (λ all. whole_records count all ≡ count_of_side side events)
   pub last : EndsOn side events
 
--- of a side's capture no more whole records were taken since the captures began than those of so many events and one more, and it was read no further than a capture may be and the head of a record
+-- of a side's capture no more whole records were taken since the captures began than those of so many events and one more, and it was read no
+-- further than a capture may be and the head of a record
 pub record HasTakenFew (side : Side) (start now : Outside) (given : ℕ) : Type 0 where
   pub count : ℕ
   pub taken : told_at now.left (slot_of side) ≡ option_map (drop count) (told_at start.left (slot_of side))

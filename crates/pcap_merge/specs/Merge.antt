@@ -17,7 +17,8 @@ use Rattle.pcap_merge.specs.Events.{Merged, Done, Fault as EndsFaulty, Ahead, me
 use Rattle.pcap_merge.specs.Sides.{records_ahead, IsSpent, side_work}
 use Rattle.pcap_merge.specs.Given.{HasRead, IsLast, EndsAtTaken, TakenFor, count_of_side}
 
--- a merge: the readers of both sides, the greatest stamp of the events so far, what the last advance answered, the event to which it came, and the stop to which it came
+-- a merge: the readers of both sides, the greatest stamp of the events so far, what the last advance answered, the event to which it came, and the
+-- stop to which it came
 pub record Merging : Type 0 where
   pub left : Reading
   pub right : Reading
@@ -107,7 +108,8 @@ work m = side_work m.left + side_work m.right
 
 -- each side that was read to its end has nothing left
 abbrev pub AtEnds : Merging → Outside → Type 0
-AtEnds m o = IfSome o.left (λ all. IsSpent (is_unread Left m.last) m.left.packet all.left_in × IsSpent (is_unread Right m.last) m.right.packet all.right_in)
+AtEnds m o = IfSome o.left
+    (λ all. IsSpent (is_unread Left m.last) m.left.packet all.left_in × IsSpent (is_unread Right m.last) m.right.packet all.right_in)
 
 -- an event that can be written again
 pub record IsSmallEvent (e : Event) : Type 0 where
@@ -122,7 +124,8 @@ HeadsAre good told = IfSome told (λ all. have_good_heads all.left_in all.right_
 pub record HasGiven (start : Outside) (m : Merging) (now : Outside) (events : List Event) : Type 0 where
   pub stands : (side : Side) → told_at now.left (slot_of side) ≡ option_map (drop (reading_of side m).place) (told_at start.left (slot_of side))
   pub near : (side : Side) → (reading_of side m).place ≤ 2 ^ 40
-  pub before : (side : Side) → IfSome (told_at start.left (slot_of side)) (HasRead (reading_of side m) (is_unread side m.last) (count_of_side side events))
+  pub before : (side : Side) → IfSome (told_at start.left (slot_of side))
+      (HasRead (reading_of side m) (is_unread side m.last) (count_of_side side events))
   pub last : IsLast m.event events
 
 -- from both captures no more was taken, since they began, than the events that were given need, and one record more of each
@@ -146,8 +149,10 @@ pub record HasBegun (m : Merging) (old new : Outside) : Type 0 where
 -- what a beginning answers: the desk fails before a whole head was taken from that slot
 abbrev pub Begins : Result Merging MergeStop → Outside → Outside → Type 0
 Begins (Ok m) old new = HasBegun m old new
-Begins (Err (Fault side f place)) old new = Reads old new × IfSome (all_events old.left) (λ x. x ≡ record { events = []; ending = EndsFaulty side f place }) × HeadsAre false old.left × TakenFor [] old new
-Begins (Err (Desk slot)) old new = (side : Side) × (slot ≡ slot_of side) × HasFailed slot old new × ((reads : Reads old new) × (count_of side reads < 24)) × TakenFor [] old new
+Begins (Err (Fault side f place)) old new = Reads old new × IfSome (all_events old.left)
+    (λ x. x ≡ record { events = []; ending = EndsFaulty side f place }) × HeadsAre false old.left × TakenFor [] old new
+Begins (Err (Desk slot)) old new = (side : Side) × (slot ≡ slot_of side) × HasFailed slot old new
+    × ((reads : Reads old new) × (count_of side reads < 24)) × TakenFor [] old new
 Begins (Err OutOfMemory) old new = Reads old new × TakenFor [] old new
 
 -- the merge came to this event
@@ -185,7 +190,8 @@ pub record FailsAt (side : Side) (m : Merging) (old new : Outside) : Type 0 wher
 
 -- why a merge stops
 abbrev pub StopsBy : MergeStop → Merging → Outside → Outside → Type 0
-StopsBy (Fault side f place) m old new = Reads old new × IfSome (ahead m old.left) (λ x. x ≡ record { events = []; ending = EndsFaulty side f place }) × TakesFew m old new
+StopsBy (Fault side f place) m old new = Reads old new × IfSome (ahead m old.left) (λ x. x ≡ record { events = []; ending = EndsFaulty side f place })
+    × TakesFew m old new
 StopsBy (Desk slot) m old new = (side : Side) × (slot ≡ slot_of side) × FailsAt side m old new
 StopsBy OutOfMemory m old new = ⊥
 

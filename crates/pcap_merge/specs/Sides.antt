@@ -66,14 +66,17 @@ pub record Readies (side : Side) (unread : Bool) (r s : Reading) (old new : Outs
 -- what reading a side answers
 abbrev pub ReadsSide : Result (Unit {0}) MergeStop → Side → Bool → Reading → Reading → Outside → Outside → Type 0
 ReadsSide (Ok u) side unread r s old new = Readies side unread r s old new
-ReadsSide (Err (Fault stopped f place)) side unread r s old new = (stopped ≡ side) × (unread ≡ true) × (s.slot ≡ r.slot) × (s.packet ≡ None) × TakesToFailure (slot_of side) r.form r.place old new
+ReadsSide (Err (Fault stopped f place)) side unread r s old new = (stopped ≡ side) × (unread ≡ true) × (s.slot ≡ r.slot) × (s.packet ≡ None)
+    × TakesToFailure (slot_of side) r.form r.place old new
     × IfSome (told_at old.left (slot_of side)) (λ octets. records_from r.form r.place octets ≡ record { packets = []; ending = EndsFaulty f place })
-ReadsSide (Err (Desk slot)) side unread r s old new = (slot ≡ slot_of side) × (unread ≡ true) × (s.slot ≡ r.slot) × (s.packet ≡ None) × HasFailed slot old new
+ReadsSide (Err (Desk slot)) side unread r s old new = (slot ≡ slot_of side) × (unread ≡ true) × (s.slot ≡ r.slot) × (s.packet ≡ None)
+    × HasFailed slot old new
     × TakesToFailure (slot_of side) r.form r.place old new
 ReadsSide (Err OutOfMemory) side unread r s old new = ⊥
 
 -- what reading both sides answers
 abbrev pub ReadsSides : Result (Unit {0}) MergeStop → Last → Reading → Reading → Reading → Reading → Outside → Outside → Type 0
-ReadsSides (Ok u) last l l' r r' old new = (mid : Outside) × Readies Left (is_unread Left last) l l' old mid × Readies Right (is_unread Right last) r r' mid new
+ReadsSides (Ok u) last l l' r r' old new = (mid : Outside) × Readies Left (is_unread Left last) l l' old mid
+    × Readies Right (is_unread Right last) r r' mid new
 ReadsSides (Err e) last l l' r r' old new = (ReadsSide (Err e) Left (is_unread Left last) l l' old new × (r' ≡ r))
     ⊎ ((mid : Outside) × Readies Left (is_unread Left last) l l' old mid × ReadsSide (Err e) Right (is_unread Right last) r r' mid new)

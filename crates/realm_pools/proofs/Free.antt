@@ -31,14 +31,17 @@ frees address pool free =
 free_by : (address : Addr) (pool : Addresses) → Frees address pool → IsTrue (is_free address pool)
 free_by address pool f =
     and_from (is_in address pool.range) (not (get_or pool.taken (place_of address pool) true))
-    (and_from (nat_le pool.range.first address.0) (nat_le address.0 pool.range.last) (le-leb pool.range.first address.0 f.from) (le-leb address.0 pool.range.last f.to))
+    (and_from (nat_le pool.range.first address.0) (nat_le address.0 pool.range.last) (le-leb pool.range.first address.0 f.from)
+    (le-leb address.0 pool.range.last f.to))
     (not_from_false (get_or pool.taken (place_of address pool) true) f.flag)
 
 -- the pool has a flag for each of its addresses
 abbrev pub HasFlags : Addresses → Type 0
 HasFlags pool = pool.range.first + length pool.taken ≡ pool.range.last + 1
 
-least_of : (bound place : ℕ) (pool : Addresses) (found : Option ℕ) → position not (drop place pool.taken) ≡ found → HasFlags pool → bound ≤ pool.range.first + place → ((other : Addr) → bound ≤ other.0 → pool.range.first ≤ other.0 → place ≤ other.0 - pool.range.first) → IfSome (option_map (λ more. address_of (pool.range.first + (place + more))) found) (IsLeastFree bound pool)
+least_of : (bound place : ℕ) (pool : Addresses) (found : Option ℕ) → position not (drop place pool.taken) ≡ found → HasFlags pool
+    → bound ≤ pool.range.first + place → ((other : Addr) → bound ≤ other.0 → pool.range.first ≤ other.0 → place ≤ other.0 - pool.range.first)
+    → IfSome (option_map (λ more. address_of (pool.range.first + (place + more))) found) (IsLeastFree bound pool)
 least_of bound place pool None e flags low above = tt
 least_of bound place pool (Some more) e flags low above =
     let at = position-Some not (drop place pool.taken) more true e in
@@ -46,7 +49,8 @@ least_of bound place pool (Some more) e flags low above =
     let address = address_of (pool.range.first + (place + more)) in
     let here : address.0 - pool.range.first ≡ place + more = omega arith in
     record {
-      free = free_by address pool (record { from = omega arith; to = omega arith; flag = rw here (sym (get_or-drop place pool.taken more true) ∙ not-true _ at.1) });
+      free = free_by address pool
+          (record { from = omega arith; to = omega arith; flag = rw here (sym (get_or-drop place pool.taken more true) ∙ not-true _ at.1) });
       within = omega arith;
       least = λ other free after. elim (cases_lt other.0 address.0) [
         | inl lower ↦
@@ -60,7 +64,9 @@ least_of bound place pool (Some more) e flags low above =
       ];
     }
 
-none_of : (bound place : ℕ) (pool : Addresses) (found : Option ℕ) → position not (drop place pool.taken) ≡ found → HasFlags pool → ((other : Addr) → bound ≤ other.0 → pool.range.first ≤ other.0 → place ≤ other.0 - pool.range.first) → IfNone (option_map (λ more. address_of (pool.range.first + (place + more))) found) (IsNoneFree bound pool)
+none_of : (bound place : ℕ) (pool : Addresses) (found : Option ℕ) → position not (drop place pool.taken) ≡ found → HasFlags pool
+    → ((other : Addr) → bound ≤ other.0 → pool.range.first ≤ other.0 → place ≤ other.0 - pool.range.first)
+    → IfNone (option_map (λ more. address_of (pool.range.first + (place + more))) found) (IsNoneFree bound pool)
 none_of bound place pool (Some more) e flags above = tt
 none_of bound place pool None e flags above = λ other free after.
     let f = frees other pool free in
@@ -75,13 +81,19 @@ none_of bound place pool None e flags above = λ other free after.
     ]
 
 -- the first free address from a place on is the least above a bound, where no address above the bound stands before the place
-pub least_from : (bound place : ℕ) (pool : Addresses) → HasFlags pool → bound ≤ pool.range.first + place → ((other : Addr) → bound ≤ other.0 → pool.range.first ≤ other.0 → place ≤ other.0 - pool.range.first) → IfSome (free_from place pool) (IsLeastFree bound pool)
+pub least_from : (bound place : ℕ) (pool : Addresses) → HasFlags pool → bound ≤ pool.range.first + place
+    → ((other : Addr) → bound ≤ other.0 → pool.range.first ≤ other.0 → place ≤ other.0 - pool.range.first)
+    → IfSome (free_from place pool) (IsLeastFree bound pool)
 least_from bound place pool = least_of bound place pool (position not (drop place pool.taken)) refl
 
-pub none_from : (bound place : ℕ) (pool : Addresses) → HasFlags pool → ((other : Addr) → bound ≤ other.0 → pool.range.first ≤ other.0 → place ≤ other.0 - pool.range.first) → IfNone (free_from place pool) (IsNoneFree bound pool)
+pub none_from : (bound place : ℕ) (pool : Addresses) → HasFlags pool
+    → ((other : Addr) → bound ≤ other.0 → pool.range.first ≤ other.0 → place ≤ other.0 - pool.range.first)
+    → IfNone (free_from place pool) (IsNoneFree bound pool)
 none_from bound place pool = none_of bound place pool (position not (drop place pool.taken)) refl
 
-address_at : (first low first_place rest_place all rest : ℕ) → first_place ≡ low + rest_place → all ≡ low + rest → option_map (λ more. address_of (first + (low + more))) (cond (nat_lt rest_place rest) (Some rest_place) None) ≡ option_map (λ more. address_of (first + (0 + more))) (cond (nat_lt first_place all) (Some first_place) None)
+address_at : (first low first_place rest_place all rest : ℕ) → first_place ≡ low + rest_place → all ≡ low + rest
+    → option_map (λ more. address_of (first + (low + more))) (cond (nat_lt rest_place rest) (Some rest_place) None)
+    ≡ option_map (λ more. address_of (first + (0 + more))) (cond (nat_lt first_place all) (Some first_place) None)
 address_at first low first_place rest_place all rest e f =
     elim (cases_lt rest_place rest) [
       | inl less ↦
@@ -95,7 +107,8 @@ address_at first low first_place rest_place all rest e f =
     ]
 
 -- where all addresses below a place are taken, the first free one from there on is the least
-pub from_low : (range : Range) (taken : List Bool) (low : ℕ) → low ≤ length taken → ((place : ℕ) → place < low → get_or taken place false ≡ true) → free_from low (record { range = range; taken = taken }) ≡ free_from 0 (record { range = range; taken = taken })
+pub from_low : (range : Range) (taken : List Bool) (low : ℕ) → low ≤ length taken → ((place : ℕ) → place < low → get_or taken place false ≡ true)
+    → free_from low (record { range = range; taken = taken }) ≡ free_from 0 (record { range = range; taken = taken })
 from_low range taken low within all =
     let more : ℕ = position_or_len not (drop low taken) in
     let fits : more ≤ length (drop low taken) = prefix_len-le-length _ (drop low taken) in
@@ -105,9 +118,11 @@ from_low range taken low within all =
       | inr over ↦
           let k : ℕ = place - low in
           let same : low + k ≡ place = omega arith in
-          ap not (ap (λ (n : ℕ). get_or taken n true) (sym same) ∙ sym (get_or-drop low taken k true)) ∙ fails_before_first not (drop low taken) k true (omega arith)
+          ap not (ap (λ (n : ℕ). get_or taken n true) (sym same) ∙ sym (get_or-drop low taken k true))
+          ∙ fails_before_first not (drop low taken) k true (omega arith)
     ] in
-    let at : low + more < length taken → not (get_or taken (low + more) true) ≡ true = λ less. ap not (sym (get_or-drop low taken more true)) ∙ passes_at_first not (drop low taken) true (omega arith) in
+    let at : low + more < length taken → not (get_or taken (low + more) true) ≡ true = λ less. ap not (sym (get_or-drop low taken more true))
+    ∙ passes_at_first not (drop low taken) true (omega arith) in
     let first_place = position_or_len_is not taken (low + more) true (omega arith) below at in
     address_at range.first low (position_or_len not taken) more (length taken) (length (drop low taken)) first_place (omega arith)
 
@@ -121,7 +136,8 @@ taken_here : (taken : Bool) → one_if (not taken) ≡ 0 → not taken ≡ false
 taken_here true is = refl
 taken_here false is = let bad : ⊥ = cc in absurd bad
 
-position_at : (flags : List Bool) (n : ℕ) → n ≤ length flags → ((k : ℕ) → k < n → not (get_or flags k true) ≡ false) → (n < length flags → not (get_or flags n true) ≡ true) → position not flags ≡ cond (nat_lt n (length flags)) (Some n) None
+position_at : (flags : List Bool) (n : ℕ) → n ≤ length flags → ((k : ℕ) → k < n → not (get_or flags k true) ≡ false)
+    → (n < length flags → not (get_or flags n true) ≡ true) → position not flags ≡ cond (nat_lt n (length flags)) (Some n) None
 position_at flags n within below at = ap (λ i. cond (nat_lt i (length flags)) (Some i) None) (position_or_len_is not flags n true within below at)
 
 -- a bit is 1 where the place is free
@@ -134,26 +150,33 @@ place_within words taken place bits one = elim (cases_lt place (length taken)) [
   | inr h ↦ absurd (false≢true (sym (free_here (get_or taken place true) (sym (bits place) ∙ one)) ∙ get_or_past taken place true h))
 ]
 
-pub first_place : (range : Range) (words : List ℕ) (taken : List Bool) (place : ℕ) (first : Option ℕ) → AreFree words taken → IsFirst (bit_of words) place first → option_map (λ n. address_of (range.first + n)) first ≡ free_from place (record { range = range; taken = taken })
+pub first_place : (range : Range) (words : List ℕ) (taken : List Bool) (place : ℕ) (first : Option ℕ) → AreFree words taken
+    → IsFirst (bit_of words) place first → option_map (λ n. address_of (range.first + n)) first
+    ≡ free_from place (record { range = range; taken = taken })
 first_place range words taken place None bits none =
     let rest = drop place taken in
     let below : (k : ℕ) → k < length rest → not (get_or rest k true) ≡ false = λ k less.
     ap not (get_or-drop place taken k true) ∙ taken_here (get_or taken (place + k) true) (sym (bits (place + k)) ∙ none (place + k) (omega arith))
     in
-    sym (ap (option_map (λ more. address_of (range.first + (place + more)))) (position_at rest (length rest) (omega arith) below (λ less. absurd (omega arith)) ∙ ap (λ b. cond b (Some (length rest)) None) (le-ltb (length rest) (length rest) (omega arith))))
+    sym (ap (option_map (λ more. address_of (range.first + (place + more))))
+    (position_at rest (length rest) (omega arith) below (λ less. absurd (omega arith))
+    ∙ ap (λ b. cond b (Some (length rest)) None) (le-ltb (length rest) (length rest) (omega arith))))
 first_place range words taken place (Some found) bits first =
     let rest = drop place taken in
     let more : ℕ = found - place in
     let is : found ≡ place + more = omega (arith, first.0) in
     let within : more < length rest = omega (arith, place_within words taken found bits (first.1), first.0, length-drop place taken) in
     let below : (k : ℕ) → k < more → not (get_or rest k true) ≡ false = λ k less.
-    ap not (get_or-drop place taken k true) ∙ taken_here (get_or taken (place + k) true) (sym (bits (place + k)) ∙ first.2 (place + k) (omega arith) (omega arith))
+    ap not (get_or-drop place taken k true) ∙ taken_here (get_or taken (place + k) true)
+    (sym (bits (place + k)) ∙ first.2 (place + k) (omega arith) (omega arith))
     in
     let at : not (get_or rest more true) ≡ true =
-    ap not (get_or-drop place taken more true ∙ ap (λ n. get_or taken n true) (sym is) ∙ free_here (get_or taken found true) (sym (bits found) ∙ first.1))
+    ap not (get_or-drop place taken more true ∙ ap (λ n. get_or taken n true) (sym is)
+    ∙ free_here (get_or taken found true) (sym (bits found) ∙ first.1))
     in
     ap (λ n. Some (address_of (range.first + n))) is
-    ∙ sym (ap (option_map (λ more. address_of (range.first + (place + more)))) (position_at rest more (omega arith) below (λ less. at) ∙ ap (λ b. cond b (Some more) None) (lt-ltb more (length rest) within)))
+    ∙ sym (ap (option_map (λ more. address_of (range.first + (place + more))))
+    (position_at rest more (omega arith) below (λ less. at) ∙ ap (λ b. cond b (Some more) None) (lt-ltb more (length rest) within)))
 
 -- the places below the size of an unused pool are free
 pub free_below : (size place : ℕ) → one_if (nat_lt place size) ≡ one_if (not (get_or (replicate size false) place true))

@@ -28,7 +28,7 @@ pub struct SegmentModel<'a> {
 ///
 /// The limit is at least 1, and with the TCP header's options at most 65,495 octets, which is what a datagram holds. Both
 /// lists have room for all of it, so no memory is taken.
-pub fn put_pieces(
+pub(crate) fn append_pieces(
     outbox: &mut Vec<u8>,
     ends: &mut Vec<u32>,
     model: &SegmentModel,
@@ -72,7 +72,7 @@ pub fn put_pieces(
 }
 
 /// Appends one datagram without octets, and its end in the outbox to `ends`. It takes no memory, as both lists have room.
-pub fn put_empty(outbox: &mut Vec<u8>, ends: &mut Vec<u32>, model: &SegmentModel)
+pub(crate) fn append_empty(outbox: &mut Vec<u8>, ends: &mut Vec<u32>, model: &SegmentModel)
     requires ip { length model.now.ip.now ≡ 20 }
     requires tcp { IsTcpHeader model.now.tcp.now }
     requires ecn { model.now.flags.ecn ≤ 3 }

@@ -4,6 +4,7 @@ use Rattle.toml.specs.Data.{Data, Members}
 use Rattle.gate_base.specs.declared.side.Side.{Side}
 use Rattle.gate_base.specs.declared.side.Side.TheVariants.{Left, Right}
 use Rattle.settings_file.specs.declared.fault.SettingsFault.{SettingsFault}
+use Rattle.gate_settings.specs.declared.settings.ReportForm.TheVariants.{Text}
 use Rattle.settings_file.specs.declared.fault.SettingsFault.TheVariants.{TooLong, NotToml}
 use Rattle.settings_file.specs.declared.given.Given.{Given}
 use Rattle.settings_file.specs.declared.given.GivenSide.{GivenSide}
@@ -82,7 +83,7 @@ GivenHas g = HaveMacAddresses g.settings
 keys_six : (members : Members) → IfOk (document.all_keys members) GivenHas
 unfolding document.all_keys
 keys_six members =
-    after GivenHas (document.optional document.json false Report members) _ (λ json.
+    after GivenHas (document.optional document.report Text Report members) _ (λ report.
     after GivenHas (document.optional document.join false Fragments members) _ (λ join.
     after GivenHas (document.optional document.blocks [] Same members) _ (λ same.
     given SideHas GivenHas (document.side_table Left members) _ (table_six Left members) (λ left h.

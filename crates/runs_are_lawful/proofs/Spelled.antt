@@ -30,7 +30,7 @@ outs_of s (Reaches e) = out whole_rules s.world e
 outs_of s (Stopped e v) = []
 
 abbrev pub line_piece_of : Settings → State WholeSession → Arrival → Piece
-line_piece_of settings s a = event_piece settings.json (s.totals.events + 1) (event_in a).side (event_in a).moment (verdict_of s.world a) (length (outs_of s a))
+line_piece_of settings s a = event_piece settings.report (s.totals.events + 1) (event_in a).side (event_in a).moment (verdict_of s.world a) (length (outs_of s a))
 
 pub gives : (settings : Settings) (s : State WholeSession) (a : Arrival) → given_by whole_rules settings s a ≡ sent settings (other (event_in a).side) (event_in a).moment (outs_of s a) ++ line_piece_of settings s a ∷ []
 gives settings s (Reaches e) = refl

@@ -7,7 +7,7 @@ use Rattle.gate_base.specs.declared.side.Side.TheVariants.{Left, Right}
 use Rattle.gate_desk.specs.declared.slot.Slot.TheVariants.{Report}
 use Rattle.gate_settings.specs.declared.settings.Settings.{Settings}
 use Rattle.gate_report.specs.Counts.{done_line}
-use Rattle.gate_report.specs.Lines.{text_of, json_of}
+use Rattle.gate_report.specs.Lines.{line_octets}
 use Rattle.pcap_files.specs.Prelude.{Packet, Records, Whole}
 use Rattle.pcap_merge.specs.Prelude.{Ending, Done, Fault}
 use Rattle.gate_model.specs.Prelude.{whole_rules, WholeSession}
@@ -56,11 +56,7 @@ report_step settings s e es ending =
 
 report_end : (settings : Settings) (s : State WholeSession) → report_from settings s [] Done ≡ last_line settings (known_of s)
 unfolding given_by_all
-report_end settings s = by_form settings.json
-  where
-    by_form : (json : Bool) → octets_to Report (written_last json s.totals s.world.pending) ≡ cond json (json_of (done_line s.totals s.world.pending)) (text_of (done_line s.totals s.world.pending))
-    by_form true = append-nil (json_of (done_line s.totals s.world.pending))
-    by_form false = append-nil (text_of (done_line s.totals s.world.pending))
+report_end settings s = append-nil (line_octets settings.report (done_line s.totals s.world.pending))
 
 -- ## The walk
 

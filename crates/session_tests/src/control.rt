@@ -1,8 +1,5 @@
-ghost use Rattle.std.specs.Prelude.{◌≡◌};
-ghost use Rattle.dialogue.specs.Prelude.{HoldsAtMost};
-
-use dialogue::{Dialogue, Holder};
-use ftp_lines::{ClientLines, ServerLines, rests_are_short};
+use dialogue::Dialogue;
+use ftp_lines::{ClientLines, ServerLines};
 use gate_base::{Addr, Pair};
 use std::alloc::{AllocError, Global};
 use std::test::Fail;
@@ -115,17 +112,9 @@ fn first_wrong<'a, D: Dialogue>(
     None
 }
 
-/// What a new holder answers to so many octets and then to the others, and how many it holds afterwards.
-fn taken<D: Dialogue>(lines: &D, octets: &[u8], count: usize) -> (usize, usize, usize)
-    requires { HoldsAtMost (D.meaning lines.now) 511 }
-{
-    let (first, second) = octets.split_at(count.min(octets.len()));
-    let mut holder = Holder::<512>::new();
-    let first = holder.take(lines, first);
-    let second = holder.take(lines, second);
-    let rest = holder.rest().len();
-    holder.clear();
-    (first, second, rest)
+/// Whether octets are a rest that waits for more.
+fn waits<D: Dialogue>(lines: &D, octets: &[u8]) -> bool {
+    lines.first_end(octets).is_none() && lines.holds(octets)
 }
 
 /// A line of 18 octets, so many letters, CR and LF.
@@ -138,7 +127,6 @@ fn passive_line(alloc: Global, letters: usize) -> Result<Vec<u8>, AllocError> {
 
 #[test]
 fn renames_and_holds(rt: HostRuntime) -> Result<(), Fail> {
-    rests_are_short();
     let mut client = ClientLines { pair: PAIR };
     let mut server = ServerLines { pair: PAIR };
     let mut short = ServerLines { pair: SHORT };
@@ -161,11 +149,13 @@ fn renames_and_holds(rt: HostRuntime) -> Result<(), Fail> {
     );
     let long = passive_line(rt.alloc(), 492)?;
     assert!(rt; server.image(rt.alloc(), &long)?.len() == 517);
-    assert!(rt; taken(&server, &long, 511) == (511, 1, 511));
+    assert!(rt; waits(&server, &long[..long.len().min(511)]));
     let longer = passive_line(rt.alloc(), 493)?;
     assert!(rt; has_image(rt.alloc(), &mut server, &longer, false, &longer));
-    assert!(rt; taken(&server, &longer, 512) == (512, 1, 0));
-    assert!(rt; taken(&client, b"PORT 10,0,0,5,4,1\r\n", 9) == (9, 10, 9));
-    assert!(rt; taken(&client, b"QUPO", 2) == (1, 2, 2));
+    assert!(rt; !waits(&server, &longer[..longer.len().min(512)]));
+    assert!(rt; waits(&client, b"PORT 10,0"));
+    assert!(rt; !waits(&client, b"Q"));
+    assert!(rt; waits(&client, b"PO"));
+    assert!(rt; !waits(&client, b"PORT 10,0,0,5,4,1\r\n"));
     Ok(())
 }

@@ -13,6 +13,7 @@ use Rattle.settings_file.specs.declared.fault.SettingsFault.{SettingsFault}
 use Rattle.settings_file.specs.Firsts.{◌>>=◌, Found}
 use Rattle.gate_settings.specs.Prelude.{HasUnicastPool, HasForms}
 use Rattle.gate_settings.specs.Forms.{IsBlock, IsUnicast, IsUnicastPair}
+use Rattle.gate_settings.specs.declared.settings.ReportForm.TheVariants.{Text}
 use Rattle.settings_file.specs.Texts.{address_text, block_text}
 use Rattle.settings_file.specs.Prefixes.{arcs_text, prefix_text}
 use Rattle.settings_file.specs.Document as document
@@ -188,7 +189,7 @@ HasGivenForms given = HasForms given.settings
 all_keys : (members : Members) → IfOk (document.all_keys members) HasGivenForms
 unfolding document.all_keys
 all_keys members =
-    after HasGivenForms (document.optional document.json false Report members) _ (λ json.
+    after HasGivenForms (document.optional document.report Text Report members) _ (λ report.
     after HasGivenForms (document.optional document.join false Fragments members) _ (λ join.
     given (All IsBlock) HasGivenForms (document.optional document.blocks [] Same members) _ (optional (All IsBlock) document.blocks [] (All-nil IsBlock) blocks Same members) (λ same are_blocks.
     given HasUnicastSide HasGivenForms (document.side_table Left members) _ (side_table Left members) (λ left has_left.

@@ -19,6 +19,8 @@ read_item {A} read front one n datum rest is = rw is (behind (each read (n + 1) 
     behind (Err fault) = refl
 
 -- what is read next stands behind what was read
-pub read_next : {A : Type 0} (read : ℕ → Data → Found A) (front : List A) (one : A) (values : List Value) (i : ℕ) (value : Value) → i < length values → value ≡ get_or values i value → read (i + 1) (view value) ≡ Ok one → with_front front (each read (i + 1) (items_view (drop i values))) ≡ with_front (front ++ one ∷ []) (each read (i + 1 + 1) (items_view (drop (i + 1) values)))
+pub read_next : {A : Type 0} (read : ℕ → Data → Found A) (front : List A) (one : A) (values : List Value) (i : ℕ) (value : Value) → i < length values
+    → value ≡ get_or values i value → read (i + 1) (view value) ≡ Ok one → with_front front (each read (i + 1) (items_view (drop i values)))
+    ≡ with_front (front ++ one ∷ []) (each read (i + 1 + 1) (items_view (drop (i + 1) values)))
 read_next read front one values i value within is reads =
     rw (items_view-drop values i value within) (read_item read front one (i + 1) (view (get_or values i value)) (items_view (drop (i + 1) values)) (subst (λ v. read (i + 1) (view v) ≡ Ok one) is reads))

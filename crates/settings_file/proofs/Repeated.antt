@@ -55,7 +55,10 @@ true_or false true = refl
 true_or false false = refl
 
 -- the numbers of one static more
-pub numbers_more : (number : Fixed → ℕ) (old new : BTreeSet ℕ) (statics : List Fixed) (i : ℕ) (d : Fixed) (key q : ℕ) → i < length statics → key ≡ number (get_or statics i d) → Updates nat_cmp old new key true → contains nat_cmp old q ≡ list_any (λ fixed. number fixed == q) (take i statics) → contains nat_cmp new q ≡ list_any (λ fixed. number fixed == q) (take (i + 1) statics)
+pub numbers_more : (number : Fixed → ℕ) (old new : BTreeSet ℕ) (statics : List Fixed) (i : ℕ) (d : Fixed) (key q : ℕ) → i < length statics
+    → key ≡ number (get_or statics i d) → Updates nat_cmp old new key true
+    → contains nat_cmp old q ≡ list_any (λ fixed. number fixed == q) (take i statics)
+    → contains nat_cmp new q ≡ list_any (λ fixed. number fixed == q) (take (i + 1) statics)
 numbers_more number old new statics i d key q l is h before =
     h.0 q
     ∙ true_or (is_at (nat_cmp key) q) (contains nat_cmp old q)
@@ -83,10 +86,14 @@ has_host statics i fixed = list_any (λ e. host_number e == host_number fixed) (
 abbrev pub has_alias : List Fixed → ℕ → Fixed → Bool
 has_alias statics i fixed = list_any (λ e. alias_number e == alias_number fixed) (take i statics)
 
-by_test : (statics : List Fixed) (i : ℕ) (d : Fixed) (b : Bool) → i < length statics → (has_host statics i (get_or statics i d) || has_alias statics i (get_or statics i d)) ≡ b → first_repeated (take i statics) (drop i statics) ≡ (if b then Some (StaticRepeated (i + 1)) else first_repeated (take (i + 1) statics) (drop (i + 1) statics))
+by_test : (statics : List Fixed) (i : ℕ) (d : Fixed) (b : Bool) → i < length statics
+    → (has_host statics i (get_or statics i d) || has_alias statics i (get_or statics i d)) ≡ b → first_repeated (take i statics) (drop i statics)
+    ≡ (if b then Some (StaticRepeated (i + 1)) else first_repeated (take (i + 1) statics) (drop (i + 1) statics))
 by_test statics i d b l is = at_next statics i d l ∙ ap (λ b. if b then Some (StaticRepeated (i + 1)) else first_repeated (take (i + 1) statics) (drop (i + 1) statics)) (any_collides (get_or statics i d) (take i statics) ∙ is)
 
-pub collides_next : (statics : List Fixed) (i : ℕ) (d : Fixed) (new_host new_alias : Bool) → i < length statics → new_host ≡ not (has_host statics i (get_or statics i d)) → new_alias ≡ not (has_alias statics i (get_or statics i d)) → (new_host ≡ false) ⊎ ((new_host ≡ true) × (new_alias ≡ false)) → first_repeated (take i statics) (drop i statics) ≡ Some (StaticRepeated (i + 1))
+pub collides_next : (statics : List Fixed) (i : ℕ) (d : Fixed) (new_host new_alias : Bool) → i < length statics
+    → new_host ≡ not (has_host statics i (get_or statics i d)) → new_alias ≡ not (has_alias statics i (get_or statics i d)) → (new_host ≡ false)
+    ⊎ ((new_host ≡ true) × (new_alias ≡ false)) → first_repeated (take i statics) (drop i statics) ≡ Some (StaticRepeated (i + 1))
 collides_next statics i d new_host new_alias l host alias either = by_test statics i d true l (held _ _ new_host new_alias host alias either)
   where
     held : (a b new_host new_alias : Bool) → new_host ≡ not a → new_alias ≡ not b → (new_host ≡ false) ⊎ ((new_host ≡ true) × (new_alias ≡ false)) → (a || b) ≡ true
@@ -95,7 +102,9 @@ collides_next statics i d new_host new_alias l host alias either = by_test stati
     held false false m n g h (inl e) = cc
     held false false m n g h (inr e) = (let no : n ≡ false = e.1 in cc)
 
-pub passes_next : (statics : List Fixed) (i : ℕ) (d : Fixed) (new_host new_alias : Bool) → i < length statics → new_host ≡ not (has_host statics i (get_or statics i d)) → new_alias ≡ not (has_alias statics i (get_or statics i d)) → new_host ≡ true → new_alias ≡ true → first_repeated (take i statics) (drop i statics) ≡ first_repeated (take (i + 1) statics) (drop (i + 1) statics)
+pub passes_next : (statics : List Fixed) (i : ℕ) (d : Fixed) (new_host new_alias : Bool) → i < length statics
+    → new_host ≡ not (has_host statics i (get_or statics i d)) → new_alias ≡ not (has_alias statics i (get_or statics i d)) → new_host ≡ true
+    → new_alias ≡ true → first_repeated (take i statics) (drop i statics) ≡ first_repeated (take (i + 1) statics) (drop (i + 1) statics)
 passes_next statics i d new_host new_alias l host alias first second = by_test statics i d false l (none _ _ new_host new_alias host alias first second)
   where
     none : (a b new_host new_alias : Bool) → new_host ≡ not a → new_alias ≡ not b → new_host ≡ true → new_alias ≡ true → (a || b) ≡ false

@@ -15,11 +15,13 @@ use Rattle.settings_file.specs.declared.fault.SettingsFault.{SettingsFault}
 use Rattle.settings_file.specs.declared.fault.SettingsFault.TheVariants.{TooLong, NotToml, Missing, Kind, BadAddress}
 use Rattle.gate_settings.specs.declared.settings.Block.{Block}
 use Rattle.gate_settings.specs.declared.settings.Fixed.{Fixed}
+use Rattle.gate_settings.specs.declared.settings.ReportForm.{ReportForm}
+use Rattle.gate_settings.specs.declared.settings.ReportForm.TheVariants.{Text}
 use Rattle.settings_file.specs.declared.given.GivenSide.{GivenSide}
 use Rattle.settings_file.specs.declared.given.Given.{Given}
 use Rattle.settings_file.specs.Keys.{name_of}
 use Rattle.settings_file.specs.Firsts.{◌>>=◌, Found}
-use Rattle.settings_file.specs.Texts.{json_text, join_text, link_text, side_text, address_text, block_text, mac_text}
+use Rattle.settings_file.specs.Texts.{report_text, join_text, link_text, side_text, address_text, block_text, mac_text}
 use Rattle.settings_file.specs.Prefixes.{prefix_text}
 
 -- ## Kinds of values
@@ -34,9 +36,9 @@ spelled spell fault key value = do
   words ← text key value
   ok_or (spell words) (fault key)
 
--- whether the report is JSON
-unfoldable pub json : Key → Data → Found Bool
-json = spelled json_text Kind
+-- the form of the report
+unfoldable pub report : Key → Data → Found ReportForm
+report = spelled report_text Kind
 
 -- whether fragments are joined
 unfoldable pub join : Key → Data → Found Bool
@@ -205,7 +207,7 @@ side_table side document = do
 -- the keys at the top of a document
 unfoldable pub all_keys : Members → Found Given
 all_keys document = do
-  json ← optional json false Report document
+  report ← optional report Text Report document
   join ← optional join false Fragments document
   same ← optional blocks [] Same document
   left ← side_table Left document
@@ -213,7 +215,7 @@ all_keys document = do
   statics ← optional statics [] Statics document
   oids ← optional oids [] Oids document
   Ok (record {
-    settings = record { json = json; join = join; same = same; left = left.settings; right = right.settings; statics = statics; oids = oids };
+    settings = record { report = report; join = join; same = same; left = left.settings; right = right.settings; statics = statics; oids = oids };
     left_lacks_mac = left.lacks_mac;
     right_lacks_mac = right.lacks_mac;
   })

@@ -8,10 +8,12 @@ use Rattle.gate_base.specs.declared.side.Link.TheVariants.{Ethernet, Raw}
 use Rattle.gate_base.specs.declared.side.Side.{Side}
 use Rattle.gate_base.specs.declared.side.Side.TheVariants.{Left, Right}
 use Rattle.gate_settings.specs.declared.settings.Block.{Block}
+use Rattle.gate_settings.specs.declared.settings.ReportForm.{ReportForm}
+use Rattle.gate_settings.specs.declared.settings.ReportForm.TheVariants.{Text, Json}
 
--- whether a report is JSON: "json" or "text"
-unfoldable pub json_text : List ℕ → Option Bool
-json_text text = if bytes_eq text (codes "json") then Some true else if bytes_eq text (codes "text") then Some false else None
+-- the form of a report: "json" or "text"
+unfoldable pub report_text : List ℕ → Option ReportForm
+report_text text = if bytes_eq text (codes "json") then Some Json else if bytes_eq text (codes "text") then Some Text else None
 
 -- whether fragments are joined: "join" or "refuse"
 unfoldable pub join_text : List ℕ → Option Bool

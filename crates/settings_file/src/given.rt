@@ -1,6 +1,7 @@
 // The keys of a settings document, in the order of testing.
 ghost use Rattle.std.specs.Prelude.{◌≡◌, ◌<◌, ◌^◌, [], None, false, length, IfOk};
 ghost use Rattle.toml.specs.View.{view, items_view, table_view};
+ghost use Rattle.gate_settings.specs.declared.settings.ReportForm.TheVariants.{Text};
 ghost use Rattle.settings_file.specs.Firsts.{Sees, ReturnsFound, ReturnsFoundBy};
 ghost use Rattle.settings_file.specs.Document as document;
 
@@ -8,7 +9,7 @@ use crate::fault::{ReadSettings, SettingsFault};
 use crate::key::Key;
 use crate::values::{self, find, need};
 use gate_base::{Addr, Link, OidRule, Side};
-use gate_settings::{Block, Blocks, Fixed, OidRules, Settings, SideSettings, Statics};
+use gate_settings::{Block, Blocks, Fixed, OidRules, ReportForm, Settings, SideSettings, Statics};
 use std::alloc::Global;
 use toml::{Table, Value};
 
@@ -189,13 +190,13 @@ fn statics(alloc: Global, key: Key, value: &Value) -> Result<Statics, ReadSettin
     Ok(Statics::of(statics_of(alloc, values)?))
 }
 
-fn report_key(top: &Table) -> Result<bool, SettingsFault>
+fn report_key(top: &Table) -> Result<ReportForm, SettingsFault>
     ensures { result
-        ≡ document.optional document.json false Key.Report (table_view top.now) }
+        ≡ document.optional document.report Text Key.Report (table_view top.now) }
 {
     match find(top, Key::Report) {
-        Some(value) => values::json(Key::Report, value),
-        None => Ok(false),
+        Some(value) => values::report(Key::Report, value),
+        None => Ok(ReportForm::Text),
     }
 }
 
@@ -293,7 +294,7 @@ pub fn all_keys(alloc: Global, top: &Table) -> Result<Given, ReadSettings>
     ensures value { ReturnsFound result (document.all_keys (table_view top.now)) }
     ensures few { IfOk result (λ given. length given.settings.statics < 2 ^ 32) }
 {
-    let json = report_key(top)?;
+    let report = report_key(top)?;
     let join = fragments_key(top)?;
     let same = same_key(alloc, top)?;
     let left = side_table(Side::Left, top)?;
@@ -302,7 +303,7 @@ pub fn all_keys(alloc: Global, top: &Table) -> Result<Given, ReadSettings>
     let oids = oid_key(alloc, top)?;
     Ok(Given {
         settings: Settings {
-            json,
+            report,
             join,
             same,
             left: left.settings,

@@ -1,19 +1,19 @@
 // What the texts of a settings document stand for.
 ghost use Rattle.std.specs.Prelude.{◌≡◌, ◌<◌, ◌+◌, length, IfSome};
-ghost use Rattle.settings_file.specs.Texts.{json_text, join_text, link_text, side_text, address_text, block_text, hex_digit, hex_pair, mac_text};
+ghost use Rattle.settings_file.specs.Texts.{report_text, join_text, link_text, side_text, address_text, block_text, hex_digit, hex_pair, mac_text};
 
 use gate_base::{Addr, Link, Side, cut, is_unicast, read_number, read_quad};
-use gate_settings::Block;
+use gate_settings::{Block, ReportForm};
 
-/// Whether a report of this name is JSON.
-#[tactic(auto, unfolding(crate::specs::Texts::json_text))]
-pub fn read_json(text: &str) -> Option<bool>
-    ensures { result ≡ json_text text.now }
+/// The form of a report of this name.
+#[tactic(auto, unfolding(crate::specs::Texts::report_text))]
+pub fn read_report(text: &str) -> Option<ReportForm>
+    ensures { result ≡ report_text text.now }
 {
     if text == "json" {
-        Some(true)
+        Some(ReportForm::Json)
     } else if text == "text" {
-        Some(false)
+        Some(ReportForm::Text)
     } else {
         None
     }

@@ -12,7 +12,7 @@ use crate::key::Key;
 use crate::prefixes::read_prefix;
 use crate::texts;
 use gate_base::{Addr, Arcs, Link, Side};
-use gate_settings::Block;
+use gate_settings::{Block, ReportForm};
 use std::alloc::Global;
 use toml::value::Array;
 use toml::{Table, Value};
@@ -75,16 +75,18 @@ pub fn array(key: Key, value: &Value) -> Result<&Array, SettingsFault>
     }
 }
 
-#[tactic(auto, unfolding(crate::specs::Document::json))]
-pub fn json(key: Key, value: &Value) -> Result<bool, SettingsFault>
-    ensures { result ≡ document.json key (view value.now) }
+/// The form of a report.
+#[tactic(auto, unfolding(crate::specs::Document::report))]
+pub fn report(key: Key, value: &Value) -> Result<ReportForm, SettingsFault>
+    ensures { result ≡ document.report key (view value.now) }
 {
-    match texts::read_json(text(key, value)?) {
-        Some(json) => Ok(json),
+    match texts::read_report(text(key, value)?) {
+        Some(report) => Ok(report),
         None => Err(SettingsFault::Kind(key)),
     }
 }
 
+/// Whether fragments are joined.
 #[tactic(auto, unfolding(crate::specs::Document::join))]
 pub fn join(key: Key, value: &Value) -> Result<bool, SettingsFault>
     ensures { result ≡ document.join key (view value.now) }
@@ -95,6 +97,7 @@ pub fn join(key: Key, value: &Value) -> Result<bool, SettingsFault>
     }
 }
 
+/// What the frames of a realm are.
 #[tactic(auto, unfolding(crate::specs::Document::link))]
 pub fn link(key: Key, value: &Value) -> Result<Link, SettingsFault>
     ensures { result ≡ document.link key (view value.now) }
@@ -105,6 +108,7 @@ pub fn link(key: Key, value: &Value) -> Result<Link, SettingsFault>
     }
 }
 
+/// A realm.
 #[tactic(auto, unfolding(crate::specs::Document::side))]
 pub fn side(key: Key, value: &Value) -> Result<Side, SettingsFault>
     ensures { result ≡ document.side key (view value.now) }
@@ -115,6 +119,7 @@ pub fn side(key: Key, value: &Value) -> Result<Side, SettingsFault>
     }
 }
 
+/// The six octets of an Ethernet address.
 #[tactic(auto, unfolding(crate::specs::Document::mac))]
 pub fn mac(key: Key, value: &Value) -> Result<[u8; 6], SettingsFault>
     ensures { result ≡ document.mac key (view value.now) }
@@ -125,6 +130,7 @@ pub fn mac(key: Key, value: &Value) -> Result<[u8; 6], SettingsFault>
     }
 }
 
+/// The address of a host.
 #[tactic(auto, unfolding(crate::specs::Document::address))]
 pub fn address(key: Key, value: &Value) -> Result<Addr, SettingsFault>
     ensures { result ≡ document.address key (view value.now) }

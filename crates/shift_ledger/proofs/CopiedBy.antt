@@ -8,14 +8,16 @@ use Rattle.shift_ledger.specs.Prelude.{copied_by, KeptUnit, Kept, StandsFor, for
 use Rattle.shift_ledger.specs.Answers.{octet_walk}
 use Rattle.shift_ledger.proofs.SourceWalk.{source_walk, source_walk-none, source_walk-before, source_walk-in, source_walk-after, sent_before, sent_before-is, sent_before-none, source_walk-kept, source_at, copied_is}
 
-sent_resolves : (n before start : ℕ) (octets : List ℕ) (x : Source) → sent_before n before ≡ Some x → slice_index octets (n - before - start) ≡ resolve start octets x
+sent_resolves : (n before start : ℕ) (octets : List ℕ) (x : Source) → sent_before n before ≡ Some x
+    → slice_index octets (n - before - start) ≡ resolve start octets x
 sent_resolves n before start octets x e =
     elim (cases_lt n before) [
       | inl past ↦ absurd (let none : None ≡ Some x = sym (sent_before-none n before past) ∙ e in cc)
       | inr within ↦ ap (resolve start octets) (same_Some (Sent (n - before)) x (sym (sent_before-is n before within) ∙ e))
     ]
 
-octet_resolves : (us : List KeptUnit) (i o start : ℕ) (octets : List ℕ) (q : ℕ) (x : Source) → source_walk us i o q ≡ Some x → octet_walk us i o start octets q ≡ resolve start octets x
+octet_resolves : (us : List KeptUnit) (i o start : ℕ) (octets : List ℕ) (q : ℕ) (x : Source) → source_walk us i o q ≡ Some x
+    → octet_walk us i o start octets q ≡ resolve start octets x
 unfolding octet_walk
 octet_resolves [] i o start octets q x e = sent_resolves i (o - q) start octets x (sym (source_walk-none i o q) ∙ e)
 octet_resolves (u ∷ us) i o start octets q x e =
@@ -28,17 +30,20 @@ octet_resolves (u ∷ us) i o start octets q x e =
           elim (cases_lt q (u.at + length u.image)) [
             | inl inside ↦
                 let s : nat_lt q (u.at + length u.image) ≡ true = lt-ltb q (u.at + length u.image) inside in
-                rw (t, s) (ap (resolve start octets) (same_Some (Written (get_or u.image (q - u.at) 0)) x (sym (source_walk-in u us i o q from inside) ∙ e)))
+                rw (t, s) (ap (resolve start octets)
+                (same_Some (Written (get_or u.image (q - u.at) 0)) x (sym (source_walk-in u us i o q from inside) ∙ e)))
             | inr after ↦
                 let s : nat_lt q (u.at + length u.image) ≡ false = le-ltb q (u.at + length u.image) after in
                 rw (t, s) (octet_resolves us i o start octets q x (sym (source_walk-after u us i o q after) ∙ e))
           ]
     ]
 
-pub copied_by-is : (l : Kept) (h : List Push) (k lo hi start : ℕ) (octets : List ℕ) → StandsFor l h k → fore_of h (back_of h k) ≤ lo → lo ≤ hi → hi ≤ l.octets_out → copied_by l lo hi start octets ≡ copied h lo hi start octets
+pub copied_by-is : (l : Kept) (h : List Push) (k lo hi start : ℕ) (octets : List ℕ) → StandsFor l h k → fore_of h (back_of h k) ≤ lo → lo ≤ hi
+    → hi ≤ l.octets_out → copied_by l lo hi start octets ≡ copied h lo hi start octets
 copied_by-is l h k lo hi start octets st from order within =
     let f : ℕ → ℕ = octet_walk l.changed l.octets_in l.octets_out start octets in
     let n : length (copied_by l lo hi start octets) ≡ hi - lo = length-map-range_with_len f lo (hi - lo) in
     copied_is h lo hi start octets (copied_by l lo hi start octets) (omega arith) (omega (arith, st.octets_out)) (λ j below.
     get_or-map-range_with_len f lo (hi - lo) j (lo + j) 0 (omega arith) refl
-    ∙ octet_resolves l.changed l.octets_in l.octets_out start octets (lo + j) (source_at h (lo + j)) (source_walk-kept l h k (lo + j) (Written 0) st (omega arith) (omega arith)))
+    ∙ octet_resolves l.changed l.octets_in l.octets_out start octets (lo + j) (source_at h (lo + j))
+    (source_walk-kept l h k (lo + j) (Written 0) st (omega arith) (omega arith)))

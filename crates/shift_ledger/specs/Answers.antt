@@ -22,7 +22,8 @@ back_by l q = back_walk l.changed l.octets_in l.octets_out q
 -- one more than the greatest image place of octet e - 1
 unfoldable pub rear_walk : List KeptUnit → ℕ → ℕ → ℕ → ℕ
 rear_walk [] octets_in octets_out e = octets_out - (octets_in - e)
-rear_walk (u ∷ us) octets_in octets_out e = cond (nat_le e (u.start + u.unit)) (cond (nat_lt u.start e) (u.at + length u.image) (u.at - (u.start - e))) (rear_walk us octets_in octets_out e)
+rear_walk (u ∷ us) octets_in octets_out e = cond (nat_le e (u.start + u.unit))
+    (cond (nat_lt u.start e) (u.at + length u.image) (u.at - (u.start - e))) (rear_walk us octets_in octets_out e)
 
 abbrev pub rear_by : Kept → ℕ → ℕ
 rear_by l e = rear_walk l.changed l.octets_in l.octets_out e

@@ -1,5 +1,5 @@
 // The octets of a stream that may be sent again.
-ghost use Rattle.std.specs.Prelude.{◌≡◌, ◌≤◌, ◌+◌, [], ◌++◌, length, drop, IfOk, vec_capacity};
+ghost use Rattle.std.specs.Prelude.{◌≡◌, ◌≤◌, ◌+◌, ◌-◌, [], ◌++◌, length, take, drop, IfOk, vec_capacity};
 ghost use Rattle.dialogue.specs.Prelude.{is_unlike, differ};
 
 use gate_base::OutOfMemory;
@@ -68,6 +68,14 @@ impl Recent {
         ensures { self.new ≡ drop count self.old }
     {
         self.forgotten += count;
+    }
+
+    /// Takes back so many octets at the end.
+    pub fn take_back(&mut self, count: usize)
+        requires { count ≤ length self.old }
+        ensures { self.new ≡ take (length self.old - count) self.old }
+    {
+        self.octets.truncate(self.octets.len() - count);
     }
 
     /// Whether octets that start so far before the end of these have another octet than these at a place that both have.

@@ -64,8 +64,10 @@ first_read octets part piece e =
       piece_is = sym sized.same;
     }
 
-pub within_size : (octets within : List ℕ) (start end : ℕ) → within ≡ take (end - start) (drop start octets) → start ≤ end → end ≤ length octets → length within ≡ end - start
-within_size octets within start end is ordered inside = ap length is ∙ length-take-le (end - start) (drop start octets) (omega (arith, length-drop start octets))
+pub within_size : (octets within : List ℕ) (start end : ℕ) → within ≡ take (end - start) (drop start octets) → start ≤ end → end ≤ length octets
+    → length within ≡ end - start
+within_size octets within start end is ordered inside = ap length is
+    ∙ length-take-le (end - start) (drop start octets) (omega (arith, length-drop start octets))
 
 -- the places of an element in a part
 pub record IsCut (octets : List ℕ) (part : Part) (piece : Piece) : Type 0 where
@@ -95,15 +97,18 @@ first_cut octets part piece e =
     }
 
 -- fields are skipped one after another
-skip_more : (octets tags : List ℕ) (part : Part) (i : ℕ) → i < length tags → skip octets (drop i tags) part ≡ (field octets (get_or tags i 0) part >>= λ piece. skip octets (drop (i + 1) tags) piece.rest)
+skip_more : (octets tags : List ℕ) (part : Part) (i : ℕ) → i < length tags
+    → skip octets (drop i tags) part ≡ (field octets (get_or tags i 0) part >>= λ piece. skip octets (drop (i + 1) tags) piece.rest)
 unfolding skip
 skip_more octets tags part i below = rw (add-one, drop-cons tags i 0)
 
-pub skip_next : (octets tags : List ℕ) (part : Part) (i : ℕ) (o : Option Piece) (piece : Piece) → i < length tags → o ≡ field octets (get_or tags i 0) part → o ≡ Some piece → skip octets (drop i tags) part ≡ skip octets (drop (i + 1) tags) piece.rest
+pub skip_next : (octets tags : List ℕ) (part : Part) (i : ℕ) (o : Option Piece) (piece : Piece) → i < length tags
+    → o ≡ field octets (get_or tags i 0) part → o ≡ Some piece → skip octets (drop i tags) part ≡ skip octets (drop (i + 1) tags) piece.rest
 skip_next octets tags part i o piece below is found =
     skip_more octets tags part i below ∙ ap (λ o. o >>= λ piece. skip octets (drop (i + 1) tags) piece.rest) (sym is ∙ found)
 
-pub skip_fails : (octets tags : List ℕ) (part : Part) (i : ℕ) (o : Option Piece) → i < length tags → o ≡ field octets (get_or tags i 0) part → o ≡ None → skip octets (drop i tags) part ≡ None
+pub skip_fails : (octets tags : List ℕ) (part : Part) (i : ℕ) (o : Option Piece) → i < length tags → o ≡ field octets (get_or tags i 0) part
+    → o ≡ None → skip octets (drop i tags) part ≡ None
 skip_fails octets tags part i o below is none =
     skip_more octets tags part i below ∙ ap (λ o. o >>= λ piece. skip octets (drop (i + 1) tags) piece.rest) (sym is ∙ none)
 
@@ -118,7 +123,8 @@ field_cut octets tag part piece e =
     first_cut octets part piece (first.is ∙ ap Some right.same)
 
 -- an address has four octets
-pub address_size : (octets : List ℕ) (part : Part) (piece : Piece) → first_of octets part ≡ Some piece → (piece.tag == ip_address) ≡ true → piece.content.start + 4 ≡ piece.content.end
+pub address_size : (octets : List ℕ) (part : Part) (piece : Piece) → first_of octets part ≡ Some piece → (piece.tag == ip_address) ≡ true
+    → piece.content.start + 4 ≡ piece.content.end
 address_size octets part piece e is =
     let read = first_read octets part piece e in
     let size = within_size octets read.within part.start part.end read.within_is read.ordered read.in_message in
@@ -136,14 +142,16 @@ pub record Follows (part rest : Part) : Type 0 where
 
 pub skip_follows : (octets tags : List ℕ) (part rest : Part) → skip octets tags part ≡ Some rest → Follows part rest
 unfolding skip
-skip_follows octets [] part rest e = let same = same_Some _ _ e in record { start = omega (arith, ap (λ (p : Part). p.start) same); end = sym (ap (λ (p : Part). p.end) same) }
+skip_follows octets [] part rest e = let same = same_Some _ _ e in
+    record { start = omega (arith, ap (λ (p : Part). p.start) same); end = sym (ap (λ (p : Part). p.end) same) }
 skip_follows octets (tag ∷ tags) part rest e =
     let piece = bound (field octets tag part) _ rest e in
     let cut = field_cut octets tag part piece.value piece.is in
     let more = skip_follows octets tags piece.value.rest rest piece.then_is in
     record { start = omega (arith, cut.head, cut.content, cut.next, more.start); end = more.end ∙ cut.end }
 
-pub only_first : (octets : List ℕ) (part : Part) (piece : Piece) → only octets part ≡ Some piece → (first_of octets part ≡ Some piece) × (piece.rest.start ≡ piece.rest.end)
+pub only_first : (octets : List ℕ) (part : Part) (piece : Piece) → only octets part ≡ Some piece → (first_of octets part ≡ Some piece)
+    × (piece.rest.start ≡ piece.rest.end)
 only_first octets part piece e =
     let first = bound (first_of octets part) _ piece e in
     let alone = tested _ _ _ first.then_is in
@@ -157,7 +165,8 @@ pub record Leaves (octets : List ℕ) (part : Part) (address : Option ℕ) (rest
   pub within : part.end ≤ length octets
   pub inside : (place : ℕ) → address ≡ Some place → (part.start ≤ place) × (place + 4 ≤ rest.start)
 
-pub binding_leaves : (octets : List ℕ) (kind : SnmpKind) (part : Part) (found : Option ℕ × Part) → binding octets kind part ≡ Some found → Leaves octets part found.0 found.1
+pub binding_leaves : (octets : List ℕ) (kind : SnmpKind) (part : Part) (found : Option ℕ × Part) → binding octets kind part ≡ Some found
+    → Leaves octets part found.0 found.1
 unfolding binding
 binding_leaves octets kind part found e =
     let pair = bound (field octets sequence part) _ found e in
@@ -184,48 +193,67 @@ binding_leaves octets kind part found e =
     }
 
 -- more is enough
-within_by : (f g : ℕ) (octets : List ℕ) (kind : SnmpKind) (part : Part) (test : Bool) (o : Option (Option ℕ × Part)) → ((found : Option ℕ × Part) → o ≡ Some found → bindings_within f octets kind found.1 ≡ bindings_within g octets kind found.1) → (if test then Some [] else (o >>= λ found. bindings_within f octets kind found.1 >>= λ places. Some (option_to_list found.0 ++ places))) ≡ (if test then Some [] else (o >>= λ found. bindings_within g octets kind found.1 >>= λ places. Some (option_to_list found.0 ++ places)))
+within_by : (f g : ℕ) (octets : List ℕ) (kind : SnmpKind) (part : Part) (test : Bool) (o : Option (Option ℕ × Part))
+    → ((found : Option ℕ × Part) → o ≡ Some found → bindings_within f octets kind found.1 ≡ bindings_within g octets kind found.1)
+    → (if test then Some [] else (o >>= λ found. bindings_within f octets kind found.1 >>= λ places. Some (option_to_list found.0 ++ places)))
+    ≡ (if test then Some [] else (o >>= λ found. bindings_within g octets kind found.1 >>= λ places. Some (option_to_list found.0 ++ places)))
 within_by f g octets kind part true o same = refl
 within_by f g octets kind part false None same = refl
 within_by f g octets kind part false (Some found) same = ap (λ o. o >>= λ places. Some (option_to_list found.0 ++ places)) (same found refl)
 
-none_by : (octets : List ℕ) (kind : SnmpKind) (part : Part) (most : ℕ) (test : Bool) (o : Option (Option ℕ × Part)) → ((found : Option ℕ × Part) → o ≡ Some found → ⊥) → (if test then Some [] else (o >>= λ found. bindings_within most octets kind found.1 >>= λ places. Some (option_to_list found.0 ++ places))) ≡ (if test then Some [] else None)
+none_by : (octets : List ℕ) (kind : SnmpKind) (part : Part) (most : ℕ) (test : Bool) (o : Option (Option ℕ × Part))
+    → ((found : Option ℕ × Part) → o ≡ Some found → ⊥)
+    → (if test then Some [] else (o >>= λ found. bindings_within most octets kind found.1 >>= λ places. Some (option_to_list found.0 ++ places)))
+    ≡ (if test then Some [] else None)
 none_by octets kind part most true o never = refl
 none_by octets kind part most false None never = refl
 none_by octets kind part most false (Some found) never = absurd (never found refl)
 
-within_none : (octets : List ℕ) (kind : SnmpKind) (part : Part) (most : ℕ) → part.end - part.start ≤ 0 → bindings_within most octets kind part ≡ bindings_within zero octets kind part
+within_none : (octets : List ℕ) (kind : SnmpKind) (part : Part) (most : ℕ) → part.end - part.start ≤ 0
+    → bindings_within most octets kind part ≡ bindings_within zero octets kind part
 unfolding bindings_within
 within_none octets kind part zero none = refl
-within_none octets kind part (suc most) none = none_by octets kind part most (part.start == part.end) (binding octets kind part) (λ found e. let leaves = binding_leaves octets kind part found e in omega arith)
+within_none octets kind part (suc most) none = none_by octets kind part most (part.start == part.end) (binding octets kind part)
+    (λ found e. let leaves = binding_leaves octets kind part found e in omega arith)
 
-within_same : (f g : ℕ) (octets : List ℕ) (kind : SnmpKind) (part : Part) → part.end - part.start ≤ f → part.end - part.start ≤ g → bindings_within f octets kind part ≡ bindings_within g octets kind part
+within_same : (f g : ℕ) (octets : List ℕ) (kind : SnmpKind) (part : Part) → part.end - part.start ≤ f → part.end - part.start ≤ g
+    → bindings_within f octets kind part ≡ bindings_within g octets kind part
 unfolding bindings_within
 within_same zero g octets kind part a b = sym (within_none octets kind part g a)
 within_same (suc f) zero octets kind part a b = within_none octets kind part (suc f) b
-within_same (suc f) (suc g) octets kind part a b = within_by f g octets kind part (part.start == part.end) (binding octets kind part) (λ found e. let leaves = binding_leaves octets kind part found e in within_same f g octets kind found.1 (omega arith) (omega arith))
+within_same (suc f) (suc g) octets kind part a b = within_by f g octets kind part (part.start == part.end) (binding octets kind part)
+    (λ found e. let leaves = binding_leaves octets kind part found e in within_same f g octets kind found.1 (omega arith) (omega arith))
 
-within_more : (octets : List ℕ) (kind : SnmpKind) (part : Part) (o : Option (Option ℕ × Part)) → binding octets kind part ≡ o → bindings octets kind part ≡ (if part.start == part.end then Some [] else (o >>= λ found. bindings_within (part.end - part.start) octets kind found.1 >>= λ places. Some (option_to_list found.0 ++ places)))
+within_more : (octets : List ℕ) (kind : SnmpKind) (part : Part) (o : Option (Option ℕ × Part)) → binding octets kind part ≡ o
+    → bindings octets kind part
+    ≡ (if part.start == part.end then Some
+    [] else (o >>= λ found. bindings_within (part.end - part.start) octets kind found.1 >>= λ places. Some (option_to_list found.0 ++ places)))
 unfolding bindings_within
 within_more octets kind part o e =
     within_same (part.end - part.start) (suc (part.end - part.start)) octets kind part (omega arith) (omega arith)
-    ∙ ap (λ o. if part.start == part.end then Some [] else (o >>= λ found. bindings_within (part.end - part.start) octets kind found.1 >>= λ places. Some (option_to_list found.0 ++ places))) e
+    ∙ ap (λ o. if part.start == part.end then Some
+    [] else (o >>= λ found. bindings_within (part.end - part.start) octets kind found.1 >>= λ places. Some (option_to_list found.0 ++ places))) e
 
 -- bindings go on
-pub bindings_next : (octets : List ℕ) (kind : SnmpKind) (part : Part) (found : Option ℕ × Part) → binding octets kind part ≡ Some found → bindings octets kind part ≡ (bindings octets kind found.1 >>= λ places. Some (option_to_list found.0 ++ places))
+pub bindings_next : (octets : List ℕ) (kind : SnmpKind) (part : Part) (found : Option ℕ × Part) → binding octets kind part ≡ Some found
+    → bindings octets kind part ≡ (bindings octets kind found.1 >>= λ places. Some (option_to_list found.0 ++ places))
 bindings_next octets kind part found e =
     let leaves = binding_leaves octets kind part found e in
     let some : (part.start == part.end) ≡ false = grind (arith, nat_tests, leaves.some, leaves.end, leaves.ordered) in
     within_more octets kind part (Some found) e
-    ∙ ap (λ b. if b then Some [] else (bindings_within (part.end - part.start) octets kind found.1 >>= λ places. Some (option_to_list found.0 ++ places))) some
-    ∙ ap (λ o. o >>= λ places. Some (option_to_list found.0 ++ places)) (within_same (part.end - part.start) (found.1.end - found.1.start) octets kind found.1 (omega arith) (omega arith))
+    ∙ ap (λ b. if b then Some
+    [] else (bindings_within (part.end - part.start) octets kind found.1 >>= λ places. Some (option_to_list found.0 ++ places))) some
+    ∙ ap (λ o. o >>= λ places. Some (option_to_list found.0 ++ places))
+    (within_same (part.end - part.start) (found.1.end - found.1.start) octets kind found.1 (omega arith) (omega arith))
 
 -- or end
-pub bindings_stop : (octets : List ℕ) (kind : SnmpKind) (part : Part) → binding octets kind part ≡ None → bindings octets kind part ≡ (if part.start == part.end then Some [] else None)
+pub bindings_stop : (octets : List ℕ) (kind : SnmpKind) (part : Part) → binding octets kind part ≡ None
+    → bindings octets kind part ≡ (if part.start == part.end then Some [] else None)
 bindings_stop octets kind part e = within_more octets kind part None e
 
 -- the bindings of a message are those of its outline
-pub message_by : (octets : List ℕ) (o : Option Outline) → outline_of octets ≡ o → message octets ≡ (o >>= λ outline. places_ahead octets outline >>= λ places. Some (outline.kind, places))
+pub message_by : (octets : List ℕ) (o : Option Outline) → outline_of octets ≡ o
+    → message octets ≡ (o >>= λ outline. places_ahead octets outline >>= λ places. Some (outline.kind, places))
 unfolding message
 message_by octets o e = ap (λ o. o >>= λ outline. places_ahead octets outline >>= λ places. Some (outline.kind, places)) e
 

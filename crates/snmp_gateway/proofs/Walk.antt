@@ -26,30 +26,39 @@ none_first None None e = refl
 none_first None (Some places) e = refl
 none_first (Some place) o e = absurd cc
 
-pub walks_next : (octets : List ℕ) (old now : Outline) (found : Option ℕ × Part) → Walks octets old now → binding octets now.kind now.bindings ≡ Some found → found.0 ≡ None → Walks octets old (record { kind = now.kind; agent = now.agent; bindings = found.1 })
+pub walks_next : (octets : List ℕ) (old now : Outline) (found : Option ℕ × Part) → Walks octets old now
+    → binding octets now.kind now.bindings ≡ Some found → found.0 ≡ None
+    → Walks octets old (record { kind = now.kind; agent = now.agent; bindings = found.1 })
 walks_next octets old now found walks e none =
     let leaves = binding_leaves octets now.kind now.bindings found e in
     record {
       agent = walks.agent;
-      same = walks.same ∙ ap (λ o. o >>= λ places. Some (option_to_list now.agent ++ places)) (bindings_next octets now.kind now.bindings found e ∙ none_first found.0 (bindings octets now.kind found.1) none);
+      same = walks.same ∙ ap (λ o. o >>= λ places. Some (option_to_list now.agent ++ places))
+          (bindings_next octets now.kind now.bindings found e ∙ none_first found.0 (bindings octets now.kind found.1) none);
       kind = walks.kind;
       start = omega (arith, walks.start, leaves.some);
       end = leaves.end ∙ walks.end;
       ordered = leaves.ordered;
     }
 
-two_firsts : (first second : Option ℕ) (o : Option (List ℕ)) → first ≡ None → (o >>= (λ places. Some (option_to_list second ++ places)) >>= λ places. Some (option_to_list first ++ places)) ≡ option_map (λ more. option_to_list second ++ more) (o >>= λ places. Some (option_to_list first ++ places))
+two_firsts : (first second : Option ℕ) (o : Option (List ℕ)) → first ≡ None
+    → (o >>= (λ places. Some (option_to_list second ++ places)) >>= λ places. Some (option_to_list first ++ places))
+    ≡ option_map (λ more. option_to_list second ++ more) (o >>= λ places. Some (option_to_list first ++ places))
 two_firsts None second None e = refl
 two_firsts None second (Some places) e = refl
 two_firsts (Some place) second o e = absurd cc
 
-pub walks_found : (octets : List ℕ) (old now : Outline) (found : Option ℕ × Part) → Walks octets old now → binding octets now.kind now.bindings ≡ Some found → places_ahead octets old ≡ option_map (λ more. option_to_list found.0 ++ more) (places_ahead octets (record { kind = now.kind; agent = now.agent; bindings = found.1 }))
+pub walks_found : (octets : List ℕ) (old now : Outline) (found : Option ℕ × Part) → Walks octets old now
+    → binding octets now.kind now.bindings ≡ Some found → places_ahead octets old ≡ option_map (λ more. option_to_list found.0 ++ more)
+    (places_ahead octets (record { kind = now.kind; agent = now.agent; bindings = found.1 }))
 walks_found octets old now found walks e =
     walks.same
     ∙ ap (λ o. o >>= λ places. Some (option_to_list now.agent ++ places)) (bindings_next octets now.kind now.bindings found e)
     ∙ two_firsts now.agent found.0 (bindings octets now.kind found.1) walks.agent
 
-pub walks_passes : (octets : List ℕ) (old now : Outline) (found : Option ℕ × Part) (place : ℕ) → Walks octets old now → binding octets now.kind now.bindings ≡ Some found → found.0 ≡ Some place → Passes old place (record { kind = now.kind; agent = now.agent; bindings = found.1 })
+pub walks_passes : (octets : List ℕ) (old now : Outline) (found : Option ℕ × Part) (place : ℕ) → Walks octets old now
+    → binding octets now.kind now.bindings ≡ Some found → found.0 ≡ Some place
+    → Passes old place (record { kind = now.kind; agent = now.agent; bindings = found.1 })
 walks_passes octets old now found place walks e is =
     let leaves = binding_leaves octets now.kind now.bindings found e in
     let none : length (option_to_list now.agent) ≡ 0 = ap (λ (a : Option ℕ). length (option_to_list a)) walks.agent in
@@ -59,7 +68,8 @@ walks_passes octets old now found place walks e is =
       less = omega (arith, leaves.some, leaves.end, leaves.ordered, walks.start, walks.end, none);
     }
 
-pub stands_next : (octets : List ℕ) (old now : Outline) (found : Option ℕ × Part) → Walks octets old now → StandsIn (length octets) old → binding octets now.kind now.bindings ≡ Some found → StandsIn (length octets) (record { kind = now.kind; agent = now.agent; bindings = found.1 })
+pub stands_next : (octets : List ℕ) (old now : Outline) (found : Option ℕ × Part) → Walks octets old now → StandsIn (length octets) old
+    → binding octets now.kind now.bindings ≡ Some found → StandsIn (length octets) (record { kind = now.kind; agent = now.agent; bindings = found.1 })
 stands_next octets old now found walks stands e =
     let leaves = binding_leaves octets now.kind now.bindings found e in
     record {
@@ -72,7 +82,8 @@ none_mapped : (o : Option (List ℕ)) → o ≡ option_map (λ more. [] ++ more)
 none_mapped None = refl
 none_mapped (Some places) = refl
 
-pub walks_stop : (octets : List ℕ) (old now : Outline) → Walks octets old now → binding octets now.kind now.bindings ≡ None → places_ahead octets now ≡ (if is_at_end now then Some [] else None)
+pub walks_stop : (octets : List ℕ) (old now : Outline) → Walks octets old now → binding octets now.kind now.bindings ≡ None
+    → places_ahead octets now ≡ (if is_at_end now then Some [] else None)
 walks_stop octets old now walks e =
     none_first now.agent (bindings octets now.kind now.bindings) walks.agent ∙ bindings_stop octets now.kind now.bindings e
 
@@ -93,17 +104,22 @@ checks_first octets outline e = record {
   kind = ap (option_map (λ m. m.0)) (message_by octets (Some outline) e) ∙ by_places (places_ahead octets outline);
 }
   where
-    by_places : (o : Option (List ℕ)) → option_map (λ (m : SnmpKind × List ℕ). m.0) (o >>= λ places. Some (outline.kind, places)) ≡ option_map (λ (places : List ℕ). outline.kind) o
+    by_places : (o : Option (List ℕ)) → option_map (λ (m : SnmpKind × List ℕ). m.0) (o >>= λ places. Some (outline.kind, places))
+        ≡ option_map (λ (places : List ℕ). outline.kind) o
     by_places None = refl
     by_places (Some places) = refl
 
 -- the places of a message, of which its outline is ahead
-places_first : (octets : List ℕ) (outline : Outline) → outline_of octets ≡ Some outline → IsSome (message octets) → places_ahead octets outline ≡ Some (places_of octets)
+places_first : (octets : List ℕ) (outline : Outline) → outline_of octets ≡ Some outline → IsSome (message octets)
+    → places_ahead octets outline ≡ Some (places_of octets)
 places_first octets outline e some = by_places (places_ahead octets outline) refl
   where
     by_places : (o : Option (List ℕ)) → places_ahead octets outline ≡ o → o ≡ Some (places_of octets)
-    by_places None is = (let wrong = subst IsSome (message_by octets (Some outline) e ∙ ap (λ o. o >>= λ places. Some (outline.kind, places)) is) some in absurd cc)
-    by_places (Some places) is = sym (ap (λ o. Some (unwrap_or (option_map (λ m. m.1) o) [])) (message_by octets (Some outline) e ∙ ap (λ o. o >>= λ places. Some (outline.kind, places)) is))
+    by_places None is = (let wrong = subst IsSome (message_by octets (Some outline) e ∙ ap (λ o. o >>= λ places. Some (outline.kind, places)) is)
+        some in absurd cc)
+    by_places (Some places) is =
+        sym (ap (λ o. Some (unwrap_or (option_map (λ m. m.1) o) []))
+        (message_by octets (Some outline) e ∙ ap (λ o. o >>= λ places. Some (outline.kind, places)) is))
 
 -- what a listing has left to do
 pub record Lists (octets before items : List ℕ) (ahead : Outline) : Type 0 where
@@ -112,7 +128,8 @@ pub record Lists (octets before items : List ℕ) (ahead : Outline) : Type 0 whe
   pub items_are : items ≡ before ++ more
   pub all : option_map (λ places. more ++ places) (places_ahead octets ahead) ≡ Some (places_of octets)
 
-pub lists_first : (octets before : List ℕ) (outline : Outline) → outline_of octets ≡ Some outline → IsSome (message octets) → Lists octets before before outline
+pub lists_first : (octets before : List ℕ) (outline : Outline) → outline_of octets ≡ Some outline → IsSome (message octets)
+    → Lists octets before before outline
 lists_first octets before outline e some = record {
   stands = outline_ahead octets outline e;
   more = [];
@@ -121,32 +138,40 @@ lists_first octets before outline e some = record {
 }
 
 -- what is ahead where all is read: nothing
-end_of : {A : Type 0} (f : List ℕ → A) (test : Bool) (o : Option (List ℕ)) (all : A) → option_map f o ≡ Some all → o ≡ (if test then Some [] else None) → f [] ≡ all
+end_of : {A : Type 0} (f : List ℕ → A) (test : Bool) (o : Option (List ℕ)) (all : A) → option_map f o ≡ Some all
+    → o ≡ (if test then Some [] else None) → f [] ≡ all
 end_of f true o all is e = same_Some _ _ (sym (ap (option_map f) e) ∙ is)
 end_of f false o all is e = (let wrong = sym (ap (option_map f) e) ∙ is in absurd cc)
 
-pub lists_last : (octets before items : List ℕ) (old new : Outline) → Lists octets before items old → places_ahead octets old ≡ option_map (λ more. [] ++ more) (places_ahead octets new) → places_ahead octets new ≡ (if is_at_end new then Some [] else None) → items ≡ before ++ places_of octets
+pub lists_last : (octets before items : List ℕ) (old new : Outline) → Lists octets before items old
+    → places_ahead octets old ≡ option_map (λ more. [] ++ more) (places_ahead octets new)
+    → places_ahead octets new ≡ (if is_at_end new then Some [] else None) → items ≡ before ++ places_of octets
 lists_last octets before items old new lists ahead stops =
     lists.items_are
-    ∙ ap (λ ps. before ++ ps) (sym (append-nil lists.more) ∙ end_of (λ places. lists.more ++ places) (is_at_end new) (places_ahead octets old) (places_of octets) lists.all (ahead ∙ sym (none_mapped (places_ahead octets new)) ∙ stops))
+    ∙ ap (λ ps. before ++ ps)
+    (sym (append-nil lists.more) ∙ end_of (λ places. lists.more ++ places) (is_at_end new) (places_ahead octets old) (places_of octets) lists.all
+    (ahead ∙ sym (none_mapped (places_ahead octets new)) ∙ stops))
 
 -- what a renaming has left to do
 pub record Renames (image : ℕ → Option ℕ) (old now : List ℕ) (ahead : Outline) : Type 0 where
   pub stands : StandsIn (length now) ahead
   pub all : option_map (λ places. renamed image places now) (places_ahead now ahead) ≡ Some (renamed image (places_of old) old)
 
-pub renames_first : (image : ℕ → Option ℕ) (old : List ℕ) (outline : Outline) → outline_of old ≡ Some outline → IsSome (message old) → Renames image old old outline
+pub renames_first : (image : ℕ → Option ℕ) (old : List ℕ) (outline : Outline) → outline_of old ≡ Some outline → IsSome (message old)
+    → Renames image old old outline
 renames_first image old outline e some = record {
   stands = outline_ahead old outline e;
   all = ap (option_map (λ places. renamed image places old)) (places_first old outline e some);
 }
 
-one_first : (image : ℕ → Option ℕ) (now : List ℕ) (place : ℕ) (more : List ℕ) → renamed image ((place ∷ []) ++ more) now ≡ renamed image more (renamed_at image place now)
+one_first : (image : ℕ → Option ℕ) (now : List ℕ) (place : ℕ) (more : List ℕ)
+    → renamed image ((place ∷ []) ++ more) now ≡ renamed image more (renamed_at image place now)
 unfolding renamed
 one_first image now place more = refl
 
 -- what is behind an address stays ahead where that is renamed
-ahead_same : (image : ℕ → Option ℕ) (now : List ℕ) (old new : Outline) (place : ℕ) → StandsIn (length now) new → Passes old place new → (places : List ℕ) → places_ahead now new ≡ Some places → places_ahead (renamed_at image place now) new ≡ Some places
+ahead_same : (image : ℕ → Option ℕ) (now : List ℕ) (old new : Outline) (place : ℕ) → StandsIn (length now) new → Passes old place new
+    → (places : List ℕ) → places_ahead now new ≡ Some places → places_ahead (renamed_at image place now) new ≡ Some places
 ahead_same image now old new place stands passes places e =
     let part = new.bindings in
     let same = none_first new.agent (bindings now new.kind part) passes.agent in
@@ -154,7 +179,9 @@ ahead_same image now old new place stands passes places e =
     none_first new.agent (bindings (renamed_at image place now) new.kind part) passes.agent
     ∙ bindings_same place now (renamed_at image place now) differs (part.end - part.start) new.kind part places (sym same ∙ e) (inr passes.before)
 
-pub renames_next : (image : ℕ → Option ℕ) (start now : List ℕ) (old new : Outline) (place : ℕ) → Renames image start now old → places_ahead now old ≡ option_map (λ more. (place ∷ []) ++ more) (places_ahead now new) → StandsIn (length now) new → Passes old place new → Renames image start (renamed_at image place now) new
+pub renames_next : (image : ℕ → Option ℕ) (start now : List ℕ) (old new : Outline) (place : ℕ) → Renames image start now old
+    → places_ahead now old ≡ option_map (λ more. (place ∷ []) ++ more) (places_ahead now new) → StandsIn (length now) new → Passes old place new
+    → Renames image start (renamed_at image place now) new
 renames_next image start now old new place renames ahead stands passes =
     let differs = renamed_differs image place now (omega (arith, passes.before, stands.ordered, stands.end)) in
     record {
@@ -162,8 +189,10 @@ renames_next image start now old new place renames ahead stands passes =
       all = by_places (places_ahead now new) refl;
     }
   where
-    by_places : (o : Option (List ℕ)) → places_ahead now new ≡ o → option_map (λ places. renamed image places (renamed_at image place now)) (places_ahead (renamed_at image place now) new) ≡ Some (renamed image (places_of start) start)
-    by_places None is = (let wrong = sym (ap (option_map (λ places. renamed image places now)) (ahead ∙ ap (option_map (λ more. (place ∷ []) ++ more)) is)) ∙ renames.all in absurd cc)
+    by_places : (o : Option (List ℕ)) → places_ahead now new ≡ o → option_map (λ places. renamed image places (renamed_at image place now))
+        (places_ahead (renamed_at image place now) new) ≡ Some (renamed image (places_of start) start)
+    by_places None is = (let wrong = sym
+        (ap (option_map (λ places. renamed image places now)) (ahead ∙ ap (option_map (λ more. (place ∷ []) ++ more)) is)) ∙ renames.all in absurd cc)
     by_places (Some places) is =
         ap (option_map (λ places. renamed image places (renamed_at image place now))) (ahead_same image now old new place stands passes places is)
         ∙ ap Some (sym (one_first image now place places))
@@ -174,7 +203,10 @@ pub none_renamed : (image : ℕ → Option ℕ) (octets : List ℕ) → renamed 
 unfolding renamed
 none_renamed image octets = refl
 
-pub renames_last : (image : ℕ → Option ℕ) (start now : List ℕ) (old new : Outline) → Renames image start now old → places_ahead now old ≡ option_map (λ more. [] ++ more) (places_ahead now new) → places_ahead now new ≡ (if is_at_end new then Some [] else None) → now ≡ renamed image (places_of start) start
+pub renames_last : (image : ℕ → Option ℕ) (start now : List ℕ) (old new : Outline) → Renames image start now old
+    → places_ahead now old ≡ option_map (λ more. [] ++ more) (places_ahead now new) → places_ahead now new ≡ (if is_at_end new then Some [] else None)
+    → now ≡ renamed image (places_of start) start
 renames_last image start now old new renames ahead stops =
     sym (none_renamed image now)
-    ∙ end_of (λ places. renamed image places now) (is_at_end new) (places_ahead now old) (renamed image (places_of start) start) renames.all (ahead ∙ sym (none_mapped (places_ahead now new)) ∙ stops)
+    ∙ end_of (λ places. renamed image places now) (is_at_end new) (places_ahead now old) (renamed image (places_of start) start) renames.all
+    (ahead ∙ sym (none_mapped (places_ahead now new)) ∙ stops)

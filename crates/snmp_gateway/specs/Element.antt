@@ -11,7 +11,8 @@ pub record Element : Type 0 where
 abbrev pub is_long_form : ℕ → Bool
 is_long_form first = nat_lt 128 first && nat_le first 132
 
--- the length that octets begin with, and the octets behind it: below 128 in one octet, else behind their number in so many octets, the highest first (X.690, 8.1.3)
+-- the length that octets begin with, and the octets behind it: below 128 in one octet, else behind their number in so many octets, the highest
+-- first (X.690, 8.1.3)
 abbrev pub length_at : List ℕ → Option (ℕ × List ℕ)
 length_at [] = None
 length_at (first ∷ more) =

@@ -46,7 +46,8 @@ bindings_within (suc most) octets kind part = if part.start == part.end then Som
 abbrev pub bindings : List ℕ → SnmpKind → Part → Option (List ℕ)
 bindings octets kind part = bindings_within (part.end - part.start) octets kind part
 
--- every PDU but the Trap of version 1: request number, error status and error index (in a GetBulkRequest non-repeaters and max-repetitions), and the bindings
+-- every PDU but the Trap of version 1: request number, error status and error index (in a GetBulkRequest non-repeaters and max-repetitions), and
+-- the bindings
 abbrev pub request : List ℕ → Part → Option (Option ℕ × Part)
 request octets part = do
   rest ← skip octets (integer ∷ integer ∷ integer ∷ []) part
@@ -64,7 +65,8 @@ trap octets part = do
 abbrev pub trap_tag : ℕ
 trap_tag = 0xA4
 
--- whether a PDU can have this tag: in version 1 it is a GetRequest, GetNextRequest, GetResponse, SetRequest or Trap (RFC 1157, 4.1), in version 2c one of the first four, or a GetBulkRequest, InformRequest, Trap of version 2 or Report (RFC 3416, 3)
+-- whether a PDU can have this tag: in version 1 it is a GetRequest, GetNextRequest, GetResponse, SetRequest or Trap (RFC 1157, 4.1), in version 2c
+-- one of the first four, or a GetBulkRequest, InformRequest, Trap of version 2 or Report (RFC 3416, 3)
 abbrev pub is_pdu_tag : SnmpKind → ℕ → Bool
 is_pdu_tag V1 tag = nat_le 0xA0 tag && nat_le tag 0xA4
 is_pdu_tag V2 tag = (nat_le 0xA0 tag && nat_le tag 0xA3) || (nat_le 0xA5 tag && nat_le tag 0xA8)

@@ -63,7 +63,8 @@ has_right_size tag count =
 
 -- the octets of a part, where the message has them
 abbrev pub octets_in : List ℕ → Part → Option (List ℕ)
-octets_in octets part = if nat_le part.start part.end && nat_le part.end (length octets) then Some (take (part.end - part.start) (drop part.start octets)) else None
+octets_in octets part = if nat_le part.start part.end && nat_le part.end (length octets) then Some
+    (take (part.end - part.start) (drop part.start octets)) else None
 
 -- the places of an element, which ends where the rest begins
 abbrev pub piece_of : Part → Element × List ℕ → Piece

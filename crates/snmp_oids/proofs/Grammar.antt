@@ -64,7 +64,8 @@ to_content a h c r b = simp append_assoc
 to_rest : (a h c r b : List ℕ) → a ++ (h ++ c ++ r) ++ b ≡ (a ++ h ++ c) ++ r ++ b
 to_rest a h c r b = simp append_assoc
 
-pub reads : (octets : List ℕ) (part : Part) (xs : List ℕ) (piece : Piece) → At octets part xs → first_of octets part ≡ Some piece → Reads octets part xs piece
+pub reads : (octets : List ℕ) (part : Part) (xs : List ℕ) (piece : Piece) → At octets part xs → first_of octets part ≡ Some piece
+    → Reads octets part xs piece
 reads octets part xs piece at e =
     let read = first_read octets part piece e in
     let element = read.element in
@@ -105,9 +106,11 @@ reads octets part xs piece at e =
       next = omega (arith, at.end_is);
     }
 
-swaps_at : (image : ℕ → Option ℕ) (ps qs : List ℕ) (start : ℕ) (xs us ys vs : List ℕ) → ps ≡ qs → xs ≡ us → ys ≡ vs → Swaps image ps start xs ys → Swaps image qs start us vs
+swaps_at : (image : ℕ → Option ℕ) (ps qs : List ℕ) (start : ℕ) (xs us ys vs : List ℕ) → ps ≡ qs → xs ≡ us → ys ≡ vs → Swaps image ps start xs ys
+    → Swaps image qs start us vs
 swaps_at image ps qs start xs us ys vs places old new swaps =
-    subst (λ (n : List ℕ). Swaps image qs start us n) new (subst (λ (o : List ℕ). Swaps image qs start o ys) old (subst (λ (p : List ℕ). Swaps image p start xs ys) places swaps))
+    subst (λ (n : List ℕ). Swaps image qs start us n) new
+    (subst (λ (o : List ℕ). Swaps image qs start o ys) old (subst (λ (p : List ℕ). Swaps image p start xs ys) places swaps))
 
 head_same : (head : List ℕ) (old new : ℕ) → new ≡ old → head_for head old new ≡ head
 head_same head old new same = elim (cases_Bool (new == old)) [
@@ -116,33 +119,43 @@ head_same head old new same = elim (cases_Bool (new == old)) [
 ]
 
 -- an element and those behind it
-pub node : (image : ℕ → Option ℕ) (ps qs octets : List ℕ) (part : Part) (xs : List ℕ) (piece : Piece) (r : Reads octets part xs piece) → Swaps image ps piece.content.start r.element.content (content_renamed image [] r.element) → Claim image qs piece.rest r.rest → Claim image (ps ++ qs) part xs
+pub node : (image : ℕ → Option ℕ) (ps qs octets : List ℕ) (part : Part) (xs : List ℕ) (piece : Piece) (r : Reads octets part xs piece)
+    → Swaps image ps piece.content.start r.element.content (content_renamed image [] r.element) → Claim image qs piece.rest r.rest
+    → Claim image (ps ++ qs) part xs
 node image ps qs octets part xs piece r content rest =
     let element = r.element in
     let head = head_of xs (element, r.rest) in
     let new = content_renamed image [] element in
     let one = swaps_more image ps part.start piece.content.start head element.content new content r.start in
-    let two = swaps_both image ps qs part.start piece.rest.start (head ++ element.content) (head ++ new) r.rest (elements_renamed image [] r.rest) one rest (omega (arith, length-append head element.content, r.start, r.next)) in
+    let two = swaps_both image ps qs part.start piece.rest.start (head ++ element.content) (head ++ new) r.rest (elements_renamed image [] r.rest) one
+    rest (omega (arith, length-append head element.content, r.start, r.next)) in
     swaps_at image (ps ++ qs) (ps ++ qs) part.start _ xs _ (elements_renamed image [] xs) refl (element_parts xs element r.rest r.found)
-    (ap (λ h. h ++ new ++ elements_renamed image [] r.rest) (sym (head_same head (length element.content) (length new) content.size)) ∙ sym (elements_next image [] xs element r.rest r.found)) two
+    (ap (λ h. h ++ new ++ elements_renamed image [] r.rest) (sym (head_same head (length element.content) (length new) content.size))
+    ∙ sym (elements_next image [] xs element r.rest r.found)) two
 
 -- content that no rule changes
-by_arcs : (image : ℕ → Option ℕ) (content : List ℕ) (o : Option (List ℕ)) → unwrap_or (option_map (changed content) (option_and_then (named []) o >>= λ found. image found.1 >>= λ address. Some (change_at found.0 address content))) content ≡ content
+by_arcs : (image : ℕ → Option ℕ) (content : List ℕ) (o : Option (List ℕ))
+    → unwrap_or (option_map (changed content)
+    (option_and_then (named []) o >>= λ found. image found.1 >>= λ address. Some (change_at found.0 address content))) content ≡ content
 by_arcs image content None = refl
 by_arcs image content (Some arcs) = refl
 
 identifier_kept : (image : ℕ → Option ℕ) (content : List ℕ) → identifier_renamed image [] content ≡ content
 identifier_kept image content = by_arcs image content (arcs_of content)
 
-by_tags : (constructed identifier address : Bool) (x i a content : List ℕ) → constructed ≡ false → address ≡ false → i ≡ content → (if constructed then x else if identifier then i else if address then a else content) ≡ content
+by_tags : (constructed identifier address : Bool) (x i a content : List ℕ) → constructed ≡ false → address ≡ false → i ≡ content
+    → (if constructed then x else if identifier then i else if address then a else content) ≡ content
 by_tags true identifier address x i a content plain kept same = cc
 by_tags false true address x i a content plain kept same = same
 by_tags false false true x i a content plain kept same = cc
 by_tags false false false x i a content plain kept same = refl
 
-content_kept : (image : ℕ → Option ℕ) (element : Element) → is_constructed element.tag ≡ false → (element.tag == ip_address) ≡ false → content_renamed image [] element ≡ element.content
+content_kept : (image : ℕ → Option ℕ) (element : Element) → is_constructed element.tag ≡ false → (element.tag == ip_address) ≡ false
+    → content_renamed image [] element ≡ element.content
 content_kept image element plain kept =
-    by_tags (is_constructed element.tag) (element.tag == object_identifier) (element.tag == ip_address) (elements_renamed image [] element.content) (identifier_renamed image [] element.content) (address_renamed image element.content) element.content plain kept (identifier_kept image element.content)
+    by_tags (is_constructed element.tag) (element.tag == object_identifier) (element.tag == ip_address) (elements_renamed image [] element.content)
+    (identifier_renamed image [] element.content) (address_renamed image element.content) element.content plain kept
+    (identifier_kept image element.content)
 
 abbrev pub is_kept : ℕ → Bool
 is_kept tag = not (is_constructed tag) && not (tag == ip_address)
@@ -152,35 +165,46 @@ kept_plain true b e = cc
 kept_plain false true e = cc
 kept_plain false false e = (refl, refl)
 
-pub node_kept : (image : ℕ → Option ℕ) (qs octets : List ℕ) (part : Part) (xs : List ℕ) (piece : Piece) (r : Reads octets part xs piece) → is_kept piece.tag ≡ true → Claim image qs piece.rest r.rest → Claim image qs part xs
+pub node_kept : (image : ℕ → Option ℕ) (qs octets : List ℕ) (part : Part) (xs : List ℕ) (piece : Piece) (r : Reads octets part xs piece)
+    → is_kept piece.tag ≡ true → Claim image qs piece.rest r.rest → Claim image qs part xs
 node_kept image qs octets part xs piece r kept rest =
     let plain = kept_plain (is_constructed r.element.tag) (r.element.tag == ip_address) (ap is_kept r.tag_is ∙ kept) in
     node image [] qs octets part xs piece r
-    (swaps_at image [] [] piece.content.start r.element.content r.element.content r.element.content (content_renamed image [] r.element) refl refl (sym (content_kept image r.element plain.0 plain.1)) (swaps_none image piece.content.start r.element.content))
+    (swaps_at image [] [] piece.content.start r.element.content r.element.content r.element.content (content_renamed image [] r.element) refl refl
+    (sym (content_kept image r.element plain.0 plain.1)) (swaps_none image piece.content.start r.element.content))
     rest
 
-by_address : (constructed identifier address four : Bool) (x i a content : List ℕ) → constructed ≡ false → identifier ≡ false → address ≡ true → four ≡ true → (if constructed then x else if identifier then i else if address then (if four then a else content) else content) ≡ a
+by_address : (constructed identifier address four : Bool) (x i a content : List ℕ) → constructed ≡ false → identifier ≡ false → address ≡ true
+    → four ≡ true → (if constructed then x else if identifier then i else if address then (if four then a else content) else content) ≡ a
 by_address true identifier address four x i a content plain other is size = cc
 by_address false true address four x i a content plain other is size = cc
 by_address false false false four x i a content plain other is size = cc
 by_address false false true false x i a content plain other is size = cc
 by_address false false true true x i a content plain other is size = refl
 
-pub node_address : (image : ℕ → Option ℕ) (qs octets : List ℕ) (part : Part) (xs : List ℕ) (piece : Piece) (r : Reads octets part xs piece) → piece.tag ≡ ip_address → Claim image qs piece.rest r.rest → Claim image (piece.content.start ∷ qs) part xs
+pub node_address : (image : ℕ → Option ℕ) (qs octets : List ℕ) (part : Part) (xs : List ℕ) (piece : Piece) (r : Reads octets part xs piece)
+    → piece.tag ≡ ip_address → Claim image qs piece.rest r.rest → Claim image (piece.content.start ∷ qs) part xs
 node_address image qs octets part xs piece r tag rest =
     let tag_is = r.tag_is ∙ tag in
     let four = sym (ap (λ n. has_right_size n (length r.element.content)) tag_is) ∙ r.right in
-    let new = by_address (is_constructed r.element.tag) (r.element.tag == object_identifier) (r.element.tag == ip_address) (length r.element.content == 4) (elements_renamed image [] r.element.content) (identifier_renamed image [] r.element.content) (renamed_at image 0 r.element.content) r.element.content
+    let new = by_address (is_constructed r.element.tag) (r.element.tag == object_identifier) (r.element.tag == ip_address)
+    (length r.element.content == 4) (elements_renamed image [] r.element.content) (identifier_renamed image [] r.element.content)
+    (renamed_at image 0 r.element.content) r.element.content
     (ap is_constructed tag_is) (ap (λ n. n == object_identifier) tag_is) (ap (λ n. n == ip_address) tag_is) four in
     node image (piece.content.start ∷ []) qs octets part xs piece r
-    (swaps_at image _ _ piece.content.start r.element.content r.element.content (renamed_at image 0 r.element.content) (content_renamed image [] r.element) refl refl (sym new) (swaps_address image piece.content.start r.element.content (eqb-true _ _ four)))
+    (swaps_at image _ _ piece.content.start r.element.content r.element.content (renamed_at image 0 r.element.content)
+    (content_renamed image [] r.element) refl refl (sym new) (swaps_address image piece.content.start r.element.content (eqb-true _ _ four)))
     rest
 
-pub node_in : (image : ℕ → Option ℕ) (ps qs octets : List ℕ) (part : Part) (xs : List ℕ) (piece : Piece) (r : Reads octets part xs piece) → is_constructed piece.tag ≡ true → Claim image ps piece.content r.element.content → Claim image qs piece.rest r.rest → Claim image (ps ++ qs) part xs
+pub node_in : (image : ℕ → Option ℕ) (ps qs octets : List ℕ) (part : Part) (xs : List ℕ) (piece : Piece) (r : Reads octets part xs piece)
+    → is_constructed piece.tag ≡ true → Claim image ps piece.content r.element.content → Claim image qs piece.rest r.rest
+    → Claim image (ps ++ qs) part xs
 node_in image ps qs octets part xs piece r is content rest =
     node image ps qs octets part xs piece r
-    (swaps_at image ps ps piece.content.start r.element.content r.element.content (elements_renamed image [] r.element.content) (content_renamed image [] r.element) refl refl
-    (sym (ap (λ b. if b then elements_renamed image [] r.element.content else primitive_renamed image [] r.element.tag r.element.content) (ap is_constructed r.tag_is ∙ is))) content)
+    (swaps_at image ps ps piece.content.start r.element.content r.element.content (elements_renamed image [] r.element.content)
+    (content_renamed image [] r.element) refl refl
+    (sym (ap (λ b. if b then elements_renamed image [] r.element.content else primitive_renamed image [] r.element.tag r.element.content)
+    (ap is_constructed r.tag_is ∙ is))) content)
     rest
 
 -- nothing is left
@@ -191,4 +215,5 @@ empty_kept image = elements_end image [] [] refl
 pub claim_none : (image : ℕ → Option ℕ) (part : Part) (xs : List ℕ) → length xs ≡ 0 → Claim image [] part xs
 claim_none image part xs none =
     let is = nil_from_length xs none in
-    swaps_at image [] [] part.start [] xs [] (elements_renamed image [] xs) refl (sym is) (sym (empty_kept image) ∙ ap (elements_renamed image []) (sym is)) (swaps_none image part.start [])
+    swaps_at image [] [] part.start [] xs [] (elements_renamed image [] xs) refl (sym is)
+    (sym (empty_kept image) ∙ ap (elements_renamed image []) (sym is)) (swaps_none image part.start [])

@@ -38,7 +38,8 @@ record Skips (octets : List ℕ) (part rest : Part) (xs : List ℕ) : Type 0 whe
   left_at : At octets rest left
   goes : (image : ℕ → Option ℕ) (ps : List ℕ) → Claim image ps rest left → Claim image ps part xs
 
-skips : (octets tags : List ℕ) (part rest : Part) (xs : List ℕ) → list_all is_kept tags ≡ true → At octets part xs → skip octets tags part ≡ Some rest → Skips octets part rest xs
+skips : (octets tags : List ℕ) (part rest : Part) (xs : List ℕ) → list_all is_kept tags ≡ true → At octets part xs → skip octets tags part ≡ Some rest
+    → Skips octets part rest xs
 unfolding skip
 skips octets [] part rest xs kept at e =
     let same = same_Some _ _ e in
@@ -73,7 +74,8 @@ alone octets part xs piece at e =
 plain_at : (tag known : ℕ) → (known == tag) ≡ true → is_constructed known ≡ false → is_constructed tag ≡ false
 plain_at tag known is plain = ap is_constructed (sym (eqb-true _ _ is)) ∙ plain
 
-plain_among : (tag : ℕ) (tags : List ℕ) → list_all (λ known. not (is_constructed known)) tags ≡ true → list_any (λ known. known == tag) tags ≡ true → is_constructed tag ≡ false
+plain_among : (tag : ℕ) (tags : List ℕ) → list_all (λ known. not (is_constructed known)) tags ≡ true → list_any (λ known. known == tag) tags ≡ true
+    → is_constructed tag ≡ false
 plain_among tag [] plain is = cc
 plain_among tag (known ∷ tags) plain is =
     let both = and_parts (not (is_constructed known)) (list_all (λ known. not (is_constructed known)) tags) plain in
@@ -116,7 +118,8 @@ pdu_constructed V2 tag is = elim (or_cases (nat_le 0xA0 tag && nat_le tag 0xA3) 
 ]
 pdu_constructed V3 tag is = cc
 
-pub by_value : (image : ℕ → Option ℕ) (octets : List ℕ) (kind : SnmpKind) (part : Part) (xs : List ℕ) (piece : Piece) → Alone octets part xs piece → is_value_tag kind piece.tag ≡ true → Claim image (option_to_list (address_in piece)) part xs
+pub by_value : (image : ℕ → Option ℕ) (octets : List ℕ) (kind : SnmpKind) (part : Part) (xs : List ℕ) (piece : Piece) → Alone octets part xs piece
+    → is_value_tag kind piece.tag ≡ true → Claim image (option_to_list (address_in piece)) part xs
 by_value image octets kind part xs piece a is = by_test (piece.tag == ip_address) refl
   where
     by_test : (b : Bool) → (piece.tag == ip_address) ≡ b → Claim image (option_to_list (if b then Some piece.content.start else None)) part xs
@@ -129,7 +132,8 @@ pub record Binds (octets : List ℕ) (part : Part) (address : Option ℕ) (rest 
   pub left_at : At octets rest left
   pub goes : (image : ℕ → Option ℕ) (ps : List ℕ) → Claim image ps rest left → Claim image (option_to_list address ++ ps) part xs
 
-binds : (octets : List ℕ) (kind : SnmpKind) (part : Part) (xs : List ℕ) (found : Option ℕ × Part) → At octets part xs → binding octets kind part ≡ Some found → Binds octets part found.0 found.1 xs
+binds : (octets : List ℕ) (kind : SnmpKind) (part : Part) (xs : List ℕ) (found : Option ℕ × Part) → At octets part xs
+    → binding octets kind part ≡ Some found → Binds octets part found.0 found.1 xs
 unfolding binding
 binds octets kind part xs found at e =
     let pair = bound (field octets sequence part) _ found e in
@@ -146,27 +150,34 @@ binds octets kind part xs found at e =
       left = r.rest;
       left_at = subst (λ (p : Part). At octets p r.rest) rest r.rest_at;
       goes = λ image ps claim.
-          let content = skipped.goes image (option_to_list (address_in value.value)) (by_value image octets kind name.value skipped.left value.value a right.holds) in
+          let content = skipped.goes image (option_to_list (address_in value.value))
+          (by_value image octets kind name.value skipped.left value.value a right.holds) in
           subst (λ (o : Option ℕ). Claim image (option_to_list o ++ ps) part xs) address
           (node_in image (option_to_list (address_in value.value)) ps octets part xs pair.value r (ap is_constructed first.tag_is) content
           (subst (λ (p : Part). Claim image ps p r.rest) (sym rest) claim));
     }
 
-no_more : (octets : List ℕ) (part : Part) (xs places : List ℕ) → At octets part xs → (part.start == part.end) ≡ true → (image : ℕ → Option ℕ) → [] ≡ places → Claim image places part xs
+no_more : (octets : List ℕ) (part : Part) (xs places : List ℕ) → At octets part xs → (part.start == part.end) ≡ true → (image : ℕ → Option ℕ)
+    → [] ≡ places → Claim image places part xs
 no_more octets part xs places at end image same =
     let ends = eqb-true _ _ end in
     subst (λ (ps : List ℕ). Claim image ps part xs) same (claim_none image part xs (omega (arith, at.end_is)))
 
-pub binding_claims : (most : ℕ) (octets : List ℕ) (kind : SnmpKind) (part : Part) (xs places : List ℕ) → At octets part xs → bindings_within most octets kind part ≡ Some places → (image : ℕ → Option ℕ) → Claim image places part xs
+pub binding_claims : (most : ℕ) (octets : List ℕ) (kind : SnmpKind) (part : Part) (xs places : List ℕ) → At octets part xs
+    → bindings_within most octets kind part ≡ Some places → (image : ℕ → Option ℕ) → Claim image places part xs
 unfolding bindings_within
 binding_claims zero octets kind part xs places at e image = by_test (part.start == part.end) refl e
   where
     by_test : (b : Bool) → (part.start == part.end) ≡ b → (if b then Some [] else None) ≡ Some places → Claim image places part xs
     by_test true end e = no_more octets part xs places at end image (same_Some _ _ e)
     by_test false goes e = cc
-binding_claims (suc most) octets kind part xs places at e image = by_test (λ rest left more left_at is. binding_claims most octets kind rest left more left_at is image) (part.start == part.end) refl e
+binding_claims (suc most) octets kind part xs places at e image =
+    by_test (λ rest left more left_at is. binding_claims most octets kind rest left more left_at is image) (part.start == part.end) refl e
   where
-    by_test : ((rest : Part) (left more : List ℕ) → At octets rest left → bindings_within most octets kind rest ≡ Some more → Claim image more rest left) → (b : Bool) → (part.start == part.end) ≡ b → (if b then Some [] else (binding octets kind part >>= λ found. bindings_within most octets kind found.1 >>= λ more. Some (option_to_list found.0 ++ more))) ≡ Some places → Claim image places part xs
+    by_test : ((rest : Part) (left more : List ℕ) → At octets rest left → bindings_within most octets kind rest ≡ Some more
+        → Claim image more rest left) → (b : Bool) → (part.start == part.end) ≡ b
+        → (if b then Some [] else (binding octets kind part >>= λ found. bindings_within most octets kind found.1 >>= λ more. Some
+        (option_to_list found.0 ++ more))) ≡ Some places → Claim image places part xs
     by_test later true end e = no_more octets part xs places at end image (same_Some _ _ e)
     by_test later false goes e =
         let found = bound (binding octets kind part) _ places e in
@@ -176,14 +187,17 @@ binding_claims (suc most) octets kind part xs places at e image = by_test (λ re
         (b.goes image more.value (later found.value.1 b.left more.value b.left_at more.is))
 
 -- the fields of a PDU before its bindings
-request_binds : (octets : List ℕ) (part : Part) (xs : List ℕ) (found : Option ℕ × Part) → At octets part xs → request octets part ≡ Some found → Binds octets part found.0 found.1 xs
+request_binds : (octets : List ℕ) (part : Part) (xs : List ℕ) (found : Option ℕ × Part) → At octets part xs → request octets part ≡ Some found
+    → Binds octets part found.0 found.1 xs
 request_binds octets part xs found at e =
     let rest = bound (skip octets (integer ∷ integer ∷ integer ∷ []) part) _ found e in
     let skipped = skips octets (integer ∷ integer ∷ integer ∷ []) part rest.value xs refl at rest.is in
     let same = same_Some _ _ rest.then_is in
-    subst (λ (f : Option ℕ × Part). Binds octets part f.0 f.1 xs) same (record { left = skipped.left; left_at = skipped.left_at; goes = skipped.goes })
+    subst (λ (f : Option ℕ × Part). Binds octets part f.0 f.1 xs) same
+    (record { left = skipped.left; left_at = skipped.left_at; goes = skipped.goes })
 
-trap_binds : (octets : List ℕ) (part : Part) (xs : List ℕ) (found : Option ℕ × Part) → At octets part xs → trap octets part ≡ Some found → Binds octets part found.0 found.1 xs
+trap_binds : (octets : List ℕ) (part : Part) (xs : List ℕ) (found : Option ℕ × Part) → At octets part xs → trap octets part ≡ Some found
+    → Binds octets part found.0 found.1 xs
 trap_binds octets part xs found at e =
     let enterprise = bound (skip octets (object_identifier ∷ []) part) _ found e in
     let agent = bound (field octets ip_address enterprise.value) _ found enterprise.then_is in
@@ -196,13 +210,17 @@ trap_binds octets part xs found at e =
     subst (λ (f : Option ℕ × Part). Binds octets part f.0 f.1 xs) same (record {
       left = last.left;
       left_at = last.left_at;
-      goes = λ image ps claim. first.goes image (agent.value.content.start ∷ ps) (node_address image ps octets enterprise.value first.left agent.value r found_agent.tag_is (last.goes image ps claim));
+      goes = λ image ps claim. first.goes image (agent.value.content.start ∷ ps)
+          (node_address image ps octets enterprise.value first.left agent.value r found_agent.tag_is (last.goes image ps claim));
     })
 
-pdu_binds : (octets : List ℕ) (kind : SnmpKind) (piece : Piece) (xs : List ℕ) (found : Option ℕ × Part) → At octets piece.content xs → pdu octets kind piece ≡ Some found → (is_pdu_tag kind piece.tag ≡ true) × Binds octets piece.content found.0 found.1 xs
+pdu_binds : (octets : List ℕ) (kind : SnmpKind) (piece : Piece) (xs : List ℕ) (found : Option ℕ × Part) → At octets piece.content xs
+    → pdu octets kind piece ≡ Some found → (is_pdu_tag kind piece.tag ≡ true) × Binds octets piece.content found.0 found.1 xs
 pdu_binds octets kind piece xs found at e = by_test (is_pdu_tag kind piece.tag) (piece.tag == trap_tag) refl e
   where
-    by_test : (a b : Bool) → is_pdu_tag kind piece.tag ≡ a → (if a then (if b then trap octets piece.content else request octets piece.content) else None) ≡ Some found → (is_pdu_tag kind piece.tag ≡ true) × Binds octets piece.content found.0 found.1 xs
+    by_test : (a b : Bool) → is_pdu_tag kind piece.tag ≡ a
+        → (if a then (if b then trap octets piece.content else request octets piece.content) else None) ≡ Some found
+        → (is_pdu_tag kind piece.tag ≡ true) × Binds octets piece.content found.0 found.1 xs
     by_test true true is e = (is, trap_binds octets piece.content xs found at e)
     by_test true false is e = (is, request_binds octets piece.content xs found at e)
     by_test false b is e = cc
@@ -216,7 +234,8 @@ record Inside (octets : List ℕ) (part content : Part) (xs : List ℕ) : Type 0
 without_nil : (image : ℕ → Option ℕ) (ps : List ℕ) (part : Part) (xs : List ℕ) → Claim image (ps ++ []) part xs → Claim image ps part xs
 without_nil image ps part xs claim = subst (λ (qs : List ℕ). Claim image qs part xs) (append-nil ps) claim
 
-inside : (octets : List ℕ) (part content : Part) (xs : List ℕ) → At octets part xs → in_sequence octets part ≡ Some content → Inside octets part content xs
+inside : (octets : List ℕ) (part content : Part) (xs : List ℕ) → At octets part xs → in_sequence octets part ≡ Some content
+    → Inside octets part content xs
 inside octets part content xs at e =
     let piece = bound (only octets part) _ content e in
     let right = tested _ _ _ piece.then_is in
@@ -224,7 +243,8 @@ inside octets part content xs at e =
     subst (λ (c : Part). Inside octets part c xs) right.same (record {
       left = a.r.element.content;
       left_at = a.r.content_at;
-      goes = λ image ps claim. without_nil image ps part xs (node_in image ps [] octets part xs piece.value a.r (ap is_constructed (eqb-true _ _ right.holds)) claim (a.behind image));
+      goes = λ image ps claim. without_nil image ps part xs
+          (node_in image ps [] octets part xs piece.value a.r (ap is_constructed (eqb-true _ _ right.holds)) claim (a.behind image));
     })
 
 -- what the places of a message do to a part of it
@@ -233,12 +253,16 @@ Meets octets part xs V1 places = (image : ℕ → Option ℕ) → Claim image pl
 Meets octets part xs V2 places = (image : ℕ → Option ℕ) → Claim image places part xs
 Meets octets part xs V3 places = places ≡ []
 
-wider : (octets : List ℕ) (part whole : Part) (xs ys : List ℕ) (kind : SnmpKind) (places : List ℕ) → ((image : ℕ → Option ℕ) → Claim image places part xs → Claim image places whole ys) → Meets octets part xs kind places → Meets octets whole ys kind places
+wider : (octets : List ℕ) (part whole : Part) (xs ys : List ℕ) (kind : SnmpKind) (places : List ℕ)
+    → ((image : ℕ → Option ℕ) → Claim image places part xs → Claim image places whole ys) → Meets octets part xs kind places
+    → Meets octets whole ys kind places
 wider octets part whole xs ys V1 places goes meets = λ image. goes image (meets image)
 wider octets part whole xs ys V2 places goes meets = λ image. goes image (meets image)
 wider octets part whole xs ys V3 places goes meets = meets
 
-community_claims : (octets : List ℕ) (kind : SnmpKind) (part : Part) (xs : List ℕ) (outline : Outline) (places : List ℕ) → At octets part xs → with_community octets kind part ≡ Some outline → places_ahead octets outline ≡ Some places → (outline.kind ≡ kind) × ((image : ℕ → Option ℕ) → Claim image places part xs)
+community_claims : (octets : List ℕ) (kind : SnmpKind) (part : Part) (xs : List ℕ) (outline : Outline) (places : List ℕ) → At octets part xs
+    → with_community octets kind part ≡ Some outline → places_ahead octets outline ≡ Some places → (outline.kind ≡ kind)
+    × ((image : ℕ → Option ℕ) → Claim image places part xs)
 community_claims octets kind part xs outline places at e ahead =
     let rest = bound (skip octets (octet_string ∷ []) part) _ outline e in
     let piece = bound (only octets rest.value) _ outline rest.then_is in
@@ -252,10 +276,15 @@ community_claims octets kind part xs outline places at e ahead =
     let sequence_in = inside octets found.value.1 inner.value fields.1.left fields.1.left_at inner.is in (
       ap (λ (o : Outline). o.kind) (sym same),
       λ image.
-          let claim = sequence_in.goes image listed.value (binding_claims (inner.value.end - inner.value.start) octets kind inner.value sequence_in.left listed.value sequence_in.left_at listed.is image) in
+          let claim = sequence_in.goes image listed.value
+          (binding_claims (inner.value.end - inner.value.start) octets kind inner.value sequence_in.left listed.value sequence_in.left_at
+          listed.is image) in
           let content = fields.1.goes image listed.value claim in
           subst (λ (ps : List ℕ). Claim image ps part xs) (same_Some (option_to_list found.value.0 ++ listed.value) places listed.then_is)
-          (skipped.goes image (option_to_list found.value.0 ++ listed.value) (without_nil image (option_to_list found.value.0 ++ listed.value) rest.value skipped.left (node_in image (option_to_list found.value.0 ++ listed.value) [] octets rest.value skipped.left piece.value a.r (pdu_constructed kind piece.value.tag fields.0) content (a.behind image)))),
+          (skipped.goes image (option_to_list found.value.0 ++ listed.value)
+          (without_nil image (option_to_list found.value.0 ++ listed.value) rest.value skipped.left
+          (node_in image (option_to_list found.value.0 ++ listed.value) [] octets rest.value skipped.left piece.value a.r
+          (pdu_constructed kind piece.value.tag fields.0) content (a.behind image)))),
     )
 
 none_listed : (n : ℕ) (octets : List ℕ) (kind : SnmpKind) → bindings octets kind (record { start = n; end = n }) ≡ Some []
@@ -265,10 +294,14 @@ none_listed n octets kind =
     let end : (n == n) ≡ true = grind (arith, nat_tests) in
     ap (λ m. bindings_within m octets kind (record { start = n; end = n })) none ∙ ap (λ b. if b then Some [] else None) end
 
-version_meets : (octets : List ℕ) (version : ℕ) (part : Part) (xs : List ℕ) (outline : Outline) (places : List ℕ) → At octets part xs → by_version octets version part ≡ Some outline → places_ahead octets outline ≡ Some places → Meets octets part xs outline.kind places
+version_meets : (octets : List ℕ) (version : ℕ) (part : Part) (xs : List ℕ) (outline : Outline) (places : List ℕ) → At octets part xs
+    → by_version octets version part ≡ Some outline → places_ahead octets outline ≡ Some places → Meets octets part xs outline.kind places
 version_meets octets version part xs outline places at e ahead = by_test (version == 0) (version == 1) (version == 3) e
   where
-    by_test : (a b c : Bool) → (if a then with_community octets V1 part else if b then with_community octets V2 part else if c then Some (record { kind = V3; agent = None; bindings = record { start = length octets; end = length octets } }) else None) ≡ Some outline → Meets octets part xs outline.kind places
+    by_test : (a b c : Bool)
+        → (if a then with_community octets V1 part else if b then with_community octets V2 part else if c then Some
+        (record { kind = V3; agent = None; bindings = record { start = length octets; end = length octets } }) else None) ≡ Some outline
+        → Meets octets part xs outline.kind places
     by_test true b c e =
         let claims = community_claims octets V1 part xs outline places at e ahead in
         subst (λ (k : SnmpKind). Meets octets part xs k places) (sym claims.0) claims.1
@@ -277,41 +310,54 @@ version_meets octets version part xs outline places at e ahead = by_test (versio
         subst (λ (k : SnmpKind). Meets octets part xs k places) (sym claims.0) claims.1
     by_test false false true e =
         let same = same_Some _ _ e in
-        let listed = bound (bindings octets V3 (record { start = length octets; end = length octets })) _ places (ap (places_ahead octets) same ∙ ahead) in
+        let listed = bound (bindings octets V3 (record { start = length octets; end = length octets })) _ places
+        (ap (places_ahead octets) same ∙ ahead) in
         let none : places ≡ [] = sym (same_Some _ _ listed.then_is) ∙ same_Some _ _ (sym listed.is ∙ none_listed (length octets) octets V3) in
         subst (λ (k : SnmpKind). Meets octets part xs k places) (ap (λ (o : Outline). o.kind) same) none
     by_test false false false e = cc
 
-outline_meets : (octets : List ℕ) (outline : Outline) (places : List ℕ) → outline_of octets ≡ Some outline → places_ahead octets outline ≡ Some places → Meets octets (record { start = 0; end = length octets }) octets outline.kind places
+outline_meets : (octets : List ℕ) (outline : Outline) (places : List ℕ) → outline_of octets ≡ Some outline → places_ahead octets outline ≡ Some places
+    → Meets octets (record { start = 0; end = length octets }) octets outline.kind places
 unfolding outline_of
 outline_meets octets outline places e ahead =
     let content = bound (in_sequence octets (record { start = 0; end = length octets })) _ outline e in
     let version = bound (field octets integer content.value) _ outline content.then_is in
-    let at : At octets (record { start = 0; end = length octets }) octets = record { before = []; after = []; whole = sym (append-nil octets); start_is = refl; end_is = omega arith } in
+    let at : At octets (record { start = 0; end = length octets }) octets =
+    record { before = []; after = []; whole = sym (append-nil octets); start_is = refl; end_is = omega arith } in
     let seq = inside octets (record { start = 0; end = length octets }) content.value octets at content.is in
     let first = field_is octets integer content.value version.value version.is in
     let r = reads octets content.value seq.left version.value seq.left_at first.first in
     wider octets version.value.rest (record { start = 0; end = length octets }) r.rest octets outline.kind places
     (λ image claim. seq.goes image places (node_kept image places octets content.value seq.left version.value r (ap is_kept first.tag_is) claim))
-    (version_meets octets (slice_index octets version.value.content.start) version.value.rest r.rest outline places r.rest_at (tested_first (version.value.content.end - version.value.content.start == 1) (by_version octets (slice_index octets version.value.content.start) version.value.rest) outline version.then_is).1 ahead)
+    (version_meets octets (slice_index octets version.value.content.start) version.value.rest r.rest outline places r.rest_at
+    (tested_first (version.value.content.end - version.value.content.start == 1)
+    (by_version octets (slice_index octets version.value.content.start) version.value.rest) outline version.then_is).1 ahead)
 
-message_meets : (octets : List ℕ) (m : SnmpKind × List ℕ) → message octets ≡ Some m → Meets octets (record { start = 0; end = length octets }) octets m.0 m.1
+message_meets : (octets : List ℕ) (m : SnmpKind × List ℕ) → message octets ≡ Some m
+    → Meets octets (record { start = 0; end = length octets }) octets m.0 m.1
 unfolding message
 message_meets octets m e =
     let outline = bound (outline_of octets) _ m e in
     let places = bound (places_ahead octets outline.value) _ m outline.then_is in
-    subst (λ (n : SnmpKind × List ℕ). Meets octets (record { start = 0; end = length octets }) octets n.0 n.1) (same_Some _ _ places.then_is) (outline_meets octets outline.value places.value outline.is places.is)
+    subst (λ (n : SnmpKind × List ℕ). Meets octets (record { start = 0; end = length octets }) octets n.0 n.1) (same_Some _ _ places.then_is)
+    (outline_meets octets outline.value places.value outline.is places.is)
 
-by_meeting : (image : ℕ → Option ℕ) (octets : List ℕ) (kind : SnmpKind) (places : List ℕ) → Meets octets (record { start = 0; end = length octets }) octets kind places → by_kind (Some kind) octets (elements_renamed image [] octets) ≡ renamed image places octets
-by_meeting image octets V1 places meets = sym (append-nil (elements_renamed image [] octets)) ∙ sym ((meets image).is [] [] refl) ∙ ap (renamed image places) (append-nil octets)
-by_meeting image octets V2 places meets = sym (append-nil (elements_renamed image [] octets)) ∙ sym ((meets image).is [] [] refl) ∙ ap (renamed image places) (append-nil octets)
+by_meeting : (image : ℕ → Option ℕ) (octets : List ℕ) (kind : SnmpKind) (places : List ℕ)
+    → Meets octets (record { start = 0; end = length octets }) octets kind places → by_kind (Some kind) octets (elements_renamed image [] octets)
+    ≡ renamed image places octets
+by_meeting image octets V1 places meets = sym (append-nil (elements_renamed image [] octets)) ∙ sym ((meets image).is [] [] refl)
+    ∙ ap (renamed image places) (append-nil octets)
+by_meeting image octets V2 places meets = sym (append-nil (elements_renamed image [] octets)) ∙ sym ((meets image).is [] [] refl)
+    ∙ ap (renamed image places) (append-nil octets)
 by_meeting image octets V3 places meets = sym (ap (λ ps. renamed image ps octets) meets ∙ none_renamed image octets)
 
 -- with no rule a message becomes what the renaming in place makes of it
-pub no_rule : (image : ℕ → Option ℕ) (octets : List ℕ) → IsSome (kind_of octets) → oid_renamed image [] octets ≡ renamed image (places_of octets) octets
+pub no_rule : (image : ℕ → Option ℕ) (octets : List ℕ) → IsSome (kind_of octets)
+    → oid_renamed image [] octets ≡ renamed image (places_of octets) octets
 no_rule image octets some = by_message (message octets) refl some
   where
-    by_message : (o : Option (SnmpKind × List ℕ)) → message octets ≡ o → IsSome (option_map (λ m. m.0) o) → oid_renamed image [] octets ≡ renamed image (places_of octets) octets
+    by_message : (o : Option (SnmpKind × List ℕ)) → message octets ≡ o → IsSome (option_map (λ m. m.0) o)
+        → oid_renamed image [] octets ≡ renamed image (places_of octets) octets
     by_message None is some = cc
     by_message (Some m) is some =
         let kind = ap (option_map (λ (m : SnmpKind × List ℕ). m.0)) is in

@@ -15,7 +15,8 @@ use Rattle.snmp_oids.specs.Arcs.{joined, numbers_from, numbers_of, numbers_in, a
 use Rattle.snmp_oids.specs.Identifier.{place_behind}
 use Rattle.snmp_oids.proofs.SubIdentifiers.{all_of}
 
-behind_at : (k : ℕ) (xs : List ℕ) (i : ℕ) → i < length xs → place_behind (suc k) (drop i xs) ≡ 1 + (if nat_lt (get_or xs i 0) 128 then place_behind k (drop (i + 1) xs) else place_behind (suc k) (drop (i + 1) xs))
+behind_at : (k : ℕ) (xs : List ℕ) (i : ℕ) → i < length xs → place_behind (suc k) (drop i xs) ≡ 1
+    + (if nat_lt (get_or xs i 0) 128 then place_behind k (drop (i + 1) xs) else place_behind (suc k) (drop (i + 1) xs))
 unfolding place_behind
 behind_at k xs i below = rw (add-one, drop-cons xs i 0)
 
@@ -31,7 +32,8 @@ behind_nil (suc k) = refl
 pub behind_end : (left : ℕ) (xs : List ℕ) (i : ℕ) → length xs ≤ i → place_behind left (drop i xs) ≡ 0
 behind_end left xs i past = ap (place_behind left) (drop_all i xs past) ∙ behind_nil left
 
-pub behind_less : (left less : ℕ) (xs : List ℕ) (i : ℕ) → (left ≡ 0 → ⊥) → i < length xs → get_or xs i 0 < 128 → less ≡ left - 1 → place_behind left (drop i xs) ≡ 1 + place_behind less (drop (i + 1) xs)
+pub behind_less : (left less : ℕ) (xs : List ℕ) (i : ℕ) → (left ≡ 0 → ⊥) → i < length xs → get_or xs i 0 < 128 → less ≡ left - 1
+    → place_behind left (drop i xs) ≡ 1 + place_behind less (drop (i + 1) xs)
 behind_less zero less xs i some below ends is = absurd (some refl)
 behind_less (suc k) less xs i some below ends is =
     let test : nat_lt (get_or xs i 0) 128 ≡ true = grind (arith, nat_tests) in
@@ -40,7 +42,8 @@ behind_less (suc k) less xs i some below ends is =
     ∙ ap (λ b. 1 + (if b then place_behind k (drop (i + 1) xs) else place_behind (suc k) (drop (i + 1) xs))) test
     ∙ ap (λ n. 1 + place_behind n (drop (i + 1) xs)) (sym same)
 
-pub behind_same : (left : ℕ) (xs : List ℕ) (i : ℕ) → (left ≡ 0 → ⊥) → i < length xs → 128 ≤ get_or xs i 0 → place_behind left (drop i xs) ≡ 1 + place_behind left (drop (i + 1) xs)
+pub behind_same : (left : ℕ) (xs : List ℕ) (i : ℕ) → (left ≡ 0 → ⊥) → i < length xs → 128 ≤ get_or xs i 0
+    → place_behind left (drop i xs) ≡ 1 + place_behind left (drop (i + 1) xs)
 behind_same zero xs i some below goes = absurd (some refl)
 behind_same (suc k) xs i some below goes =
     let test : nat_lt (get_or xs i 0) 128 ≡ false = grind (arith, nat_tests) in
@@ -72,7 +75,10 @@ ends_empty (suc s) ns e = (let no : (suc s == 0) ≡ false = grind (arith, nat_t
 moved : (octet : ℕ) (more : List ℕ) (n : ℕ) → drop (1 + n) (octet ∷ more) ≡ drop n more
 moved octet more n = let e : 1 + n ≡ suc n = omega arith in ap (λ m. drop m (octet ∷ more)) e
 
-step : (k octet : ℕ) (more ns : List ℕ) (b : Bool) (n : ℕ) → ((j s : ℕ) (ms : List ℕ) → numbers_from s more ≡ Some ms → numbers_from 0 (drop (place_behind (suc j) more) more) ≡ Some (drop (suc j) ms)) → (if b then option_map (λ numbers. n ∷ numbers) (numbers_from 0 more) else numbers_from n more) ≡ Some ns → numbers_from 0 (drop (1 + (if b then place_behind k more else place_behind (suc k) more)) (octet ∷ more)) ≡ Some (drop (suc k) ns)
+step : (k octet : ℕ) (more ns : List ℕ) (b : Bool) (n : ℕ)
+    → ((j s : ℕ) (ms : List ℕ) → numbers_from s more ≡ Some ms → numbers_from 0 (drop (place_behind (suc j) more) more) ≡ Some (drop (suc j) ms))
+    → (if b then option_map (λ numbers. n ∷ numbers) (numbers_from 0 more) else numbers_from n more) ≡ Some ns
+    → numbers_from 0 (drop (1 + (if b then place_behind k more else place_behind (suc k) more)) (octet ∷ more)) ≡ Some (drop (suc k) ns)
 step zero octet more ns true n goes e =
     let split = split_of n (numbers_from 0 more) ns e in
     ap (numbers_from 0) (moved octet more (place_behind 0 more) ∙ ap (λ m. drop m more) (behind_zero more))
@@ -85,7 +91,8 @@ step (suc j) octet more ns true n goes e =
     ∙ ap (λ xs. Some (drop (suc (suc j)) xs)) (sym split.is)
 step k octet more ns false n goes e = ap (numbers_from 0) (moved octet more (place_behind (suc k) more)) ∙ goes k n ns e
 
-pub behind_numbers : (k s : ℕ) (octets ns : List ℕ) → numbers_from s octets ≡ Some ns → numbers_from 0 (drop (place_behind (suc k) octets) octets) ≡ Some (drop (suc k) ns)
+pub behind_numbers : (k s : ℕ) (octets ns : List ℕ) → numbers_from s octets ≡ Some ns → numbers_from 0 (drop (place_behind (suc k) octets) octets)
+    ≡ Some (drop (suc k) ns)
 unfolding numbers_from place_behind
 behind_numbers k s [] ns e = ap (λ xs. Some (drop (suc k) xs)) (sym (ends_empty s ns e))
 behind_numbers k s (octet ∷ more) ns e =
@@ -108,7 +115,8 @@ pub numbers_some : (content : List ℕ) → IsSome (arcs_of content) → IsSome 
 numbers_some content some = sym (some_mapped arcs_for (numbers_of content)) ∙ some
 
 -- whole sub-identifiers are left behind some of them
-pub behind_some : (content : List ℕ) (count start : ℕ) → IsSome (arcs_of content) → start ≡ place_behind count content → IsSome (numbers_of (take (length content - start) (drop start content)))
+pub behind_some : (content : List ℕ) (count start : ℕ) → IsSome (arcs_of content) → start ≡ place_behind count content
+    → IsSome (numbers_of (take (length content - start) (drop start content)))
 behind_some content count start some is =
     ap (λ n. is_some (numbers_of (take (length content - n) (drop n content)))) is
     ∙ ap (λ xs. is_some (numbers_of xs)) (take_rest content (place_behind count content))
@@ -123,13 +131,15 @@ pub record Behind (content : List ℕ) (before start : ℕ) : Type 0 where
   pub some : IsSome (numbers_of (take (length content - start) (drop start content)))
   pub numbers_are : numbers_in (take (length content - start) (drop start content)) ≡ drop before (arcs_in content)
 
-pub behind : (content : List ℕ) (before start : ℕ) → IsSome (arcs_of content) → 2 ≤ before → start ≡ place_behind (before - 1) content → Behind content before start
+pub behind : (content : List ℕ) (before start : ℕ) → IsSome (arcs_of content) → 2 ≤ before → start ≡ place_behind (before - 1) content
+    → Behind content before start
 behind content zero start some two is = absurd (omega arith)
 behind content (suc zero) start some two is = absurd (omega arith)
 behind content (suc (suc k)) start some two is =
     let less : suc (suc k) - 1 ≡ suc k = omega arith in
     let place : start ≡ place_behind (suc k) content = is ∙ ap (λ n. place_behind n content) less in
-    let there = ap (λ xs. numbers_of xs) (take_rest content start) ∙ ap (λ n. numbers_of (drop n content)) place ∙ behind_numbers k 0 content (numbers_in content) (all_of (numbers_of content) (numbers_some content some)) in
+    let there = ap (λ xs. numbers_of xs) (take_rest content start) ∙ ap (λ n. numbers_of (drop n content)) place
+    ∙ behind_numbers k 0 content (numbers_in content) (all_of (numbers_of content) (numbers_some content some)) in
     record {
       some = ap is_some there;
       numbers_are = ap (λ o. unwrap_or o []) there ∙ sym (ap (drop (suc (suc k))) (arcs_are content some) ∙ drop_arcs k (numbers_in content));
@@ -145,7 +155,9 @@ pub record Stands (arcs : List ℕ) (before address : ℕ) : Type 0 where
   pub two : 2 ≤ before
   pub is : address_of (drop before arcs) ≡ Some address
 
-by_rule : (arcs : List ℕ) (place : ℕ) (o : Option ℕ) (rest : Option (ℕ × ℕ)) (found : ℕ × ℕ) → (o ≡ None → Stands arcs found.0 found.1) → 2 ≤ place → ((address : ℕ) → o ≡ Some address → address_of (drop place arcs) ≡ Some address) → option_or (option_map (λ address. (place, address)) o) rest ≡ Some found → Stands arcs found.0 found.1
+by_rule : (arcs : List ℕ) (place : ℕ) (o : Option ℕ) (rest : Option (ℕ × ℕ)) (found : ℕ × ℕ) → (o ≡ None → Stands arcs found.0 found.1) → 2 ≤ place
+    → ((address : ℕ) → o ≡ Some address → address_of (drop place arcs) ≡ Some address) → option_or (option_map (λ address. (place, address)) o) rest
+    ≡ Some found → Stands arcs found.0 found.1
 by_rule arcs place None rest found later two here e = later refl
 by_rule arcs place (Some address) rest found later two here e =
     let same = same_Some _ _ e in
@@ -153,13 +165,15 @@ by_rule arcs place (Some address) rest found later two here e =
     let address_is = ap (λ (p : ℕ × ℕ). p.1) same in
     record { two = omega arith; is = ap (λ n. address_of (drop n arcs)) (sym place_is) ∙ here address refl ∙ ap Some address_is }
 
-pub found_stands : (rules : List OidRule) (arcs : List ℕ) (found : ℕ × ℕ) → IsTrue (list_all is_rule rules) → named rules arcs ≡ Some found → Stands arcs found.0 found.1
+pub found_stands : (rules : List OidRule) (arcs : List ℕ) (found : ℕ × ℕ) → IsTrue (list_all is_rule rules) → named rules arcs ≡ Some found
+    → Stands arcs found.0 found.1
 found_stands [] arcs found fit e = cc
 found_stands (rule ∷ rules) arcs found fit e =
     let both = and_parts (is_rule rule) (list_all is_rule rules) fit in
     let two = rule_two rule both.0 in
     by_rule arcs (before rule) (named_by rule arcs) (named rules arcs) found
-    (λ none. found_stands rules arcs found both.1 (sym (ap (λ o. option_or (option_map (λ address. (before rule, address)) o) (named rules arcs)) none) ∙ e))
+    (λ none. found_stands rules arcs found both.1
+    (sym (ap (λ o. option_or (option_map (λ address. (before rule, address)) o) (named rules arcs)) none) ∙ e))
     (omega arith)
     (λ address is. (tested_first (starts_with nat_eq arcs rule.prefix) (address_of (drop (before rule) arcs)) address is).1)
     e
@@ -173,7 +187,10 @@ at_least (suc k) s (octet ∷ more) ns e enough =
     let cut = cut_of (joined s octet) _ ns e in
     by_end k octet more ns (nat_lt octet 128) cut.number (λ j t ms is many. at_least j t more ms is many) cut.then_is enough
   where
-    by_end : (k octet : ℕ) (more ns : List ℕ) (b : Bool) (n : ℕ) → ((j t : ℕ) (ms : List ℕ) → numbers_from t more ≡ Some ms → j ≤ length ms → j ≤ place_behind j more) → (if b then option_map (λ numbers. n ∷ numbers) (numbers_from 0 more) else numbers_from n more) ≡ Some ns → suc k ≤ length ns → suc k ≤ 1 + (if b then place_behind k more else place_behind (suc k) more)
+    by_end : (k octet : ℕ) (more ns : List ℕ) (b : Bool) (n : ℕ)
+        → ((j t : ℕ) (ms : List ℕ) → numbers_from t more ≡ Some ms → j ≤ length ms → j ≤ place_behind j more)
+        → (if b then option_map (λ numbers. n ∷ numbers) (numbers_from 0 more) else numbers_from n more) ≡ Some ns → suc k ≤ length ns
+        → suc k ≤ 1 + (if b then place_behind k more else place_behind (suc k) more)
     by_end k octet more ns true n goes e enough =
         let split = split_of n (numbers_from 0 more) ns e in
         let rest = goes k 0 split.rest split.more_is (omega (arith, ap length split.is)) in
@@ -191,7 +208,9 @@ enough_by : (arcs : List ℕ) (address : ℕ) → address_of arcs ≡ Some addre
 enough_by [] address e = cc
 enough_by (a ∷ []) address e = (let one = small_goes a [] _ address e in absurd cc)
 enough_by (a ∷ b ∷ []) address e = (let one = small_goes a (b ∷ []) _ address e in let two = small_goes b [] _ address one in absurd cc)
-enough_by (a ∷ b ∷ c ∷ []) address e = (let one = small_goes a (b ∷ c ∷ []) _ address e in let two = small_goes b (c ∷ []) _ address one in let three = small_goes c [] _ address two in absurd cc)
+enough_by (a ∷ b ∷ c ∷ []) address e =
+    (let one = small_goes a (b ∷ c ∷ []) _ address e in let two = small_goes b (c ∷ []) _ address one in let three = small_goes c
+    [] _ address two in absurd cc)
 enough_by (a ∷ b ∷ c ∷ d ∷ more) address e = omega arith
 
 -- what is found in content
@@ -199,7 +218,8 @@ pub record Found (content : List ℕ) (before address : ℕ) : Type 0 where
   pub some : IsSome (arcs_of content)
   pub stands : Stands (arcs_in content) before address
 
-pub found_in : (rules : List OidRule) (content : List ℕ) (found : ℕ × ℕ) → IsTrue (list_all is_rule rules) → named_in rules content ≡ Some found → Found content found.0 found.1
+pub found_in : (rules : List OidRule) (content : List ℕ) (found : ℕ × ℕ) → IsTrue (list_all is_rule rules) → named_in rules content ≡ Some found
+    → Found content found.0 found.1
 found_in rules content found fit e = by_arcs (arcs_of content) refl e
   where
     by_arcs : (o : Option (List ℕ)) → arcs_of content ≡ o → option_and_then (named rules) o ≡ Some found → Found content found.0 found.1
@@ -210,7 +230,8 @@ found_in rules content found fit e = by_arcs (arcs_of content) refl e
     }
 
 -- four sub-identifiers of an address that is found take at least four octets
-pub four : (content : List ℕ) (before address start next : ℕ) → Found content before address → start ≡ place_behind (before - 1) content → next ≡ place_behind 4 (take (length content - start) (drop start content)) → 4 ≤ next
+pub four : (content : List ℕ) (before address start next : ℕ) → Found content before address → start ≡ place_behind (before - 1) content
+    → next ≡ place_behind 4 (take (length content - start) (drop start content)) → 4 ≤ next
 four content before address start next found start_is next_is =
     let rest = take (length content - start) (drop start content) in
     let there = behind content before start found.some found.stands.two start_is in

@@ -42,20 +42,25 @@ no_address : named_in rules (43 ∷ 6 ∷ 1 ∷ 2 ∷ 1 ∷ 4 ∷ 20 ∷ 1 ∷ 1
 unfolding numbers_from
 no_address = refl
 
-grows : identifier_renamed image rules (43 ∷ 6 ∷ 1 ∷ 2 ∷ 1 ∷ 4 ∷ 20 ∷ 1 ∷ 1 ∷ 10 ∷ 0 ∷ 0 ∷ 5 ∷ 7 ∷ []) ≡ 43 ∷ 6 ∷ 1 ∷ 2 ∷ 1 ∷ 4 ∷ 20 ∷ 1 ∷ 1 ∷ 129 ∷ 44 ∷ 16 ∷ 9 ∷ 1 ∷ 7 ∷ []
+grows : identifier_renamed image rules (43 ∷ 6 ∷ 1 ∷ 2 ∷ 1 ∷ 4 ∷ 20 ∷ 1 ∷ 1 ∷ 10 ∷ 0 ∷ 0 ∷ 5 ∷ 7 ∷ []) ≡ 43 ∷ 6 ∷ 1 ∷ 2 ∷ 1 ∷ 4 ∷ 20 ∷ 1 ∷ 1 ∷ 129
+    ∷ 44 ∷ 16 ∷ 9 ∷ 1 ∷ 7 ∷ []
 unfolding numbers_from place_behind
 grows = refl
 
 -- a binding: its name shrinks, so its lengths, which stood in a longer form, are the shortest; that of the value stays
-shrinks : elements_renamed image rules (48 ∷ 130 ∷ 0 ∷ 24 ∷ 6 ∷ 129 ∷ 14 ∷ 43 ∷ 6 ∷ 1 ∷ 2 ∷ 1 ∷ 4 ∷ 20 ∷ 1 ∷ 1 ∷ 129 ∷ 44 ∷ 16 ∷ 9 ∷ 9 ∷ 64 ∷ 129 ∷ 4 ∷ 10 ∷ 0 ∷ 0 ∷ 5 ∷ []) ≡ 48 ∷ 22 ∷ 6 ∷ 13 ∷ 43 ∷ 6 ∷ 1 ∷ 2 ∷ 1 ∷ 4 ∷ 20 ∷ 1 ∷ 1 ∷ 10 ∷ 0 ∷ 0 ∷ 9 ∷ 64 ∷ 129 ∷ 4 ∷ 172 ∷ 16 ∷ 9 ∷ 1 ∷ []
+shrinks : elements_renamed image rules
+    (48 ∷ 130 ∷ 0 ∷ 24 ∷ 6 ∷ 129 ∷ 14 ∷ 43 ∷ 6 ∷ 1 ∷ 2 ∷ 1 ∷ 4 ∷ 20 ∷ 1 ∷ 1 ∷ 129 ∷ 44 ∷ 16 ∷ 9 ∷ 9 ∷ 64 ∷ 129 ∷ 4 ∷ 10 ∷ 0 ∷ 0 ∷ 5 ∷ []) ≡ 48 ∷ 22
+    ∷ 6 ∷ 13 ∷ 43 ∷ 6 ∷ 1 ∷ 2 ∷ 1 ∷ 4 ∷ 20 ∷ 1 ∷ 1 ∷ 10 ∷ 0 ∷ 0 ∷ 9 ∷ 64 ∷ 129 ∷ 4 ∷ 172 ∷ 16 ∷ 9 ∷ 1 ∷ []
 unfolding numbers_from place_behind elements_within element_at
 shrinks = refl
 
 abbrev before : List ℕ
-before = 48 ∷ 44 ∷ 2 ∷ 1 ∷ 0 ∷ 4 ∷ 6 ∷ 112 ∷ 117 ∷ 98 ∷ 108 ∷ 105 ∷ 99 ∷ 162 ∷ 31 ∷ 2 ∷ 1 ∷ 1 ∷ 2 ∷ 1 ∷ 0 ∷ 2 ∷ 1 ∷ 0 ∷ 48 ∷ 20 ∷ 48 ∷ 18 ∷ 6 ∷ 13 ∷ 43 ∷ 6 ∷ 1 ∷ 2 ∷ 1 ∷ 4 ∷ 20 ∷ 1 ∷ 2 ∷ 10 ∷ 0 ∷ 0 ∷ 5 ∷ 2 ∷ 1 ∷ 3 ∷ []
+before = 48 ∷ 44 ∷ 2 ∷ 1 ∷ 0 ∷ 4 ∷ 6 ∷ 112 ∷ 117 ∷ 98 ∷ 108 ∷ 105 ∷ 99 ∷ 162 ∷ 31 ∷ 2 ∷ 1 ∷ 1 ∷ 2 ∷ 1 ∷ 0 ∷ 2 ∷ 1 ∷ 0 ∷ 48 ∷ 20 ∷ 48 ∷ 18 ∷ 6 ∷ 13
+    ∷ 43 ∷ 6 ∷ 1 ∷ 2 ∷ 1 ∷ 4 ∷ 20 ∷ 1 ∷ 2 ∷ 10 ∷ 0 ∷ 0 ∷ 5 ∷ 2 ∷ 1 ∷ 3 ∷ []
 
 -- a response whose name holds 10.0.0.5, and what it becomes: an octet more, and so each length around the name
-response : oid_renamed image rules before ≡ 48 ∷ 45 ∷ 2 ∷ 1 ∷ 0 ∷ 4 ∷ 6 ∷ 112 ∷ 117 ∷ 98 ∷ 108 ∷ 105 ∷ 99 ∷ 162 ∷ 32 ∷ 2 ∷ 1 ∷ 1 ∷ 2 ∷ 1 ∷ 0 ∷ 2 ∷ 1 ∷ 0 ∷ 48 ∷ 21 ∷ 48 ∷ 19 ∷ 6 ∷ 14 ∷ 43 ∷ 6 ∷ 1 ∷ 2 ∷ 1 ∷ 4 ∷ 20 ∷ 1 ∷ 2 ∷ 129 ∷ 44 ∷ 16 ∷ 9 ∷ 1 ∷ 2 ∷ 1 ∷ 3 ∷ []
+response : oid_renamed image rules before ≡ 48 ∷ 45 ∷ 2 ∷ 1 ∷ 0 ∷ 4 ∷ 6 ∷ 112 ∷ 117 ∷ 98 ∷ 108 ∷ 105 ∷ 99 ∷ 162 ∷ 32 ∷ 2 ∷ 1 ∷ 1 ∷ 2 ∷ 1 ∷ 0 ∷ 2 ∷ 1
+    ∷ 0 ∷ 48 ∷ 21 ∷ 48 ∷ 19 ∷ 6 ∷ 14 ∷ 43 ∷ 6 ∷ 1 ∷ 2 ∷ 1 ∷ 4 ∷ 20 ∷ 1 ∷ 2 ∷ 129 ∷ 44 ∷ 16 ∷ 9 ∷ 1 ∷ 2 ∷ 1 ∷ 3 ∷ []
 unfolding numbers_from place_behind elements_within element_at message outline_of bindings_within binding skip first_of
 response = refl
 

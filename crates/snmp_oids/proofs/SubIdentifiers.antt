@@ -8,11 +8,14 @@ use Rattle.gate_base.specs.Prelude.{◌>>=◌, greatest}
 use Rattle.snmp_oids.specs.Arcs.{joined, numbers_from, numbers_of}
 
 -- numbers go on with one more octet
-numbers_at : (s : ℕ) (xs : List ℕ) (i : ℕ) → i < length xs → numbers_from s (drop i xs) ≡ (joined s (get_or xs i 0) >>= λ number. if nat_lt (get_or xs i 0) 128 then option_map (λ numbers. number ∷ numbers) (numbers_from 0 (drop (i + 1) xs)) else numbers_from number (drop (i + 1) xs))
+numbers_at : (s : ℕ) (xs : List ℕ) (i : ℕ) → i < length xs → numbers_from s (drop i xs)
+    ≡ (joined s (get_or xs i 0) >>= λ number. if nat_lt (get_or xs i 0) 128 then option_map (λ numbers. number ∷ numbers)
+    (numbers_from 0 (drop (i + 1) xs)) else numbers_from number (drop (i + 1) xs))
 unfolding numbers_from
 numbers_at s xs i below = rw (add-one, drop-cons xs i 0)
 
-by_octet : {A : Type 0} (o : Option ℕ) (f : ℕ → Option A) (r : Option A) → r ≡ (o >>= f) → (p : Option ℕ) → p ≡ o → (v : Option A) → (p >>= f) ≡ v → r ≡ v
+by_octet : {A : Type 0} (o : Option ℕ) (f : ℕ → Option A) (r : Option A) → r ≡ (o >>= f) → (p : Option ℕ) → p ≡ o → (v : Option A) → (p >>= f) ≡ v
+    → r ≡ v
 by_octet o f r e p same v is = e ∙ ap (λ o. o >>= f) (sym same) ∙ is
 
 chosen : {A : Type 0} (test : Bool) (value : Bool) (x y : A) → test ≡ value → (if test then x else y) ≡ (if value then x else y)
@@ -24,16 +27,21 @@ below_128 octet below = grind (arith, nat_tests)
 above_128 : (octet : ℕ) → 128 ≤ octet → nat_lt octet 128 ≡ false
 above_128 octet above = grind (arith, nat_tests)
 
-pub numbers_stop : (s : ℕ) (xs : List ℕ) (i : ℕ) (o : Option ℕ) → i < length xs → o ≡ joined s (get_or xs i 0) → o ≡ None → numbers_from s (drop i xs) ≡ None
+pub numbers_stop : (s : ℕ) (xs : List ℕ) (i : ℕ) (o : Option ℕ) → i < length xs → o ≡ joined s (get_or xs i 0) → o ≡ None
+    → numbers_from s (drop i xs) ≡ None
 numbers_stop s xs i o below found none = by_octet _ _ _ (numbers_at s xs i below) None (sym none ∙ found) _ refl
 
-pub numbers_go : (s : ℕ) (xs : List ℕ) (i : ℕ) (o : Option ℕ) (n : ℕ) → i < length xs → o ≡ joined s (get_or xs i 0) → o ≡ Some n → 128 ≤ get_or xs i 0 → numbers_from s (drop i xs) ≡ numbers_from n (drop (i + 1) xs)
+pub numbers_go : (s : ℕ) (xs : List ℕ) (i : ℕ) (o : Option ℕ) (n : ℕ) → i < length xs → o ≡ joined s (get_or xs i 0) → o ≡ Some n
+    → 128 ≤ get_or xs i 0 → numbers_from s (drop i xs) ≡ numbers_from n (drop (i + 1) xs)
 numbers_go s xs i o n below found is above =
-    by_octet _ _ _ (numbers_at s xs i below) (Some n) (sym is ∙ found) _ (chosen (nat_lt (get_or xs i 0) 128) false _ _ (above_128 (get_or xs i 0) above))
+    by_octet _ _ _ (numbers_at s xs i below) (Some n) (sym is ∙ found) _
+    (chosen (nat_lt (get_or xs i 0) 128) false _ _ (above_128 (get_or xs i 0) above))
 
-pub numbers_end : (s : ℕ) (xs : List ℕ) (i : ℕ) (o : Option ℕ) (n : ℕ) → i < length xs → o ≡ joined s (get_or xs i 0) → o ≡ Some n → get_or xs i 0 < 128 → numbers_from s (drop i xs) ≡ option_map (λ numbers. n ∷ numbers) (numbers_of (drop (i + 1) xs))
+pub numbers_end : (s : ℕ) (xs : List ℕ) (i : ℕ) (o : Option ℕ) (n : ℕ) → i < length xs → o ≡ joined s (get_or xs i 0) → o ≡ Some n
+    → get_or xs i 0 < 128 → numbers_from s (drop i xs) ≡ option_map (λ numbers. n ∷ numbers) (numbers_of (drop (i + 1) xs))
 numbers_end s xs i o n below found is under =
-    by_octet _ _ _ (numbers_at s xs i below) (Some n) (sym is ∙ found) _ (chosen (nat_lt (get_or xs i 0) 128) true _ _ (below_128 (get_or xs i 0) under))
+    by_octet _ _ _ (numbers_at s xs i below) (Some n) (sym is ∙ found) _
+    (chosen (nat_lt (get_or xs i 0) 128) true _ _ (below_128 (get_or xs i 0) under))
 
 -- a sub-identifier of one octet
 joined_one : (octet : ℕ) → octet < 128 → joined 0 octet ≡ Some octet
@@ -45,11 +53,13 @@ joined_one octet below =
     ∙ ap (λ b. if b || nat_lt greatest octet then None else Some octet) other
     ∙ ap (λ b. if b then None else Some octet) fits
 
-pub one_octet : (octet number : ℕ) (xs rest : List ℕ) → xs ≡ octet ∷ rest → number ≡ octet → octet < 128 → numbers_of xs ≡ option_map (λ numbers. number ∷ numbers) (numbers_of rest)
+pub one_octet : (octet number : ℕ) (xs rest : List ℕ) → xs ≡ octet ∷ rest → number ≡ octet → octet < 128
+    → numbers_of xs ≡ option_map (λ numbers. number ∷ numbers) (numbers_of rest)
 unfolding numbers_from
 one_octet octet number xs rest is same below =
     ap numbers_of is
-    ∙ ap (λ o. o >>= λ n. if nat_lt octet 128 then option_map (λ numbers. n ∷ numbers) (numbers_from 0 rest) else numbers_from n rest) (joined_one octet below)
+    ∙ ap (λ o. o >>= λ n. if nat_lt octet 128 then option_map (λ numbers. n ∷ numbers) (numbers_from 0 rest) else numbers_from n rest)
+    (joined_one octet below)
     ∙ chosen (nat_lt octet 128) true _ _ (below_128 octet below)
     ∙ ap (λ n. option_map (λ numbers. n ∷ numbers) (numbers_from 0 rest)) (sym same)
 
@@ -76,9 +86,12 @@ whole_goes s xs i b below is yes_is =
     ∙ sym (ap is_some (numbers_end 0 xs i (Some octet) octet below (sym (joined_one octet under)) refl under))
     ∙ sym (ap (λ n. is_some (numbers_from n (drop i xs))) begins)
 
-pub number_found : (s : ℕ) (xs : List ℕ) (i : ℕ) (o : Option ℕ) (n : ℕ) → i < length xs → o ≡ joined s (get_or xs i 0) → o ≡ Some n → get_or xs i 0 < 128 → numbers_from s (drop i xs) ≡ numbers_from 0 xs → numbers_of xs ≡ option_map (λ numbers. n ∷ numbers) (numbers_of (take (length xs - (i + 1)) (drop (i + 1) xs)))
+pub number_found : (s : ℕ) (xs : List ℕ) (i : ℕ) (o : Option ℕ) (n : ℕ) → i < length xs → o ≡ joined s (get_or xs i 0) → o ≡ Some n
+    → get_or xs i 0 < 128 → numbers_from s (drop i xs) ≡ numbers_from 0 xs
+    → numbers_of xs ≡ option_map (λ numbers. n ∷ numbers) (numbers_of (take (length xs - (i + 1)) (drop (i + 1) xs)))
 number_found s xs i o n below found is under same =
-    sym same ∙ numbers_end s xs i o n below found is under ∙ ap (λ ys. option_map (λ numbers. n ∷ numbers) (numbers_of ys)) (sym (take_rest xs (i + 1)))
+    sym same ∙ numbers_end s xs i o n below found is under ∙ ap (λ ys. option_map (λ numbers. n ∷ numbers) (numbers_of ys))
+    (sym (take_rest xs (i + 1)))
 
 pub never_none : {A : Type 0} (r : Option A) (o : Option (List ℕ)) → o ≡ None → IfNone r (IsSome o → o ≡ Some [])
 never_none None o none = λ some. cc

@@ -6,7 +6,8 @@ use Rattle.gate_base.specs.Prelude.{◌>>=◌, greatest}
 use Rattle.gate_base.specs.declared.rule.OidRule.{OidRule}
 use Rattle.oid_rules.specs.Sorted.{before}
 
--- a sub-identifier's number with the seven bits of one more octet behind it; so_far is 0 where a sub-identifier begins, which it doesn't with the octet 128 (X.690, 8.19.2)
+-- a sub-identifier's number with the seven bits of one more octet behind it; so_far is 0 where a sub-identifier begins, which it doesn't with the
+-- octet 128 (X.690, 8.19.2)
 abbrev pub joined : ℕ → ℕ → Option ℕ
 joined so_far octet = let number = 128 * so_far + octet % 128 in if (so_far == 0 && octet == 128) || nat_lt greatest number then None else Some number
 

@@ -12,7 +12,8 @@ use Rattle.snmp_oids.specs.Identifier.{identifier_renamed}
 
 -- in how many octets a number below 2^40 is written, the fewest
 abbrev pub octets_for : ℕ → ℕ
-octets_for count = if nat_lt count (2 ^ 8) then 1 else if nat_lt count (2 ^ 16) then 2 else if nat_lt count (2 ^ 24) then 3 else if nat_lt count (2 ^ 32) then 4 else 5
+octets_for count = if nat_lt count (2 ^ 8) then 1 else if nat_lt count (2 ^ 16) then 2 else if nat_lt count (2 ^ 24) then 3 else if nat_lt count
+    (2 ^ 32) then 4 else 5
 
 -- the shortest form of a length (X.690, 8.1.3)
 abbrev pub shortest : ℕ → List ℕ
@@ -45,8 +46,10 @@ head_of octets found = take (length octets - length found.1 - length found.0.con
 unfoldable pub elements_within : ℕ → (ℕ → Option ℕ) → List OidRule → List ℕ → List ℕ
 elements_within zero image rules octets = octets
 elements_within (suc most) image rules octets = unwrap_or (option_map (λ found.
-    let content = if is_constructed found.0.tag then elements_within most image rules found.0.content else primitive_renamed image rules found.0.tag found.0.content in
-    head_for (head_of octets found) (length found.0.content) (length content) ++ content ++ elements_within most image rules found.1) (element_at octets)) octets
+    let content = if is_constructed found.0.tag then elements_within most image rules found.0.content else primitive_renamed image rules found.0.tag
+    found.0.content in
+    head_for (head_of octets found) (length found.0.content) (length content) ++ content ++ elements_within most image rules found.1)
+    (element_at octets)) octets
 
 -- elements that fill octets
 abbrev pub elements_renamed : (ℕ → Option ℕ) → List OidRule → List ℕ → List ℕ
@@ -54,7 +57,8 @@ elements_renamed image rules octets = elements_within (length octets) image rule
 
 -- the content of an element
 abbrev pub content_renamed : (ℕ → Option ℕ) → List OidRule → Element → List ℕ
-content_renamed image rules element = if is_constructed element.tag then elements_renamed image rules element.content else primitive_renamed image rules element.tag element.content
+content_renamed image rules element = if is_constructed element.tag then elements_renamed image rules element.content else primitive_renamed image
+    rules element.tag element.content
 
 -- what a message becomes: one of version 3 is kept
 abbrev pub by_kind : Option SnmpKind → List ℕ → List ℕ → List ℕ

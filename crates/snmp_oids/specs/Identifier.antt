@@ -23,7 +23,8 @@ address_octets address = flat_map arc_octets (big_bytes 4 address)
 
 -- the four sub-identifiers behind so many arcs, of which the first two share one
 abbrev pub change_at : ℕ → ℕ → List ℕ → Change
-change_at before address content = let start = place_behind (before - 1) content in record { start = start; end = start + place_behind 4 (drop start content); address = record { 0 = address } }
+change_at before address content = let start = place_behind (before - 1) content in
+    record { start = start; end = start + place_behind 4 (drop start content); address = record { 0 = address } }
 
 -- what is to change: the address that the rules name, if it has an image
 abbrev pub change_of : (ℕ → Option ℕ) → List OidRule → List ℕ → Option Change

@@ -9,15 +9,17 @@ use Rattle.ftp_lines.specs.Renaming.{spelled}
 use Rattle.tcp_segments.specs.declared.flags.Flags.{Flags}
 use Rattle.stream_model.specs.Session.{Session, Outgoing}
 use Rattle.stream_model.specs.History.{Event, next}
-use Rattle.stream_model.specs.Steps.{Piece}
+use Rattle.stream_model.specs.Sending.{Sent, Piece, segment_with, in_pieces}
+use Rattle.stream_model.specs.Steps.{session_sent}
 use Rattle.stream_model.proofs.RowWords.{line, ack, ack_fin, ack_push, ack_reset, segment, client_with, server, goes_with, run, begun, shake, shaken}
-use Rattle.stream_model.specs.Cuts.{Sent, session_sent, IsPiece, ArePieces, segment_with, in_pieces, MaySend, IsLawfulWay}
+use Rattle.stream_model.specs.Cuts.{IsPiece, ArePieces, MaySend, IsLawfulWay}
 
 -- ## What is sent
 
 -- so much is sent
 abbrev sends : Flags → ℕ → ℕ → ℕ → List ℕ → Sent
-sends flags sequence acknowledgement limit octets = record { sequence = sequence; acknowledgement = acknowledgement; flags = flags; limit = limit; octets = octets }
+sends flags sequence acknowledgement limit octets =
+    record { sequence = sequence; acknowledgement = acknowledgement; flags = flags; limit = limit; octets = octets }
 
 -- segments of one session, one after the other, and what is sent for each
 abbrev Row : Type 0
@@ -38,8 +40,10 @@ narrow = run (begun 1000) (shake 1000 88)
 abbrev with_options : Event → Event
 with_options e = record e { segment = record e.segment { options = 12 } }
 
--- a SYN with PSH keeps its numbers, and from then on its sender takes 536 octets at a time; a held part of a line is not sent, so PSH isn't either; the whole line goes on, renamed, with PSH and less octets at a time for its options;
--- its acknowledgement is translated back; a held rest goes with the end, and the end alone until it is acknowledged; an RST goes with neither octets nor other flags
+-- a SYN with PSH keeps its numbers, and from then on its sender takes 536 octets at a time; a held part of a line is not sent, so PSH isn't
+-- either; the whole line goes on, renamed, with PSH and less octets at a time for its options;
+-- its acknowledgement is translated back; a held rest goes with the end, and the end alone until it is acknowledged; an RST goes with neither
+-- octets nor other flags
 abbrev sent_rows : List Row
 sent_rows =
     (client_with (record ack_push { syn = true }) 1000 0 [], sends (record ack { syn = true }) 1000 0 1460 [])
@@ -105,7 +109,8 @@ first s x xs o os h = by_pieces h.0 h.1 h.2
     by_pieces (p ∷ ps) are e =
         let same : o ≡ segment_with s p = cc in
         let piece : IsPiece s 0 (x ∷ xs) are.0 p = are.1 in
-        subst (λ (q : Outgoing). IsFirst s (x ∷ xs) q) (sym same) (record { some = piece.some; few = piece.few; pushes = piece.pushes; ends = (are.0, piece.joined, piece.ends) })
+        subst (λ (q : Outgoing). IsFirst s (x ∷ xs) q) (sym same)
+        (record { some = piece.some; few = piece.few; pushes = piece.pushes; ends = (are.0, piece.joined, piece.ends) })
 
 -- a piece of 89 octets
 past_limit : IsLawfulWay letters (goes_with ack 1001 5001 (take 89 hundred) ∷ goes_with ack_push 1090 5001 (drop 89 hundred) ∷ []) → ⊥
@@ -116,18 +121,24 @@ past_limit h =
 
 -- a piece without octets
 empty_first : IsLawfulWay letters (goes_with ack 1001 5001 [] ∷ goes_with ack_push 1001 5001 hundred ∷ []) → ⊥
-empty_first h = let f = first letters 78 (drop 1 hundred) (goes_with ack 1001 5001 []) (goes_with ack_push 1001 5001 hundred ∷ []) h in absurd (omega (arith, f.some))
+empty_first h =
+    let f = first letters 78 (drop 1 hundred) (goes_with ack 1001 5001 []) (goes_with ack_push 1001 5001 hundred ∷ []) h in
+    absurd (omega (arith, f.some))
 
 -- PSH, which the segment hasn't
-push_unasked : IsLawfulWay (record letters { flags = ack }) (goes_with ack_push 1001 5001 (take 50 hundred) ∷ goes_with ack 1051 5001 (drop 50 hundred) ∷ []) → ⊥
+push_unasked : IsLawfulWay (record letters { flags = ack })
+    (goes_with ack_push 1001 5001 (take 50 hundred) ∷ goes_with ack 1051 5001 (drop 50 hundred) ∷ []) → ⊥
 push_unasked h =
-    let f = first (record letters { flags = ack }) 78 (drop 1 hundred) (goes_with ack_push 1001 5001 (take 50 hundred)) (goes_with ack 1051 5001 (drop 50 hundred) ∷ []) h in
+    let f = first (record letters { flags = ack }) 78 (drop 1 hundred) (goes_with ack_push 1001 5001 (take 50 hundred))
+    (goes_with ack 1051 5001 (drop 50 hundred) ∷ []) h in
     absurd (false≢true (f.pushes refl))
 
 -- FIN before the last octets
-end_first : IsLawfulWay (record letters { flags = ack_fin }) (goes_with ack_fin 1001 5001 (take 50 hundred) ∷ goes_with ack_fin 1051 5001 (drop 50 hundred) ∷ []) → ⊥
+end_first : IsLawfulWay (record letters { flags = ack_fin })
+    (goes_with ack_fin 1001 5001 (take 50 hundred) ∷ goes_with ack_fin 1051 5001 (drop 50 hundred) ∷ []) → ⊥
 end_first h =
-    let f = first (record letters { flags = ack_fin }) 78 (drop 1 hundred) (goes_with ack_fin 1001 5001 (take 50 hundred)) (goes_with ack_fin 1051 5001 (drop 50 hundred) ∷ []) h in
+    let f = first (record letters { flags = ack_fin }) 78 (drop 1 hundred) (goes_with ack_fin 1001 5001 (take 50 hundred))
+    (goes_with ack_fin 1051 5001 (drop 50 hundred) ∷ []) h in
     let behind = f.ends.0 in
     let whole : length hundred ≡ length (take 50 hundred ++ behind) = ap length f.ends.1 in
     let all : length hundred ≡ 100 = refl in

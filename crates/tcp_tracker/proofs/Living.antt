@@ -14,7 +14,8 @@ use Rattle.tcp_tracker.proofs.Names.{connections_in, found_named, dropped_named}
 lives_is : (now : Moment) (row : Row (Connection ℕ)) → IsFiled row → lives now.0 row ≡ is_live now row.value
 lives_is now row f = ap (is_before now.0) f.end
 
-pub live_in : (now : Moment) (rows : List (Row (Connection ℕ))) → All IsFiled rows → connections_in (living now.0 rows) ≡ live now (connections_in rows)
+pub live_in : (now : Moment) (rows : List (Row (Connection ℕ))) → All IsFiled rows
+    → connections_in (living now.0 rows) ≡ live now (connections_in rows)
 live_in now [] all = refl
 live_in now (row ∷ rows) all =
     let same = lives_is now row (All-head IsFiled row rows all) in
@@ -32,15 +33,20 @@ found_filed : (key : ℕ) (rows : List (Row (Connection ℕ))) (row : Row (Conne
 found_filed key [] row all found = absurd (none-some row found)
 found_filed key (first ∷ rows) row all found =
     elim (cases_Bool (first.key == key)) [
-      | inl e ↦ let p : row_of key (first ∷ rows) ≡ Some first = rw e refl in let P : Row (Connection ℕ) → Type 0 = λ one. IsFiled one in subst P (same_Some first row (sym p ∙ found)) (All-head IsFiled first rows all)
-      | inr e ↦ let p : row_of key (first ∷ rows) ≡ row_of key rows = rw e refl in found_filed key rows row (All-tail IsFiled first rows all) (sym p ∙ found)
+      | inl e ↦ let p : row_of key (first ∷ rows) ≡ Some first = rw e refl in let P : Row (Connection ℕ) → Type 0 = λ one. IsFiled one in
+          subst P (same_Some first row (sym p ∙ found)) (All-head IsFiled first rows all)
+      | inr e ↦ let p : row_of key (first ∷ rows) ≡ row_of key rows = rw e refl in
+          found_filed key rows row (All-tail IsFiled first rows all) (sym p ∙ found)
     ]
 
-pub ended_in : (now : Moment) (row : Row (Connection ℕ)) (old new : List (Row (Connection ℕ))) → All IsFiled old → AreDistinct old → IsRowEnded now.0 old new row → IsEnded now (connections_in old) (connections_in new) row.value
+pub ended_in : (now : Moment) (row : Row (Connection ℕ)) (old new : List (Row (Connection ℕ))) → All IsFiled old → AreDistinct old
+    → IsRowEnded now.0 old new row → IsEnded now (connections_in old) (connections_in new) row.value
 ended_in now row old new all distinct taken =
     let f = found_filed row.key old row all taken.there in
     record {
-      there = found_named row.value.key old f.key all ∙ ap (λ number. option_map (λ (one : Row (Connection ℕ)). one.value) (row_of number old)) (sym f.number) ∙ ap (option_map (λ (one : Row (Connection ℕ)). one.value)) taken.there;
+      there = found_named row.value.key old f.key all ∙ ap (λ number. option_map (λ (one : Row (Connection ℕ)). one.value) (row_of number old))
+          (sym f.number) ∙ ap (option_map (λ (one : Row (Connection ℕ)). one.value)) taken.there;
       over = sym (lives_is now row f) ∙ taken.ended;
-      rest = ap connections_in taken.rest ∙ ap (λ number. connections_in (without number old)) f.number ∙ dropped_named row.value.key old f.key all distinct;
+      rest = ap connections_in taken.rest ∙ ap (λ number. connections_in (without number old)) f.number
+          ∙ dropped_named row.value.key old f.key all distinct;
     }

@@ -35,7 +35,9 @@ sum_field : (n : ℕ) → n < 2 ^ 16 → n ≢ 0 → (n / 256 % 256 * 256 + (n %
 sum_field n small some = grind (arith, nat_tests)
 
 -- the covered octets with a checksum in its field
-covered_total : (source destination sum : ℕ) (segment : List ℕ) → source < 2 ^ 32 → destination < 2 ^ 32 → sum < 2 ^ 16 → 8 ≤ length segment → length segment < 2 ^ 16 → u16_at 6 segment ≡ 0 → length (with_u16 6 sum segment) ≡ length segment → total (udp_covered source destination (with_u16 6 sum segment)) ≡ total (udp_covered source destination segment) + sum
+covered_total : (source destination sum : ℕ) (segment : List ℕ) → source < 2 ^ 32 → destination < 2 ^ 32 → sum < 2 ^ 16 → 8 ≤ length segment
+    → length segment < 2 ^ 16 → u16_at 6 segment ≡ 0 → length (with_u16 6 sum segment) ≡ length segment
+    → total (udp_covered source destination (with_u16 6 sum segment)) ≡ total (udp_covered source destination segment) + sum
 covered_total source destination sum segment s d small long short empty count =
     ap (λ n. total (pseudo_header source destination 17 n ++ with_u16 6 sum segment)) count
     ∙ omega (
@@ -46,11 +48,14 @@ covered_total source destination sum segment s d small long short empty count =
       total_with 6 sum segment small refl (omega arith),
     )
 
-passes : (segment : List ℕ) (source destination : ℕ) → has_bad_length segment ≡ false → has_bad_sum source destination segment ≡ false → read_udp segment source destination ≡ Ok (udp_fields_of segment)
+passes : (segment : List ℕ) (source destination : ℕ) → has_bad_length segment ≡ false → has_bad_sum source destination segment ≡ false
+    → read_udp segment source destination ≡ Ok (udp_fields_of segment)
 unfolding read_udp
 passes segment source destination lengths sum = rw (lengths, sum)
 
-is_sealed : (source destination : ℕ) (segment : List ℕ) → (u16_at 6 segment == 0) ≡ false → sealed_udp source destination segment ≡ with_u16 6 (udp_sum_of (checksum (udp_covered source destination (with_u16 6 0 segment)))) (with_u16 6 0 segment)
+is_sealed : (source destination : ℕ) (segment : List ℕ) → (u16_at 6 segment == 0) ≡ false
+    → sealed_udp source destination segment ≡ with_u16 6 (udp_sum_of (checksum (udp_covered source destination (with_u16 6 0 segment))))
+    (with_u16 6 0 segment)
 unfolding sealed_udp
 is_sealed source destination segment some = rw some
 
@@ -62,7 +67,9 @@ wrong_sum : (field_is_0 is_right : Bool) → field_is_0 ≡ false → is_right �
 wrong_sum a b some right = rw (some, right)
 
 -- a new checksum in its field
-reads_with_sum : (source destination : ℕ) (front rest : List ℕ) → source < 2 ^ 32 → destination < 2 ^ 32 → 8 + length rest < 2 ^ 16 → let segment = items 0 8 front ++ rest in has_bad_length segment ≡ false → (u16_at 6 segment == 0) ≡ false → read_udp (sealed_udp source destination segment) source destination ≡ Ok (udp_fields_of segment)
+reads_with_sum : (source destination : ℕ) (front rest : List ℕ) → source < 2 ^ 32 → destination < 2 ^ 32 → 8 + length rest < 2 ^ 16 → let segment =
+    items 0 8 front ++ rest in has_bad_length segment ≡ false → (u16_at 6 segment == 0) ≡ false
+    → read_udp (sealed_udp source destination segment) source destination ≡ Ok (udp_fields_of segment)
 reads_with_sum source destination front rest s d short lengths some =
     let segment = items 0 8 front ++ rest in
     let empty = with_u16 6 0 segment in
@@ -76,10 +83,12 @@ reads_with_sum source destination front rest s d short lengths some =
     in
     ap (λ sealed. read_udp sealed source destination) (is_sealed source destination segment some)
     ∙ passes new source destination lengths (wrong_sum (u16_at 6 new == 0) (is_right (udp_covered source destination new)) field right)
-    ∙ ap (λ has. Ok (record { source_port = u16_at 0 segment; destination_port = u16_at 2 segment; has_sum = not has; payload = rest })) (field ∙ sym some)
+    ∙ ap (λ has. Ok (record { source_port = u16_at 0 segment; destination_port = u16_at 2 segment; has_sum = not has; payload = rest }))
+    (field ∙ sym some)
 
 -- no checksum
-reads_without_sum : (source destination : ℕ) (segment : List ℕ) → has_bad_length segment ≡ false → (u16_at 6 segment == 0) ≡ true → read_udp (sealed_udp source destination segment) source destination ≡ Ok (udp_fields_of segment)
+reads_without_sum : (source destination : ℕ) (segment : List ℕ) → has_bad_length segment ≡ false → (u16_at 6 segment == 0) ≡ true
+    → read_udp (sealed_udp source destination segment) source destination ≡ Ok (udp_fields_of segment)
 reads_without_sum source destination segment lengths none =
     ap (λ sealed. read_udp sealed source destination) (not_sealed source destination segment none)
     ∙ passes segment source destination lengths (ap (λ b. not b && not (is_right (udp_covered source destination segment))) none)
@@ -87,13 +96,16 @@ reads_without_sum source destination segment lengths none =
 pub long_segment : (segment : List ℕ) → has_bad_length segment ≡ false → 8 ≤ length segment
 long_segment segment lengths = grind (arith, nat_tests)
 
-pub sealed_udp_reads : (source destination : ℕ) (segment : List ℕ) → source < 2 ^ 32 → destination < 2 ^ 32 → length segment < 2 ^ 16 → has_bad_length segment ≡ false → read_udp (sealed_udp source destination segment) source destination ≡ Ok (udp_fields_of segment)
+pub sealed_udp_reads : (source destination : ℕ) (segment : List ℕ) → source < 2 ^ 32 → destination < 2 ^ 32 → length segment < 2 ^ 16
+    → has_bad_length segment ≡ false → read_udp (sealed_udp source destination segment) source destination ≡ Ok (udp_fields_of segment)
 sealed_udp_reads source destination segment s d short lengths =
-    let P : List ℕ → Type 0 = λ m. has_bad_length m ≡ false → (u16_at 6 m == 0) ≡ false → read_udp (sealed_udp source destination m) source destination ≡ Ok (udp_fields_of m) in
+    let P : List ℕ → Type 0 = λ m. has_bad_length m ≡ false → (u16_at 6 m == 0) ≡ false
+    → read_udp (sealed_udp source destination m) source destination ≡ Ok (udp_fields_of m) in
     let long = long_segment segment lengths in
     elim (cases_Bool (u16_at 6 segment == 0)) [
       | inl none ↦ reads_without_sum source destination segment lengths none
-      | inr some ↦ subst P (sym (front_items 8 segment long)) (reads_with_sum source destination segment (drop 8 segment) s d (omega (arith, length-drop 8 segment))) lengths some
+      | inr some ↦ subst P (sym (front_items 8 segment long))
+          (reads_with_sum source destination segment (drop 8 segment) s d (omega (arith, length-drop 8 segment))) lengths some
     ]
 
 short_by : (high low count : ℕ) → high < 256 → low < 256 → (nat_lt count 8 || not (high * 256 + (low * 1 + 0) == count)) ≡ false → count < 2 ^ 16

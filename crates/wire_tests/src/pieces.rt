@@ -1,6 +1,6 @@
 use gate_base::{Addr, get_u32};
 use ipv4_frames::IpView;
-use resegment::{SegmentModel, piece, pieces, put_pieces};
+use resegment::{Datagrams, SegmentModel, piece, pieces};
 use std::test::Fail;
 use tcp_segments::{TcpView, flags_of};
 
@@ -10,8 +10,7 @@ const CAME: &[u8; 59] = b"\x45\0\0\x3b\0\x02\x40\0\x40\x06\xa8\x0c\x0a\0\0\x05\x
 #[test]
 fn cuts_at_a_small_segment_size(rt: HostRuntime) -> Result<(), Fail> {
     assert!(rt; pieces(100, 88) == 2 && piece(100, 88, 1) == (88, 100));
-    let mut outbox = Vec::with_capacity(rt.alloc(), 180)?;
-    let mut ends = Vec::with_capacity(rt.alloc(), 2)?;
+    let mut out = Datagrams::new(rt.alloc())?;
     if let Ok(ip) = IpView::of(CAME)
         && let Ok(tcp) = TcpView::of(ip.payload(), ip.source(), ip.destination())
         && tcp.header().len() == 20
@@ -26,10 +25,13 @@ fn cuts_at_a_small_segment_size(rt: HostRuntime) -> Result<(), Fail> {
             acknowledgement: 5001,
             flags: flags_of(24),
         };
-        put_pieces(&mut outbox, &mut ends, &model, &[b'x'; 100], 88);
+        out.put_pieces(&model, &[b'x'; 100], 88);
     }
-    assert!(rt; ends.as_slice() == [128, 180].as_slice());
-    assert!(rt; outbox.len() == 180 && outbox[33] == 16 && outbox[161] == 24);
-    assert!(rt; get_u32(&outbox, 24) == 1001 && get_u32(&outbox, 152) == 1089);
+    assert!(rt; out.len() == 2);
+    if out.len() == 2 {
+        let (first, last) = (out.datagram(0), out.datagram(1));
+        assert!(rt; first.len() == 128 && first[33] == 16 && get_u32(first, 24) == 1001);
+        assert!(rt; last.len() == 52 && last[33] == 24 && get_u32(last, 24) == 1089);
+    }
     Ok(())
 }

@@ -12,7 +12,12 @@ returns c =
     let more = c.last_sum.result in
     let parts : c.args.start + 256 * (sum + more) ≡ c.args.start + (256 * sum + 256 * more) = omega arith in
     let cut : eights + last ≡ total octets =
-    omega (arith, total_cut (length octets / 8 * 8) octets (omega arith) (omega arith), ap total c.split_at.ensures.front, ap total c.split_at.ensures.back)
+    omega (
+      arith,
+      total_cut (length octets / 8 * 8) octets (omega arith) (omega arith),
+      ap total c.split_at.ensures.front,
+      ap total c.split_at.ensures.back,
+    )
     in
     let lanes = fold_scaled sum c.eights_sum.result c.narrowed.ensures.folds ∙ c.eights_sum.ensures in
     c.fold.ensures ∙ ap fold_of parts

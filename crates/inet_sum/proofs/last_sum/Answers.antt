@@ -16,5 +16,6 @@ returns-clause-folds c =
     omega (arith, total_cut 4 octets refl (omega arith), ap total c.split_at.ensures.front, ap total c.split_at.ensures.back)
     in
     ap fold_of parts
-    ∙ fold_both (256 * little_number 4 four) (256 * c.few_sum-2.result) (total four) (total few) (number_folds 4 four refl (omega arith)) c.few_sum-2.ensures.folds
+    ∙ fold_both (256 * little_number 4 four) (256 * c.few_sum-2.result) (total four) (total few) (number_folds 4 four refl (omega arith))
+    c.few_sum-2.ensures.folds
     ∙ ap fold_of cut

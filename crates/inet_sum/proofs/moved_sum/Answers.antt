@@ -34,5 +34,7 @@ returns c =
       c.halves-4.ensures.words,
     )
     in
-    let moved = fold_moved from to c.from-field.result rest (omega (arith, c.halves.ensures.words, c.halves-2.ensures.words, c.halves.ensures.fits, c.halves-2.ensures.fits)) (omega arith) (omega arith) (ap fold_of (sym before) ∙ c.requires.right) in
+    let moved = fold_moved from to c.from-field.result rest
+    (omega (arith, c.halves.ensures.words, c.halves-2.ensures.words, c.halves.ensures.fits, c.halves-2.ensures.fits)) (omega arith) (omega arith)
+    (ap fold_of (sym before) ∙ c.requires.right) in
     ap (λ n. 65535 - n) (c.fold.ensures ∙ moved ∙ ap fold_of (sym after))

@@ -5,9 +5,11 @@ use Rattle.inet_sum.proofs.pseudo_sum.Goals as goal
 
 pub returns-clause-value : goal.returns-clause-value
 returns-clause-value c =
-    let all = total_pseudo c.args.source.0 c.args.destination.0 c.args.protocol (length c.args.octets.now) c.args.octets.now c.halves.ensures.fits c.halves-2.ensures.fits (omega arith) in
+    let all = total_pseudo c.args.source.0 c.args.destination.0 c.args.protocol (length c.args.octets.now) c.args.octets.now c.halves.ensures.fits
+    c.halves-2.ensures.fits (omega arith) in
     ap (λ n. 65535 - n) (c.folded_with.ensures ∙ ap fold_of (omega (arith, all)))
 
 pub returns-clause-right : goal.returns-clause-right
 returns-clause-right c =
-    ap (λ n. n == 0) (returns-clause-value c) ∙ zero_if_right (pseudo_header c.args.source.0 c.args.destination.0 c.args.protocol (length c.args.octets.now) ++ c.args.octets.now)
+    ap (λ n. n == 0) (returns-clause-value c)
+    ∙ zero_if_right (pseudo_header c.args.source.0 c.args.destination.0 c.args.protocol (length c.args.octets.now) ++ c.args.octets.now)

@@ -10,7 +10,9 @@ returns-else-len-ge-MOST-clause-seen_addresses c = λ needs are h.
     let earlier = c.args.earlier.now in
     let address = c.args.address in
     let key : c.from-key.result ≡ address.0 = c.from-key.ensures in
-    let absent : row_of address.0 seen_addresses.rows ≡ None = ap (λ (k : ℕ). row_of k seen_addresses.rows) (sym key) ∙ sym c.find.ensures ∙ sym c.copied.ensures ∙ c.in-None.is in
+    let absent : row_of address.0 seen_addresses.rows ≡ None = ap (λ (k : ℕ). row_of k seen_addresses.rows) (sym key) ∙ sym c.find.ensures
+    ∙ sym c.copied.ensures ∙ c.in-None.is in
     let put : Table ℕ → Type 0 = λ table. AreFirsts needs (earlier ++ address ∷ []) table in
-    subst put (sym (c.push.ensures ∙ ap (λ (k : ℕ). record seen_addresses { rows = seen_addresses.rows ++ record { key = k; end = Some 0; value = length earlier } ∷ [] }) key))
+    subst put (sym (c.push.ensures
+    ∙ ap (λ (k : ℕ). record seen_addresses { rows = seen_addresses.rows ++ record { key = k; end = Some 0; value = length earlier } ∷ [] }) key))
     (firsts_noted needs earlier address seen_addresses are absent (omega (arith, c.len.ensures.value, c.if-len-ge-MOST.false, c.requires)))

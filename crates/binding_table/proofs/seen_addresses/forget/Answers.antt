@@ -24,4 +24,5 @@ pub returns : goal.returns
 returns c =
     let rest = c.in_default.ensures in
     let rows = ap (λ (t : Table ℕ). t.rows) rest.none in
-    rest.none ∙ same_table c.loop.seen_addresses (no_rows c.args.seen_addresses.now.most) c.loop.invariant.most (none_left c.loop.seen_addresses.rows c.loop.invariant.ends (ap (living 0) (sym rows) ∙ rest.live ∙ rows))
+    rest.none ∙ same_table c.loop.seen_addresses (no_rows c.args.seen_addresses.now.most) c.loop.invariant.most
+    (none_left c.loop.seen_addresses.rows c.loop.invariant.ends (ap (living 0) (sym rows) ∙ rest.live ∙ rows))

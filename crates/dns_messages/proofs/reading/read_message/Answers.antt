@@ -6,7 +6,9 @@ pub returns-clause-found : goal.returns-clause-found
 returns-clause-found c = message-found (λ m. m) c.args.octets.now c.message_of.result (rw c.in_ok-reader.ensures at c.message_of.ensures.reads)
 
 pub returns-clause-none : goal.returns-clause-none
-returns-clause-none c = λ e w is. message-none (λ m. m) c.args.octets.now c.message_of.result (rw c.in_ok-reader.ensures at c.message_of.ensures.reads) e w is
+returns-clause-none c = λ e w is. message-none (λ m. m) c.args.octets.now c.message_of.result
+    (rw c.in_ok-reader.ensures at c.message_of.ensures.reads) e w is
 
 pub returns-clause-suits : goal.returns-clause-suits
-returns-clause-suits c = message-can_be_written c.args.octets.now c.message_of.result (message-found (λ m. m) c.args.octets.now c.message_of.result (rw c.in_ok-reader.ensures at c.message_of.ensures.reads))
+returns-clause-suits c = message-can_be_written c.args.octets.now c.message_of.result
+    (message-found (λ m. m) c.args.octets.now c.message_of.result (rw c.in_ok-reader.ensures at c.message_of.ensures.reads))

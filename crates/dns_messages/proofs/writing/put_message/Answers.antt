@@ -6,10 +6,12 @@ use Rattle.dns_messages.proofs.writing.put_message.Goals as goal
 pub returns-clause-text : goal.returns-clause-text
 returns-clause-text c =
     let m = c.args.message.now in
-    five_writes c.put_resources-3.result c.args.writer.now c.put_header.new.writer c.put_question.new.writer c.put_resources.new.writer c.put_resources-2.new.writer c.put_resources-3.new.writer
+    five_writes c.put_resources-3.result c.args.writer.now c.put_header.new.writer c.put_question.new.writer c.put_resources.new.writer
+    c.put_resources-2.new.writer c.put_resources-3.new.writer
     (header_written m) (questions_written m.question) (resources_written m.answers) (resources_written m.authority) (resources_written m.additional)
     c.in_ok-put_header.ensures.text c.in_ok-put_question.ensures.text
-    (rw c.items.ensures at c.in_ok-put_resources.ensures.text) (rw c.items-2.ensures at c.in_ok-put_resources-2.ensures.text) (rw c.items-3.ensures at c.put_resources-3.ensures.text)
+    (rw c.items.ensures at c.in_ok-put_resources.ensures.text) (rw c.items-2.ensures at c.in_ok-put_resources-2.ensures.text)
+    (rw c.items-3.ensures at c.put_resources-3.ensures.text)
 
 pub returns-clause-fits : goal.returns-clause-fits
 returns-clause-fits c =

@@ -5,7 +5,8 @@ use Rattle.dns_names.proofs.Walking.{labels_in-spelled, IsSpelled-spelled}
 use Rattle.dns_names.proofs.memo.read_on.Goals as goal
 
 -- the copied octets spell the name
-copied : (m kept lent : List ℕ) (place : ℕ) (k : Known) (octets : List ℕ) → (h : Here m kept place k) → lent ≡ kept → octets ≡ take (k.from + k.count - k.from) (drop k.from lent) → octets ≡ spelled h.labels
+copied : (m kept lent : List ℕ) (place : ℕ) (k : Known) (octets : List ℕ) → (h : Here m kept place k) → lent ≡ kept
+    → octets ≡ take (k.from + k.count - k.from) (drop k.from lent) → octets ≡ spelled h.labels
 copied m kept lent place k octets h same is =
     let size : k.from + k.count - k.from ≡ k.count = omega arith in
     is ∙ ap (λ (x : List ℕ). take (k.from + k.count - k.from) (drop k.from x)) same ∙ ap (λ (n : ℕ). take n (drop k.from kept)) size ∙ h.octets_are

@@ -18,7 +18,8 @@ either false found none = refl
 no_number : (octets d rest : List ℕ) → label_in octets ≡ Some (d, rest) → number_of d ≡ None → reverse_in octets ≡ None
 unfolding reverse_in full_reverse
 no_number octets d rest first none =
-    rw first (always (label_in rest) _ (λ c. always (label_in c.1) _ (λ b. always (label_in b.1) _ (λ a. always (label_in a.1) _ (λ zone. always (label_in zone.1) _ (λ top.
+    rw first (always (label_in rest) _
+    (λ c. always (label_in c.1) _ (λ b. always (label_in b.1) _ (λ a. always (label_in a.1) _ (λ zone. always (label_in zone.1) _ (λ top.
     either (length top.1 == 0) (full_reverse (d ∷ c.0 ∷ b.0 ∷ a.0 ∷ zone.0 ∷ top.0 ∷ [])) (rw none refl)))))))
 
 pub returns-in_err-_number : goal.returns-in_err-_number

@@ -36,7 +36,9 @@ returns-in_err-extend_from_slice-clause-index c =
     pending-index _ c.labels.rest.now _ _ c.labels.invariant.1 le
 
 pub put_end-requires : goal.put_end-requires
-put_end-requires c = ends-near _ _ c.labels.rest.now c.longest-count.result.1 c.requires.index.near (longest-ends _ c.labels.rest.now c.labels.left _ c.labels.invariant.3 (elim c.labels-test.branch [ then-labels-test+else-not-is_empty w ↦ inr (search rules) | else-labels-test w ↦ inl (search rules) ]))
+put_end-requires c = ends-near _ _ c.labels.rest.now c.longest-count.result.1 c.requires.index.near
+    (longest-ends _ c.labels.rest.now c.labels.left _ c.labels.invariant.3
+    (elim c.labels-test.branch [ then-labels-test+else-not-is_empty w ↦ inr (search rules) | else-labels-test w ↦ inl (search rules) ]))
 
 pub split_at-requires : goal.split_at-requires
 split_at-requires c = Left-within _ _ _ c.labels.rest.now c.labels.out.items _ (search rules) c.labels.invariant.0
@@ -119,12 +121,14 @@ labels-preserved c =
 
 pub returns-clause-octets : goal.returns-clause-octets
 returns-clause-octets c =
-    let end = longest-ends _ c.labels.rest.now c.labels.left _ c.labels.invariant.3 (elim c.labels-test.branch [ then-labels-test+else-not-is_empty w ↦ inr (search rules) | else-labels-test w ↦ inl (search rules) ]) in
+    let end = longest-ends _ c.labels.rest.now c.labels.left _ c.labels.invariant.3
+    (elim c.labels-test.branch [ then-labels-test+else-not-is_empty w ↦ inr (search rules) | else-labels-test w ↦ inl (search rules) ]) in
     c.in_ok-put_end.ensures.octets ∙ (Left-ends _ _ _ c.labels.rest.now c.labels.out.items _ _ c.labels.invariant.0 end).0
 
 pub returns-clause-starts : goal.returns-clause-starts
 returns-clause-starts c =
-    let end = longest-ends _ c.labels.rest.now c.labels.left _ c.labels.invariant.3 (elim c.labels-test.branch [ then-labels-test+else-not-is_empty w ↦ inr (search rules) | else-labels-test w ↦ inl (search rules) ]) in
+    let end = longest-ends _ c.labels.rest.now c.labels.left _ c.labels.invariant.3
+    (elim c.labels-test.branch [ then-labels-test+else-not-is_empty w ↦ inr (search rules) | else-labels-test w ↦ inl (search rules) ]) in
     (Left-ends _ _ _ c.labels.rest.now c.labels.out.items _ _ c.labels.invariant.0 end).1
 
 pub returns-clause-index : goal.returns-clause-index
@@ -145,8 +149,10 @@ returns-clause-behind c = grew_octets _ _ _ _ _ _ c.in_ok-put_end.ensures.behind
 
 pub returns-clause-closed : goal.returns-clause-closed
 returns-clause-closed c =
-    let end = longest-ends _ c.labels.rest.now c.labels.left _ c.labels.invariant.3 (elim c.labels-test.branch [ then-labels-test+else-not-is_empty w ↦ inr (search rules) | else-labels-test w ↦ inl (search rules) ]) in
-    closing-ends _ _ c.labels.rest.now _ _ c.labels.invariant.4 (Left-closed _ _ _ c.labels.rest.now c.labels.out.items _ _ c.labels.invariant.0 end) c.in_ok-put_end.ensures.longer
+    let end = longest-ends _ c.labels.rest.now c.labels.left _ c.labels.invariant.3
+    (elim c.labels-test.branch [ then-labels-test+else-not-is_empty w ↦ inr (search rules) | else-labels-test w ↦ inl (search rules) ]) in
+    closing-ends _ _ c.labels.rest.now _ _ c.labels.invariant.4 (Left-closed _ _ _ c.labels.rest.now c.labels.out.items _ _ c.labels.invariant.0 end)
+    c.in_ok-put_end.ensures.longer
 
 pub returns-in_err-remember-clause-behind : goal.returns-in_err-remember-clause-behind
 returns-in_err-remember-clause-behind c = grew_octets _ _ _ _ _ _ c.split_at.result.0.now c.labels.invariant.2

@@ -46,7 +46,9 @@ returns-then-not-room-clause-refused g c = λ uses u.
     let new : list_any (is_new_unbound t ends.side es) (names_in octets) ≡ false = ap (list_any (is_new_unbound t ends.side es)) (sym (c.deref.ensures.value ∙ c.in-Ok.ensures.named)) ∙ sym c.has_new_unbound.ensures ∙ c.if-has_new_unbound.false in
     let names : c.deref-2.result.now ≡ names_in octets = c.deref-2.ensures.value ∙ c.in-Ok.ensures.named in
     let few : nat_lt 256 (length (entered_all es called)) ≡ false = ap (λ (xs : List Entry). nat_lt 256 (length (entered_all es xs))) (sym c.deref-3.ensures.value) ∙ sym c.in_ok-new.ensures.few ∙ ap is_none c.in-Some.is in
-    let room : not (nat_lt (free t (other ends.side)) (needed t ends.side (all_addresses ends (names_in octets)))) ≡ false = ap (λ (xs : List Addr). not (nat_lt (free t (other ends.side)) (needed t ends.side (all_addresses ends xs)))) (sym names) ∙ sym c.in_ok-entries.ensures.room ∙ c.if-not-room.true in
+    let room : not (nat_lt (free t (other ends.side)) (needed t ends.side (all_addresses ends (names_in octets)))) ≡ false =
+    ap (λ (xs : List Addr). not (nat_lt (free t (other ends.side)) (needed t ends.side (all_addresses ends xs)))) (sym names)
+    ∙ sym c.in_ok-entries.ensures.room ∙ c.if-not-room.true in
     empty_told t (called_after t uses ends.side) ends es called octets c.in-Ok.ensures.good new (c.in_ok-entries.ensures.named ∙ names) few (not-false _ room)
 
 pub returns-clause-images : goal.returns-clause-images
@@ -71,7 +73,9 @@ module _ (g : Over) (c : In_ok-images g) (uses : List Use) (u : AreUsesOf c.args
       let names : c.deref-2.result.now ≡ names_in octets = c.deref-2.ensures.value ∙ c.in-Ok.ensures.named in
       let is : called ≡ beside (called_after t uses ends.side) (names_in octets) = c.in_ok-entries.ensures.images uses (subst (λ (xs : List Addr). AreUsesOf ends.side (all_addresses ends xs) uses) (sym names) u) c.if-not-room.false ∙ ap (beside (called_after t uses ends.side)) names in
       let few : nat_lt 256 (length (entered_all es called)) ≡ false = ap (λ (xs : List Entry). nat_lt 256 (length (entered_all es xs))) (sym c.deref-3.ensures.value) ∙ sym c.in_ok-new.ensures.few ∙ ap is_none c.in-Some.is in
-      let enough : not (nat_lt (free t (other ends.side)) (needed t ends.side (all_addresses ends (names_in octets)))) ≡ true = ap (λ (xs : List Addr). not (nat_lt (free t (other ends.side)) (needed t ends.side (all_addresses ends xs)))) (sym names) ∙ sym c.in_ok-entries.ensures.room ∙ c.if-not-room.false in
+      let enough : not (nat_lt (free t (other ends.side)) (needed t ends.side (all_addresses ends (names_in octets)))) ≡ true =
+      ap (λ (xs : List Addr). not (nat_lt (free t (other ends.side)) (needed t ends.side (all_addresses ends xs)))) (sym names)
+      ∙ sym c.in_ok-entries.ensures.room ∙ c.if-not-room.false in
       let after : es ++ c.in-Some.new ≡ entered_all es called = subst (λ (o : Option (List Entry)). IfSome o (λ list. es ++ list ≡ entered_all es c.deref-3.result.now)) c.in-Some.is c.in_ok-new.ensures.list ∙ ap (entered_all es) c.deref-3.ensures.value in
       last_told t (called_after t uses ends.side) ends es called octets grows c.in-Ok.ensures.good new is few (not-true _ enough)
       (ap (λ (xs : List Entry). list_any (grows_too_much xs) (whole_units octets)) (sym after) ∙ ap (list_any (grows_too_much (es ++ c.in-Some.new))) (sym c.in-Ok.ensures.units) ∙ long)

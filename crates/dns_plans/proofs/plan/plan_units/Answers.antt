@@ -13,12 +13,16 @@ use Rattle.dns_plans.proofs.plan.plan_units.Goals as goal
 pub returns-then-is_none-clause-refused : goal.returns-then-is_none-clause-refused
 returns-then-is_none-clause-refused g c = λ uses u.
     let none : unit_end c.args.octets.now ≡ None = none_there (unit_end c.args.octets.now) (ap is_some (sym c.unit_end.ensures) ∙ c.if-is_none.ensures) in
-    subst (λ (first : Option Refusal). IfErr c.plan_none.result (TellsFirst first)) (sym (none_told c.args.table.now (called_after c.args.table.now uses c.args.endpoints.now.side) c.args.endpoints.now (g.S.Session.rules.listed c.args.sender.now.host c.args.sender.now.session.now) c.args.octets.now none)) c.plan_none.ensures.refused
+    subst (λ (first : Option Refusal). IfErr c.plan_none.result (TellsFirst first))
+    (sym (none_told c.args.table.now (called_after c.args.table.now uses c.args.endpoints.now.side) c.args.endpoints.now
+    (g.S.Session.rules.listed c.args.sender.now.host c.args.sender.now.session.now) c.args.octets.now none)) c.plan_none.ensures.refused
 
 pub returns-then-is_none-clause-passes : goal.returns-then-is_none-clause-passes
 returns-then-is_none-clause-passes g c = λ uses u.
     let none : unit_end c.args.octets.now ≡ None = none_there (unit_end c.args.octets.now) (ap is_some (sym c.unit_end.ensures) ∙ c.if-is_none.ensures) in
-    subst (λ (first : Option Refusal). IfOk c.plan_none.result (λ _. first ≡ None)) (sym (none_told c.args.table.now (called_after c.args.table.now uses c.args.endpoints.now.side) c.args.endpoints.now (g.S.Session.rules.listed c.args.sender.now.host c.args.sender.now.session.now) c.args.octets.now none)) c.plan_none.ensures.passes
+    subst (λ (first : Option Refusal). IfOk c.plan_none.result (λ _. first ≡ None))
+    (sym (none_told c.args.table.now (called_after c.args.table.now uses c.args.endpoints.now.side) c.args.endpoints.now
+    (g.S.Session.rules.listed c.args.sender.now.host c.args.sender.now.session.now) c.args.octets.now none)) c.plan_none.ensures.passes
 
 pub returns-then-is_none-clause-named : goal.returns-then-is_none-clause-named
 returns-then-is_none-clause-named g c =

@@ -14,4 +14,5 @@ returns-in-Err-clause-one c entries few one =
     let put : c.insert-fits.new.self.items ≡ new =
     c.insert-fits.ensures.items
     ∙ ap (λ (b : Bool). if b then new else old) (c.insert-fits.ensures.succeeds c.requires.room) in
-    subst (AreOneList (entries ++ c.args.entry ∷ [])) (sym put) (put_new entries old c.args.entry c.in-Err.place (rw c.deref.ensures.value at c.in-Err.ensures.absent) few one)
+    subst (AreOneList (entries ++ c.args.entry ∷ [])) (sym put)
+    (put_new entries old c.args.entry c.in-Err.place (rw c.deref.ensures.value at c.in-Err.ensures.absent) few one)

@@ -36,21 +36,21 @@ returns-in-Err-is_at_end-clause-reads g c =
 
 pub take_last-requires-clause-short : goal.take_last-requires-clause-short
 take_last-requires-clause-short g c =
-    done_short c.settings.result.now.json c.last_line-line.result c.args.totals c.pending.result c.args.given.now c.last_line-line.ensures c.requires.few c.requires.fits c.pending.type_inv
+    done_short c.settings.result.now.report c.last_line-line.result c.args.totals c.pending.result c.args.given.now c.last_line-line.ensures c.requires.few c.requires.fits c.pending.type_inv
 
 pub returns-in-Ok-false-take_last-clause-answer : goal.returns-in-Ok-false-take_last-clause-answer
 returns-in-Ok-false-take_last-clause-answer g c =
-    let json = c.settings.result.now.json in
+    let form = c.settings.result.now.report in
     let line = c.last_line-line.result in
-    let is = last_is c.args.auditor.now.settings json (state_of c.args.auditor.now c.args.totals) line (ap (λ (t : Settings). t.json) c.settings.ensures) (c.last_line-line.ensures ∙ ap (λ (n : ℕ). done_line c.args.totals n) c.pending.ensures) in
-    report_over c.args.auditor.now.settings json line (state_of c.args.auditor.now c.args.totals) c.args.given.now _ (g.D.Desk.outside c.args.desk.now).left refl is (subst (λ o. IfSome o (λ all. IsLast false json line (c.args.given.now.report ++ all))) ((beside RightGiven ReportGiven c.args.given.now.right (g.D.Desk.outside c.is_at_end.new.desk) (g.D.Desk.outside c.is_at_end-2.new.desk) c.requires.running.right_slot refl (end_some c.is_at_end-2.result c.args.given.now.right (g.D.Desk.outside c.is_at_end.new.desk) (g.D.Desk.outside c.is_at_end-2.new.desk) c.is_at_end-2.ensures.finds)) ∙ (beside LeftGiven ReportGiven c.args.given.now.left (g.D.Desk.outside c.args.desk.now) (g.D.Desk.outside c.is_at_end.new.desk) c.requires.running.left_slot refl (end_some c.is_at_end.result c.args.given.now.left (g.D.Desk.outside c.args.desk.now) (g.D.Desk.outside c.is_at_end.new.desk) c.is_at_end.ensures.finds))) (subst (λ (b : Bool). TakesLast (Ok b) json line c.args.given.now.report c.take_last.new.report (g.D.Desk.outside c.is_at_end-2.new.desk) (g.D.Desk.outside c.take_last.new.desk)) c.in-Ok-false-take_last.field-0-test c.in-Ok-false-take_last.ensures.takes).1)
+    let is = last_is c.args.auditor.now.settings form (state_of c.args.auditor.now c.args.totals) line (ap (λ (t : Settings). t.report) c.settings.ensures) (c.last_line-line.ensures ∙ ap (λ (n : ℕ). done_line c.args.totals n) c.pending.ensures) in
+    report_over c.args.auditor.now.settings form line (state_of c.args.auditor.now c.args.totals) c.args.given.now _ (g.D.Desk.outside c.args.desk.now).left refl is (subst (λ o. IfSome o (λ all. IsLast false form line (c.args.given.now.report ++ all))) ((beside RightGiven ReportGiven c.args.given.now.right (g.D.Desk.outside c.is_at_end.new.desk) (g.D.Desk.outside c.is_at_end-2.new.desk) c.requires.running.right_slot refl (end_some c.is_at_end-2.result c.args.given.now.right (g.D.Desk.outside c.is_at_end.new.desk) (g.D.Desk.outside c.is_at_end-2.new.desk) c.is_at_end-2.ensures.finds)) ∙ (beside LeftGiven ReportGiven c.args.given.now.left (g.D.Desk.outside c.args.desk.now) (g.D.Desk.outside c.is_at_end.new.desk) c.requires.running.left_slot refl (end_some c.is_at_end.result c.args.given.now.left (g.D.Desk.outside c.args.desk.now) (g.D.Desk.outside c.is_at_end.new.desk) c.is_at_end.ensures.finds))) (subst (λ (b : Bool). TakesLast (Ok b) form line c.args.given.now.report c.take_last.new.report (g.D.Desk.outside c.is_at_end-2.new.desk) (g.D.Desk.outside c.take_last.new.desk)) c.in-Ok-false-take_last.field-0-test c.in-Ok-false-take_last.ensures.takes).1)
 
 pub returns-in-Ok-true-take_last-clause-answer : goal.returns-in-Ok-true-take_last-clause-answer
 returns-in-Ok-true-take_last-clause-answer g c =
-    let json = c.settings.result.now.json in
+    let form = c.settings.result.now.report in
     let line = c.last_line-line.result in
-    let is = last_is c.args.auditor.now.settings json (state_of c.args.auditor.now c.args.totals) line (ap (λ (t : Settings). t.json) c.settings.ensures) (c.last_line-line.ensures ∙ ap (λ (n : ℕ). done_line c.args.totals n) c.pending.ensures) in
-    nothing_left c.args.auditor.now.settings json line (state_of c.args.auditor.now c.args.totals) c.args.given.now (g.D.Desk.outside c.args.desk.now).left is
+    let is = last_is c.args.auditor.now.settings form (state_of c.args.auditor.now c.args.totals) line (ap (λ (t : Settings). t.report) c.settings.ensures) (c.last_line-line.ensures ∙ ap (λ (n : ℕ). done_line c.args.totals n) c.pending.ensures) in
+    nothing_left c.args.auditor.now.settings form line (state_of c.args.auditor.now c.args.totals) c.args.given.now (g.D.Desk.outside c.args.desk.now).left is
     (used_up LeftGiven c.args.given.now.left (g.D.Desk.outside c.args.desk.now) (g.D.Desk.outside c.is_at_end.new.desk) c.requires.running.left_slot (subst (λ (b : Bool). FindsEnd (Ok b) c.args.given.now.left (g.D.Desk.outside c.args.desk.now) (g.D.Desk.outside c.is_at_end.new.desk)) c.in-Ok-true.field-0-test c.in-Ok-true.ensures.finds))
     (subst (λ o. IfSome o (IsUsedUp c.args.given.now.right)) (beside LeftGiven RightGiven c.args.given.now.left (g.D.Desk.outside c.args.desk.now) (g.D.Desk.outside c.is_at_end.new.desk) c.requires.running.left_slot refl (end_some c.is_at_end.result c.args.given.now.left (g.D.Desk.outside c.args.desk.now) (g.D.Desk.outside c.is_at_end.new.desk) c.is_at_end.ensures.finds)) (used_up RightGiven c.args.given.now.right (g.D.Desk.outside c.is_at_end.new.desk) (g.D.Desk.outside c.is_at_end-2.new.desk) c.requires.running.right_slot (subst (λ (b : Bool). FindsEnd (Ok b) c.args.given.now.right (g.D.Desk.outside c.is_at_end.new.desk) (g.D.Desk.outside c.is_at_end-2.new.desk)) c.in-Ok-true-is_at_end.field-0-test c.in-Ok-true-is_at_end.ensures.finds)))
-    (subst (λ o. IfSome o (λ all. IsLast true json line (c.args.given.now.report ++ all))) ((beside RightGiven ReportGiven c.args.given.now.right (g.D.Desk.outside c.is_at_end.new.desk) (g.D.Desk.outside c.is_at_end-2.new.desk) c.requires.running.right_slot refl (end_some c.is_at_end-2.result c.args.given.now.right (g.D.Desk.outside c.is_at_end.new.desk) (g.D.Desk.outside c.is_at_end-2.new.desk) c.is_at_end-2.ensures.finds)) ∙ (beside LeftGiven ReportGiven c.args.given.now.left (g.D.Desk.outside c.args.desk.now) (g.D.Desk.outside c.is_at_end.new.desk) c.requires.running.left_slot refl (end_some c.is_at_end.result c.args.given.now.left (g.D.Desk.outside c.args.desk.now) (g.D.Desk.outside c.is_at_end.new.desk) c.is_at_end.ensures.finds))) (subst (λ (b : Bool). TakesLast (Ok b) json line c.args.given.now.report c.take_last.new.report (g.D.Desk.outside c.is_at_end-2.new.desk) (g.D.Desk.outside c.take_last.new.desk)) c.in-Ok-true-take_last.field-0-test c.in-Ok-true-take_last.ensures.takes).1)
+    (subst (λ o. IfSome o (λ all. IsLast true form line (c.args.given.now.report ++ all))) ((beside RightGiven ReportGiven c.args.given.now.right (g.D.Desk.outside c.is_at_end.new.desk) (g.D.Desk.outside c.is_at_end-2.new.desk) c.requires.running.right_slot refl (end_some c.is_at_end-2.result c.args.given.now.right (g.D.Desk.outside c.is_at_end.new.desk) (g.D.Desk.outside c.is_at_end-2.new.desk) c.is_at_end-2.ensures.finds)) ∙ (beside LeftGiven ReportGiven c.args.given.now.left (g.D.Desk.outside c.args.desk.now) (g.D.Desk.outside c.is_at_end.new.desk) c.requires.running.left_slot refl (end_some c.is_at_end.result c.args.given.now.left (g.D.Desk.outside c.args.desk.now) (g.D.Desk.outside c.is_at_end.new.desk) c.is_at_end.ensures.finds))) (subst (λ (b : Bool). TakesLast (Ok b) form line c.args.given.now.report c.take_last.new.report (g.D.Desk.outside c.is_at_end-2.new.desk) (g.D.Desk.outside c.take_last.new.desk)) c.in-Ok-true-take_last.field-0-test c.in-Ok-true-take_last.ensures.takes).1)

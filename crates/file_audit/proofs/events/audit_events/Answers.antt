@@ -1,4 +1,4 @@
-use Rattle.std.proofs.Common.{◌≡◌, ◌+◌, ℕ, List, Option, length, IfSome, Ok, Err, Bool, refl, sym, ap, subst, ◌∙◌, arith, rules}
+use Rattle.std.proofs.Common.{◌≡◌, ◌≤◌, ◌+◌, ◌^◌, ℕ, List, Option, length, IfSome, Ok, Err, Bool, refl, sym, ap, subst, ◌∙◌, arith, rules}
 use Rattle.frag_join.specs.Prelude.{arrival, by_known}
 use Rattle.gate_base.specs.Prelude.{event_of}
 use Rattle.gate_desk.proofs.Laws.{grows_on, grows_not}
@@ -8,10 +8,11 @@ use Rattle.gate_report.specs.Counts.{nothing_counted}
 use Rattle.gate_report.specs.declared.totals.Totals.{Totals}
 use Rattle.gate_settings.specs.declared.settings.Settings.{Settings}
 use Rattle.gate_model.specs.Prelude.{WholeSession, World}
-use Rattle.pcap_merge.specs.Prelude.{Advances}
+use Rattle.pcap_merge.specs.Prelude.{Advances, work}
 use Rattle.pcap_merge.proofs.Steps.{came_to}
 use Rattle.lawful_files.specs.Prelude.{State}
 use Rattle.file_audit.specs.Events.{Expected, Finds, FindsLast, state_of, stop_of}
+use Rattle.file_audit.specs.Given.{Fits}
 use Rattle.file_audit.specs.Stops.{LeavesCounts}
 use Rattle.file_audit.proofs.IncomingEnds.{ends_kept, left_kept, right_kept}
 use Rattle.file_audit.proofs.LeftCounts.{leaves_on, leaves_all, leaves_as, stop_leaves, stops_at}
@@ -170,9 +171,9 @@ events-init g c =
       stop = c.requires.stop;
       settings = refl;
       kept = c.requires.opening.kept;
-      few = omega (arith, c.requires.work);
+      few = subst (λ (t : Totals). t.events + work c.args.merge.now ≤ 2 ^ 41) (sym c.new-totals.ensures) (omega (arith, c.requires.work));
       running = c.requires.running;
-      fits = c.requires.fits;
+      fits = subst (λ (t : Totals). Fits t c.args.given.now) (sym c.new-totals.ensures) c.requires.fits;
       starts = refl;
       written = refl;
       faults = refl;
@@ -180,8 +181,8 @@ events-init g c =
       grows = grows_not old;
       files = files_none old old refl;
       ends = c.requires.ends;
-      walked = walked_none c.args.auditor.now.settings c.args.merge.now c.args.given.now old c.args.joiner.now (state_of c.args.auditor.now nothing_counted)
-          (ap (λ (w : World WholeSession). let k : State = record { world = w; totals = nothing_counted } in k) c.requires.opening.world_is) c.requires.joiner;
+      walked = walked_none c.args.auditor.now.settings c.args.merge.now c.args.given.now old c.args.joiner.now (state_of c.args.auditor.now c.new-totals.result)
+          (ap (state_of c.args.auditor.now) c.new-totals.ensures ∙ ap (λ (w : World WholeSession). let k : State = record { world = w; totals = nothing_counted } in k) c.requires.opening.world_is) c.requires.joiner;
     }
 
 pub returns-in-Err-expect : goal.returns-in-Err-expect

@@ -7,6 +7,6 @@ pub returns-in-Ok-is_line-clause-takes : goal.returns-in-Ok-is_line-clause-takes
 returns-in-Ok-is_line-clause-takes g c =
     let filled = c.in-Ok.ensures.ok in (
       (filled.count, filled.takes),
-      takes_last c.in-Ok-is_line.answer c.args.json c.args.line.now c.args.report.now c.fill.new.self (g.D.Desk.outside c.args.desk.now) (g.D.Desk.outside c.fill.new.desk) c.requires.short filled
-          (subst (λ (xs : List ℕ). IsLast c.in-Ok-is_line.answer c.args.json c.args.line.now xs) c.octets.ensures c.in-Ok-is_line.ensures.is),
+      takes_last c.in-Ok-is_line.answer c.args.form c.args.line.now c.args.report.now c.fill.new.self (g.D.Desk.outside c.args.desk.now) (g.D.Desk.outside c.fill.new.desk) c.requires.short filled
+          (subst (λ (xs : List ℕ). IsLast c.in-Ok-is_line.answer c.args.form c.args.line.now xs) c.octets.ensures c.in-Ok-is_line.ensures.is),
     )

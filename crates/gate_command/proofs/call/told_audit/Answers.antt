@@ -4,7 +4,9 @@ use Rattle.gate_command.proofs.call.told_audit.Goals as goal
 
 pub returns-in_default : goal.returns-in_default
 returns-in_default g c =
-    answers_audit c.audit.result c.write_error_line.result (audit_names_of c.args.names) (g.D.Desk.outside c.args.desk.now) (g.D.Desk.outside c.audit.new.desk) (g.D.Desk.outside c.write_error_line.new.desk) c.in_default.not-Done c.in_default.not-Unlawful c.audit.ensures.answer c.audit.ensures.taken c.write_error_line.ensures
+    answers_audit c.audit.result c.write_error_line.result (audit_names_of c.args.names) (g.D.Desk.outside c.args.desk.now)
+    (g.D.Desk.outside c.audit.new.desk) (g.D.Desk.outside c.write_error_line.new.desk) c.in_default.not-Done c.in_default.not-Unlawful
+    c.audit.ensures.answer c.audit.ensures.taken c.write_error_line.ensures
 
 pub returns-in-Done : goal.returns-in-Done
 returns-in-Done g c = record { audit = c.in-Done.ensures.answer; taken = c.in-Done.ensures.taken }

@@ -8,10 +8,12 @@ use Rattle.gate_desk.specs.Slots.{put}
 use Rattle.gate_desk.proofs.file_desk.gather_alone.Goals as goal
 
 pub returns-in-Gathered-clause-accesses : goal.returns-in-Gathered-clause-accesses
-returns-in-Gathered-clause-accesses g c = mapped-same access_of c.hand_out.new.places c.args.slot c.gather.new.self (c.gather.ensures.access ∙ ap access_of c.at_mut.ensures.value) ∙ c.hand_out.ensures.accesses
+returns-in-Gathered-clause-accesses g c = mapped-same access_of c.hand_out.new.places c.args.slot c.gather.new.self
+    (c.gather.ensures.access ∙ ap access_of c.at_mut.ensures.value) ∙ c.hand_out.ensures.accesses
 
 pub returns-in-Gathered-clause-ahead : goal.returns-in-Gathered-clause-ahead
-returns-in-Gathered-clause-ahead g c = mapped-same ahead c.hand_out.new.places c.args.slot c.gather.new.self (c.gather.ensures.ahead ∙ ap ahead c.at_mut.ensures.value) ∙ c.hand_out.ensures.ahead
+returns-in-Gathered-clause-ahead g c = mapped-same ahead c.hand_out.new.places c.args.slot c.gather.new.self
+    (c.gather.ensures.ahead ∙ ap ahead c.at_mut.ensures.value) ∙ c.hand_out.ensures.ahead
 
 pub returns-in-NoRoom : goal.returns-in-NoRoom
 returns-in-NoRoom g c = record {
@@ -68,20 +70,26 @@ returns-in-Refused g c = record {
 pub returns-in-Gathered-clause-waits : goal.returns-in-Gathered-clause-waits
 returns-in-Gathered-clause-waits g c =
     let new = put c.hand_out.new.places c.args.slot c.gather.new.self in
-    let waits = gathered_at c.hand_out.new.places c.args.slot (c.args.first.now ++ c.args.second.now) c.gather.result c.at_mut.result.now c.gather.new.self c.at_mut.ensures.value c.gather.ensures.waits in
-    waits_alone c.args.slot (c.args.first.now ++ c.args.second.now) (waiting_in c.args.places.now) (waiting_in c.hand_out.new.places) (waiting_in new) c.gather.result c.in_ok-hand_out.ensures.all waits c.in-Gathered.is
+    let waits = gathered_at c.hand_out.new.places c.args.slot (c.args.first.now ++ c.args.second.now) c.gather.result c.at_mut.result.now
+    c.gather.new.self c.at_mut.ensures.value c.gather.ensures.waits in
+    waits_alone c.args.slot (c.args.first.now ++ c.args.second.now) (waiting_in c.args.places.now) (waiting_in c.hand_out.new.places)
+    (waiting_in new) c.gather.result c.in_ok-hand_out.ensures.all waits c.in-Gathered.is
 
 pub returns-in-Gathered-clause-takes : goal.returns-in-Gathered-clause-takes
 returns-in-Gathered-clause-takes g c =
     let contents = g.R.File.Write.contents in
     let new = put c.hand_out.new.places c.args.slot c.gather.new.self in
-    let waits = gathered_at c.hand_out.new.places c.args.slot (c.args.first.now ++ c.args.second.now) c.gather.result c.at_mut.result.now c.gather.new.self c.at_mut.ensures.value c.gather.ensures.waits in
-    let got' = mapped-same (got contents) c.hand_out.new.places c.args.slot c.gather.new.self (c.gather.ensures.got contents ∙ ap (got contents) c.at_mut.ensures.value) in
-    gathered_behind c.args.slot (c.args.first.now ++ c.args.second.now) (got_in contents c.args.places.now) (got_in contents c.hand_out.new.places) (got_in contents new) (waiting_in c.args.places.now) (waiting_in c.hand_out.new.places) (waiting_in new) c.gather.result
+    let waits = gathered_at c.hand_out.new.places c.args.slot (c.args.first.now ++ c.args.second.now) c.gather.result c.at_mut.result.now
+    c.gather.new.self c.at_mut.ensures.value c.gather.ensures.waits in
+    let got' = mapped-same (got contents) c.hand_out.new.places c.args.slot c.gather.new.self
+    (c.gather.ensures.got contents ∙ ap (got contents) c.at_mut.ensures.value) in
+    gathered_behind c.args.slot (c.args.first.now ++ c.args.second.now) (got_in contents c.args.places.now) (got_in contents c.hand_out.new.places)
+    (got_in contents new) (waiting_in c.args.places.now) (waiting_in c.hand_out.new.places) (waiting_in new) c.gather.result
     c.in_ok-hand_out.ensures.files c.in_ok-hand_out.ensures.all got' waits c.in-Gathered.is
 
 pub returns-in-Gathered-clause-unread : goal.returns-in-Gathered-clause-unread
-returns-in-Gathered-clause-unread g c = mapped-same (unread g.R.File.Read.remaining) c.hand_out.new.places c.args.slot c.gather.new.self (c.gather.ensures.unread ∙ ap (unread g.R.File.Read.remaining) c.at_mut.ensures.value) ∙ c.hand_out.ensures.unread
+returns-in-Gathered-clause-unread g c = mapped-same (unread g.R.File.Read.remaining) c.hand_out.new.places c.args.slot c.gather.new.self
+    (c.gather.ensures.unread ∙ ap (unread g.R.File.Read.remaining) c.at_mut.ensures.value) ∙ c.hand_out.ensures.unread
 
 pub returns-in_err-hand_out-clause-fails : goal.returns-in_err-hand_out-clause-fails
 returns-in_err-hand_out-clause-fails g c = rw (err_from_is_err_and c.from_residual.result c.from_residual.ensures.1).1

@@ -23,15 +23,18 @@ returns-in-Ok-clause-ahead g c =
     ∙ ap (λ (all : PerSlot (List ℕ)). put all c.args.slot []) c.hand_out.ensures.ahead
 
 pub returns-in-Ok-clause-takes : goal.returns-in-Ok-clause-takes
-returns-in-Ok-clause-takes g c = nothing_else g.R.File.Write.contents c.args.slot c.args.places.now c.hand_out.new.places c.in-Ok.place c.in_ok-hand_out.ensures.files c.in_ok-hand_out.ensures.all
+returns-in-Ok-clause-takes g c = nothing_else g.R.File.Write.contents c.args.slot c.args.places.now c.hand_out.new.places c.in-Ok.place
+    c.in_ok-hand_out.ensures.files c.in_ok-hand_out.ensures.all
 
 pub returns-in-Ok-clause-none : goal.returns-in-Ok-clause-none
-returns-in-Ok-clause-none g c = at-mapped waiting (put c.hand_out.new.places c.args.slot c.in-Ok.place) c.args.slot ∙ ap waiting (at-put c.hand_out.new.places c.args.slot c.in-Ok.place) ∙ c.in-Ok.ensures.none
+returns-in-Ok-clause-none g c = at-mapped waiting (put c.hand_out.new.places c.args.slot c.in-Ok.place) c.args.slot
+    ∙ ap waiting (at-put c.hand_out.new.places c.args.slot c.in-Ok.place) ∙ c.in-Ok.ensures.none
 
 pub returns-in-Ok-clause-unread : goal.returns-in-Ok-clause-unread
 returns-in-Ok-clause-unread g c =
     let remaining = g.R.File.Read.remaining in
-    put_behind (unread_in remaining c.args.places.now) (unread_in remaining c.hand_out.new.places) (unread_in remaining (put c.hand_out.new.places c.args.slot c.in-Ok.place)) c.args.slot
+    put_behind (unread_in remaining c.args.places.now) (unread_in remaining c.hand_out.new.places)
+    (unread_in remaining (put c.hand_out.new.places c.args.slot c.in-Ok.place)) c.args.slot
     c.hand_out.ensures.unread (mapped-put_only (unread remaining) c.hand_out.new.places c.args.slot c.in-Ok.place)
 
 pub returns-in_err-hand_out-clause-fails : goal.returns-in_err-hand_out-clause-fails

@@ -12,74 +12,100 @@ use Rattle.gate_desk.specs.Slots.{put}
 use Rattle.gate_desk.proofs.file_desk.write_slot.Goals as goal
 
 pub returns-in-NoRoom-clause-accesses : goal.returns-in-NoRoom-clause-accesses
-returns-in-NoRoom-clause-accesses g c = c.gather_alone.ensures.accesses ∙ mapped-same access_of c.args.places.now c.args.slot c.gather.new.self (c.gather.ensures.access ∙ ap access_of c.at_mut.ensures.value)
+returns-in-NoRoom-clause-accesses g c = c.gather_alone.ensures.accesses ∙ mapped-same access_of c.args.places.now c.args.slot c.gather.new.self
+    (c.gather.ensures.access ∙ ap access_of c.at_mut.ensures.value)
 
 pub returns-in-NoRoom-clause-ahead : goal.returns-in-NoRoom-clause-ahead
-returns-in-NoRoom-clause-ahead g c = c.gather_alone.ensures.ahead ∙ mapped-same ahead c.args.places.now c.args.slot c.gather.new.self (c.gather.ensures.ahead ∙ ap ahead c.at_mut.ensures.value)
+returns-in-NoRoom-clause-ahead g c = c.gather_alone.ensures.ahead ∙ mapped-same ahead c.args.places.now c.args.slot c.gather.new.self
+    (c.gather.ensures.ahead ∙ ap ahead c.at_mut.ensures.value)
 
 pub returns-in-NoRoom-clause-waits : goal.returns-in-NoRoom-clause-waits
 returns-in-NoRoom-clause-waits g c =
     let middle = put c.args.places.now c.args.slot c.gather.new.self in
-    let waits = gathered_at c.args.places.now c.args.slot (c.args.first.now ++ c.args.second.now) c.gather.result c.at_mut.result.now c.gather.new.self c.at_mut.ensures.value c.gather.ensures.waits in
-    waits_later c.gather_alone.result c.args.slot (c.args.first.now ++ c.args.second.now) (waiting_in c.args.places.now) (waiting_in middle) (waiting_in c.gather_alone.new.places) c.gather.result waits c.in-NoRoom.is c.gather_alone.ensures.waits
+    let waits = gathered_at c.args.places.now c.args.slot (c.args.first.now ++ c.args.second.now) c.gather.result c.at_mut.result.now
+    c.gather.new.self c.at_mut.ensures.value c.gather.ensures.waits in
+    waits_later c.gather_alone.result c.args.slot (c.args.first.now ++ c.args.second.now) (waiting_in c.args.places.now) (waiting_in middle)
+    (waiting_in c.gather_alone.new.places) c.gather.result waits c.in-NoRoom.is c.gather_alone.ensures.waits
 
 pub returns-in-NoRoom-clause-takes : goal.returns-in-NoRoom-clause-takes
 returns-in-NoRoom-clause-takes g c =
     let contents = g.R.File.Write.contents in
     let middle = put c.args.places.now c.args.slot c.gather.new.self in
-    let waits = gathered_at c.args.places.now c.args.slot (c.args.first.now ++ c.args.second.now) c.gather.result c.at_mut.result.now c.gather.new.self c.at_mut.ensures.value c.gather.ensures.waits in
-    let got' = mapped-same (got contents) c.args.places.now c.args.slot c.gather.new.self (c.gather.ensures.got contents ∙ ap (got contents) c.at_mut.ensures.value) in
-    taken_later c.gather_alone.result c.args.slot (c.args.first.now ++ c.args.second.now) (got_in contents c.args.places.now) (got_in contents middle) (got_in contents c.gather_alone.new.places) (waiting_in c.args.places.now) (waiting_in middle) (waiting_in c.gather_alone.new.places) c.gather.result
+    let waits = gathered_at c.args.places.now c.args.slot (c.args.first.now ++ c.args.second.now) c.gather.result c.at_mut.result.now
+    c.gather.new.self c.at_mut.ensures.value c.gather.ensures.waits in
+    let got' = mapped-same (got contents) c.args.places.now c.args.slot c.gather.new.self
+    (c.gather.ensures.got contents ∙ ap (got contents) c.at_mut.ensures.value) in
+    taken_later c.gather_alone.result c.args.slot (c.args.first.now ++ c.args.second.now) (got_in contents c.args.places.now) (got_in contents middle)
+    (got_in contents c.gather_alone.new.places) (waiting_in c.args.places.now) (waiting_in middle) (waiting_in c.gather_alone.new.places)
+    c.gather.result
     got' waits c.in-NoRoom.is c.gather_alone.ensures.takes
 
 pub returns-in-Gathered-clause-takes : goal.returns-in-Gathered-clause-takes
 returns-in-Gathered-clause-takes g c =
     let contents = g.R.File.Write.contents in
     let new = put c.args.places.now c.args.slot c.gather.new.self in
-    let waits = gathered_at c.args.places.now c.args.slot (c.args.first.now ++ c.args.second.now) c.gather.result c.at_mut.result.now c.gather.new.self c.at_mut.ensures.value c.gather.ensures.waits in
-    let got' = mapped-same (got contents) c.args.places.now c.args.slot c.gather.new.self (c.gather.ensures.got contents ∙ ap (got contents) c.at_mut.ensures.value) in
-    λ s file. gathered_one c.args.slot s (c.args.first.now ++ c.args.second.now) (got_in contents c.args.places.now) (got_in contents new) (waiting_in c.args.places.now) (waiting_in new) c.gather.result got' waits c.in-Gathered.is
+    let waits = gathered_at c.args.places.now c.args.slot (c.args.first.now ++ c.args.second.now) c.gather.result c.at_mut.result.now
+    c.gather.new.self c.at_mut.ensures.value c.gather.ensures.waits in
+    let got' = mapped-same (got contents) c.args.places.now c.args.slot c.gather.new.self
+    (c.gather.ensures.got contents ∙ ap (got contents) c.at_mut.ensures.value) in
+    λ s file. gathered_one c.args.slot s (c.args.first.now ++ c.args.second.now) (got_in contents c.args.places.now) (got_in contents new)
+    (waiting_in c.args.places.now) (waiting_in new) c.gather.result got' waits c.in-Gathered.is
 
 pub returns-in-NoRoom-clause-unread : goal.returns-in-NoRoom-clause-unread
-returns-in-NoRoom-clause-unread g c = c.gather_alone.ensures.unread ∙ mapped-same (unread g.R.File.Read.remaining) c.args.places.now c.args.slot c.gather.new.self (c.gather.ensures.unread ∙ ap (unread g.R.File.Read.remaining) c.at_mut.ensures.value)
+returns-in-NoRoom-clause-unread g c = c.gather_alone.ensures.unread
+    ∙ mapped-same (unread g.R.File.Read.remaining) c.args.places.now c.args.slot c.gather.new.self
+    (c.gather.ensures.unread ∙ ap (unread g.R.File.Read.remaining) c.at_mut.ensures.value)
 
 pub returns-then-eq-clause-takes : goal.returns-then-eq-clause-takes
 returns-then-eq-clause-takes g c =
     let contents = g.R.File.Write.contents in
     let e : c.args.slot ≡ Errors = same_true the_type (search rules) c.args.slot Errors (sym c.if-eq.ensures) in
-    subst (λ (s : Slot). OnOk c.write_errors.result (TakesPiece s (c.args.first.now ++ c.args.second.now) (got_in contents c.args.places.now) (waiting_in c.args.places.now) (got_in contents c.write_errors.new.places) (waiting_in c.write_errors.new.places))) (sym e) c.write_errors.ensures.takes
+    subst (λ (s : Slot). OnOk c.write_errors.result
+    (TakesPiece s (c.args.first.now ++ c.args.second.now) (got_in contents c.args.places.now) (waiting_in c.args.places.now)
+    (got_in contents c.write_errors.new.places) (waiting_in c.write_errors.new.places))) (sym e) c.write_errors.ensures.takes
 
 pub returns-then-eq-clause-waits : goal.returns-then-eq-clause-waits
-returns-then-eq-clause-waits g c = waits_nowhere c.write_errors.result c.args.slot (c.args.first.now ++ c.args.second.now) (waiting_in c.args.places.now) (waiting_in c.write_errors.new.places) (same_true the_type (search rules) c.args.slot Errors (sym c.if-eq.ensures))
+returns-then-eq-clause-waits g c = waits_nowhere c.write_errors.result c.args.slot (c.args.first.now ++ c.args.second.now)
+    (waiting_in c.args.places.now) (waiting_in c.write_errors.new.places) (same_true the_type (search rules) c.args.slot Errors (sym c.if-eq.ensures))
 
 pub returns-in-Gathered-clause-accesses : goal.returns-in-Gathered-clause-accesses
-returns-in-Gathered-clause-accesses g c = mapped-same access_of c.args.places.now c.args.slot c.gather.new.self (c.gather.ensures.access ∙ ap access_of c.at_mut.ensures.value)
+returns-in-Gathered-clause-accesses g c = mapped-same access_of c.args.places.now c.args.slot c.gather.new.self
+    (c.gather.ensures.access ∙ ap access_of c.at_mut.ensures.value)
 
 pub returns-in-Gathered-clause-ahead : goal.returns-in-Gathered-clause-ahead
-returns-in-Gathered-clause-ahead g c = mapped-same ahead c.args.places.now c.args.slot c.gather.new.self (c.gather.ensures.ahead ∙ ap ahead c.at_mut.ensures.value)
+returns-in-Gathered-clause-ahead g c = mapped-same ahead c.args.places.now c.args.slot c.gather.new.self
+    (c.gather.ensures.ahead ∙ ap ahead c.at_mut.ensures.value)
 
 pub returns-in-Gathered-clause-unread : goal.returns-in-Gathered-clause-unread
-returns-in-Gathered-clause-unread g c = mapped-same (unread g.R.File.Read.remaining) c.args.places.now c.args.slot c.gather.new.self (c.gather.ensures.unread ∙ ap (unread g.R.File.Read.remaining) c.at_mut.ensures.value)
+returns-in-Gathered-clause-unread g c = mapped-same (unread g.R.File.Read.remaining) c.args.places.now c.args.slot c.gather.new.self
+    (c.gather.ensures.unread ∙ ap (unread g.R.File.Read.remaining) c.at_mut.ensures.value)
 
 pub returns-in-Gathered-clause-still : goal.returns-in-Gathered-clause-still
-returns-in-Gathered-clause-still g c = λ waits. none_refused c.args.refused.now (waiting_in (put c.args.places.now c.args.slot c.gather.new.self)) (sym c.if-is_some.false ∙ c.is_some.ensures)
+returns-in-Gathered-clause-still g c = λ waits. none_refused c.args.refused.now (waiting_in (put c.args.places.now c.args.slot c.gather.new.self))
+    (sym c.if-is_some.false ∙ c.is_some.ensures)
 
 pub returns-in-Refused-clause-accesses : goal.returns-in-Refused-clause-accesses
-returns-in-Refused-clause-accesses g c = mapped-same access_of c.args.places.now c.args.slot c.gather.new.self (c.gather.ensures.access ∙ ap access_of c.at_mut.ensures.value)
+returns-in-Refused-clause-accesses g c = mapped-same access_of c.args.places.now c.args.slot c.gather.new.self
+    (c.gather.ensures.access ∙ ap access_of c.at_mut.ensures.value)
 
 pub returns-in-Refused-clause-ahead : goal.returns-in-Refused-clause-ahead
-returns-in-Refused-clause-ahead g c = mapped-same ahead c.args.places.now c.args.slot c.gather.new.self (c.gather.ensures.ahead ∙ ap ahead c.at_mut.ensures.value)
+returns-in-Refused-clause-ahead g c = mapped-same ahead c.args.places.now c.args.slot c.gather.new.self
+    (c.gather.ensures.ahead ∙ ap ahead c.at_mut.ensures.value)
 
 pub returns-in-Refused-clause-unread : goal.returns-in-Refused-clause-unread
-returns-in-Refused-clause-unread g c = mapped-same (unread g.R.File.Read.remaining) c.args.places.now c.args.slot c.gather.new.self (c.gather.ensures.unread ∙ ap (unread g.R.File.Read.remaining) c.at_mut.ensures.value)
+returns-in-Refused-clause-unread g c = mapped-same (unread g.R.File.Read.remaining) c.args.places.now c.args.slot c.gather.new.self
+    (c.gather.ensures.unread ∙ ap (unread g.R.File.Read.remaining) c.at_mut.ensures.value)
 
 pub returns-in-Refused-clause-still : goal.returns-in-Refused-clause-still
-returns-in-Refused-clause-still g c = λ waits. none_refused c.args.refused.now (waiting_in (put c.args.places.now c.args.slot c.gather.new.self)) (sym c.if-is_some.false ∙ c.is_some.ensures)
+returns-in-Refused-clause-still g c = λ waits. none_refused c.args.refused.now (waiting_in (put c.args.places.now c.args.slot c.gather.new.self))
+    (sym c.if-is_some.false ∙ c.is_some.ensures)
 
 pub returns-in-Gathered-clause-waits : goal.returns-in-Gathered-clause-waits
 returns-in-Gathered-clause-waits g c =
-    let waits = gathered_at c.args.places.now c.args.slot (c.args.first.now ++ c.args.second.now) c.gather.result c.at_mut.result.now c.gather.new.self c.at_mut.ensures.value c.gather.ensures.waits in
-    waits_behind c.args.slot (c.args.first.now ++ c.args.second.now) (waiting_in c.args.places.now) (waiting_in (put c.args.places.now c.args.slot c.gather.new.self)) c.gather.result waits c.in-Gathered.is
+    let waits = gathered_at c.args.places.now c.args.slot (c.args.first.now ++ c.args.second.now) c.gather.result c.at_mut.result.now
+    c.gather.new.self c.at_mut.ensures.value c.gather.ensures.waits in
+    waits_behind c.args.slot (c.args.first.now ++ c.args.second.now) (waiting_in c.args.places.now)
+    (waiting_in (put c.args.places.now c.args.slot c.gather.new.self)) c.gather.result waits c.in-Gathered.is
 
 pub returns-in-Gathered-clause-refused : goal.returns-in-Gathered-clause-refused
 returns-in-Gathered-clause-refused g c = λ some. sym c.if-is_some.false ∙ c.is_some.ensures ∙ some
@@ -88,7 +114,8 @@ pub returns-in-NoRoom-clause-refused : goal.returns-in-NoRoom-clause-refused
 returns-in-NoRoom-clause-refused g c = λ some. absurd (false≢true (sym c.if-is_some.false ∙ c.is_some.ensures ∙ some))
 
 pub returns-in-NoRoom-clause-still : goal.returns-in-NoRoom-clause-still
-returns-in-NoRoom-clause-still g c = λ waits. c.gather_alone.ensures.still (none_refused c.args.refused.now (waiting_in (put c.args.places.now c.args.slot c.gather.new.self)) (sym c.if-is_some.false ∙ c.is_some.ensures))
+returns-in-NoRoom-clause-still g c = λ waits. c.gather_alone.ensures.still
+    (none_refused c.args.refused.now (waiting_in (put c.args.places.now c.args.slot c.gather.new.self)) (sym c.if-is_some.false ∙ c.is_some.ensures))
 
 pub returns-in-Refused-clause-fails : goal.returns-in-Refused-clause-fails
 returns-in-Refused-clause-fails g c = λ none.

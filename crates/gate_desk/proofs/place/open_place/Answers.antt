@@ -18,7 +18,8 @@ returns-in_err-gathered-in-Write g c =
 
 pub returns-in_err-refuse_open_output-in-Write : goal.returns-in_err-refuse_open_output-in-Write
 returns-in_err-refuse_open_output-in-Write g c =
-    let p = err_from_is_err_and c.from_residual-in_err-refuse_open_output-in-Write.result c.from_residual-in_err-refuse_open_output-in-Write.ensures.1 in
+    let p = err_from_is_err_and c.from_residual-in_err-refuse_open_output-in-Write.result
+    c.from_residual-in_err-refuse_open_output-in-Write.ensures.1 in
     record { none = rw p.1 tt; access = rw p.1 tt; ahead = rw p.1 tt }
 
 pub returns-in_err-file-in-Write : goal.returns-in_err-file-in-Write

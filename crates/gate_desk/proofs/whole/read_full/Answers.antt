@@ -6,7 +6,12 @@ use Rattle.gate_desk.proofs.Laws.{takes_none, takes_on, next_none, next_on, up_t
 use Rattle.gate_desk.proofs.whole.read_full.Goals as goal
 
 pub loop-filled-init : goal.loop-filled-init
-loop-filled-init g c = record { bound = omega arith; takes = takes_none c.args.slot _; next = next_none c.args.slot (g.D.Desk.outside c.args.desk.now); leaves = refl }
+loop-filled-init g c = record {
+  bound = omega arith;
+  takes = takes_none c.args.slot _;
+  next = next_none c.args.slot (g.D.Desk.outside c.args.desk.now);
+  leaves = refl;
+}
 
 pub returns-in_err-n-clause-err : goal.returns-in_err-n-clause-err
 returns-in_err-n-clause-err g c =
@@ -23,8 +28,10 @@ pub returns-then-n-eq0-clause-octets : goal.returns-then-n-eq0-clause-octets
 returns-then-n-eq0-clause-octets g c =
     let bound : c.loop-filled.filled ≤ length c.loop-filled.buffer = omega arith in
     let size = length-take-le c.loop-filled.filled c.loop-filled.buffer bound in
-    let same = take-put_mid_below c.loop-filled.filled (length c.loop-filled.buffer - c.loop-filled.filled) c.loop-filled.buffer c.read.new.buffer c.loop-filled.filled (omega arith) bound in
-    let all = up_to_end c.args.slot _ _ (length c.args.buffer.now) _ _ size c.loop-filled.invariant.bound c.loop-filled.invariant.takes c.loop-filled.invariant.next (c.in_ok-n.ensures.end c.if-n-eq0.true (omega arith)) in
+    let same = take-put_mid_below c.loop-filled.filled (length c.loop-filled.buffer - c.loop-filled.filled) c.loop-filled.buffer c.read.new.buffer
+    c.loop-filled.filled (omega arith) bound in
+    let all = up_to_end c.args.slot _ _ (length c.args.buffer.now) _ _ size c.loop-filled.invariant.bound c.loop-filled.invariant.takes
+    c.loop-filled.invariant.next (c.in_ok-n.ensures.end c.if-n-eq0.true (omega arith)) in
     subst (λ xs. AreUpTo (length c.args.buffer.now) xs (g.D.Desk.outside c.args.desk.now) c.args.slot) (sym same) all
 
 pub loop-filled-preserved : goal.loop-filled-preserved

@@ -38,7 +38,8 @@ pub returns-in_err-n-clause-cause : goal.returns-in_err-n-clause-cause
 returns-in_err-n-clause-cause g c = rw (err_from_is_err_and c.from_residual.result c.from_residual.ensures.1).1 c.in_err-n.ensures.cause
 
 pub returns-then-n-piece-clause-ok : goal.returns-then-n-piece-clause-ok
-returns-then-n-piece-clause-ok g c = subst (λ xs. Writes c.args.slot xs (g.D.Desk.outside c.args.desk.now) (g.D.Desk.outside c.write.new.self)) (take_all c.in_ok-n.n c.args.piece.now (omega arith)) c.in_ok-n.ensures.ok
+returns-then-n-piece-clause-ok g c = subst (λ xs. Writes c.args.slot xs (g.D.Desk.outside c.args.desk.now) (g.D.Desk.outside c.write.new.self))
+    (take_all c.in_ok-n.n c.args.piece.now (omega arith)) c.in_ok-n.ensures.ok
 
 pub returns-then-n-piece-clause-leaves : goal.returns-then-n-piece-clause-leaves
 returns-then-n-piece-clause-leaves g c = c.in_ok-n.ensures.leaves
@@ -49,4 +50,6 @@ returns-clause-leaves g c = on_ok_weaker c.write_rest.result (λ h. h ∙ c.in_o
 pub returns-clause-cause : goal.returns-clause-cause
 returns-clause-cause g c =
     let outside = g.D.Desk.outside in
-    on_err_weaker c.write_rest.result (λ h. failed_later c.args.slot (outside c.args.desk.now) (outside c.write.new.self) (outside c.write_rest.new.desk) c.in_ok-n.ensures.ok.faults h) c.write_rest.ensures.cause
+    on_err_weaker c.write_rest.result
+    (λ h. failed_later c.args.slot (outside c.args.desk.now) (outside c.write.new.self) (outside c.write_rest.new.desk)
+    c.in_ok-n.ensures.ok.faults h) c.write_rest.ensures.cause

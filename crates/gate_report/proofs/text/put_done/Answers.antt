@@ -18,4 +18,6 @@ returns-clause-line c =
     ∙ ap (λ xs. codes " to_left=" ++ (decimal c.args.totals.to_left ++ xs)) (c.put_field_before-end-2.ensures.octets
     ∙ ap (λ xs. codes " to_right=" ++ (decimal c.args.totals.to_right ++ xs)) (c.put_field_before-end.ensures.octets
     ∙ ap (λ xs. codes " pending=" ++ (decimal c.args.pending ++ xs)) (c.put_word_before-end.ensures.octets ∙ ap (λ xs. codes "\n" ++ xs) last))))))
-    ∙ joined (codes "done events=") (decimal c.args.totals.events) (codes " passed=") (decimal c.args.totals.passed) (codes " refused=") (decimal c.args.totals.refused) (codes " to_left=") (decimal c.args.totals.to_left) (codes " to_right=") (decimal c.args.totals.to_right) (codes " pending=") (decimal c.args.pending) (codes "\n")
+    ∙ joined (codes "done events=") (decimal c.args.totals.events) (codes " passed=") (decimal c.args.totals.passed) (codes " refused=")
+    (decimal c.args.totals.refused) (codes " to_left=") (decimal c.args.totals.to_left) (codes " to_right=") (decimal c.args.totals.to_right)
+    (codes " pending=") (decimal c.args.pending) (codes "\n")

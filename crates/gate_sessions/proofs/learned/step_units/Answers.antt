@@ -18,7 +18,10 @@ expect-requires c =
     let images : List UnitImage = c.args.completed.images.items in
     let g : DnsKept = c.learn_all.new.session in
     let right : AreImages (dns_units (listed_of c.args.passing.now.from g)) images = subst (λ (xs : List Entry). AreImages (dns_units xs) images) (sym c.learn_all.ensures.list) c.requires.images in
-    (omega arith, (λ e. subst (λ (b : Host). AreImages (dns_units (listed_of b g)) images) e right, λ e. subst (λ (b : Host). AreImages (dns_units (listed_of b g)) images) e right))
+    record {
+      client = λ e. subst (λ (b : Host). AreImages (dns_units (listed_of b g)) images) e right;
+      server = λ e. subst (λ (b : Host). AreImages (dns_units (listed_of b g)) images) e right;
+    }
 
 pub forget_from-requires : goal.forget_from-requires
 forget_from-requires c =
@@ -32,7 +35,7 @@ forget_from-requires c =
     let stream = can_forget b old g c.args.completed.entries.now c.listed-listed.result c.requires.stream count l k in
     let within : c.listed-listed.result ≤ length (listed_of b g) = omega (arith, count, ap length l, all-more (listed_of b old) c.args.completed.entries.now) in
     let at : (x : Host) → b ≡ x → IsListedStream unit_addresses (dns_units (listed_of x g)) (take c.listed-listed.result (listed_of x g)) (sender_kept x g.kept) = λ x e. subst (λ (y : Host). IsListedStream unit_addresses (dns_units (listed_of y g)) (take c.listed-listed.result (listed_of y g)) (sender_kept y g.kept)) e stream in
-    (omega arith, (within, (λ e. at _ e, λ e. at _ e)))
+    record { within = within; client_stream = λ e. at _ e; server_stream = λ e. at _ e }
 
 pub returns-in-Err-clause-same : goal.returns-in-Err-clause-same
 returns-in-Err-clause-same c =

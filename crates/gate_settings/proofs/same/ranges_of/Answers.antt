@@ -10,6 +10,10 @@ use Rattle.gate_settings.proofs.same.ranges_of.Goals as goal
 pub returns : goal.returns
 returns c =
     let sorted = c.sort_unstable_by_key.new.self.items in
-    let order = IsNonDecreasingBy-from_sort_by_key (λ (b : Block). b.base.0) sorted c.sort_unstable_by_key.ensures.sorted (λ a r q k. search (rules, tests)) in
-    let made = subst (λ (xs : List Block). AreRanges xs (ranges_from 0 sorted)) c.in_ok-sorted.ensures.items (are_ranges c.in_ok-sorted.sorted.items sorted c.sort_unstable_by_key.ensures.permutation order) in
-    IfOk-weaker c.ranges_from.result _ _ (λ (ranges : Vec SameRange _) is. subst (AreRanges c.args.blocks.now) (ap (ranges_from 0) (sym c.deref.ensures.value) ∙ sym is) made) c.ranges_from.ensures
+    let order = IsNonDecreasingBy-from_sort_by_key (λ (b : Block). b.base.0) sorted c.sort_unstable_by_key.ensures.sorted
+    (λ a r q k. search (rules, tests)) in
+    let made = subst (λ (xs : List Block). AreRanges xs (ranges_from 0 sorted)) c.in_ok-sorted.ensures.items
+    (are_ranges c.in_ok-sorted.sorted.items sorted c.sort_unstable_by_key.ensures.permutation order) in
+    IfOk-weaker c.ranges_from.result _ _
+    (λ (ranges : Vec SameRange _) is. subst (AreRanges c.args.blocks.now) (ap (ranges_from 0) (sym c.deref.ensures.value) ∙ sym is) made)
+    c.ranges_from.ensures

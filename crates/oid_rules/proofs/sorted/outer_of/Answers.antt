@@ -9,7 +9,8 @@ loop-one-preserved c =
     let sorted = c.args.sorted.now in
     let outer = c.loop-one.outer.items in
     let all : length outer ≡ c.loop-one.one-index = c.loop-one.invariant.all in
-    let arcs = c.items.ensures ∙ ap (λ (n : Numbered). n.rule.prefix) (c.one-item.is ∙ at_rule sorted c.loop-one.one-index c.one-item.result (omega arith)) ∙ ap (arcs_at sorted) (sym all) in
+    let arcs = c.items.ensures ∙ ap (λ (n : Numbered). n.rule.prefix)
+    (c.one-item.is ∙ at_rule sorted c.loop-one.one-index c.one-item.result (omega arith)) ∙ ap (arcs_at sorted) (sym all) in
     let last = subst (λ (xs : List (Option ℕ)). IsLast (length xs) sorted (arcs_at sorted (length outer)) c.last_begun.result) c.deref.ensures.value
     (subst (λ (xs : List ℕ). IsLast (length c.deref.result.now) sorted xs c.last_begun.result) arcs (c.last_begun.ensures.last _ refl)) in
     record {

@@ -18,5 +18,6 @@ returns c =
     record {
       moved = moved;
       order = λ i j l m b. not_less (arcs (rule_at sorted j)) (arcs (rule_at sorted i)) (sorted_far _ ranks sorted up i j (rule_at [] 0) l m) b;
-      all = All-permutation (λ (one : Numbered). IsTrue (is_rule one.rule)) (numbered 0 c.args.rules.now) sorted moved (all_rules 0 c.args.rules.now c.requires);
+      all = All-permutation (λ (one : Numbered). IsTrue (is_rule one.rule)) (numbered 0 c.args.rules.now) sorted moved
+          (all_rules 0 c.args.rules.now c.requires);
     }

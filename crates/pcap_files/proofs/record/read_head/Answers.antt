@@ -7,13 +7,24 @@ use Rattle.pcap_files.proofs.record.read_head.Goals as goal
 pub returns-then-n-eq0-clause-takes : goal.returns-then-n-eq0-clause-takes
 returns-then-n-eq0-clause-takes g c =
     let e : c.in-Ok.n ≡ 0 = c.if-n-eq0.true in
-    let told = told_at (g.D.Desk.outside c.args.desk.now).left c.args.slot in
-    (rw e at c.in-Ok.ensures.ok, ended c.args.form c.args.place told (subst (λ n. IfSome told (λ all. take n c.read_full.new.buffer ≡ take 16 all)) e c.in-Ok.ensures.octets))
+    let told = told_at (g.D.Desk.outside c.args.desk.now).left c.args.slot in (
+      rw e at c.in-Ok.ensures.ok,
+      ended c.args.form c.args.place told
+          (subst (λ n. IfSome told (λ all. take n c.read_full.new.buffer ≡ take 16 all)) e c.in-Ok.ensures.octets),
+    )
 
 pub returns-then-n-lt-RECORD_HEAD-clause-takes : goal.returns-then-n-lt-RECORD_HEAD-clause-takes
 returns-then-n-lt-RECORD_HEAD-clause-takes g c =
-    let told = told_at (g.D.Desk.outside c.args.desk.now).left c.args.slot in
-    (refl, record { count = c.in-Ok.n; takes = c.in-Ok.ensures.ok; near = omega (arith, c.requires.small); exact = all_left c.in-Ok.n c.read_full.new.buffer told (omega arith) (omega arith) c.in-Ok.ensures.octets }, torn_head c.args.form c.args.place c.in-Ok.n c.read_full.new.buffer told (omega arith) (omega arith) (omega arith) c.in-Ok.ensures.octets)
+    let told = told_at (g.D.Desk.outside c.args.desk.now).left c.args.slot in (
+      refl,
+      record {
+        count = c.in-Ok.n;
+        takes = c.in-Ok.ensures.ok;
+        near = omega (arith, c.requires.small);
+        exact = all_left c.in-Ok.n c.read_full.new.buffer told (omega arith) (omega arith) c.in-Ok.ensures.octets;
+      },
+      torn_head c.args.form c.args.place c.in-Ok.n c.read_full.new.buffer told (omega arith) (omega arith) (omega arith) c.in-Ok.ensures.octets,
+    )
 
 pub returns-in-Ok-judge-clause-takes : goal.returns-in-Ok-judge-clause-takes
 returns-in-Ok-judge-clause-takes g c =
@@ -22,7 +33,8 @@ returns-in-Ok-judge-clause-takes g c =
     let e : c.in-Ok.n ≡ 16 = omega (arith, c.in-Ok.ensures.fits) in (
       c.in-Ok-judge.ensures.0,
       rw e at c.in-Ok.ensures.ok,
-      by_the_head c.args.form c.args.place c.in-Ok.n c.read_full.new.buffer (body_of h.stamp h.whole h.kept) told (omega arith) (omega arith) c.in-Ok.ensures.octets c.in-Ok-judge.ensures.1,
+      by_the_head c.args.form c.args.place c.in-Ok.n c.read_full.new.buffer (body_of h.stamp h.whole h.kept) told (omega arith)
+          (omega arith) c.in-Ok.ensures.octets c.in-Ok-judge.ensures.1,
       enough_left c.in-Ok.n c.read_full.new.buffer told (omega arith) (omega arith) c.in-Ok.ensures.octets,
     )
 
@@ -36,5 +48,6 @@ returns-in-Err-judge-clause-takes g c =
         near = omega (arith, c.in-Ok.ensures.fits, c.requires.small);
         exact = some_is told (λ octets. omega (arith, c.in-Ok.ensures.fits, c.in-Err-judge.ensures.0 (length octets)));
       },
-      by_the_head c.args.form c.args.place c.in-Ok.n c.read_full.new.buffer (λ rest. Broken c.in-Err-judge.fault) told (omega arith) (omega arith) c.in-Ok.ensures.octets c.in-Err-judge.ensures.1,
+      by_the_head c.args.form c.args.place c.in-Ok.n c.read_full.new.buffer (λ rest. Broken c.in-Err-judge.fault) told (omega arith)
+          (omega arith) c.in-Ok.ensures.octets c.in-Err-judge.ensures.1,
     )

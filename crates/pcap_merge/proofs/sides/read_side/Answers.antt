@@ -7,7 +7,8 @@ use Rattle.pcap_merge.proofs.sides.read_side.Goals as goal
 pub returns-then-not-unread-clause-reads : goal.returns-then-not-unread-clause-reads
 returns-then-not-unread-clause-reads g c =
     let old = g.D.Desk.outside c.args.desk.now in
-    subst (λ unread. Readies c.args.side unread c.args.reader.now c.args.reader.now old old) (sym c.if-not-unread.true) (not_read c.args.side c.args.reader.now old c.requires.running)
+    subst (λ unread. Readies c.args.side unread c.args.reader.now c.args.reader.now old old) (sym c.if-not-unread.true)
+    (not_read c.args.side c.args.reader.now old c.requires.running)
 
 pub returns-in-Ok-clause-reads : goal.returns-in-Ok-clause-reads
 returns-in-Ok-clause-reads g c =
@@ -22,7 +23,8 @@ returns-in-Err-clause-reads g c =
     let new = g.D.Desk.outside c.advance.new.desk in
     let stopped = has_stopped c.args.side c.in-Err.stop _ _ old new c.requires.slot (c.in-Err.ensures.first c.requires.running) in
     subst (λ stop. ReadsSide (Err stop) c.args.side c.args.unread c.args.reader.now c.advance.new.self old new) (sym c.stop_of.ensures)
-    (subst (λ unread. ReadsSide (Err (stop_of c.args.side c.in-Err.stop)) c.args.side unread c.args.reader.now c.advance.new.self old new) (sym c.if-not-unread.false) stopped)
+    (subst (λ unread. ReadsSide (Err (stop_of c.args.side c.in-Err.stop)) c.args.side unread c.args.reader.now c.advance.new.self old new)
+    (sym c.if-not-unread.false) stopped)
 
 pub returns-in-Err-clause-leaves : goal.returns-in-Err-clause-leaves
 returns-in-Err-clause-leaves g c =

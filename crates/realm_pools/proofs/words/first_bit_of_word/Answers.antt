@@ -12,4 +12,5 @@ returns-else-word-eq0 c =
     let read : c.unwrap_or.result ≡ slice_index c.args.words.now (c.args.from / 64) = search rules in
     let small : slice_index c.args.words.now (c.args.from / 64) < 2 ^ 64 = search rules in
     let some : 0 < c.unwrap_or.result / 2 ^ (c.args.from % 64) = search rules in
-    first_in_word c.args.words.now c.args.from (c.unwrap_or.result / 2 ^ (c.args.from % 64)) small (ap (λ word. word / 2 ^ (c.args.from % 64)) read) some
+    first_in_word c.args.words.now c.args.from (c.unwrap_or.result / 2 ^ (c.args.from % 64)) small (ap (λ word. word / 2 ^ (c.args.from % 64)) read)
+    some

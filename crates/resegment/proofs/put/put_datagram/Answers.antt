@@ -21,7 +21,10 @@ returns-clause-octets c =
     let octets = ap (drop (length m.tcp.now)) whole ∙ drop_at m.tcp.now c.args.octets.now (length m.tcp.now) refl in
     let target : c.finish_segment.new.target ≡ datagram_of m.ip.now m.source.0 m.destination.0 m.lifetime (spelled_segment m.tcp.now m.source.0 m.destination.0 c.args.sequence m.acknowledgement (flags_octet c.args.flags) c.args.octets.now) =
     c.finish_segment.ensures
-    ∙ ap (λ xs. datagram_of m.ip.now m.source.0 m.destination.0 m.lifetime (spelled_segment xs m.source.0 m.destination.0 c.args.sequence m.acknowledgement c.flags_octet.result (drop (length m.tcp.now) (drop 20 (take (length c.deref_mut.result.now - c.len-start.result) (drop c.len-start.result c.deref_mut.result.now)))))) tcp
+    ∙ ap (λ xs. datagram_of m.ip.now m.source.0 m.destination.0 m.lifetime
+    (spelled_segment xs m.source.0 m.destination.0 c.args.sequence m.acknowledgement c.flags_octet.result
+    (drop (length m.tcp.now)
+    (drop 20 (take (length c.deref_mut.result.now - c.len-start.result) (drop c.len-start.result c.deref_mut.result.now)))))) tcp
     ∙ ap (λ xs. datagram_of m.ip.now m.source.0 m.destination.0 m.lifetime (spelled_segment m.tcp.now m.source.0 m.destination.0 c.args.sequence m.acknowledgement c.flags_octet.result xs)) octets
     ∙ ap (λ n. datagram_of m.ip.now m.source.0 m.destination.0 m.lifetime (spelled_segment m.tcp.now m.source.0 m.destination.0 c.args.sequence m.acknowledgement n c.args.octets.now)) c.flags_octet.ensures in
     let size : c.append-3.new.list.len ≡ length c.deref_mut.result.now = search rules in

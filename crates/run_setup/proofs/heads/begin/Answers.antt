@@ -24,7 +24,9 @@ pub begin-requires-clause-right : goal.begin-requires-clause-right
 begin-requires-clause-right g c = access_of RightIn Read (inputs_start c.args.left.now c.args.right.now) (g.D.Desk.outside c.args.desk.now) (g.D.Desk.outside c.open_inputs.new.desk) c.in_ok-open_inputs.ensures.answer.starts (λ w. refl)
 
 pub returns-clause-answer : goal.returns-clause-answer
-returns-clause-answer g c = begins c.in_ok-merge.merge (inputs_start c.args.left.now c.args.right.now) (g.D.Desk.outside c.args.desk.now) (g.D.Desk.outside c.open_inputs.new.desk) (g.D.Desk.outside c.begin.new.desk) c.in_ok-open_inputs.ensures.answer c.in_ok-merge.ensures.begins c.in_ok-merge.ensures.leaves
+returns-clause-answer g c = begins c.in_ok-merge.merge (inputs_start c.args.left.now c.args.right.now) (g.D.Desk.outside c.args.desk.now)
+    (g.D.Desk.outside c.open_inputs.new.desk) (g.D.Desk.outside c.begin.new.desk) c.in_ok-open_inputs.ensures.answer c.in_ok-merge.ensures.begins
+    c.in_ok-merge.ensures.leaves
 
 pub returns-in_err-merge-clause-answer : goal.returns-in_err-merge-clause-answer
 returns-in_err-merge-clause-answer g c =

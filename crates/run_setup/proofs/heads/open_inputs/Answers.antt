@@ -13,5 +13,7 @@ returns-in_err-start_slot-clause-answer g c =
     (opens_more c.in_err-start_slot.field-0.0 ((record { slot = LeftIn; name = c.args.left.now; access = Read }) ∷ []) ((record { slot = RightIn; name = c.args.right.now; access = Read }) ∷ []) old new c.in_err-start_slot.ensures.answer)
 
 pub returns-clause-answer : goal.returns-clause-answer
-returns-clause-answer g c = opens_on c.start_slot-2.result ((record { slot = LeftIn; name = c.args.left.now; access = Read }) ∷ []) ((record { slot = RightIn; name = c.args.right.now; access = Read }) ∷ []) (g.D.Desk.outside c.args.desk.now) (g.D.Desk.outside c.start_slot.new.desk) (g.D.Desk.outside c.start_slot-2.new.desk)
+returns-clause-answer g c = opens_on c.start_slot-2.result ((record { slot = LeftIn; name = c.args.left.now; access = Read }) ∷ [])
+    ((record { slot = RightIn; name = c.args.right.now; access = Read }) ∷ []) (g.D.Desk.outside c.args.desk.now)
+    (g.D.Desk.outside c.start_slot.new.desk) (g.D.Desk.outside c.start_slot-2.new.desk)
     c.in_ok-start_slot.ensures.answer c.start_slot-2.ensures.answer

@@ -32,5 +32,7 @@ loop-index-preserved c =
     record {
       same = sym (passes_next c.args.statics.now c.loop-index.index none c.in_ok-new_host.new_host c.in_ok-new_alias.new_alias c.loop-index-test.true (new_host_is before) (new_alias_is before) c.if-not-new_host.false c.if-not-new_alias.false) ∙ c.loop-index.invariant.same;
       hosts = λ q. numbers_more host_number c.loop-index.hosts c.insert.new.self c.args.statics.now c.loop-index.index none c.number_of.result q c.loop-index-test.true c.number_of.ensures c.in_ok-new_host.ensures.updates (c.loop-index.invariant.hosts q);
-      aliases = λ q. numbers_more alias_number c.loop-index.aliases c.insert-in-loop-index.new.self c.args.statics.now c.loop-index.index none c.number_of-in-loop-index.result q c.loop-index-test.true c.number_of-in-loop-index.ensures c.in_ok-new_alias.ensures.updates (c.loop-index.invariant.aliases q);
+      aliases = λ q. numbers_more alias_number c.loop-index.aliases c.insert-in-loop-index.new.self c.args.statics.now c.loop-index.index none
+          c.number_of-in-loop-index.result q c.loop-index-test.true c.number_of-in-loop-index.ensures c.in_ok-new_alias.ensures.updates
+          (c.loop-index.invariant.aliases q);
     }

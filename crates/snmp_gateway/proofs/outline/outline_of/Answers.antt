@@ -4,7 +4,8 @@ use Rattle.snmp_gateway.proofs.Reading.{field_cut}
 use Rattle.snmp_gateway.proofs.outline.outline_of.Goals as goal
 
 pub overflow_sub-version : goal.overflow_sub-version
-overflow_sub-version c = (field_cut c.args.octets.now integer c.in_ok-content.content c.in_ok-version.version (sym c.field.ensures ∙ c.in_ok-version.was)).content
+overflow_sub-version c =
+    (field_cut c.args.octets.now integer c.in_ok-content.content c.in_ok-version.version (sym c.field.ensures ∙ c.in_ok-version.was)).content
 
 pub bounds-octets-version : goal.bounds-octets-version
 bounds-octets-version c =

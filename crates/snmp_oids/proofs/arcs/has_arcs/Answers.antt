@@ -7,7 +7,8 @@ use Rattle.snmp_oids.proofs.arcs.has_arcs.Goals.{then-octet-lt128, else-octet-lt
 
 pub returns-in-None : goal.returns-in-None
 returns-in-None c =
-    sym (ap is_some (numbers_stop c.loop-octet.number c.args.content.now c.loop-octet.octet-index c.joined.result c.loop-octet-test.true c.joined.ensures c.in-None.is))
+    sym (ap is_some (numbers_stop c.loop-octet.number c.args.content.now c.loop-octet.octet-index c.joined.result c.loop-octet-test.true
+    c.joined.ensures c.in-None.is))
     ∙ c.loop-octet.invariant
     ∙ sym (some_mapped arcs_for (numbers_of c.args.content.now))
 
@@ -18,11 +19,13 @@ loop-octet-preserved c =
       | then-octet-lt128 w ↦
           ap turn w.number-is
           ∙ sym (some_mapped (λ numbers. c.in-Some.more ∷ numbers) (numbers_of (drop (c.loop-octet.octet-index + 1) c.args.content.now)))
-          ∙ sym (ap is_some (numbers_end c.loop-octet.number c.args.content.now c.loop-octet.octet-index c.joined.result c.in-Some.more c.loop-octet-test.true c.joined.ensures c.in-Some.is w.if-octet-lt128.true))
+          ∙ sym (ap is_some (numbers_end c.loop-octet.number c.args.content.now c.loop-octet.octet-index c.joined.result c.in-Some.more
+          c.loop-octet-test.true c.joined.ensures c.in-Some.is w.if-octet-lt128.true))
           ∙ c.loop-octet.invariant
       | else-octet-lt128 w ↦
           ap turn w.number-is
-          ∙ sym (ap is_some (numbers_go c.loop-octet.number c.args.content.now c.loop-octet.octet-index c.joined.result c.in-Some.more c.loop-octet-test.true c.joined.ensures c.in-Some.is w.if-octet-lt128.false))
+          ∙ sym (ap is_some (numbers_go c.loop-octet.number c.args.content.now c.loop-octet.octet-index c.joined.result c.in-Some.more
+          c.loop-octet-test.true c.joined.ensures c.in-Some.is w.if-octet-lt128.false))
           ∙ c.loop-octet.invariant
     ]
 

@@ -5,7 +5,8 @@ use Rattle.snmp_oids.proofs.Places.{behind, behind_some}
 use Rattle.snmp_oids.proofs.identifier.address_behind.Goals as goal
 
 pub address_of-requires : goal.address_of-requires
-address_of-requires c = behind_some c.args.content.now _ c.place_behind-start.result (sym c.has_arcs.ensures ∙ c.if-not-has_arcs.false) c.place_behind-start.ensures.value
+address_of-requires c = behind_some c.args.content.now _ c.place_behind-start.result (sym c.has_arcs.ensures ∙ c.if-not-has_arcs.false)
+    c.place_behind-start.ensures.value
 
 pub returns : goal.returns
 returns c =

@@ -19,4 +19,7 @@ none x y i m Client = omega arith
 none x y i m Server = omega arith
 
 pub returns : goal.returns
-returns k = λ c s i m events who lc ls pass. facts_of (own who (after (session_made c s i m) events)) _ _ (acked_after who events (session_made c s i m) [] [] pass (made_acked c s i m who lc ls)) (short_after who events (session_made c s i m) pass (short c s i m who)) (few_after who events (session_made c s i m) [] [] pass (made_acked c s i m who lc ls) (none c s i m who))
+returns k = λ c s i m events who lc ls pass. facts_of (own who (after (session_made c s i m) events)) _ _
+    (acked_after who events (session_made c s i m) [] [] pass (made_acked c s i m who lc ls))
+    (short_after who events (session_made c s i m) pass (short c s i m who))
+    (few_after who events (session_made c s i m) [] [] pass (made_acked c s i m who lc ls) (none c s i m who))

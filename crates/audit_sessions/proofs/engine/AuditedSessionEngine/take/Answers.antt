@@ -8,8 +8,8 @@ use Rattle.stream_model.specs.Prelude.{Segment, segment_in}
 use Rattle.audit_streams.specs.Sending.{Handed, handed}
 use Rattle.lawful_files.specs.Prelude.{wanted_segment}
 use Rattle.audit_sessions.specs.Heard.{HeardSession, heard_rules, heard_sent}
-use Rattle.gate_payloads.specs.Prelude.{image_by}
-use Rattle.event_steps.proofs.SteppedSessions.{IsSeen, called_is, next_is, waits_is}
+use Rattle.event_payloads.specs.Prelude.{image_by}
+use Rattle.event_segments.proofs.SteppedSessions.{IsSeen, called_is, next_is, waits_is}
 use Rattle.gate_base.proofs.Options.{on_err}
 use Rattle.gate_base.specs.declared.host.Host.{Host}
 use Rattle.audit_sessions.proofs.SteppedStreams.{sent_wanted, pieces_fit}

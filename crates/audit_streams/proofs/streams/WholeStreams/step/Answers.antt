@@ -44,7 +44,9 @@ returns-in-Client-clause-sent g c =
 
 pub returns-in-Server-clause-next : goal.returns-in-Server-clause-next
 returns-in-Server-clause-next g c =
-    next_at Server c.args.from c.pass-in-Server.result g.C.Dialogue.meaning g.S.Dialogue.meaning (heard_by c.self.inside.client c.self.inside.server) c.args.self.now (segment_in c.args.segment.now) c.pass-in-Server.new.other c.pass-in-Server.new.own c.in-Server.is c.self.view_is c.pass-in-Server.ensures.own c.pass-in-Server.ensures.other
+    next_at Server c.args.from c.pass-in-Server.result g.C.Dialogue.meaning g.S.Dialogue.meaning (heard_by c.self.inside.client c.self.inside.server)
+    c.args.self.now (segment_in c.args.segment.now) c.pass-in-Server.new.other c.pass-in-Server.new.own c.in-Server.is c.self.view_is
+    c.pass-in-Server.ensures.own c.pass-in-Server.ensures.other
 
 pub returns-in-Server-clause-sent : goal.returns-in-Server-clause-sent
 returns-in-Server-clause-sent g c =

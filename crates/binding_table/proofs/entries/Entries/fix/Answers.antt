@@ -9,7 +9,8 @@ use Rattle.binding_table.proofs.entries.Entries.fix.Goals as goal
 pub invariant_of-self-2 : goal.invariant_of-self-2
 invariant_of-self-2 c =
     let early = subst (λ (t : Table Binding). All (λ row. row.end ≡ None) t.rows) (sym c.self.view_is) c.requires.early in
-    apart_none _ c.self.inside.moving (only_fixed (fixed_rows c.self.inside) c.self.inside.moving.rows early c.self.invariant.ends) c.self.invariant.few
+    apart_none _ c.self.inside.moving (only_fixed (fixed_rows c.self.inside) c.self.inside.moving.rows early c.self.invariant.ends)
+    c.self.invariant.few
 
 pub returns-clause-ok : goal.returns-clause-ok
 returns-clause-ok c =
@@ -18,8 +19,10 @@ returns-clause-ok c =
     let binding = c.args.binding in
     let early = subst (λ (t : Table Binding). All (λ row. row.end ≡ None) t.rows) (sym c.self.view_is) c.requires.early in
     let nothing = only_fixed (fixed_rows c.self.inside) moving.rows early c.self.invariant.ends in
-    let front = (none_in (filed binding).key (fixed_rows c.self.inside) moving.rows (ap (λ (t : Table Binding). row_of (filed binding).key t.rows) c.self.view_is ∙ c.requires.new)).0 in
+    let front = (none_in (filed binding).key (fixed_rows c.self.inside) moving.rows
+    (ap (λ (t : Table Binding). row_of (filed binding).key t.rows) c.self.view_is ∙ c.requires.new)).0 in
     let none = ap (λ key. row_of key (fixed_rows c.self.inside)) c.number_of.ensures ∙ front in
-    let put = c.in_ok-insert.ensures.entries ∙ insert_entry-new nat_eq fixed c.number_of.result binding (not_there c.number_of.result fixed.entries none) in
+    let put = c.in_ok-insert.ensures.entries ∙ insert_entry-new nat_eq fixed c.number_of.result binding
+    (not_there c.number_of.result fixed.entries none) in
     fixed_push fixed.entries c.insert.new.self.entries moving c.number_of.result binding put c.number_of.ensures c.requires.fixed nothing
     ∙ ap (λ (t : Table Binding). let new : Table Binding = record { most = t.most; rows = t.rows ++ filed binding ∷ [] } in new) c.self.view_is

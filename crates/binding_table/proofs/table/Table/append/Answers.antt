@@ -10,10 +10,12 @@ use Rattle.binding_table.proofs.Whole.{room_of}
 use Rattle.binding_table.proofs.table.Table.append.Goals as goal
 
 pub take_alias-requires-clause-left : goal.take_alias-requires-clause-left
-take_alias-requires-clause-left c = left_free c.self.inside c.args.binding c.self.invariant (subst (λ (table : Bindings). CanHold table c.args.binding) (sym c.self.view_is) c.requires.place)
+take_alias-requires-clause-left c = left_free c.self.inside c.args.binding c.self.invariant
+    (subst (λ (table : Bindings). CanHold table c.args.binding) (sym c.self.view_is) c.requires.place)
 
 pub take_alias-requires-clause-right : goal.take_alias-requires-clause-right
-take_alias-requires-clause-right c = right_free c.self.inside c.args.binding c.self.invariant (subst (λ (table : Bindings). CanHold table c.args.binding) (sym c.self.view_is) c.requires.place)
+take_alias-requires-clause-right c = right_free c.self.inside c.args.binding c.self.invariant
+    (subst (λ (table : Bindings). CanHold table c.args.binding) (sym c.self.view_is) c.requires.place)
 
 pub push-requires : goal.push-requires
 push-requires c =
@@ -21,7 +23,12 @@ push-requires c =
     let whole = c.self.invariant in
     let rows = c.self.inside.bindings.rows in
     record {
-      room = omega (arith, room_for (bindings_of c.self.inside) c.args.binding whole.lawful can, room_of c.self.inside whole, length-map rows (λ (row : Row Binding). row.value));
+      room = omega (
+        arith,
+        room_for (bindings_of c.self.inside) c.args.binding whole.lawful can,
+        room_of c.self.inside whole,
+        length-map rows (λ (row : Row Binding). row.value),
+      );
       new = ap (λ (row : Row Binding). row_of row.key rows) c.filed.ensures ∙ new_row c.self.inside c.args.binding whole can;
       end = subst (λ (row : Row Binding). IsSome row.end) (sym c.filed.ensures) (moving_end c.args.binding c.requires.moving);
     }

@@ -7,18 +7,22 @@ pub fix-requires : goal.fix-requires
 fix-requires c =
     let can = subst (λ (table : Bindings). CanHold table c.args.binding) (sym c.self.view_is) c.requires.place in
     record {
-      early = fixed_ends c.self.inside.bindings.rows (bindings_of c.self.inside).entries c.self.invariant.rows (subst (λ (table : Bindings). All (λ one. one.fixed ≡ true) table.entries) (sym c.self.view_is) c.requires.early);
+      early = fixed_ends c.self.inside.bindings.rows (bindings_of c.self.inside).entries c.self.invariant.rows
+          (subst (λ (table : Bindings). All (λ one. one.fixed ≡ true) table.entries) (sym c.self.view_is) c.requires.early);
       new = new_row c.self.inside c.args.binding c.self.invariant can;
       fixed = c.requires.fixed;
     }
 
 pub take_alias-requires-clause-left : goal.take_alias-requires-clause-left
-take_alias-requires-clause-left c = left_free c.self.inside c.args.binding c.self.invariant (subst (λ (table : Bindings). CanHold table c.args.binding) (sym c.self.view_is) c.requires.place)
+take_alias-requires-clause-left c = left_free c.self.inside c.args.binding c.self.invariant
+    (subst (λ (table : Bindings). CanHold table c.args.binding) (sym c.self.view_is) c.requires.place)
 
 pub take_alias-requires-clause-right : goal.take_alias-requires-clause-right
-take_alias-requires-clause-right c = right_free c.self.inside c.args.binding c.self.invariant (subst (λ (table : Bindings). CanHold table c.args.binding) (sym c.self.view_is) c.requires.place)
+take_alias-requires-clause-right c = right_free c.self.inside c.args.binding c.self.invariant
+    (subst (λ (table : Bindings). CanHold table c.args.binding) (sym c.self.view_is) c.requires.place)
 
 pub invariant_of-self-2 : goal.invariant_of-self-2
 invariant_of-self-2 c =
     let can = subst (λ (table : Bindings). CanHold table c.args.binding) (sym c.self.view_is) c.requires.place in
-    whole_push c.self.inside _ c.args.binding c.self.invariant can refl refl c.take_alias.ensures.left c.take_alias.ensures.right c.in_ok-fix.ensures.ok
+    whole_push c.self.inside _ c.args.binding c.self.invariant can refl refl c.take_alias.ensures.left c.take_alias.ensures.right
+    c.in_ok-fix.ensures.ok

@@ -5,7 +5,8 @@ use Rattle.binding_table.proofs.Filed.{found_moving}
 use Rattle.binding_table.proofs.table.Table.moving_of.Goals as goal
 
 pub returns-in-Some : goal.returns-in-Some
-returns-in-Some c = ap (λ number. moving_row number c.args.self.now.entries) c.number_of-number.ensures ∙ found_moving c.args.side c.args.host.0 c.args.self.now.entries
+returns-in-Some c = ap (λ number. moving_row number c.args.self.now.entries) c.number_of-number.ensures
+    ∙ found_moving c.args.side c.args.host.0 c.args.self.now.entries
 
 pub returns-in-None : goal.returns-in-None
 returns-in-None c =

@@ -12,24 +12,37 @@ lawful_as : (inside : Inside) (table : Bindings) → IsWhole inside → bindings
 lawful_as inside table whole same = subst IsLawful same whole.lawful
 
 -- what is found in the table as it is kept
-kept : (number key : ℕ) (inside : Inside) (table : Bindings) (row : Row Binding) → IsWhole inside → bindings_of inside ≡ table → number ≡ key → Some row ≡ option_and_then ending (row_of number inside.bindings.rows) → moving_row key table.entries ≡ Some row
+kept : (number key : ℕ) (inside : Inside) (table : Bindings) (row : Row Binding) → IsWhole inside → bindings_of inside ≡ table → number ≡ key
+    → Some row ≡ option_and_then ending (row_of number inside.bindings.rows) → moving_row key table.entries ≡ Some row
 kept number key inside table row whole same named found =
-    sym (found ∙ ap (λ (rows : List (Row Binding)). option_and_then ending (row_of number rows)) whole.rows ∙ ap (λ (t : Bindings). moving_row number t.entries) same ∙ ap (λ (n : ℕ). moving_row n table.entries) named)
+    sym (found ∙ ap (λ (rows : List (Row Binding)). option_and_then ending (row_of number rows)) whole.rows
+    ∙ ap (λ (t : Bindings). moving_row number t.entries) same ∙ ap (λ (n : ℕ). moving_row n table.entries) named)
 
 pub extend_row-requires-clause-lawful : goal.extend_row-requires-clause-lawful
 extend_row-requires-clause-lawful c = lawful_as c.self.inside c.args.self.now c.self.invariant c.self.view_is
 
 pub extend_row-requires-clause-there : goal.extend_row-requires-clause-there
-extend_row-requires-clause-there c = (moving_is (number_of c.args.side c.args.host.0) c.args.self.now.entries c.in-Some.row (kept c.number_of-number.result (number_of c.args.side c.args.host.0) c.self.inside c.args.self.now c.in-Some.row c.self.invariant c.self.view_is c.number_of-number.ensures c.in-Some.ensures)).there
+extend_row-requires-clause-there c =
+    (moving_is (number_of c.args.side c.args.host.0) c.args.self.now.entries c.in-Some.row
+    (kept c.number_of-number.result (number_of c.args.side c.args.host.0) c.self.inside c.args.self.now c.in-Some.row c.self.invariant c.self.view_is
+    c.number_of-number.ensures c.in-Some.ensures)).there
 
 pub extend_row-requires-clause-filed : goal.extend_row-requires-clause-filed
-extend_row-requires-clause-filed c = (moving_is (number_of c.args.side c.args.host.0) c.args.self.now.entries c.in-Some.row (kept c.number_of-number.result (number_of c.args.side c.args.host.0) c.self.inside c.args.self.now c.in-Some.row c.self.invariant c.self.view_is c.number_of-number.ensures c.in-Some.ensures)).filed_is
+extend_row-requires-clause-filed c =
+    (moving_is (number_of c.args.side c.args.host.0) c.args.self.now.entries c.in-Some.row
+    (kept c.number_of-number.result (number_of c.args.side c.args.host.0) c.self.inside c.args.self.now c.in-Some.row c.self.invariant c.self.view_is
+    c.number_of-number.ensures c.in-Some.ensures)).filed_is
 
 pub extend_row-requires-clause-moving : goal.extend_row-requires-clause-moving
-extend_row-requires-clause-moving c = (moving_is (number_of c.args.side c.args.host.0) c.args.self.now.entries c.in-Some.row (kept c.number_of-number.result (number_of c.args.side c.args.host.0) c.self.inside c.args.self.now c.in-Some.row c.self.invariant c.self.view_is c.number_of-number.ensures c.in-Some.ensures)).moving
+extend_row-requires-clause-moving c =
+    (moving_is (number_of c.args.side c.args.host.0) c.args.self.now.entries c.in-Some.row
+    (kept c.number_of-number.result (number_of c.args.side c.args.host.0) c.self.inside c.args.self.now c.in-Some.row c.self.invariant c.self.view_is
+    c.number_of-number.ensures c.in-Some.ensures)).moving
 
 pub returns-in-Some-clause-used : goal.returns-in-Some-clause-used
 returns-in-Some-clause-used c =
     c.extend_row.ensures
-    ∙ moving_used c.args.self.now (record { side = c.args.side; address = c.args.host; until = c.args.until }) c.in-Some.row (lawful_as c.self.inside c.args.self.now c.self.invariant c.self.view_is)
-    (kept c.number_of-number.result (number_of c.args.side c.args.host.0) c.self.inside c.args.self.now c.in-Some.row c.self.invariant c.self.view_is c.number_of-number.ensures c.in-Some.ensures)
+    ∙ moving_used c.args.self.now (record { side = c.args.side; address = c.args.host; until = c.args.until }) c.in-Some.row
+    (lawful_as c.self.inside c.args.self.now c.self.invariant c.self.view_is)
+    (kept c.number_of-number.result (number_of c.args.side c.args.host.0) c.self.inside c.args.self.now c.in-Some.row c.self.invariant c.self.view_is
+    c.number_of-number.ensures c.in-Some.ensures)

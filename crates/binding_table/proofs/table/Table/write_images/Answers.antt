@@ -21,7 +21,13 @@ counted false first e = ap (λ (b : Bool). cond b 1 0) e
 pub overflow_add-count : goal.overflow_add-count
 overflow_add-count c =
     let step = fresh_step c.args.self.now c.args.side c.args.addresses.now c.loop-place.place (record { 0 = 0 }) c.loop-place-test.true in
-    omega (arith, c.loop-place.invariant.count, step, counted c.image-planned.result.fresh _ c.image-planned.ensures.fresh, needed_small c.args.self.now c.args.side c.args.addresses.now)
+    omega (
+      arith,
+      c.loop-place.invariant.count,
+      step,
+      counted c.image-planned.result.fresh _ c.image-planned.ensures.fresh,
+      needed_small c.args.self.now c.args.side c.args.addresses.now,
+    )
 
 pub loop-place-init : goal.loop-place-init
 loop-place-init c =
@@ -45,10 +51,13 @@ loop-place-preserved c =
     let step = fresh_step table side addresses place zero within in
     record {
       plan = λ room uses e.
-          subst (λ (p : Option Addr × Option Addr). IsAt table side addresses (place + 1) (set c.loop-place.images place p.0) p.1 uses) (sym c.image-planned.ensures.value)
-          (at_step table side addresses place c.loop-place.images c.loop-place.given uses zero (c.keeps_apart.ensures.ranges (other side)) e within long bound (c.loop-place.invariant.plan room uses e));
+          subst (λ (p : Option Addr × Option Addr). IsAt table side addresses (place + 1) (set c.loop-place.images place p.0) p.1 uses)
+          (sym c.image-planned.ensures.value)
+          (at_step table side addresses place c.loop-place.images c.loop-place.given uses zero (c.keeps_apart.ensures.ranges (other side)) e within
+          long bound (c.loop-place.invariant.plan room uses e));
       count = omega (arith, c.loop-place.invariant.count, step, counted c.image-planned.result.fresh _ c.image-planned.ensures.fresh);
-      seen_addresses = subst (λ (earlier : List Addr). AreFirsts (needing table side) earlier c.image-planned.new.seen_addresses) (sym (take_more addresses place zero within)) c.image-planned.ensures.seen_addresses;
+      seen_addresses = subst (λ (earlier : List Addr). AreFirsts (needing table side) earlier c.image-planned.new.seen_addresses)
+          (sym (take_more addresses place zero within)) c.image-planned.ensures.seen_addresses;
     }
 
 pub returns-clause-images : goal.returns-clause-images
@@ -57,4 +66,5 @@ returns-clause-images c = λ room uses e.
     let long : length c.loop-place.images ≡ length addresses = omega arith in
     let done : c.loop-place.place ≡ length addresses = omega arith in
     let P : ℕ → Type 0 = λ place. IsAt c.args.self.now c.args.side addresses place c.loop-place.images c.loop-place.given uses in
-    at_end c.args.self.now c.args.side addresses c.loop-place.images c.loop-place.given uses e long (subst P done (c.loop-place.invariant.plan room uses e))
+    at_end c.args.self.now c.args.side addresses c.loop-place.images c.loop-place.given uses e long
+    (subst P done (c.loop-place.invariant.plan room uses e))

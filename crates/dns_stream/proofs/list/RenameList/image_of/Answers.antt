@@ -3,7 +3,8 @@ use Rattle.dns_stream.proofs.list.RenameList.image_of.Goals as goal
 
 pub returns-in-Ok : goal.returns-in-Ok
 returns-in-Ok c =
-    rw (← c.self.view_is) (found _ _ c.self.invariant.2 _ c.in-Ok.place (rw c.deref.ensures.value at c.in-Ok.ensures.found) c.index.result.now c.index.ensures)
+    rw (← c.self.view_is) (found _ _ c.self.invariant.2 _ c.in-Ok.place (rw c.deref.ensures.value at c.in-Ok.ensures.found) c.index.result.now
+    c.index.ensures)
 
 pub returns-in-Err : goal.returns-in-Err
 returns-in-Err c =

@@ -10,7 +10,9 @@ loop-at-init c =
     let buckets = c.args.self.now.buckets in
     let same : inside ≡ buckets = ap (λ (one : Chained). one.buckets) c.self.view_is in
     let long : length inside ≡ length buckets = ap length same in
-    let read : c.index.result.now ≡ slice_index buckets c.args.place = get_or_read inside c.args.place c.index.result.now (omega (arith, c.requires.place)) c.index.ensures 0 ∙ ap (λ all. slice_index all c.args.place) same in
+    let read : c.index.result.now ≡ slice_index buckets c.args.place =
+    get_or_read inside c.args.place c.index.result.now (omega (arith, c.requires.place)) c.index.ensures 0
+    ∙ ap (λ all. slice_index all c.args.place) same in
     let P : ℕ → Type 0 = λ bucket. IsLast bucket buckets (length buckets) c.last-at.result in
     step_start buckets c.args.place c.last-at.result c.requires.place (subst P read c.last-at.ensures)
 
@@ -37,7 +39,8 @@ before-at-requires-clause-there c =
 pub loop-at-preserved : goal.loop-at-preserved
 loop-at-preserved c =
     let P : Option ℕ → Type 0 = λ at. IsStep c.args.self.now.buckets c.args.place c.loop-at.next at in
-    step_on c.args.self.now.buckets c.args.place c.loop-at.next c.in-Some.one c.before-at.result (subst P c.in-Some.is c.loop-at.invariant) c.if-one-place.false c.before-at.ensures
+    step_on c.args.self.now.buckets c.args.place c.loop-at.next c.in-Some.one c.before-at.result (subst P c.in-Some.is c.loop-at.invariant)
+    c.if-one-place.false c.before-at.ensures
 
 pub returns : goal.returns
 returns c =

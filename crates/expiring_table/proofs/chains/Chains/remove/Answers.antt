@@ -22,14 +22,20 @@ invariant_of-self c =
     let S : Option ℕ → Type 0 = λ before. IsLast (slice_index buckets c.args.place) buckets c.args.place before in
     let earlier = subst S (sym read) (invariant.previous c.args.place within there) in
     let wide : length heads ≡ c.len.result = search rules in
-    let N : ℕ → Type 0 = λ number. (bucket : ℕ) → bucket < length heads → IsLast bucket (set buckets c.args.place number) (length (set buckets c.args.place number)) (slice_index_or heads bucket None) in
-    let L : ℕ → Type 0 = λ long. (bucket : ℕ) → bucket < length heads → IsLast bucket (set buckets c.args.place (length heads)) long (slice_index_or heads bucket None) in
-    let M : ℕ → Type 0 = λ number. (one : ℕ) → one < length (set buckets c.args.place number) → slice_index (set buckets c.args.place number) one < length heads → IsLast (slice_index (set buckets c.args.place number) one) (set buckets c.args.place number) one (slice_index_or (set previous c.in-Some.next c.index-before.result.now) one None) in
+    let N : ℕ → Type 0 = λ number. (bucket : ℕ) → bucket < length heads
+    → IsLast bucket (set buckets c.args.place number) (length (set buckets c.args.place number)) (slice_index_or heads bucket None) in
+    let L : ℕ → Type 0 = λ long. (bucket : ℕ) → bucket < length heads
+    → IsLast bucket (set buckets c.args.place (length heads)) long (slice_index_or heads bucket None) in
+    let M : ℕ → Type 0 = λ number. (one : ℕ) → one < length (set buckets c.args.place number) → slice_index (set buckets c.args.place number) one
+    < length heads → IsLast (slice_index (set buckets c.args.place number) one) (set buckets c.args.place number) one
+    (slice_index_or (set previous c.in-Some.next c.index-before.result.now) one None) in
     record {
       few = invariant.few;
       room = invariant.room;
       places = length-set previous c.in-Some.next c.index-before.result.now ∙ invariant.places ∙ sym (length-set buckets c.args.place c.len.result);
-      heads = subst N wide (subst L (sym (length-set buckets c.args.place (length heads))) (heads_inner heads buckets c.args.place c.in-Some.next within next invariant.heads));
+      heads = subst N wide (subst L (sym (length-set buckets c.args.place (length heads)))
+          (heads_inner heads buckets c.args.place c.in-Some.next within next invariant.heads));
       previous = subst M wide (λ one in' one_there.
-          befores_inner (length heads) previous buckets c.index-before.result.now c.args.place c.in-Some.next invariant.places within there next earlier invariant.previous one (omega (arith, in', length-set buckets c.args.place (length heads))) one_there);
+          befores_inner (length heads) previous buckets c.index-before.result.now c.args.place c.in-Some.next invariant.places within there next
+          earlier invariant.previous one (omega (arith, in', length-set buckets c.args.place (length heads))) one_there);
     }

@@ -7,7 +7,8 @@ use Rattle.expiring_table.proofs.store.Store.compact.Goals as goal
 pub loop-place-init : goal.loop-place-init
 loop-place-init g c =
     let same = filter_same _ is_some _ (λ cell kept after called. search rules) _ _ c.retain.ensures.filtered in record {
-      listed = listed_none c.args.seed c.args.self.now _ c.requires refl same c.retain.ensures.capacity c.clear.ensures.items c.clear.ensures.capacity c.clear-2.ensures c.clear-3.ensures refl;
+      listed = listed_none c.args.seed c.args.self.now _ c.requires refl same c.retain.ensures.capacity c.clear.ensures.items c.clear.ensures.capacity
+          c.clear-2.ensures c.clear-3.ensures refl;
       most = refl;
       cells = refl;
     }
@@ -15,7 +16,8 @@ loop-place-init g c =
 pub returns-clause-table : goal.returns-clause-table
 returns-clause-table g c =
     let same = filter_same _ is_some _ (λ cell kept after called. search rules) _ _ c.retain.ensures.filtered in
-    ap (λ rows. record { most = c.loop-place.self.most; rows = rows }) (ap (λ v. rows_in v.items) c.loop-place.invariant.cells ∙ ap rows_in same ∙ rows_full c.args.self.now.cells.items)
+    ap (λ rows. record { most = c.loop-place.self.most; rows = rows })
+    (ap (λ v. rows_in v.items) c.loop-place.invariant.cells ∙ ap rows_in same ∙ rows_full c.args.self.now.cells.items)
     ∙ ap (λ most. record { most = most; rows = rows_in c.args.self.now.cells.items }) c.loop-place.invariant.most
 
 pub returns-clause-room : goal.returns-clause-room

@@ -7,4 +7,5 @@ pub returns-then-is_cell_of : goal.returns-then-is_cell_of
 returns-then-is_cell_of g c =
     let cells = c.args.self.now.cells.items in
     let within : c.args.near < length cells = omega (arith, c.if-near-len.true, c.len.ensures) in
-    walk_found c.args.key cells c.args.near within c.index.result.now (sym (get_or_read cells c.args.near c.index.result.now within c.index.ensures None)) (sym c.is_cell_of.ensures ∙ c.if-is_cell_of.true)
+    walk_found c.args.key cells c.args.near within c.index.result.now
+    (sym (get_or_read cells c.args.near c.index.result.now within c.index.ensures None)) (sym c.is_cell_of.ensures ∙ c.if-is_cell_of.true)

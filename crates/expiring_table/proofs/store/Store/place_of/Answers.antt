@@ -15,8 +15,10 @@ pub returns-then-is_cell_of : goal.returns-then-is_cell_of
 returns-then-is_cell_of g c =
     let cells = c.args.self.now.cells.items in
     let P : Option ℕ → Type 0 = λ at. IsWalk c.args.key cells c.args.self.now.chains at in
-    let within = met_within c.args.key cells c.args.self.now.chains c.in-Some.place c.requires.indexed.links (subst P c.in-Some.is c.loop-at.invariant) in
-    walk_found c.args.key cells c.in-Some.place within c.index.result.now (sym (get_or_read cells c.in-Some.place c.index.result.now within c.index.ensures None)) (sym c.is_cell_of.ensures ∙ c.if-is_cell_of.true)
+    let within = met_within c.args.key cells c.args.self.now.chains c.in-Some.place c.requires.indexed.links
+    (subst P c.in-Some.is c.loop-at.invariant) in
+    walk_found c.args.key cells c.in-Some.place within c.index.result.now
+    (sym (get_or_read cells c.in-Some.place c.index.result.now within c.index.ensures None)) (sym c.is_cell_of.ensures ∙ c.if-is_cell_of.true)
 
 pub loop-at-preserved : goal.loop-at-preserved
 loop-at-preserved g c =
@@ -25,7 +27,8 @@ loop-at-preserved g c =
     let walk = subst P c.in-Some.is c.loop-at.invariant in
     let within = met_within c.args.key cells c.args.self.now.chains c.in-Some.place c.requires.indexed.links walk in
     let read = get_or_read cells c.in-Some.place c.index.result.now within c.index.ensures None in
-    walk_on c.args.key cells c.args.self.now.chains c.in-Some.place c.before-at.result c.requires.indexed.hashed walk (ap (is_cell_of c.args.key) (sym read) ∙ sym c.is_cell_of.ensures ∙ c.if-is_cell_of.false) c.before-at.ensures
+    walk_on c.args.key cells c.args.self.now.chains c.in-Some.place c.before-at.result c.requires.indexed.hashed walk
+    (ap (is_cell_of c.args.key) (sym read) ∙ sym c.is_cell_of.ensures ∙ c.if-is_cell_of.false) c.before-at.ensures
 
 pub before-at-requires-clause-there : goal.before-at-requires-clause-there
 before-at-requires-clause-there g c =

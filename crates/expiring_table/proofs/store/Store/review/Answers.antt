@@ -10,7 +10,8 @@ use Rattle.expiring_table.proofs.store.Store.review.Goals as goal
 
 pub returns-in_err-row-clause-whole : goal.returns-in_err-row-clause-whole
 returns-in_err-row-clause-whole g c =
-    whole_dropped c.args.moment c.args.place c.args.self.now c.requires.open (λ row end at ends. absurd (none-some row (sym c.in_err-row.was ∙ c.row_at.ensures ∙ at)))
+    whole_dropped c.args.moment c.args.place c.args.self.now c.requires.open
+    (λ row end at ends. absurd (none-some row (sym c.in_err-row.was ∙ c.row_at.ensures ∙ at)))
 
 pub returns-in_err-end-clause-whole : goal.returns-in_err-end-clause-whole
 returns-in_err-end-clause-whole g c =
@@ -31,11 +32,16 @@ returns-then-end-now-clause-whole g c =
     let within = row_within cells c.args.place c.in_ok-row.row at in
     let fewer = count_clear cells c.args.place c.in_ok-row.row at in
     let chains = c.remove.ensures in
-    let P : Chained → Type 0 = λ chained. IsIndexed (set cells c.args.place None) c.args.self.now.moments.items chained c.args.self.now.alarms.alarms in
+    let P : Chained → Type 0 = λ chained. IsIndexed (set cells c.args.place None) c.args.self.now.moments.items chained
+    c.args.self.now.alarms.alarms in
     record {
-      room = room_kept c.args.self.now _ open'.room refl (length-set cells c.args.place None) refl refl (ap (λ (one : Chained). one.width) chains) (ap (λ (one : Chained). one.room) chains) (omega arith) open'.room.alarmed;
-      indexed = subst P (sym chains) (drop_alarm (set cells c.args.place None) c.args.self.now.moments.items (without_place c.args.place c.args.self.now.chains) c.args.self.now.alarms.alarms c.args.moment c.args.place
-          (indexed_clear cells c.args.self.now.moments.items c.args.self.now.chains (alarm c.args.moment c.args.place ∷ c.args.self.now.alarms.alarms) c.args.place within open'.indexed)
+      room = room_kept c.args.self.now _ open'.room refl (length-set cells c.args.place None) refl refl (ap (λ (one : Chained). one.width) chains)
+          (ap (λ (one : Chained). one.room) chains) (omega arith) open'.room.alarmed;
+      indexed = subst P (sym chains)
+          (drop_alarm (set cells c.args.place None) c.args.self.now.moments.items (without_place c.args.place c.args.self.now.chains)
+          c.args.self.now.alarms.alarms c.args.moment c.args.place
+          (indexed_clear cells c.args.self.now.moments.items c.args.self.now.chains (alarm c.args.moment c.args.place ∷ c.args.self.now.alarms.alarms)
+          c.args.place within open'.indexed)
           (λ row end gone ends. absurd (none-some row (sym (row_cleared cells c.args.place within) ∙ gone))));
       once = once_clear cells c.args.place within open'.once;
       counted = omega (arith, fewer, open'.counted);
@@ -45,7 +51,8 @@ returns-then-end-now-clause-whole g c =
 pub remove-requires-clause-there : goal.remove-requires-clause-there
 remove-requires-clause-there g c =
     let at : row_at c.args.self.now.cells.items c.args.place ≡ Some c.in_ok-row.row = sym c.row_at.ensures ∙ c.in_ok-row.was in
-    row_there c.args.self.now.cells.items c.args.self.now.chains c.args.place c.in_ok-row.row (omega (arith, c.requires.open.room.width, c.requires.open.room.some)) c.requires.open.indexed.hashed at
+    row_there c.args.self.now.cells.items c.args.self.now.chains c.args.place c.in_ok-row.row
+    (omega (arith, c.requires.open.room.width, c.requires.open.room.some)) c.requires.open.indexed.hashed at
 
 pub returns-then-end-now-clause-some : goal.returns-then-end-now-clause-some
 returns-then-end-now-clause-some g c =
@@ -75,12 +82,15 @@ returns-clause-whole g c =
     let open' = c.requires.open in
     let at : row_at cells c.args.place ≡ Some c.in_ok-row.row = sym c.row_at.ensures ∙ c.in_ok-row.was in
     let within = row_within cells c.args.place c.in_ok-row.row at in record {
-      room = room_kept c.args.self.now _ open'.room refl refl refl refl refl refl c.push.ensures.room (omega (arith, c.push.ensures.len, open'.spare));
-      indexed = set_alarm cells moments c.args.self.now.chains c.args.self.now.alarms.alarms c.push.new.self.alarms c.args.moment c.args.place c.in_ok-row.row c.in_ok-end.end open'.indexed within at c.in_ok-end.was c.push.ensures.alarms;
+      room = room_kept c.args.self.now _ open'.room refl refl refl refl refl refl c.push.ensures.room
+          (omega (arith, c.push.ensures.len, open'.spare));
+      indexed = set_alarm cells moments c.args.self.now.chains c.args.self.now.alarms.alarms c.push.new.self.alarms c.args.moment c.args.place
+          c.in_ok-row.row c.in_ok-end.end open'.indexed within at c.in_ok-end.was c.push.ensures.alarms;
       once = open'.once;
       counted = open'.counted;
       few = open'.few;
     }
 
 pub returns-clause-due : goal.returns-clause-due
-returns-clause-due g c = due_same c.args.now c.in_ok-end.end c.args.place c.args.self.now.alarms.alarms c.push.new.self.alarms c.push.ensures.alarms c.if-end-now.false
+returns-clause-due g c = due_same c.args.now c.in_ok-end.end c.args.place c.args.self.now.alarms.alarms c.push.new.self.alarms c.push.ensures.alarms
+    c.if-end-now.false

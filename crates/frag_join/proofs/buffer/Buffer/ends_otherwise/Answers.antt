@@ -11,4 +11,5 @@ returns-else-end-self c =
       | then-self-2 w ↦ ap (λ e. is_other c.end-end.result (cond e (Some b.reach) None)) w.if-self-2.true ∙ sym w.value-is ∙ c.if-end-self.false
       | else-self-2 w ↦ ap (λ e. is_other c.end-end.result (cond e (Some b.reach) None)) w.if-self-2.false
     ] in
-    ends-plain b c.args.fragment.now c.end-end.result c.more.result c.if-more.false c.more.ensures c.end-end.ensures known ∙ ap (λ k. ends_otherwise k c.args.fragment.now) c.self.view_is
+    ends-plain b c.args.fragment.now c.end-end.result c.more.result c.if-more.false c.more.ensures c.end-end.ensures known
+    ∙ ap (λ k. ends_otherwise k c.args.fragment.now) c.self.view_is

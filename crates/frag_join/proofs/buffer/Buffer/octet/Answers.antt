@@ -7,7 +7,8 @@ use Rattle.frag_join.proofs.buffer.Buffer.octet.Goals.{else-place-self-via-then-
 pub returns-then-index : goal.returns-then-index
 returns-then-index c =
     let b = c.self.inside in
-    rw (← c.self.view_is) (octet-held b c.args.place c.index-then-index.result.now c.index.result.now c.self.invariant c.if-place-self.true c.if-index.true c.index.ensures c.index-then-index.ensures)
+    rw (← c.self.view_is) (octet-held b c.args.place c.index-then-index.result.now c.index.result.now c.self.invariant c.if-place-self.true
+    c.if-index.true c.index.ensures c.index-then-index.ensures)
 
 pub returns-else-place-self : goal.returns-else-place-self
 returns-else-place-self c =
@@ -15,6 +16,7 @@ returns-else-place-self c =
     let P : Coverage → Type 0 = λ k. None ≡ octet_of k c.args.place in
     subst P c.self.view_is
     (elim c.else-place-self.branch [
-      | else-place-self-via-then-place-self+else-index w ↦ octet-free b c.args.place w.index.result.now c.self.invariant w.if-place-self.true w.if-index.false w.index.ensures
+      | else-place-self-via-then-place-self+else-index w ↦ octet-free b c.args.place w.index.result.now c.self.invariant w.if-place-self.true
+          w.if-index.false w.index.ensures
       | else-place-self-via-else-place-self w ↦ sym (octet-past b c.args.place w.if-place-self.false)
     ])

@@ -7,4 +7,5 @@ pub returns : goal.returns
 returns c =
     let b = c.self.inside in
     let P : Coverage → Type 0 = λ k. is_complete k ≡ true in
-    ap (take (20 + b.reach)) c.deref.ensures.value ∙ spelled-front b c.self.invariant (subst P (sym c.self.view_is) c.requires) ∙ ap spelled c.self.view_is
+    ap (take (20 + b.reach)) c.deref.ensures.value ∙ spelled-front b c.self.invariant (subst P (sym c.self.view_is) c.requires)
+    ∙ ap spelled c.self.view_is

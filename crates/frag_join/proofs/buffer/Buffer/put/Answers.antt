@@ -10,7 +10,14 @@ overflow_add-self c =
     let b = c.self.inside in
     let P : Coverage → Type 0 = λ k. is_bad k c.args.fragment.now ≡ false in
     let good : IsGood b c.args.fragment.now = good-fragment b c.args.fragment.now (subst P (sym c.self.view_is) c.requires) in
-    omega (arith, good.fits, c.fresh.ensures.few, c.self.invariant.fits, c.self.invariant.counted, count-le (λ place. is_some (octet_inside b place)) b.reach)
+    omega (
+      arith,
+      good.fits,
+      c.fresh.ensures.few,
+      c.self.invariant.fits,
+      c.self.invariant.counted,
+      count-le (λ place. is_some (octet_inside b place)) b.reach,
+    )
 
 -- it isn't bad for what the buffer holds
 good : (c : goal.After-self-4-1) → IsGood c.self.inside c.args.fragment.now
@@ -19,21 +26,33 @@ good c =
     good-fragment c.self.inside c.args.fragment.now (subst P (sym c.self.view_is) c.requires)
 
 put : (c : goal.After-self-4-1)
-    → IsPut c.self.inside c.args.fragment.now (record { octets = c.put_header-self-inside.new.octets; held = c.mark.new.held; reach = c.max-self-inside.result; count = c.self.inside.count + c.fresh.result; ended = c.is_either-self-inside.result; headed = c.put_header-self-inside.result })
+    → IsPut c.self.inside c.args.fragment.now
+    (record {
+      octets = c.put_header-self-inside.new.octets;
+      held = c.mark.new.held;
+      reach = c.max-self-inside.result;
+      count = c.self.inside.count
+          + c.fresh.result;
+      ended = c.is_either-self-inside.result;
+      headed = c.put_header-self-inside.result;
+    })
 put c =
     let b = c.self.inside in
     let f = c.args.fragment.now in
     let fits : end_of f ≤ 65515 = (good c).fits in
-    let octets = octets-put b.octets.items c.write.new.target.items c.payload.result.now c.start-start.result f c.start-start.ensures.place c.payload.ensures.octets c.write.ensures in
+    let octets = octets-put b.octets.items c.write.new.target.items c.payload.result.now c.start-start.result f c.start-start.ensures.place
+    c.payload.ensures.octets c.write.ensures in
     let F : Coverage → Type 0 = λ k. c.fresh.result ≡ count_below (λ place. covers f place && not (is_some (octet_of k place))) (end_of f) in
     record {
       octets = c.put_header-self-inside.ensures.rest ∙ ap (drop 20) octets;
       count = c.put_header-self-inside.ensures.count ∙ count-put b.octets.items c.write.new.target.items f c.self.invariant.octets fits octets;
-      held = units-put b.held.items c.mark.new.held.items c.start-start.result c.end-end.result f c.start-start.ensures.place c.end-end.ensures c.mark.ensures;
+      held = units-put b.held.items c.mark.new.held.items c.start-start.result c.end-end.result f c.start-start.ensures.place c.end-end.ensures
+          c.mark.ensures;
       reach = c.max-self-inside.ensures ∙ ap (max b.reach) c.end-end.ensures;
       fresh = ap (λ n. b.count + n) (subst F (sym c.self.view_is) c.fresh.ensures.value);
       ended = c.is_either-self-inside.ensures ∙ ap (λ m. b.ended || not m) c.more.ensures;
-      header = c.put_header-self-inside.ensures.header ∙ ap (λ h. option_or h (header_told f)) (header-kept b.octets.items c.write.new.target.items b.headed f c.self.invariant.octets fits octets);
+      header = c.put_header-self-inside.ensures.header ∙ ap (λ h. option_or h (header_told f))
+          (header-kept b.octets.items c.write.new.target.items b.headed f c.self.invariant.octets fits octets);
       first = c.put_header-self-inside.ensures.first;
       still = c.put_header-self-inside.ensures.still;
     }
@@ -42,4 +61,5 @@ pub invariant_of-self : goal.invariant_of-self
 invariant_of-self c = whole-new c.self.inside c.args.fragment.now _ c.self.invariant (good c) c.start-start.ensures.even (put c)
 
 pub returns : goal.returns
-returns c = known-new c.self.inside c.args.fragment.now _ c.self.invariant (good c) c.start-start.ensures.even (put c) ∙ ap (λ k. added k c.args.fragment.now) c.self.view_is
+returns c = known-new c.self.inside c.args.fragment.now _ c.self.invariant (good c) c.start-start.ensures.even (put c)
+    ∙ ap (λ k. added k c.args.fragment.now) c.self.view_is

@@ -10,11 +10,13 @@ returns-in-Some c =
     let parts = c.drop_ended.new.parts.items in
     let e = event_of c.args.event.now in
     let is : fragment_step by_known parts e ≡ step by_known c.args.self.now e =
-    step-fragment c.args.self.now c.give_back.new.self c.self.inside.parts.items parts e c.give_back.ensures (ap (λ (s : State Coverage). s.parts) c.self.view_is) c.drop_ended.ensures.parts (sym c.in-Some.ensures.is) in
+    step-fragment c.args.self.now c.give_back.new.self c.self.inside.parts.items parts e c.give_back.ensures
+    (ap (λ (s : State Coverage). s.parts) c.self.view_is) c.drop_ended.ensures.parts (sym c.in-Some.ensures.is) in
     record {
       answer = c.take_fragment.ensures.answer ∙ ap (λ (s : Step Coverage). s.answer) is;
       state = c.take_fragment.ensures.state ∙ ap (λ (s : Step Coverage). s.state) is;
-      joined = λ joined. subst (λ (s : State Coverage). IsSome s.joined) (sym c.take_fragment.ensures.state) (joined-there by_known parts e (sym c.take_fragment.ensures.answer ∙ joined));
+      joined = λ joined. subst (λ (s : State Coverage). IsSome s.joined) (sym c.take_fragment.ensures.state)
+          (joined-there by_known parts e (sym c.take_fragment.ensures.answer ∙ joined));
     }
 
 pub returns-in-None : goal.returns-in-None
@@ -23,7 +25,8 @@ returns-in-None c =
     let e = event_of c.args.event.now in
     let none : c.self.inside.joined ≡ None = ap (λ (s : State Coverage). s.joined) (c.self.view_is ∙ c.give_back.ensures) in
     let is : record { answer = Plain; state = record { parts = parts; joined = None } } ≡ step by_known c.args.self.now e =
-    step-plain c.args.self.now c.give_back.new.self c.self.inside.parts.items parts e c.give_back.ensures (ap (λ (s : State Coverage). s.parts) c.self.view_is) c.drop_ended.ensures.parts (sym c.in-None.ensures.is) in
+    step-plain c.args.self.now c.give_back.new.self c.self.inside.parts.items parts e c.give_back.ensures
+    (ap (λ (s : State Coverage). s.parts) c.self.view_is) c.drop_ended.ensures.parts (sym c.in-None.ensures.is) in
     record {
       answer = ap (λ (s : Step Coverage). s.answer) is;
       state = ap (λ j. record { parts = parts; joined = j }) none ∙ ap (λ (s : Step Coverage). s.state) is;

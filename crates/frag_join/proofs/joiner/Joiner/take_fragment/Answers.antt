@@ -17,7 +17,8 @@ use Rattle.frag_join.proofs.joiner.Joiner.take_fragment.Goals as goal
 
 pub returns-then-has_options : goal.returns-then-has_options
 returns-then-has_options c =
-    let step = step-options by_known c.args.self.now.parts (event_of c.args.event.now) (ap has_options (sym c.requires.octets) ∙ sym c.has_options.ensures ∙ c.if-has_options.true) in
+    let step = step-options by_known c.args.self.now.parts (event_of c.args.event.now)
+    (ap has_options (sym c.requires.octets) ∙ sym c.has_options.ensures ∙ c.if-has_options.true) in
     record {
       answer = ap (λ (s : Step Coverage). s.answer) (sym step);
       state = ap (λ j. record { parts = c.args.self.now.parts; joined = j }) c.requires.joined ∙ ap (λ (s : Step Coverage). s.state) (sym step);
@@ -64,11 +65,13 @@ returns-in-None-2 c =
 
 pub is_bad-requires : goal.is_bad-requires
 is_bad-requires c =
-    subst (λ (all : List (Part Coverage)). IfSome c.place_of-place.result (λ n. n < length all)) (c.deref.ensures.value ∙ ap (λ (s : State Coverage). s.parts) c.self.view_is) c.place_of-place.ensures.within
+    subst (λ (all : List (Part Coverage)). IfSome c.place_of-place.result (λ n. n < length all))
+    (c.deref.ensures.value ∙ ap (λ (s : State Coverage). s.parts) c.self.view_is) c.place_of-place.ensures.within
 
 pub put-requires : goal.put-requires
 put-requires c = record {
-  within = subst (λ (all : List (Part Coverage)). c.in-Some.place < length all) (c.deref.ensures.value ∙ ap (λ (s : State Coverage). s.parts) c.self.view_is) c.in-Some.ensures.within;
+  within = subst (λ (all : List (Part Coverage)). c.in-Some.place < length all)
+      (c.deref.ensures.value ∙ ap (λ (s : State Coverage). s.parts) c.self.view_is) c.in-Some.ensures.within;
   joined = c.requires.joined;
   fragment = c.of-fragment.ensures ∙ ap fragment_of c.requires.octets;
   good = ap (λ p. is_bad (known_at c.args.self.now.parts p) c.of-fragment.result) (sym c.in-Some.is) ∙ sym c.is_bad.ensures ∙ c.if-is_bad.false;
@@ -89,9 +92,11 @@ there : (c : goal.After-put) → slice_get c.args.self.now.parts c.in-Some.place
 unfolding part
 there c =
     let new = new_part c.name_of-name.result c.args.event.now.moment in
-    slice_get-get_or c.args.self.now.parts c.in-Some.place new (position-Some (is_of (name_in (event_of c.args.event.now))) c.args.self.now.parts c.in-Some.place new (found c)).0
+    slice_get-get_or c.args.self.now.parts c.in-Some.place new
+    (position-Some (is_of (name_in (event_of c.args.event.now))) c.args.self.now.parts c.in-Some.place new (found c)).0
 
-step : (c : goal.After-put) → put_at c.args.self.now.parts c.in-Some.place (event_of c.args.event.now) (part c) ≡ fragment_step by_known c.args.self.now.parts (event_of c.args.event.now)
+step : (c : goal.After-put) → put_at c.args.self.now.parts c.in-Some.place (event_of c.args.event.now) (part c)
+    ≡ fragment_step by_known c.args.self.now.parts (event_of c.args.event.now)
 step c =
     let e = event_of c.args.event.now in
     let parts = c.args.self.now.parts in
@@ -118,31 +123,43 @@ put-requires-in-None c =
     let f = c.of-fragment.result in
     let good : is_bad nothing f ≡ false = ap (λ p. is_bad (known_at parts p) f) (sym c.in-None.is) ∙ sym c.is_bad.ensures ∙ c.if-is_bad.false in
     record {
-      within = omega (arith, c.begin-place.ensures.place, ap (λ (s : State Coverage). length s.parts) c.begin-place.ensures.state, length_push parts new);
+      within = omega (
+        arith,
+        c.begin-place.ensures.place,
+        ap (λ (s : State Coverage). length s.parts) c.begin-place.ensures.state,
+        length_push parts new,
+      );
       joined = ap (λ (s : State Coverage). s.joined) c.begin-place.ensures.state ∙ c.requires.joined;
       fragment = c.of-fragment.ensures ∙ ap fragment_of c.requires.octets;
-      good = good-last parts c.begin-place.new.self.parts c.begin-place.result new f (ap (λ (s : State Coverage). s.parts) c.begin-place.ensures.state) c.begin-place.ensures.place good;
+      good = good-last parts c.begin-place.new.self.parts c.begin-place.result new f
+          (ap (λ (s : State Coverage). s.parts) c.begin-place.ensures.state) c.begin-place.ensures.place good;
     }
 
 named : (c : goal.After-put-in-None) → c.name_of-name.result ≡ name_in (event_of c.args.event.now)
 named c = c.name_of-name.ensures ∙ ap (name_of c.args.event.now.side) c.requires.octets
 
-begun : (c : goal.After-put-in-None) → c.begin-place.new.self.parts ≡ c.args.self.now.parts ++ part_or_new by_known (event_of c.args.event.now) None ∷ []
-begun c = ap (λ (s : State Coverage). s.parts) c.begin-place.ensures.state ∙ ap (λ n. c.args.self.now.parts ++ new_part n c.args.event.now.moment ∷ []) (named c)
+begun : (c : goal.After-put-in-None) → c.begin-place.new.self.parts ≡ c.args.self.now.parts ++ part_or_new by_known (event_of c.args.event.now) None
+    ∷ []
+begun c = ap (λ (s : State Coverage). s.parts) c.begin-place.ensures.state
+    ∙ ap (λ n. c.args.self.now.parts ++ new_part n c.args.event.now.moment ∷ []) (named c)
 
-last : (c : goal.After-put-in-None) → slice_get c.begin-place.new.self.parts c.begin-place.result ≡ Some (part_or_new by_known (event_of c.args.event.now) None)
+last : (c : goal.After-put-in-None) → slice_get c.begin-place.new.self.parts c.begin-place.result
+    ≡ Some (part_or_new by_known (event_of c.args.event.now) None)
 last c =
     let new = part_or_new by_known (event_of c.args.event.now) None in
-    ap (λ parts. slice_get parts c.begin-place.result) (begun c) ∙ ap (slice_get (c.args.self.now.parts ++ new ∷ [])) c.begin-place.ensures.place ∙ get-last c.args.self.now.parts new
+    ap (λ parts. slice_get parts c.begin-place.result) (begun c) ∙ ap (slice_get (c.args.self.now.parts ++ new ∷ [])) c.begin-place.ensures.place
+    ∙ get-last c.args.self.now.parts new
 
-first : (c : goal.After-put-in-None) → put_at c.begin-place.new.self.parts c.begin-place.result (event_of c.args.event.now) (part_or_new by_known (event_of c.args.event.now) None) ≡ fragment_step by_known c.args.self.now.parts (event_of c.args.event.now)
+first : (c : goal.After-put-in-None) → put_at c.begin-place.new.self.parts c.begin-place.result (event_of c.args.event.now)
+    (part_or_new by_known (event_of c.args.event.now) None) ≡ fragment_step by_known c.args.self.now.parts (event_of c.args.event.now)
 first c =
     let e = event_of c.args.event.now in
     let parts = c.args.self.now.parts in
     let new = part_or_new by_known e None in
     let options : has_options (octets_of e) ≡ false = ap has_options (sym c.requires.octets) ∙ sym c.has_options.ensures ∙ c.if-has_options.false in
     let none : place_of (name_in e) parts ≡ None =
-    ap (λ n. place_of n parts) (sym (named c)) ∙ ap (place_of c.name_of-name.result) (sym (c.deref.ensures.value ∙ ap (λ (s : State Coverage). s.parts) c.self.view_is))
+    ap (λ n. place_of n parts) (sym (named c)) ∙ ap (place_of c.name_of-name.result)
+    (sym (c.deref.ensures.value ∙ ap (λ (s : State Coverage). s.parts) c.self.view_is))
     ∙ sym c.place_of-place.ensures.place ∙ c.in-None.is in
     let good : is_bad nothing (fragment_in e) ≡ false =
     ap (λ p. is_bad (known_at parts p) (fragment_in e)) (sym c.in-None.is)

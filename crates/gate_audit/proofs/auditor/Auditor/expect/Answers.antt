@@ -9,9 +9,9 @@ use Rattle.audit_sessions.specs.Heard.{HeardSession, heard_rules, session_in}
 use Rattle.audit_sessions.proofs.HeardLaws.{heard_lists}
 use Rattle.gate_audit.specs.Auditing.{Auditing}
 use Rattle.audit_sessions.specs.Gives.{heard_gives}
-use Rattle.event_engine.specs.Given.{IsGiven}
-use Rattle.event_engine.specs.Knowing.{world_in}
-use Rattle.event_engine.specs.Lost.{IsLost, early_tests}
+use Rattle.event_state.specs.Given.{IsGiven}
+use Rattle.event_state.specs.Knowing.{world_in}
+use Rattle.event_state.specs.Lost.{IsLost, early_tests}
 use Rattle.gate_base.proofs.Options.{on_err}
 use Rattle.gate_audit.proofs.LostEvents.{wanted}
 use Rattle.gate_audit.proofs.ExpectedEvents.{expected}
@@ -40,7 +40,9 @@ invariant_of-self-2 c = λ lost.
     let kept : c.self.inside.lost ≡ false = ap (λ (a : Auditing). a.lost) c.self.view_is ∙ c.requires.kept in
     let state : world_in c.self.inside.state ≡ w = ap (λ (a : Auditing). a.world) c.self.view_is in
     let live : world_in c.expire.new.self ≡ at_moment w e.moment = c.expire.ensures.live ∙ ap (λ (x : World HeardSession). at_moment x e.moment) state in
-    let s = expected w e c.in_ok-taken.taken (world_in c.take_frame.new.self) c.take_frame.new.outbox (subst (λ (x : World HeardSession). IsGiven heard_rules heard_gives (first_that_holds (tests heard_rules x e)) (kind_of (datagram_in e)) x e.side (datagram_in e) c.in_ok-taken.taken (world_in c.take_frame.new.self) c.take_frame.new.outbox) live c.in_ok-taken.ensures) in
+    let s = expected w e c.in_ok-taken.taken (world_in c.take_frame.new.self) c.take_frame.new.outbox
+    (subst (λ (x : World HeardSession). IsGiven heard_rules heard_gives (first_that_holds (tests heard_rules x e)) (kind_of (datagram_in e)) x
+    e.side (datagram_in e) c.in_ok-taken.taken (world_in c.take_frame.new.self) c.take_frame.new.outbox) live c.in_ok-taken.ensures) in
     subst (λ (x : World HeardSession). KeepsListed heard_rules x) (sym s.kept_is) (next_lists heard_rules heard_lists w e (subst (λ (x : World HeardSession). KeepsListed heard_rules x) state (c.self.invariant kept)))
 
 pub returns-clause-verdict : goal.returns-clause-verdict
@@ -49,7 +51,9 @@ returns-clause-verdict c =
     let w = c.args.self.now.world in
     let state : world_in c.self.inside.state ≡ w = ap (λ (a : Auditing). a.world) c.self.view_is in
     let live : world_in c.expire.new.self ≡ at_moment w e.moment = c.expire.ensures.live ∙ ap (λ (x : World HeardSession). at_moment x e.moment) state in
-    let s = expected w e c.in_ok-taken.taken (world_in c.take_frame.new.self) c.take_frame.new.outbox (subst (λ (x : World HeardSession). IsGiven heard_rules heard_gives (first_that_holds (tests heard_rules x e)) (kind_of (datagram_in e)) x e.side (datagram_in e) c.in_ok-taken.taken (world_in c.take_frame.new.self) c.take_frame.new.outbox) live c.in_ok-taken.ensures) in
+    let s = expected w e c.in_ok-taken.taken (world_in c.take_frame.new.self) c.take_frame.new.outbox
+    (subst (λ (x : World HeardSession). IsGiven heard_rules heard_gives (first_that_holds (tests heard_rules x e)) (kind_of (datagram_in e)) x
+    e.side (datagram_in e) c.in_ok-taken.taken (world_in c.take_frame.new.self) c.take_frame.new.outbox) live c.in_ok-taken.ensures) in
     c.want-verdict.ensures.verdict ∙ s.verdict_is
 
 pub returns-clause-next : goal.returns-clause-next
@@ -58,7 +62,9 @@ returns-clause-next c =
     let w = c.args.self.now.world in
     let state : world_in c.self.inside.state ≡ w = ap (λ (a : Auditing). a.world) c.self.view_is in
     let live : world_in c.expire.new.self ≡ at_moment w e.moment = c.expire.ensures.live ∙ ap (λ (x : World HeardSession). at_moment x e.moment) state in
-    let s = expected w e c.in_ok-taken.taken (world_in c.take_frame.new.self) c.take_frame.new.outbox (subst (λ (x : World HeardSession). IsGiven heard_rules heard_gives (first_that_holds (tests heard_rules x e)) (kind_of (datagram_in e)) x e.side (datagram_in e) c.in_ok-taken.taken (world_in c.take_frame.new.self) c.take_frame.new.outbox) live c.in_ok-taken.ensures) in
+    let s = expected w e c.in_ok-taken.taken (world_in c.take_frame.new.self) c.take_frame.new.outbox
+    (subst (λ (x : World HeardSession). IsGiven heard_rules heard_gives (first_that_holds (tests heard_rules x e)) (kind_of (datagram_in e)) x
+    e.side (datagram_in e) c.in_ok-taken.taken (world_in c.take_frame.new.self) c.take_frame.new.outbox) live c.in_ok-taken.ensures) in
     let expecting : c.want-verdict.new.expected ≡ _ = c.want-verdict.ensures.wanted ∙ ap (λ (x : Wanted). let y : Expecting = record { side = e.side; moment = e.moment; wanted = x; so_far = begun } in y) s.wanted_is in
     record {
       settings = ap (λ (a : Auditing). a.settings) c.self.view_is;

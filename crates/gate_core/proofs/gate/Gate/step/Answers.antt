@@ -9,8 +9,8 @@ use Rattle.gate_core.specs.Gates.{Gateway}
 use Rattle.gate_core.specs.Memory.{MayWant}
 use Rattle.gate_core.proofs.Laws.{kept_laws}
 use Rattle.gate_core.proofs.Stepping.{stepped, wanted, put_is}
-use Rattle.event_engine.specs.Given.{IsGiven, refusal_of, given_by}
-use Rattle.event_engine.specs.Knowing.{world_in}
+use Rattle.event_state.specs.Given.{IsGiven, refusal_of, given_by}
+use Rattle.event_state.specs.Knowing.{world_in}
 use Rattle.gate_sessions.specs.Gives.{kept_gives}
 use Rattle.gate_base.proofs.Options.{on_err}
 use Rattle.gate_core.proofs.gate.Gate.step.Goals as goal

@@ -10,8 +10,10 @@ returns-clause-ok c =
 
 pub returns-clause-octets : goal.returns-clause-octets
 returns-clause-octets c =
-    rw (← c.self.view_is) (discarded_next c.args.slot c.take.result c.self.inside.left c.take.new.buffer (omega (arith, c.take.ensures.count, c.take.auto.buffer)) (c.take.ensures.octets ∙ ap (take c.take.result) c.at_mut.ensures.value))
+    rw (← c.self.view_is) (discarded_next c.args.slot c.take.result c.self.inside.left c.take.new.buffer
+    (omega (arith, c.take.ensures.count, c.take.auto.buffer)) (c.take.ensures.octets ∙ ap (take c.take.result) c.at_mut.ensures.value))
 
 pub returns-clause-end : goal.returns-clause-end
 returns-clause-end c =
-    rw (← c.self.view_is) (λ none some. discarded_end c.args.slot c.self.inside.left (omega (arith, c.take.ensures.count, none, some, ap (λ (xs : List ℕ). length xs) c.at_mut.ensures.value)))
+    rw (← c.self.view_is) (λ none some. discarded_end c.args.slot c.self.inside.left
+    (omega (arith, c.take.ensures.count, none, some, ap (λ (xs : List ℕ). length xs) c.at_mut.ensures.value)))

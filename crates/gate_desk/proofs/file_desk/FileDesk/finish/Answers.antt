@@ -12,11 +12,14 @@ returns-in-None-clause-ok g c =
     let none = none_before c.self.inside.refused c.hand_out.new.refused c.hand_out.ensures.kept c.in-None.is in
     rw (← c.self.view_is) record {
       files = none_failed c.hand_out.result c.hand_out.new.refused c.hand_out.ensures.err c.in-None.is c.hand_out.ensures.files;
-      rest = files_alike _ _ c.hand_out.ensures.accesses c.hand_out.ensures.ahead c.hand_out.ensures.unread refl (none_failed c.hand_out.result c.hand_out.new.refused c.hand_out.ensures.err c.in-None.is c.hand_out.ensures.all) (c.in-None.is ∙ sym none) refl refl;
+      rest = files_alike _ _ c.hand_out.ensures.accesses c.hand_out.ensures.ahead c.hand_out.ensures.unread refl
+          (none_failed c.hand_out.result c.hand_out.new.refused c.hand_out.ensures.err c.in-None.is c.hand_out.ensures.all) (c.in-None.is ∙ sym none)
+          refl refl;
     }
 
 pub returns-in-None-clause-none : goal.returns-in-None-clause-none
-returns-in-None-clause-none g c = rw (← c.self.view_is) (none_before c.self.inside.refused c.hand_out.new.refused c.hand_out.ensures.kept c.in-None.is)
+returns-in-None-clause-none g c =
+    rw (← c.self.view_is) (none_before c.self.inside.refused c.hand_out.new.refused c.hand_out.ensures.kept c.in-None.is)
 
 pub returns-in-None-clause-named : goal.returns-in-None-clause-named
 returns-in-None-clause-named g c =
@@ -24,7 +27,9 @@ returns-in-None-clause-named g c =
     rw (← c.self.view_is, none) tt
 
 pub returns-in-Some-clause-err : goal.returns-in-Some-clause-err
-returns-in-Some-clause-err g c = rw (← c.self.view_is) (files_alike _ _ c.nowhere.ensures.accesses c.nowhere.ensures.ahead c.nowhere.ensures.unread (c.nowhere.ensures.got g.R.File.Write.contents) c.nowhere.ensures.waiting refl c.raise.ensures refl)
+returns-in-Some-clause-err g c =
+    rw (← c.self.view_is) (files_alike _ _ c.nowhere.ensures.accesses c.nowhere.ensures.ahead c.nowhere.ensures.unread
+    (c.nowhere.ensures.got g.R.File.Write.contents) c.nowhere.ensures.waiting refl c.raise.ensures refl)
 
 pub returns-in-Some-clause-cause : goal.returns-in-Some-clause-cause
 returns-in-Some-clause-cause g c = rw (← c.self.view_is) (rose_one c.in-Some.slot c.self.inside.faults c.raise.new.self c.raise.ensures)

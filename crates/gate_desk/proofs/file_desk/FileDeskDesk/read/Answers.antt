@@ -12,7 +12,8 @@ pub returns-in-Ok-clause-end : goal.returns-in-Ok-clause-end
 returns-in-Ok-clause-end g c = λ none some. untold_end c.args.slot c.args.self.now.faults c.args.self.now.start_faults
 
 pub returns-in-Err-clause-err : goal.returns-in-Err-clause-err
-returns-in-Err-clause-err g c = rw (← c.self.view_is) (untold_read_fails c.args.slot c.self.inside.faults c.raise.new.self c.self.inside.start_faults c.raise.ensures)
+returns-in-Err-clause-err g c =
+    rw (← c.self.view_is) (untold_read_fails c.args.slot c.self.inside.faults c.raise.new.self c.self.inside.start_faults c.raise.ensures)
 
 pub returns-in-Ok-clause-takes : goal.returns-in-Ok-clause-takes
 returns-in-Ok-clause-takes g c = rw (← c.self.view_is) c.in-Ok.ensures.takes

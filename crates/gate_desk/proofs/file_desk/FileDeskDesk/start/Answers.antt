@@ -2,7 +2,8 @@ use Rattle.gate_desk.proofs.FileLaws.{untold_starts, untold_start_fails}
 use Rattle.gate_desk.proofs.file_desk.FileDeskDesk.start.Goals as goal
 
 pub returns-in-Ok-clause-ok : goal.returns-in-Ok-clause-ok
-returns-in-Ok-clause-ok g c = rw (← c.self.view_is) (untold_starts c.args.slot c.args.name.now c.args.access c.self.inside.faults c.self.inside.start_faults)
+returns-in-Ok-clause-ok g c =
+    rw (← c.self.view_is) (untold_starts c.args.slot c.args.name.now c.args.access c.self.inside.faults c.self.inside.start_faults)
 
 pub returns-in-Ok-clause-accesses : goal.returns-in-Ok-clause-accesses
 returns-in-Ok-clause-accesses g c = rw (← c.self.view_is) c.in-Ok.ensures.accesses
@@ -17,7 +18,8 @@ pub returns-in-Ok-clause-unread : goal.returns-in-Ok-clause-unread
 returns-in-Ok-clause-unread g c = rw (← c.self.view_is) c.in-Ok.ensures.unread
 
 pub returns-in-Err-clause-err : goal.returns-in-Err-clause-err
-returns-in-Err-clause-err g c = rw (← c.self.view_is) (untold_start_fails c.args.slot c.self.inside.faults c.self.inside.start_faults c.raise.new.self c.raise.ensures)
+returns-in-Err-clause-err g c =
+    rw (← c.self.view_is) (untold_start_fails c.args.slot c.self.inside.faults c.self.inside.start_faults c.raise.new.self c.raise.ensures)
 
 pub returns-in-Err-clause-fails : goal.returns-in-Err-clause-fails
 returns-in-Err-clause-fails g c = rw (← c.self.view_is) c.in-Err.ensures.fails

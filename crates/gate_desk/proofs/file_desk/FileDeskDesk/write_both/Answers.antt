@@ -3,10 +3,17 @@ use Rattle.gate_desk.proofs.FileLaws.{untold_writes, untold_write_fails, rose_on
 use Rattle.gate_desk.proofs.file_desk.FileDeskDesk.write_both.Goals as goal
 
 pub returns-in-Ok-clause-ok : goal.returns-in-Ok-clause-ok
-returns-in-Ok-clause-ok g c = rw (← c.self.view_is) (untold_writes c.args.slot (c.args.first.now ++ c.args.second.now) c.self.inside.faults c.self.inside.start_faults)
+returns-in-Ok-clause-ok g c =
+    rw (← c.self.view_is) (untold_writes c.args.slot (c.args.first.now ++ c.args.second.now) c.self.inside.faults c.self.inside.start_faults)
 
 pub returns-in-Err-clause-err : goal.returns-in-Err-clause-err
-returns-in-Err-clause-err g c = rw (← c.self.view_is) (0, omega arith, untold_write_fails c.args.slot c.self.inside.faults c.raise.new.self c.self.inside.start_faults c.raise.ensures)
+returns-in-Err-clause-err g c =
+    rw (← c.self.view_is) (
+      0,
+      omega arith,
+      untold_write_fails c.args.slot c.self.inside.faults c.raise.new.self c.self.inside.start_faults
+          c.raise.ensures,
+    )
 
 pub returns-in-Ok-clause-takes : goal.returns-in-Ok-clause-takes
 returns-in-Ok-clause-takes g c = rw (← c.self.view_is) c.in-Ok.ensures.takes

@@ -5,10 +5,10 @@ use Rattle.dns_stream.specs.Prelude.{dns_units}
 use Rattle.dns_plans.specs.Prelude.{entered_all}
 use Rattle.gate_model.specs.Prelude.{stream_out, segment_of, Tracked}
 use Rattle.gate_sessions.specs.Compact.{CompactSession, compact_rules}
-use Rattle.gate_payloads.specs.Prelude.{image_by}
+use Rattle.event_payloads.specs.Prelude.{image_by}
 use Rattle.gate_base.proofs.Options.{on_err}
 use Rattle.gate_base.specs.declared.host.Host.{Host}
-use Rattle.event_steps.proofs.SteppedSessions.{IsSeen, seen_as, called_is, next_is, waits_is}
+use Rattle.event_segments.proofs.SteppedSessions.{IsSeen, seen_as, called_is, next_is, waits_is}
 use Rattle.gate_sessions.specs.Sessions.{MayWantIn}
 use Rattle.gate_sessions.proofs.Gone.{gone_is}
 use Rattle.gate_sessions.proofs.engine.AnySessionEngine.take.Goals as goal

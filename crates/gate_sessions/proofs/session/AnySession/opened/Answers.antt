@@ -1,4 +1,4 @@
-use Rattle.std.proofs.Common.{ap, subst, sym, ◌∙◌, None}
+use Rattle.std.proofs.Common.{ap, subst, sym, None}
 use Rattle.compact_stream.specs.Prelude.{CompactState}
 use Rattle.gate_sessions.specs.Directions.{DnsKept, dns_session}
 use Rattle.gate_sessions.specs.Sessions.{IsSession}
@@ -6,7 +6,11 @@ use Rattle.gate_sessions.proofs.SessionLemmas.{made_session}
 use Rattle.gate_sessions.proofs.session.AnySession.opened.Goals as goal
 
 pub invariant_of-result : goal.invariant_of-result
-invariant_of-result c = (tt, subst (λ (d : DnsKept). IsSession (dns_session c.args.pair d)) (sym (c.in_ok-new.ensures.ok ∙ c.in_ok-session.ensures)) (made_session 53 c.args.pair c.args.initial c.args.mss))
+invariant_of-result c = (
+  tt,
+  subst (λ (d : DnsKept). IsSession (dns_session c.args.pair d)) (sym c.in_ok-session.ensures)
+      (made_session 53 c.args.pair c.args.initial c.args.mss),
+)
 
 pub invariant_of-result-2 : goal.invariant_of-result-2
 invariant_of-result-2 c =

@@ -29,8 +29,8 @@ invariant_of-self c =
 pub step_units-requires-clause-stream : goal.step_units-requires-clause-stream
 step_units-requires-clause-stream c =
     let pair = c.self.inside.pair in
-    let d : DnsKept = c.deref_mut.result.now in
-    let seen : session_of pair c.self.inside.kind ≡ dns_session pair d = ap (session_of pair) c.in-Units.is ∙ ap (dns_session pair) (sym c.deref_mut.ensures.value) in
+    let d : DnsKept = c.in-Units.session in
+    let seen : session_of pair c.self.inside.kind ≡ dns_session pair d = ap (session_of pair) c.in-Units.is in
     side_of pair d c.args.passing.now.from (subst IsSession seen c.self.invariant.1)
 
 pub step_units-requires-clause-images : goal.step_units-requires-clause-images
@@ -38,8 +38,8 @@ step_units-requires-clause-images c =
     let pair = c.self.inside.pair in
     let f = c.args.passing.now.from in
     let entries : List Entry = c.args.completed.entries.now in
-    let d : DnsKept = c.deref_mut.result.now in
-    let seen : session_of pair c.self.inside.kind ≡ dns_session pair d = ap (session_of pair) c.in-Units.is ∙ ap (dns_session pair) (sym c.deref_mut.ensures.value) in
+    let d : DnsKept = c.in-Units.session in
+    let seen : session_of pair c.self.inside.kind ≡ dns_session pair d = ap (session_of pair) c.in-Units.is in
     let back : c.args.self.now ≡ dns_session pair d = sym c.self.view_is ∙ seen in
     subst (λ (xs : List Entry). AreImages (dns_units (entered_all xs entries)) c.args.completed.images.items) (ap (compact_rules.listed f) back ∙ listed_in f pair d) c.requires.images
   where
@@ -53,8 +53,8 @@ invariant_of-self-in-Units c =
     let f = c.args.passing.now.from in
     let g : Segment = segment_of c.args.passing.now.segment.now.datagram.now in
     let entries : List Entry = c.args.completed.entries.now in
-    let d : DnsKept = c.deref_mut.result.now in
-    let seen : session_of pair c.self.inside.kind ≡ dns_session pair d = ap (session_of pair) c.in-Units.is ∙ ap (dns_session pair) (sym c.deref_mut.ensures.value) in
+    let d : DnsKept = c.in-Units.session in
+    let seen : session_of pair c.self.inside.kind ≡ dns_session pair d = ap (session_of pair) c.in-Units.is in
     let back : c.args.self.now ≡ dns_session pair d = sym c.self.view_is ∙ seen in
     let v : compact_rules.refusal f (dns_session pair d) g ≡ None = subst (λ (k : CompactSession). compact_rules.refusal f k g ≡ None) back c.requires.passes in
     let named = subst (λ (k : CompactSession). (image : Addr → Option Addr) × AreNamed image f k g entries) back c.requires.named in
@@ -64,16 +64,16 @@ invariant_of-self-in-Units c =
 pub returns-in-Units-clause-next : goal.returns-in-Units-clause-next
 returns-in-Units-clause-next c = λ image e.
     let pair = c.self.inside.pair in
-    let d : DnsKept = c.deref_mut.result.now in
-    let seen : dns_session pair d ≡ c.args.self.now = ap (dns_session pair) c.deref_mut.ensures.value ∙ ap (session_of pair) (sym c.in-Units.is) ∙ c.self.view_is in
+    let d : DnsKept = c.in-Units.session in
+    let seen : dns_session pair d ≡ c.args.self.now = ap (session_of pair) (sym c.in-Units.is) ∙ c.self.view_is in
     next_seen c.step_units.result image pair d c.step_units.new.session c.args.self.now c.args.passing.now.from (segment_of c.args.passing.now.segment.now.datagram.now) c.args.completed.entries.now seen e c.step_units.ensures.next
 
 pub returns-in-Units-clause-out : goal.returns-in-Units-clause-out
 returns-in-Units-clause-out c = λ image e.
     let pair = c.self.inside.pair in
     let passing = c.args.passing.now in
-    let d : DnsKept = c.deref_mut.result.now in
-    let seen : dns_session pair d ≡ c.args.self.now = ap (dns_session pair) c.deref_mut.ensures.value ∙ ap (session_of pair) (sym c.in-Units.is) ∙ c.self.view_is in
+    let d : DnsKept = c.in-Units.session in
+    let seen : dns_session pair d ≡ c.args.self.now = ap (session_of pair) (sym c.in-Units.is) ∙ c.self.view_is in
     out_seen c.step_units.result image pair d c.args.self.now c.args.passing.now.from (segment_of c.args.passing.now.segment.now.datagram.now) c.args.completed.entries.now (sent_as passing.segment.now.datagram.now passing.source.0 passing.destination.0) c.step_units.new.outbox seen e c.step_units.ensures.out
 
 pub returns-in-Units-clause-memory : goal.returns-in-Units-clause-memory
@@ -81,8 +81,8 @@ returns-in-Units-clause-memory c =
     let pair = c.self.inside.pair in
     let f = c.args.passing.now.from in
     let g : Segment = segment_of c.args.passing.now.segment.now.datagram.now in
-    let d : DnsKept = c.deref_mut.result.now in
-    let seen : session_of pair c.self.inside.kind ≡ dns_session pair d = ap (session_of pair) c.in-Units.is ∙ ap (dns_session pair) (sym c.deref_mut.ensures.value) in
+    let d : DnsKept = c.in-Units.session in
+    let seen : session_of pair c.self.inside.kind ≡ dns_session pair d = ap (session_of pair) c.in-Units.is in
     on_err_weaker c.step_units.result
     (λ m. subst (λ (k : CompactSession). MayWantIn f k g) (sym seen ∙ c.self.view_is) (may_want pair d f g c.args.completed.entries.now (subst IsSession seen c.self.invariant.1) m))
     c.step_units.ensures.memory

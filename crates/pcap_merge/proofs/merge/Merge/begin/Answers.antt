@@ -20,7 +20,8 @@ returns-in-Err-begin-clause-begins g c =
 
 pub returns-clause-begins : goal.returns-clause-begins
 returns-clause-begins g c =
-    begins c.in-Ok.left c.in-Ok-begin.right (g.D.Desk.outside c.args.desk.now) (g.D.Desk.outside c.begin.new.desk) (g.D.Desk.outside c.begin-2.new.desk) c.in-Ok.ensures.begins c.in-Ok-begin.ensures.begins
+    begins c.in-Ok.left c.in-Ok-begin.right (g.D.Desk.outside c.args.desk.now) (g.D.Desk.outside c.begin.new.desk)
+    (g.D.Desk.outside c.begin-2.new.desk) c.in-Ok.ensures.begins c.in-Ok-begin.ensures.begins
 
 pub returns-in-Err-clause-leaves : goal.returns-in-Err-clause-leaves
 returns-in-Err-clause-leaves g c =
@@ -34,4 +35,5 @@ returns-in-Err-begin-clause-leaves g c =
     let mid = g.D.Desk.outside c.begin.new.desk in
     let new = g.D.Desk.outside c.begin-2.new.desk in
     subst (λ stop. StopLeavesCounts stop old new) (sym c.stop_of-in-Err-begin.ensures)
-    (stop_leaves_on (stop_of Right c.in-Err-begin.stop) old mid new c.in-Ok.ensures.leaves (leaves_stopped Right c.in-Err-begin.stop mid new c.in-Err-begin.ensures.leaves))
+    (stop_leaves_on (stop_of Right c.in-Err-begin.stop) old mid new c.in-Ok.ensures.leaves
+    (leaves_stopped Right c.in-Err-begin.stop mid new c.in-Err-begin.ensures.leaves))

@@ -9,7 +9,8 @@ invariant_of-result c =
     let words : c.in_ok-vec-2.field-0.items ≡ replicate 64 0 = search rules in
     let blocks : c.in_ok-vec-3.field-0.items ≡ replicate 1 0 = search rules in
     record {
-      word_bits = λ word. ap (λ all. bit_of all word) words ∙ no_bits 64 word ∙ sym (ap (λ all. any_in all word) places ∙ none_any (c.args.size / 64 + 1) word);
+      word_bits = λ word. ap (λ all. bit_of all word) words ∙ no_bits 64 word
+          ∙ sym (ap (λ all. any_in all word) places ∙ none_any (c.args.size / 64 + 1) word);
       block_bits = λ block. ap (λ all. bit_of all block) blocks ∙ no_bits 1 block ∙ sym (ap (λ all. any_in all block) words ∙ none_any 64 block);
       few = search rules;
       wide = search rules;

@@ -31,11 +31,17 @@ invariant_of-self c =
     let within' : block < length words' = omega (arith, two.long, c.requires, long, before.wide) in
     let I : List ℕ → Type 0 = λ all. word < length all in
     let J : List ℕ → Type 0 = λ all. block < length all in
-    let read : any ≡ slice_index places' word = get_or_read _ word any (subst I (sym back) within) c.index.ensures 0 ∙ ap (λ all. slice_index all word) back in
-    let read' : any' ≡ slice_index words' block = get_or_read _ block any' (subst J (sym back') within') c.index-2.ensures 0 ∙ ap (λ all. slice_index all block) back' in
+    let read : any ≡ slice_index places' word = get_or_read _ word any (subst I (sym back) within) c.index.ensures 0
+    ∙ ap (λ all. slice_index all word) back in
+    let read' : any' ≡ slice_index words' block = get_or_read _ block any' (subst J (sym back') within') c.index-2.ensures 0
+    ∙ ap (λ all. slice_index all block) back' in
     same_levels places' _ words' _ blocks' _ back back' back'' (record {
-      word_bits = leveled places places' words words' word _ (not (any == 0)) before.word_bits (c.set_bit.ensures.value ∙ ap (λ all. with_place all c.args.place c.args.there) c.deref_mut.ensures.value) (any_is any ∙ ap any_bit read) two;
-      block_bits = leveled words words' blocks blocks' block _ (not (any' == 0)) before.block_bits (c.set_bit-2.ensures.value ∙ ap (λ all. with_place all word (not (any == 0))) c.deref_mut-2.ensures.value) (any_is any' ∙ ap any_bit read') three;
+      word_bits = leveled places places' words words' word _ (not (any == 0)) before.word_bits
+          (c.set_bit.ensures.value ∙ ap (λ all. with_place all c.args.place c.args.there) c.deref_mut.ensures.value) (any_is any ∙ ap any_bit read)
+          two;
+      block_bits = leveled words words' blocks blocks' block _ (not (any' == 0)) before.block_bits
+          (c.set_bit-2.ensures.value ∙ ap (λ all. with_place all word (not (any == 0))) c.deref_mut-2.ensures.value) (any_is any' ∙ ap any_bit read')
+          three;
       few = omega (arith, one.long, before.few);
       wide = omega (arith, one.long, two.long, before.wide);
       wider = omega (arith, two.long, before.wider);

@@ -20,7 +20,8 @@ returns-in-Some c =
     let entry = entry_at xs c.ended_at.result c.in-Some.unit.now (search rules) c.in-Some.ensures.lookup in
     let exact =
     c.place_before.ensures
-    ∙ sym (stops_at (λ us. fore_walk us l.octets_in l.octets_out c.args.p) (passes c.args.p) (answer c.args.p) (fore_walk-step l.octets_in l.octets_out c.args.p) l.changed _ (unit_of c.in-Some.unit.now) c.ended_at.result from entry)
+    ∙ sym (stops_at (λ us. fore_walk us l.octets_in l.octets_out c.args.p) (passes c.args.p) (answer c.args.p)
+    (fore_walk-step l.octets_in l.octets_out c.args.p) l.changed _ (unit_of c.in-Some.unit.now) c.ended_at.result from entry)
     in record {
       exact = exact ∙ ap (λ (l : Kept). fore_by l c.args.p) c.self.view_is;
       stands = λ h k st from. exact ∙ fore_walk-kept l h k c.args.p (subst (λ (l : Kept). StandsFor l h k) (sym c.self.view_is) st) from;
@@ -34,7 +35,8 @@ returns-in-None c =
     let none = entry_none xs c.ended_at.result (search rules) in
     let exact =
     c.place_before-in-None.ensures
-    ∙ sym (stops_nowhere (λ us. fore_walk us l.octets_in l.octets_out c.args.p) (passes c.args.p) (answer c.args.p) (fore_walk-step l.octets_in l.octets_out c.args.p) l.changed c.ended_at.result from none ∙ fore_walk-none l.octets_in l.octets_out c.args.p)
+    ∙ sym (stops_nowhere (λ us. fore_walk us l.octets_in l.octets_out c.args.p) (passes c.args.p) (answer c.args.p)
+    (fore_walk-step l.octets_in l.octets_out c.args.p) l.changed c.ended_at.result from none ∙ fore_walk-none l.octets_in l.octets_out c.args.p)
     in record {
       exact = exact ∙ ap (λ (l : Kept). fore_by l c.args.p) c.self.view_is;
       stands = λ h k st from. exact ∙ fore_walk-kept l h k c.args.p (subst (λ (l : Kept). StandsFor l h k) (sym c.self.view_is) st) from;

@@ -11,5 +11,7 @@ returns c =
     let p : KeptUnit → Bool = λ u. nat_le (u.at + length u.image) c.args.q in
     let f : KeptUnit → Bool = λ u. nat_lt c.args.q (u.at + length u.image) in
     let parted = IsPartitionedBy-leb (λ (x : ChangedUnit). x.at + length x.image.items) xs c.args.q (images_rise xs 0 0 _ _ c.self.invariant) in
-    let point = IsPartitionPoint-from_clause (λ x. p (unit_of x)) xs c.partition_point.result c.partition_point.ensures.partitioned parted (λ a r f k. search (rules, tests)) in
-    subst (λ (l : Kept). drop c.partition_point.result l.changed ≡ filter f l.changed) c.self.view_is (from_point p f (λ u. lt_not_le _ _) xs c.partition_point.result (search rules) point)
+    let point = IsPartitionPoint-from_clause (λ x. p (unit_of x)) xs c.partition_point.result c.partition_point.ensures.partitioned parted
+    (λ a r f k. search (rules, tests)) in
+    subst (λ (l : Kept). drop c.partition_point.result l.changed ≡ filter f l.changed) c.self.view_is
+    (from_point p f (λ u. lt_not_le _ _) xs c.partition_point.result (search rules) point)

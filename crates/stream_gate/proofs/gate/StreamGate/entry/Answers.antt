@@ -1,16 +1,9 @@
-use Rattle.std.proofs.Common.{arith, ◌≡◌, ◌<◌, length, Some, slice_get}
+use Rattle.std.proofs.Common.{◌≡◌, ◌<◌, length, Some, slice_get}
 use Rattle.gate_base.specs.declared.host.Host.{Host}
 use Rattle.gate_base.specs.declared.host.Host.TheVariants.{Client, Server}
 use Rattle.stream_gate.specs.Prelude.{GateKept, entries_of}
 use Rattle.gate_base.proofs.Hosts.{at_host, of_host}
 use Rattle.stream_gate.proofs.gate.StreamGate.entry.Goals as goal
-
--- a rest is smaller than memory
-pub entry-requires-room-H-HoldsRest : goal.entry-requires-room-H-HoldsRest
-entry-requires-room-H-HoldsRest g c κs within = omega (arith, g.N.fits)
-
-pub entry-requires-in-Server-room-H-HoldsRest : goal.entry-requires-in-Server-room-H-HoldsRest
-entry-requires-in-Server-room-H-HoldsRest g c κs within = omega (arith, g.N.fits)
 
 pub entry-requires : goal.entry-requires
 entry-requires g c = of_host (λ (h : Host) (d : GateKept _ _). c.args.place < length (entries_of g.C.Learns.entries g.S.Learns.entries h d)) Client c.args.host _ c.args.self.now c.in-Client.is c.self.view_is c.requires

@@ -1,15 +1,8 @@
-use Rattle.std.proofs.Common.{arith, sym, subst, ◌∙◌, ap}
+use Rattle.std.proofs.Common.{sym, subst, ◌∙◌, ap}
 use Rattle.dialogue.specs.Prelude.{AreImages}
 use Rattle.stream_gate.specs.Prelude.{GateKept, DirectionKept}
 use Rattle.stream_gate.proofs.SteppedGate.{gate_by}
 use Rattle.stream_gate.proofs.gate.StreamGate.expect.Goals as goal
-
--- a rest is smaller than memory
-pub expect-requires-room-H-HoldsRest : goal.expect-requires-room-H-HoldsRest
-expect-requires-room-H-HoldsRest g c κs within = omega (arith, g.N.fits)
-
-pub expect-requires-in-Server-room-H-HoldsRest : goal.expect-requires-in-Server-room-H-HoldsRest
-expect-requires-in-Server-room-H-HoldsRest g c κs within = omega (arith, g.N.fits)
 
 pub expect-requires : goal.expect-requires
 expect-requires g c = subst (λ (d : GateKept _ _). AreImages (g.C.Dialogue.meaning d.client_dialogue) c.args.images.items) (sym c.self.view_is) (c.requires.client c.in-Client.is)

@@ -11,7 +11,8 @@ returns-in-Some c =
     let rows = c.self.inside.rows.rows in
     let row_in : ℕ × Bor (Row (Connection ℕ)) → Row (Connection ℕ) = λ found. found.1.now in
     let value : Row (Connection ℕ) → Connection ℕ = λ row. row.value in
-    ap (option_map value) (ap (option_map row_in) (sym c.in-Some.is) ∙ c.locate.ensures ∙ ap (λ number. row_of number rows) c.number_of.ensures.value) ∙ sym (found_named c.args.key.now rows c.number_of.ensures.key c.self.invariant.filed)
+    ap (option_map value) (ap (option_map row_in) (sym c.in-Some.is) ∙ c.locate.ensures ∙ ap (λ number. row_of number rows) c.number_of.ensures.value)
+    ∙ sym (found_named c.args.key.now rows c.number_of.ensures.key c.self.invariant.filed)
     ∙ ap (connection_of c.args.key.now) c.self.view_is
 
 pub returns-in-None : goal.returns-in-None
@@ -19,5 +20,6 @@ returns-in-None c =
     let rows = c.self.inside.rows.rows in
     let row_in : ℕ × Bor (Row (Connection ℕ)) → Row (Connection ℕ) = λ found. found.1.now in
     let value : Row (Connection ℕ) → Connection ℕ = λ row. row.value in
-    ap (option_map value) (ap (option_map row_in) (sym c.in-None.is) ∙ c.locate.ensures ∙ ap (λ number. row_of number rows) c.number_of.ensures.value) ∙ sym (found_named c.args.key.now rows c.number_of.ensures.key c.self.invariant.filed)
+    ap (option_map value) (ap (option_map row_in) (sym c.in-None.is) ∙ c.locate.ensures ∙ ap (λ number. row_of number rows) c.number_of.ensures.value)
+    ∙ sym (found_named c.args.key.now rows c.number_of.ensures.key c.self.invariant.filed)
     ∙ ap (connection_of c.args.key.now) c.self.view_is

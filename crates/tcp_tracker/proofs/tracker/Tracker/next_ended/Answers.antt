@@ -13,8 +13,11 @@ returns-in_err-row-clause-none c =
     let rows = c.self.inside.rows.rows in
     let same : c.next_ended.new.self.rows ≡ rows = ap (λ (table : Table (Connection ℕ)). table.rows) none in
     let stays : living c.args.now.0 rows ≡ rows = ap (living c.args.now.0) (sym same) ∙ c.in_err-row.ensures.live ∙ same in
-    rw c.from_residual.ensures
-    (ap connections_in same ∙ c.self.view_is, ap (live c.args.now) (sym c.self.view_is) ∙ sym (live_in c.args.now rows c.self.invariant.filed) ∙ ap connections_in stays ∙ c.self.view_is)
+    rw c.from_residual.ensures (
+      ap connections_in same ∙ c.self.view_is,
+      ap (live c.args.now) (sym c.self.view_is) ∙ sym (live_in c.args.now rows c.self.invariant.filed)
+          ∙ ap connections_in stays ∙ c.self.view_is,
+    )
 
 pub invariant_of-self-2 : goal.invariant_of-self-2
 invariant_of-self-2 c =
@@ -22,7 +25,8 @@ invariant_of-self-2 c =
     let rows = c.self.inside.rows.rows in
     record {
       most = taken.0 ∙ c.self.invariant.most;
-      filed = All-same IsFiled c.next_ended.new.self.rows (without c.in_ok-row.row.key rows) taken.1.rest (filed_without c.in_ok-row.row.key rows c.self.invariant.filed);
+      filed = All-same IsFiled c.next_ended.new.self.rows (without c.in_ok-row.row.key rows) taken.1.rest
+          (filed_without c.in_ok-row.row.key rows c.self.invariant.filed);
     }
 
 pub returns-clause-some : goal.returns-clause-some

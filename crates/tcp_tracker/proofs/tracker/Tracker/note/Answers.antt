@@ -12,5 +12,7 @@ change-requires-clause-name c =
 
 pub returns-clause-timeout : goal.returns-clause-timeout
 returns-clause-timeout c =
-    let timeout : Option (Connection ℕ) → ℕ = λ found. timeout_or_short (option_map (with_flags c.args.from c.args.flags) (kept_or_begun c.args.key c.args.flags None found)) in
-    c.timeout_or_short.ensures ∙ ap timeout_or_short c.after-next.ensures ∙ timeout_noted c.args.key c.args.from c.args.flags c.args.session c.args.now c.located-place.result.1 ∙ ap timeout c.located-place.ensures
+    let timeout : Option (Connection ℕ) → ℕ = λ found. timeout_or_short
+    (option_map (with_flags c.args.from c.args.flags) (kept_or_begun c.args.key c.args.flags None found)) in
+    c.timeout_or_short.ensures ∙ ap timeout_or_short c.after-next.ensures
+    ∙ timeout_noted c.args.key c.args.from c.args.flags c.args.session c.args.now c.located-place.result.1 ∙ ap timeout c.located-place.ensures

@@ -1,5 +1,0 @@
--- The names of this crate that others cite most, passed on from one place. Declares nothing.
-pub use Rattle.gate_payloads.specs.Ways.{IsWay, header_uses, image_by, is_empty, way_tests}
-pub use Rattle.gate_payloads.specs.Taken.{IsTaken, IsWayOf}
-pub use Rattle.gate_payloads.specs.Named.{named_uses}
-pub use Rattle.gate_payloads.specs.Plain.{asks_none, plain_rules}

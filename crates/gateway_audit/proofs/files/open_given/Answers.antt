@@ -1,0 +1,38 @@
+use Rattle.std.proofs.Common.{Err, [], ◌∷◌}
+use Rattle.gate_desk.specs.declared.slot.Slot.TheVariants.{LeftGiven, RightGiven, ReportGiven}
+use Rattle.gate_desk.specs.declared.slot.Access.TheVariants.{Read}
+use Rattle.run_setup.specs.Prelude.{Opens}
+use Rattle.run_setup.specs.AuditNames.{names_of, given_starts}
+use Rattle.run_setup.proofs.Causes.{handed_on, opens_on, opens_more}
+use Rattle.gateway_audit.proofs.files.open_given.Goals as goal
+
+pub returns-in_err-start_slot-clause-answer : goal.returns-in_err-start_slot-clause-answer
+returns-in_err-start_slot-clause-answer g c =
+    let old = g.D.Desk.outside c.args.desk.now in
+    let new = g.D.Desk.outside c.start_slot.new.desk in
+    let status = c.in_err-start_slot.field-0.0 in
+    handed_on (λ r. Opens r (given_starts (names_of c.args.names)) old new) c.from_residual.result status c.from_residual.ensures.1
+    (opens_more status ((record { slot = LeftGiven; name = c.args.names.left_given.now; access = Read }) ∷ []) ((record { slot = RightGiven; name = c.args.names.right_given.now; access = Read }) ∷ (record { slot = ReportGiven; name = c.args.names.report_given.now; access = Read }) ∷ [])
+    old new c.in_err-start_slot.ensures.answer)
+
+pub returns-in_err-start_slot-2-clause-answer : goal.returns-in_err-start_slot-2-clause-answer
+returns-in_err-start_slot-2-clause-answer g c =
+    let old = g.D.Desk.outside c.args.desk.now in
+    let mid = g.D.Desk.outside c.start_slot.new.desk in
+    let new = g.D.Desk.outside c.start_slot-2.new.desk in
+    let status = c.in_err-start_slot-2.field-0.0 in
+    handed_on (λ r. Opens r (given_starts (names_of c.args.names)) old new) c.from_residual-in_err-start_slot-2.result status c.from_residual-in_err-start_slot-2.ensures.1
+    (opens_on (Err status) ((record { slot = LeftGiven; name = c.args.names.left_given.now; access = Read }) ∷ []) ((record { slot = RightGiven; name = c.args.names.right_given.now; access = Read }) ∷ (record { slot = ReportGiven; name = c.args.names.report_given.now; access = Read }) ∷ [])
+    old mid new c.in_ok-start_slot.ensures.answer
+    (opens_more status ((record { slot = RightGiven; name = c.args.names.right_given.now; access = Read }) ∷ []) ((record { slot = ReportGiven; name = c.args.names.report_given.now; access = Read }) ∷ []) mid new c.in_err-start_slot-2.ensures.answer))
+
+pub returns-clause-answer : goal.returns-clause-answer
+returns-clause-answer g c =
+    let now = g.D.Desk.outside c.args.desk.now in
+    let one = g.D.Desk.outside c.start_slot.new.desk in
+    let two = g.D.Desk.outside c.start_slot-2.new.desk in
+    let three = g.D.Desk.outside c.start_slot-3.new.desk in
+    opens_on c.start_slot-3.result ((record { slot = LeftGiven; name = c.args.names.left_given.now; access = Read }) ∷ []) ((record { slot = RightGiven; name = c.args.names.right_given.now; access = Read }) ∷ (record { slot = ReportGiven; name = c.args.names.report_given.now; access = Read }) ∷ [])
+    now one three c.in_ok-start_slot.ensures.answer
+    (opens_on c.start_slot-3.result ((record { slot = RightGiven; name = c.args.names.right_given.now; access = Read }) ∷ []) ((record { slot = ReportGiven; name = c.args.names.report_given.now; access = Read }) ∷ [])
+    one two three c.in_ok-start_slot-2.ensures.answer c.start_slot-3.ensures.answer)
