@@ -37,9 +37,15 @@ class Trusted(unittest.TestCase):
         deciding = {(f"Rattle.{crate}.specs.{module}") for crate, module, _ in trusted.DECIDING}
         words = {word for word in page.all if word[0] in deciding}
         self.assertEqual({word[0] for word in words}, deciding)
-        self.assertLessEqual(trusted.lines_of(words), 60 * trusted.MINUTE)
+        self.assertLessEqual(trusted.minutes_of(words), 60)
         for less, more in zip(trusted.STATEMENTS, list(trusted.STATEMENTS)[1:]):
             self.assertLess(page.needed[less], page.needed[more])
+
+    def test_inside_is_not_believed(self) -> None:
+        """No statement rests on what stands in a folder Inside, and there are such folders."""
+        page = trusted.Page()
+        self.assertEqual([word for word in page.all if trusted.INSIDE in word[0]], [])
+        self.assertTrue(any(trusted.INSIDE in module for module in trusted.MODULES))
 
     def test_reading(self) -> None:
         """Definitions without comments, constructors as their type, other names, and operators."""

@@ -10,7 +10,8 @@ front_is o h d =
     same_from_decides {P = (o ≡ h ++ d)} (bytes_eq (take (length h) o) h && bytes_eq (drop (length h) o) d) (bytes_eq o (h ++ d)) (
       (λ e.
           let p = and_parts (bytes_eq (take (length h) o) h) (bytes_eq (drop (length h) o) d) e in
-          sym (take-append-drop (length h) o) ∙ ap (λ (x : List ℕ). x ++ drop (length h) o) ((bytes_eq-Decides (take (length h) o) h).0 p.0) ∙ ap (λ (x : List ℕ). h ++ x) ((bytes_eq-Decides (drop (length h) o) d).0 p.1)),
+          sym (take-append-drop (length h) o) ∙ ap (λ (x : List ℕ). x ++ drop (length h) o) ((bytes_eq-Decides (take (length h) o) h).0 p.0)
+          ∙ ap (λ (x : List ℕ). h ++ x) ((bytes_eq-Decides (drop (length h) o) d).0 p.1)),
       (λ q.
           and_from (bytes_eq (take (length h) o) h) (bytes_eq (drop (length h) o) d)
           ((bytes_eq-Decides (take (length h) o) h).1 (ap (take (length h)) q ∙ take-append_seam h d))
@@ -19,7 +20,8 @@ front_is o h d =
     (bytes_eq-Decides o (h ++ d))
 
 -- by the parts
-pub front_by : (o h d f r : List ℕ) (a b res : Bool) → f ≡ take (length h) o → r ≡ drop (length h) o → a ≡ bytes_eq f h → b ≡ bytes_eq r d → res ≡ (a && b) → res ≡ bytes_eq o (h ++ d)
+pub front_by : (o h d f r : List ℕ) (a b res : Bool) → f ≡ take (length h) o → r ≡ drop (length h) o → a ≡ bytes_eq f h → b ≡ bytes_eq r d
+    → res ≡ (a && b) → res ≡ bytes_eq o (h ++ d)
 front_by o h d f r a b res is_front is_rest one two both_are =
     both_are
     ∙ ap (λ (x : Bool). x && b) (one ∙ ap (λ (x : List ℕ). bytes_eq x h) is_front)

@@ -16,10 +16,12 @@ test : (b : Bool) → (one_if b == 1) ≡ b
 test true = refl
 test false = refl
 
-back : (a b c d e : Bool) (n : ℕ) → (let f : Flags = record { fin = a; syn = b; reset = c; push = d; ack = e; ecn = n } in flags_of (flags_octet f) ≡ f)
+back : (a b c d e : Bool) (n : ℕ)
+    → (let f : Flags = record { fin = a; syn = b; reset = c; push = d; ack = e; ecn = n } in flags_of (flags_octet f) ≡ f)
 back a b c d e n =
     let o = one_if a + 2 * one_if b + 4 * one_if c + 8 * one_if d + 16 * one_if e + 64 * n in
-    let R : ℕ → ℕ → ℕ → ℕ → ℕ → ℕ → Flags = λ u v w x y z. record { fin = u == 1; syn = v == 1; reset = w == 1; push = x == 1; ack = y == 1; ecn = z } in
+    let R : ℕ → ℕ → ℕ → ℕ → ℕ → ℕ → Flags =
+    λ u v w x y z. record { fin = u == 1; syn = v == 1; reset = w == 1; push = x == 1; ack = y == 1; ecn = z } in
     let S : Bool → Bool → Bool → Bool → Bool → Flags = λ u v w x y. record { fin = u; syn = v; reset = w; push = x; ack = y; ecn = n } in
     let one : o % 2 ≡ one_if a = omega (arith, low a) in
     let two : o / 2 % 2 ≡ one_if b = omega (arith, low a, low b) in
@@ -43,15 +45,19 @@ back a b c d e n =
 pub told_back : (s : Sent) (ends : Bool) → told (handed s ends) ≡ s
 told_back s ends =
     let f = s.flags in
-    ap (λ (x : Flags). let r : Sent = record { sequence = s.sequence; acknowledgement = s.acknowledgement; flags = x; limit = s.limit; octets = s.octets } in r) (back f.fin f.syn f.reset f.push f.ack f.ecn)
+    ap (λ (x : Flags). let r : Sent =
+    record { sequence = s.sequence; acknowledgement = s.acknowledgement; flags = x; limit = s.limit; octets = s.octets } in r)
+    (back f.fin f.syn f.reset f.push f.ack f.ecn)
 
 below : (m options : ℕ) → options ≤ 65495 → min m 65495 - options + options ≤ 65495
 below m options e = omega (arith, e)
 
 -- limit and options of what a session hands on for a segment
-pub fits_is : (from : Host) (s : Session) (tcp : Tcp) (ends : Bool) (sent : Handed) → sent ≡ handed (session_sent from s (segment_in tcp)) ends → length tcp.options ≡ length tcp.header - 20 → length tcp.header ≤ 60 → sent.limit + (length tcp.header - 20) ≤ 65495
+pub fits_is : (from : Host) (s : Session) (tcp : Tcp) (ends : Bool) (sent : Handed) → sent ≡ handed (session_sent from s (segment_in tcp)) ends
+    → length tcp.options ≡ length tcp.header - 20 → length tcp.header ≤ 60 → sent.limit + (length tcp.header - 20) ≤ 65495
 fits_is from s tcp ends sent is_sent same few =
     let receiver = other from s in
-    let is : sent.limit ≡ min (max receiver.mss 88) 65495 - length tcp.options = ap (λ (x : Handed). x.limit) is_sent ∙ session_limit from s (segment_in tcp) in
+    let is : sent.limit ≡ min (max receiver.mss 88) 65495 - length tcp.options = ap (λ (x : Handed). x.limit) is_sent
+    ∙ session_limit from s (segment_in tcp) in
     let short : length tcp.options ≤ 65495 = omega (arith, same, few) in
     omega (arith, is, same, below (max receiver.mss 88) (length tcp.options) short)

@@ -1,4 +1,3 @@
 pub mod Cutting
-pub mod Records
-pub mod Rooms
+pub mod Inside
 pub mod Kept

@@ -4,7 +4,7 @@ ghost use Rattle.std.specs.Str.{bytes_eq};
 ghost use Rattle.ether_frames.specs.Ether.{framed_on};
 ghost use Rattle.gate_settings.specs.Prelude.{side_settings};
 ghost use Rattle.lawful_files.specs.Progress.{head_length};
-ghost use Rattle.audit_records.specs.Records.{holds};
+ghost use Rattle.audit_records.specs.Inside.Records.{holds};
 
 use ether_frames::put_head;
 use gate_base::{Link, Side};
@@ -22,7 +22,7 @@ pub struct Came<'a> {
 }
 
 impl<'a> Model for Came<'a> {
-    ghost use Rattle.audit_records.specs.Records.{Came};
+    ghost use Rattle.audit_records.specs.Inside.Records.{Came};
 
     ghost Value = { Came };
 
@@ -30,6 +30,7 @@ impl<'a> Model for Came<'a> {
 }
 
 impl<'a> Came<'a> {
+    /// This record, with the realm and the moment to which it is to belong.
     pub fn of(settings: &'a Settings, side: Side, moment: u64, packet: &Packet<'a>) -> Came<'a>
         ensures { result
             ≡ record {
@@ -118,6 +119,7 @@ fn is_same(octets: &[u8], others: &[u8]) -> bool
     octets == others
 }
 
+/// Whether both hold.
 pub fn is_both(one: bool, other: bool) -> bool
     ensures { result ≡ (one && other) }
 {

@@ -2,7 +2,7 @@
 ghost use Rattle.std.specs.Prelude.{◌≡◌, ◌≤◌, ◌<◌, ◌+◌, ◌-◌, ◌^◌, ◌%◌, ◌&&◌, ◌||◌, ◌==◌, nat_lt, nat_le, true, false, if◌then◌else◌, length, take, drop};
 ghost use Rattle.gate_model.specs.Prelude.{sent_as};
 ghost use Rattle.lawful_files.specs.Progress as progress;
-ghost use Rattle.audit_records.specs.Records.{holds};
+ghost use Rattle.audit_records.specs.Inside.Records.{holds};
 
 use crate::came::{Came, is_both};
 use crate::pieces::Pieces;

@@ -4,7 +4,7 @@ ghost use Rattle.gate_base.specs.Prelude.{other};
 ghost use Rattle.gate_base.specs.declared.side.Side.TheVariants.{Left};
 ghost use Rattle.lawful_files.specs.Progress as progress;
 ghost use Rattle.lawful_files.specs.Prelude.{begun, Exactly, Cut};
-ghost use Rattle.audit_records.specs.Kept.{wanted_of, progress_of, carried_by};
+ghost use Rattle.audit_records.specs.Inside.Kept.{wanted_of, progress_of, carried_by};
 
 use crate::came::Came;
 use crate::cutting::{has_all, is_right_cut, size_of};
@@ -44,7 +44,8 @@ pub struct Expected {
 
 impl Model for Expected {
     ghost use Rattle.std.specs.Prelude.{◌≤◌, length};
-    ghost use Rattle.audit_records.specs.Kept.{Expecting, wanted_of, progress_of};
+    ghost use Rattle.audit_records.specs.Kept.{Expecting};
+    ghost use Rattle.audit_records.specs.Inside.Kept.{wanted_of, progress_of};
 
     ghost Value = { Expecting };
 

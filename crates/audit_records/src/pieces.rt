@@ -26,7 +26,8 @@ pub struct Pieces {
 
 impl Model for Pieces {
     ghost use Rattle.ipv4_frames.specs.Ipv4.{fields_of};
-    ghost use Rattle.audit_records.specs.Cutting.{Cutting, IsFit, told};
+    ghost use Rattle.audit_records.specs.Cutting.{Cutting, told};
+    ghost use Rattle.audit_records.specs.Inside.Cutting.{IsFit};
 
     ghost Value = { Cutting };
 

@@ -1,6 +1,6 @@
 // The datagram that is wanted, if one is.
 ghost use Rattle.std.specs.Prelude.{◌≡◌, ◌≤◌, ◌&&◌, [], ◌∷◌, nat_lt, length, take, slice_index_or, IfOk};
-ghost use Rattle.audit_records.specs.Records.{holds};
+ghost use Rattle.audit_records.specs.Inside.Records.{holds};
 
 use crate::came::{Came, is_both};
 use gate_base::OutOfMemory;
@@ -20,7 +20,7 @@ pub struct Single {
 
 impl Model for Single {
     ghost use Rattle.std.specs.Prelude.{ℕ, List};
-    ghost use Rattle.audit_records.specs.Rooms.{datagrams_in, IsRoom};
+    ghost use Rattle.audit_records.specs.Inside.Rooms.{datagrams_in, IsRoom};
 
     ghost Value = { List (List ℕ) };
 

@@ -24,20 +24,24 @@ abbrev AreRead : Pair → Option Lists → Session → Type 0
 AreRead pair lists s = (host : Host) → (own host s).meaning ≡ meaning_by lists pair host
 
 abbrev with_meanings : Option Lists → Session → Meaning → Meaning → WholeSession
-with_meanings lists s m n = record { lists = lists; session = record { client = sender_by m (heard_of s.client); server = sender_by n (heard_of s.server) } }
+with_meanings lists s m n =
+    record { lists = lists; session = record { client = sender_by m (heard_of s.client); server = sender_by n (heard_of s.server) } }
 
-read_back : (pair : Pair) (lists : Option Lists) (s : Session) → AreRead pair lists s → (let x : WholeSession = record { lists = lists; session = s } in x) ≡ session_in (heard_in pair (record { lists = lists; session = s }))
+read_back : (pair : Pair) (lists : Option Lists) (s : Session) → AreRead pair lists s
+    → (let x : WholeSession = record { lists = lists; session = s } in x) ≡ session_in (heard_in pair (record { lists = lists; session = s }))
 read_back pair lists s r =
     ap (λ (m : Meaning). with_meanings lists s m s.server.meaning) (r Client)
     ∙ ap (with_meanings lists s (meaning_by lists pair Client)) (r Server)
 
-next_read : (pair : Pair) (lists : Option Lists) (f : Host) (s : Session) (g : Segment) → AreRead pair lists s → (host : Host) → (own host (session_next f s g)).meaning ≡ meaning_by lists pair host
+next_read : (pair : Pair) (lists : Option Lists) (f : Host) (s : Session) (g : Segment) → AreRead pair lists s → (host : Host)
+    → (own host (session_next f s g)).meaning ≡ meaning_by lists pair host
 next_read pair lists f s g r host = meaning_step host f s g ∙ r host
 
 abbrev entered_in : Pair → Option Lists → Heard → Heard → Host → List Entry → WholeSession
 entered_in pair lists a b f es = with_entries f es (session_in (record { pair = pair; lists = lists; client = a; server = b }))
 
-entered_read : (pair : Pair) (lists : Option Lists) (a b : Heard) (f : Host) (es : List Entry) (host : Host) → (own host (entered_in pair lists a b f es).session).meaning ≡ meaning_by (entered_in pair lists a b f es).lists pair host
+entered_read : (pair : Pair) (lists : Option Lists) (a b : Heard) (f : Host) (es : List Entry) (host : Host)
+    → (own host (entered_in pair lists a b f es).session).meaning ≡ meaning_by (entered_in pair lists a b f es).lists pair host
 entered_read pair None a b Client es Client = refl
 entered_read pair None a b Client es Server = refl
 entered_read pair None a b Server es Client = refl
@@ -47,8 +51,10 @@ entered_read pair (Some l) a b Client es Server = refl
 entered_read pair (Some l) a b Server es Client = refl
 entered_read pair (Some l) a b Server es Server = refl
 
-learned_read : (image : Addr → Option Addr) (f : Host) (h : HeardSession) (g : Segment) → AreRead h.pair (whole_learned image f (session_in h) g).lists (whole_learned image f (session_in h) g).session
-learned_read image f h g = entered_read h.pair h.lists h.client h.server f (entered image (entries_by h.lists f) (addresses_in (whole_units f (session_in h) g)))
+learned_read : (image : Addr → Option Addr) (f : Host) (h : HeardSession) (g : Segment)
+    → AreRead h.pair (whole_learned image f (session_in h) g).lists (whole_learned image f (session_in h) g).session
+learned_read image f h g =
+    entered_read h.pair h.lists h.client h.server f (entered image (entries_by h.lists f) (addresses_in (whole_units f (session_in h) g)))
 
 pub reads_whole : Reads session_in heard_rules whole_rules
 reads_whole = record {
@@ -56,7 +62,8 @@ reads_whole = record {
   refusal = λ f h g. refl;
   units = λ f h g n. refl;
   listed = λ host h. refl;
-  next = λ image f h g n. let y : WholeSession = whole_learned image f (session_in h) g in read_back h.pair y.lists (session_next f y.session g) (next_read h.pair y.lists f y.session g (learned_read image f h g));
+  next = λ image f h g n. let y : WholeSession = whole_learned image f (session_in h) g in
+      read_back h.pair y.lists (session_next f y.session g) (next_read h.pair y.lists f y.session g (learned_read image f h g));
   out = λ image f h g n. refl;
   ends = λ f h g. refl;
   inner = λ f h number. refl;
@@ -75,7 +82,8 @@ heard_lists = record {
 
 pub made_session : (port : ℕ) (pair : Pair) (initial mss : ℕ) → IsSession (heard_rules.made port pair initial mss)
 made_session port pair initial mss = record {
-  known = made_each (λ es u. AllListed es (unit_addresses u)) (lists_at port) (meaning_by (lists_at port) pair Client) (meaning_by (lists_at port) pair Server) initial mss;
+  known = made_each (λ es u. AllListed es (unit_addresses u)) (lists_at port) (meaning_by (lists_at port) pair Client)
+      (meaning_by (lists_at port) pair Server) initial mss;
   few = λ host. omega (arith, ap length (heard_lists.made port pair initial mss host));
 }
 
@@ -86,7 +94,9 @@ own_read Server h = refl
 next_known : (image : Addr → Option Addr) (f : Host) (h : HeardSession) (g : Segment)
     → ((host : Host) → AreKnown h.lists host (own host (session_in h).session).octets) → (host : Host)
     → AreKnown (heard_rules.next image f h g).lists host (own host (session_in (heard_rules.next image f h g)).session).octets
-next_known image f h g k = both (λ (b : Host). AreKnown (heard_rules.next image f h g).lists b (own b (session_in (heard_rules.next image f h g)).session).octets) Client (next Client) (next Server)
+next_known image f h g k =
+    both (λ (b : Host). AreKnown (heard_rules.next image f h g).lists b (own b (session_in (heard_rules.next image f h g)).session).octets) Client
+    (next Client) (next Server)
   where
     next : (host : Host) → AreKnown (whole_next image f (session_in h) g).lists host (own host (whole_next image f (session_in h) g).session).octets
     next host =
@@ -95,7 +105,9 @@ next_known image f h g k = both (λ (b : Host). AreKnown (heard_rules.next image
         (longer h.lists f image (addresses_in (whole_units f (session_in h) g)))
         (own_read f h) (k f) (k host) (new_listed image h.lists f (completed (own f (session_in h).session) g))
 
-pub next_session : (image : Addr → Option Addr) (f : Host) (h : HeardSession) (g : Segment) → IsSession h → length (entered image (heard_rules.listed f h) (addresses_in (heard_rules.units f h g))) ≤ most_entries → IsSession (heard_rules.next image f h g)
+pub next_session : (image : Addr → Option Addr) (f : Host) (h : HeardSession) (g : Segment) → IsSession h
+    → length (entered image (heard_rules.listed f h) (addresses_in (heard_rules.units f h g))) ≤ most_entries
+    → IsSession (heard_rules.next image f h g)
 next_session image f h g k few = record {
   known = next_known image f h g k.known;
   few = both (λ (b : Host). length (heard_rules.listed b (heard_rules.next image f h g)) ≤ most_entries) f

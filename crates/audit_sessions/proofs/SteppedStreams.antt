@@ -24,7 +24,8 @@ whole d octets e = subst (λ (x : Datagram). fields_of x.header x.payload ≡ x)
 pub sent_wanted : (client : Side) (pair : Pair) (session : HeardSession) (f : Host) (side : Side) (d : Datagram) (t : Tracked HeardSession)
     (image : Addr → Option Addr) (entries : List Entry) (octets : List ℕ) (g : Segment) (source destination : ℕ) (sent : Handed) (pieces : Cutting)
     → IsSeen heard_rules client pair session f side d t image entries → datagram_of octets ≡ d → g ≡ segment_of d →
-    sent ≡ handed (heard_sent image f session g) (heard_rules.ends f session g) → pieces ≡ record { datagram = fields_of d.header d.payload; source = source; destination = destination; sent = told sent } →
+    sent ≡ handed (heard_sent image f session g) (heard_rules.ends f session g)
+    → pieces ≡ record { datagram = fields_of d.header d.payload; source = source; destination = destination; sent = told sent } →
     Cut pieces.datagram pieces.source pieces.destination pieces.sent ≡ wanted_segment heard_sent image side d source destination (Some t)
 sent_wanted client pair session f side d t image entries octets g source destination sent pieces i same is s p =
     ap (λ (x : Cutting). Cut x.datagram x.source x.destination x.sent) p
@@ -40,5 +41,7 @@ pub pieces_fit : (d : Datagram) (tcp : Tcp) (session : HeardSession) (f : Host) 
     → tcp ≡ tcp_of d → sent ≡ handed (heard_sent image f session (segment_in tcp)) (heard_rules.ends f session (segment_in tcp)) → header ≡ tcp.header
     → length header ≤ 60 → sent.limit + (length tcp.header - 20) ≤ 65495
 pieces_fit d tcp session f image sent header is s same few =
-    let options : length tcp.options ≡ length tcp.header - 20 = ap length (ap (λ (t : Tcp). t.options) is ∙ sym (ap (λ (t : Tcp). drop 20 t.header) is)) ∙ length-drop 20 tcp.header in
-    fits_is f (whole_learned image f (session_in session) (segment_in tcp)).session tcp (heard_rules.ends f session (segment_in tcp)) sent s options (omega (arith, ap length same, few))
+    let options : length tcp.options ≡ length tcp.header - 20 =
+    ap length (ap (λ (t : Tcp). t.options) is ∙ sym (ap (λ (t : Tcp). drop 20 t.header) is)) ∙ length-drop 20 tcp.header in
+    fits_is f (whole_learned image f (session_in session) (segment_in tcp)).session tcp (heard_rules.ends f session (segment_in tcp)) sent s options
+    (omega (arith, ap length same, few))

@@ -12,4 +12,11 @@ audit_tells = record { whole = Exactly; segment = wanted_segment heard_sent; pla
 
 -- that of a segment is what its session sends; where memory runs out nothing is said of what has changed, and a session may want it for each segment
 abbrev pub heard_gives : Gives HeardSession Cutting Wanted
-heard_gives = record { tells = audit_tells; cut = λ p datagrams. wanted.Cut p.datagram p.source p.destination p.sent; Keeps = ⊥; MayWant = λ from session segment. Unit {0} }
+heard_gives =
+    record {
+      tells = audit_tells;
+      cut = λ p datagrams. wanted.Cut p.datagram p.source p.destination p.sent;
+      Keeps = ⊥;
+      MayWant =
+          λ from session segment. Unit {0};
+    }

@@ -1,3 +1,3 @@
 pub mod Heard
-pub mod Sessions
 pub mod Gives
+pub mod Inside

@@ -5,7 +5,7 @@ ghost use Rattle.dns_stream.specs.Prelude.{dns_units};
 ghost use Rattle.stream_model.specs.Prelude.{segment_refusal, session_ends, session_sent, segment_in};
 ghost use Rattle.audit_streams.specs.Sending.{handed};
 ghost use Rattle.dns_plans.specs.Prelude.{entered_all};
-ghost use Rattle.audit_sessions.specs.Sessions.{listed_of, streams_of, IsListedSide, with_entered, HasPassed};
+ghost use Rattle.audit_sessions.specs.Inside.Sessions.{listed_of, streams_of, IsListedSide, with_entered, HasPassed};
 
 use crate::kinds::DnsSession;
 use audit_streams::Sent;

@@ -9,7 +9,7 @@ ghost use Rattle.audit_streams.specs.Sending.{handed};
 ghost use Rattle.gate_model.specs.Prelude.{addresses_in, completed};
 ghost use Rattle.dns_plans.specs.Prelude.{whole_units, beside, entered_all};
 ghost use Rattle.audit_sessions.specs.Heard.{heard_rules, heard_sent};
-ghost use Rattle.audit_sessions.specs.Sessions.{streams_of};
+ghost use Rattle.audit_sessions.specs.Inside.Sessions.{streams_of};
 
 use crate::kinds::{DnsSession, FtpSession, SessionKind};
 use crate::learned::step_units;
@@ -33,7 +33,7 @@ pub struct AuditedSession {
 
 impl Model for AuditedSession {
     ghost use Rattle.audit_sessions.specs.Heard.{HeardSession, IsSession};
-    ghost use Rattle.audit_sessions.specs.Sessions.{session_by, IsOfPair};
+    ghost use Rattle.audit_sessions.specs.Inside.Sessions.{session_by, IsOfPair};
 
     ghost Value = { HeardSession };
 

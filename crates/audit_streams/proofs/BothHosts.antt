@@ -5,14 +5,16 @@ use Rattle.gate_base.specs.declared.host.Host.TheVariants.{Client, Server}
 use Rattle.gate_base.proofs.Hosts.{at_host}
 use Rattle.dialogue.specs.Prelude.{Meaning}
 use Rattle.stream_model.specs.Prelude.{Sender, Session, Segment, own, other, own_after, other_after, session, session_next}
-use Rattle.audit_streams.specs.Hosts.{HeardStream, HeardStreams, sender_of, session_of}
+use Rattle.audit_streams.specs.Hosts.{HeardStreams, session_of}
+use Rattle.audit_streams.specs.Inside.Hosts.{HeardStream, sender_of}
 
 -- both streams side by side
 abbrev pub heard_by : {C S : Type 0} → HeardStream C → HeardStream S → HeardStreams C S
 heard_by x y = record { client_dialogue = x.dialogue; server_dialogue = y.dialogue; client = x.heard; server = y.heard }
 
 -- a session whose hosts are these
-parts : {X E : Type 0} (one : Host) (r : Result X E) (n : Session) (u v : Sender) → OnOk r (own one n ≡ u) → OnOk r (other one n ≡ v) → OnOk r (n ≡ session one u v)
+parts : {X E : Type 0} (one : Host) (r : Result X E) (n : Session) (u v : Sender) → OnOk r (own one n ≡ u) → OnOk r (other one n ≡ v)
+    → OnOk r (n ≡ session one u v)
 parts Client (Ok x) n u v e f = ap (λ (z : Sender). session Client z n.server) e ∙ ap (session Client u) f
 parts Client (Err x) n u v e f = tt
 parts Server (Ok x) n u v e f = ap (λ (z : Sender). session Client n.client z) e ∙ ap (λ (z : Sender). session Client z u) f

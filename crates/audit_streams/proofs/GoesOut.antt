@@ -6,7 +6,7 @@ use Rattle.stream_model.specs.Prelude.{Sender, Segment, extent, arrival, start_o
 use Rattle.stream_model.specs.declared.numbers.Offset.{Offset}
 use Rattle.stream_model.specs.declared.refusals.Arrival.{Arrival}
 use Rattle.stream_model.specs.declared.refusals.Extent.{Extent}
-use Rattle.audit_streams.specs.Hosts.{HeardStream, sender_of}
+use Rattle.audit_streams.specs.Inside.Hosts.{HeardStream, sender_of}
 use Rattle.audit_streams.specs.Sending.{CanTake}
 
 -- the sender after its segment

@@ -2,10 +2,11 @@
 use Rattle.std.proofs.Common.{◌≡◌, ℕ, Bool, List, [], ◌∷◌, ◌++◌, length, refl, ◌∙◌, ap, not, ◌&&◌, flat_map}
 use Rattle.dialogue.specs.Prelude.{Meaning, is_empty, is_released, Plain, Push, changed_ends, Cut, cut, pushes_of, ReadAlike}
 use Rattle.dialogue.proofs.Alike.{cut_alike, image_alike, spans_alike, pushes_alike}
-use Rattle.audit_streams.specs.Transcripts.{Transcribed, transcript_of, IsOf}
+use Rattle.audit_streams.specs.Inside.Transcripts.{Transcribed, transcript_of, IsOf}
 use Rattle.audit_streams.proofs.TranscriptLemmas.{made_is}
 
-ends_alike : (m n : Meaning) (s : List ℕ) → ReadAlike m n s → (let c = cut m s in changed_ends 0 (pushes_of m c c.rest)) ≡ (let c = cut n s in changed_ends 0 (pushes_of n c c.rest))
+ends_alike : (m n : Meaning) (s : List ℕ) → ReadAlike m n s
+    → (let c = cut m s in changed_ends 0 (pushes_of m c c.rest)) ≡ (let c = cut n s in changed_ends 0 (pushes_of n c c.rest))
 ends_alike m n s a =
     ap (λ (ps : List Push). changed_ends 0 (ps ++ Plain (length (cut m s).rest) ∷ [])) (pushes_alike m n (cut m s).units a.image)
     ∙ ap (λ (c : Cut). changed_ends 0 (pushes_of n c c.rest)) (cut_alike m n s a)

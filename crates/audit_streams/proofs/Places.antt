@@ -8,7 +8,7 @@ use Rattle.std.proofs.lemmas.Option.{same_Some}
 use Rattle.dialogue.specs.Prelude.{Span, plain_spans, back_in}
 use Rattle.dialogue.proofs.PlaceLemmas.{length-plain_spans, plain_spans-add, back_in-plain, back_in-plain_part, back_in-replicate, back_in-stops}
 use Rattle.audit_streams.specs.declared.transcript.ChangedUnit.{ChangedUnit}
-use Rattle.audit_streams.specs.Transcripts.{Transcribed, IsTranscript, places_from, last_by, InOrder, with_octets, changed}
+use Rattle.audit_streams.specs.Inside.Transcripts.{Transcribed, IsTranscript, places_from, last_by, InOrder, with_octets, changed}
 use Rattle.audit_streams.proofs.TranscriptLemmas.{made, made_is}
 use Rattle.audit_streams.proofs.Rising.{RisesBy, rises}
 
@@ -30,7 +30,8 @@ image_end-le [] o p h = omega arith
 image_end-le (u ∷ us) o p h = omega (arith, h.0, h.2, h.3, image_end-le us u.past u.end h.4)
 
 -- the last unit's number
-pub last_is : (number : ChangedUnit → ℕ) (us : List ChangedUnit) (u : ChangedUnit) (a : ℕ) → Some u ≡ slice_get us (length us - 1) → number u ≡ last_by number a us
+pub last_is : (number : ChangedUnit → ℕ) (us : List ChangedUnit) (u : ChangedUnit) (a : ℕ) → Some u ≡ slice_get us (length us - 1)
+    → number u ≡ last_by number a us
 last_is number [] u a e = cc
 last_is number (x ∷ []) u a e = ap number (same_Some u x e)
 last_is number (x ∷ y ∷ us) u a e =
@@ -64,12 +65,15 @@ ends_rise (u ∷ us) o p h = (omega (arith, h.0, h.2, h.3), ends_rise us u.past 
 
 -- ## Units that are parted at a place
 
-last_upto : (number : ChangedUnit → ℕ) (us : List ChangedUnit) (j q a : ℕ) → a ≤ q → ((k : ℕ) (d : ChangedUnit) → k < j → k < length us → number (get_or us k d) ≤ q) → last_by number a (take j us) ≤ q
+last_upto : (number : ChangedUnit → ℕ) (us : List ChangedUnit) (j q a : ℕ) → a ≤ q
+    → ((k : ℕ) (d : ChangedUnit) → k < j → k < length us → number (get_or us k d) ≤ q) → last_by number a (take j us) ≤ q
 last_upto number us zero q a l h = l
 last_upto number [] (suc j) q a l h = l
-last_upto number (u ∷ us) (suc j) q a l h = last_upto number us j q (number u) (h 0 u (omega arith) (omega arith)) (λ k d b c. h (suc k) d (omega arith) (omega arith))
+last_upto number (u ∷ us) (suc j) q a l h =
+    last_upto number us j q (number u) (h 0 u (omega arith) (omega arith)) (λ k d b c. h (suc k) d (omega arith) (omega arith))
 
-first_beyond : (number : ChangedUnit → ℕ) (us : List ChangedUnit) (j q : ℕ) → ((k : ℕ) (d : ChangedUnit) → j ≤ k → k < length us → q < number (get_or us k d)) → IfSome (slice_get (drop j us) 0) (λ u. q < number u)
+first_beyond : (number : ChangedUnit → ℕ) (us : List ChangedUnit) (j q : ℕ)
+    → ((k : ℕ) (d : ChangedUnit) → j ≤ k → k < length us → q < number (get_or us k d)) → IfSome (slice_get (drop j us) 0) (λ u. q < number u)
 first_beyond number [] zero q h = tt
 first_beyond number (u ∷ us) zero q h = h 0 u (omega arith) (omega arith)
 first_beyond number [] (suc j) q h = tt
@@ -87,10 +91,15 @@ pub record Parted (number : ChangedUnit → ℕ) (before behind : List ChangedUn
   pub upto : last_by number 0 before ≤ q
   pub beyond : IfSome (slice_get behind 0) (λ u. q < number u)
 
-pub parted : (number : ChangedUnit → ℕ) (us before behind : List ChangedUnit) (q j : ℕ) → j ≤ length us → IsPartitionPoint (λ u. nat_le (number u) q ≡ true) (λ u. nat_le (number u) q ≡ false) us j → before ≡ take j us → behind ≡ drop j us → Parted number before behind q
+pub parted : (number : ChangedUnit → ℕ) (us before behind : List ChangedUnit) (q j : ℕ) → j ≤ length us
+    → IsPartitionPoint (λ u. nat_le (number u) q ≡ true) (λ u. nat_le (number u) q ≡ false) us j → before ≡ take j us → behind ≡ drop j us
+    → Parted number before behind q
 parted number us before behind q j l h b e = record {
-  upto = subst (λ (vs : List ChangedUnit). last_by number 0 vs ≤ q) (sym b) (last_upto number us j q 0 (omega arith) (λ k d below in_it. leb-true _ _ (h.0 k d (omega arith) below)));
-  beyond = subst (λ (ws : List ChangedUnit). IfSome (slice_get ws 0) (λ u. q < number u)) (sym e) (first_beyond number us j q (λ k d low in_it. leb-false _ _ (h.1 k d low in_it)));
+  upto = subst (λ (vs : List ChangedUnit). last_by number 0 vs ≤ q) (sym b)
+      (last_upto number us j q 0 (omega arith) (λ k d below in_it. leb-true _ _ (h.0 k d (omega arith) below)));
+  beyond =
+      subst (λ (ws : List ChangedUnit). IfSome (slice_get ws 0) (λ u. q < number u)) (sym e)
+      (first_beyond number us j q (λ k d low in_it. leb-false _ _ (h.1 k d low in_it)));
 }
 
 -- ## The places of octets
@@ -118,7 +127,8 @@ joined_on : (a b c d : List Span) → a ++ (b ++ (c ++ d)) ≡ (a ++ (b ++ c)) +
 joined_on a b c d = ap (λ ss. a ++ ss) (sym (append_assoc b c d)) ∙ sym (append_assoc a (b ++ c) d)
 
 -- octets that follow stand as they are
-pub places_on : (us : List ChangedUnit) (o p n t : ℕ) → octets_end o us ≤ n → places_from o p us (n + t) ≡ places_from o p us n ++ plain_spans (image_end p us + (n - octets_end o us)) t
+pub places_on : (us : List ChangedUnit) (o p n t : ℕ) → octets_end o us ≤ n
+    → places_from o p us (n + t) ≡ places_from o p us n ++ plain_spans (image_end p us + (n - octets_end o us)) t
 places_on [] o p n t l = let e : (n + t) - o ≡ (n - o) + t = omega arith in ap (plain_spans p) e ∙ plain_spans-add p (n - o) t
 places_on (u ∷ us) o p n t l =
     let s : Span = record { first = u.at; past = u.end } in
@@ -128,7 +138,8 @@ places_on (u ∷ us) o p n t l =
     ∙ joined_on plain unit (places_from u.past u.end us n) (plain_spans (image_end u.end us + (n - octets_end u.past us)) t)
 
 -- a further unit, with which the octets end
-pub places_changed : (us : List ChangedUnit) (o p : ℕ) (w : ChangedUnit) → places_from o p (us ++ w ∷ []) w.past ≡ places_from o p us w.first ++ replicate (w.past - w.first) (record { first = w.at; past = w.end })
+pub places_changed : (us : List ChangedUnit) (o p : ℕ) (w : ChangedUnit)
+    → places_from o p (us ++ w ∷ []) w.past ≡ places_from o p us w.first ++ replicate (w.past - w.first) (record { first = w.at; past = w.end })
 places_changed [] o p w =
     let s : Span = record { first = w.at; past = w.end } in
     let none : w.past - w.past ≡ 0 = omega arith in
@@ -142,7 +153,8 @@ places_changed (u ∷ us) o p w =
     ∙ joined_on plain unit (places_from u.past u.end us w.first) (replicate (w.past - w.first) (record { first = w.at; past = w.end }))
 
 -- the places of the first octets, with others behind them
-pub places_front : (us : List ChangedUnit) (p n k : ℕ) (more : List Span) → InOrder 0 p us → octets_end 0 us ≤ k → k ≤ n → take k (places_from 0 p us n ++ more) ≡ places_from 0 p us k
+pub places_front : (us : List ChangedUnit) (p n k : ℕ) (more : List Span) → InOrder 0 p us → octets_end 0 us ≤ k → k ≤ n
+    → take k (places_from 0 p us n ++ more) ≡ places_from 0 p us k
 places_front us p n k more h l m =
     let t = n - k in
     let e : n ≡ k + t = omega arith in
@@ -171,7 +183,8 @@ plain_span at = record { first = at; past = at + 1 }
 get_plain : (n at i : ℕ) → i < n → slice_get (plain_spans at n) i ≡ Some (plain_span (at + i))
 get_plain zero at i l = absurd (omega arith)
 get_plain (suc n) at zero l = let e : at ≡ at + 0 = omega arith in ap (λ a. Some (plain_span a)) e
-get_plain (suc n) at (suc i) l = let e : (at + 1) + i ≡ at + suc i = omega arith in get_plain n (at + 1) i (omega arith) ∙ ap (λ a. Some (plain_span a)) e
+get_plain (suc n) at (suc i) l = let e : (at + 1) + i ≡ at + suc i = omega arith in get_plain n (at + 1) i (omega arith)
+    ∙ ap (λ a. Some (plain_span a)) e
 
 get_replicate : (n : ℕ) (s : Span) (i : ℕ) → i < n → slice_get (replicate n s) i ≡ Some s
 get_replicate zero s i l = absurd (omega arith)
@@ -179,7 +192,8 @@ get_replicate (suc n) s zero l = refl
 get_replicate (suc n) s (suc i) l = get_replicate n s i (omega arith)
 
 -- units that end before an octet
-get_over : (vs ws : List ChangedUnit) (o p n k : ℕ) → InOrder o p vs → octets_end o vs ≤ k → slice_get (places_from o p (vs ++ ws) n) (k - o) ≡ slice_get (places_from (octets_end o vs) (image_end p vs) ws n) (k - octets_end o vs)
+get_over : (vs ws : List ChangedUnit) (o p n k : ℕ) → InOrder o p vs → octets_end o vs ≤ k
+    → slice_get (places_from o p (vs ++ ws) n) (k - o) ≡ slice_get (places_from (octets_end o vs) (image_end p vs) ws n) (k - octets_end o vs)
 get_over [] ws o p n k h l = refl
 get_over (v ∷ vs) ws o p n k h l =
     let s : Span = record { first = v.at; past = v.end } in
@@ -196,7 +210,8 @@ abbrev pub span_at : ℕ → ℕ → Option ChangedUnit → ℕ → Span
 span_at o p None k = record { first = p + (k - o); past = p + (k - o) + 1 }
 span_at o p (Some u) k = cond (nat_le u.first k) (record { first = u.at; past = u.end }) (record { first = p + (k - o); past = p + (k - o) + 1 })
 
-pub span_of_unit : (o p k : ℕ) (u : ChangedUnit) (next : Option ChangedUnit) (s : Span) → Some u ≡ next → u.first ≤ k → s.first ≡ u.at → s.past ≡ u.end → s ≡ span_at o p next k
+pub span_of_unit : (o p k : ℕ) (u : ChangedUnit) (next : Option ChangedUnit) (s : Span) → Some u ≡ next → u.first ≤ k → s.first ≡ u.at
+    → s.past ≡ u.end → s ≡ span_at o p next k
 span_of_unit o p k u next s is l first past =
     let unit : Span = record { first = u.at; past = u.end } in
     let plain : Span = record { first = p + (k - o); past = p + (k - o) + 1 } in
@@ -205,7 +220,8 @@ span_of_unit o p k u next s is l first past =
     ∙ sym (ap (λ b. cond b unit plain) (le-leb u.first k l))
     ∙ ap (λ n. span_at o p n k) is
 
-pub span_of_other : (o p k : ℕ) (next : Option ChangedUnit) (s : Span) → IfSome next (λ u. k < u.first) → s.first ≡ p + (k - o) → s.past ≡ s.first + 1 → s ≡ span_at o p next k
+pub span_of_other : (o p k : ℕ) (next : Option ChangedUnit) (s : Span) → IfSome next (λ u. k < u.first) → s.first ≡ p + (k - o) → s.past ≡ s.first + 1
+    → s ≡ span_at o p next k
 span_of_other o p k None s l first past =
     ap (λ n. let r : Span = record { first = s.first; past = n } in r) past ∙ ap (λ n. let r : Span = record { first = n; past = n + 1 } in r) first
 span_of_other o p k (Some u) s l first past =
@@ -215,7 +231,8 @@ span_of_other o p k (Some u) s l first past =
     ∙ ap (λ n. let r : Span = record { first = n; past = n + 1 } in r) first
     ∙ sym (ap (λ b. cond b unit plain) (lt-leb u.first k l))
 
-get_here : (ws : List ChangedUnit) (o p n k : ℕ) → InOrder o p ws → o ≤ k → k < n → IfSome (slice_get ws 0) (λ u. k < u.past) → slice_get (places_from o p ws n) (k - o) ≡ Some (span_at o p (slice_get ws 0) k)
+get_here : (ws : List ChangedUnit) (o p n k : ℕ) → InOrder o p ws → o ≤ k → k < n → IfSome (slice_get ws 0) (λ u. k < u.past)
+    → slice_get (places_from o p ws n) (k - o) ≡ Some (span_at o p (slice_get ws 0) k)
 get_here [] o p n k h l m b = get_plain (n - o) p (k - o) (omega arith)
 get_here (u ∷ ws) o p n k h l m b =
     let s : Span = record { first = u.at; past = u.end } in
@@ -237,7 +254,8 @@ get_here (u ∷ ws) o p n k h l m b =
           ∙ sym (ap (λ c. Some (cond c s (plain_span (p + (k - o))))) e)
     ]
 
-pub place_is : (us before behind : List ChangedUnit) (n k : ℕ) → InOrder 0 0 us → before ++ behind ≡ us → k < n → Parted (λ u. u.past) before behind k → Some (span_at (octets_end 0 before) (image_end 0 before) (slice_get behind 0) k) ≡ slice_get (places_from 0 0 us n) k
+pub place_is : (us before behind : List ChangedUnit) (n k : ℕ) → InOrder 0 0 us → before ++ behind ≡ us → k < n → Parted (λ u. u.past) before behind k
+    → Some (span_at (octets_end 0 before) (image_end 0 before) (slice_get behind 0) k) ≡ slice_get (places_from 0 0 us n) k
 place_is us before behind n k h whole l p =
     let order : InOrder 0 0 (before ++ behind) = subst (λ (vs : List ChangedUnit). InOrder 0 0 vs) (sym whole) h in
     let at : k - 0 ≡ k = omega arith in
@@ -250,7 +268,8 @@ place_is us before behind n k h whole l p =
 -- ## How many octets lie below a place
 
 -- units whose images end below a place
-back_over : (vs ws : List ChangedUnit) (o p n q : ℕ) → InOrder o p vs → image_end p vs ≤ q → back_in (places_from o p (vs ++ ws) n) q + o ≡ octets_end o vs + back_in (places_from (octets_end o vs) (image_end p vs) ws n) q
+back_over : (vs ws : List ChangedUnit) (o p n q : ℕ) → InOrder o p vs → image_end p vs ≤ q
+    → back_in (places_from o p (vs ++ ws) n) q + o ≡ octets_end o vs + back_in (places_from (octets_end o vs) (image_end p vs) ws n) q
 back_over [] ws o p n q h l = omega arith
 back_over (v ∷ vs) ws o p n q h l =
     let s : Span = record { first = v.at; past = v.end } in
@@ -271,7 +290,8 @@ abbrev pub until : ℕ → Option ChangedUnit → ℕ
 until n None = n
 until n (Some u) = u.first
 
-back_here : (ws : List ChangedUnit) (o p n q : ℕ) → InOrder o p ws → p ≤ q → IfSome (slice_get ws 0) (λ u. q < u.end) → back_in (places_from o p ws n) q ≡ min (q - p) (until n (slice_get ws 0) - o)
+back_here : (ws : List ChangedUnit) (o p n q : ℕ) → InOrder o p ws → p ≤ q → IfSome (slice_get ws 0) (λ u. q < u.end)
+    → back_in (places_from o p ws n) q ≡ min (q - p) (until n (slice_get ws 0) - o)
 back_here [] o p n q h l b =
     let nil : plain_spans p (n - o) ≡ plain_spans p (n - o) ++ [] = sym (append-nil (plain_spans p (n - o))) in
     ap (λ ss. back_in ss q) nil
@@ -289,26 +309,31 @@ back_here (u ∷ ws) o p n q h l b =
           back_in-plain (u.first - o) p rest q far ∙ omega (arith, none)
     ]
 
-pub below_is : (us before behind : List ChangedUnit) (n q : ℕ) → InOrder 0 0 us → before ++ behind ≡ us → Parted (λ u. u.end) before behind q → octets_end 0 before + min (q - image_end 0 before) (until n (slice_get behind 0) - octets_end 0 before) ≡ back_in (places_from 0 0 us n) q
+pub below_is : (us before behind : List ChangedUnit) (n q : ℕ) → InOrder 0 0 us → before ++ behind ≡ us → Parted (λ u. u.end) before behind q
+    → octets_end 0 before + min (q - image_end 0 before) (until n (slice_get behind 0) - octets_end 0 before) ≡ back_in (places_from 0 0 us n) q
 below_is us before behind n q h whole p =
     let order : InOrder 0 0 (before ++ behind) = subst (λ (vs : List ChangedUnit). InOrder 0 0 vs) (sym whole) h in
     let over = back_over before behind 0 0 n q (order-front before behind 0 0 order) p.upto in
     let here = back_here behind (octets_end 0 before) (image_end 0 before) n q (order-behind before behind 0 0 order) p.upto p.beyond in
-    let is : octets_end 0 before + min (q - image_end 0 before) (until n (slice_get behind 0) - octets_end 0 before) ≡ back_in (places_from 0 0 (before ++ behind) n) q = omega (arith, over, here) in
+    let is : octets_end 0 before + min (q - image_end 0 before) (until n (slice_get behind 0) - octets_end 0 before) ≡ back_in
+    (places_from 0 0 (before ++ behind) n) q = omega (arith, over, here) in
     is ∙ ap (λ (vs : List ChangedUnit). back_in (places_from 0 0 vs n) q) whole
 
 -- where the next unit begins, or else the octets end, lies behind the units before
-pub until-le : (us before behind : List ChangedUnit) (n : ℕ) → InOrder 0 0 us → before ++ behind ≡ us → octets_end 0 us ≤ n → (octets_end 0 before ≤ until n (slice_get behind 0)) × (until n (slice_get behind 0) ≤ n)
+pub until-le : (us before behind : List ChangedUnit) (n : ℕ) → InOrder 0 0 us → before ++ behind ≡ us → octets_end 0 us ≤ n
+    → (octets_end 0 before ≤ until n (slice_get behind 0)) × (until n (slice_get behind 0) ≤ n)
 until-le us before behind n h whole l =
     let order : InOrder 0 0 (before ++ behind) = subst (λ (vs : List ChangedUnit). InOrder 0 0 vs) (sym whole) h in
     let all : octets_end 0 (before ++ behind) ≤ n = subst (λ (vs : List ChangedUnit). octets_end 0 vs ≤ n) (sym whole) l in
-    within behind (octets_end 0 before) (image_end 0 before) n (order-behind before behind 0 0 order) (omega (arith, all, ends-append before behind 0))
+    within behind (octets_end 0 before) (image_end 0 before) n (order-behind before behind 0 0 order)
+    (omega (arith, all, ends-append before behind 0))
   where
     ends-append : (vs ws : List ChangedUnit) (o : ℕ) → octets_end o (vs ++ ws) ≡ octets_end (octets_end o vs) ws
     ends-append [] ws o = refl
     ends-append (v ∷ vs) ws o = ends-append vs ws v.past
 
-    within : (ws : List ChangedUnit) (o p n : ℕ) → InOrder o p ws → octets_end o ws ≤ n → (o ≤ until n (slice_get ws 0)) × (until n (slice_get ws 0) ≤ n)
+    within : (ws : List ChangedUnit) (o p n : ℕ) → InOrder o p ws → octets_end o ws ≤ n → (o ≤ until n (slice_get ws 0))
+        × (until n (slice_get ws 0) ≤ n)
     within [] o p n h l = (l, omega arith)
     within (u ∷ ws) o p n h l = (h.0, omega (arith, h.1, octets_end-le ws u.past u.end h.4))
 
@@ -342,13 +367,15 @@ module _ (octets image : List ℕ) (us : List ChangedUnit) (rest : ℕ) (is : Is
   begins : w.at ≡ length (image ++ t) - (length (octets ++ t) - rest)
   begins = omega (arith, at, is.within, is.before, is.behind, length-append image t, length-append octets t)
 
-  pub kept_changed : kept (octets ++ t) (take w.at image ++ new) (us ++ w ∷ []) (length octets + length t) ≡ changed (with_octets (kept octets image us rest) t) new
+  pub kept_changed : kept (octets ++ t) (take w.at image ++ new) (us ++ w ∷ []) (length octets + length t) ≡ changed
+      (with_octets (kept octets image us rest) t) new
   kept_changed =
       let n = length (octets ++ t) in
       let n_is : n ≡ w.past = length-append octets t ∙ sym past in
       let b = length (image ++ t) - (n - rest) in
       let far : w.end ≡ b + length new = omega (arith, end, begins) in
-      let front : take w.at image ≡ take b (image ++ t) = sym (ap (λ k. take k (image ++ t)) (sym begins) ∙ take-append-le w.at image t (omega (arith, at))) in
+      let front : take w.at image ≡ take b (image ++ t) =
+      sym (ap (λ k. take k (image ++ t)) (sym begins) ∙ take-append-le w.at image t (omega (arith, at))) in
       made_is _ _ _ _ _ _ _ _ _ _
       refl
       (ap (λ v. v ++ new) front)
@@ -358,18 +385,36 @@ module _ (octets image : List ℕ) (us : List ChangedUnit) (rest : ℕ) (is : Is
       ∙ ap (λ k. places_from 0 0 us rest ++ replicate (k - rest) (record { first = w.at; past = w.end })) (sym n_is)
       ∙ ap (λ k. places_from 0 0 us rest ++ replicate (n - rest) (record { first = k; past = w.end })) begins
       ∙ ap (λ k. places_from 0 0 us rest ++ replicate (n - rest) (record { first = b; past = k })) far
-      ∙ ap (λ ss. ss ++ replicate (n - rest) (record { first = b; past = b + length new })) (sym (places_front us 0 (length octets) rest (plain_spans (length image) (length t)) is.order is.before is.within)))
+      ∙ ap (λ ss. ss ++ replicate (n - rest) (record { first = b; past = b + length new }))
+      (sym (places_front us 0 (length octets) rest (plain_spans (length image) (length t)) is.order is.before is.within)))
       (map-append (λ (u : ChangedUnit). u.end) us (w ∷ []) ∙ ap (λ k. map (λ (u : ChangedUnit). u.end) us ++ k ∷ []) far)
       (sym (length-append octets t))
 
-  pub changed_transcript : rest < length octets + length t → length octets + length t < 2 ^ 30 → w.at + length new < 2 ^ 31 → IsTranscript (octets ++ t) (take w.at image ++ new) (us ++ w ∷ []) (length octets + length t)
+  pub changed_transcript : rest < length octets + length t → length octets + length t < 2 ^ 30 → w.at + length new < 2 ^ 31
+      → IsTranscript (octets ++ t) (take w.at image ++ new) (us ++ w ∷ []) (length octets + length t)
   changed_transcript some few short =
-      let image_at : length (take w.at image ++ new) ≡ w.at + length new = omega (arith, length-append (take w.at image) new, length-take-le w.at image (omega (arith, at))) in
+      let image_at : length (take w.at image ++ new) ≡ w.at + length new =
+      omega (arith, length-append (take w.at image) new, length-take-le w.at image (omega (arith, at))) in
       record {
         within = omega (arith, length-append octets t);
-        order = order-append us (w ∷ []) 0 0 is.order (omega (arith, first, is.before), omega (arith, first, past, some), omega (arith, first, at, is.within, is.before, is.behind), omega (arith, end), tt);
+        order = order-append us (w ∷ []) 0 0 is.order (
+          omega (arith, first, is.before),
+          omega (arith, first, past, some),
+          omega (arith, first, at, is.within, is.before, is.behind),
+          omega (arith, end),
+          tt,
+        );
         before = omega (arith, last_by-push (λ (u : ChangedUnit). u.past) us w 0, past);
-        behind = omega (arith, image_at, length-append octets t, last_by-push (λ (u : ChangedUnit). u.past) us w 0, last_by-push (λ (u : ChangedUnit). u.end) us w 0, past, end);
+        behind =
+            omega (
+              arith,
+              image_at,
+              length-append octets t,
+              last_by-push (λ (u : ChangedUnit). u.past) us w 0,
+              last_by-push (λ (u : ChangedUnit). u.end) us w 0,
+              past,
+              end,
+            );
         few = omega (arith, few, length-append octets t);
         short = omega (arith, short, image_at);
       }

@@ -15,15 +15,6 @@ pub record Heard : Type 0 where
 abbrev pub sender_by : Meaning → Heard → Sender
 sender_by m h = record { meaning = m; mss = h.mss; initial = h.initial; octets = h.octets; ended = h.ended; acked = h.acked }
 
--- a dialogue, and what was heard of the host whose octets go on by it
-pub record HeardStream (D : Type 0) : Type 0 where
-  pub dialogue : D
-  pub heard : Heard
-
--- the sender, by what its dialogue means
-abbrev pub sender_of : {D : Type 0} → (D → Meaning) → HeardStream D → Sender
-sender_of meaning x = sender_by (meaning x.dialogue) x.heard
-
 -- both dialogues, and what was heard of both hosts of a session
 pub record HeardStreams (C S : Type 0) : Type 0 where
   pub client_dialogue : C
@@ -33,7 +24,8 @@ pub record HeardStreams (C S : Type 0) : Type 0 where
 
 -- the session of both hosts
 abbrev pub session_of : {C S : Type 0} → (C → Meaning) → (S → Meaning) → HeardStreams C S → Session
-session_of of_client of_server w = record { client = sender_by (of_client w.client_dialogue) w.client; server = sender_by (of_server w.server_dialogue) w.server }
+session_of of_client of_server w =
+    record { client = sender_by (of_client w.client_dialogue) w.client; server = sender_by (of_server w.server_dialogue) w.server }
 
 -- nothing was heard but a number, if one is known, and the largest segment
 abbrev pub unheard : Option ℕ → ℕ → Heard

@@ -1,4 +1,4 @@
-pub mod Transcripts
 pub mod Hosts
+pub mod Inside
 pub mod Known
 pub mod Sending

@@ -2,7 +2,8 @@
 ghost use Rattle.std.specs.Prelude.{◌≡◌, ◌≤◌, ◌<◌, ◌+◌, ◌-◌, ◌^◌, ◌++◌, ◌∷◌, ◌||◌, ◌&&◌, ◌==◌, ℕ, false, cond, List, [], length, max, slice_range, slice_get, Some, IfOk, OnOk, nat_lt};
 ghost use Rattle.dialogue.specs.Prelude.{is_unlike, differ, is_listed, listed_image, ReadAlike, AllUnitsListed, AreImages, image, back};
 ghost use Rattle.stream_model.specs.Prelude.{due_in, recent, extent, open_of};
-ghost use Rattle.audit_streams.specs.Hosts.{sender_of, unheard, held_in};
+ghost use Rattle.audit_streams.specs.Hosts.{unheard, held_in};
+ghost use Rattle.audit_streams.specs.Inside.Hosts.{sender_of};
 
 use crate::taking::take_octets;
 use crate::transcript::Transcript;
@@ -26,8 +27,8 @@ pub(crate) struct WholeStream<D: Dialogue> {
 }
 
 impl<D: Dialogue> Model for WholeStream<D> {
-    ghost use Rattle.audit_streams.specs.Hosts.{HeardStream};
-    ghost use Rattle.audit_streams.specs.Transcripts.{IsOf};
+    ghost use Rattle.audit_streams.specs.Inside.Hosts.{HeardStream};
+    ghost use Rattle.audit_streams.specs.Inside.Transcripts.{IsOf};
 
     ghost Value = { HeardStream D };
 
@@ -229,7 +230,7 @@ impl<D: Dialogue> WholeStream<D> {
 
 impl<D: Dialogue> Stands for WholeStream<D> {
     ghost use Rattle.stream_model.specs.Prelude.{standing};
-    ghost use Rattle.audit_streams.specs.Hosts.{sender_of};
+    ghost use Rattle.audit_streams.specs.Inside.Hosts.{sender_of};
 
     ghost standing = { λ a. standing (sender_of D.meaning a) };
 

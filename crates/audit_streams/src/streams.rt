@@ -5,7 +5,8 @@ ghost use Rattle.dialogue.specs.Prelude.{image, is_listed, listed_image, ReadAli
 ghost use Rattle.tcp_segments.specs.Prelude.{flags_of, flags_octet};
 ghost use Rattle.stream_model.specs.Prelude.{own, arrival, extent, start_of, repeats_unlike, segment_in, refusal_of, segment_refusal, session_next, session_inner, session_open, session_ends, taken, acknowledged, own_after, other_after, standing, limit_of, acknowledgement_to, reset_sent, other_sent, sent, session_sent, ends_by};
 ghost use Rattle.stream_model.specs.Goings.{sent_with};
-ghost use Rattle.audit_streams.specs.Hosts.{sender_of, session_of, unheard, held_in};
+ghost use Rattle.audit_streams.specs.Hosts.{session_of, unheard, held_in};
+ghost use Rattle.audit_streams.specs.Inside.Hosts.{sender_of};
 ghost use Rattle.audit_streams.specs.Known.{entries_of};
 ghost use Rattle.audit_streams.specs.Sending.{CanTake, handed};
 
@@ -66,8 +67,8 @@ impl<C: Dialogue, S: Dialogue> WholeStreams<C, S> {
             (segment_in segment.now) }
     {
         match from {
-            Host::Client => judge(Host::Client, &self.client, &self.server, segment),
-            Host::Server => judge(Host::Server, &self.server, &self.client, segment),
+            Host::Client => refusal_between(Host::Client, &self.client, &self.server, segment),
+            Host::Server => refusal_between(Host::Server, &self.server, &self.client, segment),
         }
     }
 
@@ -229,7 +230,7 @@ impl<C: Learns, S: Learns> WholeStreams<C, S> {
     }
 }
 
-fn judge<A: Dialogue, B: Dialogue>(
+fn refusal_between<A: Dialogue, B: Dialogue>(
     from: Host,
     own: &WholeStream<A>,
     other: &WholeStream<B>,

@@ -2,7 +2,7 @@
 ghost use Rattle.std.specs.Prelude.{◌≡◌, ◌≤◌, ◌<◌, ◌+◌, ◌-◌, ◌^◌, ◌++◌, length, take, true, false, IfOk, OnOk, OnErr, IfSome, IfNone};
 ghost use Rattle.std.specs.Str.{bytes_eq};
 ghost use Rattle.dialogue.specs.Prelude.{IsUnit};
-ghost use Rattle.audit_streams.specs.Transcripts.{IsOf, IsOther, rest_of, with_octets, ended};
+ghost use Rattle.audit_streams.specs.Inside.Transcripts.{IsOf, IsOther, rest_of, with_octets, ended};
 
 use crate::transcript::Transcript;
 use dialogue::Dialogue;

@@ -3,7 +3,7 @@ ghost use Rattle.std.specs.Prelude.{◌≡◌, ◌≤◌, ◌<◌, ◌+◌, ◌-
 ghost use Rattle.std.specs.List.{slice_get};
 ghost use Rattle.std.specs.Option.{option_map};
 ghost use Rattle.dialogue.specs.Prelude.{fore_in, rear_in, back_in};
-ghost use Rattle.audit_streams.specs.Transcripts.{span_of, rest_of, with_octets, closed, rest_at, changed, last_by};
+ghost use Rattle.audit_streams.specs.Inside.Transcripts.{span_of, rest_of, with_octets, closed, rest_at, changed, last_by};
 
 use gate_base::OutOfMemory;
 use std::alloc::Global;
@@ -38,7 +38,7 @@ pub(crate) struct Transcript {
 
 impl Model for Transcript {
     ghost use Rattle.std.specs.Prelude.{length, map};
-    ghost use Rattle.audit_streams.specs.Transcripts.{Transcribed, IsTranscript, places_from};
+    ghost use Rattle.audit_streams.specs.Inside.Transcripts.{Transcribed, IsTranscript, places_from};
 
     ghost Value = { Transcribed };
 

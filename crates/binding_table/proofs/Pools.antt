@@ -13,7 +13,7 @@ use Rattle.gate_base.specs.declared.side.Side.TheVariants.{Left, Right}
 use Rattle.gate_base.proofs.Sides.{same_side-sym}
 use Rattle.realm_pools.specs.Addresses.{Range, is_in, is_free, is_taken}
 use Rattle.binding_table.specs.Prelude.{Aliases, aliases_with, changed, host_at, host_of, is_of_alias, is_used, pool_with, collides}
-use Rattle.binding_table.specs.Steps.{no_hosts, with_host}
+use Rattle.binding_table.specs.Inside.Steps.{no_hosts, with_host}
 use Rattle.binding_table.specs.declared.binding.Binding.{Binding}
 
 -- ## Sides

@@ -2,7 +2,7 @@
 ghost use Rattle.std.specs.Prelude.{◌≡◌, true, false, Some, None, slice_index_or, length, IfOk, IsTrue};
 ghost use Rattle.gate_settings.specs.Prelude.{is_bad_pool};
 ghost use Rattle.realm_pools.specs.Addresses.{is_free, is_taken, is_in, place_of};
-ghost use Rattle.binding_table.specs.Steps as steps;
+ghost use Rattle.binding_table.specs.Inside.Steps as steps;
 
 use gate_base::{Addr, OutOfMemory};
 use gate_settings::SideSettings;
@@ -27,11 +27,11 @@ impl Drop for Aliases {
 }
 
 impl Model for Aliases {
-    ghost use Rattle.binding_table.specs.Steps.{Aliases};
+    ghost use Rattle.binding_table.specs.Inside.Steps.{Aliases};
 
     ghost Value = { Aliases };
 
-    ghost use Rattle.binding_table.specs.AliasesInside.{aliases_in, AreWhole};
+    ghost use Rattle.binding_table.specs.Inside.AliasesInside.{aliases_in, AreWhole};
 
     ghost view = { aliases_in };
 

@@ -1,6 +1,6 @@
 ghost use Rattle.std.specs.Prelude.{◌≡◌};
 ghost use Rattle.binding_table.specs.Bindings as tables;
-ghost use Rattle.binding_table.specs.Steps.{filed, lasts, number_of};
+ghost use Rattle.binding_table.specs.Inside.Steps.{filed, lasts, number_of};
 
 use expiring_table::Row;
 use gate_base::{Addr, Moment, Side};

@@ -1,7 +1,7 @@
 // The bindings of a table: fixed ones, and others.
 ghost use Rattle.std.specs.Prelude.{◌≡◌, ◌*◌, ◌<◌, ◌^◌, ◌++◌, ◌∷◌, [], true, None, Some, length, map, option_map, option_and_then, All, IfOk, IfSome, IfNone, IsSome, IsSomeAnd, OnErr, OnOk};
 ghost use Rattle.expiring_table.specs.Prelude.{no_rows, row_of, with_row, living, IsTakenOut};
-ghost use Rattle.binding_table.specs.Steps.{ending, filed};
+ghost use Rattle.binding_table.specs.Inside.Steps.{ending, filed};
 
 use crate::binding::{Binding, number_of};
 use expiring_table::{Row, Rows, Seed};
@@ -24,7 +24,7 @@ impl Model for Entries {
 
     ghost Value = { Table Binding };
 
-    ghost use Rattle.binding_table.specs.EntriesInside.{fixed_rows, rows_inside, AreApart};
+    ghost use Rattle.binding_table.specs.Inside.EntriesInside.{fixed_rows, rows_inside, AreApart};
 
     ghost view = { rows_inside };
 

@@ -4,7 +4,7 @@ ghost use Rattle.expiring_table.specs.Prelude.{no_rows};
 ghost use Rattle.gate_base.specs.Prelude.{other};
 ghost use Rattle.binding_table.specs.Bindings as tables;
 ghost use Rattle.binding_table.specs.Plan as plans;
-ghost use Rattle.binding_table.specs.Steps.{AreFirsts, EndsAtOnce, needing, next_alias, planned_by};
+ghost use Rattle.binding_table.specs.Inside.Steps.{AreFirsts, EndsAtOnce, needing, next_alias, planned_by};
 
 use crate::aliases::address_at;
 use crate::binding::Crossing;

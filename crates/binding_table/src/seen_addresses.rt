@@ -3,7 +3,7 @@ ghost use Rattle.std.specs.Prelude.{◌≡◌, ◌++◌, ◌∷◌, [], true, Al
 ghost use Rattle.expiring_table.specs.Prelude.{no_rows};
 ghost use Rattle.gate_base.specs.declared.address.Addr.{Addr};
 ghost use Rattle.binding_table.specs.Plan.{is_address};
-ghost use Rattle.binding_table.specs.Steps.{AreFirsts, EndsAtOnce};
+ghost use Rattle.binding_table.specs.Inside.Steps.{AreFirsts, EndsAtOnce};
 
 use expiring_table::{Row, Rows, Seed};
 use gate_base::{Addr, OutOfMemory};

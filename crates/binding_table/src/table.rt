@@ -2,7 +2,7 @@
 ghost use Rattle.std.specs.Prelude.{◌≡◌, true, false, Some, None, map, option_map, option_and_then, length, All, IfOk, IsTrue, OnOk};
 ghost use Rattle.std.specs.Bool.{OnTrue, OnFalse};
 ghost use Rattle.std.specs.List.{find, filter};
-ghost use Rattle.binding_table.specs.Steps.{aliases_of, aliases_with, changed, entries_in, extended_by, filed, moving_row, unless_fixed, AreKept, CanHold};
+ghost use Rattle.binding_table.specs.Inside.Steps.{aliases_of, aliases_with, changed, entries_in, extended_by, filed, moving_row, unless_fixed, AreKept, CanHold};
 ghost use Rattle.binding_table.specs.Bindings as tables;
 ghost use Rattle.binding_table.specs.Lawful.{IsLawful};
 ghost use Rattle.binding_table.specs.Plan.{used};
@@ -49,7 +49,7 @@ impl Model for Table {
 
     ghost Value = { Bindings };
 
-    ghost use Rattle.binding_table.specs.Inside.{bindings_of, IsWhole};
+    ghost use Rattle.binding_table.specs.Inside.Whole.{bindings_of, IsWhole};
 
     ghost view = { bindings_of };
 

@@ -37,7 +37,8 @@ fore_in-plain_beyond (x ∷ old) at n o zero l = refl
 fore_in-plain_beyond (x ∷ old) at n o (suc p) l = fore_in-plain_beyond old at n o p l
 
 -- an open stream's spans are those that are due and a held rest's
-spans_held : (m : Meaning) → IsLawful m → (s : List ℕ) → (at n : ℕ) × (spans m s ≡ due_spans m (cut m s) ++ plain_spans at n) × (length (due m false s) ≤ at)
+spans_held : (m : Meaning) → IsLawful m → (s : List ℕ) → (at n : ℕ) × (spans m s ≡ due_spans m (cut m s) ++ plain_spans at n)
+    × (length (due m false s) ≤ at)
 spans_held m law s =
     let c = cut m s in
     let at = length (flat_map m.image c.units) in
@@ -46,7 +47,8 @@ spans_held m law s =
         at,
         length c.rest,
         spans-pushes_of m c c.rest
-            ∙ ap (λ ss. ss ++ plain_spans at (length c.rest)) (sym (append-nil _) ∙ sym (spans-pushes_of m c []) ∙ ap (λ r. spans_from 0 (pushes_of m c r)) (sym e)),
+            ∙ ap (λ ss. ss ++ plain_spans at (length c.rest))
+            (sym (append-nil _) ∙ sym (spans-pushes_of m c []) ∙ ap (λ r. spans_from 0 (pushes_of m c r)) (sym e)),
         omega (arith, ap length e, length-append (flat_map m.image c.units) (due_rest m false c.rest)),
       )
       | inr p ↦ (length (due m false s), 0, ap (λ r. spans_from 0 (pushes_of m c r)) (sym p.0) ∙ sym (append-nil _), omega arith)
@@ -66,7 +68,8 @@ rear-due m law s e =
     ∙ rear_in-beyond (due_spans m (cut m s)) h.0 (length (due m false s)) e h.2
     ∙ ap (λ o. rear_in (due_spans m (cut m s)) o e) (sym (end_from-due m s))
 
-pub back-due : (m : Meaning) → IsLawful m → (s : List ℕ) (q : ℕ) → q ≤ length (due m false s) → back m false s q ≡ back_of (sent_pushes m false (cut m s)) q
+pub back-due : (m : Meaning) → IsLawful m → (s : List ℕ) (q : ℕ) → q ≤ length (due m false s)
+    → back m false s q ≡ back_of (sent_pushes m false (cut m s)) q
 back-due m law s q l =
     let h : (more : List Span) × (spans m s ≡ due_spans m (cut m s) ++ more) × Beyond (length (due m false s)) more = spans_due m law s in
     ap (λ ss. back_in ss q) h.1 ∙ back_in-beyond (due_spans m (cut m s)) h.0 _ q h.2 l

@@ -10,7 +10,8 @@ use Rattle.compact_stream.specs.Prelude.{sent_pushes, held_rest}
 use Rattle.compact_stream.proofs.DuePlaces.{end_from-due, back-due}
 use Rattle.compact_stream.proofs.SenderLemmas.{rest_split}
 
-plain_all : (n at : ℕ) (ss : List Span) (q : ℕ) → at + n ≤ q → back_in ss q ≡ length ss → back_in (plain_spans at n ++ ss) q ≡ length (plain_spans at n ++ ss)
+plain_all : (n at : ℕ) (ss : List Span) (q : ℕ) → at + n ≤ q → back_in ss q ≡ length ss
+    → back_in (plain_spans at n ++ ss) q ≡ length (plain_spans at n ++ ss)
 plain_all zero at ss q l h = h
 plain_all (suc n) at ss q l h =
     let t : nat_le (at + 1) q ≡ true = le-leb (at + 1) q (omega arith) in
@@ -29,8 +30,10 @@ back_all (Changed unit image ∷ ps) at q l =
 pub back_due : (m : Meaning) → IsLawful m → (s : List ℕ) → back m false s (length (due m false s)) + length (held_rest m (cut m s).rest) ≡ length s
 back_due m law s =
     let c = cut m s in
-    let b : back m false s (length (due m false s)) ≡ back_of (sent_pushes m false (cut m s)) (length (due m false s)) = back-due m law s (length (due m false s)) (omega arith) in
-    let all : back_of (sent_pushes m false (cut m s)) (length (due m false s)) ≡ length (spans_from 0 (sent_pushes m false (cut m s))) = back_all (sent_pushes m false (cut m s)) 0 (length (due m false s)) (omega (arith, end_from-due m s)) in
+    let b : back m false s (length (due m false s)) ≡ back_of (sent_pushes m false (cut m s)) (length (due m false s)) =
+    back-due m law s (length (due m false s)) (omega arith) in
+    let all : back_of (sent_pushes m false (cut m s)) (length (due m false s)) ≡ length (spans_from 0 (sent_pushes m false (cut m s))) =
+    back_all (sent_pushes m false (cut m s)) 0 (length (due m false s)) (omega (arith, end_from-due m s)) in
     omega (
       arith,
       b,
@@ -43,9 +46,12 @@ back_due m law s =
     )
 
 -- so Fore of the held rest's first octet, in whatever the stream grows to, is no more than what was due
-pub fore_held : (m : Meaning) → IsLawful m → (ended : Bool) (s t : List ℕ) (p : ℕ) → p + length (held_rest m (cut m s).rest) ≡ length s → fore m ended (s ++ t) p ≤ length (due m false s)
+pub fore_held : (m : Meaning) → IsLawful m → (ended : Bool) (s t : List ℕ) (p : ℕ) → p + length (held_rest m (cut m s).rest) ≡ length s
+    → fore m ended (s ++ t) p ≤ length (due m false s)
 fore_held m law ended s t p e =
-    let b : back m ended (s ++ t) (length (due m false s)) ≡ back m false s (length (due m false s)) = back-append m law ended s t (length (due m false s)) (omega arith) in
-    let f : fore m ended (s ++ t) (back m ended (s ++ t) (length (due m false s))) ≤ length (due m false s) = fore-back m law ended (s ++ t) (length (due m false s)) in
+    let b : back m ended (s ++ t) (length (due m false s)) ≡ back m false s (length (due m false s)) =
+    back-append m law ended s t (length (due m false s)) (omega arith) in
+    let f : fore m ended (s ++ t) (back m ended (s ++ t) (length (due m false s))) ≤ length (due m false s) =
+    fore-back m law ended (s ++ t) (length (due m false s)) in
     let at : back m ended (s ++ t) (length (due m false s)) ≡ p = omega (arith, b, back_due m law s) in
     subst (λ (n : ℕ). fore m ended (s ++ t) n ≤ length (due m false s)) at f

@@ -24,8 +24,10 @@ from_some None e = absurd (let f : false ≡ true = e in cc)
 from_some (Some n) e = (n, refl)
 
 -- where a first unit stands after one octet more, it is the whole
-pub unit_here : (m : Meaning) → IsLawful m → (rest : List ℕ) (x : ℕ) → IsRest m rest → is_some (m.first_end (rest ++ x ∷ [])) ≡ true → IsUnit m (rest ++ x ∷ [])
-unit_here m law rest x r e = let p : (n : ℕ) × (m.first_end (rest ++ x ∷ []) ≡ Some n) = from_some (m.first_end (rest ++ x ∷ [])) e in IsUnit-push m law rest x p.0 r p.1
+pub unit_here : (m : Meaning) → IsLawful m → (rest : List ℕ) (x : ℕ) → IsRest m rest → is_some (m.first_end (rest ++ x ∷ [])) ≡ true
+    → IsUnit m (rest ++ x ∷ [])
+unit_here m law rest x r e = let p : (n : ℕ) × (m.first_end (rest ++ x ∷ []) ≡ Some n) = from_some (m.first_end (rest ++ x ∷ [])) e in
+    IsUnit-push m law rest x p.0 r p.1
 
 is_held-push : (m : Meaning) (r : List ℕ) (x : ℕ) → is_held m (r ++ x ∷ []) ≡ m.holds (r ++ x ∷ [])
 is_held-push m [] x = refl
@@ -45,7 +47,8 @@ open_rest m (y ∷ r) rest e f =
     ]
 
 -- a released rest is due, and none of it is kept
-pub free_rest : (m : Meaning) (r rest : List ℕ) → IsRest m r → rest ≡ held_rest m r → true ≡ is_released m r → (rest ≡ []) × IsReleased m r × (due_rest m false r ≡ r)
+pub free_rest : (m : Meaning) (r rest : List ℕ) → IsRest m r → rest ≡ held_rest m r → true ≡ is_released m r → (rest ≡ []) × IsReleased m r
+    × (due_rest m false r ≡ r)
 free_rest m [] rest ir e f = absurd (false≢true (sym f))
 free_rest m (y ∷ r) rest ir e f =
     elim (cases_Bool (m.holds (y ∷ r))) [
@@ -54,11 +57,13 @@ free_rest m (y ∷ r) rest ir e f =
     ]
 
 -- the pushes that were due, by what was due of the rest
-old_pushes : (m : Meaning) (c : Cut) (r : List ℕ) → due_rest m false c.rest ≡ r → sent_pushes m false c ≡ map (push_of m) c.units ++ Plain (length r) ∷ []
+old_pushes : (m : Meaning) (c : Cut) (r : List ℕ) → due_rest m false c.rest ≡ r
+    → sent_pushes m false c ≡ map (push_of m) c.units ++ Plain (length r) ∷ []
 old_pushes m c r e = ap (λ r. map (push_of m) c.units ++ Plain (length r) ∷ []) e
 
 -- a ledger after one push more, whose pushes a ledger cannot tell from those that are due now
-moved : (m : Meaning) (c : Cut) (l : Kept) (r : List ℕ) (p : Push) (qs : List Push) (k : ℕ) → due_rest m false c.rest ≡ r → IsSame (Plain (length r) ∷ p ∷ []) qs → StandsFor l (sent_pushes m false c ++ p ∷ []) k → StandsFor l (map (push_of m) c.units ++ qs) k
+moved : (m : Meaning) (c : Cut) (l : Kept) (r : List ℕ) (p : Push) (qs : List Push) (k : ℕ) → due_rest m false c.rest ≡ r
+    → IsSame (Plain (length r) ∷ p ∷ []) qs → StandsFor l (sent_pushes m false c ++ p ∷ []) k → StandsFor l (map (push_of m) c.units ++ qs) k
 moved m c l r p qs k e same st =
     let hs = map (push_of m) c.units in
     let st' : StandsFor l (hs ++ (Plain (length r) ∷ p ∷ [])) k =
@@ -66,14 +71,16 @@ moved m c l r p qs k e same st =
     StandsFor-same l hs (Plain (length r) ∷ p ∷ []) qs k same st'
 
 -- the pushes after a unit that has this push
-unit_pushes : (m : Meaning) (c : Cut) (u : List ℕ) (p : Push) → push_of m u ≡ p → map (push_of m) c.units ++ p ∷ Plain 0 ∷ [] ≡ sent_pushes m false (cut_at c u true)
+unit_pushes : (m : Meaning) (c : Cut) (u : List ℕ) (p : Push) → push_of m u ≡ p
+    → map (push_of m) c.units ++ p ∷ Plain 0 ∷ [] ≡ sent_pushes m false (cut_at c u true)
 unit_pushes m c u p e =
     sym (append_assoc (map (push_of m) c.units) (p ∷ []) (Plain 0 ∷ []))
     ∙ ap (λ q. map (push_of m) c.units ++ q ∷ [] ++ Plain 0 ∷ []) (sym e)
     ∙ ap (λ h. h ++ Plain 0 ∷ []) (sym (map-append (push_of m) c.units (u ∷ [])))
 
 -- a held rest, or none, goes on and is held
-pub step_hold : (m : Meaning) (rest : List ℕ) (l : Kept) (c : Cut) (x k : ℕ) → IsKeptOf m rest false l c k → is_some (m.first_end (rest ++ x ∷ [])) ≡ false → m.holds (rest ++ x ∷ []) ≡ true → IsKeptOf m (rest ++ x ∷ []) false l (add_octet m c x) k
+pub step_hold : (m : Meaning) (rest : List ℕ) (l : Kept) (c : Cut) (x k : ℕ) → IsKeptOf m rest false l c k
+    → is_some (m.first_end (rest ++ x ∷ [])) ≡ false → m.holds (rest ++ x ∷ []) ≡ true → IsKeptOf m (rest ++ x ∷ []) false l (add_octet m c x) k
 step_hold m rest l c x k kept none holds =
     let r : (rest ≡ c.rest) × (due_rest m false c.rest ≡ []) = open_rest m c.rest rest kept.rest_is kept.released_is in
     let u_is : rest ++ x ∷ [] ≡ c.rest ++ x ∷ [] = ap (λ t. t ++ x ∷ []) r.0 in
@@ -97,7 +104,8 @@ step_release m rest l l' c x k n n_is kept none free st =
     rw none' (record {
       rest_is = rw held refl;
       released_is = rw (held, is_empty-push c.rest x) refl;
-      ledger_is = rw held (moved m c l' [] (Plain n) (Plain (length (c.rest ++ x ∷ [])) ∷ []) k r.1 (join_plain 0 n _ (omega (arith, ap length u_is))) st);
+      ledger_is =
+          rw held (moved m c l' [] (Plain n) (Plain (length (c.rest ++ x ∷ [])) ∷ []) k r.1 (join_plain 0 n _ (omega (arith, ap length u_is))) st);
     })
 
 -- it ends as a unit that its image equals
@@ -129,7 +137,8 @@ step_changed_unit m rest image l l' c x k n n_is kept ends is other st =
     let is' : image ≡ m.image (c.rest ++ x ∷ []) = is ∙ ap m.image u_is in
     let other' : bytes_eq (m.image (c.rest ++ x ∷ [])) (c.rest ++ x ∷ []) ≡ false =
     subst (λ (i : List ℕ). bytes_eq i (c.rest ++ x ∷ []) ≡ false) is' (subst (λ (u : List ℕ). bytes_eq image u ≡ false) u_is other) in
-    let p_is : push_of m (c.rest ++ x ∷ []) ≡ Changed n image = rw other' (ap (λ k. Changed k (m.image (c.rest ++ x ∷ []))) (sym (n_is ∙ ap length u_is)) ∙ ap (Changed n) (sym is')) in
+    let p_is : push_of m (c.rest ++ x ∷ []) ≡ Changed n image =
+    rw other' (ap (λ k. Changed k (m.image (c.rest ++ x ∷ []))) (sym (n_is ∙ ap length u_is)) ∙ ap (Changed n) (sym is')) in
     rw ends' (record {
       rest_is = refl;
       released_is = refl;
@@ -139,7 +148,8 @@ step_changed_unit m rest image l l' c x k n n_is kept ends is other st =
     })
 
 -- a released rest goes on
-pub step_free : (m : Meaning) → IsLawful m → (rest : List ℕ) (l : Kept) (l' : Kept) (c : Cut) (x k : ℕ) → IsRest m c.rest → IsKeptOf m rest true l c k → is_some (m.first_end (x ∷ [])) ≡ false → StandsFor l' (sent_pushes m false c ++ Plain 1 ∷ []) k → IsKeptOf m rest true l' (add_octet m c x) k
+pub step_free : (m : Meaning) → IsLawful m → (rest : List ℕ) (l : Kept) (l' : Kept) (c : Cut) (x k : ℕ) → IsRest m c.rest → IsKeptOf m rest true l c k
+    → is_some (m.first_end (x ∷ [])) ≡ false → StandsFor l' (sent_pushes m false c ++ Plain 1 ∷ []) k → IsKeptOf m rest true l' (add_octet m c x) k
 step_free m law rest l l' c x k ir kept none st =
     let r : (rest ≡ []) × IsReleased m c.rest × (due_rest m false c.rest ≡ c.rest) = free_rest m c.rest rest ir kept.rest_is kept.released_is in
     let alone : m.first_end (x ∷ []) ≡ None = none_there (m.first_end (x ∷ [])) none in
@@ -148,15 +158,20 @@ step_free m law rest l l' c x k ir kept none st =
     rw on (record {
       rest_is = rw free r.0;
       released_is = rw (free, is_empty-push c.rest x) refl;
-      ledger_is = rw free (moved m c l' c.rest (Plain 1) (Plain (length (c.rest ++ x ∷ [])) ∷ []) k r.2 (join_plain (length c.rest) 1 _ (omega (arith, length-append c.rest (x ∷ [])))) st);
+      ledger_is =
+          rw free (moved m c l' c.rest (Plain 1) (Plain (length (c.rest ++ x ∷ [])) ∷ []) k r.2
+          (join_plain (length c.rest) 1 _ (omega (arith, length-append c.rest (x ∷ [])))) st);
     })
 
 -- a released rest ends
-pub step_free_unit : (m : Meaning) → IsLawful m → (rest : List ℕ) (l : Kept) (l' : Kept) (c : Cut) (x k : ℕ) → IsRest m c.rest → IsKeptOf m rest true l c k → is_some (m.first_end (x ∷ [])) ≡ true → StandsFor l' (sent_pushes m false c ++ Plain 1 ∷ []) k → IsKeptOf m rest false l' (add_octet m c x) k
+pub step_free_unit : (m : Meaning) → IsLawful m → (rest : List ℕ) (l : Kept) (l' : Kept) (c : Cut) (x k : ℕ) → IsRest m c.rest
+    → IsKeptOf m rest true l c k → is_some (m.first_end (x ∷ [])) ≡ true → StandsFor l' (sent_pushes m false c ++ Plain 1 ∷ []) k
+    → IsKeptOf m rest false l' (add_octet m c x) k
 step_free_unit m law rest l l' c x k ir kept ends st =
     let r : (rest ≡ []) × IsReleased m c.rest × (due_rest m false c.rest ≡ c.rest) = free_rest m c.rest rest ir kept.rest_is kept.released_is in
     let p : (n : ℕ) × (m.first_end (x ∷ []) ≡ Some n) = from_some (m.first_end (x ∷ [])) ends in
-    let on : m.first_end (c.rest ++ x ∷ []) ≡ Some (length c.rest + p.0) = law.ends c.rest (x ∷ []) r.1 ∙ ap (option_map (λ n. length c.rest + n)) p.1 in
+    let on : m.first_end (c.rest ++ x ∷ []) ≡ Some (length c.rest + p.0) = law.ends c.rest (x ∷ []) r.1
+    ∙ ap (option_map (λ n. length c.rest + n)) p.1 in
     let unit : IsUnit m (c.rest ++ x ∷ []) = IsUnit-push m law c.rest x _ ir on in
     let same : m.image (c.rest ++ x ∷ []) ≡ c.rest ++ x ∷ [] = law.kept (c.rest ++ x ∷ []) unit (law.released c.rest (x ∷ []) r.1 unit) in
     rw on (record {

@@ -21,11 +21,14 @@ test_min k o end l =
       | inr above ↦ le-ltb (min k o) end (omega arith) ∙ sym (le-ltb k end above)
     ]
 
-open_min : (ps : List Push) (at k o start : ℕ) → end_from at ps ≤ o → fold (λ n end. n + cond (nat_lt (min k o) end) 1 0) start (changed_ends at ps) ≡ fold (λ n end. n + cond (nat_lt k end) 1 0) start (changed_ends at ps)
+open_min : (ps : List Push) (at k o start : ℕ) → end_from at ps ≤ o
+    → fold (λ n end. n + cond (nat_lt (min k o) end) 1 0) start (changed_ends at ps) ≡ fold (λ n end. n + cond (nat_lt k end) 1 0) start
+    (changed_ends at ps)
 open_min [] at k o start l = refl
 open_min (Plain count ∷ ps) at k o start l = open_min ps (at + count) k o start l
 open_min (Changed unit image ∷ ps) at k o start l =
-    let same : nat_lt (min k o) (at + length image) ≡ nat_lt k (at + length image) = test_min k o (at + length image) (omega (arith, end_from-le (at + length image) ps)) in
+    let same : nat_lt (min k o) (at + length image) ≡ nat_lt k (at + length image) =
+    test_min k o (at + length image) (omega (arith, end_from-le (at + length image) ps)) in
     open_min ps (at + length image) k o (start + cond (nat_lt (min k o) (at + length image)) 1 0) l
     ∙ ap (λ (b : Bool). fold (λ n end. n + cond (nat_lt k end) 1 0) (start + cond b 1 0) (changed_ends (at + length image) ps)) same
 
@@ -33,7 +36,13 @@ pub open_is : (m : Meaning) (h : CompactSender) (a : Sender) → KeepsSender m h
 open_is m h a k =
     let c = cut m a.octets in
     let o = h.ledger.octets_out in
-    let kept : length h.ledger.changed ≡ open_in (sent_pushes m h.ended (cut m a.octets)) (min h.acked h.ledger.octets_out) = open_in-kept h.ledger (sent_pushes m h.ended (cut m a.octets)) (min h.acked h.ledger.octets_out) k.keeps.ledger in
-    let up : open_in (sent_pushes m h.ended (cut m a.octets)) (min h.acked h.ledger.octets_out) ≡ open_in (sent_pushes m h.ended (cut m a.octets)) h.acked = open_min (sent_pushes m h.ended (cut m a.octets)) 0 h.acked h.ledger.octets_out 0 (omega (arith, k.keeps.ledger.octets_out)) in
-    let tail : open_in (sent_pushes m h.ended (cut m a.octets)) h.acked ≡ open_units m a.octets h.acked = ap (count_by (λ end. nat_lt h.acked end)) (ends_tail (map (push_of m) (cut m a.octets).units) 0 (length (due_rest m h.ended (cut m a.octets).rest)) (length (cut m a.octets).rest)) in
+    let kept : length h.ledger.changed ≡ open_in (sent_pushes m h.ended (cut m a.octets)) (min h.acked h.ledger.octets_out) =
+    open_in-kept h.ledger (sent_pushes m h.ended (cut m a.octets)) (min h.acked h.ledger.octets_out) k.keeps.ledger in
+    let up : open_in (sent_pushes m h.ended (cut m a.octets)) (min h.acked h.ledger.octets_out) ≡ open_in
+    (sent_pushes m h.ended (cut m a.octets)) h.acked =
+    open_min (sent_pushes m h.ended (cut m a.octets)) 0 h.acked h.ledger.octets_out 0 (omega (arith, k.keeps.ledger.octets_out)) in
+    let tail : open_in (sent_pushes m h.ended (cut m a.octets)) h.acked ≡ open_units m a.octets h.acked =
+    ap (count_by (λ end. nat_lt h.acked end))
+    (ends_tail (map (push_of m) (cut m a.octets).units) 0 (length (due_rest m h.ended (cut m a.octets).rest))
+    (length (cut m a.octets).rest)) in
     kept ∙ up ∙ tail ∙ ap (λ (z : Sender). open_units z.meaning a.octets z.acked) (sym k.is)

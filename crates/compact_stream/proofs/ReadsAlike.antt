@@ -33,7 +33,8 @@ keeps_alike m n h s a k =
       recent = k.recent ∙ ap (λ (p : ℕ). drop p s) (back_alike m n h.ended s h.acked a);
     }
 
-pub sender_alike : (m n : Meaning) (h : CompactSender) (a : Sender) → ReadAlike m n a.octets → KeepsSender m h a → KeepsSender n h (record a { meaning = n })
+pub sender_alike : (m n : Meaning) (h : CompactSender) (a : Sender) → ReadAlike m n a.octets → KeepsSender m h a
+    → KeepsSender n h (record a { meaning = n })
 sender_alike m n h a alike k = record {
   is = ap (λ (x : Sender). record x { meaning = n }) k.is;
   keeps = keeps_alike m n h a.octets alike k.keeps;

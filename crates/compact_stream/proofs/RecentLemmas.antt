@@ -17,7 +17,8 @@ use Rattle.compact_stream.proofs.PlacesKept.{back_past}
 pub back-short : (m : Meaning) (s : List ℕ) (q : ℕ) → back m false s q ≤ length s
 back-short m s q = omega (arith, prefix_len-le-length (λ (x : Span). nat_le x.past q) (spans m s), length-spans m s)
 
-pub recent_more : (m : Meaning) → IsLawful m → (s t : List ℕ) (q : ℕ) → q ≤ length (due m false s) → drop (back m false s q) s ++ t ≡ drop (back m false (s ++ t) q) (s ++ t)
+pub recent_more : (m : Meaning) → IsLawful m → (s t : List ℕ) (q : ℕ) → q ≤ length (due m false s)
+    → drop (back m false s q) s ++ t ≡ drop (back m false (s ++ t) q) (s ++ t)
 recent_more m law s t q l =
     sym (drop-append-le (back m false s q) s t (back-short m s q))
     ∙ ap (λ (n : ℕ). drop n (s ++ t)) (sym (back-append m law false s t q l))
@@ -27,7 +28,8 @@ recent_end m law s q l =
     ap (λ (n : ℕ). drop n s) (sym (back-append m law true s [] q l) ∙ ap (λ (u : List ℕ). back m true u q) (append-nil s))
 
 -- Back by what is kept
-pub back_kept-is : (m : Meaning) → IsLawful m → (h : CompactSender) (s : List ℕ) (q : ℕ) → Keeps m h s → h.acked ≤ q → q ≤ h.ledger.octets_out + one_if h.ended → back_kept h q ≡ back m h.ended s q
+pub back_kept-is : (m : Meaning) → IsLawful m → (h : CompactSender) (s : List ℕ) (q : ℕ) → Keeps m h s → h.acked ≤ q
+    → q ≤ h.ledger.octets_out + one_if h.ended → back_kept h q ≡ back m h.ended s q
 back_kept-is m law h s q k from to =
     let ps = sent_pushes m h.ended (cut m s) in
     elim (cases_lt h.ledger.octets_out q) [
@@ -39,7 +41,8 @@ back_kept-is m law h s q k from to =
     ]
 
 -- acknowledged up to this place
-pub recent_forgotten : (m : Meaning) → IsLawful m → (h : CompactSender) (s : List ℕ) (q : ℕ) → Keeps m h s → h.acked ≤ q → q ≤ h.ledger.octets_out + one_if h.ended → drop (back_kept h q - recent_start h) h.recent ≡ drop (back m h.ended s q) s
+pub recent_forgotten : (m : Meaning) → IsLawful m → (h : CompactSender) (s : List ℕ) (q : ℕ) → Keeps m h s → h.acked ≤ q
+    → q ≤ h.ledger.octets_out + one_if h.ended → drop (back_kept h q - recent_start h) h.recent ≡ drop (back m h.ended s q) s
 recent_forgotten m law h s q k from to =
     let one : one_if h.ended ≤ 1 = one-le h.ended in
     let d : h.ledger.octets_out ≡ length (due m h.ended s) = due_is m h s k in

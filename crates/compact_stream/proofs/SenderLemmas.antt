@@ -55,11 +55,14 @@ pub extent_is : (m : Meaning) (h : CompactSender) (s : List ℕ) → Keeps m h s
 extent_is m h s k =
     let e : h.ledger.octets_in + length h.rest ≡ length s = octets_are m h s k in
     let f : h.ledger.octets_out ≡ length (due m h.ended s) = due_is m h s k in
-    let x : extent_kept h ≡ record { initial = h.initial; octets = length s; due = h.ledger.octets_out; ended = h.ended; recent = length h.recent } = ap (λ (n : ℕ). record { initial = h.initial; octets = n; due = h.ledger.octets_out; ended = h.ended; recent = length h.recent }) e in
+    let x : extent_kept h ≡ record { initial = h.initial; octets = length s; due = h.ledger.octets_out; ended = h.ended; recent = length h.recent } =
+    ap (λ (n : ℕ). record { initial = h.initial; octets = n; due = h.ledger.octets_out; ended = h.ended; recent = length h.recent }) e in
     let y : record { initial = h.initial; octets = length s; due = h.ledger.octets_out; ended = h.ended; recent = length h.recent }
     ≡ record { initial = h.initial; octets = length s; due = length (due m h.ended s); ended = h.ended; recent = length h.recent } =
     ap (λ (n : ℕ). record { initial = h.initial; octets = length s; due = n; ended = h.ended; recent = length h.recent }) f in
-    x ∙ y ∙ ap (λ (r : List ℕ). record { initial = h.initial; octets = length s; due = length (due m h.ended s); ended = h.ended; recent = length r }) k.recent
+    x ∙ y ∙ ap
+    (λ (r : List ℕ). record { initial = h.initial; octets = length s; due = length (due m h.ended s); ended = h.ended; recent = length r })
+    k.recent
 
 -- Fore, Rear and Back, ended or not
 pub fore-sent : (m : Meaning) → IsLawful m → (ended : Bool) (s : List ℕ) (p : ℕ) → fore m ended s p ≡ fore_of (sent_pushes m ended (cut m s)) p
@@ -70,12 +73,20 @@ pub rear-sent : (m : Meaning) → IsLawful m → (ended : Bool) (s : List ℕ) (
 rear-sent m law true s e = ap (λ o. rear_in (spans m s) o e) (sym (end_from-pushes m s))
 rear-sent m law false s e = rear-due m law s e
 
-pub back-sent : (m : Meaning) → IsLawful m → (ended : Bool) (s : List ℕ) (q : ℕ) → q ≤ length (due m ended s) → back m ended s q ≡ back_of (sent_pushes m ended (cut m s)) q
+pub back-sent : (m : Meaning) → IsLawful m → (ended : Bool) (s : List ℕ) (q : ℕ) → q ≤ length (due m ended s)
+    → back m ended s q ≡ back_of (sent_pushes m ended (cut m s)) q
 back-sent m law true s q l = rw (ne_eqb q (length (image m s) + 1) (λ e. omega arith)) refl
 back-sent m law false s q l = back-due m law s q l
 
 -- the stream ends: a held rest is pushed
-pub end_pushes : (m : Meaning) (l : Kept) (c : Cut) (k : ℕ) → StandsFor l (sent_pushes m false c) k → StandsFor (record { octets_in = l.octets_in + length (held_rest m c.rest); octets_out = l.octets_out + length (held_rest m c.rest); changed = l.changed; spare = l.spare }) (sent_pushes m true c) k
+pub end_pushes : (m : Meaning) (l : Kept) (c : Cut) (k : ℕ) → StandsFor l (sent_pushes m false c) k
+    → StandsFor
+    (record {
+      octets_in = l.octets_in + length (held_rest m c.rest);
+      octets_out = l.octets_out + length (held_rest m c.rest);
+      changed = l.changed;
+      spare = l.spare;
+    }) (sent_pushes m true c) k
 end_pushes m l c k h =
     let pushed : StandsFor (record {
       octets_in = l.octets_in + length (held_rest m c.rest);
@@ -85,7 +96,8 @@ end_pushes m l c k h =
     }) (sent_pushes m false c ++ Plain (length (held_rest m c.rest)) ∷ []) k = StandsFor-push_plain l
     (sent_pushes m false c) k (length (held_rest m c.rest)) l.spare h in
     let n : length c.rest ≡ length (due_rest m false c.rest) + length (held_rest m c.rest) = sym (rest_split m false c.rest) in
-    StandsFor-same _ (map (push_of m) c.units) (Plain (length (due_rest m false c.rest)) ∷ Plain (length (held_rest m c.rest)) ∷ []) (Plain (length c.rest) ∷ []) k
+    StandsFor-same _ (map (push_of m) c.units) (Plain (length (due_rest m false c.rest)) ∷ Plain (length (held_rest m c.rest)) ∷ [])
+    (Plain (length c.rest) ∷ []) k
     (join_plain (length (due_rest m false c.rest)) (length (held_rest m c.rest)) (length c.rest) n)
     (subst (λ (ps : List Push). StandsFor
     (record {

@@ -40,7 +40,8 @@ pub record KeepsSender (m : Meaning) (h : CompactSender) (a : Sender) : Type 0 w
 
 -- what decides a refusal, of it
 abbrev pub extent_kept : CompactSender → Extent
-extent_kept h = record { initial = h.initial; octets = h.ledger.octets_in + length h.rest; due = h.ledger.octets_out; ended = h.ended; recent = length h.recent }
+extent_kept h =
+    record { initial = h.initial; octets = h.ledger.octets_in + length h.rest; due = h.ledger.octets_out; ended = h.ended; recent = length h.recent }
 
 -- how many octets it has sent
 abbrev pub octets_kept : CompactSender → ℕ
@@ -84,7 +85,8 @@ taken_kept m h segment =
 
 -- what is kept of who sent a segment, after it
 abbrev pub own_kept : Meaning → CompactSender → Segment → CompactSender
-own_kept m h segment = cond segment.flags.syn (record h { initial = Some segment.sequence; mss = segment.mss }) (cond segment.flags.reset h (taken_kept m h segment))
+own_kept m h segment =
+    cond segment.flags.syn (record h { initial = Some segment.sequence; mss = segment.mss }) (cond segment.flags.reset h (taken_kept m h segment))
 
 -- the image is acknowledged up to a place: changed units below it and octets below its Back are forgotten
 abbrev pub acknowledged_kept : CompactSender → ℕ → CompactSender

@@ -37,7 +37,9 @@ receiver_kept Server h = h.client
 
 -- why a segment is refused, by what is kept
 abbrev pub kept_refusal : Host → CompactState → Segment → Option Refusal
-kept_refusal from h segment = refusal_of from (extent_kept (sender_kept from h)) (extent_kept (receiver_kept from h)) (arrival segment) (unlike_kept (sender_kept from h) segment)
+kept_refusal from h segment =
+    refusal_of from (extent_kept (sender_kept from h)) (extent_kept (receiver_kept from h)) (arrival segment)
+    (unlike_kept (sender_kept from h) segment)
 
 -- what is kept after a segment of a host
 abbrev pub kept_next : Meaning → Meaning → Host → CompactState → Segment → CompactState

@@ -4,4 +4,3 @@ pub use Rattle.dialogue.specs.Repeats.{differ, is_unlike}
 pub use Rattle.dialogue.specs.Places.{AllProper, Changed, IsProper, Plain, Push, Span, back_in, changed_ends, end_from, fore_at, fore_in, image_len, joined, open_in, plain_spans, push_spans, rear_at, rear_in, spans_from}
 pub use Rattle.dialogue.specs.Stream.{AllUnits, Cut, add_octet, back, back_if, cut, cut_at, due, due_of, due_rest, fore, image, image_of, open_units, push_if, push_of, pushes_of, rear, spans}
 pub use Rattle.dialogue.specs.Learning.{AllListed, AllUnitsListed, AreImages, Entry, IsLearning, ReadAlike, is_listed, is_of, listed_image}
-pub use Rattle.dialogue.specs.Taking.{IsWaiting, StaysHeld}

@@ -15,7 +15,8 @@ use Rattle.dns_messages.specs.declared.message.Question.{Question}
 use Rattle.dns_messages.specs.declared.message.Resource.{Resource}
 use Rattle.dns_messages.specs.declared.message.Message.{Message}
 use Rattle.dns_messages.specs.Forms.{form_of, form_at}
-use Rattle.dns_messages.specs.Suits.{Suits, ContentFits, ResourceSuits, ResourceFits, QuestionFits, MessageSuits, MessageFits}
+use Rattle.dns_messages.specs.Suits.{Suits, ResourceSuits, MessageSuits}
+use Rattle.dns_messages.specs.Inside.Suits.{ContentFits, ResourceFits, QuestionFits, MessageFits}
 use Rattle.dns_messages.specs.Reading.{number_at, octets_at, content_by, resource_at, resources_at, question_at, questions_at, message_at}
 use Rattle.dns_messages.specs.Writing.{put, join, behind_length, content_written, resource_written, resources_written, questions_written, question_count, message_written, spelling}
 use Rattle.dns_messages.proofs.Exact.{ends}

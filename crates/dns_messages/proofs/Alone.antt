@@ -5,7 +5,7 @@ use Rattle.dns_names.specs.Prelude.{spelled, Added}
 use Rattle.dns_names.specs.Spelling.{spell}
 use Rattle.dns_messages.specs.declared.message.Message.{Message}
 use Rattle.dns_messages.specs.declared.message.Question.{Question}
-use Rattle.dns_messages.specs.Suits.{HasNoRecords, QuestionFits, MessageFits}
+use Rattle.dns_messages.specs.Inside.Suits.{HasNoRecords, QuestionFits, MessageFits}
 use Rattle.dns_messages.specs.Writing.{spelling}
 
 -- Where no label start is known before it, each label of a name is written, and the root octet behind them.

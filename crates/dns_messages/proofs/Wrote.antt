@@ -8,7 +8,7 @@ use Rattle.dns_messages.specs.declared.message.Message.{Message}
 use Rattle.dns_messages.specs.declared.stop.WriteStop.{WriteStop}
 use Rattle.dns_messages.specs.declared.stop.WriteStop.TheVariants.{TooLong, OutOfMemory}
 use Rattle.dns_messages.specs.Writing.{Writer, name, put, sized, content_written, resource_written, resources_written, header_written, questions_written, message_written, spelling, ◌⨟◌}
-use Rattle.dns_messages.specs.Writers.{written, wrote, Stops, Writes}
+use Rattle.dns_messages.specs.Inside.Writers.{written, wrote, Stops, Writes}
 use Rattle.dns_messages.proofs.Again.{spell-some}
 
 wrote-then : (text : Text) (v w : Writer) → wrote (wrote text v) w ≡ wrote text (v ⨟ w)

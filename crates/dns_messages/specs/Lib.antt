@@ -4,4 +4,4 @@ pub mod Relation
 pub mod Reading
 pub mod Suits
 pub mod Writing
-pub mod Writers
+pub mod Inside

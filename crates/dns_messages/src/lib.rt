@@ -8,7 +8,7 @@ mod reading;
 mod stop;
 mod writing;
 
-pub use lists::{Octets, Resources};
+pub use lists::Resources;
 pub use message::{Content, Message, Question, Resource};
 pub use reading::read_message;
 pub use stop::WriteStop;

@@ -4,36 +4,6 @@ ghost use Rattle.std.specs.Prelude.{◌≡◌, []};
 use crate::message::Resource;
 use std::marker::Model;
 
-/// A list of octets.
-#[derive(Drop)]
-pub struct Octets {
-    items: Vec<u8>,
-}
-
-impl Model for Octets {
-    ghost use Rattle.std.specs.Prelude.{List, ℕ};
-
-    ghost Value = { List ℕ };
-
-    ghost view = { λ a. a.items.items };
-}
-
-impl Octets {
-    /// The list of these octets.
-    pub fn of(items: Vec<u8>) -> Octets
-        ensures { result ≡ items.items }
-    {
-        Octets { items }
-    }
-
-    /// The octets in their order.
-    pub fn items(&self) -> &[u8]
-        ensures { result.now ≡ self.now }
-    {
-        &self.items
-    }
-}
-
 /// A list of records. One without a record holds no memory.
 #[derive(Drop)]
 pub struct Resources {

@@ -1,7 +1,7 @@
 // Messages (RFC 1035, 4.1).
-use crate::lists::{Octets, Resources};
+use crate::lists::Resources;
 use dns_names::Name;
-use gate_base::Addr;
+use gate_base::{Addr, Items};
 
 /// What the data of a record holds.
 #[derive(Drop)]
@@ -11,13 +11,13 @@ pub enum Content {
     /// The one name of the types 2, 3, 4, 5, 7, 8, 9 and 12.
     One(Name),
     /// The two names and 20 octets of type 6.
-    Soa(Name, Name, Octets),
+    Soa(Name, Name, Items<u8>),
     /// The two names of type 14.
     Two(Name, Name),
     /// The preference and the name of type 15.
     Mx(u16, Name),
     /// The octets of any other type, and none with each type.
-    Octets(Octets),
+    Octets(Items<u8>),
 }
 
 /// A question (RFC 1035, 4.1.2).

@@ -7,10 +7,10 @@ ghost use Rattle.dns_messages.specs.Suits.{MessageSuits};
 ghost use Rattle.dns_messages.specs.Reading.{number_at, octets_at, content_by, resource_at, resources_at, question_at, questions_at, message_at};
 
 use crate::form::{Form, form_at};
-use crate::lists::{Octets, Resources};
+use crate::lists::Resources;
 use crate::message::{Content, Message, Question, Resource};
 use dns_names::{NameReader, NameStop};
-use gate_base::{Addr, get_u16, get_u32};
+use gate_base::{Addr, Items, get_u16, get_u32};
 use std::alloc::Global;
 
 fn u16_at(reader: &NameReader<'_>, place: usize) -> Result<(u16, usize), NameStop>
@@ -99,7 +99,7 @@ fn soa_of(
     if after != end {
         return Err(NameStop::BadDns);
     }
-    Ok(Content::Soa(first, second, Octets::of(octets)))
+    Ok(Content::Soa(first, second, Items::of(octets)))
 }
 
 #[tactic(auto, unfolding(crate::specs::Reading::content_by))]
@@ -155,7 +155,7 @@ fn rest_of(
     if after != end {
         return Err(NameStop::BadDns);
     }
-    Ok(Content::Octets(Octets::of(octets)))
+    Ok(Content::Octets(Items::of(octets)))
 }
 
 fn content_of(
@@ -181,7 +181,7 @@ fn content_of(
 }
 
 /// The place after so many octets, where they are there.
-fn skip(reader: &NameReader<'_>, place: usize, count: usize) -> Result<usize, NameStop>
+fn place_behind(reader: &NameReader<'_>, place: usize, count: usize) -> Result<usize, NameStop>
     ensures { ReturnsRead (λ after. (take count (drop place reader.now), after))
         result (octets_at reader.now place count) }
 {
@@ -208,7 +208,7 @@ fn resource_of(
     let (lifetime, place) = u32_at(reader, place)?;
     let (count, place) = u16_at(reader, place)?;
     let count = count as usize;
-    let end = skip(reader, place, count)?;
+    let end = place_behind(reader, place, count)?;
     let content = content_of(alloc, form_at(kind, class, count), reader, place, end)?;
     Ok((
         Resource {

@@ -4,9 +4,10 @@ ghost use Rattle.std.specs.List.{AllByRecursion};
 ghost use Rattle.byteorder.specs.Endian.{big_bytes};
 ghost use Rattle.dns_names.specs.Prelude.{IsName, nothing};
 ghost use Rattle.dns_messages.specs.Relation.{IsMessage};
-ghost use Rattle.dns_messages.specs.Suits.{HasNoRecords, MessageSuits, ContentFits, ResourceFits, QuestionFits, MessageFits};
+ghost use Rattle.dns_messages.specs.Suits.{MessageSuits};
+ghost use Rattle.dns_messages.specs.Inside.Suits.{HasNoRecords, ContentFits, ResourceFits, QuestionFits, MessageFits};
 ghost use Rattle.dns_messages.specs.Writing.{content_written, sized, head_written, resource_written, resources_written, questions_written, header_written, question_count, message_written, spelling, put, name, ◌⨟◌};
-ghost use Rattle.dns_messages.specs.Writers.{wrote, Writes};
+ghost use Rattle.dns_messages.specs.Inside.Writers.{wrote, Writes};
 
 use crate::message::{Content, Message, Question, Resource};
 use crate::stop::WriteStop;

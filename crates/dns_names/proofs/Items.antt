@@ -123,7 +123,8 @@ lowest octets place low high (s ∷ starts) a e =
           (λ _. omega arith, all_from octets place (s.place + 1) high starts (omega arith) a.1)
       | inr f ↦ (
         λ is. absurd
-            (let q : bytes_eq s.octets octets ≡ true = (bytes_eq-Decides s.octets octets).1 is in let n : bytes_eq s.octets octets ≡ false = f.0 in cc),
+            (let q : bytes_eq s.octets octets ≡ true = (bytes_eq-Decides s.octets octets).1 is in let n : bytes_eq s.octets octets ≡ false = f.0 in
+            cc),
         lowest octets place (s.place + 1) high starts a.1 f.1,
       )
     ]

@@ -13,11 +13,9 @@ use Rattle.std.proofs.lemmas.Map.Text.{is_eq-slice_cmp}
 use Rattle.std.proofs.lemmas.Slice.Eq.{bytes_eq-Decides}
 use Rattle.dns_names.specs.declared.suffix.Suffix.{Suffix}
 use Rattle.dns_names.specs.Prelude.{behind, first_label, key, key_of, Start, found, with_start, Ends, EndsAt, starts_in, IsIndex}
-use Rattle.dns_names.specs.Longest.{IsClosed}
+use Rattle.dns_names.specs.Inside.Longest.{IsClosed}
 use Rattle.dns_names.proofs.Walking.{chosen}
-use Rattle.dns_names.specs.Writers.{put_start, place_in, after_in, HaveOwnPlaces, IsFresh, IsNear, IsPending, Remembers}
-
--- ---- a map after an insertion, at other keys
+use Rattle.dns_names.specs.Inside.Writers.{put_start, place_in, after_in, HaveOwnPlaces, IsFresh, IsNear, IsPending, Remembers}
 
 pub apart : (bs cs ks : List ℕ) → bytes_eq bs cs ≡ false → bytes_eq bs ks ≡ true → bytes_eq cs ks ≡ false
 apart bs cs ks n y =
@@ -28,75 +26,6 @@ apart bs cs ks n y =
           absurd cc
       | inr f ↦ f
     ]
-
-apart_in_order : (bs cs ks : List ℕ) → bytes_eq bs cs ≡ false → is_eq (slice_cmp nat_cmp bs ks) ≡ true → is_eq (slice_cmp nat_cmp cs ks) ≡ false
-apart_in_order bs cs ks n y = is_eq-slice_cmp cs ks ∙ apart bs cs ks n (sym (is_eq-slice_cmp bs ks) ∙ y)
-
-others : {K X : Type 0} (eq : K → K → Bool) (test : K → Bool) (old new : List (K × X)) → KeepsOthers eq test old new → (other : K → Bool)
-    → IsKeyTest eq other → AreApart test other → lookup other new ≡ lookup other old
-unfolding KeepsOthers
-others eq test old new h = h
-
-insert-place : (s : Suffix) (m n : BTreeMap Suffix ℕ) (w : Option ℕ)
-    → UpdatesBy (λ x y. slice_cmp nat_cmp (key x) (key y)) (λ k. slice_cmp nat_cmp (key s) (key k)) m n w
-    → (k : List ℕ) → place_in n.entries k ≡ cond (bytes_eq (key s) k) w (place_in m.entries k)
-insert-place s m n w h k =
-    elim (cases_Bool (bytes_eq (key s) k)) [
-      | inl t ↦ rw t (subst (λ (o : List ℕ). place_in n.entries o ≡ w) ((bytes_eq-Decides (key s) k).0 t) h.1)
-      | inr f ↦
-          rw f (others _ _ m.entries n.entries h.3 (λ x. is_eq (slice_cmp nat_cmp k (key x)))
-          (λ x y. (eq_by_cmp_equiv (on_texts (λ (o : List ℕ). o))).congr k (key x) (key y)) (λ x. apart_in_order (key s) k (key x) f))
-    ]
-
--- ---- starts in the order of their places
-
-abbrev IsBelow : ℕ → Start → Type 0
-IsBelow place s = s.place < place
-
-put_start-last : (s : Start) (ts : List Start) → AllByRecursion (IsBelow s.place) ts → put_start s ts ≡ ts ++ s ∷ []
-put_start-last s [] all = refl
-put_start-last s (t ∷ ts) all =
-    let f : nat_lt s.place t.place ≡ false = le-ltb _ _ (omega (arith, all.0)) in
-    rw f (ap (λ (x : List Start). t ∷ x) (put_start-last s ts all.1))
-
-put_start-before : (s t : Start) (ts : List Start) → s.place < t.place → put_start s (ts ++ t ∷ []) ≡ put_start s ts ++ t ∷ []
-put_start-before s t [] lt = rw (lt-ltb _ _ lt) refl
-put_start-before s t (u ∷ ts) lt =
-    elim (cases_Bool (nat_lt s.place u.place)) [
-      | inl y ↦ rw y refl
-      | inr n ↦ rw n (ap (λ (x : List Start). u ∷ x) (put_start-before s t ts lt))
-    ]
-
--- what holds of each start holds of the first, and of the others
-put_start-all : (P : Start → Type 0) (s : Start) (ts : List Start) → AllByRecursion P (put_start s ts) → P s × AllByRecursion P ts
-put_start-all P s [] all = (all.0, tt)
-put_start-all P s (t ∷ ts) all =
-    elim (cases_Bool (nat_lt s.place t.place)) [
-      | inl y ↦ let h = rw y at all in (h.0, h.1)
-      | inr n ↦ let h = rw n at all in let r = put_start-all P s ts h.1 in (r.0, (h.0, r.1))
-    ]
-
--- a new key with the greatest place comes last
-starts_in-insert : (es : List (Suffix × ℕ)) (s : Suffix) (place : ℕ) → place_in es (key s) ≡ None → AllByRecursion (IsBelow place) (starts_in es)
-    → starts_in (insert_entry (λ x y. slice_cmp nat_cmp (key x) (key y)) es s place)
-    ≡ starts_in es ++ record { place = place; octets = s.octets.now } ∷ []
-starts_in-insert [] s place absent all = refl
-starts_in-insert (e ∷ es) s place absent all =
-    by_order (slice_cmp nat_cmp (key s) (key e.0)) refl (λ a b. starts_in-insert es s place a b)
-  where
-    by_order : (o : Ordering) → slice_cmp nat_cmp (key s) (key e.0) ≡ o
-        → (place_in es (key s) ≡ None → AllByRecursion (IsBelow place) (starts_in es)
-        → starts_in (insert_entry (λ x y. slice_cmp nat_cmp (key x) (key y)) es s place)
-        ≡ starts_in es ++ record { place = place; octets = s.octets.now } ∷ [])
-        → starts_in (match_ordering o ((s, place) ∷ e ∷ es) ((e.0, place) ∷ es)
-        (e ∷ insert_entry (λ x y. slice_cmp nat_cmp (key x) (key y)) es s place))
-        ≡ starts_in (e ∷ es) ++ record { place = place; octets = s.octets.now } ∷ []
-    by_order Less is next = put_start-last (record { place = place; octets = s.octets.now }) (starts_in (e ∷ es)) all
-    by_order Equal is next = absurd (let q : Some e.1 ≡ None = rw is at absent in cc)
-    by_order Greater is next =
-        let parts = put_start-all (IsBelow place) (record { place = e.1; octets = e.0.octets.now }) (starts_in es) all in
-        rw (next (rw is at absent) parts.1) (put_start-before (record { place = e.1; octets = e.0.octets.now })
-        (record { place = place; octets = s.octets.now }) (starts_in es) parts.0)
 
 -- ---- one start more
 
@@ -155,10 +84,6 @@ pub near_push : (limit : ℕ) (starts : List Start) (s : Start) → AllByRecursi
     → AllByRecursion (IsNear limit) (starts ++ s ∷ [])
 near_push limit [] s all one = (one, tt)
 near_push limit (t ∷ ts) s all one = (all.0, near_push limit ts s all.1 one)
-
-near_below : (limit : ℕ) (starts : List Start) → AllByRecursion (IsNear limit) starts → AllByRecursion (IsBelow limit) starts
-near_below limit [] all = tt
-near_below limit (s ∷ starts) all = (all.0.0, near_below limit starts all.1)
 
 -- what is found lies below the end, and can be pointed to
 pub found-is-near : (limit : ℕ) (starts : List Start) (octets : List ℕ) (place : ℕ) → AllByRecursion (IsNear limit) starts
@@ -271,17 +196,6 @@ IsIndex-later entries limit more index le = record {
 
 pub IsFresh-later : (entries : List (Suffix × ℕ)) (limit more : ℕ) → IsFresh entries limit → limit ≤ more → IsFresh entries more
 IsFresh-later entries limit more fresh le near octets after from few = fresh (omega (arith, near, le)) octets after (omega (arith, le, from)) few
-
--- a start that can be pointed to was put in
-pub remembers : (m n : BTreeMap Suffix ℕ) (s : Suffix) (place : ℕ) → place < 16384
-    → n.entries ≡ insert_entry (λ x y. slice_cmp nat_cmp (key x) (key y)) m.entries s place
-    → UpdatesBy (λ x y. slice_cmp nat_cmp (key x) (key y)) (λ k. slice_cmp nat_cmp (key s) (key k)) m n (Some place)
-    → Remembers s place m.entries n.entries
-remembers m n s place near entries updates = record {
-  near = λ _ k. insert-place s m n (Some place) updates k;
-  starts = λ _ none all. ap starts_in entries ∙ starts_in-insert m.entries s place none (near_below place (starts_in m.entries) all);
-  far = λ far. absurd (omega (arith, near, far));
-}
 
 -- what can be pointed to may be added
 module _ (starts : List Start) (limit : ℕ) (rest octets : List ℕ) (after : ℕ) where

@@ -3,6 +3,7 @@ pub mod Reading
 pub mod Walking
 pub mod Writing
 pub mod Kept
+pub mod Placing
 pub mod Longest
 pub mod Pending
 pub mod Putting

@@ -3,8 +3,8 @@ use Rattle.std.proofs.Common.{◌≡◌, ◌⊎◌, ℕ, zero, suc, ◌+◌, ◌
 use Rattle.std.proofs.lemmas.Bool.{cases_Bool, ltb-true, ltb-false}
 use Rattle.std.proofs.lemmas.Slice.Eq.{bytes_eq-Decides}
 use Rattle.dns_names.specs.Prelude.{behind, Start, found, with_start, skipped, Ends, EndsAt, IsLongest}
-use Rattle.dns_names.specs.Longest.{IsKept, IsClosed, edge_by}
-use Rattle.dns_names.specs.Writers.{after_in}
+use Rattle.dns_names.specs.Inside.Longest.{IsKept, IsClosed, edge_by}
+use Rattle.dns_names.specs.Inside.Writers.{after_in}
 use Rattle.dns_names.proofs.Walking.{chosen}
 use Rattle.dns_names.proofs.Kept.{found-more, found-push}
 
@@ -126,9 +126,6 @@ longest-ends starts (x ∷ name) (suc count) place is (inl lt) = absurd (omega (
 longest-ends starts (x ∷ name) (suc count) place is (inr lt) = absurd (omega (arith, lt))
 
 -- nothing is to be written, nothing is kept yet, or all is kept
-
-pub longest-root : (starts : List Start) (name : List ℕ) → name ≡ [] → IsLongest starts name 0 None
-longest-root starts name e = record { new = λ n lt. absurd (omega (arith, lt)); some = λ n lt. absurd (omega (arith, lt)); ends = e }
 
 pub longest-none : (starts : List Start) (name : List ℕ) → starts ≡ [] → IsLongest starts name (length name) None
 longest-none starts name e = record {

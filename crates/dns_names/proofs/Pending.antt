@@ -5,12 +5,12 @@ use Rattle.std.proofs.lemmas.Bool.{cases_Bool, lt-ltb, le-ltb, ltb-true, ltb-fal
 use Rattle.std.proofs.lemmas.Slice.Eq.{bytes_eq-Decides}
 use Rattle.dns_names.specs.declared.suffix.Suffix.{Suffix}
 use Rattle.dns_names.specs.Prelude.{behind, first_label, key, key_of, EndsAt, Start, found, with_start, starts_in}
-use Rattle.dns_names.specs.Writers.{place_in, after_in, key_at, HaveOwnPlaces, IsFresh, IsNear, IsPending, Remembers}
+use Rattle.dns_names.specs.Inside.Writers.{place_in, after_in, key_at, HaveOwnPlaces, IsFresh, IsNear, IsPending, Remembers}
 use Rattle.dns_names.specs.declared.ending.Edge.{Edge}
 use Rattle.dns_names.specs.declared.met.Row.{Row}
 use Rattle.dns_names.specs.declared.met.Rows.{Rows}
-use Rattle.dns_names.specs.Longest.{IsClosed, IsEdge}
-use Rattle.dns_names.specs.Met.{IsRow, AreRows}
+use Rattle.dns_names.specs.Inside.Longest.{IsClosed, IsEdge}
+use Rattle.dns_names.specs.Inside.Met.{IsRow, AreRows}
 use Rattle.dns_names.proofs.Kept.{IsFresh-later, IsNowhere, after-last, after-more, after-near, found-last, found-more, found-push, found-with_start, label-behind, near_later, near_push, new-front, own-after, own-last, same-key, same-some}
 use Rattle.dns_names.proofs.Longest.{Closing, behind-shorter, ends-after}
 
@@ -264,11 +264,12 @@ pub record IsPut (old new : List (Suffix × ℕ)) (rest : List ℕ) (place limit
   pub pending : IsPending new (behind rest) limit
 
 module _ (known more : List Start) (old new : List (Suffix × ℕ)) (edge rest : List ℕ) (place limit : ℕ) (s : Suffix) (is_end : Bool) (end : Option ℕ)
-    (octets : s.octets.now ≡ rest) (key_is : s.behind ≡ key_at is_end limit end) (r : Remembers s place old new) (pending : IsPending old rest place)
+    (octets : s.octets.now ≡ rest) (key_is : key s ≡ key_of (key_at is_end limit end) rest) (r : Remembers s place old new)
+    (pending : IsPending old rest place)
     (closing : Closing (starts_in old) edge rest place) (absent : found (starts_in old) rest ≡ None) (some : 1 ≤ length rest) (on : place < limit)
     (grew : starts_in old ≡ known ++ more) (way : GoesOn known old rest is_end end) where
   none : place < 16384 → place_in old (key s) ≡ None
-  none near = ap (λ (o : List ℕ). place_in old (key_of s.behind o)) octets ∙ ap (λ (n : ℕ). place_in old (key_of n rest)) key_is ∙ by_end is_end refl
+  none near = ap (λ (k : List ℕ). place_in old k) key_is ∙ by_end is_end refl
     where
       by_end : (b : Bool) → is_end ≡ b → place_in old (key_of (key_at b limit end) rest) ≡ None
       by_end false e = absent-next old rest place limit end pending on near
@@ -287,8 +288,8 @@ module _ (known more : List Start) (old new : List (Suffix × ℕ)) (edge rest :
         | inr f ↦ rw f (ap starts_in (r.far (ltb-false _ _ f)) ∙ sym (append-nil (starts_in old)))
       ]
 
-  key_stands : KeyIs (known_with new (behind rest) limit) (behind rest) limit s.behind
-  key_stands = subst (λ (n : ℕ). KeyIs (known_with new (behind rest) limit) (behind rest) limit n) (sym key_is) (by_end is_end refl)
+  key_stands : KeyIs (known_with new (behind rest) limit) (behind rest) limit (key_at is_end limit end)
+  key_stands = by_end is_end refl
     where
       by_end : (b : Bool) → is_end ≡ b → KeyIs (known_with new (behind rest) limit) (behind rest) limit (key_at b limit end)
       by_end false e = key-next known more old new rest place limit grew put_starts end some absent (way.new e) (way.long e)
@@ -306,7 +307,7 @@ module _ (known more : List Start) (old new : List (Suffix × ℕ)) (edge rest :
         elim (cases_Bool (nat_lt place 16384)) [
           | inl t ↦
               let near : place < 16384 = ltb-true _ _ t in
-              stepped old new edge rest place limit s.behind (record {
+              stepped old new edge rest place limit (key_at is_end limit end) (record {
                 pending = pending;
                 closing = closing;
                 absent = absent;
@@ -314,7 +315,7 @@ module _ (known more : List Start) (old new : List (Suffix × ℕ)) (edge rest :
                 near = near;
                 on = on;
                 starts = put_starts ∙ rw t refl;
-                places = λ k. r.near near k ∙ ap (λ (o : List ℕ). cond (bytes_eq (key_of s.behind o) k) (Some place) (place_in old k)) octets;
+                places = λ k. r.near near (none near) k ∙ ap (λ (x : List ℕ). cond (bytes_eq x k) (Some place) (place_in old k)) key_is;
                 key = key_stands;
               })
           | inr f ↦

@@ -6,7 +6,7 @@ use Rattle.std.proofs.lemmas.Slice.Eq.{bytes_eq-Decides}
 use Rattle.dns_names.proofs.Kept.{found-with_start}
 use Rattle.dns_names.specs.Prelude.{spelled, IsLabel, Start, found, pointer, Added, with_start, Text, put_name, BeginsWith, GrewBy, Ends, EndsAt}
 use Rattle.dns_names.specs.Spelling.{spell}
-use Rattle.dns_names.specs.Longest.{ending}
+use Rattle.dns_names.specs.Inside.Longest.{ending}
 use Rattle.dns_names.proofs.Longest.{ends-at}
 
 -- Part of a name was written; its other labels are left.

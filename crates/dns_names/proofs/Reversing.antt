@@ -11,7 +11,7 @@ use Rattle.gate_base.specs.Prelude.{◌>>=◌, number_of}
 use Rattle.gate_base.proofs.Quads.{number_again, bind_some}
 use Rattle.dns_names.specs.Prelude.{spelled, spelled_label, IsLabel, IsName, IsSpelled, labels_in, numbers, with_address, label_in, behind}
 use Rattle.dns_names.specs.Reverse.{is_zone, full_reverse}
-use Rattle.dns_names.specs.Octets.{reverse_in}
+use Rattle.dns_names.specs.Inside.Octets.{reverse_in}
 use Rattle.dns_names.proofs.Walking.{labels_in-spelled}
 
 label_in-spelled : (l : List ℕ) (ls : List (List ℕ)) → label_in (spelled (l ∷ ls)) ≡ Some (l, spelled ls)

@@ -3,7 +3,7 @@ use Rattle.std.proofs.Common.{◌≡◌, ℕ, ◌+◌, ◌-◌, ◌≤◌, ◌<�
 use Rattle.std.specs.List.{AllByRecursion}
 use Rattle.std.proofs.lemmas.List.{length-append, length-drop, length-take-le, reverse-append, take_all, take-append-le, drop-append-le, drop_at}
 use Rattle.dns_names.specs.Prelude.{Root, Label, Pointer, Nothing, piece_at, Stands, AtRoot, AtLabel, AtPointer, NameAt, spelled, IsLabel, octets_of, known_by, Knows, AreKnown, Trail, Joins, Leads, Here}
-use Rattle.dns_names.specs.Memo.{Says, known_there}
+use Rattle.dns_names.specs.Inside.Memo.{Says, known_there}
 use Rattle.dns_names.specs.declared.known.Known.{Known}
 use Rattle.dns_names.proofs.Reading.{at_label, at_pointer, at_nothing, same_name}
 use Rattle.dns_names.proofs.Walking.{piece_at-label}

@@ -5,7 +5,8 @@ use Rattle.std.proofs.lemmas.Bool.{ltb-false, ltb-true, cases_Bool}
 use Rattle.std.proofs.Math.Seq.{take-add}
 use Rattle.std.proofs.lemmas.Grind.{flat_map-append}
 use Rattle.dns_names.specs.Prelude.{Root, Label, Pointer, Nothing, Stands, AtRoot, AtLabel, AtPointer, NameAt, spelled, spelled_label, IsLabel, IsName, IsSpelled}
-use Rattle.dns_names.specs.Names.{piece_at, piece_of, piece_by, label_of, pointer_of, split, labels_in}
+use Rattle.dns_names.specs.Names.{piece_at, piece_of, piece_by, label_of, pointer_of}
+use Rattle.dns_names.specs.Inside.Names.{split, labels_in}
 use Rattle.std.specs.Option.{option_or, unwrap_or}
 use Rattle.dns_names.proofs.Reading.{at_label, at_pointer, at_nothing}
 

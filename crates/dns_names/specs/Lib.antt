@@ -1,14 +1,8 @@
 pub mod Names
 pub mod Walk
-pub mod Pieces
-pub mod Memo
 pub mod Stops
-pub mod Ends
 pub mod Spelling
-pub mod Writers
-pub mod Longest
 pub mod Texts
 pub mod Reverse
-pub mod Octets
-pub mod Met
 pub mod Prelude
+pub mod Inside

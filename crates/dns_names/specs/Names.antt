@@ -1,5 +1,5 @@
 -- Names in a message: what stands at a place, and which labels a name has (RFC 1035, 3.1 and 4.1.4).
-use Rattle.std.specs.Prelude.{◌≡◌, ℕ, zero, suc, ◌+◌, ◌-◌, ◌*◌, ◌<◌, ◌≤◌, if◌then◌else◌, ◌==◌, nat_lt, List, [], ◌∷◌, length, take, drop}
+use Rattle.std.specs.Prelude.{◌≡◌, ℕ, ◌+◌, ◌-◌, ◌*◌, ◌<◌, ◌≤◌, if◌then◌else◌, ◌==◌, nat_lt, List, [], ◌∷◌, length, take, drop}
 use Rattle.std.specs.List.{flat_map, AllByRecursion}
 
 -- What begins at a place: the root octet, a label, a pointer, or none of them.
@@ -62,16 +62,6 @@ IsLabel label = (1 ≤ length label) × (length label ≤ 63)
 pub record IsName (name : List (List ℕ)) : Type 0 where
   pub labels : AllByRecursion IsLabel name
   pub short : length (spelled name) ≤ 254
-
--- labels of octets that spell them, at most so many
-abbrev pub split : ℕ → List ℕ → List (List ℕ)
-split zero octets = []
-split (suc n) [] = []
-split (suc n) (count ∷ rest) = take count rest ∷ split n (drop count rest)
-
--- the labels that octets spell
-unfoldable pub labels_in : List ℕ → List (List ℕ)
-labels_in octets = split (length octets) octets
 
 -- octets that spell a name
 pub record IsSpelled (octets : List ℕ) (name : List (List ℕ)) : Type 0 where

@@ -1,17 +1,14 @@
 // The longest suffix of a name that was written already.
 ghost use Rattle.std.specs.Prelude.{◌≡◌, ◌≤◌, ℕ, length};
-ghost use Rattle.dns_names.specs.Ends.{key_of};
-ghost use Rattle.dns_names.specs.Longest.{IsClosed, IsEdge, IsLongest};
-ghost use Rattle.dns_names.specs.Met.{AreRows};
-ghost use Rattle.dns_names.specs.Writers.{starts_in, place_in, FindsBy};
+ghost use Rattle.dns_names.specs.Inside.Ends.{key_of};
+ghost use Rattle.dns_names.specs.Inside.Longest.{IsClosed, IsEdge, IsLongest};
+ghost use Rattle.dns_names.specs.Inside.Met.{AreRows};
+ghost use Rattle.dns_names.specs.Inside.Writers.{starts_in, place_in, FindsBy};
 
 use crate::met::{Rows, Steps};
+use crate::places::{Places, ROOT};
 use crate::reverse::behind_label;
 use crate::suffix::Suffix;
-use std::collections::BTreeMap;
-
-/// What stands for the place of no labels at all.
-pub(crate) const ROOT: u16 = u16::MAX;
 
 /// A suffix that can be pointed to, while its rest can't, and its place. Without octets there is none.
 #[derive(Clone, Copy)]
@@ -20,10 +17,10 @@ pub struct Edge<'a> {
     pub(crate) place: u16,
 }
 
-fn place_of<'a>(places: &BTreeMap<Suffix<'a>, u16>, octets: &'a [u8], behind: u16) -> Option<u16>
-    ensures { result ≡ place_in places.now.entries (key_of behind octets.now) }
+fn place_of<'a>(places: &Places<'a>, octets: &'a [u8], behind: u16) -> Option<u16>
+    ensures { result ≡ place_in places.now (key_of behind octets.now) }
 {
-    places.get(&Suffix { octets, behind }).copied()
+    places.get(&Suffix::new(octets, behind))
 }
 
 /// How many labels come before the longest suffix of a name that was written already, and the lowest place of that suffix. If no
@@ -32,19 +29,19 @@ fn place_of<'a>(places: &BTreeMap<Suffix<'a>, u16>, octets: &'a [u8], behind: u1
 /// The name is gone through from its end: behind each label either nothing can be written before that wasn't, or what stands there is
 /// known, and the label is sought in front of that. A suffix that was met before is known by the place of its first label in the message.
 pub(crate) fn longest<'a>(
-    places: &BTreeMap<Suffix<'a>, u16>,
+    places: &Places<'a>,
     edge: Edge<'a>,
     rows: &mut Rows<'a>,
     name: &'a [u8],
     steps: Steps<'_>,
 ) -> (usize, Option<u16>)
-    requires finds { FindsBy (starts_in places.now.entries) places.now.entries }
-    requires edge { IsEdge (starts_in places.now.entries) edge }
-    requires closed { (limit : ℕ) × IsClosed (starts_in places.now.entries) edge.octets.now limit }
-    requires rows { AreRows (starts_in places.now.entries) rows.old }
-    ensures longest { IsLongest (starts_in places.now.entries) name.now result.0 result.1 }
+    requires finds { FindsBy (starts_in places.now) places.now }
+    requires edge { IsEdge (starts_in places.now) edge }
+    requires closed { (limit : ℕ) × IsClosed (starts_in places.now) edge.octets.now limit }
+    requires rows { AreRows (starts_in places.now) rows.old }
+    ensures longest { IsLongest (starts_in places.now) name.now result.0 result.1 }
     ensures few { result.0 ≤ length name.now }
-    ensures rows { AreRows (starts_in places.now.entries) rows.new }
+    ensures rows { AreRows (starts_in places.now) rows.new }
 {
     if name.is_empty() {
         return (0, None);

@@ -1,7 +1,7 @@
 // What was read from the places of a message on.
 ghost use Rattle.std.specs.Prelude.{◌≡◌, ◌+◌, ◌≤◌, ◌<◌, ℕ, List, length, IfSome};
 ghost use Rattle.dns_names.specs.Names.{piece_at, Label, Pointer};
-ghost use Rattle.dns_names.specs.Memo.{known_by, Knows, AreKnown};
+ghost use Rattle.dns_names.specs.Inside.Memo.{known_by, Knows, AreKnown};
 
 use crate::piece::{PieceAt, piece_at};
 

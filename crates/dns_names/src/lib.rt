@@ -9,6 +9,7 @@ mod memo;
 mod met;
 mod name;
 mod piece;
+mod places;
 mod reader;
 mod reverse;
 mod stop;

@@ -1,7 +1,7 @@
 // What is kept of a message of which many names are read.
 ghost use Rattle.std.specs.Prelude.{◌≡◌, ◌+◌, ◌≤◌, ◌++◌, ℕ, List, [], nat_lt, if◌then◌else◌, length, IfOk, IfSome, OnOk, Err};
 ghost use Rattle.dns_names.specs.Names.{NameAt};
-ghost use Rattle.dns_names.specs.Memo.{octets_of, IsMemo, Here};
+ghost use Rattle.dns_names.specs.Inside.Memo.{octets_of, IsMemo, Here};
 
 use crate::known::{Known, UNKNOWN, before, put};
 use crate::name::Name;

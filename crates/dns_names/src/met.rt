@@ -1,7 +1,7 @@
 // What was found for the labels of a message, by their places in it.
 ghost use Rattle.std.specs.Prelude.{◌≡◌, ◌≤◌, ◌<◌, ℕ, List, Some, length, IfSome};
 ghost use Rattle.dns_names.specs.Spelling.{Start, found};
-ghost use Rattle.dns_names.specs.Met.{IsRow, AreRows};
+ghost use Rattle.dns_names.specs.Inside.Met.{IsRow, AreRows};
 
 use crate::way::{NOWHERE, SHORT, Way};
 use std::alloc::Global;

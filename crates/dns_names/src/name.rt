@@ -21,7 +21,8 @@ pub struct Name {
 
 impl Model for Name {
     ghost use Rattle.std.specs.Prelude.{ℕ, List};
-    ghost use Rattle.dns_names.specs.Names.{labels_in, IsSpelled};
+    ghost use Rattle.dns_names.specs.Names.{IsSpelled};
+    ghost use Rattle.dns_names.specs.Inside.Names.{labels_in};
 
     ghost Value = { List (List ℕ) };
 

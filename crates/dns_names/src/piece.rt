@@ -2,7 +2,7 @@
 
 ghost use Rattle.std.specs.Prelude.{◌≡◌, length, ◌+◌};
 ghost use Rattle.dns_names.specs.Names.{piece_of, piece_at};
-ghost use Rattle.dns_names.specs.Pieces.{piece, IsWithin};
+ghost use Rattle.dns_names.specs.Inside.Pieces.{piece, IsWithin};
 
 /// What begins at a place.
 #[derive(Clone, Copy)]

@@ -21,7 +21,7 @@ pub struct NameReader<'a> {
 
 impl<'a> Model for NameReader<'a> {
     ghost use Rattle.std.specs.Prelude.{ℕ, List, IfSome};
-    ghost use Rattle.dns_names.specs.Memo.{IsMemo};
+    ghost use Rattle.dns_names.specs.Inside.Memo.{IsMemo};
 
     ghost Value = { List ℕ };
 

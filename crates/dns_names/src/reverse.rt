@@ -2,7 +2,7 @@
 ghost use Rattle.std.specs.Prelude.{◌≡◌, ◌++◌, ◌∷◌, ◌/◌, ◌%◌, [], length, option_map, IfOk, IsSome, OnOk, Some, decimal};
 ghost use Rattle.dns_names.specs.Names.{spelled};
 ghost use Rattle.dns_names.specs.Reverse.{full_reverse, with_address, is_zone, numbers};
-ghost use Rattle.dns_names.specs.Octets.{label_in, behind, reverse_in};
+ghost use Rattle.dns_names.specs.Inside.Octets.{label_in, behind, reverse_in};
 
 use crate::name::Name;
 use gate_base::{Addr, OutOfMemory, read_number};
@@ -42,7 +42,7 @@ fn address_by(d: &[u8], c: &[u8], b: &[u8], a: &[u8], zone: &[u8], top: &[u8]) -
     }
 }
 
-#[tactic(auto, unfolding(crate::specs::Octets::reverse_in))]
+#[tactic(auto, unfolding(crate::specs::Inside::Octets::reverse_in))]
 fn address_in(octets: &[u8]) -> Option<Addr>
     ensures { option_map (λ address. address.0) result ≡ reverse_in octets.now }
 {

@@ -1,20 +1,64 @@
-// Ends of names as keys.
+// Suffixes of names as keys.
 ghost use Rattle.std.specs.Prelude.{◌≡◌, ℕ, Some};
 ghost use Rattle.std.specs.Ordering.{is_eq, nat_cmp};
 ghost use Rattle.std.specs.Cmp.{eq_by_cmp_equiv, partial_equiv_from_equiv, partial_order_from_total};
 ghost use Rattle.std.specs.Cmp.Lexicographic.{slice_cmp, on_texts};
 ghost use Rattle.std.specs.Cmp.Rules.{comparing};
 ghost use Rattle.std.proofs.Common.{rules};
-ghost use Rattle.dns_names.specs.Ends.{first_label, key};
+ghost use Rattle.dns_names.specs.Inside.Ends.{first_label, front_of, front_of_four, front_of_three, key, key_of};
 
 use std::cmp::Ordering;
 
-/// The octets of the last labels of a name, and where those behind the first of them were written. They are ordered by that place, and
-/// then by the first label.
+/// The octets of the last labels of a name, the first of these octets as a number, and where the labels behind the first one were written.
+/// Suffixes are ordered by that number, which tells most of them apart at once, then by that place, and then by the first label.
 #[derive(Clone, Copy)]
 pub struct Suffix<'a> {
     pub(crate) octets: &'a [u8],
+    pub(crate) front: u64,
     pub(crate) behind: u16,
+}
+
+fn front_of_three(octets: &[u8]) -> u64
+    ensures { result ≡ front_of_three octets.now }
+{
+    match octets {
+        [a, b, c, ..] => u64::from(u32::from_be_bytes([0, *a, *b, *c])),
+        _ => 0,
+    }
+}
+
+fn front_of_four(octets: &[u8]) -> u64
+    ensures { result ≡ front_of_four octets.now }
+{
+    match octets {
+        [a, b, c, d, ..] => u64::from(u32::from_be_bytes([*a, *b, *c, *d])),
+        _ => front_of_three(octets),
+    }
+}
+
+/// The first eight octets as a number, or three or four where they are fewer, or none.
+fn front_of(octets: &[u8]) -> u64
+    ensures { result ≡ front_of octets.now }
+{
+    match octets {
+        [a, b, c, d, e, f, g, h, ..] => { u64::from_be_bytes([*a, *b, *c, *d, *e, *f, *g, *h]) }
+        _ => front_of_four(octets),
+    }
+}
+
+impl<'a> Suffix<'a> {
+    /// The suffix with these octets, and the place behind its first label.
+    pub(crate) fn new(octets: &'a [u8], behind: u16) -> Suffix<'a>
+        ensures key { key result ≡ key_of behind octets.now }
+        ensures octets { result.octets.now ≡ octets.now }
+    {
+        let front = front_of(octets);
+        Suffix {
+            octets,
+            front,
+            behind,
+        }
+    }
 }
 
 /// The first label, behind its length.
@@ -41,6 +85,12 @@ fn compare_labels(a: &[u8], b: &[u8]) -> Ordering
 fn compare<'a>(a: &Suffix<'a>, b: &Suffix<'a>) -> Ordering
     ensures { result ≡ slice_cmp nat_cmp (key a.now) (key b.now) }
 {
+    if a.front < b.front {
+        return Ordering::Less;
+    }
+    if a.front > b.front {
+        return Ordering::Greater;
+    }
     if a.behind < b.behind {
         return Ordering::Less;
     }

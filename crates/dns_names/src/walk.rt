@@ -1,7 +1,7 @@
 // The way through a message to a place from which a name was read before.
 ghost use Rattle.std.specs.Prelude.{◌≡◌, ◌≤◌, ◌<◌, ◌+◌, ◌-◌, ◌⊎◌, true, false, ◌++◌, ℕ, List, length, take, drop, IfOk, OnOk, Err};
 ghost use Rattle.dns_names.specs.Names.{NameAt};
-ghost use Rattle.dns_names.specs.Memo.{AreKnown, Joins};
+ghost use Rattle.dns_names.specs.Inside.Memo.{AreKnown, Joins};
 
 use crate::known::{Known, known_at};
 use crate::piece::{PieceAt, piece_at};

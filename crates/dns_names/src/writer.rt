@@ -1,33 +1,29 @@
 // Names one behind the other, each as short as it can be (RFC 1035, 4.1.4).
 ghost use Rattle.std.specs.Prelude.{◌≡◌, ◌+◌, ◌<◌, ◌≤◌, ◌++◌, ◌⊎◌, true, false, ℕ, List, [], length, IfOk, IfSome, OnOk, OnErr, Some};
-ghost use Rattle.dns_names.specs.Ends.{key};
-ghost use Rattle.dns_names.specs.Names.{labels_in, IsSpelled};
-ghost use Rattle.dns_names.specs.Met.{AreRows};
+ghost use Rattle.dns_names.specs.Inside.Ends.{key};
+ghost use Rattle.dns_names.specs.Names.{IsSpelled};
+ghost use Rattle.dns_names.specs.Inside.Names.{labels_in};
+ghost use Rattle.dns_names.specs.Inside.Met.{AreRows};
 ghost use Rattle.dns_names.specs.Spelling.{Start, found, pointer, spell};
-ghost use Rattle.dns_names.specs.Longest.{IsClosed, IsEdge, edge_by, ending};
-ghost use Rattle.dns_names.specs.Writers.{starts_in, place_in, key_at, GrewBy, IsFresh, IsIndex, Remembers};
+ghost use Rattle.dns_names.specs.Inside.Longest.{IsClosed, IsEdge, edge_by, ending};
+ghost use Rattle.dns_names.specs.Inside.Writers.{starts_in, place_in, key_at, GrewBy, IsFresh, IsIndex, Remembers};
 
-use crate::ending::{Edge, ROOT, longest};
+use crate::ending::{Edge, longest};
 use crate::met::{Rows, Steps};
 use crate::name::Name;
+use crate::places::{Places, ROOT};
 use crate::suffix::Suffix;
 use gate_base::{OutOfMemory, put_u16};
 use std::alloc::AllocError;
-use std::collections::BTreeMap;
 use std::marker::Model;
 
 /// What stands for a place to which no pointer can lead.
 const FAR: u16 = u16::MAX - 1;
 
 /// Keeps the place of a label start, if a pointer can lead there.
-fn remember<'a>(
-    places: &mut BTreeMap<Suffix<'a>, u16>,
-    suffix: Suffix<'a>,
-    place: usize,
-) -> Result<(), AllocError>
-    ensures remembers { OnOk result (Remembers suffix.entry place places.old.entries
-        places.new.entries) }
-    ensures kept { OnErr result (places.new.entries ≡ places.old.entries) }
+fn remember<'a>(places: &mut Places<'a>, suffix: Suffix<'a>, place: usize) -> Result<(), AllocError>
+    ensures remembers { OnOk result (Remembers suffix.entry place places.old places.new) }
+    ensures kept { OnErr result (places.new ≡ places.old) }
 {
     if place < 16_384 {
         places.insert(suffix, place as u16)?;
@@ -102,7 +98,7 @@ fn put_end(out: &mut Vec<u8>, place: Option<u16>) -> Result<(), AllocError>
 /// Writes a name, and keeps its label starts. The answer is the new edge.
 #[tactic(auto, using(crate::proofs::Putting::grew_none, crate::proofs::Putting::grew_octets))]
 fn put_labels<'a>(
-    places: &mut BTreeMap<Suffix<'a>, u16>,
+    places: &mut Places<'a>,
     edge: Edge<'a>,
     rows: &mut Rows<'a>,
     name: &'a [u8],
@@ -110,28 +106,28 @@ fn put_labels<'a>(
     out: &mut Vec<u8>,
 ) -> Result<Edge<'a>, AllocError>
     requires spelled { IsSpelled name.now (labels_in name.now) }
-    requires index { IsIndex places.old.entries (length out.old.items) }
-    requires fresh { IsFresh places.old.entries (length out.old.items) }
-    requires edge { IsEdge (starts_in places.old.entries) edge }
-    requires closed { IsClosed (starts_in places.old.entries) edge.octets.now
+    requires index { IsIndex places.old (length out.old.items) }
+    requires fresh { IsFresh places.old (length out.old.items) }
+    requires edge { IsEdge (starts_in places.old) edge }
+    requires closed { IsClosed (starts_in places.old) edge.octets.now
         (length out.old.items) }
-    requires rows { AreRows (starts_in places.old.entries) rows.old }
+    requires rows { AreRows (starts_in places.old) rows.old }
     ensures octets { OnOk result (out.new.items
         ≡ out.old.items
-        ++ (spell (starts_in places.old.entries) (length out.old.items)
+        ++ (spell (starts_in places.old) (length out.old.items)
         (labels_in name.now)).octets) }
-    ensures starts { OnOk result (starts_in places.new.entries
-        ≡ starts_in places.old.entries
-        ++ (spell (starts_in places.old.entries) (length out.old.items)
+    ensures starts { OnOk result (starts_in places.new
+        ≡ starts_in places.old
+        ++ (spell (starts_in places.old) (length out.old.items)
         (labels_in name.now)).starts) }
-    ensures behind { GrewBy (starts_in places.old.entries) out.old.items
-        (starts_in places.new.entries) out.new.items }
-    ensures index { IsIndex places.new.entries (length out.new.items) }
-    ensures fresh { OnOk result (IsFresh places.new.entries (length out.new.items)) }
-    ensures edge { IfOk result (λ edge. IsEdge (starts_in places.new.entries) edge) }
-    ensures closed { IfOk result (λ edge. IsClosed (starts_in places.new.entries)
+    ensures behind { GrewBy (starts_in places.old) out.old.items
+        (starts_in places.new) out.new.items }
+    ensures index { IsIndex places.new (length out.new.items) }
+    ensures fresh { OnOk result (IsFresh places.new (length out.new.items)) }
+    ensures edge { IfOk result (λ edge. IsEdge (starts_in places.new) edge) }
+    ensures closed { IfOk result (λ edge. IsClosed (starts_in places.new)
         edge.octets.now (length out.new.items)) }
-    ensures rows { AreRows (starts_in places.new.entries) rows.new }
+    ensures rows { AreRows (starts_in places.new) rows.new }
 {
     let (count, end) = longest(places, edge, rows, name, steps);
     let mut edge = edge;
@@ -144,10 +140,7 @@ fn put_labels<'a>(
         let (label, after) = rest.split_at(1 + rest[0] as usize);
         out.extend_from_slice(label)?;
         let behind = key_at(is_end(left, after), out.len(), end);
-        let suffix = Suffix {
-            octets: rest,
-            behind,
-        };
+        let suffix = Suffix::new(rest, behind);
         remember(places, suffix, place)?;
         let next = steps.behind(rows);
         rows.keep(steps.first(), rest, place, next.first());
@@ -164,7 +157,7 @@ fn put_labels<'a>(
 #[derive(Drop)]
 pub struct NameWriter<'a> {
     octets: Vec<u8>,
-    places: BTreeMap<Suffix<'a>, u16>,
+    places: Places<'a>,
     // the suffix behind whose first label the rest may not stand in `places` (`IsClosed`); None after a name that failed
     edge: Option<Edge<'a>>,
     rows: Rows<'a>,
@@ -176,17 +169,17 @@ impl<'a> Model for NameWriter<'a> {
 
     ghost Value = { Text };
 
-    ghost use Rattle.dns_names.specs.Met.{AreRows};
-    ghost use Rattle.dns_names.specs.Writers.{starts_in, IsFresh, IsIndex};
-    ghost use Rattle.dns_names.specs.Longest.{IsClosed, IsEdge};
+    ghost use Rattle.dns_names.specs.Inside.Met.{AreRows};
+    ghost use Rattle.dns_names.specs.Inside.Writers.{starts_in, IsFresh, IsIndex};
+    ghost use Rattle.dns_names.specs.Inside.Longest.{IsClosed, IsEdge};
 
-    ghost view = { λ w. record { octets = w.octets.items; starts = starts_in w.places.entries } };
+    ghost view = { λ w. record { octets = w.octets.items; starts = starts_in w.places } };
 
-    ghost invariant = { λ w. IsIndex w.places.entries (length w.octets.items)
-        × AreRows (starts_in w.places.entries) w.rows
-        × IfSome w.edge (λ edge. IsFresh w.places.entries (length w.octets.items)
-        × IsEdge (starts_in w.places.entries) edge
-        × IsClosed (starts_in w.places.entries) edge.octets.now
+    ghost invariant = { λ w. IsIndex w.places (length w.octets.items)
+        × AreRows (starts_in w.places) w.rows
+        × IfSome w.edge (λ edge. IsFresh w.places (length w.octets.items)
+        × IsEdge (starts_in w.places) edge
+        × IsClosed (starts_in w.places) edge.octets.now
         (length w.octets.items)) };
 }
 
@@ -204,7 +197,7 @@ impl<'a> NameWriter<'a> {
         let alloc = *target.allocator();
         Ok(NameWriter {
             octets: target,
-            places: BTreeMap::new(alloc),
+            places: Places::new(alloc),
             edge: Some(Edge {
                 octets: &[],
                 place: 0,

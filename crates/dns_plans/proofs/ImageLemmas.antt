@@ -11,15 +11,18 @@ use Rattle.dialogue.proofs.ListedImages.{image_of_joined}
 use Rattle.dns_stream.specs.Prelude.{dns_units, image_in}
 use Rattle.gate_model.specs.Prelude.{grows_too_much}
 use Rattle.dns_plans.specs.Prelude.{AreRead, unit_of, image_unit}
-use Rattle.dns_plans.specs.Steps.{IsRead}
+use Rattle.dns_plans.specs.Inside.Steps.{IsRead}
 use Rattle.dns_plans.specs.declared.named.ReadUnit.{ReadUnit}
 
 -- ## The image of an address by a list and what is new to it
 
-pub image_of_first : (es new : List Entry) (address : ℕ) (image : Option Addr) → listed_image es address ≡ Some image → image_in (es ++ new) address ≡ image
-image_of_first es new address image e = ap (λ o. unwrap_or o None) (image_of_joined es new address ∙ ap (λ o. option_or o (listed_image new address)) e)
+pub image_of_first : (es new : List Entry) (address : ℕ) (image : Option Addr) → listed_image es address ≡ Some image
+    → image_in (es ++ new) address ≡ image
+image_of_first es new address image e =
+    ap (λ o. unwrap_or o None) (image_of_joined es new address ∙ ap (λ o. option_or o (listed_image new address)) e)
 
-pub image_of_new : (es new : List Entry) (address : ℕ) → listed_image es address ≡ None → image_in (es ++ new) address ≡ unwrap_or (listed_image new address) None
+pub image_of_new : (es new : List Entry) (address : ℕ) → listed_image es address ≡ None
+    → image_in (es ++ new) address ≡ unwrap_or (listed_image new address) None
 image_of_new es new address e = ap (λ o. unwrap_or o None) (image_of_joined es new address ∙ ap (λ o. option_or o (listed_image new address)) e)
 
 -- ## All units
@@ -40,7 +43,8 @@ pub images_on : (es : List Entry) (units rest more : List ReadUnit) (one : ReadU
 images_on es units rest more one images after image e w small is of right =
     let Right : UnitImage → Type 0 = λ one. one.image.items ≡ (dns_units es).image one.unit.items in
     record {
-      grows = w.grows ∙ ap (λ us. list_any (grows_too_much es) (map unit_of us)) e ∙ ap (λ (b : Bool). b || list_any (grows_too_much es) (map unit_of more)) (sym small);
+      grows = w.grows ∙ ap (λ us. list_any (grows_too_much es) (map unit_of us)) e
+          ∙ ap (λ (b : Bool). b || list_any (grows_too_much es) (map unit_of more)) (sym small);
       units_are =
           w.units_are
           ∙ ap (λ us. map image_unit images ++ map unit_of us) e
@@ -48,5 +52,7 @@ images_on es units rest more one images after image e w small is of right =
           ∙ sym (append_assoc (map image_unit images) (map image_unit (image ∷ [])) (map unit_of more))
           ∙ ap (λ (us : List (List ℕ)). us ++ map unit_of more) (sym (map-append image_unit images (image ∷ [])) ∙ ap (map image_unit) (sym is));
       each = All-tail IsRead one more (subst AreRead e w.each);
-      images_are = subst (AreImages (dns_units es)) (sym is) (All-append Right images (image ∷ []) w.images_are (All-cons Right image [] right (All-nil Right)));
+      images_are =
+          subst (AreImages (dns_units es)) (sym is)
+          (All-append Right images (image ∷ []) w.images_are (All-cons Right image [] right (All-nil Right)));
     }

@@ -42,11 +42,14 @@ pub record UnderWay (octets : List ℕ) (at : ℕ) (named : List Addr) : Type 0 
   pub names : addresses_in (whole_units octets) ≡ named ++ addresses_in (whole_units (drop at octets))
   pub good : has_bad (whole_units octets) ≡ has_bad (whole_units (drop at octets))
 
-pub goes_on : (octets : List ℕ) (at n : ℕ) (named more : List Addr) → UnderWay octets at named → unit_end (drop at octets) ≡ Some n → n ≤ length (drop at octets) → more ≡ named ++ addresses_in (take n (drop at octets) ∷ []) → is_bad (take n (drop at octets)) ≡ false → UnderWay octets (at + n) more
+pub goes_on : (octets : List ℕ) (at n : ℕ) (named more : List Addr) → UnderWay octets at named → unit_end (drop at octets) ≡ Some n
+    → n ≤ length (drop at octets) → more ≡ named ++ addresses_in (take n (drop at octets) ∷ []) → is_bad (take n (drop at octets)) ≡ false
+    → UnderWay octets (at + n) more
 goes_on octets at n named more w e within names good =
     let first : whole_units (drop at octets) ≡ take n (drop at octets) ∷ whole_units (drop n (drop at octets)) = units-first (drop at octets) n e in
     let next : drop n (drop at octets) ≡ drop (at + n) octets = drop-drop n at octets ∙ ap (λ (i : ℕ). drop i octets) (omega arith) in
-    let both : whole_units (drop at octets) ≡ take n (drop at octets) ∷ whole_units (drop (at + n) octets) = first ∙ ap (λ (s : List ℕ). take n (drop at octets) ∷ whole_units s) next in
+    let both : whole_units (drop at octets) ≡ take n (drop at octets) ∷ whole_units (drop (at + n) octets) = first
+    ∙ ap (λ (s : List ℕ). take n (drop at octets) ∷ whole_units s) next in
     record {
       within = omega (arith, within, length-drop at octets, w.within);
       names =
@@ -61,13 +64,16 @@ goes_on octets at n named more w e within names good =
 pub begins : (octets : List ℕ) → UnderWay octets 0 []
 begins octets = record { within = omega arith; names = refl; good = refl }
 
-pub all_named : (octets : List ℕ) (at : ℕ) (named : List Addr) → UnderWay octets at named → unit_end (drop at octets) ≡ None → named ≡ addresses_in (whole_units octets)
+pub all_named : (octets : List ℕ) (at : ℕ) (named : List Addr) → UnderWay octets at named → unit_end (drop at octets) ≡ None
+    → named ≡ addresses_in (whole_units octets)
 all_named octets at named w e = sym (w.names ∙ ap (λ us. named ++ addresses_in us) (units-none (drop at octets) e) ∙ append-nil _)
 
-pub all_good : (octets : List ℕ) (at : ℕ) (named : List Addr) → UnderWay octets at named → unit_end (drop at octets) ≡ None → has_bad (whole_units octets) ≡ false
+pub all_good : (octets : List ℕ) (at : ℕ) (named : List Addr) → UnderWay octets at named → unit_end (drop at octets) ≡ None
+    → has_bad (whole_units octets) ≡ false
 all_good octets at named w e = w.good ∙ ap has_bad (units-none (drop at octets) e)
 
-pub one_bad : (octets : List ℕ) (at n : ℕ) (named : List Addr) → UnderWay octets at named → unit_end (drop at octets) ≡ Some n → is_bad (take n (drop at octets)) ≡ true → has_bad (whole_units octets) ≡ true
+pub one_bad : (octets : List ℕ) (at n : ℕ) (named : List Addr) → UnderWay octets at named → unit_end (drop at octets) ≡ Some n
+    → is_bad (take n (drop at octets)) ≡ true → has_bad (whole_units octets) ≡ true
 one_bad octets at n named w e bad =
     w.good ∙ ap has_bad (units-first (drop at octets) n e) ∙ ap (λ (b : Bool). b || has_bad (whole_units (drop n (drop at octets)))) bad
 
@@ -76,10 +82,12 @@ pub record ReadSoFar (octets : List ℕ) (at : ℕ) (units : List ReadUnit) : Ty
   pub units_are : whole_units octets ≡ map unit_of units ++ whole_units (drop at octets)
   pub each : AreRead units
 
-pub reads_on : (octets : List ℕ) (at n : ℕ) (units more : List ReadUnit) → ReadSoFar octets at units → unit_end (drop at octets) ≡ Some n → map unit_of more ≡ map unit_of units ++ take n (drop at octets) ∷ [] → AreRead more → ReadSoFar octets (at + n) more
+pub reads_on : (octets : List ℕ) (at n : ℕ) (units more : List ReadUnit) → ReadSoFar octets at units → unit_end (drop at octets) ≡ Some n
+    → map unit_of more ≡ map unit_of units ++ take n (drop at octets) ∷ [] → AreRead more → ReadSoFar octets (at + n) more
 reads_on octets at n units more w e are each =
     let next : drop n (drop at octets) ≡ drop (at + n) octets = drop-drop n at octets ∙ ap (λ (i : ℕ). drop i octets) (omega arith) in
-    let both : whole_units (drop at octets) ≡ take n (drop at octets) ∷ whole_units (drop (at + n) octets) = units-first (drop at octets) n e ∙ ap (λ (s : List ℕ). take n (drop at octets) ∷ whole_units s) next in
+    let both : whole_units (drop at octets) ≡ take n (drop at octets) ∷ whole_units (drop (at + n) octets) = units-first (drop at octets) n e
+    ∙ ap (λ (s : List ℕ). take n (drop at octets) ∷ whole_units s) next in
     record {
       units_are =
           w.units_are
@@ -89,5 +97,6 @@ reads_on octets at n units more w e are each =
       each = each;
     }
 
-pub all_read : (octets : List ℕ) (at : ℕ) (units : List ReadUnit) → ReadSoFar octets at units → unit_end (drop at octets) ≡ None → map unit_of units ≡ whole_units octets
+pub all_read : (octets : List ℕ) (at : ℕ) (units : List ReadUnit) → ReadSoFar octets at units → unit_end (drop at octets) ≡ None
+    → map unit_of units ≡ whole_units octets
 all_read octets at units w e = sym (w.units_are ∙ ap (λ (us : List (List ℕ)). map unit_of units ++ us) (units-none (drop at octets) e) ∙ append-nil _)

@@ -33,7 +33,8 @@ one_bound t side es a h e =
       | inr new ↦ not_unbound (cross t side a) (rw new at e)
     ]
 
-pub named_bound : (t : Bindings) (side : Side) (es : List Entry) (named : List Addr) → IsListBound t side es → list_any (is_new_unbound t side es) named ≡ false → AreBound t side named
+pub named_bound : (t : Bindings) (side : Side) (es : List Entry) (named : List Addr) → IsListBound t side es
+    → list_any (is_new_unbound t side es) named ≡ false → AreBound t side named
 named_bound t side es [] h e = All-nil (IsBound t side)
 named_bound t side es (a ∷ named) h e =
     let parts = or_parts (is_new_unbound t side es a) (list_any (is_new_unbound t side es) named) e in
@@ -43,7 +44,8 @@ abbrev IsOf : Side → Use → Type 0
 IsOf side one = one.side ≡ side
 
 -- where the uses are of the realm's addresses, their images are those of the addresses
-images_are : (f : Side → Addr → Option Addr) (side : Side) (uses : List Use) → All (IsOf side) uses → map (λ (one : Use). f one.side one.address) uses ≡ map (f side) (map (λ (one : Use). one.address) uses)
+images_are : (f : Side → Addr → Option Addr) (side : Side) (uses : List Use) → All (IsOf side) uses
+    → map (λ (one : Use). f one.side one.address) uses ≡ map (f side) (map (λ (one : Use). one.address) uses)
 images_are f side [] h = refl
 images_are f side (one ∷ uses) h =
     ap (λ (s : Side). f s one.address ∷ map (λ (one : Use). f one.side one.address) uses) (All-head (IsOf side) one uses h)
@@ -54,7 +56,8 @@ drop-map f [] = refl
 drop-map f (x ∷ []) = refl
 drop-map f (x ∷ y ∷ xs) = refl
 
-pub images_behind_are : (t : Bindings) (side : Side) (addresses : List Addr) (uses : List Use) → AreUsesOf side addresses uses → drop 2 (images_after t uses) ≡ map (called_after t uses side) (drop 2 addresses)
+pub images_behind_are : (t : Bindings) (side : Side) (addresses : List Addr) (uses : List Use) → AreUsesOf side addresses uses
+    → drop 2 (images_after t uses) ≡ map (called_after t uses side) (drop 2 addresses)
 images_behind_are t side addresses uses u =
     ap (drop 2) (images_are (image_after t (after_uses t uses)) side uses u.sides ∙ ap (map (image_after t (after_uses t uses) side)) u.each)
     ∙ drop-map (image_after t (after_uses t uses) side) addresses
@@ -64,15 +67,19 @@ pub behind_two : {X : Type 0} (xs : List X) → take (length xs - 2) (drop 2 xs)
 behind_two xs = take_all (length xs - 2) (drop 2 xs) (omega (arith, length-drop 2 xs))
 
 -- where no new address is unbound, nor one of the header or of the list, none of those that are used is
-pub used_bound : (t : Bindings) (ends : Endpoints) (es : List Entry) (names : List Addr) → AreBound t ends.side (ends.source ∷ ends.destination ∷ []) → IsListBound t ends.side es → list_any (is_new_unbound t ends.side es) names ≡ false → AreBound t ends.side (all_addresses ends names)
+pub used_bound : (t : Bindings) (ends : Endpoints) (es : List Entry) (names : List Addr) → AreBound t ends.side (ends.source ∷ ends.destination ∷ [])
+    → IsListBound t ends.side es → list_any (is_new_unbound t ends.side es) names ≡ false → AreBound t ends.side (all_addresses ends names)
 used_bound t ends es names header listed new =
     let P = IsBound t ends.side in
     All-cons P ends.source (ends.destination ∷ names) (All-head P ends.source (ends.destination ∷ []) header)
-    (All-cons P ends.destination names (All-head P ends.destination [] (All-tail P ends.source (ends.destination ∷ []) header)) (named_bound t ends.side es names listed new))
+    (All-cons P ends.destination names (All-head P ends.destination [] (All-tail P ends.source (ends.destination ∷ []) header))
+    (named_bound t ends.side es names listed new))
 
 -- a list none of whose addresses is unbound, by a test of each
-pub all_bound : (t : Bindings) (side : Side) (es : List Entry) → list_all (λ (entry : Entry). not (is_unbound (cross t side entry.0))) es ≡ true → IsListBound t side es
+pub all_bound : (t : Bindings) (side : Side) (es : List Entry) → list_all (λ (entry : Entry). not (is_unbound (cross t side entry.0))) es ≡ true
+    → IsListBound t side es
 all_bound t side [] h = All-nil (IsBound t side)
 all_bound t side (e ∷ es) h =
     let parts = and_parts (not (is_unbound (cross t side e.0))) (list_all (λ (entry : Entry). not (is_unbound (cross t side entry.0))) es) h in
-    All-cons (IsBound t side) e.0 (map (λ (entry : Entry). entry.0) es) (not_unbound (cross t side e.0) (not-true (is_unbound (cross t side e.0)) parts.0)) (all_bound t side es parts.1)
+    All-cons (IsBound t side) e.0 (map (λ (entry : Entry). entry.0) es)
+    (not_unbound (cross t side e.0) (not-true (is_unbound (cross t side e.0)) parts.0)) (all_bound t side es parts.1)

@@ -4,7 +4,8 @@ ghost use Rattle.std.specs.List.{list_any};
 ghost use Rattle.dialogue.specs.Prelude.{AreImages};
 ghost use Rattle.dns_stream.specs.Prelude.{dns_units, image_in};
 ghost use Rattle.gate_model.specs.Prelude.{grows_too_much};
-ghost use Rattle.dns_plans.specs.Steps.{AreRead, IsRead, unit_of, image_unit};
+ghost use Rattle.dns_plans.specs.Steps.{image_unit};
+ghost use Rattle.dns_plans.specs.Inside.Steps.{AreRead, IsRead, unit_of};
 
 use crate::named::ReadUnit;
 use crate::sender::Sender;

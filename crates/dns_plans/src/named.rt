@@ -4,7 +4,7 @@ ghost use Rattle.std.specs.List.{list_any};
 ghost use Rattle.dns_stream.specs.declared.stop.UnitStop.TheVariants as stop;
 ghost use Rattle.gate_model.specs.Prelude.{addresses_in, is_bad};
 ghost use Rattle.dns_plans.specs.Plans.{whole_units, names_in};
-ghost use Rattle.dns_plans.specs.Steps.{AreRead, IsReadAs, unit_of};
+ghost use Rattle.dns_plans.specs.Inside.Steps.{AreRead, IsReadAs, unit_of};
 
 use dns_gateway::addresses_of;
 use dns_messages::Message;

@@ -1,11 +1,9 @@
 // What units do.
-ghost use Rattle.std.specs.Prelude.{◌≡◌, ◌≢◌, ◌≤◌, List, ◌∷◌, [], None, Err, length, map, IfOk, IfErr};
-ghost use Rattle.dialogue.specs.Prelude.{AreImages};
-ghost use Rattle.dns_stream.specs.Prelude.{dns_units};
+ghost use Rattle.std.specs.Prelude.{◌≡◌, ◌≢◌, ◌≤◌, ◌∷◌, [], None, Err, length, IfOk, IfErr};
 ghost use Rattle.gate_base.specs.Prelude.{first_that_holds};
-ghost use Rattle.binding_table.specs.Prelude.{Use};
-ghost use Rattle.dns_plans.specs.Steps.{entered_all, image_unit, none_tests};
-ghost use Rattle.dns_plans.specs.Plans.{whole_units, names_in, called_after, beside, AreAllUses, AreBound, IsListBound, first_reason, TellsFirst};
+ghost use Rattle.dns_plans.specs.Inside.Steps.{none_tests};
+ghost use Rattle.dns_plans.specs.Plans.{whole_units, AreBound, IsListBound, TellsFirst};
+ghost use Rattle.dns_plans.specs.Planned.{IsPlan, IsStopped};
 
 use crate::called::called_beside;
 use crate::entered::{has_new_unbound, new_entries};
@@ -76,27 +74,10 @@ pub fn plan_units<S: Session>(
         (endpoints.now.source ∷ endpoints.now.destination ∷ []) }
     requires listed { IsListBound table.now endpoints.now.side
         (S.rules.listed sender.now.host sender.now.session.now) }
-    ensures refused { (uses : List Use)
-        → AreAllUses endpoints.now octets.now uses
-        → IfErr result (TellsFirst (first_reason table.now uses endpoints.now
-        (S.rules.listed sender.now.host sender.now.session.now) octets.now)) }
-    ensures passes { (uses : List Use)
-        → AreAllUses endpoints.now octets.now uses
-        → IfOk result (λ _. first_reason table.now uses endpoints.now
-        (S.rules.listed sender.now.host sender.now.session.now) octets.now
-        ≡ None) }
-    ensures named { IfOk result (λ plan. plan.named.items ≡ names_in octets.now) }
-    ensures entries { (uses : List Use)
-        → AreAllUses endpoints.now octets.now uses
-        → IfOk result (λ plan. plan.entries.items
-        ≡ beside (called_after table.now uses endpoints.now.side)
-        (names_in octets.now)) }
-    ensures units { IfOk result
-        (λ plan. map image_unit plan.images.items ≡ whole_units octets.now) }
-    ensures images { IfOk result (λ plan. AreImages
-        (dns_units (entered_all
-        (S.rules.listed sender.now.host sender.now.session.now)
-        plan.entries.items)) plan.images.items) }
+    ensures planned { IfOk result (IsPlan table.now endpoints.now
+        (S.rules.listed sender.now.host sender.now.session.now) octets.now) }
+    ensures stopped { IfErr result (IsStopped table.now endpoints.now
+        (S.rules.listed sender.now.host sender.now.session.now) octets.now) }
     ensures memory { result ≡ Err PlanStop.OutOfMemory
         → 1 ≤ length (whole_units octets.now) }
 {
@@ -149,27 +130,10 @@ fn plan_some<S: Session>(
         (endpoints.now.source ∷ endpoints.now.destination ∷ []) }
     requires listed { IsListBound table.now endpoints.now.side
         (S.rules.listed sender.now.host sender.now.session.now) }
-    ensures refused { (uses : List Use)
-        → AreAllUses endpoints.now octets.now uses
-        → IfErr result (TellsFirst (first_reason table.now uses endpoints.now
-        (S.rules.listed sender.now.host sender.now.session.now) octets.now)) }
-    ensures passes { (uses : List Use)
-        → AreAllUses endpoints.now octets.now uses
-        → IfOk result (λ _. first_reason table.now uses endpoints.now
-        (S.rules.listed sender.now.host sender.now.session.now) octets.now
-        ≡ None) }
-    ensures named { IfOk result (λ plan. plan.named.items ≡ names_in octets.now) }
-    ensures entries { (uses : List Use)
-        → AreAllUses endpoints.now octets.now uses
-        → IfOk result (λ plan. plan.entries.items
-        ≡ beside (called_after table.now uses endpoints.now.side)
-        (names_in octets.now)) }
-    ensures units { IfOk result
-        (λ plan. map image_unit plan.images.items ≡ whole_units octets.now) }
-    ensures images { IfOk result (λ plan. AreImages
-        (dns_units (entered_all
-        (S.rules.listed sender.now.host sender.now.session.now)
-        plan.entries.items)) plan.images.items) }
+    ensures planned { IfOk result (IsPlan table.now endpoints.now
+        (S.rules.listed sender.now.host sender.now.session.now) octets.now) }
+    ensures stopped { IfErr result (IsStopped table.now endpoints.now
+        (S.rules.listed sender.now.host sender.now.session.now) octets.now) }
 {
     let ReadUnits { units, named } = match read_units(alloc, octets) {
         Ok(read) => read,

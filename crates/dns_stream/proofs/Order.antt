@@ -12,7 +12,7 @@ use Rattle.gate_base.specs.declared.address.Addr.{Addr}
 use Rattle.dialogue.specs.Prelude.{Entry, is_of, listed_image}
 use Rattle.dialogue.proofs.ListedImages.{image_of_joined}
 use Rattle.dns_stream.specs.Prelude.{AreOneList}
-use Rattle.dns_stream.specs.Order.{no_entry, address_at, Rises, IsAt, IsGapFor}
+use Rattle.dns_stream.specs.Inside.Order.{no_entry, address_at, Rises, IsAt, IsGapFor}
 
 -- ---- a look-up, by an entry at a time
 

@@ -1,7 +1,7 @@
 // The list of addresses by which one direction of a session is renamed.
 ghost use Rattle.std.specs.Prelude.{◌≡◌, ◌≤◌, ◌<◌, ◌+◌, false, List, [], ◌∷◌, ◌++◌, length, take, slice_get, Some, vec_len, vec_capacity, IfOk, IfErr};
 ghost use Rattle.dialogue.specs.Prelude.{Entry, is_listed, listed_image};
-ghost use Rattle.dns_stream.specs.Order.{Rises, IsAt, IsGapFor, AreOneList};
+ghost use Rattle.dns_stream.specs.Inside.Order.{Rises, IsAt, IsGapFor, AreOneList};
 
 use gate_base::{Addr, OutOfMemory};
 use std::alloc::Global;
@@ -25,7 +25,7 @@ pub struct RenameList {
 impl Model for RenameList {
     ghost use Rattle.std.specs.Prelude.{◌≤◌, List, vec_capacity};
     ghost use Rattle.dialogue.specs.Prelude.{Entry};
-    ghost use Rattle.dns_stream.specs.Order.{AreOneList};
+    ghost use Rattle.dns_stream.specs.Inside.Order.{AreOneList};
 
     ghost Value = { List Entry };
 

@@ -16,7 +16,12 @@ pub is_judged : (octets : List ℕ) (d : Datagram) (content : Content) → read_
     → first_that_holds (datagram_tests d) ≡ None → first_that_holds (transport_tests d) ≡ None → 2 ≤ d.lifetime → total_length_of octets ≤ 65535
     → IsContentOf d content → IsJudged (take (total_length_of octets) octets) d content
 is_judged octets d content read same known none alive few content_is =
-    let a : IsAccepted octets = record { header = ap is_ok read; payload = ap (λ (x : Datagram). is_ok (read_content x.protocol x.source x.destination x.payload)) (sym same) ∙ accepted d known none } in
+    let a : IsAccepted octets =
+    record {
+      header = ap is_ok read;
+      payload = ap (λ (x : Datagram). is_ok (read_content x.protocol x.source x.destination x.payload)) (sym same)
+          ∙ accepted d known none;
+    } in
     let life : 1 < (datagram_of octets).lifetime = omega (arith, alive, ap (λ (x : Datagram). x.lifetime) same) in
     record {
       same = cut_same octets a ∙ sym same;

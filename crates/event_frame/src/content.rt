@@ -4,7 +4,7 @@ ghost use Rattle.gate_base.specs.Prelude.{event_of, first_that_holds};
 ghost use Rattle.ether_frames.specs.Ether.{octets_in};
 ghost use Rattle.ipv4_frames.specs.Ipv4.{read_datagram};
 ghost use Rattle.gate_model.specs.Frame as frame;
-ghost use Rattle.event_frame.specs.Judged.{ip_refusal, transport_refusal, judged, Carries};
+ghost use Rattle.event_frame.specs.Inside.Judged.{ip_refusal, transport_refusal, judged, Carries};
 
 use gate_base::{Event, ICMP, Refusal, TCP, UDP, is_unicast};
 use ipv4_frames::{IpFault, IpView, TransportFault};

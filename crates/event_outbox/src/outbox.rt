@@ -7,7 +7,7 @@ ghost use Rattle.gate_base.specs.Prelude.{AreRules};
 ghost use Rattle.snmp_oids.specs.Elements.{oid_renamed};
 ghost use Rattle.twice_translate.specs.Renamed.{CanGoOn, CanTranslate, datagram_of, renamed, rebuilt, with_payload};
 ghost use Rattle.gate_model.specs.Prelude.{inside, with_inside, carried};
-ghost use Rattle.event_outbox.specs.One.{IsOne};
+ghost use Rattle.event_outbox.specs.Inside.One.{IsOne};
 
 use gate_base::Addr;
 use icmp_errors::put_inner;

@@ -39,7 +39,8 @@ by_numbers [] = refl
 by_numbers (address ∷ rest) = ap (λ more. address ∷ more) (by_numbers rest)
 
 -- addresses with these numbers
-pub named_ok : {V E : Type 0} (items_of : V → List Addr) (numbers : List ℕ) (r : Result V E) → IfOk r (λ v. map (λ (a : Addr). a.0) (items_of v) ≡ numbers) → IfOk r (λ v. items_of v ≡ map address_by numbers)
+pub named_ok : {V E : Type 0} (items_of : V → List Addr) (numbers : List ℕ) (r : Result V E)
+    → IfOk r (λ v. map (λ (a : Addr). a.0) (items_of v) ≡ numbers) → IfOk r (λ v. items_of v ≡ map address_by numbers)
 named_ok items_of numbers (Ok v) h = sym (by_numbers (items_of v)) ∙ ap (map address_by) h
 named_ok items_of numbers (Err e) h = tt
 
@@ -53,14 +54,18 @@ IsOf side one = one.side ≡ side
 
 used_sides : (side : Side) (until : ℕ) (addresses : List Addr) → All (IsOf side) (uses_until side until addresses)
 used_sides side until [] = All-nil (IsOf side)
-used_sides side until (address ∷ rest) = All-cons (IsOf side) (record { side = side; address = address; until = record { 0 = until } }) (uses_until side until rest) refl (used_sides side until rest)
+used_sides side until (address ∷ rest) =
+    All-cons (IsOf side) (record { side = side; address = address; until = record { 0 = until } }) (uses_until side until rest) refl
+    (used_sides side until rest)
 
-images_used : (f : Side → Addr → Option Addr) (side : Side) (until : ℕ) (addresses : List Addr) → map (λ (one : Use). f one.side one.address) (uses_until side until addresses) ≡ map (f side) addresses
+images_used : (f : Side → Addr → Option Addr) (side : Side) (until : ℕ) (addresses : List Addr)
+    → map (λ (one : Use). f one.side one.address) (uses_until side until addresses) ≡ map (f side) addresses
 images_used f side until [] = refl
 images_used f side until (address ∷ rest) = ap (λ more. f side address ∷ more) (images_used f side until rest)
 
 -- the uses are those of all addresses
-pub all_used : (side : Side) (moment : ℕ) (source destination : Addr) (named addresses : List Addr) → addresses ≡ source ∷ destination ∷ named → AreUsesOf side addresses (named_uses side moment source destination named)
+pub all_used : (side : Side) (moment : ℕ) (source destination : Addr) (named addresses : List Addr) → addresses ≡ source ∷ destination ∷ named
+    → AreUsesOf side addresses (named_uses side moment source destination named)
 all_used side moment source destination named addresses e =
     let until : Moment = record { 0 = moment + udp_timeout } in
     let rest = uses_until side (moment + named_timeout) named in
@@ -72,9 +77,11 @@ all_used side moment source destination named addresses e =
     }
 
 -- the images of those in the message, once all are used
-images_named : (t : Bindings) (side : Side) (moment : ℕ) (source destination : Addr) (named : List Addr) → let uses = named_uses side moment source destination named in
+images_named : (t : Bindings) (side : Side) (moment : ℕ) (source destination : Addr) (named : List Addr) → let uses =
+    named_uses side moment source destination named in
     drop 2 (images_after t uses) ≡ map (image_after t (after_uses t uses) side) named
-images_named t side moment source destination named = images_used (image_after t (after_uses t (named_uses side moment source destination named))) side (moment + named_timeout) named
+images_named t side moment source destination named =
+    images_used (image_after t (after_uses t (named_uses side moment source destination named))) side (moment + named_timeout) named
 
 -- ## None of them is unbound
 
@@ -104,34 +111,43 @@ and_true : (b : Bool) → ◌≡◌ {A = ℕ} (cond (b && true) 1 0) (if b then 
 and_true true = refl
 and_true false = refl
 
-has_room : (t : Bindings) (side : Side) (address : Addr) (rest : List Addr) → nat_lt (free t (other side)) (needed t side (address ∷ rest)) ≡ false → is_empty (cross t side address) ≡ false
+has_room : (t : Bindings) (side : Side) (address : Addr) (rest : List Addr) → nat_lt (free t (other side)) (needed t side (address ∷ rest)) ≡ false
+    → is_empty (cross t side address) ≡ false
 has_room t side address rest room =
     let first = fresh_cons t side [] address rest in
     let one = and_true (needs_binding (cross t side address)) in
     let enough = ltb-false (free t (other side)) (needed t side (address ∷ rest)) room in
-    sym (free_is t side address (cross t side address) refl) ∙ le-ltb (free t (other side)) (if needs_binding (cross t side address) then 1 else 0) (omega (arith, first, one, enough))
+    sym (free_is t side address (cross t side address) refl)
+    ∙ le-ltb (free t (other side)) (if needs_binding (cross t side address) then 1 else 0) (omega (arith, first, one, enough))
 
 -- ## What both addresses are called after all uses
 
-source_goes : (t : Bindings) (side : Side) (moment : ℕ) (source destination : Addr) (named : List Addr) → in_pool t side source ≡ false → nat_lt (free t (other side)) (needed t side (source ∷ destination ∷ named)) ≡ false →
+source_goes : (t : Bindings) (side : Side) (moment : ℕ) (source destination : Addr) (named : List Addr) → in_pool t side source ≡ false
+    → nat_lt (free t (other side)) (needed t side (source ∷ destination ∷ named)) ≡ false →
     called (after_uses t (named_uses side moment source destination named)) side source ≡ image_by (cross t side source) source
 source_goes t side moment source destination named outside room =
     let until : Moment = record { 0 = moment + udp_timeout } in
     let one : Use = record { side = side; address = source; until = until } in
-    let first = used_called t side source until (cross t side source) refl (known_unbound t side source outside) (has_room t side source (destination ∷ named) room) in
+    let first =
+    used_called t side source until (cross t side source) refl (known_unbound t side source outside)
+    (has_room t side source (destination ∷ named) room) in
     let header = still_after (used t one) side source _ until.0 (destination ∷ []) first in
     called_is (still_after (after_uses t (uses_until side until.0 (source ∷ destination ∷ []))) side source _ (moment + named_timeout) named header)
 
-destination_goes : (t : Bindings) (side : Side) (moment : ℕ) (source destination : Addr) (named : List Addr) → is_settled (cross t side destination) ≡ true →
+destination_goes : (t : Bindings) (side : Side) (moment : ℕ) (source destination : Addr) (named : List Addr)
+    → is_settled (cross t side destination) ≡ true →
     called (after_uses t (named_uses side moment source destination named)) side destination ≡ image_by (cross t side destination) destination
 destination_goes t side moment source destination named settled =
     let until : ℕ = moment + udp_timeout in
-    let header = still_after t side destination _ until (source ∷ destination ∷ []) (of_crossing t side destination (cross t side destination) refl settled) in
-    called_is (still_after (after_uses t (uses_until side until (source ∷ destination ∷ []))) side destination _ (moment + named_timeout) named header)
+    let header =
+    still_after t side destination _ until (source ∷ destination ∷ []) (of_crossing t side destination (cross t side destination) refl settled) in
+    called_is
+    (still_after (after_uses t (uses_until side until (source ∷ destination ∷ []))) side destination _ (moment + named_timeout) named header)
 
 -- ## A payload that stays
 
-udp_lengths : (protocol source destination : ℕ) (payload : List ℕ) → protocol ≡ 17 → is_ok (read_content protocol source destination payload) ≡ true → has_bad_length payload ≡ false
+udp_lengths : (protocol source destination : ℕ) (payload : List ℕ) → protocol ≡ 17 → is_ok (read_content protocol source destination payload) ≡ true
+    → has_bad_length payload ≡ false
 udp_lengths protocol source destination payload e ok =
     let udp : (protocol == 17) ≡ true = eq-eqb protocol 17 e in
     (reads_udp payload source destination (sym (ok_as of_udp (read_udp payload source destination)) ∙ (rw udp at ok))).lengths
@@ -139,19 +155,22 @@ udp_lengths protocol source destination payload e ok =
 length_is : (stands count : ℕ) → (nat_lt count 8 || not (stands == count)) ≡ false → stands ≡ count
 length_is stands count h = grind (arith, nat_tests)
 
-put_shown : (front rest : List ℕ) (value : ℕ) → value ≡ u16_at 4 (items 0 8 front ++ rest) → Fits w8 (get_or front 4 0) → Fits w8 (get_or front 5 0) → with_u16 4 value (items 0 8 front ++ rest) ≡ items 0 8 front ++ rest
+put_shown : (front rest : List ℕ) (value : ℕ) → value ≡ u16_at 4 (items 0 8 front ++ rest) → Fits w8 (get_or front 4 0) → Fits w8 (get_or front 5 0)
+    → with_u16 4 value (items 0 8 front ++ rest) ≡ items 0 8 front ++ rest
 put_shown front rest value e four five =
     let high : value / 256 % 256 ≡ get_or front 4 0 = omega arith in
     let low : value % 256 ≡ get_or front 5 0 = omega arith in
     rw (high, low) refl
 
 -- the length field written again
-put_again : (payload : List ℕ) (value : ℕ) → 8 ≤ length payload → value ≡ u16_at 4 payload → Fits w8 (get_or payload 4 0) → Fits w8 (get_or payload 5 0) → with_u16 4 value payload ≡ payload
+put_again : (payload : List ℕ) (value : ℕ) → 8 ≤ length payload → value ≡ u16_at 4 payload → Fits w8 (get_or payload 4 0)
+    → Fits w8 (get_or payload 5 0) → with_u16 4 value payload ≡ payload
 put_again payload value long e four five =
     let P : List ℕ → Type 0 = λ xs. value ≡ u16_at 4 xs → with_u16 4 value xs ≡ xs in
     subst P (sym (front_items 8 payload long)) (λ f. put_shown payload (drop 8 payload) value f four five) e
 
-own_payload : (payload : List ℕ) → has_bad_length payload ≡ false → Fits w8 (get_or payload 4 0) → Fits w8 (get_or payload 5 0) → with_u16 4 (8 + length (drop 8 payload)) (take 8 payload ++ drop 8 payload) ≡ payload
+own_payload : (payload : List ℕ) → has_bad_length payload ≡ false → Fits w8 (get_or payload 4 0) → Fits w8 (get_or payload 5 0)
+    → with_u16 4 (8 + length (drop 8 payload)) (take 8 payload ++ drop 8 payload) ≡ payload
 own_payload payload lengths four five =
     let long = long_segment payload lengths in
     let stands = length_is (u16_at 4 payload) (length payload) lengths in
@@ -165,19 +184,30 @@ payload_is octets can =
     take_all (total_length_of octets - 20) (drop 20 octets) (omega (arith, whole, length-drop 20 octets))
 
 -- a UDP datagram with the payload that it has
-pub rebuilt_same : (octets : List ℕ) (source destination : ℕ) → CanGoOn octets → (datagram_of octets).protocol ≡ 17 → ((k : ℕ) → Fits w8 (get_or octets k 0)) → renamed (datagram_of octets) source destination ≡ rebuilt (datagram_of octets) source destination (carried (datagram_of octets))
+pub rebuilt_same : (octets : List ℕ) (source destination : ℕ) → CanGoOn octets → (datagram_of octets).protocol ≡ 17
+    → ((k : ℕ) → Fits w8 (get_or octets k 0))
+    → renamed (datagram_of octets) source destination ≡ rebuilt (datagram_of octets) source destination (carried (datagram_of octets))
 rebuilt_same octets source destination can protocol fits =
     let d = datagram_of octets in
     let lengths = udp_lengths d.protocol d.source d.destination d.payload protocol can.accepted.payload in
     let P : List ℕ → Type 0 = λ xs. (k : ℕ) → Fits w8 (get_or xs k 0) in
-    let small : P d.payload = subst P (sym (payload_is octets can)) (λ k. subst (λ (x : ℕ). Fits w8 x) (sym (get_or-drop 20 octets k 0)) (fits (20 + k))) in
-    ap (λ (xs : List ℕ). let e : Datagram = record d { payload = xs } in renamed e source destination) (sym (own_payload d.payload lengths (small 4) (small 5)))
+    let small : P d.payload =
+    subst P (sym (payload_is octets can)) (λ k. subst (λ (x : ℕ). Fits w8 x) (sym (get_or-drop 20 octets k 0)) (fits (20 + k))) in
+    ap (λ (xs : List ℕ). let e : Datagram = record d { payload = xs } in renamed e source destination)
+    (sym (own_payload d.payload lengths (small 4) (small 5)))
 
 -- ## Lengths
 
 pub short_payload : (octets payload : List ℕ) → length octets ≤ 65535 → payload ≡ carried (datagram_of octets) → length payload ≤ 65507
 short_payload octets payload few e =
-    omega (arith, few, ap length e, length-drop 8 (datagram_of octets).payload, length-take (total_length_of octets - 20) (drop 20 octets), length-drop 20 octets)
+    omega (
+      arith,
+      few,
+      ap length e,
+      length-drop 8 (datagram_of octets).payload,
+      length-take (total_length_of octets - 20) (drop 20 octets),
+      length-drop 20 octets,
+    )
 
 -- ## What passes
 
@@ -185,15 +215,18 @@ short_payload octets payload few e =
 abbrev lacks : Bindings → Side → Addr → Addr → List Addr → Bool
 lacks t side source destination named = nat_lt (free t (other side)) (needed t side (source ∷ destination ∷ named))
 
-uses_are : {S : Type 0} (live : World S) (side : Side) (d : Datagram) (way : Way) (named : List Addr) → IsWayOf live side d way → named ≡ named_in (message_in d) →
-    named_uses side way.moment.0 way.source way.destination named ≡ named_uses side live.clock (source_of d) (destination_of d) (named_in (message_in d))
+uses_are : {S : Type 0} (live : World S) (side : Side) (d : Datagram) (way : Way) (named : List Addr) → IsWayOf live side d way
+    → named ≡ named_in (message_in d) →
+    named_uses side way.moment.0 way.source way.destination named ≡ named_uses side live.clock (source_of d) (destination_of d)
+    (named_in (message_in d))
 uses_are live side d way named w n =
     ap (λ (moment : ℕ). named_uses side moment way.source way.destination named) w.moment_is
     ∙ ap (λ (a : Addr). named_uses side live.clock a way.destination named) w.source_is
     ∙ ap (λ (a : Addr). named_uses side live.clock (source_of d) a named) w.destination_is
     ∙ ap (named_uses side live.clock (source_of d) (destination_of d)) n
 
-room_is : {S : Type 0} (live : World S) (side : Side) (d : Datagram) (way : Way) (named : List Addr) → IsWayOf live side d way → named ≡ named_in (message_in d) →
+room_is : {S : Type 0} (live : World S) (side : Side) (d : Datagram) (way : Way) (named : List Addr) → IsWayOf live side d way
+    → named ≡ named_in (message_in d) →
     lacks live.table side way.source way.destination named ≡ lacks live.table side (source_of d) (destination_of d) (named_in (message_in d))
 room_is live side d way named w n =
     ap (λ (a : Addr). lacks live.table side a way.destination named) w.source_is
@@ -201,12 +234,14 @@ room_is live side d way named w n =
     ∙ ap (lacks live.table side (source_of d) (destination_of d)) n
 
 -- a datagram that passes, over what lives
-passed : {S : Type 0} (rules : SessionRules S) (live : World S) (side : Side) (d : Datagram) (m : Message) (named : List Addr) (way : Way) (table : Bindings) (reply : List ℕ) (sent : List (List ℕ)) → IsWayOf live side d way → message_in d ≡ Some m → named ≡ named_in (Some m)
+passed : {S : Type 0} (rules : SessionRules S) (live : World S) (side : Side) (d : Datagram) (m : Message) (named : List Addr) (way : Way)
+    (table : Bindings) (reply : List ℕ) (sent : List (List ℕ)) → IsWayOf live side d way → message_in d ≡ Some m → named ≡ named_in (Some m)
     → has_unbound live.table side named ≡ false
     → lacks live.table side way.source way.destination named ≡ false
     → table ≡ after_uses live.table (named_uses side way.moment.0 way.source way.destination named)
     → reply ≡ reply_by (drop 2 (images_after live.table (named_uses side way.moment.0 way.source way.destination named))) (carried d) (Some m)
-    → sent ≡ rebuilt d (image_by way.of_source way.source).0 (image_by way.of_destination way.destination).0 reply ∷ [] → IsTaken rules live side d (Whole Dns) None table sent
+    → sent ≡ rebuilt d (image_by way.of_source way.source).0 (image_by way.of_destination way.destination).0 reply ∷ []
+    → IsTaken rules live side d (Whole Dns) None table sent
 passed rules live side d m named way table reply sent w e h unbound full bound answer out =
     let n : named ≡ named_in (message_in d) = h ∙ ap named_in (sym e) in
     let s = source_of d in
@@ -225,9 +260,11 @@ passed rules live side d m named way table reply sent w e h unbound full bound a
     let of_source = of_source_is live side d way w in
     let of_destination = of_destination_is live side d way w in
     let source : image_by way.of_source way.source ≡ called after side s =
-    ap (λ (c : Crossing). image_by c way.source) of_source ∙ ap (image_by (cross live.table side s)) w.source_is ∙ sym (source_goes live.table side live.clock s t all w.outside room) in
+    ap (λ (c : Crossing). image_by c way.source) of_source ∙ ap (image_by (cross live.table side s)) w.source_is
+    ∙ sym (source_goes live.table side live.clock s t all w.outside room) in
     let destination : image_by way.of_destination way.destination ≡ called after side t =
-    ap (λ (c : Crossing). image_by c way.destination) of_destination ∙ ap (image_by (cross live.table side t)) w.destination_is ∙ sym (destination_goes live.table side live.clock s t all (ap is_settled (sym of_destination) ∙ w.settled)) in
+    ap (λ (c : Crossing). image_by c way.destination) of_destination ∙ ap (image_by (cross live.table side t)) w.destination_is
+    ∙ sym (destination_goes live.table side live.clock s t all (ap is_settled (sym of_destination) ∙ w.settled)) in
     record {
       answer = rw (message, none, room) refl;
       bound = bound ∙ ap (after_uses live.table) uses;
@@ -246,14 +283,16 @@ pub names_passed : {S : Type 0} (rules : SessionRules S) (live : World S) (side 
     → nat_lt (free old (other side)) (needed old side (way.source ∷ way.destination ∷ named)) ≡ false
     → table ≡ after_uses old (named_uses side way.moment.0 way.source way.destination named)
     → reply ≡ reply_by (drop 2 (images_after old (named_uses side way.moment.0 way.source way.destination named))) (carried d) (Some m)
-    → sent ≡ rebuilt d (image_by way.of_source way.source).0 (image_by way.of_destination way.destination).0 reply ∷ [] → IsTaken rules live side d (Whole Dns) None table sent
+    → sent ≡ rebuilt d (image_by way.of_source way.source).0 (image_by way.of_destination way.destination).0 reply ∷ []
+    → IsTaken rules live side d (Whole Dns) None table sent
 names_passed rules live side d m named way old table reply sent same w e h =
     let P : Bindings → Type 0 = λ t.
     has_unbound t side named ≡ false
     → lacks t side way.source way.destination named ≡ false
     → table ≡ after_uses t (named_uses side way.moment.0 way.source way.destination named)
     → reply ≡ reply_by (drop 2 (images_after t (named_uses side way.moment.0 way.source way.destination named))) (carried d) (Some m)
-    → sent ≡ rebuilt d (image_by way.of_source way.source).0 (image_by way.of_destination way.destination).0 reply ∷ [] → IsTaken rules live side d (Whole Dns) None table sent in
+    → sent ≡ rebuilt d (image_by way.of_source way.source).0 (image_by way.of_destination way.destination).0 reply ∷ []
+    → IsTaken rules live side d (Whole Dns) None table sent in
     subst P same (passed rules live side d m named way table reply sent w e h)
 
 -- ## A message that names nothing
@@ -270,7 +309,10 @@ pub nothing_named : {S : Type 0} (rules : SessionRules S) (live : World S) (side
 nothing_named {S = S} rules live side d r table sent some none same t =
     let one = source_of d in
     let two = destination_of d in
-    let A : Bool → List Addr → Option Refusal = λ bad named. first_that_holds ((bad, BadDns) ∷ (has_unbound live.table side named, DnsUnbound) ∷ (nat_lt (free live.table (other side)) (needed live.table side (one ∷ two ∷ named)), PoolEmpty) ∷ []) in
+    let A : Bool → List Addr → Option Refusal =
+    λ bad named. first_that_holds
+    ((bad, BadDns) ∷ (has_unbound live.table side named, DnsUnbound)
+    ∷ (nat_lt (free live.table (other side)) (needed live.table side (one ∷ two ∷ named)), PoolEmpty) ∷ []) in
     let after : List Addr → Bindings = λ named. after_uses live.table (named_uses side live.clock one two named) in
     let S : List ℕ → List (List ℕ) = λ payload. rebuilt d (called (after []) side one).0 (called (after []) side two).0 payload ∷ [] in
     record {
@@ -279,5 +321,7 @@ nothing_named {S = S} rules live side d r table sent some none same t =
       gone = t.gone
           ∙ ap (λ (x : List ℕ). unless_refused r (x ∷ []) []) (same (called (after []) side one).0 (called (after []) side two).0)
           ∙ ap (λ (xs : List ℕ). unless_refused r (S xs) []) (none_replied (carried d) (message_in d))
-          ∙ ap (λ (named : List Addr). unless_refused r (rebuilt d (called (after named) side one).0 (called (after named) side two).0 (reply_by (map (image_after live.table (after named) side) named) (carried d) (message_in d)) ∷ []) []) (sym none);
+          ∙ ap (λ (named : List Addr). unless_refused r
+          (rebuilt d (called (after named) side one).0 (called (after named) side two).0
+          (reply_by (map (image_after live.table (after named) side) named) (carried d) (message_in d)) ∷ []) []) (sym none);
     }

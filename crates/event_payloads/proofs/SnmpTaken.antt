@@ -26,7 +26,7 @@ use Rattle.gate_model.specs.Management.{is_bad_snmp}
 use Rattle.gate_model.proofs.ListsKept.{known_unbound}
 use Rattle.event_payloads.specs.Prelude.{IsTaken, IsWayOf, image_by, is_empty, header_uses}
 use Rattle.event_payloads.specs.declared.addresses.Way.{Way}
-use Rattle.event_payloads.specs.Planned.{number_planned}
+use Rattle.event_payloads.specs.Inside.Planned.{number_planned}
 use Rattle.event_payloads.proofs.HeadersOnly.{are_images, empty_is, uses_are, of_source_is, of_destination_is}
 use Rattle.event_payloads.proofs.Passes.{used_called, still_after}
 
@@ -35,7 +35,8 @@ told_good : {A B : Type 0} (o : Option (A × B)) → is_some (option_map (λ m. 
 told_good None told = absurd (cc)
 told_good (Some found) told = refl
 
-pub good_is : (d : Datagram) (payload : List ℕ) (kind : Option SnmpKind) (none : Bool) → payload ≡ carried d → kind ≡ kind_of payload → is_some kind ≡ not none → none ≡ false → is_bad_snmp d ≡ false
+pub good_is : (d : Datagram) (payload : List ℕ) (kind : Option SnmpKind) (none : Bool) → payload ≡ carried d → kind ≡ kind_of payload
+    → is_some kind ≡ not none → none ≡ false → is_bad_snmp d ≡ false
 good_is d payload kind none same told tested some =
     told_good (message (carried d)) (ap (λ (xs : List ℕ). is_some (kind_of xs)) (sym same) ∙ ap is_some (sym told) ∙ tested ∙ ap not some)
 
@@ -43,10 +44,15 @@ abbrev first_by : Bool → Bool → Bool → Option Refusal
 first_by bad empty long = first_that_holds ((bad, BadSnmp) ∷ (empty, PoolEmpty) ∷ (long, SnmpTooLong) ∷ [])
 
 -- the first test that holds, of a message
-first_is : {S : Type 0} (rules : SessionRules S) (live : World S) (side : Side) (d : Datagram) (way : Way) (long : Bool) → IsWayOf live side d way → is_bad_snmp d ≡ false → long ≡ is_snmp_too_long (table_after rules live side live.clock d (Whole Snmp)) side d
-    → first_by false (is_empty way.of_source) long ≡ first_that_holds (kind_tests rules live side live.clock d (Whole Snmp) ++ (is_pool_empty rules live side d (Whole Snmp), PoolEmpty) ∷ late_tests rules live side live.clock d (Whole Snmp))
+first_is : {S : Type 0} (rules : SessionRules S) (live : World S) (side : Side) (d : Datagram) (way : Way) (long : Bool) → IsWayOf live side d way
+    → is_bad_snmp d ≡ false → long ≡ is_snmp_too_long (table_after rules live side live.clock d (Whole Snmp)) side d
+    → first_by false (is_empty way.of_source) long ≡ first_that_holds
+    (kind_tests rules live side live.clock d (Whole Snmp)
+    ++ (is_pool_empty rules live side d (Whole Snmp), PoolEmpty) ∷ late_tests rules live side live.clock d (Whole Snmp))
 first_is rules live side d way long w good is =
-    ap (λ (b : Bool). first_by b (is_empty way.of_source) long) (sym good) ∙ ap (λ (b : Bool). first_by (is_bad_snmp d) b long) (empty_is rules live side d way w) ∙ ap (first_by (is_bad_snmp d) (is_pool_empty rules live side d (Whole Snmp))) is
+    ap (λ (b : Bool). first_by b (is_empty way.of_source) long) (sym good)
+    ∙ ap (λ (b : Bool). first_by (is_bad_snmp d) b long) (empty_is rules live side d way w)
+    ∙ ap (first_by (is_bad_snmp d) (is_pool_empty rules live side d (Whole Snmp))) is
 
 pub message_empty : {S : Type 0} (rules : SessionRules S) (live : World S) (side : Side) (d : Datagram) (way : Way) (table : Bindings)
     (sent : List (List ℕ)) → IsWayOf live side d way → is_bad_snmp d ≡ false → is_empty way.of_source ≡ true → table ≡ live.table → sent ≡ []
@@ -77,32 +83,44 @@ oids_after t (one ∷ uses) = oids_after (used t one) uses ∙ oids_by t one.sid
 abbrev after_both : {S : Type 0} → World S → Side → Datagram → Bindings
 after_both live side d = after_uses live.table (uses_until side (live.clock + udp_timeout) (source_of d ∷ destination_of d ∷ []))
 
-numbered : (address image : Addr) (table : Bindings) (side : Side) (n : ℕ) → n ≡ address.0 → seen table side address ≡ Some image → number_seen table side n ≡ Some image.0
+numbered : (address image : Addr) (table : Bindings) (side : Side) (n : ℕ) → n ≡ address.0 → seen table side address ≡ Some image
+    → number_seen table side n ≡ Some image.0
 numbered address image table side n is h = ap (λ (m : ℕ). number_seen table side m) is ∙ ap (option_map (λ (x : Addr). x.0)) h
 
 -- every address is called as after both uses
-planned_at : {S : Type 0} (live : World S) (side : Side) (d : Datagram) (way : Way) → IsWayOf live side d way → is_empty way.of_source ≡ false → (n : ℕ) → number_planned live.table way n ≡ number_seen (after_both live side d) side n
+planned_at : {S : Type 0} (live : World S) (side : Side) (d : Datagram) (way : Way) → IsWayOf live side d way → is_empty way.of_source ≡ false
+    → (n : ℕ) → number_planned live.table way n ≡ number_seen (after_both live side d) side n
 planned_at live side d way w room n = elim (cases_Bool (n == way.source.0)) [
   | inl same ↦
       let s = of_source_is live side d way w in
-      let first = used_called live.table side (source_of d) (record { 0 = live.clock + udp_timeout }) (cross live.table side (source_of d)) refl (known_unbound live.table side (source_of d) w.outside) (ap is_empty (sym s) ∙ room) in
-      let both = still_after (used live.table (record { side = side; address = source_of d; until = record { 0 = live.clock + udp_timeout } })) side (source_of d) _ (live.clock + udp_timeout) (destination_of d ∷ []) first in
-      rw same (ap (λ (c : Crossing). let o : Option ℕ = Some (image_by c way.source).0 in o) s ∙ ap (λ (a : Addr). let o : Option ℕ = Some (image_by (cross live.table side (source_of d)) a).0 in o) w.source_is
+      let first =
+      used_called live.table side (source_of d) (record { 0 = live.clock + udp_timeout }) (cross live.table side (source_of d)) refl
+      (known_unbound live.table side (source_of d) w.outside) (ap is_empty (sym s) ∙ room) in
+      let both =
+      still_after (used live.table (record { side = side; address = source_of d; until = record { 0 = live.clock + udp_timeout } })) side
+      (source_of d) _ (live.clock + udp_timeout) (destination_of d ∷ []) first in
+      rw same (ap (λ (c : Crossing). let o : Option ℕ = Some (image_by c way.source).0 in o) s
+      ∙ ap (λ (a : Addr). let o : Option ℕ = Some (image_by (cross live.table side (source_of d)) a).0 in o) w.source_is
       ∙ sym (numbered (source_of d) _ (after_both live side d) side n (eqb-true n way.source.0 same ∙ ap (λ (a : Addr). a.0) w.source_is) both.seen))
   | inr other ↦
       let one : Addr = record { 0 = n } in
       let t = live.table in
       let until : Moment = record { 0 = live.clock + udp_timeout } in
       let mid = used t (record { side = side; address = source_of d; until = until }) in
-      let settled = settled_stays t mid side (destination_of d) (used_follows t (record { side = side; address = source_of d; until = until })) (ap is_settled (sym (of_destination_is live side d way w)) ∙ w.settled) in
+      let settled =
+      settled_stays t mid side (destination_of d) (used_follows t (record { side = side; address = source_of d; until = until }))
+      (ap is_settled (sym (of_destination_is live side d way w)) ∙ w.settled) in
       let away = other_way n way.source.0 (ap (λ (a : Addr). a.0) w.source_is) other in
       rw other (ap (λ (x : Side). number_seen t x n) w.side_is
       ∙ ap (option_map (λ (x : Addr). x.0)) (sym (seen_kept t side (source_of d) one until (cross t side (source_of d)) (inr away)))
-      ∙ ap (option_map (λ (x : Addr). x.0)) (sym (seen_kept mid side (destination_of d) one until (cross mid side (destination_of d)) (inl (ap is_settled settled ∙ ap is_settled (sym (of_destination_is live side d way w)) ∙ w.settled)))))
+      ∙ ap (option_map (λ (x : Addr). x.0))
+      (sym (seen_kept mid side (destination_of d) one until (cross mid side (destination_of d))
+      (inl (ap is_settled settled ∙ ap is_settled (sym (of_destination_is live side d way w)) ∙ w.settled)))))
 ]
   where
     other_way : (n m : ℕ) {k : ℕ} → m ≡ k → (n == m) ≡ false → (k == n) ≡ false
-    other_way n m {k = k} e h = elim (cases_Bool (k == n)) [ inl same ↦ absurd (false≢true (sym h ∙ eq-eqb n m (sym (eqb-true k n same) ∙ sym e))) | inr differs ↦ differs ]
+    other_way n m {k = k} e h =
+        elim (cases_Bool (k == n)) [ inl same ↦ absurd (false≢true (sym h ∙ eq-eqb n m (sym (eqb-true k n same) ∙ sym e))) | inr differs ↦ differs ]
 
 -- the message that goes on
 planned_is : {S : Type 0} (rules : SessionRules S) (live : World S) (side : Side) (d : Datagram) (way : Way) → IsWayOf live side d way
@@ -110,13 +128,17 @@ planned_is : {S : Type 0} (rules : SessionRules S) (live : World S) (side : Side
     ≡ management_after (table_after rules live side live.clock d (Whole Snmp)) side d
 planned_is rules live side d way w room =
     ap (λ (image : ℕ → Option ℕ). oid_renamed image live.table.oids (carried d)) (λ i n. planned_at live side d way w room n i)
-    ∙ ap (λ (rules : List OidRule). oid_renamed (number_seen (after_both live side d) side) rules (carried d)) (sym (oids_after live.table (uses_until side (live.clock + udp_timeout) (source_of d ∷ destination_of d ∷ []))))
+    ∙ ap (λ (rules : List OidRule). oid_renamed (number_seen (after_both live side d) side) rules (carried d))
+    (sym (oids_after live.table (uses_until side (live.clock + udp_timeout) (source_of d ∷ destination_of d ∷ []))))
 
 -- a message that the rules rename
-pub message_by_rules : {S : Type 0} (rules : SessionRules S) (live : World S) (side : Side) (d : Datagram) (way : Way) (r : Option Refusal) (table : Bindings) (sent : List (List ℕ)) → IsWayOf live side d way → is_bad_snmp d ≡ false → is_empty way.of_source ≡ false
+pub message_by_rules : {S : Type 0} (rules : SessionRules S) (live : World S) (side : Side) (d : Datagram) (way : Way) (r : Option Refusal)
+    (table : Bindings) (sent : List (List ℕ)) → IsWayOf live side d way → is_bad_snmp d ≡ false → is_empty way.of_source ≡ false
     → r ≡ first_that_holds ((nat_lt 65507 (length (oid_renamed (number_planned live.table way) live.table.oids (carried d))), SnmpTooLong) ∷ [])
     → table ≡ unless_refused r (after_uses live.table (header_uses way udp_timeout)) live.table
-    → sent ≡ unless_refused r (rebuilt d (image_by way.of_source way.source).0 (image_by way.of_destination way.destination).0 (oid_renamed (number_planned live.table way) live.table.oids (carried d)) ∷ []) [] → IsTaken rules live side d (Whole Snmp) r table sent
+    → sent ≡ unless_refused r
+    (rebuilt d (image_by way.of_source way.source).0 (image_by way.of_destination way.destination).0
+    (oid_renamed (number_planned live.table way) live.table.oids (carried d)) ∷ []) [] → IsTaken rules live side d (Whole Snmp) r table sent
 message_by_rules rules live side d way r table sent w good room e t s =
     let planned = oid_renamed (number_planned live.table way) live.table.oids (carried d) in
     let same = planned_is rules live side d way w room in
@@ -141,23 +163,32 @@ pub taken_by_rules : {S : Type 0} (rules : SessionRules S) (live : World S) (sid
     → IsWayOf live side d way → is_bad_snmp d ≡ false → is_empty way.of_source ≡ false
     → r ≡ first_that_holds ((nat_lt 65507 (length (oid_renamed (number_planned old way) old.oids payload)), SnmpTooLong) ∷ [])
     → table ≡ unless_refused r (after_uses old (header_uses way udp_timeout)) old
-    → sent ≡ unless_refused r (rebuilt d (image_by way.of_source way.source).0 (image_by way.of_destination way.destination).0 (oid_renamed (number_planned old way) old.oids payload) ∷ []) [] → IsTaken rules live side d (Whole Snmp) r table sent
+    → sent ≡ unless_refused r
+    (rebuilt d (image_by way.of_source way.source).0 (image_by way.of_destination way.destination).0
+    (oid_renamed (number_planned old way) old.oids payload) ∷ []) [] → IsTaken rules live side d (Whole Snmp) r table sent
 taken_by_rules rules live side d way old payload r table sent same p w good room =
     let P : Bindings → List ℕ → Type 0 = λ x xs.
     r ≡ first_that_holds ((nat_lt 65507 (length (oid_renamed (number_planned x way) x.oids xs)), SnmpTooLong) ∷ [])
     → table ≡ unless_refused r (after_uses x (header_uses way udp_timeout)) x
-    → sent ≡ unless_refused r (rebuilt d (image_by way.of_source way.source).0 (image_by way.of_destination way.destination).0 (oid_renamed (number_planned x way) x.oids xs) ∷ []) [] → IsTaken rules live side d (Whole Snmp) r table sent in
-    subst (λ (x : Bindings). P x payload) same (subst (λ (xs : List ℕ). P live.table xs) (sym p) (message_by_rules rules live side d way r table sent w good room))
+    → sent ≡ unless_refused r
+    (rebuilt d (image_by way.of_source way.source).0 (image_by way.of_destination way.destination).0
+    (oid_renamed (number_planned x way) x.oids xs) ∷ []) [] → IsTaken rules live side d (Whole Snmp) r table sent in
+    subst (λ (x : Bindings). P x payload) same
+    (subst (λ (xs : List ℕ). P live.table xs) (sym p) (message_by_rules rules live side d way r table sent w good room))
 
 -- one where there is no rule
-pub message_basic : {S : Type 0} (rules : SessionRules S) (live : World S) (side : Side) (d : Datagram) (way : Way) (table : Bindings) (sent : List (List ℕ)) → IsWayOf live side d way → is_bad_snmp d ≡ false → is_empty way.of_source ≡ false → live.table.oids ≡ [] → length (carried d) ≤ 65507
+pub message_basic : {S : Type 0} (rules : SessionRules S) (live : World S) (side : Side) (d : Datagram) (way : Way) (table : Bindings)
+    (sent : List (List ℕ)) → IsWayOf live side d way → is_bad_snmp d ≡ false → is_empty way.of_source ≡ false → live.table.oids ≡ []
+    → length (carried d) ≤ 65507
     → table ≡ after_uses live.table (header_uses way udp_timeout)
-    → sent ≡ rebuilt d (image_by way.of_source way.source).0 (image_by way.of_destination way.destination).0 (oid_renamed (number_seen table way.side) [] (carried d)) ∷ [] → IsTaken rules live side d (Whole Snmp) None table sent
+    → sent ≡ rebuilt d (image_by way.of_source way.source).0 (image_by way.of_destination way.destination).0
+    (oid_renamed (number_seen table way.side) [] (carried d)) ∷ [] → IsTaken rules live side d (Whole Snmp) None table sent
 message_basic rules live side d way table sent w good room none few t s =
     let images = are_images live side d way (live.clock + udp_timeout) w room in
     let after = after_uses live.table (uses_until side (live.clock + udp_timeout) (source_of d ∷ destination_of d ∷ [])) in
     let bound = t ∙ uses_are live side d way udp_timeout w in
-    let none_left : after.oids ≡ [] = oids_after live.table (uses_until side (live.clock + udp_timeout) (source_of d ∷ destination_of d ∷ [])) ∙ none in
+    let none_left : after.oids ≡ [] = oids_after live.table (uses_until side (live.clock + udp_timeout) (source_of d ∷ destination_of d ∷ []))
+    ∙ none in
     let same : oid_renamed (number_seen table way.side) [] (carried d) ≡ management_after after side d =
     ap (λ (x : Bindings). oid_renamed (number_seen x way.side) [] (carried d)) bound
     ∙ ap (λ (x : Side). oid_renamed (number_seen after x) [] (carried d)) w.side_is
@@ -180,20 +211,25 @@ pub taken_basic : {S : Type 0} (rules : SessionRules S) (live : World S) (side :
     (table : Bindings) (sent : List (List ℕ)) → live.table ≡ old → payload ≡ carried d → IsWayOf live side d way → is_bad_snmp d ≡ false
     → is_empty way.of_source ≡ false → old.oids ≡ [] → length payload ≤ 65507
     → table ≡ after_uses old (header_uses way udp_timeout)
-    → sent ≡ rebuilt d (image_by way.of_source way.source).0 (image_by way.of_destination way.destination).0 (oid_renamed (number_seen table way.side) [] payload) ∷ [] → IsTaken rules live side d (Whole Snmp) None table sent
+    → sent ≡ rebuilt d (image_by way.of_source way.source).0 (image_by way.of_destination way.destination).0
+    (oid_renamed (number_seen table way.side) [] payload) ∷ [] → IsTaken rules live side d (Whole Snmp) None table sent
 taken_basic rules live side d way old payload table sent same p w good room =
     let P : Bindings → List ℕ → Type 0 = λ x xs.
     x.oids ≡ [] → length xs ≤ 65507 → table ≡ after_uses x (header_uses way udp_timeout)
-    → sent ≡ rebuilt d (image_by way.of_source way.source).0 (image_by way.of_destination way.destination).0 (oid_renamed (number_seen table way.side) [] xs) ∷ [] → IsTaken rules live side d (Whole Snmp) None table sent in
-    subst (λ (x : Bindings). P x payload) same (subst (λ (xs : List ℕ). P live.table xs) (sym p) (message_basic rules live side d way table sent w good room))
+    → sent ≡ rebuilt d (image_by way.of_source way.source).0 (image_by way.of_destination way.destination).0
+    (oid_renamed (number_seen table way.side) [] xs) ∷ [] → IsTaken rules live side d (Whole Snmp) None table sent in
+    subst (λ (x : Bindings). P x payload) same
+    (subst (λ (xs : List ℕ). P live.table xs) (sym p) (message_basic rules live side d way table sent w good room))
 
 kind_some : {A B : Type 0} (o : Option (A × B)) → IsSome o → IsSome (option_map (λ m. m.0) o)
 kind_some None some = absurd (cc)
 kind_some (Some found) some = refl
 
 -- what the renaming in place makes of it
-pub basic_is : (image : ℕ → Option ℕ) (payload same : List ℕ) → IsSome (message payload) → payload ≡ same → renamed_message image (places_of same) same ≡ oid_renamed image [] payload
-basic_is image payload same some e = ap (λ (xs : List ℕ). renamed_message image (places_of xs) xs) (sym e) ∙ sym (no_rule image payload (kind_some (message payload) some))
+pub basic_is : (image : ℕ → Option ℕ) (payload same : List ℕ) → IsSome (message payload) → payload ≡ same
+    → renamed_message image (places_of same) same ≡ oid_renamed image [] payload
+basic_is image payload same some e = ap (λ (xs : List ℕ). renamed_message image (places_of xs) xs) (sym e)
+    ∙ sym (no_rule image payload (kind_some (message payload) some))
 
 pub no_items : {A : Type 0} (xs : List A) → (length xs == 0) ≡ true → xs ≡ []
 no_items [] e = refl

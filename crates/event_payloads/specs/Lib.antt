@@ -1,6 +1,5 @@
 pub mod Ways
 pub mod Taken
-pub mod Named
 pub mod Plain
-pub mod Planned
 pub mod Prelude
+pub mod Inside

@@ -1,6 +1,6 @@
 -- A world without sessions, over which it is said what becomes of a datagram that no session takes.
-use Rattle.std.specs.Prelude.{Bool, true, false, [], None}
-use Rattle.gate_model.specs.Prelude.{Whole, Kind, Error, Stream, SessionRules, World}
+use Rattle.std.specs.Prelude.{false, [], None}
+use Rattle.gate_model.specs.Prelude.{SessionRules}
 
 -- a session that knows nothing
 abbrev pub PlainSession : Type 0
@@ -18,13 +18,3 @@ plain_rules = record {
   inner = λ host x number. None;
   pending = λ x. 0;
 }
-
--- the same clock and bindings, without connections
-abbrev pub like : {S : Type 0} → World S → World PlainSession
-like live = record { clock = live.clock; table = live.table; connections = []; pending = 0 }
-
--- a kind that asks for no session
-abbrev pub asks_none : Kind → Bool
-asks_none (Whole Error) = false
-asks_none (Whole payload) = true
-asks_none Stream = false

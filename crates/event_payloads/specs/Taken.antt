@@ -12,8 +12,11 @@ use Rattle.event_payloads.specs.Ways.{IsWay}
 use Rattle.event_payloads.specs.declared.addresses.Way.{Way}
 
 -- a datagram of a kind is refused by the tests of that kind and its pool, or passes: the bindings, and what goes out
-pub record IsTaken {S : Type 0} (rules : SessionRules S) (live : World S) (side : Side) (d : Datagram) (kind : Kind) (refusal : Option Refusal) (table : Bindings) (sent : List (List ℕ)) : Type 0 where
-  pub answer : refusal ≡ first_that_holds (kind_tests rules live side live.clock d kind ++ (is_pool_empty rules live side d kind, PoolEmpty) ∷ late_tests rules live side live.clock d kind)
+pub record IsTaken {S : Type 0} (rules : SessionRules S) (live : World S) (side : Side) (d : Datagram) (kind : Kind) (refusal : Option Refusal)
+    (table : Bindings) (sent : List (List ℕ)) : Type 0 where
+  pub answer : refusal ≡ first_that_holds
+      (kind_tests rules live side live.clock d kind
+      ++ (is_pool_empty rules live side d kind, PoolEmpty) ∷ late_tests rules live side live.clock d kind)
   pub bound : table ≡ unless_refused refusal (table_after rules live side live.clock d kind) live.table
   pub gone : sent ≡ unless_refused refusal (out_kind rules live side live.clock d kind) []
 

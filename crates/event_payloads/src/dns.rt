@@ -10,7 +10,7 @@ ghost use Rattle.twice_translate.specs.Renamed.{CanGoOn, datagram_of, rebuilt};
 ghost use Rattle.gate_model.specs.Frame as kinds;
 ghost use Rattle.gate_model.specs.Prelude.{carried, message_in, named_in, is_unbound, has_unbound, reply_by, uses_until, World};
 ghost use Rattle.event_payloads.specs.Ways.{IsWay, image_by};
-ghost use Rattle.event_payloads.specs.Named.{named_uses};
+ghost use Rattle.event_payloads.specs.Inside.Named.{named_uses};
 ghost use Rattle.event_payloads.specs.Plain.{PlainSession, plain_rules};
 ghost use Rattle.event_payloads.specs.Taken.{IsTaken, IsUdpOf, IsWayOf};
 

@@ -8,7 +8,7 @@ ghost use Rattle.gate_model.specs.Frame as kinds;
 ghost use Rattle.gate_model.specs.Prelude.{number_seen, udp_timeout, uses_until, World};
 ghost use Rattle.snmp_gateway.specs.Message.{message};
 ghost use Rattle.snmp_oids.specs.Elements.{oid_renamed};
-ghost use Rattle.event_payloads.specs.Planned.{number_planned};
+ghost use Rattle.event_payloads.specs.Inside.Planned.{number_planned};
 ghost use Rattle.event_payloads.specs.Ways.{IsWay, image_by, header_uses};
 ghost use Rattle.event_payloads.specs.Plain.{PlainSession, plain_rules};
 ghost use Rattle.event_payloads.specs.Taken.{IsTaken, IsUdpOf, IsWayOf};
@@ -46,7 +46,7 @@ struct Planned<'a> {
 }
 
 impl<'a> Lookup for Planned<'a> {
-    ghost use Rattle.event_payloads.specs.Planned.{number_planned};
+    ghost use Rattle.event_payloads.specs.Inside.Planned.{number_planned};
 
     ghost image_of = { λ it address. number_planned it.table.now it.way.now address };
 

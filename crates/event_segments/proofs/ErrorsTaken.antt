@@ -35,7 +35,8 @@ inner_read octets inner = by_test (is_inner octets) refl
     by_test false e r = absurd (cc)
 
 -- what is known of it, where both its addresses have images
-pub record IsKnown {S : Type 0} (rules : SessionRules S) (live : World S) (side : Side) (d : Datagram) (inner : Inner) (source destination : Addr) (number : Option (Option ℕ)) : Type 0 where
+pub record IsKnown {S : Type 0} (rules : SessionRules S) (live : World S) (side : Side) (d : Datagram) (inner : Inner) (source destination : Addr)
+    (number : Option (Option ℕ)) : Type 0 where
   pub read : IsRead (inside d) inner
   pub source_is : seen live.table side inner.source ≡ Some source
   pub destination_is : seen live.table side inner.destination ≡ Some destination
@@ -51,7 +52,8 @@ unbound_is : {S : Type 0} (rules : SessionRules S) (live : World S) (side : Side
     → is_inner_unbound rules live side (inner_fields (inside d)) ≡ is_unknown number
 unbound_is rules live side d inner source destination number k =
     ap (is_inner_unbound rules live side) (sym k.read.fields)
-    ∙ ap (λ (o : Option Addr). (is_none o || is_none (seen live.table side inner.destination)) || is_unknown (inner_number rules live side inner)) k.source_is
+    ∙ ap (λ (o : Option Addr). (is_none o || is_none (seen live.table side inner.destination)) || is_unknown (inner_number rules live side inner))
+    k.source_is
     ∙ ap (λ (o : Option Addr). is_none o || is_unknown (inner_number rules live side inner)) k.destination_is
     ∙ ap is_unknown (sym k.number_is)
 
@@ -62,7 +64,8 @@ first_is : {S : Type 0} (rules : SessionRules S) (live : World S) (side : Side) 
     ≡ first_that_holds (kind_tests rules live side live.clock d (Whole Error) ++ (is_pool_empty rules live side d (Whole Error), PoolEmpty) ∷ [])
 first_is rules live side d way inner source destination number w k =
     ap (λ (b : Bool). first_by b (is_unknown number) (is_empty way.of_source)) (sym k.read.holds)
-    ∙ ap (λ (b : Bool). first_by (is_inner (inside d)) b (is_empty way.of_source)) (sym (unbound_is rules live side d inner source destination number k))
+    ∙ ap (λ (b : Bool). first_by (is_inner (inside d)) b (is_empty way.of_source))
+    (sym (unbound_is rules live side d inner source destination number k))
     ∙ ap (first_by (is_inner (inside d)) (is_inner_unbound rules live side (inner_fields (inside d)))) (empty_is rules live side d way w)
 
 -- the datagram inside can't be read
@@ -70,7 +73,9 @@ pub error_bad : {S : Type 0} (rules : SessionRules S) (live : World S) (side : S
     (sent : List (List ℕ)) → octets ≡ inside d → read_inner octets ≡ Err e → table ≡ live.table → sent ≡ []
     → IsTaken rules live side d (Whole Error) (Some BadInner) table sent
 error_bad rules live side d octets e table sent same read t s = record {
-  answer = ap (λ (b : Bool). first_by b (is_inner_unbound rules live side (inner_fields (inside d))) (is_pool_empty rules live side d (Whole Error))) (sym (ap is_inner (sym same) ∙ by_test (is_inner octets) refl read));
+  answer =
+      ap (λ (b : Bool). first_by b (is_inner_unbound rules live side (inner_fields (inside d))) (is_pool_empty rules live side d (Whole Error)))
+      (sym (ap is_inner (sym same) ∙ by_test (is_inner octets) refl read));
   bound = t;
   gone = s;
 }
@@ -89,7 +94,8 @@ error_unseen rules live side d inner table sent read unseen t s =
     let unbound : is_inner_unbound rules live side (inner_fields (inside d)) ≡ true =
     ap (is_inner_unbound rules live side) (sym read.fields) ∙ ap (λ (b : Bool). b || is_unknown (inner_number rules live side inner)) unseen in
     record {
-      answer = ap (λ (b : Bool). first_by true b empty) (sym unbound) ∙ ap (λ (b : Bool). first_by b (is_inner_unbound rules live side (inner_fields (inside d))) empty) (sym read.holds);
+      answer = ap (λ (b : Bool). first_by true b empty) (sym unbound)
+          ∙ ap (λ (b : Bool). first_by b (is_inner_unbound rules live side (inner_fields (inside d))) empty) (sym read.holds);
       bound = t;
       gone = s;
     }
@@ -99,7 +105,8 @@ pub error_unknown : {S : Type 0} (rules : SessionRules S) (live : World S) (side
     → IsKnown rules live side d inner source destination number → is_unknown number ≡ true → table ≡ live.table → sent ≡ []
     → IsTaken rules live side d (Whole Error) (Some InnerUnbound) table sent
 error_unknown rules live side d way inner source destination number table sent w k unknown t s = record {
-  answer = ap (λ (b : Bool). first_by true b (is_empty way.of_source)) (sym unknown) ∙ first_is rules live side d way inner source destination number w k;
+  answer = ap (λ (b : Bool). first_by true b (is_empty way.of_source)) (sym unknown)
+      ∙ first_is rules live side d way inner source destination number w k;
   bound = t;
   gone = s;
 }
@@ -109,7 +116,8 @@ pub error_empty : {S : Type 0} (rules : SessionRules S) (live : World S) (side :
     → IsKnown rules live side d inner source destination number → is_unknown number ≡ false → is_empty way.of_source ≡ true → table ≡ live.table
     → sent ≡ [] → IsTaken rules live side d (Whole Error) (Some PoolEmpty) table sent
 error_empty rules live side d way inner source destination number table sent w k known empty t s = record {
-  answer = ap (first_by true false) (sym empty) ∙ ap (λ (b : Bool). first_by true b (is_empty way.of_source)) (sym known) ∙ first_is rules live side d way inner source destination number w k;
+  answer = ap (first_by true false) (sym empty) ∙ ap (λ (b : Bool). first_by true b (is_empty way.of_source)) (sym known)
+      ∙ first_is rules live side d way inner source destination number w k;
   bound = t;
   gone = s;
 }
@@ -130,17 +138,20 @@ pub error_passes : {S : Type 0} (rules : SessionRules S) (live : World S) (side 
     (source destination : Addr) (number : Option (Option ℕ)) (table : Bindings) (sent : List (List ℕ)) → IsWayOf live side d way
     → IsKnown rules live side d inner source destination number → is_unknown number ≡ false → is_empty way.of_source ≡ false
     → table ≡ after_uses live.table (header_uses way icmp_timeout)
-    → sent ≡ renamed (with_inside d (inner_with (inside d) source.0 destination.0 (option_and_then (λ n. n) number))) (image_by way.of_source way.source).0 (image_by way.of_destination way.destination).0 ∷ []
+    → sent ≡ renamed (with_inside d (inner_with (inside d) source.0 destination.0 (option_and_then (λ n. n) number)))
+    (image_by way.of_source way.source).0 (image_by way.of_destination way.destination).0 ∷ []
     → IsTaken rules live side d (Whole Error) None table sent
 error_passes rules live side d way inner source destination number table sent w k known room t s =
     let images = are_images live side d way (live.clock + icmp_timeout) w room in
     let after = after_uses live.table (uses_until side (live.clock + icmp_timeout) (source_of d ∷ destination_of d ∷ [])) in
     let R : List ℕ → Addr → Addr → List (List ℕ) = λ octets a b. renamed (with_inside d octets) a.0 b.0 ∷ [] in
     record {
-      answer = ap (first_by true false) (sym room) ∙ ap (λ (b : Bool). first_by true b (is_empty way.of_source)) (sym known) ∙ first_is rules live side d way inner source destination number w k;
+      answer = ap (first_by true false) (sym room) ∙ ap (λ (b : Bool). first_by true b (is_empty way.of_source)) (sym known)
+          ∙ first_is rules live side d way inner source destination number w k;
       bound = t ∙ uses_are live side d way icmp_timeout w;
       gone = s
-          ∙ ap (λ (octets : List ℕ). R octets (image_by way.of_source way.source) (image_by way.of_destination way.destination)) (inner_is rules live side d inner source destination number k)
+          ∙ ap (λ (octets : List ℕ). R octets (image_by way.of_source way.source) (image_by way.of_destination way.destination))
+          (inner_is rules live side d inner source destination number k)
           ∙ ap (λ (a : Addr). R (inner_after rules live side (inside d)) a (image_by way.of_destination way.destination)) images.source
           ∙ ap (R (inner_after rules live side (inside d)) (called after side (source_of d))) images.destination;
     }

@@ -30,25 +30,33 @@ syn_held true ack e = refl
 syn_held false ack e = e
 
 -- nor in a session that a SYN begins
-pub made_names : {S : Type 0} (rules : SessionRules S) (lists : HasLists rules) (table : Bindings) (side : Side) (d : Datagram) → (is_opening (tcp_of d).flags && is_tracked_port (tcp_of d).destination_port) ≡ true → NamesNothing rules side d (Some (made_by rules table side d))
+pub made_names : {S : Type 0} (rules : SessionRules S) (lists : HasLists rules) (table : Bindings) (side : Side) (d : Datagram)
+    → (is_opening (tcp_of d).flags && is_tracked_port (tcp_of d).destination_port) ≡ true
+    → NamesNothing rules side d (Some (made_by rules table side d))
 made_names rules lists table side d first =
     let t = made_by rules table side d in
     let f = host_on side t in
     let opens = (and_parts (is_opening (tcp_of d).flags) (is_tracked_port (tcp_of d).destination_port) first).0 in
     record {
-      units = unless (rules.refusal f t.session (segment_of d)) (rules.units f t.session (segment_of d)) (lists.syn f t.session (segment_of d) (syn_held (flags_of (tcp_of d).flags).syn (flags_of (tcp_of d).flags).ack opens));
+      units = unless (rules.refusal f t.session (segment_of d)) (rules.units f t.session (segment_of d))
+          (lists.syn f t.session (segment_of d) (syn_held (flags_of (tcp_of d).flags).syn (flags_of (tcp_of d).flags).ack opens));
       entries = lists.made (tcp_of d).destination_port (pair_in table side d) (tcp_of d).sequence (tcp_of d).mss f;
     }
 
 -- ## Their tests
 
-pub tests_none : {S : Type 0} (rules : SessionRules S) (image : Addr → Option Addr) (table : Bindings) (side : Side) (d : Datagram) (o : Option (Tracked S)) → NamesNothing rules side d o → unit_tests rules image table side d o ≡ (false, BadUnit) ∷ (false, UnitUnbound) ∷ (false, RenamesFull) ∷ []
+pub tests_none : {S : Type 0} (rules : SessionRules S) (image : Addr → Option Addr) (table : Bindings) (side : Side) (d : Datagram)
+    (o : Option (Tracked S)) → NamesNothing rules side d o
+    → unit_tests rules image table side d o ≡ (false, BadUnit) ∷ (false, UnitUnbound) ∷ (false, RenamesFull) ∷ []
 tests_none rules image table side d o h = ap (λ (us : List (List ℕ)). T us (entries_in rules side o)) h.units ∙ ap (T []) h.entries
   where
     T : List (List ℕ) → List Entry → List (Bool × Refusal)
-    T us es = (list_any is_bad us, BadUnit) ∷ (list_any (is_new_unbound table side es) (addresses_in us), UnitUnbound) ∷ (nat_lt most_entries (length (entered image es (addresses_in us))), RenamesFull) ∷ []
+    T us es =
+        (list_any is_bad us, BadUnit) ∷ (list_any (is_new_unbound table side es) (addresses_in us), UnitUnbound)
+        ∷ (nat_lt most_entries (length (entered image es (addresses_in us))), RenamesFull) ∷ []
 
-pub growth_none : {S : Type 0} (rules : SessionRules S) (image : Addr → Option Addr) (side : Side) (d : Datagram) (o : Option (Tracked S)) → NamesNothing rules side d o → growth_tests rules image side d o ≡ (false, UnitGrows) ∷ []
+pub growth_none : {S : Type 0} (rules : SessionRules S) (image : Addr → Option Addr) (side : Side) (d : Datagram) (o : Option (Tracked S))
+    → NamesNothing rules side d o → growth_tests rules image side d o ≡ (false, UnitGrows) ∷ []
 growth_none rules image side d o h = ap (λ (us : List (List ℕ)). T us (entries_in rules side o)) h.units ∙ ap (T []) h.entries
   where
     T : List (List ℕ) → List Entry → List (Bool × Refusal)
@@ -56,10 +64,15 @@ growth_none rules image side d o h = ap (λ (us : List (List ℕ)). T us (entrie
 
 -- ## Their uses
 
-pub pool_is : {S : Type 0} (rules : SessionRules S) (live : World S) (side : Side) (d : Datagram) → session_in (found_in live side d) ≡ None → is_pool_empty rules live side d Stream ≡ is_pool_empty rules live side d (Whole Udp)
-pool_is {S = S} rules live side d alone = ap (λ (o : Option (Tracked S)). nat_lt (free live.table (other side)) (needed live.table side (addresses_of d ++ names_in rules side d o))) alone
+pub pool_is : {S : Type 0} (rules : SessionRules S) (live : World S) (side : Side) (d : Datagram) → session_in (found_in live side d) ≡ None
+    → is_pool_empty rules live side d Stream ≡ is_pool_empty rules live side d (Whole Udp)
+pool_is {S = S} rules live side d alone =
+    ap (λ (o : Option (Tracked S)). nat_lt (free live.table (other side)) (needed live.table side (addresses_of d ++ names_in rules side d o))) alone
 
-pub table_is : {S : Type 0} (rules : SessionRules S) (live : World S) (side : Side) (d : Datagram) → session_in (found_in live side d) ≡ None → table_after rules live side live.clock d Stream ≡ after_uses live.table (uses_until side (live.clock + stream_timeout rules live side d) (addresses_of d))
+pub table_is : {S : Type 0} (rules : SessionRules S) (live : World S) (side : Side) (d : Datagram) → session_in (found_in live side d) ≡ None
+    → table_after rules live side live.clock d Stream ≡ after_uses live.table
+    (uses_until side (live.clock + stream_timeout rules live side d) (addresses_of d))
 table_is {S = S} rules live side d alone =
     let until = live.clock + stream_timeout rules live side d in
-    ap (λ (o : Option (Tracked S)). after_uses live.table (uses_until side until (addresses_of d) ++ (uses_until side until (names_in rules side d o) ++ uses_of_lists rules until o))) alone
+    ap (λ (o : Option (Tracked S)). after_uses live.table
+    (uses_until side until (addresses_of d) ++ (uses_until side until (names_in rules side d o) ++ uses_of_lists rules until o))) alone

@@ -14,7 +14,8 @@ abbrev pub seen_as : {S : Type 0} → Side → Pair → S → Tracked S
 seen_as client pair session = record { client = client; pair = pair; session = session }
 
 -- the session that is seen, which host sends, and what the addresses are called that its units name
-pub record IsSeen {S : Type 0} (rules : SessionRules S) (client : Side) (pair : Pair) (session : S) (f : Host) (side : Side) (d : Datagram) (t : Tracked S) (image : Addr → Option Addr) (entries : List Entry) : Type 0 where
+pub record IsSeen {S : Type 0} (rules : SessionRules S) (client : Side) (pair : Pair) (session : S) (f : Host) (side : Side) (d : Datagram)
+    (t : Tracked S) (image : Addr → Option Addr) (entries : List Entry) : Type 0 where
   pub seen : seen_as client pair session ≡ t
   pub sender : f ≡ host_on side t
   pub called : AreCalled rules image side d t entries
@@ -38,9 +39,12 @@ next_is {S = S} rules client pair session new f side d t image entries i e =
 pub waits_is : {S : Type 0} (rules : SessionRules S) (client : Side) (pair : Pair) (session new : S) (f : Host) (side : Side) (d : Datagram)
     (t : Tracked S) (image : Addr → Option Addr) (entries : List Entry) (over : Bool) (waiting : Option ℕ)
     → IsSeen rules client pair session f side d t image entries → new ≡ rules.next image f session (segment_of d)
-    → over ≡ rules.ends f session (segment_of d) → waiting ≡ (if over then None else Some (rules.pending new)) → waiting ≡ waiting_after rules image side d t
+    → over ≡ rules.ends f session (segment_of d) → waiting ≡ (if over then None else Some (rules.pending new))
+    → waiting ≡ waiting_after rules image side d t
 waits_is {S = S} rules client pair session new f side d t image entries over waiting i e o w =
     let W : Bool → S → Option ℕ = λ b k. if b then None else Some (rules.pending k) in
     w
-    ∙ ap (λ (b : Bool). W b new) (o ∙ ap (λ (x : Tracked S). rules.ends f x.session (segment_of d)) i.seen ∙ ap (λ (b : Host). rules.ends b t.session (segment_of d)) i.sender)
-    ∙ ap (λ (x : Tracked S). W (rules.ends (host_on side t) t.session (segment_of d)) x.session) (next_is rules client pair session new f side d t image entries i e)
+    ∙ ap (λ (b : Bool). W b new)
+    (o ∙ ap (λ (x : Tracked S). rules.ends f x.session (segment_of d)) i.seen ∙ ap (λ (b : Host). rules.ends b t.session (segment_of d)) i.sender)
+    ∙ ap (λ (x : Tracked S). W (rules.ends (host_on side t) t.session (segment_of d)) x.session)
+    (next_is rules client pair session new f side d t image entries i e)

@@ -25,8 +25,17 @@ two_none false true e = (refl, refl)
 two_none false false e = absurd cc
 
 -- the way of a datagram whose addresses are not refused
-pub way_of : {S : Type 0} (live : World S) (side : Side) (d : Datagram) (moment : Moment) → moment.0 ≡ live.clock → first_that_holds (address_tests live.table side d) ≡ None →
-    IsWayOf live side d (record { side = side; moment = moment; source = source_of d; destination = destination_of d; of_source = cross live.table side (source_of d); of_destination = cross live.table side (destination_of d) })
+pub way_of : {S : Type 0} (live : World S) (side : Side) (d : Datagram) (moment : Moment) → moment.0 ≡ live.clock
+    → first_that_holds (address_tests live.table side d) ≡ None →
+    IsWayOf live side d
+    (record {
+      side = side;
+      moment = moment;
+      source = source_of d;
+      destination = destination_of d;
+      of_source = cross live.table side (source_of d);
+      of_destination = cross live.table side (destination_of d);
+    })
 way_of live side d moment m none =
     let both = two_none (in_pool live.table side (source_of d)) (is_reachable live.table side (destination_of d)) none in
     record {
@@ -42,7 +51,15 @@ way_of live side d moment m none =
 -- ## What a way is
 
 abbrev pub the_way : {S : Type 0} → World S → Side → Datagram → Moment → Way
-the_way live side d moment = record { side = side; moment = moment; source = source_of d; destination = destination_of d; of_source = cross live.table side (source_of d); of_destination = cross live.table side (destination_of d) }
+the_way live side d moment =
+    record {
+      side = side;
+      moment = moment;
+      source = source_of d;
+      destination = destination_of d;
+      of_source = cross live.table side (source_of d);
+      of_destination = cross live.table side (destination_of d);
+    }
 
 pub way_is : {S : Type 0} (live : World S) (side : Side) (d : Datagram) (moment : Moment) (w : Way) (s t : Addr) → s.0 ≡ d.source
     → t.0 ≡ d.destination → w
@@ -55,15 +72,27 @@ pub way_is : {S : Type 0} (live : World S) (side : Side) (d : Datagram) (moment 
       of_destination = cross live.table side t;
     } → w ≡ the_way live side d moment
 way_is live side d moment w s t f g e =
-    let R : Addr → Addr → Way = λ a b. record { side = side; moment = moment; source = a; destination = b; of_source = cross live.table side a; of_destination = cross live.table side b } in
+    let R : Addr → Addr → Way =
+    λ a b. record {
+      side = side;
+      moment = moment;
+      source = a;
+      destination = b;
+      of_source = cross live.table side a;
+      of_destination =
+          cross live.table side b;
+    } in
     let one : s ≡ source_of d = ap (λ (n : ℕ). let a : Addr = record { 0 = n } in a) f in
     let two : t ≡ destination_of d = ap (λ (n : ℕ). let a : Addr = record { 0 = n } in a) g in
     e ∙ ap (λ (a : Addr). R a t) one ∙ ap (R (source_of d)) two
 
 -- a refusal by the addresses
-pub refused_way : {S : Type 0} (rules : SessionRules S) (live : World S) (side : Side) (d : Datagram) (r : Refusal) → first_that_holds (address_tests live.table side d) ≡ Some r → Some r ≡ first_that_holds (world_tests rules live side live.clock d (kind_of d))
+pub refused_way : {S : Type 0} (rules : SessionRules S) (live : World S) (side : Side) (d : Datagram) (r : Refusal)
+    → first_that_holds (address_tests live.table side d) ≡ Some r → Some r ≡ first_that_holds (world_tests rules live side live.clock d (kind_of d))
 refused_way rules live side d r e =
-    let rest = kind_tests rules live side live.clock d (kind_of d) ++ (is_pool_empty rules live side d (kind_of d), PoolEmpty) ∷ late_tests rules live side live.clock d (kind_of d) in
+    let rest =
+    kind_tests rules live side live.clock d (kind_of d)
+    ++ (is_pool_empty rules live side d (kind_of d), PoolEmpty) ∷ late_tests rules live side live.clock d (kind_of d) in
     sym (first-append (address_tests live.table side d) rest ∙ ap (λ (o : Option Refusal). option_or o (first_that_holds rest)) e)
 
 -- a way whose addresses are not refused
@@ -72,12 +101,20 @@ pub record IsAllowed {S : Type 0} (live : World S) (side : Side) (d : Datagram) 
   pub one_side : way.side ≡ side
   pub of : IsWayOf live way.side d way
 
-pub allowed : {S : Type 0} (live : World S) (side : Side) (d : Datagram) (moment : Moment) (w : Way) (s t : Addr) → moment.0 ≡ live.clock → s.0 ≡ d.source → t.0 ≡ d.destination →
-    w ≡ record { side = side; moment = moment; source = s; destination = t; of_source = cross live.table side s; of_destination = cross live.table side t } → first_that_holds (way_tests live.table w) ≡ None → IsAllowed live side d w
+pub allowed : {S : Type 0} (live : World S) (side : Side) (d : Datagram) (moment : Moment) (w : Way) (s t : Addr) → moment.0 ≡ live.clock
+    → s.0 ≡ d.source → t.0 ≡ d.destination →
+    w ≡ record
+    { side = side; moment = moment; source = s; destination = t; of_source = cross live.table side s; of_destination = cross live.table side t }
+    → first_that_holds (way_tests live.table w) ≡ None → IsAllowed live side d w
 allowed live side d moment w s t m f g e n =
     let way = way_is live side d moment w s t f g e in
     let none = sym (ap (λ (x : Way). first_that_holds (way_tests live.table x)) way) ∙ n in
-    record { none = none; one_side = ap (λ (x : Way). x.side) way; of = subst (λ (x : Way). IsWayOf live x.side d x) (sym way) (way_of live side d moment m none) }
+    record {
+      none = none;
+      one_side = ap (λ (x : Way). x.side) way;
+      of =
+          subst (λ (x : Way). IsWayOf live x.side d x) (sym way) (way_of live side d moment m none);
+    }
 
 -- ## By what is carried
 
@@ -94,7 +131,8 @@ tcp_is d p = rw p refl
 pub udp_dns : (d : Datagram) (p q : ℕ) → p ≡ u16_at 0 d.payload → q ≡ u16_at 2 d.payload → (p == 53 || q == 53) ≡ true → udp_payload d ≡ Dns
 udp_dns d p q e f x = rw (← e, ← f, x) refl
 
-pub udp_snmp : (d : Datagram) (p q : ℕ) → p ≡ u16_at 0 d.payload → q ≡ u16_at 2 d.payload → (p == 53 || q == 53) ≡ false → ((p == 161 || q == 161) || (p == 162 || q == 162)) ≡ true → udp_payload d ≡ Snmp
+pub udp_snmp : (d : Datagram) (p q : ℕ) → p ≡ u16_at 0 d.payload → q ≡ u16_at 2 d.payload → (p == 53 || q == 53) ≡ false
+    → ((p == 161 || q == 161) || (p == 162 || q == 162)) ≡ true → udp_payload d ≡ Snmp
 udp_snmp d p q e f x y = rw (← e, ← f, x, y) refl
 
 pub error_kind : (d : Datagram) → is_error_type (slice_index d.payload 0) ≡ true → icmp_payload d ≡ Error
@@ -113,18 +151,26 @@ taken_as {S = S} rules tells live side d payload r table sent given t g = record
   gone = g ∙ ap tells.whole t.gone ∙ by_told r;
 }
   where
-    by_refusal : (o : Option Refusal) → (let w : World S = record live { table = unless_refused o (table_after rules live side live.clock d (Whole payload)) live.table } in w) ≡ left_as rules (Whole payload) o live side d
+    by_refusal : (o : Option Refusal)
+        → (let w : World S = record live { table = unless_refused o (table_after rules live side live.clock d (Whole payload)) live.table } in w)
+        ≡ left_as rules (Whole payload) o live side d
     by_refusal None = refl
     by_refusal (Some s) = refl
 
-    by_told : (o : Option Refusal) → tells.whole (unless_refused o (out_kind rules live side live.clock d (Whole payload)) []) ≡ told_by tells o (told_kind rules tells live side d (Whole payload))
+    by_told : (o : Option Refusal)
+        → tells.whole (unless_refused o (out_kind rules live side live.clock d (Whole payload)) []) ≡ told_by tells o
+        (told_kind rules tells live side d (Whole payload))
     by_told None = refl
     by_told (Some s) = refl
 
 -- the tests of a datagram whose addresses are not refused are those of its kind
-pub told_kinds : {S : Type 0} (rules : SessionRules S) (live : World S) (side : Side) (d : Datagram) (kind : Kind) → first_that_holds (address_tests live.table side d) ≡ None → refusal_as rules kind live side d ≡ first_that_holds (world_tests rules live side live.clock d kind)
+pub told_kinds : {S : Type 0} (rules : SessionRules S) (live : World S) (side : Side) (d : Datagram) (kind : Kind)
+    → first_that_holds (address_tests live.table side d) ≡ None
+    → refusal_as rules kind live side d ≡ first_that_holds (world_tests rules live side live.clock d kind)
 told_kinds rules live side d kind none =
-    let rest = kind_tests rules live side live.clock d kind ++ (is_pool_empty rules live side d kind, PoolEmpty) ∷ late_tests rules live side live.clock d kind in
+    let rest =
+    kind_tests rules live side live.clock d kind
+    ++ (is_pool_empty rules live side d kind, PoolEmpty) ∷ late_tests rules live side live.clock d kind in
     sym (first-append (address_tests live.table side d) rest ∙ ap (λ (o : Option Refusal). option_or o (first_that_holds rest)) none)
 
 -- ## A UDP datagram
@@ -135,7 +181,8 @@ udp_asks false true = refl
 udp_asks false false = refl
 
 -- its way, over a world without connections
-pub way_plain : {S : Type 0} (live : World S) (side : Side) (d : Datagram) (way : Way) → IsWayOf live side d way → IsWayOf (plain_world way.moment.0 live.table) side d way
+pub way_plain : {S : Type 0} (live : World S) (side : Side) (d : Datagram) (way : Way) → IsWayOf live side d way
+    → IsWayOf (plain_world way.moment.0 live.table) side d way
 way_plain live side d way w = subst (λ (n : ℕ). IsWayOf (plain_world n live.table) side d way) (sym w.moment_is) (way_like live side d way w)
 
 -- what becomes of it is the same over any world

@@ -26,14 +26,18 @@ use Rattle.dns_plans.specs.declared.stop.PlanStop.TheVariants as stops
 use Rattle.dns_plans.proofs.EnteredLemmas.{entered-beside}
 use Rattle.dns_plans.proofs.PlannedLemmas.{used_bound}
 use Rattle.event_segments.specs.Prelude.{image_of, used_by, IsStopped, CompletesUnit, stream_refusal}
-use Rattle.event_segments.specs.SegmentFate.{IsOn, IsUnitPlan}
+use Rattle.event_segments.specs.SegmentFate.{IsUnitPlan}
+use Rattle.event_segments.specs.Inside.SegmentFate.{IsOn}
 use Rattle.event_segments.proofs.SegmentTests.{no_images, tests_by, lacks_none, full_none, some_session, session_takes}
 use Rattle.event_segments.proofs.UnitsPlanned.{five, plans_alike, none_told, beside_alike, entered_alike}
 use Rattle.event_segments.proofs.UnitsUsed.{until_of, names_called}
 
 -- ## The refusal, by the units
 
-order : (bad unbound full empty grows : Bool) → first_that_holds (((false, NoSession) ∷ refusal_tests None ++ (((bad, BadUnit) ∷ (unbound, UnitUnbound) ∷ (full, RenamesFull) ∷ []) ++ (false, SessionsFull) ∷ [])) ++ (empty, PoolEmpty) ∷ (grows, UnitGrows) ∷ []) ≡ five bad unbound full empty grows
+order : (bad unbound full empty grows : Bool)
+    → first_that_holds
+    (((false, NoSession) ∷ refusal_tests None ++ (((bad, BadUnit) ∷ (unbound, UnitUnbound) ∷ (full, RenamesFull) ∷ []) ++ (false, SessionsFull) ∷ []))
+    ++ (empty, PoolEmpty) ∷ (grows, UnitGrows) ∷ []) ≡ five bad unbound full empty grows
 order true unbound full empty grows = refl
 order false true full empty grows = refl
 order false false true empty grows = refl
@@ -42,8 +46,10 @@ order false false false empty grows = refl
 -- the five tests of units that name these, by a list
 abbrev by_units : {S : Type 0} (rules : SessionRules S) → World S → Side → Datagram → List Entry → List (List ℕ) → Option Refusal
 by_units rules live side d es us =
-    five (list_any is_bad us) (list_any (is_new_unbound live.table side es) (addresses_in us)) (nat_lt most_entries (length (entered (image_of rules live side d) es (addresses_in us))))
-    (nat_lt (free live.table (other side)) (needed live.table side (addresses_of d ++ addresses_in us))) (list_any (grows_too_much (entered (image_of rules live side d) es (addresses_in us))) us)
+    five (list_any is_bad us) (list_any (is_new_unbound live.table side es) (addresses_in us))
+    (nat_lt most_entries (length (entered (image_of rules live side d) es (addresses_in us))))
+    (nat_lt (free live.table (other side)) (needed live.table side (addresses_of d ++ addresses_in us)))
+    (list_any (grows_too_much (entered (image_of rules live side d) es (addresses_in us))) us)
 
 refusal_is : {S : Type 0} (rules : SessionRules S) (live : World S) (side : Side) (d : Datagram) (t : Tracked S)
     → session_in (found_in live side d) ≡ Some t → session_refusal rules side d (Some t) ≡ None
@@ -55,24 +61,37 @@ refusal_is {S = S} rules live side d t found verdict =
     let units = unit_tests rules image live.table side d (Some t) in
     let late = growth_tests rules image side d (Some t) in
     let taker : taker_in rules live side live.clock d ≡ Some t = session_takes rules live side d t found in
-    ap (λ (o : Option (Tracked S)). tests_by rules side d o (lacks_session place d) (unit_tests rules image live.table side d o) (is_full live.connections place d) (is_pool_empty rules live side d Stream) (growth_tests rules image side d o)) taker
-    ∙ ap (λ (b : Bool). tests_by rules side d (Some t) b units (is_full live.connections place d) (is_pool_empty rules live side d Stream) late) (lacks_none place d lives)
-    ∙ ap (λ (v : Option Refusal). first_that_holds (((false, NoSession) ∷ refusal_tests v ++ (units ++ (is_full live.connections place d, SessionsFull) ∷ [])) ++ (is_pool_empty rules live side d Stream, PoolEmpty) ∷ late)) verdict
-    ∙ ap (λ (b : Bool). first_that_holds (((false, NoSession) ∷ refusal_tests None ++ (units ++ (b, SessionsFull) ∷ [])) ++ (is_pool_empty rules live side d Stream, PoolEmpty) ∷ late)) (full_none live.connections place d lives)
-    ∙ ap (λ (o : Option (Tracked S)). first_that_holds (((false, NoSession) ∷ refusal_tests None ++ (units ++ (false, SessionsFull) ∷ [])) ++ (nat_lt (free live.table (other side)) (needed live.table side (addresses_of d ++ names_in rules side d o)), PoolEmpty) ∷ late)) found
+    ap (λ (o : Option (Tracked S)). tests_by rules side d o (lacks_session place d) (unit_tests rules image live.table side d o)
+    (is_full live.connections place d) (is_pool_empty rules live side d Stream) (growth_tests rules image side d o)) taker
+    ∙ ap (λ (b : Bool). tests_by rules side d (Some t) b units (is_full live.connections place d) (is_pool_empty rules live side d Stream) late)
+    (lacks_none place d lives)
+    ∙ ap (λ (v : Option Refusal). first_that_holds
+    (((false, NoSession) ∷ refusal_tests v ++ (units ++ (is_full live.connections place d, SessionsFull) ∷ []))
+    ++ (is_pool_empty rules live side d Stream, PoolEmpty) ∷ late)) verdict
+    ∙ ap (λ (b : Bool). first_that_holds
+    (((false, NoSession) ∷ refusal_tests None ++ (units ++ (b, SessionsFull) ∷ [])) ++ (is_pool_empty rules live side d Stream, PoolEmpty) ∷ late))
+    (full_none live.connections place d lives)
+    ∙ ap (λ (o : Option (Tracked S)). first_that_holds
+    (((false, NoSession) ∷ refusal_tests None ++ (units ++ (false, SessionsFull) ∷ []))
+    ++ (nat_lt (free live.table (other side)) (needed live.table side (addresses_of d ++ names_in rules side d o)), PoolEmpty) ∷ late)) found
     ∙ order _ _ _ _ _
 
 -- the units of its session
-units_are : {S : Type 0} (rules : SessionRules S) (side : Side) (d : Datagram) (t : Tracked S) (us : List (List ℕ)) → session_refusal rules side d (Some t) ≡ None → us ≡ rules.units (host_on side t) t.session (segment_of d) → units_in rules side d (Some t) ≡ us
-units_are rules side d t us verdict e = ap (λ (v : Option Refusal). unless_refused v (rules.units (host_on side t) t.session (segment_of d)) []) verdict ∙ sym e
+units_are : {S : Type 0} (rules : SessionRules S) (side : Side) (d : Datagram) (t : Tracked S) (us : List (List ℕ))
+    → session_refusal rules side d (Some t) ≡ None → us ≡ rules.units (host_on side t) t.session (segment_of d) → units_in rules side d (Some t) ≡ us
+units_are rules side d t us verdict e =
+    ap (λ (v : Option Refusal). unless_refused v (rules.units (host_on side t) t.session (segment_of d)) []) verdict ∙ sym e
 
 abbrev pub ends_of : Side → Datagram → Endpoints
 ends_of side d = record { side = side; source = source_of d; destination = destination_of d }
 
 -- the plan's tests, by what addresses are called in the end
-planned_is : {S : Type 0} (rules : SessionRules S) (live : World S) (side : Side) (d : Datagram) (way : Way) (t : Tracked S) (octets : List ℕ) → IsOn rules live side d way t → whole_units octets ≡ rules.units (host_on side t) t.session (segment_of d)
-    → stream_refusal rules live side d ≡ first_that_holds (plan_tests live.table (image_of rules live side d) (ends_of side d) (rules.listed (host_on side t) t.session) octets)
-planned_is rules live side d way t octets on e = refusal_is rules live side d t on.found on.refusal ∙ ap (by_units rules live side d (rules.listed (host_on side t) t.session)) (units_are rules side d t (whole_units octets) on.refusal e)
+planned_is : {S : Type 0} (rules : SessionRules S) (live : World S) (side : Side) (d : Datagram) (way : Way) (t : Tracked S) (octets : List ℕ)
+    → IsOn rules live side d way t → whole_units octets ≡ rules.units (host_on side t) t.session (segment_of d)
+    → stream_refusal rules live side d ≡ first_that_holds
+    (plan_tests live.table (image_of rules live side d) (ends_of side d) (rules.listed (host_on side t) t.session) octets)
+planned_is rules live side d way t octets on e = refusal_is rules live side d t on.found on.refusal
+    ∙ ap (by_units rules live side d (rules.listed (host_on side t) t.session)) (units_are rules side d t (whole_units octets) on.refusal e)
 
 -- ## Where no unit is whole
 
@@ -86,7 +105,8 @@ none_stopped rules live side d way t octets on e none few =
     planned_is rules live side d way t octets on e
     ∙ ap (λ (us : List (List ℕ)). by_units rules live side d es us) none
     ∙ ap (λ (b : Bool). five false false b (nat_lt (free live.table (other side)) (needed live.table side (addresses_of d ++ []))) false) full
-    ∙ empty_one (is_pool_empty rules live side d (Whole Udp)) ∙ ap (λ (b : Bool). first_that_holds ((b, PoolEmpty) ∷ [])) (sym (empty_is rules live side d way on.way_is))
+    ∙ empty_one (is_pool_empty rules live side d (Whole Udp))
+    ∙ ap (λ (b : Bool). first_that_holds ((b, PoolEmpty) ∷ [])) (sym (empty_is rules live side d way on.way_is))
   where
     empty_one : (b : Bool) → five false false false b false ≡ first_that_holds ((b, PoolEmpty) ∷ [])
     empty_one true = refl
@@ -95,7 +115,8 @@ none_stopped rules live side d way t octets on e none few =
 -- ## What a plan is
 
 -- a connection's session and the octets in which its units end; the addresses of the header aren't unbound, nor are those of the sender's list
-pub record IsReady {S : Type 0} (rules : SessionRules S) (live : World S) (side : Side) (d : Datagram) (way : Way) (t : Tracked S) (octets : List ℕ) (ends : Endpoints) (es : List Entry) : Type 0 where
+pub record IsReady {S : Type 0} (rules : SessionRules S) (live : World S) (side : Side) (d : Datagram) (way : Way) (t : Tracked S) (octets : List ℕ)
+    (ends : Endpoints) (es : List Entry) : Type 0 where
   pub on : IsOn rules live side d way t
   pub units : whole_units octets ≡ rules.units (host_on side t) t.session (segment_of d)
   pub ends_are : ends ≡ ends_of side d
@@ -104,7 +125,9 @@ pub record IsReady {S : Type 0} (rules : SessionRules S) (live : World S) (side 
   pub listed : IsListBound live.table ends.side es
   pub few : length (rules.listed (host_on side t) t.session) ≤ most_entries
 
-names_are : {S : Type 0} (rules : SessionRules S) (live : World S) (side : Side) (d : Datagram) (way : Way) (t : Tracked S) (octets : List ℕ) (ends : Endpoints) (es : List Entry) → IsReady rules live side d way t octets ends es → addresses_in (whole_units octets) ≡ names_in rules side d (Some t)
+names_are : {S : Type 0} (rules : SessionRules S) (live : World S) (side : Side) (d : Datagram) (way : Way) (t : Tracked S) (octets : List ℕ)
+    (ends : Endpoints) (es : List Entry) → IsReady rules live side d way t octets ends es
+    → addresses_in (whole_units octets) ≡ names_in rules side d (Some t)
 names_are rules live side d way t octets ends es r = ap addresses_in (sym (units_are rules side d t (whole_units octets) r.on.refusal r.units))
 
 used_is : {S : Type 0} (rules : SessionRules S) (live : World S) (side : Side) (d : Datagram) (way : Way) (t : Tracked S) (octets : List ℕ)
@@ -116,10 +139,13 @@ used_is rules live side d way t octets ends es r =
 
 -- what addresses are called once those of the header and the names are used
 abbrev pub called_so : {S : Type 0} (rules : SessionRules S) → World S → Side → Datagram → Endpoints → List ℕ → Addr → Option Addr
-called_so rules live side d ends octets = called_after live.table (uses_until ends.side (until_of rules live side d) (all_addresses ends (addresses_in (whole_units octets)))) ends.side
+called_so rules live side d ends octets =
+    called_after live.table (uses_until ends.side (until_of rules live side d) (all_addresses ends (addresses_in (whole_units octets)))) ends.side
 
-all_called : {S : Type 0} (rules : SessionRules S) (live : World S) (side : Side) (d : Datagram) (way : Way) (t : Tracked S) (octets : List ℕ) (ends : Endpoints) (es : List Entry) → IsReady rules live side d way t octets ends es
-    → list_any (is_new_unbound live.table ends.side es) (addresses_in (whole_units octets)) ≡ false → nat_lt (free live.table (other ends.side)) (needed live.table ends.side (all_addresses ends (addresses_in (whole_units octets)))) ≡ false
+all_called : {S : Type 0} (rules : SessionRules S) (live : World S) (side : Side) (d : Datagram) (way : Way) (t : Tracked S) (octets : List ℕ)
+    (ends : Endpoints) (es : List Entry) → IsReady rules live side d way t octets ends es
+    → list_any (is_new_unbound live.table ends.side es) (addresses_in (whole_units octets)) ≡ false
+    → nat_lt (free live.table (other ends.side)) (needed live.table ends.side (all_addresses ends (addresses_in (whole_units octets)))) ≡ false
     → AllByRecursion (λ a. called_so rules live side d ends octets a ≡ image_of rules live side d a) (addresses_in (whole_units octets))
 all_called rules live side d way t octets ends es r new room =
     let xs = all_addresses ends (addresses_in (whole_units octets)) in
@@ -127,24 +153,37 @@ all_called rules live side d way t octets ends es r new room =
     let same = used_is rules live side d way t octets ends es r in
     let side_is : ends.side ≡ side = ap (λ (e : Endpoints). e.side) r.ends_are in
     let bound : All (λ address. cross live.table side address ≢ Unbound) (used_by rules side d t) =
-    subst (λ (ys : List Addr). All (λ address. cross live.table side address ≢ Unbound) ys) same (subst (λ (s : Side). AreBound live.table s xs) side_is (used_bound live.table ends es (addresses_in (whole_units octets)) r.header r.listed new)) in
+    subst (λ (ys : List Addr). All (λ address. cross live.table side address ≢ Unbound) ys) same
+    (subst (λ (s : Side). AreBound live.table s xs) side_is
+    (used_bound live.table ends es (addresses_in (whole_units octets)) r.header r.listed new)) in
     let fits : needed live.table side (used_by rules side d t) ≤ free live.table (other side) =
-    subst (λ (ys : List Addr). needed live.table side ys ≤ free live.table (other side)) same (subst (λ (s : Side). needed live.table s xs ≤ free live.table (other s)) side_is (ltb-false _ _ room)) in
+    subst (λ (ys : List Addr). needed live.table side ys ≤ free live.table (other side)) same
+    (subst (λ (s : Side). needed live.table s xs ≤ free live.table (other s)) side_is (ltb-false _ _ room)) in
     let all = names_called rules live side d t r.on.lawful r.on.found bound fits in
-    let named = subst (λ (ns : List Addr). AllByRecursion (λ a. image_after live.table (table_of live.table side until (used_by rules side d t)) side a ≡ image_of rules live side d a) ns) (sym (names_are rules live side d way t octets ends es r)) all in
-    let listed = subst (λ (ys : List Addr). AllByRecursion (λ a. image_after live.table (table_of live.table side until ys) side a ≡ image_of rules live side d a) (addresses_in (whole_units octets))) (sym same) named in
-    subst (λ (s : Side). AllByRecursion (λ a. image_after live.table (table_of live.table s until xs) s a ≡ image_of rules live side d a) (addresses_in (whole_units octets))) (sym side_is) listed
+    let named =
+    subst (λ (ns : List Addr). AllByRecursion
+    (λ a. image_after live.table (table_of live.table side until (used_by rules side d t)) side a ≡ image_of rules live side d a) ns)
+    (sym (names_are rules live side d way t octets ends es r)) all in
+    let listed =
+    subst (λ (ys : List Addr). AllByRecursion
+    (λ a. image_after live.table (table_of live.table side until ys) side a ≡ image_of rules live side d a)
+    (addresses_in (whole_units octets))) (sym same) named in
+    subst (λ (s : Side). AllByRecursion (λ a. image_after live.table (table_of live.table s until xs) s a ≡ image_of rules live side d a)
+    (addresses_in (whole_units octets))) (sym side_is) listed
 
 pub told_is : {S : Type 0} (rules : SessionRules S) (live : World S) (side : Side) (d : Datagram) (way : Way) (t : Tracked S) (octets : List ℕ)
     (ends : Endpoints) (es : List Entry) → IsReady rules live side d way t octets ends es
     → stream_refusal rules live side d ≡ first_that_holds (plan_tests live.table (called_so rules live side d ends octets) ends es octets)
 told_is rules live side d way t octets ends es r =
     planned_is rules live side d way t octets r.on r.units
-    ∙ ap (λ (e : Endpoints). first_that_holds (plan_tests live.table (image_of rules live side d) e (rules.listed (host_on side t) t.session) octets)) (sym r.ends_are)
+    ∙ ap (λ (e : Endpoints). first_that_holds (plan_tests live.table (image_of rules live side d) e (rules.listed (host_on side t) t.session) octets))
+    (sym r.ends_are)
     ∙ ap (λ (xs : List Entry). first_that_holds (plan_tests live.table (image_of rules live side d) ends xs octets)) (sym r.entries_are)
-    ∙ sym (plans_alike live.table (called_so rules live side d ends octets) (image_of rules live side d) ends es octets (all_called rules live side d way t octets ends es r))
+    ∙ sym (plans_alike live.table (called_so rules live side d ends octets) (image_of rules live side d) ends es octets
+    (all_called rules live side d way t octets ends es r))
 
-pub some_planned : {S : Type 0} (rules : SessionRules S) (live : World S) (side : Side) (d : Datagram) (way : Way) (t : Tracked S) (octets : List ℕ) (ends : Endpoints) (es : List Entry) (plan : UnitPlan) → IsReady rules live side d way t octets ends es
+pub some_planned : {S : Type 0} (rules : SessionRules S) (live : World S) (side : Side) (d : Datagram) (way : Way) (t : Tracked S) (octets : List ℕ)
+    (ends : Endpoints) (es : List Entry) (plan : UnitPlan) → IsReady rules live side d way t octets ends es
     → first_that_holds (plan_tests live.table (called_so rules live side d ends octets) ends es octets) ≡ None
     → plan.named.items ≡ addresses_in (whole_units octets) → plan.entries.items ≡ beside (called_so rules live side d ends octets)
     (addresses_in (whole_units octets)) → AreImages (dns_units (entered_all es plan.entries.items)) plan.images.items
@@ -157,34 +196,47 @@ some_planned rules live side d way t octets ends es plan r none named entries im
     let same = used_is rules live side d way t octets ends es r in
     let names = names_are rules live side d way t octets ends es r in
     let side_is : ends.side ≡ side = ap (λ (e : Endpoints). e.side) r.ends_are in
-    let after : entered (called_so rules live side d ends octets) es ns ≡ entered image (rules.listed (host_on side t) t.session) (names_in rules side d (Some t)) =
-    entered_alike (called_so rules live side d ends octets) image es ns alike ∙ ap (λ (xs : List Entry). entered image xs ns) r.entries_are ∙ ap (entered image (rules.listed (host_on side t) t.session)) names in
+    let after : entered (called_so rules live side d ends octets) es ns ≡ entered image (rules.listed (host_on side t) t.session)
+    (names_in rules side d (Some t)) =
+    entered_alike (called_so rules live side d ends octets) image es ns alike ∙ ap (λ (xs : List Entry). entered image xs ns) r.entries_are
+    ∙ ap (entered image (rules.listed (host_on side t) t.session)) names in
     record {
       passes = told_is rules live side d way t octets ends es r ∙ none;
-      bound = subst (λ (ys : List Addr). All (λ address. cross live.table side address ≢ Unbound) ys) same (subst (λ (s : Side). AreBound live.table s (all_addresses ends ns)) side_is (used_bound live.table ends es ns r.header r.listed told.bound));
-      room = subst (λ (ys : List Addr). needed live.table side ys ≤ free live.table (other side)) same (subst (λ (s : Side). needed live.table s (all_addresses ends ns) ≤ free live.table (other s)) side_is (ltb-false _ _ told.room));
+      bound = subst (λ (ys : List Addr). All (λ address. cross live.table side address ≢ Unbound) ys) same
+          (subst (λ (s : Side). AreBound live.table s (all_addresses ends ns)) side_is
+          (used_bound live.table ends es ns r.header r.listed told.bound));
+      room = subst (λ (ys : List Addr). needed live.table side ys ≤ free live.table (other side)) same
+          (subst (λ (s : Side). needed live.table s (all_addresses ends ns) ≤ free live.table (other s)) side_is (ltb-false _ _ told.room));
       few = subst (λ (xs : List Entry). length xs ≤ most_entries) after told.few;
       named = named ∙ names;
       entries = entries ∙ beside_alike (called_so rules live side d ends octets) image ns alike ∙ ap (beside image) names;
-      images = subst (λ (xs : List Entry). AreImages (dns_units xs) plan.images.items) (ap (entered_all es) entries ∙ entered-beside (called_so rules live side d ends octets) es ns ∙ after) images;
+      images =
+          subst (λ (xs : List Entry). AreImages (dns_units xs) plan.images.items)
+          (ap (entered_all es) entries ∙ entered-beside (called_so rules live side d ends octets) es ns ∙ after) images;
     }
 
-pub none_planned : {S : Type 0} (rules : SessionRules S) (live : World S) (side : Side) (d : Datagram) (way : Way) (t : Tracked S) (octets : List ℕ) (ends : Endpoints) (es : List Entry) (plan : UnitPlan) → IsReady rules live side d way t octets ends es
-    → whole_units octets ≡ [] → is_empty way.of_source ≡ false → plan.named.items ≡ [] → plan.entries.items ≡ [] → plan.images.items ≡ [] → IsUnitPlan rules live side d t plan
+pub none_planned : {S : Type 0} (rules : SessionRules S) (live : World S) (side : Side) (d : Datagram) (way : Way) (t : Tracked S) (octets : List ℕ)
+    (ends : Endpoints) (es : List Entry) (plan : UnitPlan) → IsReady rules live side d way t octets ends es
+    → whole_units octets ≡ [] → is_empty way.of_source ≡ false → plan.named.items ≡ [] → plan.entries.items ≡ [] → plan.images.items ≡ []
+    → IsUnitPlan rules live side d t plan
 none_planned rules live side d way t octets ends es plan r none room named entries images =
     let image = image_of rules live side d in
     let listed = rules.listed (host_on side t) t.session in
     let names : names_in rules side d (Some t) ≡ [] = sym (names_are rules live side d way t octets ends es r) ∙ ap addresses_in none in
     let used : addresses_of d ≡ used_by rules side d t = ap (λ (ns : List Addr). source_of d ∷ destination_of d ∷ ns) (sym names) in
-    let fits : nat_lt (free live.table (other side)) (needed live.table side (addresses_of d)) ≡ false = sym (empty_is rules live side d way r.on.way_is) ∙ room in
+    let fits : nat_lt (free live.table (other side)) (needed live.table side (addresses_of d)) ≡ false =
+    sym (empty_is rules live side d way r.on.way_is) ∙ room in
     record {
       passes = none_stopped rules live side d way t octets r.on r.units none r.few ∙ ap (λ (b : Bool). first_that_holds ((b, PoolEmpty) ∷ [])) room;
-      bound = subst (λ (ys : List Addr). All (λ address. cross live.table side address ≢ Unbound) ys) used (subst (λ (e : Endpoints). AreBound live.table e.side (e.source ∷ e.destination ∷ [])) r.ends_are r.header);
+      bound = subst (λ (ys : List Addr). All (λ address. cross live.table side address ≢ Unbound) ys) used
+          (subst (λ (e : Endpoints). AreBound live.table e.side (e.source ∷ e.destination ∷ [])) r.ends_are r.header);
       room = subst (λ (ys : List Addr). needed live.table side ys ≤ free live.table (other side)) used (ltb-false _ _ fits);
       few = subst (λ (ns : List Addr). length (entered image listed ns) ≤ most_entries) (sym names) r.few;
       named = named ∙ sym names;
       entries = entries ∙ ap (beside image) (sym names);
-      images = subst (AreImages (dns_units (entries_after rules image side d (Some t)))) (sym images) (no_images (dns_units (entries_after rules image side d (Some t))));
+      images =
+          subst (AreImages (dns_units (entries_after rules image side d (Some t)))) (sym images)
+          (no_images (dns_units (entries_after rules image side d (Some t))));
     }
 
 -- ## Why there is none
@@ -193,10 +245,17 @@ pub completed_unit : {S : Type 0} (rules : SessionRules S) (live : World S) (sid
     (ends : Endpoints) (es : List Entry) → IsReady rules live side d way t octets ends es → 1 ≤ length (whole_units octets)
     → CompletesUnit rules live side d
 completed_unit rules live side d way t octets ends es r some =
-    record { tracked = t; found = r.on.found; completes = subst (λ (us : List (List ℕ)). 1 ≤ length us) (sym (units_are rules side d t (whole_units octets) r.on.refusal r.units)) some }
+    record {
+      tracked = t;
+      found = r.on.found;
+      completes =
+          subst (λ (us : List (List ℕ)). 1 ≤ length us) (sym (units_are rules side d t (whole_units octets) r.on.refusal r.units)) some;
+    }
 
-pub is_stopped : {S : Type 0} (rules : SessionRules S) (live : World S) (side : Side) (d : Datagram) (way : Way) (t : Tracked S) (octets : List ℕ) (ends : Endpoints) (es : List Entry) (stop : PlanStop) → IsReady rules live side d way t octets ends es
-    → TellsFirst (first_that_holds (plan_tests live.table (called_so rules live side d ends octets) ends es octets)) stop → (stop ≡ stops.OutOfMemory → 1 ≤ length (whole_units octets)) → IsStopped rules live side d stop
+pub is_stopped : {S : Type 0} (rules : SessionRules S) (live : World S) (side : Side) (d : Datagram) (way : Way) (t : Tracked S) (octets : List ℕ)
+    (ends : Endpoints) (es : List Entry) (stop : PlanStop) → IsReady rules live side d way t octets ends es
+    → TellsFirst (first_that_holds (plan_tests live.table (called_so rules live side d ends octets) ends es octets)) stop
+    → (stop ≡ stops.OutOfMemory → 1 ≤ length (whole_units octets)) → IsStopped rules live side d stop
 is_stopped rules live side d way t octets ends es (stops.Refused refusal) r first some = told_is rules live side d way t octets ends es r ∙ first
 is_stopped rules live side d way t octets ends es stops.OutOfMemory r first some = completed_unit rules live side d way t octets ends es r (some refl)
 
@@ -215,7 +274,8 @@ ready_is {S = S} rules live d way t f session g octets es sender same of units e
     let mine = entries ∙ ap (λ (s : S). rules.listed f s) same ∙ ap (λ (b : Host). rules.listed b t.session) sender in
     record {
       on = on;
-      units = units ∙ ap (λ (s : S). rules.units f s g) same ∙ ap (λ (b : Host). rules.units b t.session g) sender ∙ ap (rules.units (host_on way.side t) t.session) of;
+      units = units ∙ ap (λ (s : S). rules.units f s g) same ∙ ap (λ (b : Host). rules.units b t.session g) sender
+          ∙ ap (rules.units (host_on way.side t) t.session) of;
       ends_are =
           ap (λ (a : Addr). let e : Endpoints = record { side = way.side; source = a; destination = way.destination } in e) on.way_is.source_is
           ∙ ap (λ (a : Addr). let e : Endpoints = record { side = way.side; source = source_of d; destination = a } in e) on.way_is.destination_is;
@@ -228,10 +288,6 @@ ready_is {S = S} rules live d way t f session g octets es sender same of units e
 pub by_ok : {A E : Type 0} {P Q : A → Type 0} (r : Result A E) → ((x : A) → P x → Q x) → IfOk r P → IfOk r Q
 by_ok (Ok x) f p = f x p
 by_ok (Err e) f p = tt
-
-pub by_four : {A E : Type 0} {P Q R S T : A → Type 0} (r : Result A E) → ((x : A) → P x → Q x → R x → S x → T x) → IfOk r P → IfOk r Q → IfOk r R → IfOk r S → IfOk r T
-by_four (Ok x) f p q s t = f x p q s t
-by_four (Err e) f p q s t = tt
 
 pub by_err : {A E : Type 0} {P Q : E → Type 0} (r : Result A E) → ((x : E) → r ≡ Err x → P x → Q x) → IfErr r P → IfErr r Q
 by_err (Ok x) f p = tt

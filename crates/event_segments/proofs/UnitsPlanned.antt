@@ -17,13 +17,16 @@ use Rattle.dns_plans.proofs.EnteredLemmas.{same_count, entered-beside}
 enter_alike : (f g : Addr → Option Addr) (es : List Entry) (a : Addr) → f a ≡ g a → enter f es a ≡ enter g es a
 enter_alike f g es a e = ap (λ (image : Option Addr). enter (λ (x : Addr). image) es a) e
 
-pub entered_alike : (f g : Addr → Option Addr) (es : List Entry) (names : List Addr) → AllByRecursion (λ a. f a ≡ g a) names → entered f es names ≡ entered g es names
+pub entered_alike : (f g : Addr → Option Addr) (es : List Entry) (names : List Addr) → AllByRecursion (λ a. f a ≡ g a) names
+    → entered f es names ≡ entered g es names
 entered_alike f g es [] h = refl
-entered_alike f g es (a ∷ names) h = ap (λ (xs : List Entry). entered f xs names) (enter_alike f g es a h.0) ∙ entered_alike f g (enter g es a) names h.1
+entered_alike f g es (a ∷ names) h = ap (λ (xs : List Entry). entered f xs names) (enter_alike f g es a h.0)
+    ∙ entered_alike f g (enter g es a) names h.1
 
 pub beside_alike : (f g : Addr → Option Addr) (names : List Addr) → AllByRecursion (λ a. f a ≡ g a) names → beside f names ≡ beside g names
 beside_alike f g [] h = refl
-beside_alike f g (a ∷ names) h = ap (λ (image : Option Addr). (a, image) ∷ beside f names) h.0 ∙ ap (λ (xs : List Entry). (a, g a) ∷ xs) (beside_alike f g names h.1)
+beside_alike f g (a ∷ names) h = ap (λ (image : Option Addr). (a, image) ∷ beside f names) h.0
+    ∙ ap (λ (xs : List Entry). (a, g a) ∷ xs) (beside_alike f g names h.1)
 
 addresses_beside : (f : Addr → Option Addr) (names : List Addr) → map (λ (entry : Entry). entry.0) (beside f names) ≡ names
 addresses_beside f [] = refl
@@ -34,9 +37,11 @@ counts_alike : (f g : Addr → Option Addr) (es : List Entry) (names : List Addr
 counts_alike f g es names = ap length (sym (entered-beside f es names)) ∙ same_count g es (beside f names) names (addresses_beside f names)
 
 abbrev pub five : Bool → Bool → Bool → Bool → Bool → Option Refusal
-five bad unbound full empty grows = first_that_holds ((bad, BadUnit) ∷ (unbound, UnitUnbound) ∷ (full, RenamesFull) ∷ (empty, PoolEmpty) ∷ (grows, UnitGrows) ∷ [])
+five bad unbound full empty grows =
+    first_that_holds ((bad, BadUnit) ∷ (unbound, UnitUnbound) ∷ (full, RenamesFull) ∷ (empty, PoolEmpty) ∷ (grows, UnitGrows) ∷ [])
 
-five_alike : (bad unbound full empty g h : Bool) → (bad ≡ false → unbound ≡ false → empty ≡ false → g ≡ h) → five bad unbound full empty g ≡ five bad unbound full empty h
+five_alike : (bad unbound full empty g h : Bool) → (bad ≡ false → unbound ≡ false → empty ≡ false → g ≡ h)
+    → five bad unbound full empty g ≡ five bad unbound full empty h
 five_alike true unbound full empty g h same = refl
 five_alike false true full empty g h same = refl
 five_alike false false true empty g h same = refl
@@ -44,7 +49,9 @@ five_alike false false false true g h same = refl
 five_alike false false false false g h same = ap (λ (b : Bool). first_that_holds ((b, UnitGrows) ∷ [])) (same refl refl refl)
 
 pub plans_alike : (table : Bindings) (f g : Addr → Option Addr) (ends : Endpoints) (es : List Entry) (octets : List ℕ)
-    → (list_any (is_new_unbound table ends.side es) (addresses_in (whole_units octets)) ≡ false → nat_lt (free table (other ends.side)) (needed table ends.side (all_addresses ends (addresses_in (whole_units octets)))) ≡ false → AllByRecursion (λ a. f a ≡ g a) (addresses_in (whole_units octets)))
+    → (list_any (is_new_unbound table ends.side es) (addresses_in (whole_units octets)) ≡ false
+    → nat_lt (free table (other ends.side)) (needed table ends.side (all_addresses ends (addresses_in (whole_units octets)))) ≡ false
+    → AllByRecursion (λ a. f a ≡ g a) (addresses_in (whole_units octets)))
     → first_that_holds (plan_tests table f ends es octets) ≡ first_that_holds (plan_tests table g ends es octets)
 plans_alike table f g ends es octets same =
     let units = whole_units octets in
@@ -53,7 +60,8 @@ plans_alike table f g ends es octets same =
     let unbound = list_any (is_new_unbound table ends.side es) names in
     let empty = nat_lt (free table (other ends.side)) (needed table ends.side (all_addresses ends names)) in
     ap (λ (n : ℕ). five bad unbound (nat_lt most_entries n) empty (list_any (grows_too_much (entered f es names)) units)) (counts_alike f g es names)
-    ∙ five_alike bad unbound (nat_lt most_entries (length (entered g es names))) empty (list_any (grows_too_much (entered f es names)) units) (list_any (grows_too_much (entered g es names)) units)
+    ∙ five_alike bad unbound (nat_lt most_entries (length (entered g es names))) empty (list_any (grows_too_much (entered f es names)) units)
+    (list_any (grows_too_much (entered g es names)) units)
     (λ good few room. ap (λ (xs : List Entry). list_any (grows_too_much xs) units) (entered_alike f g es names (same few room)))
 
 -- ## Where none of the tests holds
@@ -70,7 +78,8 @@ five_none false false true empty grows e = absurd (cc)
 five_none false false false true grows e = absurd (cc)
 five_none false false false false grows e = (refl, (refl, refl))
 
-pub none_told : (table : Bindings) (f : Addr → Option Addr) (ends : Endpoints) (es : List Entry) (octets : List ℕ) → first_that_holds (plan_tests table f ends es octets) ≡ None → NoneTold table f ends es octets
+pub none_told : (table : Bindings) (f : Addr → Option Addr) (ends : Endpoints) (es : List Entry) (octets : List ℕ)
+    → first_that_holds (plan_tests table f ends es octets) ≡ None → NoneTold table f ends es octets
 none_told table f ends es octets none =
     let units = whole_units octets in
     let names = addresses_in units in

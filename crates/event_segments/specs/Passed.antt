@@ -20,13 +20,15 @@ pub record Tells (S A : Type 0) : Type 0 where
   pub whole : List (List ℕ) → A
   pub segment : (Addr → Option Addr) → Side → Datagram → ℕ → ℕ → Option (Tracked S) → A
   -- one that no session takes goes out whole
-  pub plain : (image : Addr → Option Addr) (side : Side) (d : Datagram) (source destination : ℕ) → segment image side d source destination None ≡ whole (renamed d source destination ∷ [])
+  pub plain : (image : Addr → Option Addr) (side : Side) (d : Datagram) (source destination : ℕ)
+      → segment image side d source destination None ≡ whole (renamed d source destination ∷ [])
 
 -- of a datagram that passes, by its kind
 abbrev pub told_kind : {S A : Type 0} → SessionRules S → Tells S A → World S → Side → Datagram → Kind → A
 told_kind rules tells live side d Stream =
     let table = table_after rules live side live.clock d Stream in
-    tells.segment (image_in rules live side live.clock d) side d (called table side (source_of d)).0 (called table side (destination_of d)).0 (taker_in rules live side live.clock d)
+    tells.segment (image_in rules live side live.clock d) side d (called table side (source_of d)).0 (called table side (destination_of d)).0
+    (taker_in rules live side live.clock d)
 told_kind rules tells live side d (Whole payload) = tells.whole (out_kind rules live side live.clock d (Whole payload))
 
 -- and of one that is refused, of which nothing goes out
@@ -40,14 +42,16 @@ left_as rules kind None live side d = after_kind rules live side live.clock d ki
 left_as rules kind (Some refusal) live side d = live
 
 -- it is refused as it is told, or passes
-pub record IsPassed {S A : Type 0} (rules : SessionRules S) (tells : Tells S A) (told : Option Refusal) (kind : Kind) (live : World S) (side : Side) (d : Datagram) (refusal : Option Refusal) (after : World S) (given : A) : Type 0 where
+pub record IsPassed {S A : Type 0} (rules : SessionRules S) (tells : Tells S A) (told : Option Refusal) (kind : Kind) (live : World S) (side : Side)
+    (d : Datagram) (refusal : Option Refusal) (after : World S) (given : A) : Type 0 where
   pub answer : refusal ≡ told
   pub left : after ≡ left_as rules kind refusal live side d
   pub gone : given ≡ told_by tells refusal (told_kind rules tells live side d kind)
 
 -- a segment whose addresses are not refused
 abbrev pub IsSegmentTaken : {S A : Type 0} → SessionRules S → Tells S A → World S → Side → Datagram → Option Refusal → World S → A → Type 0
-IsSegmentTaken rules tells live side d refusal after given = IsPassed rules tells (stream_refusal rules live side d) Stream live side d refusal after given
+IsSegmentTaken rules tells live side d refusal after given =
+    IsPassed rules tells (stream_refusal rules live side d) Stream live side d refusal after given
 
 -- bindings at a moment, and no connections
 abbrev pub plain_world : ℕ → Bindings → World PlainSession

@@ -5,18 +5,15 @@ use Rattle.gate_base.specs.declared.address.Addr.{Addr}
 use Rattle.gate_base.specs.declared.side.Side.{Side}
 use Rattle.gate_base.specs.Prelude.{other}
 use Rattle.gate_base.specs.declared.host.Host.TheVariants.{Client, Server}
-use Rattle.binding_table.specs.Prelude.{cross, free, IsLawful, Use, needed}
+use Rattle.binding_table.specs.Prelude.{cross, free, Use, needed}
 use Rattle.binding_table.specs.declared.binding.Crossing.TheVariants.{Unbound}
 use Rattle.ipv4_frames.specs.Ipv4.{Datagram}
 use Rattle.gate_model.specs.Prelude.{most_entries, renamed_in, found_in, session_in, session_refusal, uses_until, units_in, names_in, entries_after, image_in, Tracked, World, addresses_of, SessionRules}
-use Rattle.event_payloads.specs.Prelude.{IsWayOf}
 use Rattle.event_payloads.specs.declared.addresses.Way.{Way}
 use Rattle.dialogue.specs.Prelude.{AreImages}
 use Rattle.dns_stream.specs.Prelude.{dns_units}
 use Rattle.dns_plans.specs.Prelude.{beside}
 use Rattle.dns_plans.specs.declared.plan.UnitPlan.{UnitPlan}
-use Rattle.dns_plans.specs.declared.stop.PlanStop.{PlanStop}
-use Rattle.dns_plans.specs.declared.stop.PlanStop.TheVariants.{Refused as Stopped, OutOfMemory}
 use Rattle.event_segments.specs.Segments.{stream_refusal}
 use Rattle.event_segments.specs.declared.found.SegmentFate.{SegmentFate}
 use Rattle.event_segments.specs.declared.found.SegmentFate.TheVariants.{Absent, Untracked, Tracked as TrackedBy, Refused, Lost}
@@ -30,15 +27,9 @@ image_of rules live side d = image_in rules live side live.clock d
 abbrev pub used_by : {S : Type 0} (rules : SessionRules S) → Side → Datagram → Tracked S → List Addr
 used_by rules side d t = addresses_of d ++ names_in rules side d (Some t)
 
--- the segment is on this way, and of a connection whose session passes it
-pub record IsOn {S : Type 0} (rules : SessionRules S) (live : World S) (side : Side) (d : Datagram) (way : Way) (t : Tracked S) : Type 0 where
-  pub lawful : IsLawful live.table
-  pub way_is : IsWayOf live side d way
-  pub found : session_in (found_in live side d) ≡ Some t
-  pub refusal : session_refusal rules side d (Some t) ≡ None
-
 -- no test refuses it; the plan has the addresses that its units name, each beside what it is called, and images of the units by the list afterwards
-pub record IsUnitPlan {S : Type 0} (rules : SessionRules S) (live : World S) (side : Side) (d : Datagram) (t : Tracked S) (plan : UnitPlan) : Type 0 where
+pub record IsUnitPlan {S : Type 0} (rules : SessionRules S) (live : World S) (side : Side) (d : Datagram) (t : Tracked S)
+    (plan : UnitPlan) : Type 0 where
   pub passes : stream_refusal rules live side d ≡ None
   pub bound : All (λ address. cross live.table side address ≢ Unbound) (used_by rules side d t)
   pub room : needed live.table side (used_by rules side d t) ≤ free live.table (other side)
@@ -53,13 +44,9 @@ pub record CompletesUnit {S : Type 0} (rules : SessionRules S) (live : World S) 
   pub found : session_in (found_in live side d) ≡ Some tracked
   pub completes : 1 ≤ length (units_in rules side d (Some tracked))
 
--- a test refuses it, or memory is wanting for its units
-abbrev pub IsStopped : {S : Type 0} (rules : SessionRules S) → World S → Side → Datagram → PlanStop → Type 0
-IsStopped rules live side d (Stopped refusal) = stream_refusal rules live side d ≡ Some refusal
-IsStopped rules live side d OutOfMemory = CompletesUnit rules live side d
-
 -- its session takes it, with such a plan and so many entries in each list before it
-pub record IsPlanOf {S : Type 0} (rules : SessionRules S) (live : World S) (side : Side) (d : Datagram) (t : Tracked S) (plan : SegmentPlan) : Type 0 where
+pub record IsPlanOf {S : Type 0} (rules : SessionRules S) (live : World S) (side : Side) (d : Datagram) (t : Tracked S)
+    (plan : SegmentPlan) : Type 0 where
   pub found : session_in (found_in live side d) ≡ Some t
   pub refusal : session_refusal rules side d (Some t) ≡ None
   pub units : IsUnitPlan rules live side d t plan.units
@@ -80,4 +67,5 @@ uses_planned rules way plan timeout t =
     let until = way.moment.0 + timeout in
     uses_until way.side until (way.source ∷ way.destination ∷ [])
     ++ (uses_until way.side until plan.units.named.items
-    ++ (uses_until t.client until (renamed_in (take plan.client (rules.listed Client t.session))) ++ uses_until (other t.client) until (renamed_in (take plan.server (rules.listed Server t.session)))))
+    ++ (uses_until t.client until (renamed_in (take plan.client (rules.listed Client t.session))) ++ uses_until (other t.client) until
+    (renamed_in (take plan.server (rules.listed Server t.session)))))

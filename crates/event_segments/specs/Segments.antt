@@ -27,7 +27,10 @@ pub record IsSegmentOf (octets : List ℕ) (d : Datagram) (tcp : Tcp) : Type 0 w
 
 -- the first test behind those of the addresses that holds, of a datagram of a kind
 abbrev pub refusal_as : {S : Type 0} (rules : SessionRules S) → Kind → World S → Side → Datagram → Option Refusal
-refusal_as rules kind live side d = first_that_holds (kind_tests rules live side live.clock d kind ++ (is_pool_empty rules live side d kind, PoolEmpty) ∷ late_tests rules live side live.clock d kind)
+refusal_as rules kind live side d =
+    first_that_holds
+    (kind_tests rules live side live.clock d kind
+    ++ (is_pool_empty rules live side d kind, PoolEmpty) ∷ late_tests rules live side live.clock d kind)
 
 -- a segment whose addresses are not refused
 abbrev pub stream_refusal : {S : Type 0} (rules : SessionRules S) → World S → Side → Datagram → Option Refusal
@@ -46,7 +49,8 @@ abbrev pub AreCalled : {S : Type 0} (rules : SessionRules S) → (Addr → Optio
 AreCalled rules image side d t entries = entries ≡ beside image (addresses_in (rules.units (host_on side t) t.session (segment_of d)))
 
 -- a session passes a segment, its list has room for such entries, and these are images of units by the list with them
-pub record Enters {S : Type 0} (rules : SessionRules S) (side : Side) (d : Datagram) (t : Tracked S) (entries : List Entry) (images : List UnitImage) : Type 0 where
+pub record Enters {S : Type 0} (rules : SessionRules S) (side : Side) (d : Datagram) (t : Tracked S) (entries : List Entry)
+    (images : List UnitImage) : Type 0 where
   pub passes : rules.refusal (host_on side t) t.session (segment_of d) ≡ None
   pub few : length (entered_all (rules.listed (host_on side t) t.session) entries) ≤ 256
   pub image : Addr → Option Addr

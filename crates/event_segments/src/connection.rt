@@ -8,7 +8,8 @@ ghost use Rattle.gate_model.specs.Prelude.{World, host_on};
 ghost use Rattle.tcp_tracker.specs.Prelude.{connection_of};
 ghost use Rattle.dns_plans.specs.Prelude.{AreBound, IsListBound};
 ghost use Rattle.event_payloads.specs.Prelude.{IsWayOf};
-ghost use Rattle.event_segments.specs.SegmentFate.{IsOn, IsUnitPlan, IsStopped, IsFound};
+ghost use Rattle.event_segments.specs.SegmentFate.{IsUnitPlan, IsFound};
+ghost use Rattle.event_segments.specs.Inside.SegmentFate.{IsOn, IsStopped};
 
 use crate::found::{SegmentFate, SegmentPlan, no_units};
 use crate::workspace::Workspace;

@@ -34,11 +34,16 @@ begun_refusal rules laws table side q tcp d e =
     first_refusal rules laws side (tcp_of d).destination_port (pair_in table side d) q (tcp_of d) d refl
     ∙ ap (λ (t : Tcp). rules.refusal Client (rules.made t.destination_port q t.sequence t.mss) (segment_in t)) (sym e)
 
-pub first_begins : {S : Type 0} (rules : SessionRules S) → HasLaws rules → (live : World S) (way : Way) (d : Datagram) (key : ConnKey) (tcp : Tcp) (pair : Pair) (verdict : Option Refusal) → key ≡ key_in live.table way.side d → connection_of key live.connections ≡ None → tcp ≡ tcp_of d →
-    (is_opening tcp.flags && is_tracked_port tcp.destination_port) ≡ true → pair ≡ pair_on way → verdict ≡ rules.refusal Client (rules.made tcp.destination_port pair tcp.sequence tcp.mss) (segment_in tcp) → IsFirst rules live way.side d verdict
+pub first_begins : {S : Type 0} (rules : SessionRules S) → HasLaws rules
+    → (live : World S) (way : Way) (d : Datagram) (key : ConnKey) (tcp : Tcp) (pair : Pair) (verdict : Option Refusal)
+    → key ≡ key_in live.table way.side d → connection_of key live.connections ≡ None → tcp ≡ tcp_of d →
+    (is_opening tcp.flags && is_tracked_port tcp.destination_port) ≡ true → pair ≡ pair_on way
+    → verdict ≡ rules.refusal Client (rules.made tcp.destination_port pair tcp.sequence tcp.mss) (segment_in tcp)
+    → IsFirst rules live way.side d verdict
 first_begins rules laws live way d key tcp pair verdict named absent is first p v =
     let opens = (and_parts (is_opening tcp.flags) (is_tracked_port tcp.destination_port) first).0 in
-    first_is rules laws.lists live way.side d key tcp verdict named absent is first (begun_refusal rules laws (table_after rules live way.side live.clock d Stream) way.side pair tcp d is ∙ sym v)
+    first_is rules laws.lists live way.side d key tcp verdict named absent is first
+    (begun_refusal rules laws (table_after rules live way.side live.clock d Stream) way.side pair tcp d is ∙ sym v)
     (λ n. ap (λ (t : Tcp). (flags_of t.flags).reset) (sym is) ∙ laws.opens pair tcp opens (sym v ∙ n))
 
 -- the session that it makes passes it
@@ -46,10 +51,12 @@ pub made_passes : {S : Type 0} (rules : SessionRules S) → HasLaws rules
     → (way : Way) (pair : Pair) (tcp : Tcp) (d : Datagram) (verdict : Option Refusal) → tcp ≡ tcp_of d
     → verdict ≡ rules.refusal Client (rules.made tcp.destination_port pair tcp.sequence tcp.mss) (segment_in tcp) → verdict ≡ None
     → session_refusal rules way.side d (Some (made_on rules way tcp)) ≡ None
-made_passes rules laws way pair tcp d verdict is v none = first_refusal rules laws way.side tcp.destination_port (pair_on way) pair tcp d is ∙ sym v ∙ none
+made_passes rules laws way pair tcp d verdict is v none = first_refusal rules laws way.side tcp.destination_port (pair_on way) pair tcp d is ∙ sym v
+    ∙ none
 
 -- nor does it end
-pub begun_goes_on : {S : Type 0} (rules : SessionRules S) → HasLaws rules → (way : Way) (d : Datagram) → (flags_of (tcp_of d).flags).reset ≡ false → ends_by rules way.side d (Some (made_on rules way (tcp_of d))) ≡ false
+pub begun_goes_on : {S : Type 0} (rules : SessionRules S) → HasLaws rules → (way : Way) (d : Datagram) → (flags_of (tcp_of d).flags).reset ≡ false
+    → ends_by rules way.side d (Some (made_on rules way (tcp_of d))) ≡ false
 begun_goes_on rules laws way d plain =
     let t = made_on rules way (tcp_of d) in
     laws.goes_on (host_on way.side t) t.session (tcp_of d) plain

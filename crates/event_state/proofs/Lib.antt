@@ -2,3 +2,4 @@ mod FirstSegments
 mod Lost
 pub mod Wholes
 pub mod Early
+pub mod ReadMemory

@@ -14,7 +14,14 @@ pub lost_in_session : {S P A : Type 0} (rules : SessionRules S) (gives : Gives S
     (after : World S) (sent : List (List ℕ)) → session_in (found_in live side d) ≡ Some t → session_refusal rules side d (Some t) ≡ None
     → gives.MayWant (host_on side t) t.session (segment_of d) → None ≡ stream_refusal rules live side d → (gives.Keeps → after ≡ live)
     → (gives.Keeps → sent ≡ []) → IsLost rules gives None Stream live side d after sent
-lost_in_session rules gives live side d t after sent e verdict h p same nothing = record { same = same; nothing = nothing; allowed = refl; wants = inr (refl, inl (sym p, inr (record { tracked = t; found = e; refusal = verdict; wants = h }))) }
+lost_in_session rules gives live side d t after sent e verdict h p same nothing =
+    record {
+      same = same;
+      nothing = nothing;
+      allowed = refl;
+      wants =
+          inr (refl, inl (sym p, inr (record { tracked = t; found = e; refusal = verdict; wants = h })));
+    }
 
 pub lost_at_units : {S P A : Type 0} (rules : SessionRules S) (gives : Gives S P A) (live : World S) (side : Side) (d : Datagram) (after : World S)
     (sent : List (List ℕ)) → CompletesUnit rules live side d → (gives.Keeps → after ≡ live) → (gives.Keeps → sent ≡ [])
@@ -24,7 +31,8 @@ lost_at_units rules gives live side d after sent h same nothing = record { same 
 pub lost_at_first : {S P A : Type 0} (rules : SessionRules S) (gives : Gives S P A) (live : World S) (side : Side) (d : Datagram) (after : World S)
     (sent : List (List ℕ)) → begins (found_in live side d) d ≡ true → None ≡ stream_refusal rules live side d → (gives.Keeps → after ≡ live)
     → (gives.Keeps → sent ≡ []) → IsLost rules gives None Stream live side d after sent
-lost_at_first rules gives live side d after sent e p same nothing = record { same = same; nothing = nothing; allowed = refl; wants = inr (refl, inl (sym p, inl e)) }
+lost_at_first rules gives live side d after sent e p same nothing =
+    record { same = same; nothing = nothing; allowed = refl; wants = inr (refl, inl (sym p, inl e)) }
 
 -- an error that went on
 pub lost_done : {S P A : Type 0} (rules : SessionRules S) (gives : Gives S P A) (live : World S) (side : Side) (d : Datagram)

@@ -1,6 +1,5 @@
 -- What becomes of a datagram, and what is told of it.
-use Rattle.std.specs.Prelude.{ℕ, List, Option, Some, None, Result, Ok, Err}
-use Rattle.gate_base.specs.declared.event.OutOfMemory.{OutOfMemory}
+use Rattle.std.specs.Prelude.{ℕ, List, Option, Some, None}
 use Rattle.gate_base.specs.declared.refusal.Refusal.{Refusal}
 use Rattle.gate_base.specs.declared.side.Side.{Side}
 use Rattle.ipv4_frames.specs.Ipv4.{Datagram}
@@ -16,15 +15,6 @@ refusal_of (Refused refusal) = Some refusal
 refusal_of Whole = None
 refusal_of (Cut sent) = None
 
--- one that no session takes
-abbrev pub taken_whole : {P : Type 0} → Option Refusal → Taken P
-taken_whole None = Whole
-taken_whole (Some refusal) = Refused refusal
-
-abbrev pub result_whole : {P : Type 0} → Result (Option Refusal) OutOfMemory → Result (Taken P) OutOfMemory
-result_whole (Ok refusal) = Ok (taken_whole refusal)
-result_whole (Err error) = Err error
-
 -- what is told of it, by the datagrams that were put
 abbrev pub given_by : {S P A : Type 0} → Gives S P A → Taken P → List (List ℕ) → A
 given_by gives (Refused refusal) datagrams = gives.tells.whole datagrams
@@ -32,5 +22,7 @@ given_by gives Whole datagrams = gives.tells.whole datagrams
 given_by gives (Cut sent) datagrams = gives.cut sent datagrams
 
 -- it is refused as it is told, or passes, and that is told of it
-abbrev pub IsGiven : {S P A : Type 0} (rules : SessionRules S) (gives : Gives S P A) → Option Refusal → Kind → World S → Side → Datagram → Taken P → World S → List (List ℕ) → Type 0
-IsGiven rules gives told kind live side d taken after sent = IsPassed rules gives.tells told kind live side d (refusal_of taken) after (given_by gives taken sent)
+abbrev pub IsGiven : {S P A : Type 0} (rules : SessionRules S) (gives : Gives S P A) → Option Refusal → Kind → World S → Side → Datagram → Taken P
+    → World S → List (List ℕ) → Type 0
+IsGiven rules gives told kind live side d taken after sent =
+    IsPassed rules gives.tells told kind live side d (refusal_of taken) after (given_by gives taken sent)

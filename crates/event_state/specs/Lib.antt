@@ -1,4 +1,5 @@
 pub mod Engines
 pub mod Given
+pub mod Inside
 pub mod Knowing
 pub mod Lost

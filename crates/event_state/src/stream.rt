@@ -11,6 +11,7 @@ ghost use Rattle.event_payloads.specs.Prelude.{IsWayOf};
 ghost use Rattle.event_segments.specs.Prelude.{IsPlanOf, IsSegmentOf, AreCalled, Enters, made_on, pair_on};
 ghost use Rattle.event_state.specs.Engines.{HasLaws, IsStepped, IsUnstepped};
 ghost use Rattle.event_state.specs.Knowing.{world_in};
+ghost use Rattle.event_state.specs.Inside.Keys.{IsOnKey};
 ghost use Rattle.event_state.specs.Lost.{IsSegmentDone};
 
 use crate::engine::Engine;
@@ -61,16 +62,9 @@ impl<S: Engine> State<S> {
         segment: &Segment<'_>,
         outbox: &mut Datagrams,
     ) -> Result<Taken<S::Sent>, OutOfMemory>
-        requires laws { HasLaws S.rules }
         requires listed { KeepsListed S.rules (world_in self.old) }
-        requires way { IsWayOf (world_in self.old) way.now.side
-            segment.now.datagram.now way.now }
-        requires key { key.now
-            ≡ streams.key_in self.old.table way.now.side segment.now.datagram.now }
-        requires moment { IsMoment way.now.moment.0 }
-        requires empty { outbox.old ≡ [] }
-        requires whole { IsSegmentOf segment.now.octets.now segment.now.datagram.now
-            segment.now.tcp.now }
+        requires on { IsOnKey S.rules (world_in self.old) way.now key.now segment.now
+            outbox.old }
         ensures { IsSegmentDone S.rules S.gives (world_in self.old) way.now.side
             segment.now.datagram.now result (world_in self.new) outbox.new }
     {
@@ -106,16 +100,9 @@ impl<S: Engine> State<S> {
         segment: &Segment<'_>,
         outbox: &mut Datagrams,
     ) -> Result<Taken<S::Sent>, OutOfMemory>
-        requires laws { HasLaws S.rules }
-        requires way { IsWayOf (world_in self.old) way.now.side
-            segment.now.datagram.now way.now }
-        requires key { key.now
-            ≡ streams.key_in self.old.table way.now.side segment.now.datagram.now }
+        requires on { IsOnKey S.rules (world_in self.old) way.now key.now segment.now
+            outbox.old }
         requires absent { connection_of key.now self.old.connections ≡ None }
-        requires moment { IsMoment way.now.moment.0 }
-        requires empty { outbox.old ≡ [] }
-        requires whole { IsSegmentOf segment.now.octets.now segment.now.datagram.now
-            segment.now.tcp.now }
         ensures { IsSegmentDone S.rules S.gives (world_in self.old) way.now.side
             segment.now.datagram.now result (world_in self.new) outbox.new }
     {
@@ -144,19 +131,12 @@ impl<S: Engine> State<S> {
         mut plan: SegmentPlan,
         outbox: &mut Datagrams,
     ) -> Result<Taken<S::Sent>, OutOfMemory>
-        requires laws { HasLaws S.rules }
         requires listed { KeepsListed S.rules (world_in self.old) }
-        requires way { IsWayOf (world_in self.old) way.now.side
-            segment.now.datagram.now way.now }
-        requires key { key.now
-            ≡ streams.key_in self.old.table way.now.side segment.now.datagram.now }
+        requires on { IsOnKey S.rules (world_in self.old) way.now key.now segment.now
+            outbox.old }
         requires plan { (t : worlds.Tracked S)
             × IsPlanOf S.rules (world_in self.old) way.now.side
             segment.now.datagram.now t plan }
-        requires moment { IsMoment way.now.moment.0 }
-        requires empty { outbox.old ≡ [] }
-        requires whole { IsSegmentOf segment.now.octets.now segment.now.datagram.now
-            segment.now.tcp.now }
         ensures { IsSegmentDone S.rules S.gives (world_in self.old) way.now.side
             segment.now.datagram.now result (world_in self.new) outbox.new }
     {
@@ -206,19 +186,12 @@ impl<S: Engine> State<S> {
         segment: &Segment<'_>,
         outbox: &mut Datagrams,
     ) -> Result<Taken<S::Sent>, OutOfMemory>
-        requires laws { HasLaws S.rules }
-        requires way { IsWayOf (world_in self.old) way.now.side
-            segment.now.datagram.now way.now }
-        requires key { key.now
-            ≡ streams.key_in self.old.table way.now.side segment.now.datagram.now }
+        requires on { IsOnKey S.rules (world_in self.old) way.now key.now segment.now
+            outbox.old }
         requires absent { connection_of key.now self.old.connections ≡ None }
         requires first { (streams.is_opening segment.now.tcp.now.flags
             && kinds.is_tracked_port segment.now.tcp.now.destination_port)
             ≡ true }
-        requires moment { IsMoment way.now.moment.0 }
-        requires empty { outbox.old ≡ [] }
-        requires whole { IsSegmentOf segment.now.octets.now segment.now.datagram.now
-            segment.now.tcp.now }
         ensures { IsSegmentDone S.rules S.gives (world_in self.old) way.now.side
             segment.now.datagram.now result (world_in self.new) outbox.new }
     {

@@ -1,6 +1,6 @@
 // What becomes of a datagram.
 ghost use Rattle.std.specs.Prelude.{◌≡◌};
-ghost use Rattle.event_state.specs.Given.{taken_whole, result_whole};
+ghost use Rattle.event_state.specs.Inside.Given.{taken_whole, result_whole};
 
 use gate_base::{OutOfMemory, Refusal};
 

@@ -6,7 +6,7 @@ use Rattle.expiring_table.specs.declared.row.Row.{Row}
 use Rattle.expiring_table.specs.Prelude.{alarm, Chained, without_place, without, with_row, rows_in, row_at, is_watched, bucket_of, AreHashed, AreOnce, AreWatched, IsPlaceOf, IsIndexed}
 use Rattle.std.proofs.Math.Nat.{mul-lt-mul_of_pos_left}
 use Rattle.std.proofs.lemmas.Nat.{div_below}
-use Rattle.expiring_table.specs.Buckets.{hash_of}
+use Rattle.expiring_table.specs.Inside.Buckets.{hash_of}
 use Rattle.expiring_table.proofs.Links.{stays}
 use Rattle.expiring_table.proofs.Cells.{once_tail}
 
@@ -161,7 +161,8 @@ module _ {T : Type 0} where
     hashed = λ other row at_other. elim (set_cases cells place (Some new) other row within at_other) [
       | inl h ↦
           ap (slice_index chained.buckets) (h.0) ∙ indexed.hashed place was at
-          ∙ ap (λ key. Rattle.expiring_table.specs.Kept.bucket_of chained key) (is ∙ ap (λ (found : Row T). found.key) (same_Some new row (h.1)))
+          ∙ ap (λ key. Rattle.expiring_table.specs.Inside.Kept.bucket_of chained key)
+          (is ∙ ap (λ (found : Row T). found.key) (same_Some new row (h.1)))
       | inr h ↦ indexed.hashed other row (h.1)
     ];
     watched = λ other row end at_other ends. elim (set_cases cells place (Some new) other row within at_other) [

@@ -4,8 +4,8 @@ use Rattle.std.proofs.lemmas.Option.{none-some, same_Some}
 use Rattle.expiring_table.specs.declared.row.Row.{Row}
 use Rattle.expiring_table.specs.declared.seed.Seed.{Seed}
 use Rattle.expiring_table.specs.declared.store.Store.{Store}
-use Rattle.expiring_table.specs.Armed.{silenced}
-use Rattle.expiring_table.specs.Chained.{emptied}
+use Rattle.expiring_table.specs.Inside.Armed.{silenced}
+use Rattle.expiring_table.specs.Inside.Chained.{emptied}
 use Rattle.expiring_table.specs.Prelude.{rows_in, row_at, AreOnce, IsPlaceOf, IsWhole, IsListed}
 use Rattle.expiring_table.proofs.Cells.{once_tail}
 

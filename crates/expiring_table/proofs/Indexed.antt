@@ -8,8 +8,8 @@ use Rattle.std.proofs.lemmas.Option.{none-some, same_Some}
 use Rattle.expiring_table.specs.declared.row.Row.{Row}
 use Rattle.expiring_table.specs.declared.store.Store.{Store}
 use Rattle.expiring_table.specs.Prelude.{alarm, Chained, rows_in, row_at, bucket_of, IsIndexed, AreOnce, IsListed, IsWhole, IsPlaceOf, HasRoom}
-use Rattle.expiring_table.specs.Chained.{with_place}
-use Rattle.expiring_table.specs.Kept.{first_moment, HasAlarm, CanAppend}
+use Rattle.expiring_table.specs.Inside.Chained.{with_place}
+use Rattle.expiring_table.specs.Inside.Kept.{first_moment, HasAlarm, CanAppend}
 use Rattle.expiring_table.proofs.Cells.{push_cases, rows_push, once_push}
 
 -- ## Alarms

@@ -10,7 +10,7 @@ use Rattle.expiring_table.specs.declared.row.Row.{Row}
 use Rattle.expiring_table.specs.declared.store.Store.{Store}
 use Rattle.expiring_table.specs.Prelude.{alarm, Chained, is_before, lives, living, rows_in, row_at, count_due, is_watched, AreOnce, AreWatched, IsIndexed, IsPlaceOf, IsWhole, HasRoom}
 use Rattle.std.specs.Vec.{with_item}
-use Rattle.expiring_table.specs.Kept.{IsOpen}
+use Rattle.expiring_table.specs.Inside.Kept.{IsOpen}
 use Rattle.expiring_table.proofs.Changes.{count_set, once_set, indexed_set, watched_then}
 use Rattle.expiring_table.proofs.Indexed.{contains_front, contains_rest}
 

@@ -1,6 +1,6 @@
 // Which bucket a key is in.
 ghost use Rattle.std.specs.Prelude.{◌≡◌, ◌<◌, ◌^◌};
-ghost use Rattle.expiring_table.specs.Buckets.{hash_of, bucket_in};
+ghost use Rattle.expiring_table.specs.Inside.Buckets.{hash_of, bucket_in};
 
 use crate::seed::Seed;
 

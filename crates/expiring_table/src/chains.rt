@@ -1,7 +1,7 @@
 // Which places of a list are in each bucket.
 ghost use Rattle.std.specs.Prelude.{◌≡◌, ◌+◌, ◌^◌, ◌<◌, ◌++◌, ◌∷◌, [], length, slice_index, IfOk};
-ghost use Rattle.expiring_table.specs.Buckets.{bucket_in};
-ghost use Rattle.expiring_table.specs.Chained.{IsLast, IsNext, without_place, emptied, with_place, no_places};
+ghost use Rattle.expiring_table.specs.Inside.Buckets.{bucket_in};
+ghost use Rattle.expiring_table.specs.Inside.Chained.{IsLast, IsNext, without_place, emptied, with_place, no_places};
 
 use crate::buckets::bucket_in;
 use crate::link::Link;
@@ -23,11 +23,11 @@ pub struct Chains {
 }
 
 impl Model for Chains {
-    ghost use Rattle.expiring_table.specs.Chained.{Chained};
+    ghost use Rattle.expiring_table.specs.Inside.Chained.{Chained};
 
     ghost Value = { Chained };
 
-    ghost use Rattle.expiring_table.specs.Inside.{chained_of, AreLinked};
+    ghost use Rattle.expiring_table.specs.Inside.Whole.{chained_of, AreLinked};
 
     ghost view = { chained_of };
 

@@ -20,7 +20,7 @@ impl<T> Model for Rows<T> {
 
     ghost Value = { Table T };
 
-    ghost use Rattle.expiring_table.specs.Kept.{table_of, IsWhole};
+    ghost use Rattle.expiring_table.specs.Inside.Kept.{table_of, IsWhole};
 
     ghost view = { λ table. table_of table.store };
 

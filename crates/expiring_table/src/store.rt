@@ -1,8 +1,8 @@
 // Where rows stand, and how they are found.
 ghost use Rattle.std.specs.Prelude.{◌≡◌, ◌+◌, ◌*◌, ◌<◌, ◌≤◌, ◌^◌, ◌++◌, ◌∷◌, [], true, false, None, Some, length, IfOk, IfSome, IfNone};
-ghost use Rattle.expiring_table.specs.Chained.{with_place};
+ghost use Rattle.expiring_table.specs.Inside.Chained.{with_place};
 ghost use Rattle.expiring_table.specs.Rows.{no_rows, with_row, without, living, IsTakenOut};
-ghost use Rattle.expiring_table.specs.Kept.{bucket_of, first_moment, rows_in, table_of, row_at, count_due, is_watched, IsPlaceOf, HasAlarm, IsWhole, IsOpen, IsListed, HasRoom, CanAppend};
+ghost use Rattle.expiring_table.specs.Inside.Kept.{bucket_of, first_moment, rows_in, table_of, row_at, count_due, is_watched, IsPlaceOf, HasAlarm, IsWhole, IsOpen, IsListed, HasRoom, CanAppend};
 
 use crate::alarms::Alarms;
 use crate::chains::Chains;

@@ -18,7 +18,9 @@ files_incoming l r a b e =
       left_given_count = 0;
       right_given_count = 0;
       report_given_count = 0;
-      left = e ∙ sym (took-none ReportGiven (took RightGiven 0 (took LeftGiven 0 incoming)) ∙ took-none RightGiven (took LeftGiven 0 incoming) ∙ took-none LeftGiven incoming);
+      left = e
+          ∙ sym (took-none ReportGiven (took RightGiven 0 (took LeftGiven 0 incoming)) ∙ took-none RightGiven (took LeftGiven 0 incoming)
+          ∙ took-none LeftGiven incoming);
     }
 
 no_incoming : (t : Trace) → took RightIn 0 (took LeftIn 0 t) ≡ t
@@ -40,16 +42,27 @@ files_given a b h = record {
   left_given_count = h.left_count;
   right_given_count = h.right_count;
   report_given_count = h.report_count;
-  left = h.left ∙ sym (ap (λ (t : Trace). took ReportGiven h.report_count (took RightGiven h.right_count (took LeftGiven h.left_count t))) (no_incoming a.left));
+  left = h.left
+      ∙ sym (ap (λ (t : Trace). took ReportGiven h.report_count (took RightGiven h.right_count (took LeftGiven h.left_count t)))
+      (no_incoming a.left));
 }
 
 pub files_more : (i j l r k i' j' l' r' k' : ℕ) (t : Trace)
-    → took ReportGiven k' (took RightGiven r' (took LeftGiven l' (took RightIn j' (took LeftIn i' (took ReportGiven k (took RightGiven r (took LeftGiven l (took RightIn j (took LeftIn i t)))))))))
+    → took ReportGiven k'
+    (took RightGiven r'
+    (took LeftGiven l'
+    (took RightIn j' (took LeftIn i' (took ReportGiven k (took RightGiven r (took LeftGiven l (took RightIn j (took LeftIn i t)))))))))
     ≡ took ReportGiven (k + k') (took RightGiven (r + r') (took LeftGiven (l + l') (took RightIn (j + j') (took LeftIn (i + i') t))))
 unfolding took
 files_more i j l r k i' j' l' r' k' None = refl
 files_more i j l r k i' j' l' r' k' (Some p) =
-    ap Some (rw (drop-drop i' i p.left_in, drop-drop j' j p.right_in, drop-drop l' l p.left_given, drop-drop r' r p.right_given, drop-drop k' k p.report_given) refl)
+    ap Some (rw (
+      drop-drop i' i p.left_in,
+      drop-drop j' j p.right_in,
+      drop-drop l' l p.left_given,
+      drop-drop r' r p.right_given,
+      drop-drop k' k p.report_given,
+    ) refl)
 
 pub files_on : (a b c : Outside) → TookFiles a b → TookFiles b c → TookFiles a c
 files_on a b c h k = record {
@@ -59,15 +72,18 @@ files_on a b c h k = record {
   right_given_count = h.right_given_count + k.right_given_count;
   report_given_count = h.report_given_count + k.report_given_count;
   left = k.left
-      ∙ ap (λ (t : Trace). took ReportGiven k.report_given_count (took RightGiven k.right_given_count (took LeftGiven k.left_given_count (took RightIn k.right_in_count (took LeftIn k.left_in_count t))))) h.left
-      ∙ files_more h.left_in_count h.right_in_count h.left_given_count h.right_given_count h.report_given_count k.left_in_count k.right_in_count k.left_given_count k.right_given_count k.report_given_count a.left;
+      ∙ ap (λ (t : Trace). took ReportGiven k.report_given_count
+      (took RightGiven k.right_given_count (took LeftGiven k.left_given_count (took RightIn k.right_in_count (took LeftIn k.left_in_count t)))))
+      h.left
+      ∙ files_more h.left_in_count h.right_in_count h.left_given_count h.right_given_count h.report_given_count k.left_in_count k.right_in_count
+      k.left_given_count k.right_given_count k.report_given_count a.left;
 }
 
 -- nothing was read any more
 pub files_later : (a b c : Outside) → c.left ≡ b.left → TookFiles a b → TookFiles a c
 files_later a b c e h = files_on a b c h (files_none b c e)
 
-stop_reads : (stop : MergeStop) (m : Merging) (a b : Outside) → StopsBy stop m a b → Reads a b
+pub stop_reads : (stop : MergeStop) (m : Merging) (a b : Outside) → StopsBy stop m a b → Reads a b
 stop_reads (merges.Fault side f place) m a b h = h.0
 stop_reads (merges.Desk slot) m a b h = h.2.reads
 stop_reads merges.OutOfMemory m a b h = absurd h

@@ -3,8 +3,7 @@ use Rattle.std.proofs.Common.{◌≡◌, ℕ, ◌+◌, ◌-◌, ◌*◌, ◌^◌
 use Rattle.std.proofs.lemmas.List.Sums.{fold-append}
 use Rattle.gate_base.specs.Prelude.{other}
 use Rattle.gate_desk.specs.declared.slot.Slot.{Slot}
-use Rattle.gate_desk.specs.declared.desk.Failed.{Failed}
-use Rattle.gate_desk.specs.Outside.{Outside, Takes, HasFailed, told_at}
+use Rattle.gate_desk.specs.Outside.{Outside, Grows, Takes, told_at}
 use Rattle.gate_desk.proofs.Laws.{takes_none, takes_on, told_at-took, grows_takes, failed_since}
 use Rattle.pcap_files.specs.Prelude.{Packet, Records, size, Ended, Broken, Came, Whole, next_at, records_from, Reading, Advances}
 use Rattle.pcap_files.specs.Capture as faults
@@ -15,9 +14,13 @@ use Rattle.pcap_files.specs.declared.fault.ReadStop.TheVariants.{Fault}
 use Rattle.lawful_files.specs.Prelude.{Progress, behind, carries}
 use Rattle.audit_records.proofs.Carried.{carries_few}
 use Rattle.gate_audit.specs.Auditing.{Auditing}
-use Rattle.file_audit.specs.Records.{FindsEnd, Took, judged, TakesSome, TakesRecord, TakesRecords}
+use Rattle.run_setup.specs.declared.status.Status.{Status}
+use Rattle.run_setup.specs.declared.status.Status.TheVariants.{ReadFault}
+use Rattle.file_audit.specs.Inside.Stops.{FailsAt}
+use Rattle.file_audit.specs.Inside.Records.{FindsEnd, Took, judged, TakesSome, TakesRecord, TakesRecords}
 
-none-of : (r : Reading) (o : Option (List ℕ)) → IfSome o (λ octets. records_from r.form r.place octets ≡ with_records [] (records_from r.form r.place (drop (r.place - r.place) octets)))
+none-of : (r : Reading) (o : Option (List ℕ))
+    → IfSome o (λ octets. records_from r.form r.place octets ≡ with_records [] (records_from r.form r.place (drop (r.place - r.place) octets)))
 none-of r None = tt
 none-of r (Some octets) =
     let e : r.place - r.place ≡ 0 = omega arith in
@@ -41,21 +44,30 @@ behind_taken s n a b h = ap (λ t. told_at t s) h.left ∙ told_at-took s n a.le
 
 on-of : (ps qs : List Packet) (r r1 r2 : Reading) (o : Option (List ℕ)) → r1.form ≡ r.form → r.place ≤ r1.place → r1.place ≤ r2.place
     → IfSome o (λ octets. records_from r.form r.place octets ≡ with_records ps (records_from r.form r1.place (drop (r1.place - r.place) octets)))
-    → IfSome (option_map (drop (r1.place - r.place)) o) (λ octets. records_from r1.form r1.place octets ≡ with_records qs (records_from r1.form r2.place (drop (r2.place - r1.place) octets)))
-    → IfSome o (λ octets. records_from r.form r.place octets ≡ with_records (ps ++ qs) (records_from r.form r2.place (drop (r2.place - r.place) octets)))
+    → IfSome (option_map (drop (r1.place - r.place)) o)
+    (λ octets. records_from r1.form r1.place octets ≡ with_records qs (records_from r1.form r2.place (drop (r2.place - r1.place) octets)))
+    → IfSome o
+    (λ octets. records_from r.form r.place octets ≡ with_records (ps ++ qs) (records_from r.form r2.place (drop (r2.place - r.place) octets)))
 on-of ps qs r r1 r2 None form le le' h k = tt
 on-of ps qs r r1 r2 (Some octets) form le le' h k =
     let far : (r1.place - r.place) + (r2.place - r1.place) ≡ r2.place - r.place = omega (arith, le, le') in
     let there = drop (r1.place - r.place) octets in
-    let last : drop (r2.place - r1.place) there ≡ drop (r2.place - r.place) octets = drop-drop (r2.place - r1.place) (r1.place - r.place) octets ∙ ap (λ (n : ℕ). drop n octets) (let e : (r1.place - r.place) + (r2.place - r1.place) ≡ r2.place - r.place = far in e) in
-    let more : records_from r.form r1.place there ≡ with_records qs (records_from r.form r2.place (drop (r2.place - r1.place) there)) = subst (λ f. records_from f r1.place there ≡ with_records qs (records_from f r2.place (drop (r2.place - r1.place) there))) form k in
+    let last : drop (r2.place - r1.place) there ≡ drop (r2.place - r.place) octets = drop-drop (r2.place - r1.place) (r1.place - r.place) octets
+    ∙ ap (λ (n : ℕ). drop n octets) (let e : (r1.place - r.place) + (r2.place - r1.place) ≡ r2.place - r.place = far in e) in
+    let more : records_from r.form r1.place there ≡ with_records qs (records_from r.form r2.place (drop (r2.place - r1.place) there)) =
+    subst (λ f. records_from f r1.place there ≡ with_records qs (records_from f r2.place (drop (r2.place - r1.place) there))) form k in
     h ∙ ap (with_records ps) (more ∙ ap (λ (xs : List ℕ). with_records qs (records_from r.form r2.place xs)) last)
-    ∙ ap (λ (xs : List Packet). let x : Records = record { packets = xs; ending = (records_from r.form r2.place (drop (r2.place - r.place) octets)).ending } in x) (sym (append_assoc ps qs (records_from r.form r2.place (drop (r2.place - r.place) octets)).packets))
+    ∙ ap (λ (xs : List Packet). let x : Records =
+    record { packets = xs; ending = (records_from r.form r2.place (drop (r2.place - r.place) octets)).ending } in x)
+    (sym (append_assoc ps qs (records_from r.form r2.place (drop (r2.place - r.place) octets)).packets))
 
 judged_on : (a : Auditing) (ps qs : List Packet) → judged (judged a ps) qs ≡ judged a (ps ++ qs)
-judged_on a ps qs = ap (λ (p : Progress). let x : Auditing = record a { expecting = record a.expecting { so_far = p } } in x) (sym (fold-append (behind a.settings (other a.expecting.side) a.expecting.moment a.expecting.wanted) a.expecting.so_far ps qs))
+judged_on a ps qs =
+    ap (λ (p : Progress). let x : Auditing = record a { expecting = record a.expecting { so_far = p } } in x)
+    (sym (fold-append (behind a.settings (other a.expecting.side) a.expecting.moment a.expecting.wanted) a.expecting.so_far ps qs))
 
-pub took_on : (ps qs : List Packet) (r r1 r2 : Reading) (a a1 a2 : Auditing) (o o1 o2 : Outside) → Took ps r r1 a a1 o o1 → Took qs r1 r2 a1 a2 o1 o2 → Took (ps ++ qs) r r2 a a2 o o2
+pub took_on : (ps qs : List Packet) (r r1 r2 : Reading) (a a1 a2 : Auditing) (o o1 o2 : Outside) → Took ps r r1 a a1 o o1 → Took qs r1 r2 a1 a2 o1 o2
+    → Took (ps ++ qs) r r2 a a2 o o2
 took_on ps qs r r1 r2 a a1 a2 o o1 o2 h k = record {
   slot = k.slot ∙ h.slot;
   form = k.form ∙ h.form;
@@ -63,9 +75,13 @@ took_on ps qs r r1 r2 a a1 a2 o o1 o2 h k = record {
   further = omega (arith, h.further, k.further, length-append ps qs);
   takes =
       let far : (r1.place - r.place) + (r2.place - r1.place) ≡ r2.place - r.place = omega (arith, h.further, k.further) in
-      subst (λ (n : ℕ). Takes r.slot n o o2) far (takes_on r.slot (r1.place - r.place) (r2.place - r1.place) o o1 o2 h.takes (subst (λ s. Takes s (r2.place - r1.place) o1 o2) h.slot k.takes));
+      subst (λ (n : ℕ). Takes r.slot n o o2) far
+      (takes_on r.slot (r1.place - r.place) (r2.place - r1.place) o o1 o2 h.takes
+      (subst (λ s. Takes s (r2.place - r1.place) o1 o2) h.slot k.takes));
   ahead = on-of ps qs r r1 r2 (told_at o.left r.slot) h.form (omega (arith, h.further)) (omega (arith, k.further)) h.ahead
-      (subst (λ t. IfSome t (λ octets. records_from r1.form r1.place octets ≡ with_records qs (records_from r1.form r2.place (drop (r2.place - r1.place) octets)))) (ap (told_at o1.left) h.slot ∙ behind_taken r.slot (r1.place - r.place) o o1 h.takes) k.ahead);
+      (subst (λ t. IfSome t
+      (λ octets. records_from r1.form r1.place octets ≡ with_records qs (records_from r1.form r2.place (drop (r2.place - r1.place) octets))))
+      (ap (told_at o1.left) h.slot ∙ behind_taken r.slot (r1.place - r.place) o o1 h.takes) k.ahead);
   small = λ s. k.small (h.small s);
   audited = k.audited ∙ ap (λ (x : Auditing). judged x qs) h.audited ∙ judged_on a ps qs;
 }
@@ -73,14 +89,22 @@ took_on ps qs r r1 r2 a a1 a2 o o1 o2 h k = record {
 -- ## One record
 
 came-of : (r : Reading) (p : Packet) (o : Option (List ℕ)) → IfSome o (λ octets. next_at r.form r.place octets ≡ Came p)
-    → IfSome o (λ octets. records_from r.form r.place octets ≡ with_records (p ∷ []) (records_from r.form (r.place + size p) (drop ((r.place + size p) - r.place) octets)))
+    → IfSome o
+    (λ octets. records_from r.form r.place octets ≡ with_records (p ∷ [])
+    (records_from r.form (r.place + size p) (drop ((r.place + size p) - r.place) octets)))
 came-of r p None h = tt
 came-of r p (Some octets) h =
     let e : (r.place + size p) - r.place ≡ size p = omega arith in
     records-came r.form r.place octets p h ∙ ap (λ (n : ℕ). with_records (p ∷ []) (records_from r.form (r.place + size p) (drop n octets))) (sym e)
 
-pub took_one : (r r' : Reading) (p : Packet) (a a' : Auditing) (old new : Outside) → r.stop ≡ None → r' ≡ record r { packet = Some p; place = r.place + size p } → r.place + size p ≤ 2 ^ 40 → Takes r.slot (size p) old new
-    → IfSome (told_at old.left r.slot) (λ octets. next_at r.form r.place octets ≡ Came p) → a' ≡ record a { expecting = record a.expecting { so_far = behind a.settings (other a.expecting.side) a.expecting.moment a.expecting.wanted a.expecting.so_far p } } → Took (p ∷ []) r r' a a' old new
+pub took_one : (r r' : Reading) (p : Packet) (a a' : Auditing) (old new : Outside) → r.stop ≡ None
+    → r' ≡ record r { packet = Some p; place = r.place + size p } → r.place + size p ≤ 2 ^ 40 → Takes r.slot (size p) old new
+    → IfSome (told_at old.left r.slot) (λ octets. next_at r.form r.place octets ≡ Came p)
+    → a' ≡ record a {
+      expecting =
+          record a.expecting { so_far = behind a.settings (other a.expecting.side) a.expecting.moment a.expecting.wanted a.expecting.so_far p };
+    }
+    → Took (p ∷ []) r r' a a' old new
 took_one r r' p a a' old new running is few takes next audited =
     subst (λ (x : Reading). Took (p ∷ []) r x a a' old new) (sym is) (record {
       slot = refl;
@@ -93,11 +117,13 @@ took_one r r' p a a' old new running is few takes next audited =
       audited = audited;
     })
 
-ended-of : (r : Reading) (o : Option (List ℕ)) → IfSome o (λ octets. next_at r.form r.place octets ≡ Ended) → IfSome o (λ octets. length (records_from r.form r.place octets).packets ≡ 0)
+ended-of : (r : Reading) (o : Option (List ℕ)) → IfSome o (λ octets. next_at r.form r.place octets ≡ Ended)
+    → IfSome o (λ octets. length (records_from r.form r.place octets).packets ≡ 0)
 ended-of r None h = tt
 ended-of r (Some octets) h = ap (λ (x : Records). length x.packets) (records-ended r.form r.place octets h)
 
-broken-of : (f : _) (r : Reading) (o : Option (List ℕ)) → IfSome o (λ octets. next_at r.form r.place octets ≡ Broken f) → IfSome o (λ octets. length (records_from r.form r.place octets).packets ≡ 0)
+broken-of : (f : _) (r : Reading) (o : Option (List ℕ)) → IfSome o (λ octets. next_at r.form r.place octets ≡ Broken f)
+    → IfSome o (λ octets. length (records_from r.form r.place octets).packets ≡ 0)
 broken-of f r None h = tt
 broken-of f r (Some octets) h = ap (λ (x : Records). length x.packets) (records-broken r.form r.place octets f h)
 
@@ -115,44 +141,73 @@ fewer-of ps n r r1 (Some octets) form few h k =
     omega (arith, all, none, few, length-append ps rest.packets)
 
 some_on : (ps : List Packet) (r r1 : Reading) (a a1 : Auditing) (o o1 o2 : Outside) → Took ps r r1 a a1 o o1 → TakesSome r1 o1 o2 → TakesSome r o o2
-some_on ps r r1 a a1 o o1 o2 h k = ((r1.place - r.place) + k.0, takes_on r.slot (r1.place - r.place) k.0 o o1 o2 h.takes (subst (λ s. Takes s k.0 o1 o2) h.slot k.1))
+some_on ps r r1 a a1 o o1 o2 h k =
+    ((r1.place - r.place) + k.0, takes_on r.slot (r1.place - r.place) k.0 o o1 o2 h.takes (subst (λ s. Takes s k.0 o1 o2) h.slot k.1))
 
-pub took_fewer : (ps : List Packet) (n : ℕ) (r r1 r2 : Reading) (a a1 a2 a3 : Auditing) (o o1 o2 : Outside) → length ps < n → Took ps r r1 a a1 o o1 → TakesRecord (Ok false) r1 r2 a1 a2 o1 o2 → TakesRecords (Ok false) n r r2 a a3 o o2
+pub took_fewer : (ps : List Packet) (n : ℕ) (r r1 r2 : Reading) (a a1 a2 a3 : Auditing) (o o1 o2 : Outside) → length ps < n → Took ps r r1 a a1 o o1
+    → TakesRecord (Ok false) r1 r2 a1 a2 o1 o2 → TakesRecords (Ok false) n r r2 a a3 o o2
 took_fewer ps n r r1 r2 a a1 a2 a3 o o1 o2 few h k = (
   some_on ps r r1 a a1 o o1 o2 h k.0,
   fewer-of ps n r r1 (told_at o.left r.slot) h.form few h.ahead
-      (subst (λ t. IfSome t (λ octets. length (records_from r1.form r1.place octets).packets ≡ 0)) (ap (told_at o1.left) h.slot ∙ behind_taken r.slot (r1.place - r.place) o o1 h.takes) k.1),
+      (subst (λ t. IfSome t (λ octets. length (records_from r1.form r1.place octets).packets ≡ 0))
+      (ap (told_at o1.left) h.slot ∙ behind_taken r.slot (r1.place - r.place) o o1 h.takes) k.1),
 )
 
-pub took_failed : (ps : List Packet) (n : ℕ) (e : Failed) (r r1 r2 : Reading) (a a1 a2 a3 : Auditing) (o o1 o2 : Outside) → Took ps r r1 a a1 o o1 → TakesRecord (Err e) r1 r2 a1 a2 o1 o2 → TakesRecords (Err e) n r r2 a a3 o o2
-took_failed ps n e r r1 r2 a a1 a2 a3 o o1 o2 h k =
-    (some_on ps r r1 a a1 o o1 o2 h k.0, failed_since r.slot o o1 o2 (grows_takes r.slot (r1.place - r.place) o o1 h.takes) (subst (λ s. HasFailed s o1 o2) h.slot k.1))
+failed_on : (stop : Status) (slot : Slot) (a b c : Outside) → Grows a b → FailsAt stop slot b c → FailsAt stop slot a c
+failed_on (ReadFault s) slot a b c grows k = (k.0, failed_since slot a b c grows k.1)
+failed_on stop slot a b c grows k = absurd k
 
-pub take_one : (r r' : Reading) (q : Packet) (a a' : Auditing) (old new : Outside) → r.stop ≡ None → Advances (Ok true) r r' old new → r'.packet ≡ Some q → a' ≡ record a { expecting = record a.expecting { so_far = behind a.settings (other a.expecting.side) a.expecting.moment a.expecting.wanted a.expecting.so_far q } } → TakesRecord (Ok true) r r' a a' old new
+pub took_failed : (ps : List Packet) (n : ℕ) (e : Status) (r r1 r2 : Reading) (a a1 a2 a3 : Auditing) (o o1 o2 : Outside) → Took ps r r1 a a1 o o1
+    → TakesRecord (Err e) r1 r2 a1 a2 o1 o2 → TakesRecords (Err e) n r r2 a a3 o o2
+took_failed ps n e r r1 r2 a a1 a2 a3 o o1 o2 h k = (
+  some_on ps r r1 a a1 o o1 o2 h k.0,
+  failed_on e r.slot o o1 o2 (grows_takes r.slot (r1.place - r.place) o o1 h.takes) (subst (λ s. FailsAt e s o1 o2) h.slot k.1),
+)
+
+pub take_one : (r r' : Reading) (q : Packet) (a a' : Auditing) (old new : Outside) → r.stop ≡ None → Advances (Ok true) r r' old new
+    → r'.packet ≡ Some q → a' ≡ record a {
+      expecting = record a.expecting
+          { so_far = behind a.settings (other a.expecting.side) a.expecting.moment a.expecting.wanted a.expecting.so_far q };
+    }
+    → TakesRecord (Ok true) r r' a a' old new
 take_one r r' q a a' old new running h held audited =
     let found : Some h.0 ≡ Some q = sym (ap (λ (x : Reading). x.packet) h.3) ∙ held in
-    let same : h.0 ≡ q = cc in
-    (h.0, h.1.octets, took_one r r' h.0 a a' old new running h.3 h.2 h.4 h.5 (subst (λ (x : Packet). a' ≡ record a { expecting = record a.expecting { so_far = behind a.settings (other a.expecting.side) a.expecting.moment a.expecting.wanted a.expecting.so_far x } }) (sym same) audited))
+    let same : h.0 ≡ q = cc in (
+      h.0,
+      h.1.octets,
+      took_one r r' h.0 a a' old new running h.3 h.2 h.4 h.5
+          (subst (λ (x : Packet). a' ≡ record a {
+            expecting =
+                record a.expecting
+                { so_far = behind a.settings (other a.expecting.side) a.expecting.moment a.expecting.wanted a.expecting.so_far x };
+          })
+          (sym same) audited),
+    )
 
 pub take_end : (r r' : Reading) (a a' : Auditing) (old new : Outside) → Advances (Ok false) r r' old new → TakesRecord (Ok false) r r' a a' old new
 take_end r r' a a' old new h = ((0, h.1), ended-of r (told_at old.left r.slot) h.2)
 
-pub take_fault : (f : CaptureFault) (place : ℕ) (r r' : Reading) (a a' : Auditing) (old new : Outside) → Advances (Err (Fault f place)) r r' old new → TakesRecord (Ok false) r r' a a' old new
+pub take_fault : (f : CaptureFault) (place : ℕ) (r r' : Reading) (a a' : Auditing) (old new : Outside) → Advances (Err (Fault f place)) r r' old new
+    → TakesRecord (Ok false) r r' a a' old new
 take_fault f place r r' a a' old new h = ((h.2.count, h.2.takes), broken-of f r (told_at old.left r.slot) h.3)
 
 -- what is kept behind one record
-pub counted_one : (p : Packet) (a a' : Auditing) (n : ℕ) → length p.octets ≤ 262144 → a' ≡ judged a (p ∷ []) → a.lost ≡ false → a.expecting.so_far.count ≡ n → a.expecting.so_far.carried ≤ 262144 * n → (a'.lost ≡ false) × (a'.expecting.so_far.count ≡ n + 1) × (a'.expecting.so_far.carried ≤ 262144 * (n + 1))
+pub counted_one : (p : Packet) (a a' : Auditing) (n : ℕ) → length p.octets ≤ 262144 → a' ≡ judged a (p ∷ []) → a.lost ≡ false
+    → a.expecting.so_far.count ≡ n → a.expecting.so_far.carried ≤ 262144 * n → (a'.lost ≡ false) × (a'.expecting.so_far.count ≡ n + 1)
+    × (a'.expecting.so_far.carried ≤ 262144 * (n + 1))
 counted_one p a a' n small is kept count few = (
   ap (λ (x : Auditing). x.lost) is ∙ kept,
   ap (λ (x : Auditing). x.expecting.so_far.count) is ∙ ap (λ (m : ℕ). m + 1) count,
-  let more : a'.expecting.so_far.carried ≡ a.expecting.so_far.carried + carries a.settings (other a.expecting.side) a.expecting.wanted p = ap (λ (x : Auditing). x.expecting.so_far.carried) is in
+  let more : a'.expecting.so_far.carried ≡ a.expecting.so_far.carried + carries a.settings (other a.expecting.side) a.expecting.wanted p =
+      ap (λ (x : Auditing). x.expecting.so_far.carried) is in
       let little = carries_few a.settings (other a.expecting.side) a.expecting.wanted p in
       omega (arith, more, little, small, few),
 )
 
 -- ## The end of a capture
 
-end_more-of : (r : Reading) (p : Packet) (o : Option (List ℕ)) → IfSome o (λ octets. next_at r.form r.place octets ≡ Came p) → IfSome o (λ octets. records_from r.form r.place octets ≡ record { packets = []; ending = Whole } → ⊥)
+end_more-of : (r : Reading) (p : Packet) (o : Option (List ℕ)) → IfSome o (λ octets. next_at r.form r.place octets ≡ Came p)
+    → IfSome o (λ octets. records_from r.form r.place octets ≡ record { packets = []; ending = Whole } → ⊥)
 end_more-of r p None h = tt
 end_more-of r p (Some octets) h = λ e.
     let none = ap (λ (x : Records). length x.packets) (sym (records-came r.form r.place octets p h) ∙ e) in
@@ -161,7 +216,8 @@ end_more-of r p (Some octets) h = λ e.
 pub end_more : (r r' : Reading) (old new : Outside) → Advances (Ok true) r r' old new → FindsEnd (Ok false) r old new
 end_more r r' old new h = ((size h.0, h.4), end_more-of r h.0 (told_at old.left r.slot) h.5)
 
-end_ended-of : (r : Reading) (o : Option (List ℕ)) → IfSome o (λ octets. next_at r.form r.place octets ≡ Ended) → IfSome o (λ octets. records_from r.form r.place octets ≡ record { packets = []; ending = Whole })
+end_ended-of : (r : Reading) (o : Option (List ℕ)) → IfSome o (λ octets. next_at r.form r.place octets ≡ Ended)
+    → IfSome o (λ octets. records_from r.form r.place octets ≡ record { packets = []; ending = Whole })
 end_ended-of r None h = tt
 end_ended-of r (Some octets) h = records-ended r.form r.place octets h
 
@@ -171,9 +227,11 @@ end_ended r r' old new h = ((0, h.1), end_ended-of r (told_at old.left r.slot) h
 not_whole : (f : CaptureFault) (place : ℕ) → faults.Fault f place ≡ Whole → ⊥
 not_whole f place e = cc
 
-end_broken-of : (f : CaptureFault) (r : Reading) (o : Option (List ℕ)) → IfSome o (λ octets. next_at r.form r.place octets ≡ Broken f) → IfSome o (λ octets. records_from r.form r.place octets ≡ record { packets = []; ending = Whole } → ⊥)
+end_broken-of : (f : CaptureFault) (r : Reading) (o : Option (List ℕ)) → IfSome o (λ octets. next_at r.form r.place octets ≡ Broken f)
+    → IfSome o (λ octets. records_from r.form r.place octets ≡ record { packets = []; ending = Whole } → ⊥)
 end_broken-of f r None h = tt
 end_broken-of f r (Some octets) h = λ e. not_whole f r.place (ap (λ (x : Records). x.ending) (sym (records-broken r.form r.place octets f h) ∙ e))
 
-pub end_broken : (f : CaptureFault) (place : ℕ) (r r' : Reading) (old new : Outside) → Advances (Err (Fault f place)) r r' old new → FindsEnd (Ok false) r old new
+pub end_broken : (f : CaptureFault) (place : ℕ) (r r' : Reading) (old new : Outside) → Advances (Err (Fault f place)) r r' old new
+    → FindsEnd (Ok false) r old new
 end_broken f place r r' old new h = ((h.2.count, h.2.takes), end_broken-of f r (told_at old.left r.slot) h.3)

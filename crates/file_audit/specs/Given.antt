@@ -1,22 +1,15 @@
 -- The given files as far as they are read.
-use Rattle.std.specs.Prelude.{◌≡◌, ◌≤◌, ◌^◌, ℕ, List, ◌++◌, take, drop, Option, Some, None, IfSome, option_map}
+use Rattle.std.specs.Prelude.{◌≡◌, ◌≤◌, ◌^◌, ℕ, List, ◌++◌, Option, None, IfSome, option_map}
 use Rattle.gate_base.specs.declared.side.Side.{Side}
 use Rattle.gate_base.specs.declared.side.Side.TheVariants.{Left, Right}
 use Rattle.gate_desk.specs.declared.slot.Slot.{Slot}
 use Rattle.gate_desk.specs.declared.slot.Slot.TheVariants.{LeftIn, RightIn, LeftGiven, RightGiven, ReportGiven}
 use Rattle.gate_desk.specs.declared.slot.PerSlot.{PerSlot}
-use Rattle.gate_desk.specs.Outside.{Outside, Trace, Grows, Takes, told_at, took}
+use Rattle.gate_desk.specs.Outside.{Outside, Trace, Grows, took}
 use Rattle.gate_report.specs.declared.totals.Totals.{Totals}
 use Rattle.pcap_files.specs.Prelude.{records_from}
 use Rattle.lawful_files.specs.Prelude.{Given}
 use Rattle.file_audit.specs.declared.given.GivenFiles.{GivenFiles}
-
--- the octets that were read ahead are as many as there is room for, or all that are left, and nothing of the report was lost
-pub record Fills (ahead ahead' : List ℕ) (old new : Outside) : Type 0 where
-  pub count : ℕ
-  pub takes : Takes ReportGiven count old new
-  pub first : IfSome (told_at old.left ReportGiven) (λ all. ahead' ≡ take 256 (ahead ++ all))
-  pub whole : IfSome (told_at old.left ReportGiven) (λ all. ahead' ++ drop count all ≡ ahead ++ all)
 
 abbrev pub given_slot : Side → Slot
 given_slot Left = LeftGiven
@@ -49,12 +42,6 @@ pub record Fits (totals : Totals) (g : GivenFiles) : Type 0 where
   pub passed : totals.passed ≤ totals.events
   pub refused : totals.refused ≤ totals.events
 
--- two values that are told or not, both alike, and where they are, in this relation
-abbrev pub Alike : {A B : Type 0} → (A → B → Type 0) → Option A → Option B → Type 0
-Alike R (Some a) (Some b) = R a b
-Alike R None None = Unit {0}
-Alike R _ _ = ⊥
-
 -- two values, where both are told
 abbrev pub IfBoth : {A B : Type 0} → Option A → Option B → (A → B → Type 0) → Type 0
 IfBoth o p R = IfSome o (λ a. IfSome p (λ b. R a b))
@@ -77,4 +64,5 @@ pub record TookFiles (old new : Outside) : Type 0 where
   pub left_given_count : ℕ
   pub right_given_count : ℕ
   pub report_given_count : ℕ
-  pub left : new.left ≡ took ReportGiven report_given_count (took RightGiven right_given_count (took LeftGiven left_given_count (took RightIn right_in_count (took LeftIn left_in_count old.left))))
+  pub left : new.left ≡ took ReportGiven report_given_count
+      (took RightGiven right_given_count (took LeftGiven left_given_count (took RightIn right_in_count (took LeftIn left_in_count old.left))))

@@ -1,6 +1,4 @@
-pub mod Lines
-pub mod Given
-pub mod Records
-pub mod Events
-pub mod Frames
 pub mod Stops
+pub mod Given
+pub mod Events
+pub mod Inside

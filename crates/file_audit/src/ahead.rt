@@ -1,10 +1,12 @@
 // The given report, as far as it is read.
-ghost use Rattle.std.specs.Prelude.{◌≡◌, ◌≤◌, [], drop, length, OnOk, OnErr};
+ghost use Rattle.std.specs.Prelude.{◌≡◌, ◌≤◌, [], drop, length, IfErr, OnOk, OnErr};
 ghost use Rattle.gate_desk.specs.declared.slot.Slot.TheVariants.{ReportGiven};
-ghost use Rattle.gate_desk.specs.Outside.{CanRead, TakesFewer, HasFailed};
-ghost use Rattle.file_audit.specs.Given.{Fills};
+ghost use Rattle.gate_desk.specs.Outside.{CanRead, TakesFewer};
+ghost use Rattle.file_audit.specs.Inside.Given.{Fills};
+ghost use Rattle.file_audit.specs.Inside.Stops.{FailsAt, LeavesFaults};
 
 use gate_desk::{Desk, Failed, Slot, read_full};
+use run_setup::Status;
 use std::marker::Model;
 
 /// The most octets that are read ahead: more than a line has, as text or as JSON.
@@ -39,23 +41,27 @@ impl Ahead {
     }
 
     /// Reads as many octets as there is room for, or all that are left. The error is that a read failed.
-    pub fn fill<D: Desk>(&mut self, desk: &mut D) -> Result<(), Failed>
+    pub fn fill<D: Desk>(&mut self, desk: &mut D) -> Result<(), Status>
         requires { CanRead (D.outside desk.old) ReportGiven }
         ensures ok { OnOk result
             (Fills self.old self.new (D.outside desk.old) (D.outside desk.new)) }
         ensures err { OnErr result
             (TakesFewer ReportGiven 256 (D.outside desk.old) (D.outside desk.new)) }
-        ensures cause { OnErr result
-            (HasFailed ReportGiven (D.outside desk.old) (D.outside desk.new)) }
-        ensures leaves { OnOk result
-            ((D.outside desk.new).faults ≡ (D.outside desk.old).faults) }
+        ensures cause { IfErr result (λ stop. FailsAt stop ReportGiven
+            (D.outside desk.old) (D.outside desk.new)) }
+        ensures leaves { LeavesFaults result (D.outside desk.old)
+            (D.outside desk.new) }
     {
-        let n = read_full(desk, Slot::ReportGiven, &mut self.room[self.count..])?;
-        self.count += n;
-        Ok(())
+        match read_full(desk, Slot::ReportGiven, &mut self.room[self.count..]) {
+            Ok(n) => {
+                self.count += n;
+                Ok(())
+            }
+            Err(Failed) => Err(Status::ReadFault(Slot::ReportGiven)),
+        }
     }
 
-    /// The octets.
+    /// The octets that were read and not taken yet.
     pub fn octets(&self) -> &[u8]
         ensures { result.now ≡ self.now }
     {

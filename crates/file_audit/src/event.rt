@@ -1,23 +1,21 @@
 // What is found at a frame, and behind the last one.
-ghost use Rattle.std.specs.Prelude.{◌≡◌, ◌<◌, ◌^◌, false, length};
+ghost use Rattle.std.specs.Prelude.{◌≡◌, ◌<◌, ◌^◌, length};
 ghost use Rattle.gate_base.specs.Prelude.{IsMoment};
 ghost use Rattle.frag_join.specs.Prelude.{Arrival};
-ghost use Rattle.gate_desk.specs.Outside.{CanRead};
-ghost use Rattle.gate_desk.specs.declared.slot.Slot.TheVariants.{LeftGiven, RightGiven, ReportGiven};
 ghost use Rattle.lawful_files.specs.Prelude.{HaveMacAddresses, State, begun};
-ghost use Rattle.file_audit.specs.Events.{state_of, FindsAt, FindsLast, IsExpecting};
-ghost use Rattle.file_audit.specs.Given.{Fits, IsRunning, ReadsGiven};
-ghost use Rattle.file_audit.specs.Stops.{LeavesFaults};
+ghost use Rattle.file_audit.specs.Inside.Events.{state_of, CanGoOn, FindsAt, FindsLast, IsExpecting};
+ghost use Rattle.file_audit.specs.Given.{ReadsGiven};
+ghost use Rattle.file_audit.specs.Inside.Stops.{LeavesFaults};
 
 use crate::given::{GivenFiles, take_next};
 use crate::line::{LineHead, take_last, take_line};
 use crate::records::is_at_end;
-use crate::stop::AuditStop;
 use gate_audit::Auditor;
-use gate_desk::{Desk, Failed, Slot};
+use gate_desk::Desk;
 use gate_report::Totals;
 use gate_settings::Settings;
 use lawful_files::AuditReason;
+use run_setup::Status;
 use std::alloc::Global;
 
 // An Ethernet address has six octets, by its type.
@@ -46,17 +44,11 @@ pub fn take_event<D: Desk>(
     auditor: &mut Auditor,
     totals: Totals,
     head: LineHead,
-) -> Result<Totals, AuditStop>
-    requires left { CanRead (D.outside desk.old) LeftGiven }
-    requires right { CanRead (D.outside desk.old) RightGiven }
-    requires report { CanRead (D.outside desk.old) ReportGiven }
-    requires running { IsRunning given.old }
-    requires kept { auditor.old.lost ≡ false }
+) -> Result<Totals, Status>
+    requires can { CanGoOn given.old auditor.old totals (D.outside desk.old) }
     requires begun { auditor.old.expecting.so_far ≡ begun }
     requires number { head.number < 2 ^ 43 }
-    requires few { totals.events < 2 ^ 42 }
     requires moment { IsMoment head.moment.0 }
-    requires fits { Fits totals given.old }
     ensures answer { (s : State) (x : Arrival)
         → IsExpecting head totals auditor.old s x
         → FindsAt result s x given.old given.new auditor.old auditor.new
@@ -66,20 +58,15 @@ pub fn take_event<D: Desk>(
 {
     have_addresses(auditor.settings());
     let form = auditor.settings().report;
-    let frames = match take_line(alloc, desk, &mut given.report, form, head) {
-        Ok(Some(frames)) => frames,
-        Ok(None) => return Err(AuditStop::Unlawful(head.number, AuditReason::Line)),
-        Err(stop) => return Err(stop),
+    let Some(frames) = take_line(alloc, desk, &mut given.report, form, head)? else {
+        return Err(Status::Unlawful(head.number, AuditReason::Line));
     };
-    let there = match take_next(desk, given, auditor, head.side, frames) {
-        Ok(there) => there,
-        Err(stop) => return Err(stop),
-    };
+    let there = take_next(desk, given, auditor, head.side, frames)?;
     if !there {
-        return Err(AuditStop::Unlawful(head.number, AuditReason::Missing));
+        return Err(Status::Unlawful(head.number, AuditReason::Missing));
     }
     if !auditor.closed() {
-        return Err(AuditStop::Unlawful(head.number, AuditReason::Frame));
+        return Err(Status::Unlawful(head.number, AuditReason::Frame));
     }
     Ok(totals.count(head.side, head.verdict, frames))
 }
@@ -91,41 +78,30 @@ pub fn take_rest<D: Desk>(
     given: &mut GivenFiles,
     auditor: &Auditor,
     totals: Totals,
-) -> Result<(), AuditStop>
-    requires left { CanRead (D.outside desk.old) LeftGiven }
-    requires right { CanRead (D.outside desk.old) RightGiven }
-    requires report { CanRead (D.outside desk.old) ReportGiven }
-    requires running { IsRunning given.old }
-    requires kept { auditor.now.lost ≡ false }
-    requires few { totals.events < 2 ^ 42 }
-    requires fits { Fits totals given.old }
+) -> Result<(), Status>
+    requires { CanGoOn given.old auditor.now totals (D.outside desk.old) }
     ensures answer { FindsLast result auditor.now.settings
         (state_of auditor.now totals) given.old (D.outside desk.old)
         (D.outside desk.new) }
     ensures reads { ReadsGiven (D.outside desk.old) (D.outside desk.new) }
     ensures leaves { LeavesFaults result (D.outside desk.old) (D.outside desk.new) }
 {
-    let left = AuditStop::Unlawful(totals.events + 1, AuditReason::Left);
-    match is_at_end(desk, &mut given.left) {
-        Ok(true) => {}
-        Ok(false) => return Err(left),
-        Err(Failed) => return Err(AuditStop::Desk(Slot::LeftGiven)),
+    let left = Status::Unlawful(totals.events + 1, AuditReason::Left);
+    let left_ended = is_at_end(desk, &mut given.left)?;
+    if !left_ended {
+        return Err(left);
     }
-    match is_at_end(desk, &mut given.right) {
-        Ok(true) => {}
-        Ok(false) => return Err(left),
-        Err(Failed) => return Err(AuditStop::Desk(Slot::RightGiven)),
+    let right_ended = is_at_end(desk, &mut given.right)?;
+    if !right_ended {
+        return Err(left);
     }
     let line = totals.last_line(auditor.pending());
-    match take_last(
+    let alone = take_last(
         alloc,
         desk,
         &mut given.report,
         auditor.settings().report,
         &line,
-    ) {
-        Ok(true) => Ok(()),
-        Ok(false) => Err(left),
-        Err(stop) => Err(stop),
-    }
+    )?;
+    if alone { Ok(()) } else { Err(left) }
 }

@@ -2,7 +2,7 @@
 ghost use Rattle.std.specs.Prelude.{◌≡◌, false, OnOk};
 ghost use Rattle.gate_base.specs.Prelude.{IsMoment, event_of};
 ghost use Rattle.frag_join.specs.Prelude.{Reaches, Stopped, arrival, joiner_after, by_known};
-ghost use Rattle.file_audit.specs.Events.{Expected};
+ghost use Rattle.file_audit.specs.Inside.Events.{Expected};
 
 use crate::line::LineHead;
 use frag_join::{Joiner, Taken, ask, joined};
@@ -20,15 +20,13 @@ fn expect_event(
     ensures { Expected result number auditor.old auditor.new
         (Reaches (event_of event.entry)) }
 {
-    match auditor.expect(&event) {
-        Ok(verdict) => Ok(LineHead {
-            number,
-            side: event.side,
-            moment: event.moment,
-            verdict,
-        }),
-        Err(OutOfMemory) => Err(OutOfMemory),
-    }
+    let verdict = auditor.expect(&event)?;
+    Ok(LineHead {
+        number,
+        side: event.side,
+        moment: event.moment,
+        verdict,
+    })
 }
 
 // The auditor expects nothing of a frame that stays.

@@ -4,19 +4,20 @@ ghost use Rattle.gate_desk.specs.Outside.{CanRead};
 ghost use Rattle.gate_desk.specs.declared.slot.Slot.TheVariants.{LeftGiven, RightGiven};
 ghost use Rattle.lawful_files.specs.Prelude.{begun};
 ghost use Rattle.file_audit.specs.Events.{BeginsGiven};
-ghost use Rattle.file_audit.specs.Frames.{BeginsCapture, TakesNext};
+ghost use Rattle.file_audit.specs.Inside.Frames.{BeginsCapture, TakesNext};
 ghost use Rattle.file_audit.specs.Given.{IsRunning, ReadsGiven};
-ghost use Rattle.file_audit.specs.Stops.{LeavesCounts, LeavesFaults};
+ghost use Rattle.file_audit.specs.Stops.{LeavesCounts};
+ghost use Rattle.file_audit.specs.Inside.Stops.{LeavesFaults};
 
 use crate::ahead::Ahead;
 use crate::records::take_records;
-use crate::stop::AuditStop;
 use gate_audit::Auditor;
 use gate_base::{Link, Side};
-use gate_desk::{Desk, Failed, Slot};
+use gate_desk::{Desk, Slot};
 use gate_settings::Settings;
 use lawful_files::AuditReason;
 use pcap_files::{CaptureReader, ReadStop};
+use run_setup::Status;
 use std::alloc::Global;
 
 /// The given files as far as they are read: both captures record by record, and the report with what of it was read ahead.
@@ -43,7 +44,7 @@ fn begin_capture<D: Desk>(
     desk: &mut D,
     slot: Slot,
     link: Link,
-) -> Result<CaptureReader, AuditStop>
+) -> Result<CaptureReader, Status>
     requires { CanRead (D.outside desk.old) slot }
     ensures begins { BeginsCapture result slot link (D.outside desk.old)
         (D.outside desk.new) }
@@ -52,13 +53,13 @@ fn begin_capture<D: Desk>(
     match CaptureReader::begin(alloc, desk, slot) {
         Ok(reader) => {
             if reader.link() != link {
-                return Err(AuditStop::Unlawful(0, AuditReason::Capture));
+                return Err(Status::Unlawful(0, AuditReason::Capture));
             }
             Ok(reader)
         }
-        Err(ReadStop::Fault(_, _)) => Err(AuditStop::Unlawful(0, AuditReason::Capture)),
-        Err(ReadStop::Desk(slot)) => Err(AuditStop::Desk(slot)),
-        Err(ReadStop::OutOfMemory) => Err(AuditStop::OutOfMemory),
+        Err(ReadStop::Fault(_, _)) => Err(Status::Unlawful(0, AuditReason::Capture)),
+        Err(ReadStop::Desk(slot)) => Err(Status::ReadFault(slot)),
+        Err(ReadStop::OutOfMemory) => Err(Status::OutOfMemory),
     }
 }
 
@@ -69,7 +70,7 @@ impl GivenFiles {
         alloc: Global,
         desk: &mut D,
         settings: &Settings,
-    ) -> Result<GivenFiles, AuditStop>
+    ) -> Result<GivenFiles, Status>
         requires left { CanRead (D.outside desk.old) LeftGiven }
         requires right { CanRead (D.outside desk.old) RightGiven }
         ensures answer { BeginsGiven result settings.now (D.outside desk.old)
@@ -78,14 +79,8 @@ impl GivenFiles {
         ensures leaves { LeavesCounts result (D.outside desk.old)
             (D.outside desk.new) }
     {
-        let left = match begin_capture(alloc, desk, Slot::LeftGiven, settings.left.link) {
-            Ok(left) => left,
-            Err(stop) => return Err(stop),
-        };
-        let right = match begin_capture(alloc, desk, Slot::RightGiven, settings.right.link) {
-            Ok(right) => right,
-            Err(stop) => return Err(stop),
-        };
+        let left = begin_capture(alloc, desk, Slot::LeftGiven, settings.left.link)?;
+        let right = begin_capture(alloc, desk, Slot::RightGiven, settings.right.link)?;
         Ok(GivenFiles {
             left,
             right,
@@ -102,7 +97,7 @@ pub fn take_next<D: Desk>(
     auditor: &mut Auditor,
     from: Side,
     frames: u32,
-) -> Result<bool, AuditStop>
+) -> Result<bool, Status>
     requires left { CanRead (D.outside desk.old) LeftGiven }
     requires right { CanRead (D.outside desk.old) RightGiven }
     requires running { IsRunning given.old }
@@ -114,13 +109,7 @@ pub fn take_next<D: Desk>(
     ensures leaves { LeavesFaults result (D.outside desk.old) (D.outside desk.new) }
 {
     match from {
-        Side::Left => match take_records(desk, &mut given.right, auditor, frames) {
-            Ok(there) => Ok(there),
-            Err(Failed) => Err(AuditStop::Desk(Slot::RightGiven)),
-        },
-        Side::Right => match take_records(desk, &mut given.left, auditor, frames) {
-            Ok(there) => Ok(there),
-            Err(Failed) => Err(AuditStop::Desk(Slot::LeftGiven)),
-        },
+        Side::Left => take_records(desk, &mut given.right, auditor, frames),
+        Side::Right => take_records(desk, &mut given.left, auditor, frames),
     }
 }

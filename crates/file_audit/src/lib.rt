@@ -8,8 +8,6 @@ mod expect;
 mod given;
 mod line;
 mod records;
-mod stop;
 
 pub use events::audit_events;
 pub use given::GivenFiles;
-pub use stop::AuditStop;

@@ -4,15 +4,15 @@ ghost use Rattle.gate_base.specs.Prelude.{IsMoment};
 ghost use Rattle.gate_desk.specs.declared.slot.Slot.TheVariants.{ReportGiven};
 ghost use Rattle.gate_desk.specs.Outside.{CanRead};
 ghost use Rattle.gate_report.specs.Lines.{line_octets, takes_memory};
-ghost use Rattle.file_audit.specs.Lines.{agreed, agreement, number_after, with_digit, line_with, FindsLine, IsLast, TakesLine, TakesLast};
-ghost use Rattle.file_audit.specs.Stops.{LeavesFaults};
+ghost use Rattle.file_audit.specs.Inside.Lines.{agreed, agreement, number_after, with_digit, line_with, FindsLine, IsLast, TakesLine, TakesLast};
+ghost use Rattle.file_audit.specs.Inside.Stops.{LeavesFaults};
 
 use crate::ahead::Ahead;
-use crate::stop::AuditStop;
 use gate_base::{Moment, OutOfMemory, Side, Verdict};
-use gate_desk::{Desk, Failed, Slot};
+use gate_desk::Desk;
 use gate_report::{Line, LineRoom};
 use gate_settings::ReportForm;
+use run_setup::Status;
 use std::alloc::Global;
 
 /// What the line of a frame tells but for how many were sent for it.
@@ -94,10 +94,8 @@ fn compare(
     ensures memory { OnErr result (takes_memory form ≡ true) }
 {
     let mut room = LineRoom::new(alloc);
-    match room.line(form, line) {
-        Ok(made) => Ok(agreement(made, octets)),
-        Err(OutOfMemory) => Err(OutOfMemory),
-    }
+    let made = room.line(form, line)?;
+    Ok(agreement(made, octets))
 }
 
 /// Whether octets are a line and nothing more.
@@ -175,7 +173,7 @@ pub fn take_line<D: Desk>(
     report: &mut Ahead,
     form: ReportForm,
     head: LineHead,
-) -> Result<Option<u32>, AuditStop>
+) -> Result<Option<u32>, Status>
     requires can { CanRead (D.outside desk.old) ReportGiven }
     requires number { head.number < 2 ^ 64 }
     requires moment { IsMoment head.moment.0 }
@@ -183,17 +181,13 @@ pub fn take_line<D: Desk>(
         (D.outside desk.old) (D.outside desk.new) }
     ensures leaves { LeavesFaults result (D.outside desk.old) (D.outside desk.new) }
 {
-    match report.fill(desk) {
-        Ok(()) => {}
-        Err(Failed) => return Err(AuditStop::Desk(Slot::ReportGiven)),
-    }
-    match find_line(alloc, form, head, report.octets()) {
-        Ok(Some(found)) => {
+    report.fill(desk)?;
+    match find_line(alloc, form, head, report.octets())? {
+        Some(found) => {
             report.take(found.length);
             Ok(Some(found.frames))
         }
-        Ok(None) => Ok(None),
-        Err(OutOfMemory) => Err(AuditStop::OutOfMemory),
+        None => Ok(None),
     }
 }
 
@@ -204,19 +198,14 @@ pub fn take_last<D: Desk>(
     report: &mut Ahead,
     form: ReportForm,
     line: &Line,
-) -> Result<bool, AuditStop>
+) -> Result<bool, Status>
     requires can { CanRead (D.outside desk.old) ReportGiven }
     requires short { length (line_octets form line.now) < 256 }
     ensures takes { TakesLast result form line.now report.old report.new
         (D.outside desk.old) (D.outside desk.new) }
     ensures leaves { LeavesFaults result (D.outside desk.old) (D.outside desk.new) }
 {
-    match report.fill(desk) {
-        Ok(()) => {}
-        Err(Failed) => return Err(AuditStop::Desk(Slot::ReportGiven)),
-    }
-    match is_line(alloc, form, line, report.octets()) {
-        Ok(answer) => Ok(answer),
-        Err(OutOfMemory) => Err(AuditStop::OutOfMemory),
-    }
+    report.fill(desk)?;
+    let answer = is_line(alloc, form, line, report.octets())?;
+    Ok(answer)
 }

@@ -1,19 +1,21 @@
 // The next records of a given capture.
-ghost use Rattle.std.specs.Prelude.{◌≡◌, ◌≤◌, ◌*◌, ◌<◌, ◌^◌, false, None, OnOk};
+ghost use Rattle.std.specs.Prelude.{◌≡◌, ◌≤◌, ◌*◌, ◌<◌, ◌^◌, false, None};
 ghost use Rattle.gate_desk.specs.Outside.{CanRead};
 ghost use Rattle.lawful_files.specs.Prelude.{begun};
-ghost use Rattle.file_audit.specs.Records.{FindsEnd, TakesRecord, TakesRecords};
+ghost use Rattle.file_audit.specs.Inside.Records.{FindsEnd, TakesRecord, TakesRecords};
+ghost use Rattle.file_audit.specs.Inside.Stops.{LeavesFaults};
 
 use gate_audit::Auditor;
-use gate_desk::{Desk, Failed};
+use gate_desk::Desk;
 use pcap_files::{CaptureReader, ReadStop};
+use run_setup::Status;
 
 /// Takes the next record of a given capture, and lets the auditor judge it: whether there is one.
 fn take_record<D: Desk>(
     desk: &mut D,
     reader: &mut CaptureReader,
     auditor: &mut Auditor,
-) -> Result<bool, Failed>
+) -> Result<bool, Status>
     requires can { CanRead (D.outside desk.old) reader.old.slot }
     requires running { reader.old.stop ≡ None }
     requires kept { auditor.old.lost ≡ false }
@@ -22,8 +24,7 @@ fn take_record<D: Desk>(
         ≤ 262144 * auditor.old.expecting.so_far.count }
     ensures takes { TakesRecord result reader.old reader.new auditor.old auditor.new
         (D.outside desk.old) (D.outside desk.new) }
-    ensures leaves { OnOk result
-        ((D.outside desk.new).faults ≡ (D.outside desk.old).faults) }
+    ensures leaves { LeavesFaults result (D.outside desk.old) (D.outside desk.new) }
 {
     match reader.advance(desk) {
         Ok(more) => {
@@ -33,7 +34,7 @@ fn take_record<D: Desk>(
             let _ = auditor.frame(&reader.packet());
             Ok(true)
         }
-        Err(ReadStop::Desk(_)) => Err(Failed),
+        Err(ReadStop::Desk(slot)) => Err(Status::ReadFault(slot)),
         Err(ReadStop::Fault(_, _)) => Ok(false),
         Err(ReadStop::OutOfMemory) => Ok(false),
     }
@@ -45,15 +46,14 @@ pub fn take_records<D: Desk>(
     reader: &mut CaptureReader,
     auditor: &mut Auditor,
     frames: u32,
-) -> Result<bool, Failed>
+) -> Result<bool, Status>
     requires can { CanRead (D.outside desk.old) reader.old.slot }
     requires running { reader.old.stop ≡ None }
     requires kept { auditor.old.lost ≡ false }
     requires begun { auditor.old.expecting.so_far ≡ begun }
     ensures takes { TakesRecords result frames reader.old reader.new auditor.old
         auditor.new (D.outside desk.old) (D.outside desk.new) }
-    ensures leaves { OnOk result
-        ((D.outside desk.new).faults ≡ (D.outside desk.old).faults) }
+    ensures leaves { LeavesFaults result (D.outside desk.old) (D.outside desk.new) }
 {
     let mut taken = 0;
     while taken < frames {
@@ -66,13 +66,12 @@ pub fn take_records<D: Desk>(
 }
 
 /// Whether nothing is left of a given capture, and it has no fault.
-pub fn is_at_end<D: Desk>(desk: &mut D, reader: &mut CaptureReader) -> Result<bool, Failed>
+pub fn is_at_end<D: Desk>(desk: &mut D, reader: &mut CaptureReader) -> Result<bool, Status>
     requires can { CanRead (D.outside desk.old) reader.old.slot }
     requires running { reader.old.stop ≡ None }
     ensures finds { FindsEnd result reader.old (D.outside desk.old)
         (D.outside desk.new) }
-    ensures leaves { OnOk result
-        ((D.outside desk.new).faults ≡ (D.outside desk.old).faults) }
+    ensures leaves { LeavesFaults result (D.outside desk.old) (D.outside desk.new) }
 {
     match reader.advance(desk) {
         Ok(more) => {
@@ -81,7 +80,7 @@ pub fn is_at_end<D: Desk>(desk: &mut D, reader: &mut CaptureReader) -> Result<bo
             }
             Ok(true)
         }
-        Err(ReadStop::Desk(_)) => Err(Failed),
+        Err(ReadStop::Desk(slot)) => Err(Status::ReadFault(slot)),
         Err(ReadStop::Fault(_, _)) => Ok(false),
         Err(ReadStop::OutOfMemory) => Ok(false),
     }

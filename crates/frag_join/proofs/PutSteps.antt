@@ -6,7 +6,7 @@ use Rattle.gate_base.proofs.Lists.{remove_set}
 use Rattle.frag_join.specs.declared.part.Part.{Part}
 use Rattle.frag_join.specs.declared.taken.Taken.TheVariants.{Held, Joined}
 use Rattle.frag_join.specs.Prelude.{Fragment, fragment_in, Coverage, Step, added, is_bad, is_complete, datagram_of, by_known, event_from, with_fragment, known_at, put_at}
-use Rattle.frag_join.specs.Kept.{known_or_nothing}
+use Rattle.frag_join.specs.Inside.Kept.{known_or_nothing}
 use Rattle.frag_join.proofs.StepLemmas.{settled-held, settled-joined}
 
 abbrev pub with_kept : Part Coverage → Coverage → Part Coverage

@@ -7,7 +7,7 @@ use Rattle.ipv4_frames.specs.Ipv4.{has_options}
 use Rattle.frag_join.specs.declared.part.Part.{Part}
 use Rattle.frag_join.specs.declared.taken.Taken.TheVariants.{Plain, Held, Joined, Refused}
 use Rattle.frag_join.specs.Prelude.{Fragment, name_in, is_fragment, fragment_in, octets_of, is_bad, is_complete, datagram_of, Coverage, Keeping, State, Step, live, limit, by_known, place_of, part_of, part_or_new, changed, event_from, fragment_tests, settled, with_fragment, taken_unless, fragment_taken, fragment_step, step, known_at}
-use Rattle.frag_join.specs.Kept.{known_or_nothing}
+use Rattle.frag_join.specs.Inside.Kept.{known_or_nothing}
 use Rattle.frag_join.proofs.PartLemmas.{get-last, remove-last, set-last}
 
 none_holds : (a b c : Bool) (x y z : Refusal) → a ≡ false → b ≡ false → c ≡ false → first_that_holds ((a, x) ∷ (b, y) ∷ (c, z) ∷ []) ≡ None

@@ -3,8 +3,6 @@ pub mod Fragments
 pub mod Coverage
 pub mod Joining
 pub mod Cuts
-pub mod Held
-pub mod Inside
-pub mod Kept
 pub mod Arrivals
 pub mod Prelude
+pub mod Inside

@@ -4,7 +4,7 @@ ghost use Rattle.std.specs.Option.{option_or};
 ghost use Rattle.frag_join.specs.Places.{count_below};
 ghost use Rattle.frag_join.specs.Fragments.{octet_in, end_of, covers};
 ghost use Rattle.frag_join.specs.Coverage as known;
-ghost use Rattle.frag_join.specs.Held.{header_held};
+ghost use Rattle.frag_join.specs.Inside.Held.{header_held};
 
 use crate::fragment::FragmentView;
 use gate_base::{OutOfMemory, get_u16, put_u16};
@@ -39,7 +39,7 @@ impl Model for Buffer {
 
     ghost Value = { Coverage };
 
-    ghost use Rattle.frag_join.specs.Inside.{known_inside, IsWhole};
+    ghost use Rattle.frag_join.specs.Inside.Whole.{known_inside, IsWhole};
 
     ghost view = { known_inside };
 

@@ -6,7 +6,7 @@ ghost use Rattle.frag_join.specs.Fragments as fragments;
 ghost use Rattle.frag_join.specs.Coverage as known;
 ghost use Rattle.frag_join.specs.Coverage.{Coverage};
 ghost use Rattle.frag_join.specs.Joining as joining;
-ghost use Rattle.frag_join.specs.Kept.{known_at, put_at, new_part};
+ghost use Rattle.frag_join.specs.Inside.Kept.{known_at, put_at, new_part};
 ghost use Rattle.frag_join.specs.declared.part.Part.{Part};
 
 use crate::buffer::Buffer;
@@ -47,7 +47,7 @@ impl Model for Joiner {
 
     ghost Value = { State Coverage };
 
-    ghost use Rattle.frag_join.specs.Kept.{state_of, IsFull};
+    ghost use Rattle.frag_join.specs.Inside.Kept.{state_of, IsFull};
 
     ghost view = { state_of };
 
@@ -143,7 +143,7 @@ impl Joiner {
         match place {
             Some(place) => self.put(place, event, &fragment),
             None if self.len() < LIMIT => {
-                let place = self.begin(name, event.moment);
+                let place = self.begin_datagram(name, event.moment);
                 self.put(place, event, &fragment)
             }
             None => Taken::Refused(Refusal::FragmentsFull),
@@ -189,7 +189,7 @@ impl Joiner {
     }
 
     // Begins a datagram, and answers its place.
-    fn begin(&mut self, name: Name, since: Moment) -> usize
+    fn begin_datagram(&mut self, name: Name, since: Moment) -> usize
         requires few { length self.old.parts < 64 }
         requires joined { self.old.joined ≡ None }
         ensures place { result ≡ length self.old.parts }

@@ -20,12 +20,16 @@ use Rattle.audit_sessions.specs.Gives.{audit_tells, heard_gives}
 use Rattle.event_state.specs.Given.{refusal_of, given_by, IsGiven}
 use Rattle.event_state.specs.declared.taken.Taken.{Taken}
 
-kind_wanted : (live : World HeardSession) (side : Side) (d : Datagram) (kind : Kind) → told_kind heard_rules audit_tells live side d kind ≡ wanted_kind heard_rules heard_sent live side live.clock d kind
+kind_wanted : (live : World HeardSession) (side : Side) (d : Datagram) (kind : Kind)
+    → told_kind heard_rules audit_tells live side d kind ≡ wanted_kind heard_rules heard_sent live side live.clock d kind
 kind_wanted live side d (Whole payload) = refl
 kind_wanted live side d Stream = refl
 
-event_wanted : (live : World HeardSession) (e : Event) (r : Option Refusal) → live.clock ≡ e.moment → told_by audit_tells r (told_kind heard_rules audit_tells live e.side (datagram_in e) (kind_of (datagram_in e))) ≡ wanted_by heard_rules heard_sent live e (verdict_of r)
-event_wanted live e None m = kind_wanted live e.side (datagram_in e) (kind_of (datagram_in e)) ∙ ap (λ moment. wanted_kind heard_rules heard_sent live e.side moment (datagram_in e) (kind_of (datagram_in e))) m
+event_wanted : (live : World HeardSession) (e : Event) (r : Option Refusal) → live.clock ≡ e.moment
+    → told_by audit_tells r (told_kind heard_rules audit_tells live e.side (datagram_in e) (kind_of (datagram_in e)))
+    ≡ wanted_by heard_rules heard_sent live e (verdict_of r)
+event_wanted live e None m = kind_wanted live e.side (datagram_in e) (kind_of (datagram_in e))
+    ∙ ap (λ moment. wanted_kind heard_rules heard_sent live e.side moment (datagram_in e) (kind_of (datagram_in e))) m
 event_wanted live e (Some r) m = refl
 
 -- what is asked of an event, over whole lists
@@ -42,8 +46,10 @@ unfolding verdict
 expected w e taken after sent h =
     let live = at_moment w e.moment in
     let answer : verdict_of (refusal_of taken) ≡ verdict heard_rules w e = ap verdict_of h.answer in
-    let left : after ≡ next heard_rules w e = h.left ∙ left_next heard_rules live e (refusal_of taken) refl ∙ ap (next_by heard_rules live e) answer in
-    let gone : given_by heard_gives taken sent ≡ wanted_in heard_rules heard_sent w e = h.gone ∙ event_wanted live e (refusal_of taken) refl ∙ ap (wanted_by heard_rules heard_sent live e) answer in
+    let left : after ≡ next heard_rules w e = h.left ∙ left_next heard_rules live e (refusal_of taken) refl
+    ∙ ap (next_by heard_rules live e) answer in
+    let gone : given_by heard_gives taken sent ≡ wanted_in heard_rules heard_sent w e = h.gone ∙ event_wanted live e (refusal_of taken) refl
+    ∙ ap (wanted_by heard_rules heard_sent live e) answer in
     record {
       verdict_is = answer ∙ sym (verdict_as session_in heard_rules whole_rules reads_whole w e);
       kept_is = left;

@@ -15,7 +15,9 @@ use Rattle.event_segments.proofs.NoUnits.{syn_held}
 use Rattle.event_state.specs.Engines.{HasLaws}
 
 -- a SYN that passes has no RST
-opens_plain : (pair : Pair) (tcp : Tcp) → is_opening tcp.flags ≡ true → heard_rules.refusal Client (heard_rules.made tcp.destination_port pair tcp.sequence tcp.mss) (segment_in tcp) ≡ None → (flags_of tcp.flags).reset ≡ false
+opens_plain : (pair : Pair) (tcp : Tcp) → is_opening tcp.flags ≡ true
+    → heard_rules.refusal Client (heard_rules.made tcp.destination_port pair tcp.sequence tcp.mss) (segment_in tcp) ≡ None
+    → (flags_of tcp.flags).reset ≡ false
 opens_plain pair tcp opens none =
     let s = (session_in (heard_rules.made tcp.destination_port pair tcp.sequence tcp.mss)).session in
     opens_alone Client s.client s.server (segment_in tcp) none (syn_held (flags_of tcp.flags).syn (flags_of tcp.flags).ack opens)

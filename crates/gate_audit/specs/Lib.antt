@@ -1,3 +1,3 @@
 pub mod Auditing
-pub mod Given
+pub mod Inside
 pub mod Memory

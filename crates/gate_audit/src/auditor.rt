@@ -5,7 +5,7 @@ ghost use Rattle.gate_settings.specs.Prelude.{IsSound, HasForms};
 ghost use Rattle.gate_model.specs.Prelude.{whole_rules, verdict, verdict_of, at_moment};
 ghost use Rattle.lawful_files.specs.Prelude.{begun, behind, is_closed, Exactly};
 ghost use Rattle.gate_audit.specs.Auditing.{IsOpening, Expects, whole_world};
-ghost use Rattle.gate_audit.specs.Given.{IsWhole};
+ghost use Rattle.gate_audit.specs.Inside.Given.{IsWhole};
 ghost use Rattle.gate_audit.specs.Memory.{MayWant};
 ghost use Rattle.event_state.specs.Given.{given_by, refusal_of};
 ghost use Rattle.audit_sessions.specs.Gives.{heard_gives};

@@ -8,7 +8,8 @@ use Rattle.gate_desk.specs.declared.slot.Slot.TheVariants.{Errors}
 use Rattle.gate_desk.specs.declared.slot.PerSlot.{PerSlot}
 use Rattle.gate_desk.specs.Slots.{at, put, each}
 use Rattle.gate_desk.specs.declared.place.Place.{Place}
-use Rattle.gate_desk.specs.Gathering.{RefusedWaits, StaysWaiting, Waits, waiting, waiting_in, gathered_after}
+use Rattle.gate_desk.specs.Gathering.{Waits, waiting}
+use Rattle.gate_desk.specs.Inside.Gathering.{RefusedWaits, StaysWaiting, waiting_in, gathered_after}
 use Rattle.gate_desk.proofs.Laws.{at-each, at-mapped, mapped-put, put-at}
 
 -- a piece waits alone where nothing waited before

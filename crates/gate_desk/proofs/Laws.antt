@@ -10,7 +10,8 @@ use Rattle.gate_desk.specs.declared.slot.Slot.TheVariants.{Settings, LeftIn, Rig
 use Rattle.gate_desk.specs.declared.slot.PerSlot.{PerSlot}
 use Rattle.gate_desk.specs.declared.slot.Access.{Access}
 use Rattle.gate_desk.specs.declared.slot.Access.TheVariants.{Read, Write}
-use Rattle.gate_desk.specs.Slots.{at, put, mapped, number_of, same_slot, each}
+use Rattle.gate_desk.specs.Slots.{at, put, number_of, same_slot, each}
+use Rattle.gate_desk.specs.Inside.Slots.{mapped}
 use Rattle.gate_desk.specs.Counts.{raised}
 use Rattle.gate_desk.specs.Outside.{Outside, wrote, took, told_at, Trace, Rises, NoneFailed, Writes, Takes, AreNext, IsAtEnd, AreUpTo, HasFailed, HasFailedToStart, Grows, NoneFell, WritesPart, Starts, FailsToStart, Start, started, last_access, CanRead, CanWrite}
 

@@ -8,8 +8,10 @@ use Rattle.gate_desk.specs.declared.slot.Slot.{Slot}
 use Rattle.gate_desk.specs.declared.slot.Slot.TheVariants.{Errors}
 use Rattle.gate_desk.specs.declared.slot.PerSlot.{PerSlot}
 use Rattle.gate_desk.specs.declared.place.Place.{Place}
-use Rattle.gate_desk.specs.Slots.{at, put, mapped, same_slot, each}
-use Rattle.gate_desk.specs.Gathering.{HandsOut, TakesNothing, TakesNothingElse, TakesPiece, gathered_after, got, got_in, taken_at, waiting, waiting_in}
+use Rattle.gate_desk.specs.Slots.{at, put, same_slot, each}
+use Rattle.gate_desk.specs.Inside.Slots.{mapped}
+use Rattle.gate_desk.specs.Gathering.{HandsOut, TakesNothing, TakesNothingElse, TakesPiece, got, taken_at, waiting}
+use Rattle.gate_desk.specs.Inside.Gathering.{gathered_after, got_in, waiting_in}
 use Rattle.gate_desk.proofs.Laws.{at-each, at-mapped, at-put_any, at-put_append, put-at}
 
 appends_on : (a b c : Option (List ℕ)) (piece : List ℕ) → Appends a b [] → Appends b c piece → Appends a c piece

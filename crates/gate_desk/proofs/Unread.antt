@@ -12,7 +12,8 @@ use Rattle.gate_desk.specs.declared.slot.Access.{Access}
 use Rattle.gate_desk.specs.declared.slot.PerSlot.{PerSlot}
 use Rattle.gate_desk.specs.declared.place.Place.{Place}
 use Rattle.gate_desk.specs.declared.place.Place.TheVariants.{Nowhere, Input, Output, StandardOutput}
-use Rattle.gate_desk.specs.Gathering.{TakesAhead, ahead, ahead_in, got, got_in, unread, unread_in, waiting, waiting_in, access_of, accesses_in}
+use Rattle.gate_desk.specs.Gathering.{TakesAhead, ahead, got, waiting}
+use Rattle.gate_desk.specs.Inside.Gathering.{ahead_in, got_in, unread, unread_in, waiting_in, access_of, accesses_in}
 use Rattle.gate_desk.specs.Slots.{at, put}
 use Rattle.gate_desk.specs.Untold.{Files, skipped}
 use Rattle.gate_desk.proofs.Laws.{at-mapped, at-put, mapped-put, mapped-same, put-at}

@@ -1,23 +1,14 @@
 -- What is gathered for the slots of a desk over files, before it is written out.
 use Rattle.std.specs.Io.KnownBytes.{Appends, append_known}
-use Rattle.std.specs.Io.Buffered.{reader_buffer, reader_remaining}
-use Rattle.std.specs.Prelude.{◌≡◌, ◌<◌, ◌⊎◌, ℕ, List, [], ◌++◌, Option, Some, None, IfSome, Result, Ok, Err, false, if◌then◌else◌, min, take, drop, length}
-use Rattle.gate_desk.specs.declared.gathered.Gathering.{Gathering}
-use Rattle.gate_desk.specs.declared.gathered.Gathering.TheVariants.{Gathered, NoRoom, Refused}
+use Rattle.std.specs.Io.Buffered.{reader_buffer}
+use Rattle.std.specs.Prelude.{◌≡◌, ◌⊎◌, ℕ, List, [], ◌++◌, Option, Some, None, Result, Ok, Err, false, if◌then◌else◌, min, take, drop, length}
 use Rattle.gate_desk.specs.declared.place.Place.{Place}
-use Rattle.gate_desk.specs.declared.place.Place.TheVariants.{Nowhere, Input, Output, StandardOutput}
+use Rattle.gate_desk.specs.declared.place.Place.TheVariants.{Input, Output, StandardOutput}
 use Rattle.gate_desk.specs.declared.slot.Slot.{Slot}
 use Rattle.gate_desk.specs.declared.slot.Slot.TheVariants.{Errors}
 use Rattle.gate_desk.specs.declared.slot.PerSlot.{PerSlot}
 use Rattle.gate_desk.specs.declared.slot.Access.{Access}
-use Rattle.gate_desk.specs.declared.slot.Access.TheVariants.{Read, Write}
-use Rattle.gate_desk.specs.Slots.{at, put, mapped, same_slot}
-
--- a piece is gathered whole, or nothing of it
-abbrev pub gathered_after : Gathering → List ℕ → List ℕ → List ℕ
-gathered_after Gathered piece octets = octets ++ piece
-gathered_after NoRoom piece octets = octets
-gathered_after Refused piece octets = octets
+use Rattle.gate_desk.specs.Slots.{at, put, same_slot}
 
 -- what waits at a place to be written out
 abbrev pub waiting : {F A : Type 0} → Place F A → List ℕ
@@ -25,40 +16,15 @@ waiting (Output file octets) = octets
 waiting (StandardOutput octets) = octets
 waiting _ = []
 
--- the same of each slot
-abbrev pub waiting_in : {F A : Type 0} → PerSlot (Place F A) → PerSlot (List ℕ)
-waiting_in p = mapped waiting p
-
 -- a piece waits on a slot, behind what waited there, or alone; a line of errors waits nowhere
 abbrev pub Waits : Slot → List ℕ → PerSlot (List ℕ) → PerSlot (List ℕ) → Type 0
 Waits Errors piece old new = Unit {0}
 Waits slot piece old new = (at new slot ≡ at old slot ++ piece) ⊎ (at new slot ≡ piece)
 
--- something waits on a slot, and is left as it is
-abbrev pub StaysWaiting : Slot → PerSlot (List ℕ) → PerSlot (List ℕ) → Type 0
-StaysWaiting slot old new = (0 < length (at old slot)) × (at new slot ≡ at old slot)
-
--- where the system refused octets of a slot, some wait there
-abbrev pub RefusedWaits : Option Slot → PerSlot (List ℕ) → Type 0
-RefusedWaits refused waiting = IfSome refused (λ slot. 0 < length (at waiting slot))
-
 -- what was read ahead of a place
 abbrev pub ahead : {F A : Type 0} → Place F A → List ℕ
 ahead (Input reader) = reader_buffer reader
 ahead _ = []
-
--- the same of each slot
-abbrev pub ahead_in : {F A : Type 0} → PerSlot (Place F A) → PerSlot (List ℕ)
-ahead_in p = mapped ahead p
-
--- what is still to be read of a place, where its file tells that: what was read ahead, and then the file's rest
-abbrev pub unread : {F A : Type 0} → (F → Option (List ℕ)) → Place F A → Option (List ℕ)
-unread remaining (Input reader) = reader_remaining remaining reader
-unread remaining _ = None
-
--- the same of each slot
-abbrev pub unread_in : {F A : Type 0} → (F → Option (List ℕ)) → PerSlot (Place F A) → PerSlot (Option (List ℕ))
-unread_in remaining p = mapped (unread remaining) p
 
 -- a slot that was started has what its file has, and all else stays
 abbrev pub unread_after : {T E X : Type 0} → Result T E → Slot → PerSlot X → PerSlot X → PerSlot X
@@ -74,17 +40,6 @@ abbrev pub ahead_after : {T E : Type 0} → Result T E → Slot → PerSlot (Lis
 ahead_after (Ok x) slot ahead = put ahead slot []
 ahead_after (Err e) slot ahead = ahead
 
--- for what a place is open
-abbrev pub access_of : {F A : Type 0} → Place F A → Option Access
-access_of (Input reader) = Some Read
-access_of (Output file octets) = Some Write
-access_of (StandardOutput octets) = Some Write
-access_of Nowhere = None
-
--- the same of each slot
-abbrev pub accesses_in : {F A : Type 0} → PerSlot (Place F A) → PerSlot (Option Access)
-accesses_in p = mapped access_of p
-
 -- a slot that was started is open for this, and all others stay
 abbrev pub accesses_after : {T E : Type 0} → Result T E → Slot → Access → PerSlot (Option Access) → PerSlot (Option Access)
 accesses_after (Ok x) slot access accesses = put accesses slot (Some access)
@@ -94,10 +49,6 @@ accesses_after (Err e) slot access accesses = accesses
 abbrev pub got : {F A : Type 0} → (F → Option (List ℕ)) → Place F A → Option (List ℕ)
 got contents (Output file octets) = contents file
 got contents _ = None
-
--- the same of each slot
-abbrev pub got_in : {F A : Type 0} → (F → Option (List ℕ)) → PerSlot (Place F A) → PerSlot (Option (List ℕ))
-got_in contents p = mapped (got contents) p
 
 -- each file got what waited for it
 abbrev pub HandsOut : PerSlot (Option (List ℕ)) → PerSlot (List ℕ) → PerSlot (Option (List ℕ)) → Type 0

@@ -2,7 +2,8 @@
 ghost use Rattle.std.specs.Prelude.{◌≡◌, ◌<◌, ◌≤◌, ◌++◌, ℕ, List, Option, [], None, length, take, drop, IfOk, IfErr, IfSome, IsSome, IsErr, IsErrOf, OnOk, OnErr};
 ghost use Rattle.std.specs.Io.KnownBytes.{ReadConsumes};
 ghost use Rattle.gate_desk.specs.Counts.{counts_after, raised};
-ghost use Rattle.gate_desk.specs.Gathering.{waiting_in, got_in, access_of, accesses_in, ahead_in, ahead_after, unread_in, unread_after, accesses_after, gathered_after, HandsOut, RefusedWaits, StaysWaiting, TakesAhead, TakesNothing, TakesNothingElse, TakesPiece, Waits};
+ghost use Rattle.gate_desk.specs.Gathering.{ahead_after, unread_after, accesses_after, HandsOut, TakesAhead, TakesNothing, TakesNothingElse, TakesPiece, Waits};
+ghost use Rattle.gate_desk.specs.Inside.Gathering.{Keeps, LosesNothing, waiting_in, got_in, access_of, accesses_in, ahead_in, unread_in, gathered_after, RefusedWaits, StaysWaiting};
 ghost use Rattle.gate_desk.specs.Slots.{at, put, each};
 
 use crate::gathered::Gathering;
@@ -36,7 +37,7 @@ pub struct FileDesk<R: Runtime> {
 
 impl<R: Runtime> Model for FileDesk<R> {
     ghost use Rattle.gate_desk.specs.Untold.{Files};
-    ghost use Rattle.gate_desk.specs.Gathering.{got_in, waiting_in, accesses_in, ahead_in, unread_in, RefusedWaits};
+    ghost use Rattle.gate_desk.specs.Inside.Gathering.{got_in, waiting_in, accesses_in, ahead_in, unread_in, RefusedWaits};
 
     ghost Value = { Files };
 
@@ -70,10 +71,7 @@ fn nowhere<F: Read + Drop, A: Allocator>() -> PerSlot<Place<F, A>>
 
 // Writes out all that is gathered, the report last, so that no line comes before its frame. The error is the slot that failed.
 fn write_out_all<R: Runtime>(rt: &R, places: &mut PerSlot<Place<R::File, R::A>>) -> Result<(), Slot>
-    ensures accesses { accesses_in places.new ≡ accesses_in places.old }
-    ensures ahead { ahead_in places.new ≡ ahead_in places.old }
-    ensures unread { unread_in R.File.remaining places.new
-        ≡ unread_in R.File.remaining places.old }
+    ensures keeps { Keeps R.File.remaining places.old places.new }
     ensures none { OnOk result (waiting_in places.new ≡ each []) }
     ensures files { OnOk result (HandsOut (got_in R.File.contents places.old)
         (waiting_in places.old) (got_in R.File.contents places.new)) }
@@ -99,10 +97,7 @@ fn hand_out<R: Runtime>(
     places: &mut PerSlot<Place<R::File, R::A>>,
     refused: &mut Option<Slot>,
 ) -> Result<(), Failed>
-    ensures accesses { accesses_in places.new ≡ accesses_in places.old }
-    ensures ahead { ahead_in places.new ≡ ahead_in places.old }
-    ensures unread { unread_in R.File.remaining places.new
-        ≡ unread_in R.File.remaining places.old }
+    ensures keeps { Keeps R.File.remaining places.old places.new }
     ensures all { OnOk result (waiting_in places.new ≡ each []) }
     ensures files { OnOk result (HandsOut (got_in R.File.contents places.old)
         (waiting_in places.old) (got_in R.File.contents places.new)) }
@@ -141,17 +136,14 @@ fn start_slot<R: Runtime>(
     ensures takes { OnOk result (TakesNothingElse slot
         (got_in R.File.contents places.old) (waiting_in places.old)
         (got_in R.File.contents places.new) (waiting_in places.new)) }
-    ensures fails { OnErr result (refused.new ≡ None → TakesNothing
-        (got_in R.File.contents places.old) (waiting_in places.old)
-        (got_in R.File.contents places.new) (waiting_in places.new)) }
     ensures none { OnOk result (at (waiting_in places.new) slot ≡ []) }
     ensures ahead { ahead_in places.new
         ≡ ahead_after result slot (ahead_in places.old) }
     ensures unread { unread_in R.File.remaining places.new
         ≡ unread_after result slot (unread_in R.File.remaining places.old)
         (unread_in R.File.remaining places.new) }
-    ensures still { RefusedWaits refused.old (waiting_in places.old)
-        → RefusedWaits refused.new (waiting_in places.new) }
+    ensures loses { LosesNothing R.File.contents result refused.old refused.new
+        places.old places.new }
 {
     hand_out(rt, places, refused)?;
     match open_place(rt, places, slot, name, access) {
@@ -187,13 +179,10 @@ fn read_slot<R: Runtime>(
     ensures takes { OnOk result (TakesNothing (got_in R.File.contents places.old)
         (waiting_in places.old) (got_in R.File.contents places.new)
         (waiting_in places.new)) }
-    ensures fails { OnErr result (refused.new ≡ None → TakesNothing
-        (got_in R.File.contents places.old) (waiting_in places.old)
-        (got_in R.File.contents places.new) (waiting_in places.new)) }
     ensures hands_out { OnOk result (at (ahead_in places.old) slot ≡ []
         → waiting_in places.new ≡ each []) }
-    ensures still { RefusedWaits refused.old (waiting_in places.old)
-        → RefusedWaits refused.new (waiting_in places.new) }
+    ensures loses { LosesNothing R.File.contents result refused.old refused.new
+        places.old places.new }
 {
     if refused.is_some() {
         return Err(Failed);
@@ -217,21 +206,15 @@ fn write_slot<R: Runtime>(
     first: &[u8],
     second: &[u8],
 ) -> Result<(), Failed>
-    ensures accesses { accesses_in places.new ≡ accesses_in places.old }
-    ensures ahead { ahead_in places.new ≡ ahead_in places.old }
-    ensures unread { unread_in R.File.remaining places.new
-        ≡ unread_in R.File.remaining places.old }
+    ensures keeps { Keeps R.File.remaining places.old places.new }
     ensures waits { OnOk result (Waits slot (first.now ++ second.now)
         (waiting_in places.old) (waiting_in places.new)) }
     ensures takes { OnOk result (TakesPiece slot (first.now ++ second.now)
         (got_in R.File.contents places.old) (waiting_in places.old)
         (got_in R.File.contents places.new) (waiting_in places.new)) }
     ensures refused { IsSome refused.old → IsErr result }
-    ensures fails { OnErr result (refused.new ≡ None → TakesNothing
-        (got_in R.File.contents places.old) (waiting_in places.old)
-        (got_in R.File.contents places.new) (waiting_in places.new)) }
-    ensures still { RefusedWaits refused.old (waiting_in places.old)
-        → RefusedWaits refused.new (waiting_in places.new) }
+    ensures loses { LosesNothing R.File.contents result refused.old refused.new
+        places.old places.new }
 {
     if slot == Slot::Errors {
         return write_errors(rt, places, refused, first, second);
@@ -256,20 +239,14 @@ fn gather_alone<R: Runtime>(
     first: &[u8],
     second: &[u8],
 ) -> Result<(), Failed>
-    ensures accesses { accesses_in places.new ≡ accesses_in places.old }
-    ensures ahead { ahead_in places.new ≡ ahead_in places.old }
-    ensures unread { unread_in R.File.remaining places.new
-        ≡ unread_in R.File.remaining places.old }
+    ensures keeps { Keeps R.File.remaining places.old places.new }
     ensures waits { OnOk result (Waits slot (first.now ++ second.now)
         (waiting_in places.old) (waiting_in places.new)) }
     ensures takes { OnOk result (TakesPiece slot (first.now ++ second.now)
         (got_in R.File.contents places.old) (waiting_in places.old)
         (got_in R.File.contents places.new) (waiting_in places.new)) }
-    ensures fails { OnErr result (refused.new ≡ None → TakesNothing
-        (got_in R.File.contents places.old) (waiting_in places.old)
-        (got_in R.File.contents places.new) (waiting_in places.new)) }
-    ensures still { RefusedWaits refused.old (waiting_in places.old)
-        → RefusedWaits refused.new (waiting_in places.new) }
+    ensures loses { LosesNothing R.File.contents result refused.old refused.new
+        places.old places.new }
 {
     hand_out(rt, places, refused)?;
     match places.at_mut(slot).gather(first, second) {
@@ -288,19 +265,13 @@ fn write_errors<R: Runtime>(
     first: &[u8],
     second: &[u8],
 ) -> Result<(), Failed>
-    ensures accesses { accesses_in places.new ≡ accesses_in places.old }
-    ensures ahead { ahead_in places.new ≡ ahead_in places.old }
-    ensures unread { unread_in R.File.remaining places.new
-        ≡ unread_in R.File.remaining places.old }
+    ensures keeps { Keeps R.File.remaining places.old places.new }
     ensures takes { OnOk result (TakesPiece Slot.Errors (first.now ++ second.now)
         (got_in R.File.contents places.old) (waiting_in places.old)
         (got_in R.File.contents places.new) (waiting_in places.new)) }
     ensures refused { IsSome refused.old → IsErr result }
-    ensures fails { OnErr result (refused.new ≡ None → TakesNothing
-        (got_in R.File.contents places.old) (waiting_in places.old)
-        (got_in R.File.contents places.new) (waiting_in places.new)) }
-    ensures still { RefusedWaits refused.old (waiting_in places.old)
-        → RefusedWaits refused.new (waiting_in places.new) }
+    ensures loses { LosesNothing R.File.contents result refused.old refused.new
+        places.old places.new }
 {
     hand_out(rt, places, refused)?;
     print(rt, first)?;

@@ -1,7 +1,7 @@
 // Octets on their way to a file.
 ghost use Rattle.std.specs.Prelude.{◌≡◌, ◌+◌, ◌≤◌, ◌<◌, ◌++◌, [], take, length, IfOk, OnOk, OnErr};
 ghost use Rattle.std.specs.Io.KnownBytes.{Appends};
-ghost use Rattle.gate_desk.specs.Gathering.{gathered_after};
+ghost use Rattle.gate_desk.specs.Inside.Gathering.{gathered_after};
 
 use crate::Failed;
 use std::alloc::{AllocError, Allocator};

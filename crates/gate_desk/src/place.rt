@@ -1,7 +1,8 @@
 // Where a slot of the desk over files leads.
 ghost use Rattle.std.specs.Prelude.{◌≡◌, ◌<◌, ◌≤◌, ◌++◌, ℕ, List, Option, Some, [], length, min, drop, option_map, unwrap_or, IfOk, IfErr, IfSome, MatchOption, OnOk, OnErr};
 ghost use Rattle.std.specs.Io.KnownBytes.{Appends, ReadConsumes};
-ghost use Rattle.gate_desk.specs.Gathering.{waiting, got, access_of, ahead, unread, gathered_after, TakesAhead};
+ghost use Rattle.gate_desk.specs.Gathering.{waiting, got, ahead, TakesAhead};
+ghost use Rattle.gate_desk.specs.Inside.Gathering.{access_of, unread, gathered_after};
 
 use crate::gathered::{Gathered, Gathering};
 use crate::{Access, Failed, PerSlot, Slot};

@@ -31,7 +31,8 @@ use_of side address until = record { side = side; address = record { 0 = address
 lasts_until : (until : ℕ) (b : Binding) → ((lasting (record { 0 = until }) b).fixed ≡ true) ⊎ (until ≤ (lasting (record { 0 = until }) b).until.0)
 lasts_until until b = elim (cases_Bool b.fixed) [ inl f ↦ rw f (inl refl) | inr f ↦ rw f (inr (omega arith)) ]
 
-through_lasts : (from_pool : Bool) (from : Side) (address until : ℕ) (b : Binding) → is_through from_pool from (record { 0 = address }) b ≡ true → let c = extend_through from_pool from (record { 0 = address }) (record { 0 = until }) b in (c.fixed ≡ true) ⊎ (until ≤ c.until.0)
+through_lasts : (from_pool : Bool) (from : Side) (address until : ℕ) (b : Binding) → is_through from_pool from (record { 0 = address }) b ≡ true
+    → let c = extend_through from_pool from (record { 0 = address }) (record { 0 = until }) b in (c.fixed ≡ true) ⊎ (until ≤ c.until.0)
 through_lasts from_pool from address until b h = rw h (lasts_until until b)
 
 extended_lasts : (table : Bindings) (side : Side) (host alias sooner : ℕ) (from : Side) (address until : ℕ)
@@ -43,19 +44,22 @@ extended_lasts table side host alias sooner from address until h through =
     let pool = in_pool table from a in
     record {
       binding = extend_through pool from a later h.binding;
-      found = find_map (is_of_host side host) (extend_through pool from a later) (host_same side host pool from a later) table.entries h.binding h.found;
+      found = find_map (is_of_host side host) (extend_through pool from a later)
+          (host_same side host pool from a later) table.entries h.binding h.found;
       alias_is = ap (λ (x : Addr). x.0) (same_pair pool from a later h.binding).alias ∙ h.alias_is;
       lasts = through_lasts pool from address until h.binding through;
     }
 
-pub host_lasts : (table : Bindings) (side : Side) (host alias sooner until : ℕ) → IsLawful table → IsBoundTo table side host alias sooner → IsBoundTo (used table (use_of side host until)) side host alias until
+pub host_lasts : (table : Bindings) (side : Side) (host alias sooner until : ℕ) → IsLawful table → IsBoundTo table side host alias sooner
+    → IsBoundTo (used table (use_of side host until)) side host alias until
 host_lasts table side host alias sooner until lawful h =
     let p = placed table side host alias sooner lawful h in
     let passes = find_passes (is_of_host side host) table.entries h.binding h.found in
     rw (bound_crosses table side host alias sooner lawful h)
     (extended_lasts table side host alias sooner side host until h (rw p.1 passes))
 
-alias_through : (table : Bindings) (side : Side) (host alias sooner : ℕ) → IsLawful table → (h : IsBoundTo table (other side) host alias sooner) → is_through (in_pool table side (record { 0 = alias })) side (record { 0 = alias }) h.binding ≡ true
+alias_through : (table : Bindings) (side : Side) (host alias sooner : ℕ) → IsLawful table → (h : IsBoundTo table (other side) host alias sooner)
+    → is_through (in_pool table side (record { 0 = alias })) side (record { 0 = alias }) h.binding ≡ true
 alias_through table side host alias sooner lawful h =
     let p = placed table (other side) host alias sooner lawful h in
     let is = host_is (other side) host h.binding (find_passes (is_of_host (other side) host) table.entries h.binding h.found) in
@@ -63,15 +67,19 @@ alias_through table side host alias sooner lawful h =
     let sides : same_side h.binding.side (other side) ≡ true = ap (λ (s : Side). same_side s (other side)) is.0 ∙ same_side-itself (other side) in
     rw pool (and_from (same_side h.binding.side (other side)) (h.binding.alias.0 == alias) sides (eq-eqb h.binding.alias.0 alias h.alias_is))
 
-pub alias_lasts : (table : Bindings) (side : Side) (host alias sooner until : ℕ) → IsLawful table → IsBoundTo table (other side) host alias sooner → IsBoundTo (used table (use_of side alias until)) (other side) host alias until
+pub alias_lasts : (table : Bindings) (side : Side) (host alias sooner until : ℕ) → IsLawful table → IsBoundTo table (other side) host alias sooner
+    → IsBoundTo (used table (use_of side alias until)) (other side) host alias until
 alias_lasts table side host alias sooner until lawful h =
     let back : cross table side (record { 0 = alias }) ≡ Bound (record { 0 = host }) =
-    ap (λ s. cross table s (record { 0 = alias })) (sym (other_other side)) ∙ crosses_back table (other side) (record { 0 = host }) (record { 0 = alias }) lawful (bound_crosses table (other side) host alias sooner lawful h) in
+    ap (λ s. cross table s (record { 0 = alias })) (sym (other_other side))
+    ∙ crosses_back table (other side) (record { 0 = host }) (record { 0 = alias }) lawful
+    (bound_crosses table (other side) host alias sooner lawful h) in
     rw back (extended_lasts table (other side) host alias sooner side alias until h (alias_through table side host alias sooner lawful h))
 
 -- ## A source that passes is bound by its use
 
-pub bound_from : (table : Bindings) (side : Side) (host image : ℕ) → alias_of side (record { 0 = host }) table.entries ≡ Some (record { 0 = image }) → IsBoundTo table side host image 0
+pub bound_from : (table : Bindings) (side : Side) (host image : ℕ) → alias_of side (record { 0 = host }) table.entries ≡ Some (record { 0 = image })
+    → IsBoundTo table side host image 0
 bound_from table side host image e =
     let f = found_alias (find (is_of_host side host) table.entries) (record { 0 = image }) e in
     record { binding = f.0; found = f.1; alias_is = ap (λ (a : Addr). a.0) f.2; lasts = inr (omega arith) }
@@ -84,13 +92,16 @@ crosses_so : (table : Bindings) (side : Side) (host : ℕ) → in_pool table sid
 crosses_so table side host outside = by_same (is_same table (record { 0 = host })) (alias_of side (record { 0 = host }) table.entries) refl refl
   where
     by_same : (b : Bool) (o : Option Addr) → is_same table (record { 0 = host }) ≡ b → alias_of side (record { 0 = host }) table.entries ≡ o
-        → (is_same table (record { 0 = host }) ≡ true) ⊎ (((image : ℕ) × (alias_of side (record { 0 = host }) table.entries ≡ Some (record { 0 = image }))) ⊎ (HasNoBinding table side (record { 0 = host })))
+        → (is_same table (record { 0 = host }) ≡ true)
+        ⊎ (((image : ℕ) × (alias_of side (record { 0 = host }) table.entries ≡ Some (record { 0 = image })))
+        ⊎ (HasNoBinding table side (record { 0 = host })))
     by_same true o s a = inl s
     by_same false (Some image) s a = inr (inl (image.0, a))
     by_same false None s a = inr (inr (record { differs = s; outside = outside; alias = a }))
 
 -- where no address is free, one that needs a binding is one too many
-none_free : (table : Bindings) (side : Side) (host : ℕ) (rest : List Addr) → HasNoBinding table side (record { 0 = host }) → nat_lt (free table (other side)) (needed table side (record { 0 = host } ∷ rest)) ≡ false → least_free (pool_of table (other side)) ≡ None → ⊥
+none_free : (table : Bindings) (side : Side) (host : ℕ) (rest : List Addr) → HasNoBinding table side (record { 0 = host })
+    → nat_lt (free table (other side)) (needed table side (record { 0 = host } ∷ rest)) ≡ false → least_free (pool_of table (other side)) ≡ None → ⊥
 none_free table side host rest none room empty =
     let a : Addr = record { 0 = host } in
     let crosses : cross table side a ≡ Empty = unbound_cross table side a none ∙ ap new_or_empty empty in
@@ -100,7 +111,9 @@ none_free table side host rest none room empty =
     let count : 1 ≤ needed table side (a ∷ rest) = omega (arith, one, ap {B = ℕ} (λ b. cond b 1 0) fresh) in
     omega (arith, ltb-false (free table (other side)) (needed table side (a ∷ rest)) room, free_is, count)
   where
-    first_none : (found : Option ℕ) → option_map (λ (more : ℕ). let address : Addr = record { 0 = (pool_of table (other side)).range.first + (0 + more) } in address) found ≡ None → found ≡ None
+    first_none : (found : Option ℕ)
+        → option_map (λ (more : ℕ). let address : Addr = record { 0 = (pool_of table (other side)).range.first + (0 + more) } in address) found ≡ None
+        → found ≡ None
     first_none None h = refl
     first_none (Some one) h = cc
 
@@ -115,7 +128,8 @@ source_bound table side host until rest lawful outside room = elim (crosses_so t
   ]
 ]
   where
-    by_least : HasNoBinding table side (record { 0 = host }) → (o : Option Addr) → least_free (pool_of table (other side)) ≡ o → (alias : ℕ) × IsKnownAs (used table (use_of side host until)) side host alias until
+    by_least : HasNoBinding table side (record { 0 = host }) → (o : Option Addr) → least_free (pool_of table (other side)) ≡ o → (alias : ℕ)
+        × IsKnownAs (used table (use_of side host until)) side host alias until
     by_least none None e = absurd (none_free table side host rest none room e)
     by_least none (Some alias) e =
         let one : Binding = record { side = side; host = record { 0 = host }; alias = alias; until = record { 0 = until }; fixed = false } in
@@ -138,19 +152,25 @@ alias_known None (Some one) image e = cc
 alias_known (Some one) free image e = cc
 
 -- the host that an address of the pool stands for is bound to it
-pub back_bound : (table : Bindings) (side : Side) (address : ℕ) (host : Addr) → IsLawful table → host_of side (record { 0 = address }) table.entries ≡ Some host → cross table (other side) host ≡ Bound (record { 0 = address }) → IsBoundTo table (other side) host.0 address 0
+pub back_bound : (table : Bindings) (side : Side) (address : ℕ) (host : Addr) → IsLawful table
+    → host_of side (record { 0 = address }) table.entries ≡ Some host → cross table (other side) host ≡ Bound (record { 0 = address })
+    → IsBoundTo table (other side) host.0 address 0
 unfolding cross
 back_bound table side address host lawful e back =
     let f = found_host (find (is_of_alias side address) table.entries) host e in
     let place = find_all (IsInPlace table) (is_of_alias side address) table.entries f.0 f.1 lawful.places in
     let parts = and_parts (same_side f.0.side (other side)) (f.0.alias.0 == address) (find_passes (is_of_alias side address) table.entries f.0 f.1) in
     let sides : f.0.side ≡ other side = same_side-true f.0.side (other side) parts.0 in
-    let outside : in_pool table (other side) host ≡ false = ap (in_pool table (other side)) (sym f.2) ∙ ap (λ s. in_pool table s f.0.host) (sym sides) ∙ place.outside in
+    let outside : in_pool table (other side) host ≡ false = ap (in_pool table (other side)) (sym f.2) ∙ ap (λ s. in_pool table s f.0.host) (sym sides)
+    ∙ place.outside in
     let same : is_same table host ≡ false = ap (is_same table) (sym f.2) ∙ place.host in
-    let known : known_or (new_or_empty (least_free (pool_of table (other (other side))))) (alias_of (other side) host table.entries) ≡ Bound (record { 0 = address }) = rw (same, outside) at back in
-    bound_from table (other side) host.0 address (alias_known (alias_of (other side) host table.entries) (least_free (pool_of table (other (other side)))) (record { 0 = address }) known)
+    let known : known_or (new_or_empty (least_free (pool_of table (other (other side))))) (alias_of (other side) host table.entries) ≡ Bound
+    (record { 0 = address }) = rw (same, outside) at back in
+    bound_from table (other side) host.0 address
+    (alias_known (alias_of (other side) host table.entries) (least_free (pool_of table (other (other side)))) (record { 0 = address }) known)
 
-pub far_known : (table : Bindings) (side : Side) (address : ℕ) → IsLawful table → is_reachable table side (record { 0 = address }) ≡ true → IsKnownAs table (other side) (called table side (record { 0 = address })).0 address 0
+pub far_known : (table : Bindings) (side : Side) (address : ℕ) → IsLawful table → is_reachable table side (record { 0 = address }) ≡ true
+    → IsKnownAs table (other side) (called table side (record { 0 = address })).0 address 0
 unfolding cross
 far_known table side address lawful reach = elim (or_cases _ _ reach) [
   | inl same ↦
@@ -167,7 +187,8 @@ far_known table side address lawful reach = elim (or_cases _ _ reach) [
     by_host None e pool same some = absurd (true≢false (sym some ∙ rw (same, pool, e) refl))
     by_host (Some host) e pool same some =
         let crosses : cross table side (record { 0 = address }) ≡ Bound host = rw (same, pool, e) refl in
-        let back : cross table (other side) host ≡ Bound (record { 0 = address }) = crosses_back table side (record { 0 = address }) host lawful crosses in
+        let back : cross table (other side) host ≡ Bound (record { 0 = address }) =
+        crosses_back table side (record { 0 = address }) host lawful crosses in
         rw (same, pool, e) (inr (back_bound table side address host lawful e back))
 
 -- ## All uses of a frame
@@ -175,7 +196,8 @@ far_known table side address lawful reach = elim (or_cases _ _ reach) [
 abbrev pub header_uses : Side → ℕ → ℕ → ℕ → List Use
 header_uses side source destination until = use_of side source until ∷ use_of side destination until ∷ []
 
-far_lasts : (table : Bindings) (side : Side) (far address until : ℕ) → IsLawful table → IsKnownAs table (other side) far address 0 → IsKnownAs (used table (use_of side address until)) (other side) far address until
+far_lasts : (table : Bindings) (side : Side) (far address until : ℕ) → IsLawful table → IsKnownAs table (other side) far address 0
+    → IsKnownAs (used table (use_of side address until)) (other side) far address until
 far_lasts table side far address until lawful (inl same) = inl (same_used table (use_of side address until) (record { 0 = far }) ∙ same.0, same.1)
 far_lasts table side far address until lawful (inr h) = inr (alias_lasts table side far address 0 until lawful h)
 
@@ -185,8 +207,10 @@ pub record BothKnown (table after : Bindings) (side : Side) (source destination 
   pub own : IsKnownAs after side source alias until
   pub far : IsKnownAs after (other side) (called table side (record { 0 = destination })).0 destination until
 
-pub both_known : (table : Bindings) (side : Side) (source destination until : ℕ) (rest : List Addr) (uses : List Use) → IsLawful table → in_pool table side (record { 0 = source }) ≡ false → is_reachable table side (record { 0 = destination }) ≡ true
-    → nat_lt (free table (other side)) (needed table side (record { 0 = source } ∷ rest)) ≡ false → BothKnown table (after_uses table (header_uses side source destination until ++ uses)) side source destination until
+pub both_known : (table : Bindings) (side : Side) (source destination until : ℕ) (rest : List Addr) (uses : List Use) → IsLawful table
+    → in_pool table side (record { 0 = source }) ≡ false → is_reachable table side (record { 0 = destination }) ≡ true
+    → nat_lt (free table (other side)) (needed table side (record { 0 = source } ∷ rest)) ≡ false
+    → BothKnown table (after_uses table (header_uses side source destination until ++ uses)) side source destination until
 both_known table side source destination until rest uses lawful outside reach room =
     let one = use_of side source until in
     let two = use_of side destination until in
@@ -195,7 +219,8 @@ both_known table side source destination until rest uses lawful outside reach ro
     let lawful_first = lawful_used table one lawful in
     let own = source_bound table side source until rest lawful outside room in
     let far_now = (called table side (record { 0 = destination })).0 in
-    let far : IsKnownAs first (other side) far_now destination 0 = known_used table (other side) far_now destination 0 one (far_known table side destination lawful reach) in
+    let far : IsKnownAs first (other side) far_now destination 0 =
+    known_used table (other side) far_now destination 0 one (far_known table side destination lawful reach) in
     record {
       alias = own.0;
       own = known_after uses second side source own.0 until (known_used first side source own.0 until two own.1);

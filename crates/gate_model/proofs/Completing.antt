@@ -26,7 +26,8 @@ none_completed a g e =
     ∙ drop-length (cut a.meaning a.octets).units
 
 -- what goes on behind a rest completes what it completes behind all octets
-rest_completed : (a : Sender) (g : Segment) → IsLawful a.meaning → IsData g → completed a g ≡ (cut a.meaning ((cut a.meaning a.octets).rest ++ drop (start_of a g).before g.octets)).units
+pub rest_completed : (a : Sender) (g : Segment) → IsLawful a.meaning → IsData g
+    → completed a g ≡ (cut a.meaning ((cut a.meaning a.octets).rest ++ drop (start_of a g).before g.octets)).units
 rest_completed a g law d =
     let units : List (List ℕ) = (cut a.meaning a.octets).units in
     ap (λ (x : Sender). drop (length units) (cut a.meaning x.octets).units) (own_is a g d)
@@ -34,7 +35,9 @@ rest_completed a g law d =
     ∙ drop-append_seam units (cut a.meaning ((cut a.meaning a.octets).rest ++ drop (start_of a g).before g.octets)).units
 
 -- and behind what is held of it, which is all of it until the stream ends
-pub held_completed : (f : Host) (a b : Sender) (g : Segment) (held : List ℕ) → IsLawful a.meaning → held ≡ cond a.ended [] (cut a.meaning a.octets).rest → Passes f a b g → IsData g → (cut a.meaning (held ++ drop (start_of a g).before g.octets)).units ≡ completed a g
+pub held_completed : (f : Host) (a b : Sender) (g : Segment) (held : List ℕ) → IsLawful a.meaning
+    → held ≡ cond a.ended [] (cut a.meaning a.octets).rest → Passes f a b g → IsData g
+    → (cut a.meaning (held ++ drop (start_of a g).before g.octets)).units ≡ completed a g
 held_completed f a b g held law is p d =
     let new : List ℕ = drop (start_of a g).before g.octets in
     let rest : List ℕ = (cut a.meaning a.octets).rest in
@@ -43,7 +46,9 @@ held_completed f a b g held law is p d =
           let nothing : drop (start_of a g).before g.octets ≡ [] = nothing_past f a b g p d ended in
           ap (λ (r : List ℕ). (cut a.meaning (r ++ new)).units) (is ∙ cond-true a.ended [] rest ended)
           ∙ ap (λ (t : List ℕ). (cut a.meaning t).units) nothing
-          ∙ sym (rest_completed a g law d ∙ ap (λ (t : List ℕ). (cut a.meaning (rest ++ t)).units) nothing ∙ ap (λ (t : List ℕ). (cut a.meaning t).units) (append-nil rest) ∙ ap (λ (c : Cut). c.units) (cut-rest a.meaning law rest (IsRest-cut a.meaning law a.octets)))
+          ∙ sym (rest_completed a g law d ∙ ap (λ (t : List ℕ). (cut a.meaning (rest ++ t)).units) nothing
+          ∙ ap (λ (t : List ℕ). (cut a.meaning t).units) (append-nil rest)
+          ∙ ap (λ (c : Cut). c.units) (cut-rest a.meaning law rest (IsRest-cut a.meaning law a.octets)))
       | inr lasts ↦
           ap (λ (r : List ℕ). (cut a.meaning (r ++ new)).units) (is ∙ cond-false a.ended [] rest lasts)
           ∙ sym (rest_completed a g law d)

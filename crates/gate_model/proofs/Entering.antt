@@ -9,7 +9,7 @@ use Rattle.dns_messages.specs.declared.message.Message.{Message}
 use Rattle.dns_gateway.specs.Addresses.{message_addresses}
 use Rattle.dns_stream.specs.Prelude.{message_in, addresses_of, unit_addresses, image_in, renamed, grows_by}
 use Rattle.dns_stream.specs.Images.{if_small, image_with, image_by}
-use Rattle.dns_stream.specs.Lawful.{images-stay}
+use Rattle.dns_stream.specs.Inside.Lawful.{images-stay}
 use Rattle.gate_model.specs.Prelude.{enter, entered, is_bad, grows_too_much, IsRenamed}
 
 address : ℕ → Addr
@@ -45,13 +45,16 @@ enter_lists image es n = by_test (is_listed es n) refl
     by_test true e = e
     by_test false e = list_any-append (is_of n) es ((record { 0 = n }, image (record { 0 = n })) ∷ []) ∙ or_right _ _ (or_left _ _ (eq-eqb n n refl))
 
-stays_listed : (image : Addr → Option Addr) (es : List Entry) (names : List Addr) (n : ℕ) → is_listed es n ≡ true → is_listed (entered image es names) n ≡ true
+stays_listed : (image : Addr → Option Addr) (es : List Entry) (names : List Addr) (n : ℕ) → is_listed es n ≡ true
+    → is_listed (entered image es names) n ≡ true
 stays_listed image es names n h = let m = entered_more image es names in ap (λ (xs : List Entry). is_listed xs n) m.1 ∙ listed_more es m.0 n h
 
-pub entered_all : (image : Addr → Option Addr) (es : List Entry) (ns : List ℕ) → AllListed (entered image es (map (λ number. let one : Addr = record { 0 = number } in one) ns)) ns
+pub entered_all : (image : Addr → Option Addr) (es : List Entry) (ns : List ℕ)
+    → AllListed (entered image es (map (λ number. let one : Addr = record { 0 = number } in one) ns)) ns
 entered_all image es [] = tt
 entered_all image es (n ∷ ns) = (
-  stays_listed image (enter image es (record { 0 = n })) (map (λ number. let one : Addr = record { 0 = number } in one) ns) n (enter_lists image es n),
+  stays_listed image (enter image es (record { 0 = n })) (map (λ number. let one : Addr = record { 0 = number } in one) ns) n
+      (enter_lists image es n),
   entered_all image (enter image es (record { 0 = n })) ns,
 )
 
@@ -64,7 +67,8 @@ renamed_more es more u r = record {
   listed = all_listed_more es more (message_addresses r.message) r.listed;
   image =
       let same = images-stay es more (message_addresses r.message) r.listed in
-      ap (image_by (es ++ more) u) r.holds ∙ ap (λ (is : List (Option Addr)). image_with is u r.message) same ∙ sym (ap (image_by es u) r.holds) ∙ r.image ∙ ap (λ (is : List (Option Addr)). renamed is u r.message) (sym same);
+      ap (image_by (es ++ more) u) r.holds ∙ ap (λ (is : List (Option Addr)). image_with is u r.message) same ∙ sym (ap (image_by es u) r.holds)
+      ∙ r.image ∙ ap (λ (is : List (Option Addr)). renamed is u r.message) (sym same);
 }
 
 pub all_renamed_more : (es more : List Entry) (us : List (List ℕ)) → AllByRecursion (IsRenamed es) us → AllByRecursion (IsRenamed (es ++ more)) us
@@ -86,7 +90,8 @@ one_renamed es u listed good small =
       holds = m.1;
       listed = subst (λ (o : Option Message). AllListed es (addresses_of o)) m.1 listed;
       image =
-          let no_more : grows_by (map (image_in es) (addresses_of (Some m.0))) u (Some m.0) ≡ false = ap (λ (o : Option Message). grows_by (map (image_in es) (addresses_of o)) u o) (sym m.1) ∙ small in
+          let no_more : grows_by (map (image_in es) (addresses_of (Some m.0))) u (Some m.0) ≡ false =
+          ap (λ (o : Option Message). grows_by (map (image_in es) (addresses_of o)) u o) (sym m.1) ∙ small in
           ap (image_by es u) m.1 ∙ not_grown u (renamed (map (image_in es) (message_addresses m.0)) u m.0) no_more;
     }
 
@@ -94,7 +99,8 @@ listed_front : (es : List Entry) (xs ys : List ℕ) → AllListed es (xs ++ ys) 
 listed_front es [] ys h = (tt, h)
 listed_front es (x ∷ xs) ys h = let r = listed_front es xs ys h.1 in ((h.0, r.0), r.1)
 
-pub all_renamed : (es : List Entry) (us : List (List ℕ)) → AllListed es (flat_map unit_addresses us) → list_any is_bad us ≡ false → list_any (grows_too_much es) us ≡ false → AllByRecursion (IsRenamed es) us
+pub all_renamed : (es : List Entry) (us : List (List ℕ)) → AllListed es (flat_map unit_addresses us) → list_any is_bad us ≡ false
+    → list_any (grows_too_much es) us ≡ false → AllByRecursion (IsRenamed es) us
 all_renamed es [] listed good small = tt
 all_renamed es (u ∷ us) listed good small =
     let l = listed_front es (unit_addresses u) (flat_map unit_addresses us) listed in
@@ -102,16 +108,19 @@ all_renamed es (u ∷ us) listed good small =
     let s = or_parts (grows_too_much es u) (list_any (grows_too_much es) us) small in
     (one_renamed es u l.0 g.0 s.0, all_renamed es us l.1 g.1 s.1)
 
-pub listed_units : (es : List Entry) (us : List (List ℕ)) → AllByRecursion (IsRenamed es) us → AllByRecursion (λ u. AllListed es (unit_addresses u)) us
+pub listed_units : (es : List Entry) (us : List (List ℕ)) → AllByRecursion (IsRenamed es) us
+    → AllByRecursion (λ u. AllListed es (unit_addresses u)) us
 listed_units es [] h = tt
 listed_units es (u ∷ us) h = (subst (λ (o : Option Message). AllListed es (addresses_of o)) (sym h.0.holds) h.0.listed, listed_units es us h.1)
 
 -- each unit by itself
-pub split_listed : (es : List Entry) (us : List (List ℕ)) → AllListed es (flat_map unit_addresses us) → AllByRecursion (λ u. AllListed es (unit_addresses u)) us
+pub split_listed : (es : List Entry) (us : List (List ℕ)) → AllListed es (flat_map unit_addresses us)
+    → AllByRecursion (λ u. AllListed es (unit_addresses u)) us
 split_listed es [] h = tt
 split_listed es (u ∷ us) h = let l = listed_front es (unit_addresses u) (flat_map unit_addresses us) h in (l.0, split_listed es us l.1)
 
-pub listed_units_more : (es more : List Entry) (us : List (List ℕ)) → AllByRecursion (λ u. AllListed es (unit_addresses u)) us → AllByRecursion (λ u. AllListed (es ++ more) (unit_addresses u)) us
+pub listed_units_more : (es more : List Entry) (us : List (List ℕ)) → AllByRecursion (λ u. AllListed es (unit_addresses u)) us
+    → AllByRecursion (λ u. AllListed (es ++ more) (unit_addresses u)) us
 listed_units_more es more [] h = tt
 listed_units_more es more (u ∷ us) h = (all_listed_more es more (unit_addresses u) h.0, listed_units_more es more us h.1)
 

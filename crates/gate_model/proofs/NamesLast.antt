@@ -160,7 +160,8 @@ kept_stands {S = S} rules w e address until lawful v kept = elim kept [
         subst (λ (kind : Kind). StandFor (table_after rules live e.side e.moment d kind) e.side address.0
         (called (table_after rules live e.side e.moment d kind) e.side address).0 (e.moment + named_timeout)) (sym dns)
         (All-contains (λ (a : Addr). StandFor (table_after rules live e.side e.moment d (Whole Dns)) e.side a.0
-        (called (table_after rules live e.side e.moment d (Whole Dns)) e.side a).0 (e.moment + named_timeout)) (named_in (message_in d)) address all has)
+        (called (table_after rules live e.side e.moment d (Whole Dns)) e.side a).0 (e.moment + named_timeout))
+        (named_in (message_in d)) address all has)
 
 -- ## What goes out for the names
 

@@ -52,27 +52,35 @@ pub record Passes {S : Type 0} (rules : SessionRules S) (live : World S) (side :
   pub pool : is_pool_empty rules live side d kind ≡ false
   pub late : NoneHolds (late_tests rules live side moment d kind)
 
-parts : {S : Type 0} (rules : SessionRules S) (live : World S) (side : Side) (moment : ℕ) (d : Datagram) (kind : Kind) → NoneHolds (world_tests rules live side moment d kind) → Passes rules live side moment d kind
+parts : {S : Type 0} (rules : SessionRules S) (live : World S) (side : Side) (moment : ℕ) (d : Datagram) (kind : Kind)
+    → NoneHolds (world_tests rules live side moment d kind) → Passes rules live side moment d kind
 parts rules live side moment d kind h =
     let late = late_tests rules live side moment d kind in
-    let later = none_right (address_tests live.table side d) (kind_tests rules live side moment d kind ++ (is_pool_empty rules live side d kind, PoolEmpty) ∷ late) h in
+    let later =
+    none_right (address_tests live.table side d)
+    (kind_tests rules live side moment d kind ++ (is_pool_empty rules live side d kind, PoolEmpty) ∷ late) h in
     let last = none_right (kind_tests rules live side moment d kind) ((is_pool_empty rules live side d kind, PoolEmpty) ∷ late) later in
     record {
-      address = none_left (address_tests live.table side d) (kind_tests rules live side moment d kind ++ (is_pool_empty rules live side d kind, PoolEmpty) ∷ late) h;
+      address =
+          none_left (address_tests live.table side d)
+          (kind_tests rules live side moment d kind ++ (is_pool_empty rules live side d kind, PoolEmpty) ∷ late) h;
       content = none_left (kind_tests rules live side moment d kind) ((is_pool_empty rules live side d kind, PoolEmpty) ∷ late) later;
       pool = none_head {test = (is_pool_empty rules live side d kind, PoolEmpty)} {more = late} last;
       late = none_tail {test = (is_pool_empty rules live side d kind, PoolEmpty)} {more = late} last;
     }
 
-pub passes : {S : Type 0} (rules : SessionRules S) (w : World S) (e : Event) → verdict rules w e ≡ Pass → Passes rules (at_moment w e.moment) e.side e.moment (datagram_in e) (kind_of (datagram_in e))
+pub passes : {S : Type 0} (rules : SessionRules S) (w : World S) (e : Event) → verdict rules w e ≡ Pass
+    → Passes rules (at_moment w e.moment) e.side e.moment (datagram_in e) (kind_of (datagram_in e))
 unfolding verdict
 passes rules w e h =
     let live = at_moment w e.moment in
     let d = datagram_in e in
     let rest = world_tests rules live e.side e.moment d (kind_of d) in
     let all : NoneHolds (tests rules live e) = record { none = pass_is (first_that_holds (tests rules live e)) h } in
-    let one : NoneHolds (datagram_tests d ++ (transport_tests d ++ rest)) = none_right (header_tests e) (datagram_tests d ++ (transport_tests d ++ rest)) all in
-    parts rules live e.side e.moment d (kind_of d) (none_right (transport_tests d) (rest) (none_right (datagram_tests d) (transport_tests d ++ rest) one))
+    let one : NoneHolds (datagram_tests d ++ (transport_tests d ++ rest)) =
+    none_right (header_tests e) (datagram_tests d ++ (transport_tests d ++ rest)) all in
+    parts rules live e.side e.moment d (kind_of d)
+    (none_right (transport_tests d) (rest) (none_right (datagram_tests d) (transport_tests d ++ rest) one))
 
 -- the same of a segment
 pub record StreamPasses {S : Type 0} (rules : SessionRules S) (live : World S) (side : Side) (moment : ℕ) (d : Datagram) : Type 0 where
@@ -81,7 +89,8 @@ pub record StreamPasses {S : Type 0} (rules : SessionRules S) (live : World S) (
   pub units : NoneHolds (unit_tests rules (image_in rules live side moment d) live.table side d (taker_in rules live side moment d))
   pub full : is_full live.connections (found_in live side d) d ≡ false
 
-pub stream_passes : {S : Type 0} (rules : SessionRules S) (live : World S) (side : Side) (moment : ℕ) (d : Datagram) → NoneHolds (kind_tests rules live side moment d Stream) → StreamPasses rules live side moment d
+pub stream_passes : {S : Type 0} (rules : SessionRules S) (live : World S) (side : Side) (moment : ℕ) (d : Datagram)
+    → NoneHolds (kind_tests rules live side moment d Stream) → StreamPasses rules live side moment d
 stream_passes rules live side moment d h =
     let found = found_in live side d in
     let refusal = session_refusal rules side d (taker_in rules live side moment d) in

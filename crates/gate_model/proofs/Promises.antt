@@ -37,10 +37,13 @@ unfolding verdict
 verdict_is w e = refl
 
 -- a datagram that no session takes goes out once
-goes_once : (live : World WholeSession) (table : Bindings) (side : Side) (moment : ℕ) (d : Datagram) (source destination : ℕ) (kind : Kind) → (kind ≡ Stream → taker_in whole_rules live side moment d ≡ None)
-    → out_between whole_rules live table side moment d source destination kind ≡ renamed (translated whole_rules live table side d kind) source destination ∷ []
+goes_once : (live : World WholeSession) (table : Bindings) (side : Side) (moment : ℕ) (d : Datagram) (source destination : ℕ) (kind : Kind)
+    → (kind ≡ Stream → taker_in whole_rules live side moment d ≡ None)
+    → out_between whole_rules live table side moment d source destination kind ≡ renamed
+    (translated whole_rules live table side d kind) source destination ∷ []
 goes_once live table side moment d source destination (Whole payload) plain = refl
-goes_once live table side moment d source destination Stream plain = ap (stream_out whole_rules (image_in whole_rules live side moment d) side d source destination) (plain refl)
+goes_once live table side moment d source destination Stream plain =
+    ap (stream_out whole_rules (image_in whole_rules live side moment d) side d source destination) (plain refl)
 
 frame_is : (w : World WholeSession) (e : Event) → FrameIs w e
 frame_is w e =
@@ -50,7 +53,8 @@ frame_is w e =
     record {
       refused = λ r h. let v : verdict whole_rules w e ≡ Refused r = verdict_is w e ∙ ap verdict_of h in (v, ap (out_by whole_rules live e) v);
       passes = λ h. let v : verdict whole_rules w e ≡ Pass = verdict_is w e ∙ ap verdict_of h in (v, goes_on whole_rules whole_answers w e v);
-      renames = λ v plain. ap (out_by whole_rules live e) v ∙ goes_once live table e.side e.moment d (called table e.side (source_of d)).0 (called table e.side (destination_of d)).0 (kind_of d) plain;
+      renames = λ v plain. ap (out_by whole_rules live e) v
+          ∙ goes_once live table e.side e.moment d (called table e.side (source_of d)).0 (called table e.side (destination_of d)).0 (kind_of d) plain;
     }
 
 pub promised : (settings : Settings) (events : List Event) → IsSound settings → HasForms settings → Promised settings events
@@ -58,14 +62,20 @@ promised settings events sound forms =
     record {
       frames = λ done others e split. frame_is (known_after settings done) e;
       sessions = λ done others split. sessions_are done settings;
-      taken = λ done others e split t h. session_is _ (taken_keeps remembering_rules TrackedHolds remembered_keeps (remembered_after settings done) e t h (run_holds done settings));
-      images = λ done others e split t h host number listed. images_stay whole_rules whole_lists (image_in remembering_rules (at_moment (remembered_after settings done) e.moment) e.side e.moment (datagram_in e)) (host_on e.side t) t.session.session (segment_of (datagram_in e)) host number listed;
+      taken = λ done others e split t h. session_is _
+          (taken_keeps remembering_rules TrackedHolds remembered_keeps (remembered_after settings done) e t h (run_holds done settings));
+      images =
+          λ done others e split t h host number listed. images_stay whole_rules whole_lists
+          (image_in remembering_rules (at_moment (remembered_after settings done) e.moment) e.side e.moment (datagram_in e))
+          (host_on e.side t) t.session.session (segment_of (datagram_in e)) host number listed;
       remembers = λ done others split. sym (known done);
       said_is = λ done others e split t h. ap (λ (w : World WholeSession). out whole_rules w e) (known done)
           ∙ out_as (λ (x : RememberedSession). x.session) remembering_rules whole_rules remembered_reads (remembered_after settings done) e
           ∙ taken_out remembering_rules (remembered_after settings done) e t h;
       pairs = λ done others split. pairs_cross _ (run_hosts whole_rules done (opening_world settings) (opening_hosts settings sound forms));
-      lists = λ done others split. let h = run_lists whole_rules whole_lists done (opening_world settings) (opening_lists whole_rules settings sound forms) in (h.lists, lists_cross whole_rules (known_after settings done) h);
+      lists = λ done others split. let h =
+          run_lists whole_rules whole_lists done (opening_world settings) (opening_lists whole_rules settings sound forms) in
+          (h.lists, lists_cross whole_rules (known_after settings done) h);
       waits = λ done others split. waits_are done settings;
       going = λ done others e split t h is. session_goes_on done settings e t h is;
       through = λ done others e split. through (remembered_after settings done) e;

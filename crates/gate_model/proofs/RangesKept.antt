@@ -27,7 +27,8 @@ few_filtered : {A : Type 0} (q p : A → Bool) (xs : List A) → many q (filter 
 few_filtered q p [] = omega arith
 few_filtered {A = A} q p (x ∷ xs) = by_tests (p x) (q x) (few_filtered q p xs) refl
   where
-    by_tests : (b c : Bool) → many q (filter p xs) ≤ many q xs → q x ≡ c → many q (cond b (x ∷ filter p xs) (filter p xs)) ≤ length (cond c (x ∷ filter q xs) (filter q xs))
+    by_tests : (b c : Bool) → many q (filter p xs) ≤ many q xs → q x ≡ c
+        → many q (cond b (x ∷ filter p xs) (filter p xs)) ≤ length (cond c (x ∷ filter q xs) (filter q xs))
     by_tests true true le e = rw e (omega arith)
     by_tests true false le e = rw e le
     by_tests false true le e = omega arith
@@ -43,7 +44,8 @@ few_removed {A = A} q (x ∷ xs) zero = by_test (q x)
     by_test false = omega arith
 few_removed {A = A} q (x ∷ xs) (suc i) = by_test (q x) (few_removed q xs i)
   where
-    by_test : (c : Bool) → many q (remove xs i) ≤ many q xs → length (cond c (x ∷ filter q (remove xs i)) (filter q (remove xs i))) ≤ length (cond c (x ∷ filter q xs) (filter q xs))
+    by_test : (c : Bool) → many q (remove xs i) ≤ many q xs
+        → length (cond c (x ∷ filter q (remove xs i)) (filter q (remove xs i))) ≤ length (cond c (x ∷ filter q xs) (filter q xs))
     by_test true le = omega arith
     by_test false le = le
 
@@ -58,7 +60,8 @@ few_set {A = A} q (z ∷ xs) zero x y e s =
     by_head false = refl
 few_set {A = A} q (z ∷ xs) (suc i) x y e s = by_test (q z) (few_set q xs i x y e s)
   where
-    by_test : (c : Bool) → many q (set xs i y) ≡ many q xs → length (cond c (z ∷ filter q (set xs i y)) (filter q (set xs i y))) ≡ length (cond c (z ∷ filter q xs) (filter q xs))
+    by_test : (c : Bool) → many q (set xs i y) ≡ many q xs
+        → length (cond c (z ∷ filter q (set xs i y)) (filter q (set xs i y))) ≡ length (cond c (z ∷ filter q xs) (filter q xs))
     by_test true e = ap suc e
     by_test false e = e
 
@@ -74,10 +77,14 @@ few_long p xs = omega (arith, length-filter p xs, count_by-le-length p xs)
 -- ## A segment
 
 -- what is left has a session where one takes the segment
-session_left : {S : Type 0} (rules : SessionRules S) (image : Addr → Option Addr) (live : World S) (side : Side) (moment : ℕ) (d : Datagram) (taker : Option (Tracked S)) → IfSome (connection_after rules image live side moment d taker) (λ c. is_tracked c ≡ is_some taker)
-session_left {S = S} rules image live side moment d taker = by_cases (ends_by rules side d taker) (after (key_in live.table side d) side (tcp_of d).flags taker (record { 0 = moment }) (found_in live side d))
+session_left : {S : Type 0} (rules : SessionRules S) (image : Addr → Option Addr) (live : World S) (side : Side) (moment : ℕ) (d : Datagram)
+    (taker : Option (Tracked S)) → IfSome (connection_after rules image live side moment d taker) (λ c. is_tracked c ≡ is_some taker)
+session_left {S = S} rules image live side moment d taker =
+    by_cases (ends_by rules side d taker)
+    (after (key_in live.table side d) side (tcp_of d).flags taker (record { 0 = moment }) (found_in live side d))
   where
-    by_cases : (b : Bool) (o : Option (Connection (Tracked S))) → IfSome (if b then None else option_map (with_session (option_map (stepped rules image side d) taker)) o) (λ c. is_tracked c ≡ is_some taker)
+    by_cases : (b : Bool) (o : Option (Connection (Tracked S)))
+        → IfSome (if b then None else option_map (with_session (option_map (stepped rules image side d) taker)) o) (λ c. is_tracked c ≡ is_some taker)
     by_cases true o = tt
     by_cases false None = tt
     by_cases false (Some c) = some_mapped (stepped rules image side d) taker
@@ -94,20 +101,28 @@ begins_plain {S = S} rules image live side moment d taker none =
     (by_cases (ends_by rules side d taker) (kept_or_begun (key_in live.table side d) (tcp_of d).flags taker None) refl)
   where
     by_cases : (b : Bool) (o : Option (Connection (Tracked S))) → kept_or_begun (key_in live.table side d) (tcp_of d).flags taker None ≡ o
-        → IfSome (if b then None else option_map (with_session (option_map (stepped rules image side d) taker)) (option_map (λ c. held (record { 0 = moment }) (with_flags side (tcp_of d).flags c)) o)) (λ c. (flags_of (tcp_of d).flags).reset ≡ false)
+        → IfSome
+        (if b then None else option_map (with_session (option_map (stepped rules image side d) taker))
+        (option_map (λ c. held (record { 0 = moment }) (with_flags side (tcp_of d).flags c)) o)) (λ c. (flags_of (tcp_of d).flags).reset ≡ false)
     by_cases true o e = tt
     by_cases false None e = tt
     by_cases false (Some k) e = (begun_is (key_in live.table side d) (tcp_of d).flags taker k e).1
 
 -- there is room for a connection, and for a session where one begins
-room : {S : Type 0} (all : List (Connection (Tracked S))) (d : Datagram) → is_full {S = S} all None d ≡ false → (flags_of (tcp_of d).flags).reset ≡ false → (length all < most_connections) × (begins {S = S} None d ≡ true → count_by is_tracked all < most_sessions)
-room {S = S} all d full plain = by_tests (flags_of (tcp_of d).flags).reset (nat_le most_connections (length all)) (begins {S = S} None d) (nat_le most_sessions (count_by is_tracked all)) plain refl refl full
+room : {S : Type 0} (all : List (Connection (Tracked S))) (d : Datagram) → is_full {S = S} all None d ≡ false
+    → (flags_of (tcp_of d).flags).reset ≡ false → (length all < most_connections)
+    × (begins {S = S} None d ≡ true → count_by is_tracked all < most_sessions)
+room {S = S} all d full plain =
+    by_tests (flags_of (tcp_of d).flags).reset (nat_le most_connections (length all)) (begins {S = S} None d)
+    (nat_le most_sessions (count_by is_tracked all)) plain refl refl full
   where
-    by_tests : (r n b m : Bool) → r ≡ false → nat_le most_connections (length all) ≡ n → nat_le most_sessions (count_by is_tracked all) ≡ m → (not r && n || (b && m)) ≡ false → (length all < most_connections) × (b ≡ true → count_by is_tracked all < most_sessions)
+    by_tests : (r n b m : Bool) → r ≡ false → nat_le most_connections (length all) ≡ n → nat_le most_sessions (count_by is_tracked all) ≡ m
+        → (not r && n || (b && m)) ≡ false → (length all < most_connections) × (b ≡ true → count_by is_tracked all < most_sessions)
     by_tests true n b m p e f q = absurd (cc)
     by_tests false true b m p e f q = absurd (cc)
     by_tests false false true true p e f q = absurd (cc)
-    by_tests false false true false p e f q = (omega (arith, leb-false most_connections (length all) e), λ t. omega (arith, leb-false most_sessions (count_by is_tracked all) f))
+    by_tests false false true false p e f q =
+        (omega (arith, leb-false most_connections (length all) e), λ t. omega (arith, leb-false most_sessions (count_by is_tracked all) f))
     by_tests false false false m p e f q = (omega (arith, leb-false most_connections (length all) e), λ t. absurd (cc))
 
 -- what fits
@@ -116,7 +131,8 @@ pub record Fits {S : Type 0} (xs : List (Connection (Tracked S))) : Type 0 where
   pub sessions : many is_tracked xs ≤ most_sessions
 
 -- a new connection, with or without a session
-fits_more : {S : Type 0} (all : List (Connection (Tracked S))) (c : Connection (Tracked S)) → Fits all → length all < most_connections → (is_tracked c ≡ true → many is_tracked all < most_sessions) → Fits (all ++ c ∷ [])
+fits_more : {S : Type 0} (all : List (Connection (Tracked S))) (c : Connection (Tracked S)) → Fits all → length all < most_connections
+    → (is_tracked c ≡ true → many is_tracked all < most_sessions) → Fits (all ++ c ∷ [])
 fits_more {S = S} all c f long room = record {
   connections = omega (arith, length_push all c);
   sessions = rw filter-append (by_test (is_tracked c) room);
@@ -128,17 +144,25 @@ fits_more {S = S} all c f long room = record {
 
 fits_changed : {S : Type 0} (all : List (Connection (Tracked S))) (place : Option ℕ) (c : Option (Connection (Tracked S))) → Fits all
     → (place ≡ None → IfSome c (λ x. (length all < most_connections) × (is_tracked x ≡ true → many is_tracked all < most_sessions)))
-    → ((i : ℕ) → place ≡ Some i → (old : Connection (Tracked S)) × (slice_get all i ≡ Some old) × IfSome c (λ x. is_tracked x ≡ is_tracked old)) → Fits (changed all place c)
+    → ((i : ℕ) → place ≡ Some i → (old : Connection (Tracked S)) × (slice_get all i ≡ Some old) × IfSome c (λ x. is_tracked x ≡ is_tracked old))
+    → Fits (changed all place c)
 fits_changed all None None f new old = f
 fits_changed all None (Some c) f new old = let r = new refl in fits_more all c f r.0 r.1
-fits_changed all (Some i) None f new old = record { connections = omega (arith, few_kept all i, f.connections); sessions = omega (arith, few_removed is_tracked all i, f.sessions) }
+fits_changed all (Some i) None f new old =
+    record { connections = omega (arith, few_kept all i, f.connections); sessions = omega (arith, few_removed is_tracked all i, f.sessions) }
 fits_changed all (Some i) (Some c) f new old =
     let o = old i refl in
-    record { connections = omega (arith, length-set all i c, f.connections); sessions = omega (arith, few_set is_tracked all i o.0 c o.1 o.2, f.sessions) }
+    record {
+      connections = omega (arith, length-set all i c, f.connections);
+      sessions =
+          omega (arith, few_set is_tracked all i o.0 c o.1 o.2, f.sessions);
+    }
 
-stream_fits : {S : Type 0} (rules : SessionRules S) (live : World S) (side : Side) (moment : ℕ) (d : Datagram) → StreamPasses rules live side moment d → Fits live.connections → Fits (after_kind rules live side moment d Stream).connections
+stream_fits : {S : Type 0} (rules : SessionRules S) (live : World S) (side : Side) (moment : ℕ) (d : Datagram) → StreamPasses rules live side moment d
+    → Fits live.connections → Fits (after_kind rules live side moment d Stream).connections
 stream_fits {S = S} rules live side moment d p f =
-    fits_changed live.connections (place_of (key_in live.table side d) live.connections) (connection_after rules (image_in rules live side moment d) live side moment d (taker_in rules live side moment d)) f new old
+    fits_changed live.connections (place_of (key_in live.table side d) live.connections)
+    (connection_after rules (image_in rules live side moment d) live side moment d (taker_in rules live side moment d)) f new old
   where
     counted : count_by is_tracked live.connections ≡ many is_tracked live.connections
     counted = sym (length-filter is_tracked live.connections)
@@ -147,17 +171,20 @@ stream_fits {S = S} rules live side moment d p f =
     found_none e = ap (option_and_then (slice_get live.connections)) e
 
     begun : found_in live side d ≡ None → is_some (taker_in rules live side moment d) ≡ begins {S = S} None d
-    begun none = ap (λ (o : Option (Connection (Tracked S))). is_some (taker_by rules (table_after rules live side moment d Stream) side d o)) none ∙ by_test (begins {S = S} None d)
+    begun none = ap (λ (o : Option (Connection (Tracked S))). is_some (taker_by rules (table_after rules live side moment d Stream) side d o)) none
+        ∙ by_test (begins {S = S} None d)
       where
         by_test : (b : Bool) → is_some (if b then Some (made_by rules (table_after rules live side moment d Stream) side d) else None) ≡ b
         by_test true = refl
         by_test false = refl
 
-    both : (o : Option (Connection (Tracked S))) → found_in live side d ≡ None → IfSome o (λ c. (flags_of (tcp_of d).flags).reset ≡ false) → IfSome o (λ c. is_tracked c ≡ is_some (taker_in rules live side moment d))
+    both : (o : Option (Connection (Tracked S))) → found_in live side d ≡ None → IfSome o (λ c. (flags_of (tcp_of d).flags).reset ≡ false)
+        → IfSome o (λ c. is_tracked c ≡ is_some (taker_in rules live side moment d))
         → IfSome o (λ x. (length live.connections < most_connections) × (is_tracked x ≡ true → many is_tracked live.connections < most_sessions))
     both None none a b = tt
     both (Some c) none a b =
-        let full : is_full {S = S} live.connections None d ≡ false = ap (λ (o : Option (Connection (Tracked S))). is_full live.connections o d) (sym none) ∙ p.full in
+        let full : is_full {S = S} live.connections None d ≡ false =
+        ap (λ (o : Option (Connection (Tracked S))). is_full live.connections o d) (sym none) ∙ p.full in
         let r = room live.connections d full a in
         (r.0, λ t. let less : count_by is_tracked live.connections < most_sessions = r.1 (sym (begun none) ∙ sym b ∙ t) in omega (arith, counted))
 
@@ -168,7 +195,8 @@ stream_fits {S = S} rules live side moment d p f =
         (begins_plain rules (image_in rules live side moment d) live side moment d (taker_in rules live side moment d) (found_none e))
         (session_left rules (image_in rules live side moment d) live side moment d (taker_in rules live side moment d))
 
-    joined : (c : Connection (Tracked S)) → is_some (taker_in rules live side moment d) ≡ is_tracked c → (o : Option (Connection (Tracked S))) → IfSome o (λ x. is_tracked x ≡ is_some (taker_in rules live side moment d)) → IfSome o (λ x. is_tracked x ≡ is_tracked c)
+    joined : (c : Connection (Tracked S)) → is_some (taker_in rules live side moment d) ≡ is_tracked c → (o : Option (Connection (Tracked S)))
+        → IfSome o (λ x. is_tracked x ≡ is_some (taker_in rules live side moment d)) → IfSome o (λ x. is_tracked x ≡ is_tracked c)
     joined c taker None h = tt
     joined c taker (Some x) h = h ∙ taker
 
@@ -179,8 +207,13 @@ stream_fits {S = S} rules live side moment d p f =
     at i None e h = absurd (omega (arith, place_within (is_of (key_in live.table side d)) live.connections i h, none_past live.connections i e))
     at i (Some c) e h =
         let found : found_in live side d ≡ Some c = ap (option_and_then (slice_get live.connections)) h ∙ e in
-        let taker : is_some (taker_in rules live side moment d) ≡ is_tracked c = ap (λ (o : Option (Connection (Tracked S))). is_some (taker_by rules (table_after rules live side moment d Stream) side d o)) found in
-        (c, e, joined c taker (connection_after rules (image_in rules live side moment d) live side moment d (taker_in rules live side moment d)) (session_left rules (image_in rules live side moment d) live side moment d (taker_in rules live side moment d)))
+        let taker : is_some (taker_in rules live side moment d) ≡ is_tracked c =
+        ap (λ (o : Option (Connection (Tracked S))). is_some (taker_by rules (table_after rules live side moment d Stream) side d o)) found in (
+          c,
+          e,
+          joined c taker (connection_after rules (image_in rules live side moment d) live side moment d (taker_in rules live side moment d))
+              (session_left rules (image_in rules live side moment d) live side moment d (taker_in rules live side moment d)),
+        )
 
     old : (i : ℕ) → place_of (key_in live.table side d) live.connections ≡ Some i → (old : Connection (Tracked S))
         × (slice_get live.connections i ≡ Some old)
@@ -196,14 +229,16 @@ fits_live now all f = record {
   sessions = omega (arith, few_filtered is_tracked (is_live (record { 0 = now })) all, f.sessions);
 }
 
-kind_fits : {S : Type 0} (rules : SessionRules S) (live : World S) (side : Side) (moment : ℕ) (d : Datagram) (kind : Kind) → Passes rules live side moment d kind → Fits live.connections → Fits (after_kind rules live side moment d kind).connections
+kind_fits : {S : Type 0} (rules : SessionRules S) (live : World S) (side : Side) (moment : ℕ) (d : Datagram) (kind : Kind)
+    → Passes rules live side moment d kind → Fits live.connections → Fits (after_kind rules live side moment d kind).connections
 kind_fits rules live side moment d (Whole payload) p f = f
 kind_fits rules live side moment d Stream p f = stream_fits rules live side moment d (stream_passes rules live side moment d p.content) f
 
 next_fits : {S : Type 0} (rules : SessionRules S) (w : World S) (e : Event) → Fits w.connections → Fits (next rules w e).connections
 next_fits {S = S} rules w e f = by_verdict (verdict rules w e) refl (fits_live e.moment w.connections f)
   where
-    by_verdict : (v : Verdict) → verdict rules w e ≡ v → Fits (at_moment w e.moment).connections → Fits (next_by rules (at_moment w e.moment) e v).connections
+    by_verdict : (v : Verdict) → verdict rules w e ≡ v → Fits (at_moment w e.moment).connections
+        → Fits (next_by rules (at_moment w e.moment) e v).connections
     by_verdict Pass p f = kind_fits rules (at_moment w e.moment) e.side e.moment (datagram_in e) (kind_of (datagram_in e)) (passes rules w e p) f
     by_verdict (Refused r) p f = f
     by_verdict Held p f = f

@@ -12,14 +12,17 @@ use Rattle.gate_model.proofs.ReadWorlds.{verdict_as}
 use Rattle.gate_model.proofs.ReadSteps.{next_as, out_as}
 
 -- two related sessions after a segment: they stay as they are where it doesn't pass
-abbrev both_after : {S T : Type 0} (R : S → T → Type 0) (a : SessionRules S) (b : SessionRules T) → Agree R a b → (i : Addr → Option Addr) (f : Host) (x : Both R) (g : Segment) (v : Option Refusal) → v ≡ a.refusal f x.one g → Both R
-both_after R a b agree i f x g None e = record { one = a.next i f x.one g; two = b.next i f x.two g; related = agree.next i f x.one x.two g x.related (sym e) }
+abbrev both_after : {S T : Type 0} (R : S → T → Type 0) (a : SessionRules S) (b : SessionRules T) → Agree R a b
+    → (i : Addr → Option Addr) (f : Host) (x : Both R) (g : Segment) (v : Option Refusal) → v ≡ a.refusal f x.one g → Both R
+both_after R a b agree i f x g None e =
+    record { one = a.next i f x.one g; two = b.next i f x.two g; related = agree.next i f x.one x.two g x.related (sym e) }
 both_after R a b agree i f x g (Some r) e = x
 
 -- related sessions step together
-abbrev both_rules : {S T : Type 0} (R : S → T → Type 0) (a : SessionRules S) (b : SessionRules T) → Agree R a b → SessionRules (Both R)
+abbrev pub both_rules : {S T : Type 0} (R : S → T → Type 0) (a : SessionRules S) (b : SessionRules T) → Agree R a b → SessionRules (Both R)
 both_rules R a b agree = record {
-  made = λ port pair initial mss. record { one = a.made port pair initial mss; two = b.made port pair initial mss; related = agree.made port pair initial mss };
+  made = λ port pair initial mss. record
+      { one = a.made port pair initial mss; two = b.made port pair initial mss; related = agree.made port pair initial mss };
   refusal = λ f x g. a.refusal f x.one g;
   units = λ f x g. a.units f x.one g;
   listed = λ f x. a.listed f x.one;
@@ -30,15 +33,20 @@ both_rules R a b agree = record {
   pending = λ x. a.pending x.one;
 }
 
-one_after : {S T : Type 0} (R : S → T → Type 0) (a : SessionRules S) (b : SessionRules T) (agree : Agree R a b) (i : Addr → Option Addr) (f : Host) (x : Both R) (g : Segment) (v : Option Refusal) (e : v ≡ a.refusal f x.one g) → v ≡ None → a.next i f x.one g ≡ (both_after R a b agree i f x g v e).one
+one_after : {S T : Type 0} (R : S → T → Type 0) (a : SessionRules S) (b : SessionRules T) (agree : Agree R a b) (i : Addr → Option Addr) (f : Host)
+    (x : Both R) (g : Segment) (v : Option Refusal) (e : v ≡ a.refusal f x.one g) → v ≡ None
+    → a.next i f x.one g ≡ (both_after R a b agree i f x g v e).one
 one_after R a b agree i f x g None e n = refl
 one_after R a b agree i f x g (Some r) e n = absurd (cc)
 
-two_after : {S T : Type 0} (R : S → T → Type 0) (a : SessionRules S) (b : SessionRules T) (agree : Agree R a b) (i : Addr → Option Addr) (f : Host) (x : Both R) (g : Segment) (v : Option Refusal) (e : v ≡ a.refusal f x.one g) → v ≡ None → b.next i f x.two g ≡ (both_after R a b agree i f x g v e).two
+two_after : {S T : Type 0} (R : S → T → Type 0) (a : SessionRules S) (b : SessionRules T) (agree : Agree R a b) (i : Addr → Option Addr) (f : Host)
+    (x : Both R) (g : Segment) (v : Option Refusal) (e : v ≡ a.refusal f x.one g) → v ≡ None
+    → b.next i f x.two g ≡ (both_after R a b agree i f x g v e).two
 two_after R a b agree i f x g None e n = refl
 two_after R a b agree i f x g (Some r) e n = absurd (cc)
 
-first_reads : {S T : Type 0} (R : S → T → Type 0) (a : SessionRules S) (b : SessionRules T) (agree : Agree R a b) → Reads (λ (x : Both R). x.one) (both_rules R a b agree) a
+pub first_reads : {S T : Type 0} (R : S → T → Type 0) (a : SessionRules S) (b : SessionRules T) (agree : Agree R a b)
+    → Reads (λ (x : Both R). x.one) (both_rules R a b agree) a
 first_reads R a b agree = record {
   made = λ port pair initial mss. refl;
   refusal = λ f x g. refl;
@@ -51,7 +59,8 @@ first_reads R a b agree = record {
   pending = λ x. refl;
 }
 
-second_reads : {S T : Type 0} (R : S → T → Type 0) (a : SessionRules S) (b : SessionRules T) (agree : Agree R a b) → Reads (λ (x : Both R). x.two) (both_rules R a b agree) b
+pub second_reads : {S T : Type 0} (R : S → T → Type 0) (a : SessionRules S) (b : SessionRules T) (agree : Agree R a b)
+    → Reads (λ (x : Both R). x.two) (both_rules R a b agree) b
 second_reads R a b agree = record {
   made = λ port pair initial mss. refl;
   refusal = λ f x g. agree.refusal f x.one x.two g x.related;
@@ -64,24 +73,28 @@ second_reads R a b agree = record {
   pending = λ x. agree.pending x.one x.two x.related;
 }
 
-pub related_verdict : {S T : Type 0} (R : S → T → Type 0) (a : SessionRules S) (b : SessionRules T) → Agree R a b → (w : World S) (v : World T) → AreRelated R w v → (e : Event) → verdict b v e ≡ verdict a w e
+pub related_verdict : {S T : Type 0} (R : S → T → Type 0) (a : SessionRules S) (b : SessionRules T) → Agree R a b → (w : World S) (v : World T)
+    → AreRelated R w v → (e : Event) → verdict b v e ≡ verdict a w e
 related_verdict R a b agree w v h e =
     ap (λ x. verdict b x e) (sym h.two) ∙ verdict_as (λ (x : Both R). x.two) (both_rules R a b agree) b (second_reads R a b agree) h.pairs e
     ∙ sym (verdict_as (λ (x : Both R). x.one) (both_rules R a b agree) a (first_reads R a b agree) h.pairs e) ∙ ap (λ x. verdict a x e) h.one
 
-pub related_out : {S T : Type 0} (R : S → T → Type 0) (a : SessionRules S) (b : SessionRules T) → Agree R a b → (w : World S) (v : World T) → AreRelated R w v → (e : Event) → out b v e ≡ out a w e
+pub related_out : {S T : Type 0} (R : S → T → Type 0) (a : SessionRules S) (b : SessionRules T) → Agree R a b → (w : World S) (v : World T)
+    → AreRelated R w v → (e : Event) → out b v e ≡ out a w e
 related_out R a b agree w v h e =
     ap (λ x. out b x e) (sym h.two) ∙ out_as (λ (x : Both R). x.two) (both_rules R a b agree) b (second_reads R a b agree) h.pairs e
     ∙ sym (out_as (λ (x : Both R). x.one) (both_rules R a b agree) a (first_reads R a b agree) h.pairs e) ∙ ap (λ x. out a x e) h.one
 
-pub related_next : {S T : Type 0} (R : S → T → Type 0) (a : SessionRules S) (b : SessionRules T) → Agree R a b → (w : World S) (v : World T) → AreRelated R w v → (e : Event) → AreRelated R (next a w e) (next b v e)
+pub related_next : {S T : Type 0} (R : S → T → Type 0) (a : SessionRules S) (b : SessionRules T) → Agree R a b → (w : World S) (v : World T)
+    → AreRelated R w v → (e : Event) → AreRelated R (next a w e) (next b v e)
 related_next R a b agree w v h e = record {
   pairs = next (both_rules R a b agree) h.pairs e;
   one = sym (next_as (λ (x : Both R). x.one) (both_rules R a b agree) a (first_reads R a b agree) h.pairs e) ∙ ap (λ x. next a x e) h.one;
   two = sym (next_as (λ (x : Both R). x.two) (both_rules R a b agree) b (second_reads R a b agree) h.pairs e) ∙ ap (λ x. next b x e) h.two;
 }
 
-pub related_run : {S T : Type 0} (R : S → T → Type 0) (a : SessionRules S) (b : SessionRules T) → Agree R a b → (events : List Event) (w : World S) (v : World T) → AreRelated R w v → AreRelated R (fold (next a) w events) (fold (next b) v events)
+pub related_run : {S T : Type 0} (R : S → T → Type 0) (a : SessionRules S) (b : SessionRules T) → Agree R a b
+    → (events : List Event) (w : World S) (v : World T) → AreRelated R w v → AreRelated R (fold (next a) w events) (fold (next b) v events)
 related_run R a b agree [] w v h = h
 related_run R a b agree (e ∷ events) w v h = related_run R a b agree events (next a w e) (next b v e) (related_next R a b agree w v h e)
 

@@ -14,7 +14,7 @@ use Rattle.dialogue.specs.Prelude.{Entry, ReadAlike, AllListed, Meaning, IsLawfu
 use Rattle.dialogue.proofs.Alike.{learned_alike, due_alike, back_alike}
 use Rattle.dialogue.proofs.FirstUnit.{cut-on}
 use Rattle.dns_stream.specs.Prelude.{unit_addresses, dns_units, dns_units-lawful, dns_units-learning}
-use Rattle.ftp_lines.specs.Lawful.{client_lines-lawful, server_lines-lawful}
+use Rattle.ftp_lines.specs.Inside.Lawful.{client_lines-lawful, server_lines-lawful}
 use Rattle.stream_model.specs.Prelude.{known, number_at, Sender, Session, Segment, Outgoing, own, other, session, due_in, recent, extent, arrival, start_of, repeats_unlike, segment_refusal, refusal_of, opened, taken, acknowledged, own_after, other_after, session_made, session_next, session_out, if_by, if_to, places_of, numbers_of, SentIs, EachIsBack, Facts}
 use Rattle.stream_model.specs.declared.refusals.Extent.{Extent}
 use Rattle.stream_model.proofs.SentLaw.{due_nil}
@@ -35,18 +35,26 @@ with_meaning a n = record a { meaning = n }
 
 extent_alike : (a : Sender) (n : Meaning) → ReadAlike a.meaning n a.octets → extent (with_meaning a n) ≡ extent a
 extent_alike a n h =
-    ap (λ (d : List ℕ). let e : Extent = record { initial = a.initial; octets = length a.octets; due = length d; ended = a.ended; recent = length (recent (with_meaning a n)) } in e) (sym (due_alike a.meaning n a.ended a.octets h))
-    ∙ ap (λ (k : ℕ). let e : Extent = record { initial = a.initial; octets = length a.octets; due = length (due_in a); ended = a.ended; recent = length (drop k a.octets) } in e) (sym (back_alike a.meaning n a.ended a.octets a.acked h))
+    ap (λ (d : List ℕ). let e : Extent =
+    record { initial = a.initial; octets = length a.octets; due = length d; ended = a.ended; recent = length (recent (with_meaning a n)) } in e)
+    (sym (due_alike a.meaning n a.ended a.octets h))
+    ∙ ap (λ (k : ℕ). let e : Extent =
+    record { initial = a.initial; octets = length a.octets; due = length (due_in a); ended = a.ended; recent = length (drop k a.octets) } in e)
+    (sym (back_alike a.meaning n a.ended a.octets a.acked h))
 
 unlike_alike : (a : Sender) (n : Meaning) (g : Segment) → ReadAlike a.meaning n a.octets → repeats_unlike (with_meaning a n) g ≡ repeats_unlike a g
-unlike_alike a n g h = ap (λ (k : ℕ). is_unlike (drop k a.octets) (start_of a g).before g.octets) (sym (back_alike a.meaning n a.ended a.octets a.acked h))
+unlike_alike a n g h =
+    ap (λ (k : ℕ). is_unlike (drop k a.octets) (start_of a g).before g.octets) (sym (back_alike a.meaning n a.ended a.octets a.acked h))
 
-pub verdict_alike : (f : Host) (a b : Sender) (n : Meaning) (g : Segment) → ReadAlike a.meaning n a.octets → refusal_of f (extent (with_meaning a n)) (extent b) (arrival g) (repeats_unlike (with_meaning a n) g) ≡ refusal_of f (extent a) (extent b) (arrival g) (repeats_unlike a g)
+pub verdict_alike : (f : Host) (a b : Sender) (n : Meaning) (g : Segment) → ReadAlike a.meaning n a.octets
+    → refusal_of f (extent (with_meaning a n)) (extent b) (arrival g) (repeats_unlike (with_meaning a n) g) ≡ refusal_of f (extent a) (extent b)
+    (arrival g) (repeats_unlike a g)
 verdict_alike f a b n g h =
     ap (λ (e : Extent). refusal_of f e (extent b) (arrival g) (repeats_unlike (with_meaning a n) g)) (extent_alike a n h)
     ∙ ap (refusal_of f (extent a) (extent b) (arrival g)) (unlike_alike a n g h)
 
-each_alike : (a : Sender) (n : Meaning) (places numbers : List ℕ) → ReadAlike a.meaning n a.octets → EachIsBack a places numbers → EachIsBack (with_meaning a n) places numbers
+each_alike : (a : Sender) (n : Meaning) (places numbers : List ℕ) → ReadAlike a.meaning n a.octets → EachIsBack a places numbers
+    → EachIsBack (with_meaning a n) places numbers
 each_alike a n places [] h e = tt
 each_alike a n places (x ∷ xs) h e = (
   record {
@@ -94,7 +102,8 @@ meaning_step Server Server s g = own_meaning g.flags.syn g.flags.reset s.server 
 meaning_step Client Server s g = other_meaning (g.flags.syn || g.flags.reset) s.client g
 meaning_step Server Client s g = other_meaning (g.flags.syn || g.flags.reset) s.server g
 
-holds_step : (m : Meaning) (host f : Host) (s : Session) (g : Segment) (r : Remembered) → segment_refusal f s g ≡ None → Holds m (own host s) r → Holds m (own host (session_next f s g)) (remembered host f s g (session_out f s g) r)
+holds_step : (m : Meaning) (host f : Host) (s : Session) (g : Segment) (r : Remembered) → segment_refusal f s g ≡ None → Holds m (own host s) r
+    → Holds m (own host (session_next f s g)) (remembered host f s g (session_out f s g) r)
 holds_step m host f s g r v k =
     let sound = sound_step host f s g r.sent v (record { lawful = k.acked.lawful; silent = k.silent; sent_is = k.sent }) in
     record {
@@ -113,7 +122,8 @@ meaning_lawful None pair Client = client_lines-lawful pair
 meaning_lawful None pair Server = server_lines-lawful pair
 meaning_lawful (Some lists) pair host = dns_units-lawful (list_of host lists)
 
-pub own_alike : (es es' : List Entry) (a : Sender) → a.meaning ≡ dns_units es → ((more : List Entry) × (es' ≡ es ++ more)) → AllByRecursion (IsRenamed es) (cut (dns_units es) a.octets).units → ReadAlike a.meaning (dns_units es') a.octets
+pub own_alike : (es es' : List Entry) (a : Sender) → a.meaning ≡ dns_units es → ((more : List Entry) × (es' ≡ es ++ more))
+    → AllByRecursion (IsRenamed es) (cut (dns_units es) a.octets).units → ReadAlike a.meaning (dns_units es') a.octets
 own_alike es es' a is more units =
     subst (λ (m : Meaning). ReadAlike m (dns_units es') a.octets) (sym is)
     (subst (λ (xs : List Entry). ReadAlike (dns_units es) (dns_units xs) a.octets) (sym more.1)
@@ -139,29 +149,37 @@ abbrev pub IsLonger : Option Lists → Host → List Entry → Type 0
 IsLonger lists f es = IfSome lists (λ l. (more : List Entry) × (es ≡ list_of f l ++ more))
 
 -- what holds of a stream goes on to hold where the list of who sends is longer
-pub holds_learned : (lists : Option Lists) (pair : Pair) (host f : Host) (s : Session) (r : Remembered) (es : List Entry) → IsLonger lists f es → UnitsAreRenamed lists f (own f s).octets → Holds (meaning_by lists pair host) (own host s) r
+pub holds_learned : (lists : Option Lists) (pair : Pair) (host f : Host) (s : Session) (r : Remembered) (es : List Entry) → IsLonger lists f es
+    → UnitsAreRenamed lists f (own f s).octets → Holds (meaning_by lists pair host) (own host s) r
     → Holds (meaning_by (option_map (with_list f es) lists) pair host) (own host (learned f (option_map (with_list f es) lists) s)) r
 holds_learned None pair host f s r es more units h = subst (λ (a : Sender). Holds (meaning_by None pair host) a r) (sym (own_same host f s)) h
-holds_learned (Some l) pair Client Client s r es more units h = holds_alike (dns_units l.client) (dns_units es) s.client r (dns_units-lawful es) (own_alike l.client es s.client h.meaning more units) h
-holds_learned (Some l) pair Server Server s r es more units h = holds_alike (dns_units l.server) (dns_units es) s.server r (dns_units-lawful es) (own_alike l.server es s.server h.meaning more units) h
+holds_learned (Some l) pair Client Client s r es more units h =
+    holds_alike (dns_units l.client) (dns_units es) s.client r (dns_units-lawful es) (own_alike l.client es s.client h.meaning more units) h
+holds_learned (Some l) pair Server Server s r es more units h =
+    holds_alike (dns_units l.server) (dns_units es) s.server r (dns_units-lawful es) (own_alike l.server es s.server h.meaning more units) h
 holds_learned (Some l) pair Client Server s r es more units h = h
 holds_learned (Some l) pair Server Client s r es more units h = h
 
-pub verdict_learned : (lists : Option Lists) (pair : Pair) (f : Host) (s : Session) (g : Segment) (es : List Entry) → IsLonger lists f es → UnitsAreRenamed lists f (own f s).octets → (own f s).meaning ≡ meaning_by lists pair f
+pub verdict_learned : (lists : Option Lists) (pair : Pair) (f : Host) (s : Session) (g : Segment) (es : List Entry) → IsLonger lists f es
+    → UnitsAreRenamed lists f (own f s).octets → (own f s).meaning ≡ meaning_by lists pair f
     → segment_refusal f (learned f (option_map (with_list f es) lists) s) g ≡ segment_refusal f s g
 verdict_learned None pair Client s g es more units is = refl
 verdict_learned None pair Server s g es more units is = refl
-verdict_learned (Some l) pair Client s g es more units is = verdict_alike Client s.client s.server (dns_units es) g (own_alike l.client es s.client is more units)
-verdict_learned (Some l) pair Server s g es more units is = verdict_alike Server s.server s.client (dns_units es) g (own_alike l.server es s.server is more units)
+verdict_learned (Some l) pair Client s g es more units is =
+    verdict_alike Client s.client s.server (dns_units es) g (own_alike l.client es s.client is more units)
+verdict_learned (Some l) pair Server s g es more units is =
+    verdict_alike Server s.server s.client (dns_units es) g (own_alike l.server es s.server is more units)
 
 -- ## Units that are completed
 
 -- the units so far stay in front
-units_split : (m : Meaning) → IsLawful m → (s t : List ℕ) → (cut m (s ++ t)).units ≡ (cut m s).units ++ drop (length (cut m s).units) (cut m (s ++ t)).units
+units_split : (m : Meaning) → IsLawful m → (s t : List ℕ)
+    → (cut m (s ++ t)).units ≡ (cut m s).units ++ drop (length (cut m s).units) (cut m (s ++ t)).units
 units_split m law s t =
     let more : List (List ℕ) = (cut m ((cut m s).rest ++ t)).units in
     let is : (cut m (s ++ t)).units ≡ (cut m s).units ++ more = ap (λ (c : Cut). c.units) (cut-on m law s t) in
-    is ∙ ap (λ (us : List (List ℕ)). (cut m s).units ++ us) (sym (drop-append_seam (cut m s).units more) ∙ ap (drop (length (cut m s).units)) (sym is))
+    is ∙ ap (λ (us : List (List ℕ)). (cut m s).units ++ us)
+    (sym (drop-append_seam (cut m s).units more) ∙ ap (drop (length (cut m s).units)) (sym is))
 
 -- what a sender's segment adds to its octets
 own_octets : (a : Sender) (g : Segment) → (t : List ℕ) × ((own_after a g).octets ≡ a.octets ++ t)
@@ -183,7 +201,9 @@ other_octets b g = by_test (g.flags.syn || g.flags.reset)
 octets_alike : (a : Sender) (n : Meaning) (g : Segment) → (own_after (with_meaning a n) g).octets ≡ (own_after a g).octets
 octets_alike a n g = by_tests g.flags.syn g.flags.reset
   where
-    by_tests : (x y : Bool) → (cond x (opened (with_meaning a n) g) (cond y (with_meaning a n) (taken (with_meaning a n) g))).octets ≡ (cond x (opened a g) (cond y a (taken a g))).octets
+    by_tests : (x y : Bool)
+        → (cond x (opened (with_meaning a n) g) (cond y (with_meaning a n) (taken (with_meaning a n) g))).octets
+        ≡ (cond x (opened a g) (cond y a (taken a g))).octets
     by_tests true y = refl
     by_tests false true = refl
     by_tests false false = refl
@@ -193,37 +213,50 @@ abbrev pub Goes : (List Entry → List ℕ → Type 0) → Type 0
 Goes P = (es more : List Entry) (us : List (List ℕ)) → AllByRecursion (P es) us → AllByRecursion (P (es ++ more)) us
 
 -- the units of who sends, where its list is longer and it holds of the new ones
-own_units : (P : List Entry → List ℕ → Type 0) → Goes P → (es es' : List Entry) (a : Sender) (g : Segment) → a.meaning ≡ dns_units es → ((more : List Entry) × (es' ≡ es ++ more)) → AllByRecursion (P es) (cut (dns_units es) a.octets).units → AllByRecursion (P es') (completed a g)
+own_units : (P : List Entry → List ℕ → Type 0) → Goes P → (es es' : List Entry) (a : Sender) (g : Segment) → a.meaning ≡ dns_units es
+    → ((more : List Entry) × (es' ≡ es ++ more)) → AllByRecursion (P es) (cut (dns_units es) a.octets).units → AllByRecursion (P es') (completed a g)
     → AllByRecursion (P es') (cut (dns_units es') (own_after (with_meaning a (dns_units es')) g).octets).units
 own_units P goes es es' a g is more units new =
     subst (λ (s : List ℕ). AllByRecursion (P es') (cut (dns_units es') s).units) (sym (octets_alike a (dns_units es') g))
     (subst (λ (us : List (List ℕ)). AllByRecursion (P es') us) (sym split)
-    (all_append (P es') (cut (dns_units es) a.octets).units (drop (length (cut (dns_units es) a.octets).units) (cut (dns_units es) (own_after a g).octets).units)
-    (subst (λ (xs : List Entry). AllByRecursion (P xs) (cut (dns_units es) a.octets).units) (sym more.1) (goes es more.0 (cut (dns_units es) a.octets).units units))
+    (all_append (P es') (cut (dns_units es) a.octets).units
+    (drop (length (cut (dns_units es) a.octets).units) (cut (dns_units es) (own_after a g).octets).units)
+    (subst (λ (xs : List Entry). AllByRecursion (P xs) (cut (dns_units es) a.octets).units) (sym more.1)
+    (goes es more.0 (cut (dns_units es) a.octets).units units))
     (subst (λ (m : Meaning). AllByRecursion (P es') (drop (length (cut m a.octets).units) (cut m (own_after a g).octets).units)) is new)))
   where
-    split : (cut (dns_units es) (own_after a g).octets).units ≡ (cut (dns_units es) a.octets).units ++ drop (length (cut (dns_units es) a.octets).units) (cut (dns_units es) (own_after a g).octets).units
+    split : (cut (dns_units es) (own_after a g).octets).units ≡ (cut (dns_units es) a.octets).units ++ drop
+        (length (cut (dns_units es) a.octets).units) (cut (dns_units es) (own_after a g).octets).units
     split =
         let t = own_octets a g in
-        subst (λ (s : List ℕ). (cut (dns_units es) s).units ≡ (cut (dns_units es) a.octets).units ++ drop (length (cut (dns_units es) a.octets).units) (cut (dns_units es) s).units) (sym t.1) (units_split (dns_units es) (dns_units-lawful es) a.octets t.0)
+        subst (λ (s : List ℕ). (cut (dns_units es) s).units ≡ (cut (dns_units es) a.octets).units ++ drop (length (cut (dns_units es) a.octets).units)
+        (cut (dns_units es) s).units) (sym t.1) (units_split (dns_units es) (dns_units-lawful es) a.octets t.0)
 
-other_units : (P : List Entry → List ℕ → Type 0) (es : List Entry) (b : Sender) (g : Segment) → AllByRecursion (P es) (cut (dns_units es) b.octets).units → AllByRecursion (P es) (cut (dns_units es) (other_after b g).octets).units
+other_units : (P : List Entry → List ℕ → Type 0) (es : List Entry) (b : Sender) (g : Segment)
+    → AllByRecursion (P es) (cut (dns_units es) b.octets).units → AllByRecursion (P es) (cut (dns_units es) (other_after b g).octets).units
 other_units P es b g h = subst (λ (s : List ℕ). AllByRecursion (P es) (cut (dns_units es) s).units) (sym (other_octets b g)) h
 
 -- each new unit is renamed by the list afterwards
-new_units : (lists : Option Lists) (f : Host) (image : Addr → Option Addr) (units : List (List ℕ)) → let es = entered image (entries_by lists f) (addresses_in (units_by lists units)) in
+new_units : (lists : Option Lists) (f : Host) (image : Addr → Option Addr) (units : List (List ℕ)) → let es =
+    entered image (entries_by lists f) (addresses_in (units_by lists units)) in
     UnitsFit es (units_by lists units) → IfSome lists (λ l. AllByRecursion (IsRenamed es) units)
 new_units None f image units fit = tt
-new_units (Some l) f image units fit = all_renamed (entered image (list_of f l) (addresses_in units)) units (entered_all image (list_of f l) (flat_map unit_addresses units)) fit.good fit.small
+new_units (Some l) f image units fit =
+    all_renamed (entered image (list_of f l) (addresses_in units)) units
+    (entered_all image (list_of f l) (flat_map unit_addresses units)) fit.good fit.small
 
-pub longer : (lists : Option Lists) (f : Host) (image : Addr → Option Addr) (names : List Addr) → IsLonger lists f (entered image (entries_by lists f) names)
+pub longer : (lists : Option Lists) (f : Host) (image : Addr → Option Addr) (names : List Addr)
+    → IsLonger lists f (entered image (entries_by lists f) names)
 longer None f image names = tt
 longer (Some l) f image names = entered_more image (list_of f l) names
 
 -- all that new units name is listed afterwards
-pub new_listed : (image : Addr → Option Addr) (lists : Option Lists) (f : Host) (units : List (List ℕ)) → IfSome lists (λ l. AllByRecursion (λ u. AllListed (entered image (entries_by lists f) (addresses_in (units_by lists units))) (unit_addresses u)) units)
+pub new_listed : (image : Addr → Option Addr) (lists : Option Lists) (f : Host) (units : List (List ℕ))
+    → IfSome lists
+    (λ l. AllByRecursion (λ u. AllListed (entered image (entries_by lists f) (addresses_in (units_by lists units))) (unit_addresses u)) units)
 new_listed image None f units = tt
-new_listed image (Some l) f units = split_listed (entered image (list_of f l) (addresses_in units)) units (entered_all image (list_of f l) (flat_map unit_addresses units))
+new_listed image (Some l) f units =
+    split_listed (entered image (list_of f l) (addresses_in units)) units (entered_all image (list_of f l) (flat_map unit_addresses units))
 
 -- it holds of each whole unit of a stream, where there are lists
 abbrev pub EachUnit : (List Entry → List ℕ → Type 0) → Option Lists → Host → List ℕ → Type 0
@@ -246,12 +279,15 @@ pub record StreamsHold (t : Tracked RememberedSession) : Type 0 where
   pub holds : (host : Host) → Holds (meaning_by t.session.session.lists t.pair host) (own host t.session.session.session) (stream_of host t.session)
   pub units : (host : Host) → UnitsAreRenamed t.session.session.lists host (own host t.session.session.session).octets
 
-made_holds : (lists : Option Lists) (pair : Pair) (initial mss : ℕ) (host : Host) → Holds (meaning_by lists pair host) (own host (session_made (meaning_by lists pair Client) (meaning_by lists pair Server) initial mss)) (record { sent = []; places = []; numbers = [] })
+made_holds : (lists : Option Lists) (pair : Pair) (initial mss : ℕ) (host : Host)
+    → Holds (meaning_by lists pair host) (own host (session_made (meaning_by lists pair Client) (meaning_by lists pair Server) initial mss))
+    (record { sent = []; places = []; numbers = [] })
 made_holds lists pair initial mss Client = record {
   meaning = refl;
   silent = λ e. refl;
   sent = record { each = tt; whole = λ q l. absurd (omega (arith, ap length (due_nil (meaning_by lists pair Client) false))) };
-  acked = made_acked (meaning_by lists pair Client) (meaning_by lists pair Server) initial mss Client (meaning_lawful lists pair Client) (meaning_lawful lists pair Server);
+  acked = made_acked (meaning_by lists pair Client) (meaning_by lists pair Server) initial mss Client (meaning_lawful lists pair Client)
+      (meaning_lawful lists pair Server);
   short = omega arith;
   few = omega arith;
 }
@@ -259,30 +295,44 @@ made_holds lists pair initial mss Server = record {
   meaning = refl;
   silent = λ e. refl;
   sent = record { each = tt; whole = λ q l. absurd (omega (arith, ap length (due_nil (meaning_by lists pair Server) false))) };
-  acked = made_acked (meaning_by lists pair Client) (meaning_by lists pair Server) initial mss Server (meaning_lawful lists pair Client) (meaning_lawful lists pair Server);
+  acked = made_acked (meaning_by lists pair Client) (meaning_by lists pair Server) initial mss Server (meaning_lawful lists pair Client)
+      (meaning_lawful lists pair Server);
   short = omega arith;
   few = omega arith;
 }
 
-pub made_each : (P : List Entry → List ℕ → Type 0) (lists : Option Lists) (m n : Meaning) (initial mss : ℕ) (host : Host) → EachUnit P lists host (own host (session_made m n initial mss)).octets
+pub made_each : (P : List Entry → List ℕ → Type 0) (lists : Option Lists) (m n : Meaning) (initial mss : ℕ) (host : Host)
+    → EachUnit P lists host (own host (session_made m n initial mss)).octets
 made_each P None m n initial mss host = tt
 made_each P (Some l) m n initial mss Client = tt
 made_each P (Some l) m n initial mss Server = tt
 
-streams_made : (port : ℕ) (client : Side) (pair : Pair) (initial mss : ℕ) → StreamsHold (record { client = client; pair = pair; session = remembering_rules.made port pair initial mss })
-streams_made port client pair initial mss = record { holds = all; units = made_each IsRenamed (lists_at port) (meaning_by (lists_at port) pair Client) (meaning_by (lists_at port) pair Server) initial mss }
+streams_made : (port : ℕ) (client : Side) (pair : Pair) (initial mss : ℕ)
+    → StreamsHold (record { client = client; pair = pair; session = remembering_rules.made port pair initial mss })
+streams_made port client pair initial mss =
+    record {
+      holds = all;
+      units =
+          made_each IsRenamed (lists_at port) (meaning_by (lists_at port) pair Client) (meaning_by (lists_at port) pair Server) initial mss;
+    }
   where
-    all : (host : Host) → Holds (meaning_by (lists_at port) pair host) (own host (session_made (meaning_by (lists_at port) pair Client) (meaning_by (lists_at port) pair Server) initial mss)) (stream_of host (remembering_rules.made port pair initial mss))
+    all : (host : Host)
+        → Holds (meaning_by (lists_at port) pair host)
+        (own host (session_made (meaning_by (lists_at port) pair Client) (meaning_by (lists_at port) pair Server) initial mss))
+        (stream_of host (remembering_rules.made port pair initial mss))
     all Client = made_holds (lists_at port) pair initial mss Client
     all Server = made_holds (lists_at port) pair initial mss Server
 
-streams_next : (image : Addr → Option Addr) (f : Host) (t : Tracked RememberedSession) (g : Segment) → segment_refusal f t.session.session.session g ≡ None
-    → UnitsFit (entered image (whole_rules.listed f t.session.session) (addresses_in (whole_units f t.session.session g))) (whole_units f t.session.session g) → StreamsHold t
+streams_next : (image : Addr → Option Addr) (f : Host) (t : Tracked RememberedSession) (g : Segment)
+    → segment_refusal f t.session.session.session g ≡ None
+    → UnitsFit (entered image (whole_rules.listed f t.session.session) (addresses_in (whole_units f t.session.session g)))
+    (whole_units f t.session.session g) → StreamsHold t
     → StreamsHold (record { client = t.client; pair = t.pair; session = remembering_rules.next image f t.session g })
 streams_next image f t g v fit h =
     record {
       holds = both;
-      units = λ host. units_next IsRenamed all_renamed_more lists t.pair host f s g es more (h.holds f).meaning (h.units f) (h.units host) (new_units lists f image (completed (own f s) g) fit);
+      units = λ host. units_next IsRenamed all_renamed_more lists t.pair host f s g es more (h.holds f).meaning (h.units f) (h.units host)
+          (new_units lists f image (completed (own f s) g) fit);
     }
   where
     lists : Option Lists
@@ -294,7 +344,8 @@ streams_next image f t g v fit h =
     es : List Entry
     es = entered image (entries_by t.session.session.lists f) (addresses_in (whole_units f t.session.session g))
 
-    more : IsLonger t.session.session.lists f (entered image (entries_by t.session.session.lists f) (addresses_in (whole_units f t.session.session g)))
+    more : IsLonger t.session.session.lists f
+        (entered image (entries_by t.session.session.lists f) (addresses_in (whole_units f t.session.session g)))
     more = longer t.session.session.lists f image (addresses_in (whole_units f t.session.session g))
 
     y : Session
@@ -310,18 +361,30 @@ streams_next image f t g v fit h =
         (remembered host f (whole_learned image f t.session.session g).session g (session_out f (whole_learned image f t.session.session g).session g)
         (stream_of host t.session))
     one host =
-        holds_step (meaning_by (whole_learned image f t.session.session g).lists t.pair host) host f (whole_learned image f t.session.session g).session g (stream_of host t.session) passes
+        holds_step (meaning_by (whole_learned image f t.session.session g).lists t.pair host) host f
+        (whole_learned image f t.session.session g).session g (stream_of host t.session) passes
         (holds_learned t.session.session.lists t.pair host f t.session.session.session (stream_of host t.session)
         (entered image (entries_by t.session.session.lists f) (addresses_in (whole_units f t.session.session g)))
         (longer t.session.session.lists f image (addresses_in (whole_units f t.session.session g))) (h.units f) (h.holds host))
 
     -- who takes the segment is the same before and after
-    same : (host : Host) (outs : List Outgoing) (r : Remembered) → remembered host f (whole_learned image f t.session.session g).session g outs r ≡ remembered host f t.session.session.session g outs r
+    same : (host : Host) (outs : List Outgoing) (r : Remembered)
+        → remembered host f (whole_learned image f t.session.session g).session g outs r ≡ remembered host f t.session.session.session g outs r
     same host outs r =
-        ap (λ (b : Sender). let x : Remembered = record { sent = r.sent ++ if_by host f outs; places = r.places ++ if_to host f (places_of b g); numbers = r.numbers ++ if_to host f (numbers_of b g outs) } in x)
-        (other_same f (reads_by (whole_learned image f t.session.session g).lists f (own f t.session.session.session)) (other f t.session.session.session))
+        ap (λ (b : Sender). let x : Remembered =
+        record {
+          sent = r.sent ++ if_by host f outs;
+          places = r.places ++ if_to host f (places_of b g);
+          numbers =
+              r.numbers ++ if_to host f (numbers_of b g outs);
+        } in x)
+        (other_same f (reads_by (whole_learned image f t.session.session g).lists f (own f t.session.session.session))
+        (other f t.session.session.session))
 
-    both : (host : Host) → Holds (meaning_by (whole_learned image f t.session.session g).lists t.pair host) (own host (session_next f (whole_learned image f t.session.session g).session g)) (stream_of host (remembering_rules.next image f t.session g))
+    both : (host : Host)
+        → Holds (meaning_by (whole_learned image f t.session.session g).lists t.pair host)
+        (own host (session_next f (whole_learned image f t.session.session g).session g))
+        (stream_of host (remembering_rules.next image f t.session g))
     both Client = subst (λ (r : Remembered). Holds (meaning_by (whole_learned image f t.session.session g).lists t.pair Client)
         (own Client (session_next f (whole_learned image f t.session.session g).session g)) r)
         (same Client (session_out f (whole_learned image f t.session.session g).session g) t.session.client) (one Client)
@@ -331,7 +394,8 @@ streams_next image f t g v fit h =
 
 -- ## What is remembered is true
 
-pass_more : (t : RememberedSession) (ps : List Passed) (p : Passed) → AllPass t ps → segment_refusal p.from (fold step t ps).session.session p.segment ≡ None → AllPass t (ps ++ p ∷ [])
+pass_more : (t : RememberedSession) (ps : List Passed) (p : Passed) → AllPass t ps
+    → segment_refusal p.from (fold step t ps).session.session p.segment ≡ None → AllPass t (ps ++ p ∷ [])
 pass_more t [] p all v = (v, tt)
 pass_more t (x ∷ ps) p all v = (all.0, pass_more (step t x) ps p all.1 v)
 
@@ -339,12 +403,16 @@ step_more : (t : RememberedSession) (ps : List Passed) (p : Passed) → fold ste
 step_more t [] p = refl
 step_more t (x ∷ ps) p = step_more (step t x) ps p
 
-remembered_next : (image : Addr → Option Addr) (f : Host) (t : Tracked RememberedSession) (g : Segment) → segment_refusal f t.session.session.session g ≡ None → IsRemembered t → IsRemembered (record { client = t.client; pair = t.pair; session = remembering_rules.next image f t.session g })
+remembered_next : (image : Addr → Option Addr) (f : Host) (t : Tracked RememberedSession) (g : Segment)
+    → segment_refusal f t.session.session.session g ≡ None → IsRemembered t
+    → IsRemembered (record { client = t.client; pair = t.pair; session = remembering_rules.next image f t.session g })
 remembered_next image f t g v h =
     let p : Passed = record { from = f; segment = g; image = image } in
     record {
       pair = h.pair;
-      passed = pass_more (begun t.session) t.session.past p h.passed (ap (λ (x : RememberedSession). segment_refusal f x.session.session g) (sym h.session) ∙ v);
+      passed =
+          pass_more (begun t.session) t.session.past p h.passed
+          (ap (λ (x : RememberedSession). segment_refusal f x.session.session g) (sym h.session) ∙ v);
       session = ap (λ (x : RememberedSession). step x p) h.session ∙ sym (step_more (begun t.session) t.session.past p);
     }
 
@@ -356,7 +424,8 @@ pub record TrackedHolds (t : Tracked RememberedSession) : Type 0 where
 
 pub remembered_keeps : Keeps remembering_rules TrackedHolds
 remembered_keeps = record {
-  made = λ port client pair initial mss. record { remembers = record { pair = refl; passed = tt; session = refl }; streams = streams_made port client pair initial mss };
+  made = λ port client pair initial mss. record
+      { remembers = record { pair = refl; passed = tt; session = refl }; streams = streams_made port client pair initial mss };
   next = λ image f t g v fit h. record { remembers = remembered_next image f t g v h.remembers; streams = streams_next image f t g v fit h.streams };
 }
 
@@ -376,7 +445,8 @@ remembered_reads = record {
 -- ## The laws of streams
 
 stream_is : (t : Tracked RememberedSession) (host : Host) → StreamsHold t → StreamIs host t
-stream_is t host h = record { meaning = (h.holds host).meaning; units = h.units host; sent = (h.holds host).sent; acknowledged = (h.holds host).acked.each }
+stream_is t host h =
+    record { meaning = (h.holds host).meaning; units = h.units host; sent = (h.holds host).sent; acknowledged = (h.holds host).acked.each }
 
 pub session_is : (t : Tracked RememberedSession) → TrackedHolds t → SessionIs t
 session_is t h = record { remembers = h.remembers; streams = λ host. stream_is t host h.streams }
@@ -387,23 +457,31 @@ facts_is host t h =
     let k = h.streams.holds host in
     facts_of (own host t.session.session.session) (stream_of host t.session).places (stream_of host t.session).numbers k.acked k.short k.few
 
-pub run_holds : (events : List Frame) (settings : Settings) → EachTracked TrackedHolds (fold (world_next remembering_rules) (opening_world settings) events).connections
-run_holds events settings = run_keeps remembering_rules TrackedHolds remembered_keeps events (opening_world settings) (All-nil (λ (c : Connection (Tracked RememberedSession)). IfSome c.session TrackedHolds))
+pub run_holds : (events : List Frame) (settings : Settings)
+    → EachTracked TrackedHolds (fold (world_next remembering_rules) (opening_world settings) events).connections
+run_holds events settings =
+    run_keeps remembering_rules TrackedHolds remembered_keeps events (opening_world settings)
+    (All-nil (λ (c : Connection (Tracked RememberedSession)). IfSome c.session TrackedHolds))
 
 -- what follows of each session
-pub each : (Q : Tracked RememberedSession → Type 0) → ((t : Tracked RememberedSession) → TrackedHolds t → Q t) → (events : List Frame) (settings : Settings) → EachTracked Q (fold (world_next remembering_rules) (opening_world settings) events).connections
+pub each : (Q : Tracked RememberedSession → Type 0) → ((t : Tracked RememberedSession) → TrackedHolds t → Q t)
+    → (events : List Frame) (settings : Settings) → EachTracked Q (fold (world_next remembering_rules) (opening_world settings) events).connections
 each Q weaker events settings =
-    All-weaker (λ (c : Connection (Tracked RememberedSession)). IfSome c.session TrackedHolds) (λ c. IfSome c.session Q) (λ c h. by_session c.session h) (fold (world_next remembering_rules) (opening_world settings) events).connections (run_holds events settings)
+    All-weaker (λ (c : Connection (Tracked RememberedSession)). IfSome c.session TrackedHolds) (λ c. IfSome c.session Q)
+    (λ c h. by_session c.session h) (fold (world_next remembering_rules) (opening_world settings) events).connections (run_holds events settings)
   where
     by_session : (o : Option (Tracked RememberedSession)) → IfSome o TrackedHolds → IfSome o Q
     by_session None h = tt
     by_session (Some t) h = weaker t h
 
-pub sessions_are : (events : List Frame) (settings : Settings) → EachTracked SessionIs (fold (world_next remembering_rules) (opening_world settings) events).connections
+pub sessions_are : (events : List Frame) (settings : Settings)
+    → EachTracked SessionIs (fold (world_next remembering_rules) (opening_world settings) events).connections
 sessions_are = each SessionIs session_is
 
-pub streams_are : (events : List Frame) (settings : Settings) (host : Host) → EachTracked (StreamIs host) (fold (world_next remembering_rules) (opening_world settings) events).connections
+pub streams_are : (events : List Frame) (settings : Settings) (host : Host)
+    → EachTracked (StreamIs host) (fold (world_next remembering_rules) (opening_world settings) events).connections
 streams_are events settings host = each (StreamIs host) (λ t h. stream_is t host h.streams) events settings
 
-pub facts_are : (events : List Frame) (settings : Settings) (host : Host) → EachTracked (λ t. Facts (own host t.session.session.session)) (fold (world_next remembering_rules) (opening_world settings) events).connections
+pub facts_are : (events : List Frame) (settings : Settings) (host : Host)
+    → EachTracked (λ t. Facts (own host t.session.session.session)) (fold (world_next remembering_rules) (opening_world settings) events).connections
 facts_are events settings host = each (λ t. Facts (own host t.session.session.session)) (facts_is host) events settings

@@ -24,13 +24,15 @@ use Rattle.gate_model.proofs.Passing.{NoneHolds, none_head, none_tail, Passes, p
 
 -- ## Connections that come and go
 
-pub all_changed : {S : Type 0} (P : Connection (Tracked S) → Type 0) (all : List (Connection (Tracked S))) (place : Option ℕ) (c : Option (Connection (Tracked S))) → All P all → IfSome c P → All P (changed all place c)
+pub all_changed : {S : Type 0} (P : Connection (Tracked S) → Type 0) (all : List (Connection (Tracked S))) (place : Option ℕ)
+    (c : Option (Connection (Tracked S))) → All P all → IfSome c P → All P (changed all place c)
 all_changed P all None None h x = h
 all_changed P all None (Some c) h x = All-push P all c h x
 all_changed P all (Some i) None h x = All-append P (take i all) (drop (suc i) all) (All-take P i all h) (All-drop P (suc i) all h)
 all_changed P all (Some i) (Some c) h x = All-set P all i c x h
 
-pub all_found : {S : Type 0} (P : Connection (Tracked S) → Type 0) (key : ConnKey) (all : List (Connection (Tracked S))) → All P all → IfSome (connection_of key all) P
+pub all_found : {S : Type 0} (P : Connection (Tracked S) → Type 0) (key : ConnKey) (all : List (Connection (Tracked S))) → All P all
+    → IfSome (connection_of key all) P
 all_found {S = S} P key all h = by_place (place_of key all)
   where
     by_element : (i : ℕ) (o : Option (Connection (Tracked S))) → slice_get all i ≡ o → IfSome o P
@@ -51,11 +53,15 @@ pub record UnitsFit (entries : List Entry) (units : List (List ℕ)) : Type 0 wh
 
 -- a session has this when it is made, and keeps it while segments pass
 pub record Keeps {S : Type 0} (rules : SessionRules S) (Q : Tracked S → Type 0) : Type 0 where
-  pub made : (port : ℕ) (client : Side) (pair : Pair) (initial mss : ℕ) → Q (record { client = client; pair = pair; session = rules.made port pair initial mss })
-  pub next : (image : Addr → Option Addr) (from : Host) (t : Tracked S) (g : Segment) → rules.refusal from t.session g ≡ None → UnitsFit (entered image (rules.listed from t.session) (addresses_in (rules.units from t.session g))) (rules.units from t.session g) → Q t
+  pub made : (port : ℕ) (client : Side) (pair : Pair) (initial mss : ℕ)
+      → Q (record { client = client; pair = pair; session = rules.made port pair initial mss })
+  pub next : (image : Addr → Option Addr) (from : Host) (t : Tracked S) (g : Segment) → rules.refusal from t.session g ≡ None
+      → UnitsFit (entered image (rules.listed from t.session) (addresses_in (rules.units from t.session g))) (rules.units from t.session g) → Q t
       → Q (record { client = t.client; pair = t.pair; session = rules.next image from t.session g })
 
-taker_keeps : {S : Type 0} (rules : SessionRules S) (Q : Tracked S → Type 0) → Keeps rules Q → (table : Bindings) (side : Side) (d : Datagram) (found : Option (Connection (Tracked S))) → IfSome found (λ c. IfSome c.session Q) → IfSome (taker_by rules table side d found) Q
+taker_keeps : {S : Type 0} (rules : SessionRules S) (Q : Tracked S → Type 0) → Keeps rules Q
+    → (table : Bindings) (side : Side) (d : Datagram) (found : Option (Connection (Tracked S))) → IfSome found (λ c. IfSome c.session Q)
+    → IfSome (taker_by rules table side d found) Q
 taker_keeps {S = S} rules Q k table side d None h = by_test (begins {S = S} None d)
   where
     by_test : (b : Bool) → IfSome (if b then Some (made_by rules table side d) else None) Q
@@ -68,10 +74,15 @@ units_fit : {S : Type 0} (rules : SessionRules S) (image : Addr → Option Addr)
     (t : Option (Tracked S)) → NoneHolds (unit_tests rules image table side d t) → NoneHolds (growth_tests rules image side d t)
     → UnitsFit (entries_after rules image side d t) (units_in rules side d t)
 units_fit rules image table side d t units growth = record {
-  good = none_head {test = (list_any is_bad (units_in rules side d t), BadUnit)} {more = (list_any (is_new_unbound table side (entries_in rules side t)) (names_in rules side d t), UnitUnbound) ∷ (nat_lt most_entries (length (entries_after rules image side d t)), RenamesFull) ∷ []} units;
+  good = none_head {test = (list_any is_bad (units_in rules side d t), BadUnit)}
+      {more = (list_any (is_new_unbound table side (entries_in rules side t)) (names_in rules side d t), UnitUnbound)
+      ∷ (nat_lt most_entries (length (entries_after rules image side d t)), RenamesFull) ∷ []} units;
   few = none_head {test = (nat_lt most_entries (length (entries_after rules image side d t)), RenamesFull)} {more = []}
-      (none_tail {test = (list_any (is_new_unbound table side (entries_in rules side t)) (names_in rules side d t), UnitUnbound)} {more = (nat_lt most_entries (length (entries_after rules image side d t)), RenamesFull) ∷ []}
-      (none_tail {test = (list_any is_bad (units_in rules side d t), BadUnit)} {more = (list_any (is_new_unbound table side (entries_in rules side t)) (names_in rules side d t), UnitUnbound) ∷ (nat_lt most_entries (length (entries_after rules image side d t)), RenamesFull) ∷ []} units));
+      (none_tail {test = (list_any (is_new_unbound table side (entries_in rules side t)) (names_in rules side d t), UnitUnbound)}
+      {more = (nat_lt most_entries (length (entries_after rules image side d t)), RenamesFull) ∷ []}
+      (none_tail {test = (list_any is_bad (units_in rules side d t), BadUnit)}
+      {more = (list_any (is_new_unbound table side (entries_in rules side t)) (names_in rules side d t), UnitUnbound)
+      ∷ (nat_lt most_entries (length (entries_after rules image side d t)), RenamesFull) ∷ []} units));
   small = none_head {test = (list_any (grows_too_much (entries_after rules image side d t)) (units_in rules side d t), UnitGrows)} {more = []} growth;
 }
 
@@ -81,14 +92,19 @@ stepped_keeps : {S : Type 0} (rules : SessionRules S) (Q : Tracked S → Type 0)
 stepped_keeps rules Q k image side d None e f h = tt
 stepped_keeps rules Q k image side d (Some t) e f h =
     k.next image (host_on side t) t (segment_of d) e
-    (subst (λ (v : Option Refusal). UnitsFit (entered image (rules.listed (host_on side t) t.session) (addresses_in (unless_refused v (rules.units (host_on side t) t.session (segment_of d)) []))) (unless_refused v (rules.units (host_on side t) t.session (segment_of d)) [])) e f) h
+    (subst (λ (v : Option Refusal). UnitsFit
+    (entered image (rules.listed (host_on side t) t.session)
+    (addresses_in (unless_refused v (rules.units (host_on side t) t.session (segment_of d)) [])))
+    (unless_refused v (rules.units (host_on side t) t.session (segment_of d)) [])) e f) h
 
 pub after_keeps : {S : Type 0} (rules : SessionRules S) (Q : Tracked S → Type 0) (image : Addr → Option Addr) (live : World S) (side : Side)
     (moment : ℕ) (d : Datagram) (t : Option (Tracked S)) → IfSome (option_map (stepped rules image side d) t) Q
     → IfSome (connection_after rules image live side moment d t) (λ c. IfSome c.session Q)
-after_keeps {S = S} rules Q image live side moment d t h = by_test (ends_by rules side d t) (after (key_in live.table side d) side (tcp_of d).flags t (record { 0 = moment }) (found_in live side d))
+after_keeps {S = S} rules Q image live side moment d t h =
+    by_test (ends_by rules side d t) (after (key_in live.table side d) side (tcp_of d).flags t (record { 0 = moment }) (found_in live side d))
   where
-    by_test : (b : Bool) (o : Option (Connection (Tracked S))) → IfSome (if b then None else option_map (with_session (option_map (stepped rules image side d) t)) o) (λ c. IfSome c.session Q)
+    by_test : (b : Bool) (o : Option (Connection (Tracked S)))
+        → IfSome (if b then None else option_map (with_session (option_map (stepped rules image side d) t)) o) (λ c. IfSome c.session Q)
     by_test true o = tt
     by_test false None = tt
     by_test false (Some c) = h
@@ -101,21 +117,27 @@ kind_keeps {S = S} rules Q k live side moment d Stream p h =
     let P : Connection (Tracked S) → Type 0 = λ c. IfSome c.session Q in
     let key = key_in live.table side d in
     let taker = taker_in rules live side moment d in
-    let taken = taker_keeps rules Q k (table_after rules live side moment d Stream) side d (found_in live side d) (all_found P key live.connections h) in
+    let taken =
+    taker_keeps rules Q k (table_after rules live side moment d Stream) side d (found_in live side d) (all_found P key live.connections h) in
     let image = image_in rules live side moment d in
     let s = stream_passes rules live side moment d p.content in
     all_changed P live.connections (place_of key live.connections) (connection_after rules image live side moment d taker) h
-    (after_keeps rules Q image live side moment d taker (stepped_keeps rules Q k image side d taker s.taken (units_fit rules image live.table side d taker s.units p.late) taken))
+    (after_keeps rules Q image live side moment d taker
+    (stepped_keeps rules Q k image side d taker s.taken (units_fit rules image live.table side d taker s.units p.late) taken))
 
-pub next_keeps : {S : Type 0} (rules : SessionRules S) (Q : Tracked S → Type 0) → Keeps rules Q → (w : World S) (e : Event) → EachTracked Q w.connections → EachTracked Q (next rules w e).connections
+pub next_keeps : {S : Type 0} (rules : SessionRules S) (Q : Tracked S → Type 0) → Keeps rules Q → (w : World S) (e : Event)
+    → EachTracked Q w.connections → EachTracked Q (next rules w e).connections
 next_keeps {S = S} rules Q k w e h = by_verdict (verdict rules w e) refl
   where
     by_verdict : (v : Verdict) → verdict rules w e ≡ v → EachTracked Q (next_by rules (at_moment w e.moment) e v).connections
-    by_verdict Pass p = kind_keeps rules Q k (at_moment w e.moment) e.side e.moment (datagram_in e) (kind_of (datagram_in e)) (passes rules w e p) (All-filter (is_live (record { 0 = e.moment })) (λ c. IfSome c.session Q) w.connections h)
+    by_verdict Pass p =
+        kind_keeps rules Q k (at_moment w e.moment) e.side e.moment (datagram_in e) (kind_of (datagram_in e)) (passes rules w e p)
+        (All-filter (is_live (record { 0 = e.moment })) (λ c. IfSome c.session Q) w.connections h)
     by_verdict (Refused r) p = All-filter (is_live (record { 0 = e.moment })) (λ c. IfSome c.session Q) w.connections h
     by_verdict Held p = All-filter (is_live (record { 0 = e.moment })) (λ c. IfSome c.session Q) w.connections h
 
-pub run_keeps : {S : Type 0} (rules : SessionRules S) (Q : Tracked S → Type 0) → Keeps rules Q → (events : List Event) (w : World S) → EachTracked Q w.connections → EachTracked Q (fold (next rules) w events).connections
+pub run_keeps : {S : Type 0} (rules : SessionRules S) (Q : Tracked S → Type 0) → Keeps rules Q → (events : List Event) (w : World S)
+    → EachTracked Q w.connections → EachTracked Q (fold (next rules) w events).connections
 run_keeps rules Q k [] w h = h
 run_keeps rules Q k (e ∷ events) w h = run_keeps rules Q k events (next rules w e) (next_keeps rules Q k w e h)
 
@@ -130,21 +152,24 @@ taken_keeps {S = S} rules Q k w e t takes h =
     let P : Connection (Tracked S) → Type 0 = λ c. IfSome c.session Q in
     let found = all_found P (key_in live.table e.side d) live.connections (All-filter (is_live (record { 0 = e.moment })) P w.connections h) in
     let taker = taker_keeps rules Q k (table_after rules live e.side e.moment d Stream) e.side d (found_in live e.side d) found in
-    let through : Passes rules live e.side e.moment d Stream = subst (Passes rules live e.side e.moment d) takes.stream (passes rules w e takes.passes) in
+    let through : Passes rules live e.side e.moment d Stream =
+    subst (Passes rules live e.side e.moment d) takes.stream (passes rules w e takes.passes) in
     let s = stream_passes rules live e.side e.moment d through.content in
     let fit = units_fit rules image live.table e.side d (taker_in rules live e.side e.moment d) s.units through.late in
     let kept = stepped_keeps rules Q k image e.side d (taker_in rules live e.side e.moment d) s.taken fit taker in
     subst (λ (o : Option (Tracked S)). IfSome (option_map (stepped rules image e.side d) o) Q) takes.taker kept
 
 -- a session that takes a segment has it before, and doesn't refuse the segment
-pub taken_before : {S : Type 0} (rules : SessionRules S) (Q : Tracked S → Type 0) → Keeps rules Q → (w : World S) (e : Event) (t : Tracked S) → TakesSegment rules w e t → EachTracked Q w.connections → Q t × (rules.refusal (host_on e.side t) t.session (segment_of (datagram_in e)) ≡ None)
+pub taken_before : {S : Type 0} (rules : SessionRules S) (Q : Tracked S → Type 0) → Keeps rules Q → (w : World S) (e : Event) (t : Tracked S)
+    → TakesSegment rules w e t → EachTracked Q w.connections → Q t × (rules.refusal (host_on e.side t) t.session (segment_of (datagram_in e)) ≡ None)
 taken_before {S = S} rules Q k w e t takes h =
     let live = at_moment w e.moment in
     let d = datagram_in e in
     let P : Connection (Tracked S) → Type 0 = λ c. IfSome c.session Q in
     let found = all_found P (key_in live.table e.side d) live.connections (All-filter (is_live (record { 0 = e.moment })) P w.connections h) in
     let taker = taker_keeps rules Q k (table_after rules live e.side e.moment d Stream) e.side d (found_in live e.side d) found in
-    let through : Passes rules live e.side e.moment d Stream = subst (Passes rules live e.side e.moment d) takes.stream (passes rules w e takes.passes) in
+    let through : Passes rules live e.side e.moment d Stream =
+    subst (Passes rules live e.side e.moment d) takes.stream (passes rules w e takes.passes) in
     let s = stream_passes rules live e.side e.moment d through.content in (
       subst (λ (o : Option (Tracked S)). IfSome o Q) takes.taker taker,
       subst (λ (o : Option (Tracked S)). session_refusal rules e.side d o ≡ None) takes.taker s.taken,

@@ -34,7 +34,9 @@ pub record GoesOn (from : Host) (before after : Session) (g : Segment) (outs : L
 
 -- so it is for the segment of an event, which this session takes
 abbrev pub GoesOnBy : World RememberedSession → Event → Tracked RememberedSession → Type 0
-GoesOnBy w e t = GoesOn (host_on e.side t) (streams_of t) (streams_of (taken_by remembering_rules w e t)) (segment_of (datagram_in e)) (segments_for remembering_rules w e t)
+GoesOnBy w e t =
+    GoesOn (host_on e.side t) (streams_of t) (streams_of (taken_by remembering_rules w e t)) (segment_of (datagram_in e))
+    (segments_for remembering_rules w e t)
 
 -- a session is tracked
 pub record IsTracked (all : List (Connection (Tracked RememberedSession))) (t : Tracked RememberedSession) : Type 0 where

@@ -69,8 +69,10 @@ KeepsLists rules table c = IfSome c.session (ListsAreBound rules table c.until.0
 -- what each representation of sessions does with lists: nothing is listed when a session begins, the addresses in the units of a segment are entered into its sender's list and the other one stays, and a SYN completes no unit
 pub record HasLists {S : Type 0} (rules : SessionRules S) : Type 0 where
   pub made : (port : ℕ) (pair : Pair) (initial mss : ℕ) (host : Host) → rules.listed host (rules.made port pair initial mss) ≡ []
-  pub own : (image : Addr → Option Addr) (from : Host) (s : S) (g : Segment) → rules.listed from (rules.next image from s g) ≡ entered image (rules.listed from s) (addresses_in (rules.units from s g))
-  pub other : (image : Addr → Option Addr) (from : Host) (s : S) (g : Segment) → rules.listed (peer from) (rules.next image from s g) ≡ rules.listed (peer from) s
+  pub own : (image : Addr → Option Addr) (from : Host) (s : S) (g : Segment)
+      → rules.listed from (rules.next image from s g) ≡ entered image (rules.listed from s) (addresses_in (rules.units from s g))
+  pub other : (image : Addr → Option Addr) (from : Host) (s : S) (g : Segment)
+      → rules.listed (peer from) (rules.next image from s g) ≡ rules.listed (peer from) s
   pub syn : (from : Host) (s : S) (g : Segment) → g.flags.syn ≡ true → rules.units from s g ≡ []
 
 -- a world in which all that is listed is bound
@@ -87,7 +89,8 @@ ListsCross rules table t = (host : Host) → AllByRecursion (EntryCrosses table 
 
 -- each address that was listed keeps its image
 abbrev pub KeepsImages : {S : Type 0} → SessionRules S → Tracked S → Tracked S → Type 0
-KeepsImages rules old new = (host : Host) (number : ℕ) → is_listed (rules.listed host old.session) number ≡ true → image_in (rules.listed host new.session) number ≡ image_in (rules.listed host old.session) number
+KeepsImages rules old new = (host : Host) (number : ℕ) → is_listed (rules.listed host old.session) number ≡ true
+    → image_in (rules.listed host new.session) number ≡ image_in (rules.listed host old.session) number
 
 -- no list is longer than the most
 abbrev pub ListsAreFew : {S : Type 0} → SessionRules S → Tracked S → Type 0

@@ -34,13 +34,15 @@ is_unknown _ = false
 -- an address inside, or its number, has no image
 abbrev pub is_inner_unbound : {S : Type 0} → SessionRules S → World S → Side → Inner → Bool
 is_inner_unbound rules live side inner =
-    (is_none (seen live.table side inner.source) || is_none (seen live.table side inner.destination)) || is_unknown (inner_number rules live side inner)
+    (is_none (seen live.table side inner.source) || is_none (seen live.table side inner.destination)) || is_unknown
+    (inner_number rules live side inner)
 
 -- the octets inside as they go on: by the bindings before those of the message itself
 abbrev pub inner_after : {S : Type 0} → SessionRules S → World S → Side → List ℕ → List ℕ
 inner_after rules live side octets =
     let inner = inner_fields octets in
-    inner_with octets (called live.table side inner.source).0 (called live.table side inner.destination).0 (option_and_then (λ number. number) (inner_number rules live side inner))
+    inner_with octets (called live.table side inner.source).0 (called live.table side inner.destination).0
+    (option_and_then (λ number. number) (inner_number rules live side inner))
 
 -- the message with these octets inside
 abbrev pub with_inside : Datagram → List ℕ → Datagram

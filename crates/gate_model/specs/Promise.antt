@@ -78,25 +78,38 @@ pub record Promised (settings : Settings) (events : List Event) : Type 0 where
   -- in each session the octets that were sent to a host are a prefix of the peer's stream with its address lines renamed by the session's pair, or its messages by the session's lists, and acknowledgements cover only octets whose images were acknowledged;
   pub sessions : (done others : List Event) → events ≡ done ++ others → EachTracked SessionIs (remembered_after settings done).connections
   -- so it is with one that has taken a segment, also where it ends with that;
-  pub taken : (done others : List Event) (e : Event) → events ≡ done ++ e ∷ others → (t : Tracked RememberedSession) → TakesSegment remembering_rules (remembered_after settings done) e t → SessionIs (taken_by remembering_rules (remembered_after settings done) e t)
+  pub taken : (done others : List Event) (e : Event) → events ≡ done ++ e ∷ others → (t : Tracked RememberedSession)
+      → TakesSegment remembering_rules (remembered_after settings done) e t
+      → SessionIs (taken_by remembering_rules (remembered_after settings done) e t)
   -- and each address that its lists named before has kept its image;
-  pub images : (done others : List Event) (e : Event) → events ≡ done ++ e ∷ others → (t : Tracked RememberedSession) → TakesSegment remembering_rules (remembered_after settings done) e t → KeepsImages remembering_rules t (taken_by remembering_rules (remembered_after settings done) e t)
+  pub images : (done others : List Event) (e : Event) → events ≡ done ++ e ∷ others → (t : Tracked RememberedSession)
+      → TakesSegment remembering_rules (remembered_after settings done) e t
+      → KeepsImages remembering_rules t (taken_by remembering_rules (remembered_after settings done) e t)
   -- these sessions are those that are known,
-  pub remembers : (done others : List Event) → events ≡ done ++ others → world_as (λ (t : RememberedSession). t.session) (remembered_after settings done) ≡ known_after settings done
+  pub remembers : (done others : List Event) → events ≡ done ++ others
+      → world_as (λ (t : RememberedSession). t.session) (remembered_after settings done) ≡ known_after settings done
   -- and for a segment that one takes exactly what it says goes out;
-  pub said_is : (done others : List Event) (e : Event) → events ≡ done ++ e ∷ others → (t : Tracked RememberedSession) → TakesSegment remembering_rules (remembered_after settings done) e t → out whole_rules (known_after settings done) e ≡ said remembering_rules (remembered_after settings done) e t
+  pub said_is : (done others : List Event) (e : Event) → events ≡ done ++ e ∷ others → (t : Tracked RememberedSession)
+      → TakesSegment remembering_rules (remembered_after settings done) e t
+      → out whole_rules (known_after settings done) e ≡ said remembering_rules (remembered_after settings done) e t
   -- its pair is what crossing gives for its hosts
-  pub pairs : (done others : List Event) → events ≡ done ++ others → EachTracked (PairCrosses (known_after settings done).table) (known_after settings done).connections
+  pub pairs : (done others : List Event) → events ≡ done ++ others
+      → EachTracked (PairCrosses (known_after settings done).table) (known_after settings done).connections
   -- and what its lists rename is bound, as it is listed, for as long as its connection lives, so that crossing gives each listed address its one image
-  pub lists : (done others : List Event) → events ≡ done ++ others → let w = known_after settings done in All (KeepsLists whole_rules w.table) w.connections × EachTracked (ListsCross whole_rules w.table) w.connections
+  pub lists : (done others : List Event) → events ≡ done ++ others → let w = known_after settings done in
+      All (KeepsLists whole_rules w.table) w.connections × EachTracked (ListsCross whole_rules w.table) w.connections
   -- sessions go on: of their hosts' octets nothing waits but held rests;
-  pub waits : (done others : List Event) → events ≡ done ++ others → EachTracked (λ t. OnlyRestsWait (streams_of t)) (remembered_after settings done).connections
+  pub waits : (done others : List Event) → events ≡ done ++ others
+      → EachTracked (λ t. OnlyRestsWait (streams_of t)) (remembered_after settings done).connections
   -- what goes out for a segment that one takes, without SYN and RST, brings what is lacking of its sender's octets, also where the session ends with that;
-  pub going : (done others : List Event) (e : Event) → events ≡ done ++ e ∷ others → (t : Tracked RememberedSession) → TakesSegment remembering_rules (remembered_after settings done) e t → HasDataSegment e → GoesOnBy (remembered_after settings done) e t
+  pub going : (done others : List Event) (e : Event) → events ≡ done ++ e ∷ others → (t : Tracked RememberedSession)
+      → TakesSegment remembering_rules (remembered_after settings done) e t → HasDataSegment e → GoesOnBy (remembered_after settings done) e t
   -- nothing else changes a session, whatever frames come in between;
-  pub through : (done others : List Event) (e : Event) → events ≡ done ++ e ∷ others → EachTracked (ComesThrough (remembered_after settings done) e) (next remembering_rules (remembered_after settings done) e).connections
+  pub through : (done others : List Event) (e : Event) → events ≡ done ++ e ∷ others
+      → EachTracked (ComesThrough (remembered_after settings done) e) (next remembering_rules (remembered_after settings done) e).connections
   -- and where a host sends again what it has no acknowledgement of, and the other acknowledges what it has, there are no more such rounds than octets and their image have
-  pub rounds : (done others : List Event) → events ≡ done ++ others → (host : Host) (t : Tracked RememberedSession) (knows had : ℕ) (rounds : List FrameRound) → RoundsEnd settings done host t knows had rounds
+  pub rounds : (done others : List Event) → events ≡ done ++ others
+      → (host : Host) (t : Tracked RememberedSession) (knows had : ℕ) (rounds : List FrameRound) → RoundsEnd settings done host t knows had rounds
   -- translation is transparent: what passes goes out from an alias, of the realm that it goes to, to a host of that realm;
   pub translated : (done others : List Event) (e : Event) → events ≡ done ++ e ∷ others
       → verdict whole_rules (known_after settings done) e ≡ Pass → IsTranslated whole_rules (known_after settings done) e

@@ -33,8 +33,10 @@ pub record Reads {S T : Type 0} (h : S → T) (a : SessionRules S) (b : SessionR
   pub refusal : (from : Host) (s : S) (g : Segment) → b.refusal from (h s) g ≡ a.refusal from s g
   pub units : (from : Host) (s : S) (g : Segment) → a.refusal from s g ≡ None → b.units from (h s) g ≡ a.units from s g
   pub listed : (host : Host) (s : S) → b.listed host (h s) ≡ a.listed host s
-  pub next : (image : Addr → Option Addr) (from : Host) (s : S) (g : Segment) → a.refusal from s g ≡ None → b.next image from (h s) g ≡ h (a.next image from s g)
-  pub out : (image : Addr → Option Addr) (from : Host) (s : S) (g : Segment) → a.refusal from s g ≡ None → b.out image from (h s) g ≡ a.out image from s g
+  pub next : (image : Addr → Option Addr) (from : Host) (s : S) (g : Segment) → a.refusal from s g ≡ None
+      → b.next image from (h s) g ≡ h (a.next image from s g)
+  pub out : (image : Addr → Option Addr) (from : Host) (s : S) (g : Segment) → a.refusal from s g ≡ None
+      → b.out image from (h s) g ≡ a.out image from s g
   pub ends : (from : Host) (s : S) (g : Segment) → b.ends from (h s) g ≡ a.ends from s g
   pub inner : (host : Host) (s : S) (number : ℕ) → b.inner host (h s) number ≡ a.inner host s number
   pub pending : (s : S) → b.pending (h s) ≡ a.pending s
@@ -47,8 +49,10 @@ pub record Agree {S T : Type 0} (R : S → T → Type 0) (a : SessionRules S) (b
   pub refusal : (from : Host) (s : S) (t : T) (g : Segment) → R s t → b.refusal from t g ≡ a.refusal from s g
   pub units : (from : Host) (s : S) (t : T) (g : Segment) → R s t → a.refusal from s g ≡ None → b.units from t g ≡ a.units from s g
   pub listed : (host : Host) (s : S) (t : T) → R s t → b.listed host t ≡ a.listed host s
-  pub next : (image : Addr → Option Addr) (from : Host) (s : S) (t : T) (g : Segment) → R s t → a.refusal from s g ≡ None → R (a.next image from s g) (b.next image from t g)
-  pub out : (image : Addr → Option Addr) (from : Host) (s : S) (t : T) (g : Segment) → R s t → a.refusal from s g ≡ None → b.out image from t g ≡ a.out image from s g
+  pub next : (image : Addr → Option Addr) (from : Host) (s : S) (t : T) (g : Segment) → R s t → a.refusal from s g ≡ None
+      → R (a.next image from s g) (b.next image from t g)
+  pub out : (image : Addr → Option Addr) (from : Host) (s : S) (t : T) (g : Segment) → R s t → a.refusal from s g ≡ None
+      → b.out image from t g ≡ a.out image from s g
   pub ends : (from : Host) (s : S) (t : T) (g : Segment) → R s t → b.ends from t g ≡ a.ends from s g
   pub inner : (host : Host) (s : S) (t : T) (number : ℕ) → R s t → b.inner host t number ≡ a.inner host s number
   pub pending : (s : S) (t : T) → R s t → b.pending t ≡ a.pending s

@@ -58,7 +58,16 @@ nothing = record { sent = []; places = []; numbers = [] }
 -- they answer as sessions over whole lists do
 abbrev pub remembering_rules : SessionRules RememberedSession
 remembering_rules = record {
-  made = λ port pair initial mss. record { session = whole_rules.made port pair initial mss; port = port; pair = pair; initial = initial; mss = mss; past = []; client = nothing; server = nothing };
+  made = λ port pair initial mss. record {
+    session = whole_rules.made port pair initial mss;
+    port = port;
+    pair = pair;
+    initial = initial;
+    mss = mss;
+    past = [];
+    client = nothing;
+    server = nothing;
+  };
   refusal = λ from t g. whole_rules.refusal from t.session g;
   units = λ from t g. whole_rules.units from t.session g;
   listed = λ host t. whole_rules.listed host t.session;
@@ -100,7 +109,8 @@ pub record IsRenamed (entries : List Entry) (unit : List ℕ) : Type 0 where
 
 -- each whole unit of a host's stream in a DNS session is renamed by the list of that host
 abbrev pub UnitsAreRenamed : Option Lists → Host → List ℕ → Type 0
-UnitsAreRenamed lists host octets = IfSome lists (λ all. let entries = list_of host all in AllByRecursion (IsRenamed entries) (cut (dns_units entries) octets).units)
+UnitsAreRenamed lists host octets =
+    IfSome lists (λ all. let entries = list_of host all in AllByRecursion (IsRenamed entries) (cut (dns_units entries) octets).units)
 
 -- what holds of the stream of a host:
 pub record StreamIs (host : Host) (t : Tracked RememberedSession) : Type 0 where

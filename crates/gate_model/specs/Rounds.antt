@@ -43,9 +43,11 @@ pub record IsFrameRound (host : Host) (w : World RememberedSession) (t : Tracked
   pub takes : TakesSegment remembering_rules (at_repeat w x) x.repeat t
   pub by : host_on x.repeat.side t ≡ host
   pub kind : HasDataSegment x.repeat
-  pub lacks : let g = segment_of (datagram_in x.repeat) in LacksOctets (own host (streams_of t)) (own host (streams_of (repeated w x t))) g knows ⊎ LacksEnd (own host (streams_of t)) (own host (streams_of (repeated w x t))) g knows
+  pub lacks : let g = segment_of (datagram_in x.repeat) in LacksOctets (own host (streams_of t)) (own host (streams_of (repeated w x t))) g knows
+      ⊎ LacksEnd (own host (streams_of t)) (own host (streams_of (repeated w x t))) g knows
   -- the other host hears what goes out for it,
-  pub hears : Hears (known (own host (streams_of t)).initial) (due_in (own host (streams_of (repeated w x t)))) had (segments_for remembering_rules (at_repeat w x) x.repeat t) x.has
+  pub hears : Hears (known (own host (streams_of t)).initial) (due_in (own host (streams_of (repeated w x t)))) had
+      (segments_for remembering_rules (at_repeat w x) x.repeat t) x.has
   -- and acknowledges all that it has by a segment that the session takes, the same one, so that it lived through what came in between
   pub takes_answer : TakesSegment remembering_rules (at_answer w x) x.answer (repeated w x t)
   pub answers_by : host_on x.answer.side t ≡ peer host
@@ -55,7 +57,8 @@ pub record IsFrameRound (host : Host) (w : World RememberedSession) (t : Tracked
 -- one round after the other; what comes back with an answer is known from then on
 abbrev pub AllFrameRounds : Host → World RememberedSession → Tracked RememberedSession → ℕ → ℕ → List FrameRound → Type 0
 AllFrameRounds host w t knows had [] = Unit {0}
-AllFrameRounds host w t knows had (x ∷ xs) = IsFrameRound host w t knows had x × AllFrameRounds host (at_end w x) (answered w x t) (acknowledged_of (own host (streams_of (answered w x t)))) x.has xs
+AllFrameRounds host w t knows had (x ∷ xs) = IsFrameRound host w t knows had x
+    × AllFrameRounds host (at_end w x) (answered w x t) (acknowledged_of (own host (streams_of (answered w x t)))) x.has xs
 
 -- the session after them
 abbrev pub after_frame_rounds : World RememberedSession → Tracked RememberedSession → List FrameRound → Tracked RememberedSession

@@ -53,7 +53,8 @@ with_entries host entries x =
 
 -- the answers of sessions over whole lists, as SessionRules tells them
 abbrev pub whole_made : ℕ → Pair → ℕ → ℕ → WholeSession
-whole_made port pair initial mss = let lists = lists_at port in record { lists = lists; session = session_made (meaning_by lists pair Client) (meaning_by lists pair Server) initial mss }
+whole_made port pair initial mss = let lists = lists_at port in
+    record { lists = lists; session = session_made (meaning_by lists pair Client) (meaning_by lists pair Server) initial mss }
 
 abbrev pub whole_units : Host → WholeSession → Segment → List (List ℕ)
 whole_units from x segment = units_by x.lists (completed (own from x.session) segment)
@@ -66,7 +67,8 @@ abbrev pub whole_learned : (Addr → Option Addr) → Host → WholeSession → 
 whole_learned image from x segment = with_entries from (entered image (whole_listed from x) (addresses_in (whole_units from x segment))) x
 
 abbrev pub whole_next : (Addr → Option Addr) → Host → WholeSession → Segment → WholeSession
-whole_next image from x segment = let y = whole_learned image from x segment in record { lists = y.lists; session = session_next from y.session segment }
+whole_next image from x segment = let y = whole_learned image from x segment in
+    record { lists = y.lists; session = session_next from y.session segment }
 
 abbrev pub whole_out : (Addr → Option Addr) → Host → WholeSession → Segment → List Outgoing
 whole_out image from x segment = session_out from (whole_learned image from x segment).session segment

@@ -26,12 +26,14 @@ taker_in rules live side moment d = taker_by rules (table_after rules live side 
 
 -- its connection is another one afterwards
 abbrev pub with_connection : {S : Type 0} → SessionRules S → World S → Side → Datagram → Bindings → Option (Connection (Tracked S)) → World S
-with_connection rules live side d table c = record live { table = table; connections = connections_with live side d c; pending = max live.pending (pending_in rules c) }
+with_connection rules live side d table c =
+    record live { table = table; connections = connections_with live side d c; pending = max live.pending (pending_in rules c) }
 
 -- what a datagram of a kind that passes leaves of what lives
 abbrev pub after_kind : {S : Type 0} → SessionRules S → World S → Side → ℕ → Datagram → Kind → World S
 after_kind rules live side moment d Stream =
-    with_connection rules live side d (table_after rules live side moment d Stream) (connection_after rules (image_in rules live side moment d) live side moment d (taker_in rules live side moment d))
+    with_connection rules live side d (table_after rules live side moment d Stream)
+    (connection_after rules (image_in rules live side moment d) live side moment d (taker_in rules live side moment d))
 after_kind rules live side moment d (Whole payload) = record live { table = table_after rules live side moment d (Whole payload) }
 
 -- by the verdict: a frame that is refused moves the clock, by which bindings and connections may end, and changes nothing else
@@ -49,7 +51,8 @@ next rules w e = next_by rules (at_moment w e.moment) e (verdict rules w e)
 -- a segment of a session goes as the session says, and any other one as it came
 abbrev pub stream_out : {S : Type 0} → SessionRules S → (Addr → Option Addr) → Side → Datagram → ℕ → ℕ → Option (Tracked S) → List (List ℕ)
 stream_out rules image side d source destination None = renamed d source destination ∷ []
-stream_out rules image side d source destination (Some t) = map (sent_as d source destination) (rules.out image (host_on side t) t.session (segment_of d))
+stream_out rules image side d source destination (Some t) =
+    map (sent_as d source destination) (rules.out image (host_on side t) t.session (segment_of d))
 
 -- a datagram with the addresses in its payload renamed, by its kind; table is that of afterwards
 abbrev pub translated : {S : Type 0} → SessionRules S → World S → Bindings → Side → Datagram → Kind → Datagram
@@ -60,8 +63,10 @@ translated rules live table side d _ = d
 
 -- the datagrams that go out for one of a kind that passes, between these addresses
 abbrev pub out_between : {S : Type 0} → SessionRules S → World S → Bindings → Side → ℕ → Datagram → ℕ → ℕ → Kind → List (List ℕ)
-out_between rules live table side moment d source destination (Whole payload) = renamed (translated rules live table side d (Whole payload)) source destination ∷ []
-out_between rules live table side moment d source destination Stream = stream_out rules (image_in rules live side moment d) side d source destination (taker_in rules live side moment d)
+out_between rules live table side moment d source destination (Whole payload) =
+    renamed (translated rules live table side d (Whole payload)) source destination ∷ []
+out_between rules live table side moment d source destination Stream =
+    stream_out rules (image_in rules live side moment d) side d source destination (taker_in rules live side moment d)
 
 -- between the addresses as they are called afterwards
 abbrev pub out_kind : {S : Type 0} → SessionRules S → World S → Side → ℕ → Datagram → Kind → List (List ℕ)

@@ -66,7 +66,8 @@ pair_in table side d = record {
 
 -- the session that it makes, itself not yet taken
 abbrev pub made_by : {S : Type 0} → SessionRules S → Bindings → Side → Datagram → Tracked S
-made_by rules table side d = let pair = pair_in table side d in record { client = side; pair = pair; session = rules.made (tcp_of d).destination_port pair (tcp_of d).sequence (tcp_of d).mss }
+made_by rules table side d = let pair = pair_in table side d in
+    record { client = side; pair = pair; session = rules.made (tcp_of d).destination_port pair (tcp_of d).sequence (tcp_of d).mss }
 
 -- the session that takes the segment, if one does: its connection's, or the one that it makes
 abbrev pub taker_by : {S : Type 0} → SessionRules S → Bindings → Side → Datagram → Option (Connection (Tracked S)) → Option (Tracked S)
@@ -90,7 +91,8 @@ ends_by rules side d (Some t) = rules.ends (host_on side t) t.session (segment_o
 
 -- no connection lives, connections to one of both ports are tracked, and the segment isn't a SYN without ACK
 abbrev pub lacks_session : {S : Type 0} → Option (Connection (Tracked S)) → Datagram → Bool
-lacks_session found d = let tcp = tcp_of d in is_none found && ((is_tracked_port tcp.source_port || is_tracked_port tcp.destination_port) && not (is_opening tcp.flags))
+lacks_session found d = let tcp = tcp_of d in
+    is_none found && ((is_tracked_port tcp.source_port || is_tracked_port tcp.destination_port) && not (is_opening tcp.flags))
 
 -- the most connections and the most sessions that live at once
 abbrev pub most_connections : ℕ
@@ -109,13 +111,17 @@ is_full all found d =
 
 -- how long its addresses are held: as its connection is, and a short time where none is left
 abbrev pub stream_timeout : {S : Type 0} → SessionRules S → World S → Side → Datagram → ℕ
-stream_timeout rules live side d = if ends_by rules side d (session_in (found_in live side d)) then short_timeout else timeout_of live.connections (key_in live.table side d) side (tcp_of d).flags
+stream_timeout rules live side d =
+    if ends_by rules side d (session_in (found_in live side d)) then short_timeout else timeout_of live.connections (key_in live.table side d) side
+    (tcp_of d).flags
 
 -- what is left of its connection: nothing where its session ends
-abbrev pub connection_after : {S : Type 0} → SessionRules S → (Addr → Option Addr) → World S → Side → ℕ → Datagram → Option (Tracked S) → Option (Connection (Tracked S))
+abbrev pub connection_after : {S : Type 0} → SessionRules S → (Addr → Option Addr) → World S → Side → ℕ → Datagram → Option (Tracked S)
+    → Option (Connection (Tracked S))
 connection_after rules image live side moment d taker =
     if ends_by rules side d taker then None
-    else option_map (with_session (option_map (stepped rules image side d) taker)) (after (key_in live.table side d) side (tcp_of d).flags taker (record { 0 = moment }) (found_in live side d))
+    else option_map (with_session (option_map (stepped rules image side d) taker))
+    (after (key_in live.table side d) side (tcp_of d).flags taker (record { 0 = moment }) (found_in live side d))
 
 -- the connections, where one becomes another
 abbrev pub connections_with : {S : Type 0} → World S → Side → Datagram → Option (Connection (Tracked S)) → List (Connection (Tracked S))
@@ -133,4 +139,5 @@ pending_in rules c = pending_by rules (session_in c)
 -- an outgoing segment as a datagram: a header by the segment's, without selective acknowledgements and urgency, and the lifetime less 1
 abbrev pub sent_as : Datagram → ℕ → ℕ → Outgoing → List ℕ
 sent_as d source destination o =
-    datagram_of d.header source destination (d.lifetime - 1) (spelled_segment (tcp_of d).header source destination o.sequence o.acknowledgement (flags_octet o.flags) o.octets)
+    datagram_of d.header source destination (d.lifetime - 1)
+    (spelled_segment (tcp_of d).header source destination o.sequence o.acknowledgement (flags_octet o.flags) o.octets)

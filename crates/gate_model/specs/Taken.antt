@@ -18,14 +18,17 @@ pub record TakesSegment {S : Type 0} (rules : SessionRules S) (w : World S) (e :
 
 -- the addresses between which its datagrams go
 abbrev pub source_after : {S : Type 0} → SessionRules S → World S → Event → ℕ
-source_after rules w e = (called (table_after rules (at_moment w e.moment) e.side e.moment (datagram_in e) Stream) e.side (source_of (datagram_in e))).0
+source_after rules w e =
+    (called (table_after rules (at_moment w e.moment) e.side e.moment (datagram_in e) Stream) e.side (source_of (datagram_in e))).0
 
 abbrev pub destination_after : {S : Type 0} → SessionRules S → World S → Event → ℕ
-destination_after rules w e = (called (table_after rules (at_moment w e.moment) e.side e.moment (datagram_in e) Stream) e.side (destination_of (datagram_in e))).0
+destination_after rules w e =
+    (called (table_after rules (at_moment w e.moment) e.side e.moment (datagram_in e) Stream) e.side (destination_of (datagram_in e))).0
 
 -- what the session says of it
 abbrev pub segments_for : {S : Type 0} → SessionRules S → World S → Event → Tracked S → List Outgoing
-segments_for rules w e t = rules.out (image_in rules (at_moment w e.moment) e.side e.moment (datagram_in e)) (host_on e.side t) t.session (segment_of (datagram_in e))
+segments_for rules w e t =
+    rules.out (image_in rules (at_moment w e.moment) e.side e.moment (datagram_in e)) (host_on e.side t) t.session (segment_of (datagram_in e))
 
 -- the same as datagrams
 abbrev pub said : {S : Type 0} → SessionRules S → World S → Event → Tracked S → List (List ℕ)

@@ -18,12 +18,14 @@ use Rattle.gate_model.specs.World.{Tracked, host_on}
 
 -- uses of addresses of a realm, each until a moment
 abbrev pub uses_until : Side → ℕ → List Addr → List Use
-uses_until side moment addresses = map (λ address. let one : Use = record { side = side; address = address; until = record { 0 = moment } } in one) addresses
+uses_until side moment addresses =
+    map (λ address. let one : Use = record { side = side; address = address; until = record { 0 = moment } } in one) addresses
 
 -- the units that a segment completes in the session that takes it, unless that refuses it
 abbrev pub units_in : {S : Type 0} → SessionRules S → Side → Datagram → Option (Tracked S) → List (List ℕ)
 units_in rules side d None = []
-units_in rules side d (Some t) = unless_refused (rules.refusal (host_on side t) t.session (segment_of d)) (rules.units (host_on side t) t.session (segment_of d)) []
+units_in rules side d (Some t) =
+    unless_refused (rules.refusal (host_on side t) t.session (segment_of d)) (rules.units (host_on side t) t.session (segment_of d)) []
 
 -- the addresses to rename in them
 abbrev pub names_in : {S : Type 0} → SessionRules S → Side → Datagram → Option (Tracked S) → List Addr
@@ -41,7 +43,9 @@ entries_after rules image side d t = entered image (entries_in rules side t) (na
 -- the uses of the addresses that the lists of a session rename, each from the realm of its list's sender: the client's list first
 abbrev pub uses_of_lists : {S : Type 0} → SessionRules S → ℕ → Option (Tracked S) → List Use
 uses_of_lists rules until None = []
-uses_of_lists rules until (Some t) = uses_until t.client until (renamed_in (rules.listed Client t.session)) ++ uses_until (other t.client) until (renamed_in (rules.listed Server t.session))
+uses_of_lists rules until (Some t) =
+    uses_until t.client until (renamed_in (rules.listed Client t.session)) ++ uses_until (other t.client) until
+    (renamed_in (rules.listed Server t.session))
 
 -- an address that isn't listed, is of the realm's pool and stands for no host
 abbrev pub is_new_unbound : Bindings → Side → List Entry → Addr → Bool

@@ -56,7 +56,8 @@ payload_addresses rules live side d Stream = names_in rules side d (session_in (
 -- their uses, until a moment where they hold as the header does: behind those of a DNS session stand the addresses that its lists rename
 abbrev pub payload_uses : {S : Type 0} → SessionRules S → World S → Side → ℕ → ℕ → Datagram → Kind → List Use
 payload_uses rules live side moment until d (Whole payload) = uses_until side (moment + named_timeout) (named_by payload d)
-payload_uses rules live side moment until d Stream = uses_until side until (payload_addresses rules live side d Stream) ++ uses_of_lists rules until (session_in (found_in live side d))
+payload_uses rules live side moment until d Stream =
+    uses_until side until (payload_addresses rules live side d Stream) ++ uses_of_lists rules until (session_in (found_in live side d))
 
 -- the uses of a frame that passes: its source, its destination, and those of its payload in their order
 abbrev pub uses_of : {S : Type 0} → SessionRules S → World S → Side → ℕ → Datagram → Kind → List Use
@@ -80,7 +81,8 @@ is_reachable table side address = is_in_same address table.same || (in_pool tabl
 
 -- the addresses of a frame that need a binding are more than the other realm's pool has free
 abbrev pub is_pool_empty : {S : Type 0} → SessionRules S → World S → Side → Datagram → Kind → Bool
-is_pool_empty rules live side d kind = nat_lt (free live.table (other side)) (needed live.table side (addresses_of d ++ payload_addresses rules live side d kind))
+is_pool_empty rules live side d kind =
+    nat_lt (free live.table (other side)) (needed live.table side (addresses_of d ++ payload_addresses rules live side d kind))
 
 -- a refusal that is known already, as a test
 abbrev pub refusal_tests : Option Refusal → List (Bool × Refusal)
@@ -127,11 +129,14 @@ image_tests table side d _ = []
 abbrev pub late_tests : {S : Type 0} → SessionRules S → World S → Side → ℕ → Datagram → Kind → List (Bool × Refusal)
 late_tests rules live side moment d (Whole payload) = image_tests (table_after rules live side moment d (Whole payload)) side d payload
 late_tests rules live side moment d Stream =
-    growth_tests rules (image_in rules live side moment d) side d (taker_by rules (table_after rules live side moment d Stream) side d (found_in live side d))
+    growth_tests rules (image_in rules live side moment d) side d
+    (taker_by rules (table_after rules live side moment d Stream) side d (found_in live side d))
 
 -- of a datagram of this kind, from its addresses on
 abbrev pub world_tests : {S : Type 0} → SessionRules S → World S → Side → ℕ → Datagram → Kind → List (Bool × Refusal)
-world_tests rules live side moment d kind = address_tests live.table side d ++ (kind_tests rules live side moment d kind ++ (is_pool_empty rules live side d kind, PoolEmpty) ∷ late_tests rules live side moment d kind)
+world_tests rules live side moment d kind =
+    address_tests live.table side d
+    ++ (kind_tests rules live side moment d kind ++ (is_pool_empty rules live side d kind, PoolEmpty) ∷ late_tests rules live side moment d kind)
 
 -- all tests in their order, over what lives at the event
 abbrev pub tests : {S : Type 0} → SessionRules S → World S → Event → List (Bool × Refusal)

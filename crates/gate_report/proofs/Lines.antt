@@ -69,25 +69,37 @@ verdict_short Held = omega arith
 number_short : (n : ℕ) → n < 2 ^ 64 → length (decimal n) ≤ 20
 number_short n h = length-decimal-le 20 n (omega arith) (omega (arith, h)) h
 
-sum_10 : (a b c d e f g h i j : List ℕ) → length (a ++ b ++ c ++ d ++ e ++ f ++ g ++ h ++ i ++ j) ≡ length a + length b + length c + length d + length e + length f + length g + length h + length i + length j
+sum_10 : (a b c d e f g h i j : List ℕ)
+    → length (a ++ b ++ c ++ d ++ e ++ f ++ g ++ h ++ i ++ j)
+    ≡ length a + length b + length c + length d + length e + length f + length g + length h + length i + length j
 sum_10 a b c d e f g h i j = simp length-append
 
-sum_11 : (a b c d e f g h i j k : List ℕ) → length (a ++ b ++ c ++ d ++ e ++ f ++ g ++ h ++ i ++ j ++ k) ≡ length a + length b + length c + length d + length e + length f + length g + length h + length i + length j + length k
+sum_11 : (a b c d e f g h i j k : List ℕ)
+    → length (a ++ b ++ c ++ d ++ e ++ f ++ g ++ h ++ i ++ j ++ k)
+    ≡ length a + length b + length c + length d + length e + length f + length g + length h + length i + length j + length k
 sum_11 a b c d e f g h i j k = simp length-append
 
-sum_13 : (a b c d e f g h i j k l m : List ℕ) → length (a ++ b ++ c ++ d ++ e ++ f ++ g ++ h ++ i ++ j ++ k ++ l ++ m) ≡ length a + length b + length c + length d + length e + length f + length g + length h + length i + length j + length k + length l + length m
+sum_13 : (a b c d e f g h i j k l m : List ℕ)
+    → length (a ++ b ++ c ++ d ++ e ++ f ++ g ++ h ++ i ++ j ++ k ++ l ++ m)
+    ≡ length a + length b + length c + length d + length e + length f + length g + length h + length i + length j + length k + length l + length m
 sum_13 a b c d e f g h i j k l m = simp length-append
 
-text_short : (number : ℕ) (side : Side) (moment : ℕ) (v : Verdict) (n : ℕ) → number < 2 ^ 64 → moment < 2 ^ 64 → n < 2 ^ 32 → length (event_text number side moment v n) ≤ 255
+text_short : (number : ℕ) (side : Side) (moment : ℕ) (v : Verdict) (n : ℕ) → number < 2 ^ 64 → moment < 2 ^ 64 → n < 2 ^ 32
+    → length (event_text number side moment v n) ≤ 255
 unfolding event_text
 text_short number side moment v n a b c =
-    let all = sum_10 (decimal number) (codes " ") (name_of side) (codes " ") (decimal moment) (codes " ") (verdict_name v) (codes " ") (decimal n) (codes "\n") in
+    let all =
+    sum_10 (decimal number) (codes " ") (name_of side) (codes " ") (decimal moment) (codes " ") (verdict_name v) (codes " ") (decimal n)
+    (codes "\n") in
     omega (arith, all, number_short number a, number_short moment b, number_short n (omega (arith, c)), side_short side, verdict_short v)
 
-json_short : (number : ℕ) (side : Side) (moment : ℕ) (v : Verdict) (n : ℕ) → number < 2 ^ 64 → moment < 2 ^ 64 → n < 2 ^ 32 → length (event_json number side moment v n) ≤ 255
+json_short : (number : ℕ) (side : Side) (moment : ℕ) (v : Verdict) (n : ℕ) → number < 2 ^ 64 → moment < 2 ^ 64 → n < 2 ^ 32
+    → length (event_json number side moment v n) ≤ 255
 unfolding event_json
 json_short number side moment v n a b c =
-    let all = sum_11 (codes "{\"event\":") (decimal number) (codes ",\"frames\":") (decimal n) (codes ",\"moment\":") (decimal moment) (codes ",\"side\":\"") (name_of side) (codes "\",\"verdict\":\"") (verdict_name v) (codes "\"}\n") in
+    let all =
+    sum_11 (codes "{\"event\":") (decimal number) (codes ",\"frames\":") (decimal n) (codes ",\"moment\":") (decimal moment)
+    (codes ",\"side\":\"") (name_of side) (codes "\",\"verdict\":\"") (verdict_name v) (codes "\"}\n") in
     omega (arith, all, number_short number a, number_short moment b, number_short n (omega (arith, c)), side_short side, verdict_short v)
 
 pub line_short : (form : ReportForm) (number : ℕ) (side : Side) (moment : ℕ) (v : Verdict) (n : ℕ) → number < 2 ^ 64 → moment < 2 ^ 64 → n < 2 ^ 32
@@ -122,8 +134,11 @@ done_text_short t pending h few =
 done_json_short : (t : Totals) (pending : ℕ) → AreSmall t → pending < 2 ^ 64 → length (done_json t pending) ≤ 255
 unfolding done_json
 done_json_short t pending h few =
-    let all = sum_13 (codes "{\"done\":true,\"events\":") (decimal t.events) (codes ",\"passed\":") (decimal t.passed) (codes ",\"pending\":") (decimal pending)
-    (codes ",\"refused\":") (decimal t.refused) (codes ",\"to_left\":") (decimal t.to_left) (codes ",\"to_right\":") (decimal t.to_right) (codes "}\n") in
+    let all =
+    sum_13 (codes "{\"done\":true,\"events\":") (decimal t.events) (codes ",\"passed\":") (decimal t.passed) (codes ",\"pending\":")
+    (decimal pending)
+    (codes ",\"refused\":") (decimal t.refused) (codes ",\"to_left\":") (decimal t.to_left) (codes ",\"to_right\":") (decimal t.to_right)
+    (codes "}\n") in
     omega (
       arith,
       all,

@@ -23,7 +23,8 @@ event_text number side moment verdict frames = text_front number side moment ver
 unfoldable pub done_text : Totals → ℕ → List ℕ
 done_text totals pending =
     codes "done events=" ++ decimal totals.events ++ codes " passed=" ++ decimal totals.passed ++ codes " refused=" ++ decimal totals.refused
-    ++ codes " to_left=" ++ decimal totals.to_left ++ codes " to_right=" ++ decimal totals.to_right ++ codes " pending=" ++ decimal pending ++ codes "\n"
+    ++ codes " to_left=" ++ decimal totals.to_left ++ codes " to_right=" ++ decimal totals.to_right ++ codes " pending=" ++ decimal pending
+    ++ codes "\n"
 
 -- ## JSON
 
@@ -38,8 +39,10 @@ event_json number side moment verdict frames =
 
 unfoldable pub done_json : Totals → ℕ → List ℕ
 done_json totals pending =
-    codes "{\"done\":true,\"events\":" ++ decimal totals.events ++ codes ",\"passed\":" ++ decimal totals.passed ++ codes ",\"pending\":" ++ decimal pending
-    ++ codes ",\"refused\":" ++ decimal totals.refused ++ codes ",\"to_left\":" ++ decimal totals.to_left ++ codes ",\"to_right\":" ++ decimal totals.to_right ++ codes "}\n"
+    codes "{\"done\":true,\"events\":" ++ decimal totals.events ++ codes ",\"passed\":" ++ decimal totals.passed ++ codes ",\"pending\":"
+    ++ decimal pending
+    ++ codes ",\"refused\":" ++ decimal totals.refused ++ codes ",\"to_left\":" ++ decimal totals.to_left ++ codes ",\"to_right\":"
+    ++ decimal totals.to_right ++ codes "}\n"
 
 -- ## Either form
 

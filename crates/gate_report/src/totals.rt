@@ -1,4 +1,4 @@
-// What is counted over a run.
+// The counts of a run.
 ghost use Rattle.std.specs.Prelude.{◌≡◌, ◌+◌, ◌≤◌, ◌<◌, ◌^◌};
 ghost use Rattle.gate_report.specs.Counts.{nothing_counted, counted, done_line};
 

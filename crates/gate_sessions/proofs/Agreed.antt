@@ -30,11 +30,14 @@ use Rattle.gate_sessions.proofs.Relearned.{keeps_longer, in_range_longer}
 nothing_stands : Stands nothing_pushed [] 0
 nothing_stands = record { proper = tt; octets_in = refl; octets_out = refl; changed = refl; within = omega arith }
 
-pub made_stands : (port : ℕ) (pair : Pair) (initial mss : ℕ) → StandsFor (whole_rules.made port pair initial mss) (compact_rules.made port pair initial mss)
+pub made_stands : (port : ℕ) (pair : Pair) (initial mss : ℕ)
+    → StandsFor (whole_rules.made port pair initial mss) (compact_rules.made port pair initial mss)
 made_stands port pair initial mss =
     let m = meaning_by (lists_at port) pair Client in
     let n = meaning_by (lists_at port) pair Server in
-    let ranges = ranges_begin m n initial mss nothing_pushed nothing_pushed (meaning_lawful (lists_at port) pair Client) (meaning_lawful (lists_at port) pair Server) nothing_stands nothing_stands in
+    let ranges =
+    ranges_begin m n initial mss nothing_pushed nothing_pushed (meaning_lawful (lists_at port) pair Client)
+    (meaning_lawful (lists_at port) pair Server) nothing_stands nothing_stands in
     record {
       lists = refl;
       session = session_begins m n initial mss nothing_pushed nothing_pushed nothing_stands nothing_stands;
@@ -45,7 +48,8 @@ made_stands port pair initial mss =
 
 -- ## What a segment completes
 
-units_at : (lists : Option Lists) (pair : Pair) (h : CompactState) (s : Session) (f : Host) (g : Segment) → StandsForSession (meaning_by lists pair Client) (meaning_by lists pair Server) h s → segment_refusal f s g ≡ None
+units_at : (lists : Option Lists) (pair : Pair) (h : CompactState) (s : Session) (f : Host) (g : Segment)
+    → StandsForSession (meaning_by lists pair Client) (meaning_by lists pair Server) h s → segment_refusal f s g ≡ None
     → kept_units f (record { pair = pair; lists = lists; kept = h }) g ≡ units_by lists (completed (own f s) g)
 units_at None pair h s f g st v = refl
 units_at (Some l) pair h s Client g st v = completed_is l.client Client h.client s.client s.server g st.client (passes Client s.client s.server g v)
@@ -59,10 +63,13 @@ record Fits (m n : Meaning) (h : CompactState) (s : Session) : Type 0 where
   client : InRange m h.client
   server : InRange n h.server
 
-fits_learned : (lists : Option Lists) (pair : Pair) (f : Host) (h : CompactState) (s : Session) (es : List Entry) → IsLonger lists f es → AllNamesListed lists f (own f s).octets → Fits (meaning_by lists pair Client) (meaning_by lists pair Server) h s
+fits_learned : (lists : Option Lists) (pair : Pair) (f : Host) (h : CompactState) (s : Session) (es : List Entry) → IsLonger lists f es
+    → AllNamesListed lists f (own f s).octets → Fits (meaning_by lists pair Client) (meaning_by lists pair Server) h s
     → let after = option_map (with_list f es) lists in Fits (meaning_by after pair Client) (meaning_by after pair Server) h (learned f after s)
-fits_learned None pair Client h s es more listed st = record { session = record { client = st.session.client; server = st.session.server }; client = st.client; server = st.server }
-fits_learned None pair Server h s es more listed st = record { session = record { client = st.session.client; server = st.session.server }; client = st.client; server = st.server }
+fits_learned None pair Client h s es more listed st =
+    record { session = record { client = st.session.client; server = st.session.server }; client = st.client; server = st.server }
+fits_learned None pair Server h s es more listed st =
+    record { session = record { client = st.session.client; server = st.session.server }; client = st.client; server = st.server }
 fits_learned (Some l) pair Client h s es more listed st = record {
   session = record { client = keeps_longer l.client es h.client s.client more listed st.session.client; server = st.session.server };
   client = in_range_longer l.client es h.client st.client;
@@ -74,7 +81,8 @@ fits_learned (Some l) pair Server h s es more listed st = record {
   server = in_range_longer l.server es h.server st.server;
 }
 
-fits_next : (m n : Meaning) → IsLawful m → IsLawful n → (f : Host) (h : CompactState) (s : Session) (g : Segment) → segment_refusal f s g ≡ None → Fits m n h s → Fits m n (kept_next m n f h g) (session_next f s g)
+fits_next : (m n : Meaning) → IsLawful m → IsLawful n → (f : Host) (h : CompactState) (s : Session) (g : Segment) → segment_refusal f s g ≡ None
+    → Fits m n h s → Fits m n (kept_next m n f h g) (session_next f s g)
 fits_next m n law_m law_n Client h s g v st =
     let w : kept_refusal Client h g ≡ None = verdict_is m n h s Client g st.session ∙ v in
     record {
@@ -98,43 +106,64 @@ abbrev session_with : (Addr → Option Addr) → Option Lists → Host → Sessi
 session_with image lists f s g = learned f (lists_with image lists f (units_by lists (completed (own f s) g))) s
 
 -- the session that has learned passes the segment too, since what is kept of it is the same
-learned_passes : (m n m' n' : Meaning) (f : Host) (h : CompactState) (s y : Session) (g : Segment) → StandsForSession m n h s → StandsForSession m' n' h y → segment_refusal f s g ≡ None → segment_refusal f y g ≡ None
+learned_passes : (m n m' n' : Meaning) (f : Host) (h : CompactState) (s y : Session) (g : Segment) → StandsForSession m n h s
+    → StandsForSession m' n' h y → segment_refusal f s g ≡ None → segment_refusal f y g ≡ None
 learned_passes m n m' n' f h s y g a b v = sym (verdict_is m' n' h y f g b) ∙ verdict_is m n h s f g a ∙ v
 
-meaning_is : (m n : Meaning) (f : Host) (h : CompactState) (s : Session) (own_meaning : Host → Meaning) → own_meaning Client ≡ m → own_meaning Server ≡ n → StandsForSession m n h s → (own f s).meaning ≡ own_meaning f
+meaning_is : (m n : Meaning) (f : Host) (h : CompactState) (s : Session) (own_meaning : Host → Meaning) → own_meaning Client ≡ m
+    → own_meaning Server ≡ n → StandsForSession m n h s → (own f s).meaning ≡ own_meaning f
 meaning_is m n Client h s o a b st = ap (λ (x : Sender). x.meaning) st.client.is ∙ sym a
 meaning_is m n Server h s o a b st = ap (λ (x : Sender). x.meaning) st.server.is ∙ sym b
 
-pub next_at : (image : Addr → Option Addr) (lists : Option Lists) (pair : Pair) (f : Host) (h : CompactState) (s : Session) (g : Segment) → StandsFor (record { lists = lists; session = s }) (record { pair = pair; lists = lists; kept = h }) → segment_refusal f s g ≡ None
-    → StandsFor (whole_next image f (record { lists = lists; session = s }) g) (compact_rules.next image f (record { pair = pair; lists = lists; kept = h }) g)
+pub next_at : (image : Addr → Option Addr) (lists : Option Lists) (pair : Pair) (f : Host) (h : CompactState) (s : Session) (g : Segment)
+    → StandsFor (record { lists = lists; session = s }) (record { pair = pair; lists = lists; kept = h }) → segment_refusal f s g ≡ None
+    → StandsFor (whole_next image f (record { lists = lists; session = s }) g)
+    (compact_rules.next image f (record { pair = pair; lists = lists; kept = h }) g)
 next_at image lists pair f h s g st v =
     let units = units_by lists (completed (own f s) g) in
     let es = entered image (entries_by lists f) (addresses_in (units_by lists (completed (own f s) g))) in
     let after = lists_with image lists f (units_by lists (completed (own f s) g)) in
     let more = longer lists f image (addresses_in (units_by lists (completed (own f s) g))) in
     let first = fits_learned lists pair f h s es more (st.listed f) (record { session = st.session; client = st.client; server = st.server }) in
-    let w = learned_passes (meaning_by lists pair Client) (meaning_by lists pair Server) (meaning_by after pair Client) (meaning_by after pair Server) f h s (session_with image lists f s g) g st.session first.session v in
-    let last = fits_next (meaning_by after pair Client) (meaning_by after pair Server) (meaning_lawful after pair Client) (meaning_lawful after pair Server) f h (session_with image lists f s g) g w first in
-    let at : StandsFor (whole_next image f (record { lists = lists; session = s }) g) (record { pair = pair; lists = after; kept = kept_next (meaning_by after pair Client) (meaning_by after pair Server) f h g }) = record {
+    let w = learned_passes (meaning_by lists pair Client) (meaning_by lists pair Server) (meaning_by after pair Client)
+    (meaning_by after pair Server) f h s (session_with image lists f s g) g st.session first.session v in
+    let last =
+    fits_next (meaning_by after pair Client) (meaning_by after pair Server) (meaning_lawful after pair Client)
+    (meaning_lawful after pair Server) f h (session_with image lists f s g) g w first in
+    let at : StandsFor (whole_next image f (record { lists = lists; session = s }) g)
+    (record { pair = pair; lists = after; kept = kept_next (meaning_by after pair Client) (meaning_by after pair Server) f h g }) = record {
       lists = refl;
       session = last.session;
       client = last.client;
       server = last.server;
-      listed = λ host. units_next (λ es u. AllListed es (unit_addresses u)) listed_units_more lists pair host f s g es more (meaning_is (meaning_by lists pair Client) (meaning_by lists pair Server) f h s (meaning_by lists pair) refl refl st.session) (st.listed f) (st.listed host) (new_listed image lists f (completed (own f s) g));
+      listed =
+          λ host. units_next (λ es u. AllListed es (unit_addresses u)) listed_units_more lists pair host f s g es more
+          (meaning_is (meaning_by lists pair Client) (meaning_by lists pair Server) f h s (meaning_by lists pair) refl refl st.session)
+          (st.listed f) (st.listed host) (new_listed image lists f (completed (own f s) g));
     } in
-    subst (λ (us : List (List ℕ)). StandsFor (whole_next image f (record { lists = lists; session = s }) g) (record { pair = pair; lists = lists_with image lists f us; kept = kept_next (meaning_by (lists_with image lists f us) pair Client) (meaning_by (lists_with image lists f us) pair Server) f h g }))
+    subst (λ (us : List (List ℕ)). StandsFor (whole_next image f (record { lists = lists; session = s }) g)
+    (record {
+      pair = pair;
+      lists = lists_with image lists f us;
+      kept =
+          kept_next (meaning_by (lists_with image lists f us) pair Client) (meaning_by (lists_with image lists f us) pair Server) f h g;
+    }))
     (sym (units_at lists pair h s f g st.session v)) at
 
-pub out_at : (image : Addr → Option Addr) (lists : Option Lists) (pair : Pair) (f : Host) (h : CompactState) (s : Session) (g : Segment) → StandsFor (record { lists = lists; session = s }) (record { pair = pair; lists = lists; kept = h }) → segment_refusal f s g ≡ None
+pub out_at : (image : Addr → Option Addr) (lists : Option Lists) (pair : Pair) (f : Host) (h : CompactState) (s : Session) (g : Segment)
+    → StandsFor (record { lists = lists; session = s }) (record { pair = pair; lists = lists; kept = h }) → segment_refusal f s g ≡ None
     → compact_rules.out image f (record { pair = pair; lists = lists; kept = h }) g ≡ whole_out image f (record { lists = lists; session = s }) g
 out_at image lists pair f h s g st v =
     let es = entered image (entries_by lists f) (addresses_in (units_by lists (completed (own f s) g))) in
     let after = lists_with image lists f (units_by lists (completed (own f s) g)) in
     let more = longer lists f image (addresses_in (units_by lists (completed (own f s) g))) in
     let first = fits_learned lists pair f h s es more (st.listed f) (record { session = st.session; client = st.client; server = st.server }) in
-    let w = learned_passes (meaning_by lists pair Client) (meaning_by lists pair Server) (meaning_by after pair Client) (meaning_by after pair Server) f h s (session_with image lists f s g) g st.session first.session v in
-    ap (λ (us : List (List ℕ)). kept_out (meaning_by (lists_with image lists f us) pair Client) (meaning_by (lists_with image lists f us) pair Server) f h g) (units_at lists pair h s f g st.session v)
-    ∙ session_out_is (meaning_by after pair Client) (meaning_by after pair Server) (meaning_lawful after pair Client) (meaning_lawful after pair Server) h (session_with image lists f s g) f g first.client first.server first.session w
+    let w = learned_passes (meaning_by lists pair Client) (meaning_by lists pair Server) (meaning_by after pair Client)
+    (meaning_by after pair Server) f h s (session_with image lists f s g) g st.session first.session v in
+    ap (λ (us : List (List ℕ)). kept_out (meaning_by (lists_with image lists f us) pair Client)
+    (meaning_by (lists_with image lists f us) pair Server) f h g) (units_at lists pair h s f g st.session v)
+    ∙ session_out_is (meaning_by after pair Client) (meaning_by after pair Server) (meaning_lawful after pair Client)
+    (meaning_lawful after pair Server) h (session_with image lists f s g) f g first.client first.server first.session w
 
 -- ## Both
 
@@ -142,18 +171,23 @@ out_at image lists pair f h s g st v =
 same_lists : (x : WholeSession) (k : CompactSession) → StandsFor x k → StandsFor (record { lists = k.lists; session = x.session }) k
 same_lists x k s = record { lists = refl; session = s.session; client = s.client; server = s.server; listed = s.listed }
 
-pub next_stands : (image : Addr → Option Addr) (f : Host) (x : WholeSession) (k : CompactSession) (g : Segment) → StandsFor x k → segment_refusal f x.session g ≡ None → StandsFor (whole_next image f x g) (compact_rules.next image f k g)
+pub next_stands : (image : Addr → Option Addr) (f : Host) (x : WholeSession) (k : CompactSession) (g : Segment) → StandsFor x k
+    → segment_refusal f x.session g ≡ None → StandsFor (whole_next image f x g) (compact_rules.next image f k g)
 next_stands image f x k g s v =
-    subst (λ (lists : Option Lists). StandsFor (whole_next image f (record { lists = lists; session = x.session }) g) (compact_rules.next image f k g)) (sym s.lists)
+    subst (λ (lists : Option Lists). StandsFor (whole_next image f (record { lists = lists; session = x.session }) g)
+    (compact_rules.next image f k g)) (sym s.lists)
     (next_at image k.lists k.pair f k.kept x.session g (same_lists x k s) v)
 
-out_is : (image : Addr → Option Addr) (f : Host) (x : WholeSession) (k : CompactSession) (g : Segment) → StandsFor x k → segment_refusal f x.session g ≡ None → compact_rules.out image f k g ≡ whole_out image f x g
+out_is : (image : Addr → Option Addr) (f : Host) (x : WholeSession) (k : CompactSession) (g : Segment) → StandsFor x k
+    → segment_refusal f x.session g ≡ None → compact_rules.out image f k g ≡ whole_out image f x g
 out_is image f x k g s v =
     out_at image k.lists k.pair f k.kept x.session g (same_lists x k s) v
     ∙ ap (λ (lists : Option Lists). whole_out image f (record { lists = lists; session = x.session }) g) (sym s.lists)
 
-units_are : (f : Host) (x : WholeSession) (k : CompactSession) (g : Segment) → StandsFor x k → segment_refusal f x.session g ≡ None → kept_units f k g ≡ whole_units f x g
-units_are f x k g s v = units_at k.lists k.pair k.kept x.session f g s.session v ∙ ap (λ (lists : Option Lists). units_by lists (completed (own f x.session) g)) (sym s.lists)
+units_are : (f : Host) (x : WholeSession) (k : CompactSession) (g : Segment) → StandsFor x k → segment_refusal f x.session g ≡ None
+    → kept_units f k g ≡ whole_units f x g
+units_are f x k g s v = units_at k.lists k.pair k.kept x.session f g s.session v
+    ∙ ap (λ (lists : Option Lists). units_by lists (completed (own f x.session) g)) (sym s.lists)
 
 pub agreed : Agree StandsFor whole_rules compact_rules
 agreed = record {
@@ -164,14 +198,19 @@ agreed = record {
   next = next_stands;
   out = out_is;
   ends = λ f x k g s. session_ends_is (meaning_by k.lists k.pair Client) (meaning_by k.lists k.pair Server) k.kept x.session f g s.session;
-  inner = λ f x k number s. session_inner_is (meaning_by k.lists k.pair Client) (meaning_by k.lists k.pair Server) (meaning_lawful k.lists k.pair Client) (meaning_lawful k.lists k.pair Server) k.kept x.session f number s.client s.server s.session;
+  inner = λ f x k number s. session_inner_is (meaning_by k.lists k.pair Client) (meaning_by k.lists k.pair Server)
+      (meaning_lawful k.lists k.pair Client) (meaning_lawful k.lists k.pair Server) k.kept x.session f number s.client s.server s.session;
   pending = λ x k s.
-      ap (λ (c : ℕ). max c (length k.kept.server.ledger.changed)) (open_is (meaning_by k.lists k.pair Client) k.kept.client x.session.client s.session.client)
+      ap (λ (c : ℕ). max c (length k.kept.server.ledger.changed))
+      (open_is (meaning_by k.lists k.pair Client) k.kept.client x.session.client s.session.client)
       ∙ ap (max (open_of x.session.client)) (open_is (meaning_by k.lists k.pair Server) k.kept.server x.session.server s.session.server);
 }
 
-pub run_related : (settings : Settings) (events : List Event) → AreRelated StandsFor (fold (next whole_rules) (opening_world settings) events) (fold (next compact_rules) (opening_world settings) events)
-run_related settings events = related_run StandsFor whole_rules compact_rules agreed events (opening_world settings) (opening_world settings) (opening_related StandsFor settings)
+pub run_related : (settings : Settings) (events : List Event)
+    → AreRelated StandsFor (fold (next whole_rules) (opening_world settings) events) (fold (next compact_rules) (opening_world settings) events)
+run_related settings events =
+    related_run StandsFor whole_rules compact_rules agreed events (opening_world settings) (opening_world settings)
+    (opening_related StandsFor settings)
 
 pub pending_related : (w : World WholeSession) (v : World CompactSession) → AreRelated StandsFor w v → v.pending ≡ w.pending
 pending_related w v h = ap (λ (x : World CompactSession). x.pending) (sym h.two) ∙ ap (λ (x : World WholeSession). x.pending) h.one

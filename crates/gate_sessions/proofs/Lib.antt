@@ -4,6 +4,7 @@ pub mod SessionLemmas
 pub mod Stepped
 mod Gone
 pub mod Completed
+pub mod Bearing
 pub mod Relearned
 pub mod Agreed
 pub mod Witness

@@ -16,5 +16,6 @@ kept_have_lists = record {
   made = λ port pair initial mss client. made_at _ client;
   own = λ image f k g. own_at k.lists image f (kept_completed (meaning_by k.lists k.pair f) (sender_kept f k.kept) g);
   other = λ image f k g. other_at k.lists f (entered image (entries_by k.lists f) (addresses_in (kept_units f k g)));
-  syn = λ f k g syn. no_units k.lists (kept_completed (meaning_by k.lists k.pair f) (sender_kept f k.kept) g) (syn_completes (meaning_by k.lists k.pair f) (sender_kept f k.kept) g syn);
+  syn = λ f k g syn. no_units k.lists (kept_completed (meaning_by k.lists k.pair f) (sender_kept f k.kept) g)
+      (syn_completes (meaning_by k.lists k.pair f) (sender_kept f k.kept) g syn);
 }

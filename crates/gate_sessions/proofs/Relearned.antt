@@ -8,7 +8,8 @@ use Rattle.shift_ledger.specs.Prelude.{StandsFor}
 use Rattle.stream_model.specs.Prelude.{Sender}
 use Rattle.compact_stream.specs.Prelude.{CompactSender, KeepsSender, InRange, held_rest}
 
-pushes_alike : (es fs : List Entry) (us : List (List ℕ)) → AllByRecursion (λ u. (dns_units es).image u ≡ (dns_units fs).image u) us → map (push_of (dns_units es)) us ≡ map (push_of (dns_units fs)) us
+pushes_alike : (es fs : List Entry) (us : List (List ℕ)) → AllByRecursion (λ u. (dns_units es).image u ≡ (dns_units fs).image u) us
+    → map (push_of (dns_units es)) us ≡ map (push_of (dns_units fs)) us
 pushes_alike es fs [] h = refl
 pushes_alike es fs (u ∷ us) h =
     let one : push_of (dns_units es) u ≡ push_of (dns_units fs) u = ap (λ i. push_if (bytes_eq i u) u i) h.0 in
@@ -28,9 +29,13 @@ same_due es fs false [] = refl
 same_due es fs false (x ∷ r) = refl
 
 -- a sender whose list is longer, where it lists what the whole units name already
-pub keeps_longer : (es fs : List Entry) (h : CompactSender) (a : Sender) → ((more : List Entry) × (fs ≡ es ++ more)) → AllByRecursion (λ u. AllListed es (unit_addresses u)) (cut (dns_units es) a.octets).units → KeepsSender (dns_units es) h a → KeepsSender (dns_units fs) h (record a { meaning = dns_units fs })
+pub keeps_longer : (es fs : List Entry) (h : CompactSender) (a : Sender) → ((more : List Entry) × (fs ≡ es ++ more))
+    → AllByRecursion (λ u. AllListed es (unit_addresses u)) (cut (dns_units es) a.octets).units → KeepsSender (dns_units es) h a
+    → KeepsSender (dns_units fs) h (record a { meaning = dns_units fs })
 keeps_longer es fs h a more listed k =
-    let alike = subst (λ (xs : List Entry). ReadAlike (dns_units es) (dns_units xs) a.octets) (sym more.1) (learned_alike unit_addresses dns_units es more.0 a.octets dns_units-learning listed) in
+    let alike =
+    subst (λ (xs : List Entry). ReadAlike (dns_units es) (dns_units xs) a.octets) (sym more.1)
+    (learned_alike unit_addresses dns_units es more.0 a.octets dns_units-learning listed) in
     let c = cut (dns_units es) a.octets in
     record {
       is = ap (λ (x : Sender). let y : Sender = record x { meaning = dns_units fs } in y) k.is;
@@ -38,8 +43,10 @@ keeps_longer es fs h a more listed k =
         rest = k.keeps.rest ∙ ap (λ (r : List ℕ). cond h.ended [] r) (same_held es fs (cut (dns_units es) a.octets).rest);
         released = λ e. k.keeps.released e ∙ same_released es fs (cut (dns_units es) a.octets).rest;
         ledger = subst (λ (ps : List Push). StandsFor h.ledger ps (min h.acked h.ledger.octets_out))
-            (ap (λ (ps : List Push). ps ++ Plain (length (due_rest (dns_units es) h.ended (cut (dns_units es) a.octets).rest)) ∷ []) (pushes_alike es fs (cut (dns_units es) a.octets).units alike.image)
-            ∙ ap (λ (r : List ℕ). map (push_of (dns_units fs)) (cut (dns_units es) a.octets).units ++ Plain (length r) ∷ []) (same_due es fs h.ended (cut (dns_units es) a.octets).rest))
+            (ap (λ (ps : List Push). ps ++ Plain (length (due_rest (dns_units es) h.ended (cut (dns_units es) a.octets).rest)) ∷ [])
+            (pushes_alike es fs (cut (dns_units es) a.octets).units alike.image)
+            ∙ ap (λ (r : List ℕ). map (push_of (dns_units fs)) (cut (dns_units es) a.octets).units ++ Plain (length r) ∷ [])
+            (same_due es fs h.ended (cut (dns_units es) a.octets).rest))
             k.keeps.ledger;
         recent = k.keeps.recent ∙ ap (λ (n : ℕ). drop n a.octets) (back_alike (dns_units es) (dns_units fs) h.ended a.octets h.acked alike);
       };

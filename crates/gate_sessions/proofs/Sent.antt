@@ -10,7 +10,9 @@ abbrev pub way_by : List ℕ → Tcp → ℕ → ℕ → ℕ → Headers
 way_by ip tcp source destination lifetime = record { ip = ip; tcp = tcp.header; source = source; destination = destination; lifetime = lifetime - 1 }
 
 -- the datagrams as the world says them
-pub sent_same : (d : Datagram) (tcp : Tcp) (ip : List ℕ) (lifetime source destination : ℕ) (out : Segment → List Outgoing) → tcp ≡ tcp_of d → ip ≡ d.header → lifetime ≡ d.lifetime → map (datagram (way_by ip tcp source destination lifetime)) (out (segment_in tcp)) ≡ map (sent_as d source destination) (out (segment_of d))
+pub sent_same : (d : Datagram) (tcp : Tcp) (ip : List ℕ) (lifetime source destination : ℕ) (out : Segment → List Outgoing) → tcp ≡ tcp_of d
+    → ip ≡ d.header → lifetime ≡ d.lifetime
+    → map (datagram (way_by ip tcp source destination lifetime)) (out (segment_in tcp)) ≡ map (sent_as d source destination) (out (segment_of d))
 sent_same d tcp ip lifetime source destination out e f g =
     ap (λ (t : Tcp). map (datagram (way_by ip t source destination lifetime)) (out (segment_in t))) e
     ∙ ap (λ (h : List ℕ). map (datagram (way_by h (tcp_of d) source destination lifetime)) (out (segment_of d))) f

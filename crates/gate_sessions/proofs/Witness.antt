@@ -21,18 +21,27 @@ witness_keeps = record {
   next = λ image f t g v fit h.
       record {
         session = whole_next image f h.session g;
-        stands = next_stands image f h.session t.session g h.stands (sym (verdict_is (meaning_by t.session.lists t.session.pair Client) (meaning_by t.session.lists t.session.pair Server) t.session.kept h.session.session f g h.stands.session) ∙ v);
+        stands =
+            next_stands image f h.session t.session g h.stands
+            (sym (verdict_is (meaning_by t.session.lists t.session.pair Client)
+            (meaning_by t.session.lists t.session.pair Server) t.session.kept h.session.session f g h.stands.session) ∙ v);
       };
 }
 
-pub witness_next : (w : World CompactSession) (e : Event) → EachTracked (λ t. IsOfSome t.session) w.connections → EachTracked (λ t. IsOfSome t.session) (next compact_rules w e).connections
+pub witness_next : (w : World CompactSession) (e : Event) → EachTracked (λ t. IsOfSome t.session) w.connections
+    → EachTracked (λ t. IsOfSome t.session) (next compact_rules w e).connections
 witness_next w e h = next_keeps compact_rules (λ t. IsOfSome t.session) witness_keeps w e h
 
-pub witness_run : (settings : Settings) (events : List Event) → EachTracked (λ t. IsOfSome t.session) (fold (next compact_rules) (opening_world settings) events).connections
-witness_run settings events = run_keeps compact_rules (λ t. IsOfSome t.session) witness_keeps events (opening_world settings) (All-nil (λ (c : Connection (Tracked CompactSession)). IfSome c.session (λ t. IsOfSome t.session)))
+pub witness_run : (settings : Settings) (events : List Event)
+    → EachTracked (λ t. IsOfSome t.session) (fold (next compact_rules) (opening_world settings) events).connections
+witness_run settings events =
+    run_keeps compact_rules (λ t. IsOfSome t.session) witness_keeps events (opening_world settings)
+    (All-nil (λ (c : Connection (Tracked CompactSession)). IfSome c.session (λ t. IsOfSome t.session)))
 
 -- so both directions of a DNS session have a stream whose addresses are listed
-streams_at : (lists : Option Lists) (pair : Pair) (h : CompactState) (s : Session) (host : Host) → StandsForSession (meaning_by lists pair Client) (meaning_by lists pair Server) h s → AllNamesListed lists host (own host s).octets → IfSome lists (λ l. IsListedStream (list_of host l) (sender_kept host h))
+streams_at : (lists : Option Lists) (pair : Pair) (h : CompactState) (s : Session) (host : Host)
+    → StandsForSession (meaning_by lists pair Client) (meaning_by lists pair Server) h s → AllNamesListed lists host (own host s).octets
+    → IfSome lists (λ l. IsListedStream (list_of host l) (sender_kept host h))
 streams_at None pair h s host st listed = tt
 streams_at (Some l) pair h s Client st listed = record { octets = s.client.octets; keeps = st.client.keeps; listed = listed }
 streams_at (Some l) pair h s Server st listed = record { octets = s.server.octets; keeps = st.server.keeps; listed = listed }

@@ -30,7 +30,8 @@ kept_units from k segment = units_by k.lists (kept_completed (meaning_by k.lists
 
 -- the lists after the addresses of a segment's units were entered, by what they are called
 abbrev pub kept_lists : (Addr → Option Addr) → Host → CompactSession → Segment → Option Lists
-kept_lists image from k segment = option_map (with_list from (entered image (entries_by k.lists from) (addresses_in (kept_units from k segment)))) k.lists
+kept_lists image from k segment =
+    option_map (with_list from (entered image (entries_by k.lists from) (addresses_in (kept_units from k segment)))) k.lists
 
 -- sessions by what is kept of them
 abbrev pub compact_rules : SessionRules CompactSession
@@ -39,8 +40,10 @@ compact_rules = record {
   refusal = λ from k g. kept_refusal from k.kept g;
   units = kept_units;
   listed = λ host k. entries_by k.lists host;
-  next = λ image from k g. let lists = kept_lists image from k g in record { pair = k.pair; lists = lists; kept = kept_next (meaning_by lists k.pair Client) (meaning_by lists k.pair Server) from k.kept g };
-  out = λ image from k g. let lists = kept_lists image from k g in kept_out (meaning_by lists k.pair Client) (meaning_by lists k.pair Server) from k.kept g;
+  next = λ image from k g. let lists = kept_lists image from k g in
+      record { pair = k.pair; lists = lists; kept = kept_next (meaning_by lists k.pair Client) (meaning_by lists k.pair Server) from k.kept g };
+  out = λ image from k g. let lists = kept_lists image from k g in
+      kept_out (meaning_by lists k.pair Client) (meaning_by lists k.pair Server) from k.kept g;
   ends = λ from k g. kept_ends from k.kept g;
   inner = λ host k number. inner_kept host k.kept number;
   pending = λ k. kept_pending k.kept;

@@ -1,4 +1,4 @@
-pub mod Directions
 pub mod Sessions
 pub mod Gives
 pub mod Compact
+pub mod Inside

@@ -6,7 +6,7 @@ ghost use Rattle.dns_stream.specs.Prelude.{dns_units};
 ghost use Rattle.gate_model.specs.Prelude.{segment_of, sent_as, tcp_of};
 ghost use Rattle.compact_stream.specs.Prelude.{kept_ends, kept_refusal};
 ghost use Rattle.dns_plans.specs.Prelude.{enter_one, entered_all};
-ghost use Rattle.gate_sessions.specs.Directions.{listed_of, IsListedSide, with_entered, dns_next, dns_out, DnsCompletes};
+ghost use Rattle.gate_sessions.specs.Inside.Directions.{listed_of, IsListedSide, with_entered, dns_next, dns_out, DnsCompletes};
 
 use crate::kinds::DnsSession;
 use crate::segments::put_segments;

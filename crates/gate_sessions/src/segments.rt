@@ -11,7 +11,7 @@ use gate_base::OutOfMemory;
 use stream_gate::{DatagramModel, StreamGate};
 
 /// Passes a segment: puts what its session sends into the outbox, and says whether the session ends. There is too little memory only where
-/// the segment completes a unit that bears, and then nothing has changed.
+/// the segment completes a unit that bears an address, and then nothing has changed.
 pub fn put_segments<C: Dialogue, S: Dialogue>(
     session: &mut StreamGate<C, S>,
     passing: &Passing<'_>,

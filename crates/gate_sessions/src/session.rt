@@ -44,7 +44,7 @@ pub struct AnySession {
 
 impl Model for AnySession {
     ghost use Rattle.gate_sessions.specs.Compact.{CompactSession};
-    ghost use Rattle.gate_sessions.specs.Sessions.{session_of, IsOfPair, IsSession};
+    ghost use Rattle.gate_sessions.specs.Inside.Sessions.{session_of, IsOfPair, IsSession};
 
     ghost Value = { CompactSession };
 

@@ -10,7 +10,7 @@ use Rattle.std.proofs.lemmas.List.Sorted.{list_any-IsPermutation}
 use Rattle.gate_settings.specs.declared.settings.Block.{Block}
 use Rattle.gate_settings.specs.declared.same.SameRange.{SameRange}
 use Rattle.gate_settings.specs.Prelude.{block_end, is_in_block, is_in_same, ranges_from, AreRanges}
-use Rattle.gate_settings.specs.Ranges.{is_in_range, Rise}
+use Rattle.gate_settings.specs.Inside.Ranges.{is_in_range, Rise}
 
 -- ## The order of what blocks make
 

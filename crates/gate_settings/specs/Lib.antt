@@ -1,5 +1,5 @@
 pub mod Cross
 pub mod Forms
-pub mod Ranges
 pub mod Sound
 pub mod Prelude
+pub mod Inside

@@ -2,7 +2,7 @@
 ghost use Rattle.std.specs.Prelude.{◌≡◌, IfOk};
 ghost use Rattle.std.specs.List.{list_any};
 ghost use Rattle.gate_settings.specs.Cross.{is_in_same};
-ghost use Rattle.gate_settings.specs.Ranges.{is_in_range, ranges_from, AreRanges, Rise};
+ghost use Rattle.gate_settings.specs.Inside.Ranges.{is_in_range, ranges_from, AreRanges, Rise};
 
 use crate::settings::Block;
 use gate_base::{Addr, OutOfMemory};
@@ -30,7 +30,7 @@ impl Model for SameRanges {
 
     ghost Value = { List Block };
 
-    ghost use Rattle.gate_settings.specs.Ranges.{AreRanges};
+    ghost use Rattle.gate_settings.specs.Inside.Ranges.{AreRanges};
 
     ghost view = { λ same. same.blocks.items };
 

@@ -2,8 +2,7 @@
 ghost use Rattle.std.specs.Prelude.{◌≡◌};
 ghost use Rattle.gate_settings.specs.Cross as cross;
 
-use gate_base::{Addr, Link, OidRule, Side};
-use std::marker::Model;
+use gate_base::{Addr, Items, Link, OidRule, Side};
 
 /// A block of addresses that cross unchanged: those whose first `bits` bits are those of `base` (RFC 4632, 3.1).
 /// In settings that were read `bits` is at most 32, and `base` is zero past its first `bits` bits.
@@ -60,97 +59,13 @@ pub struct Fixed {
 }
 
 /// A list of blocks.
-#[derive(Drop)]
-pub struct Blocks {
-    items: Vec<Block>,
-}
-
-impl Model for Blocks {
-    ghost use Rattle.std.specs.Prelude.{List};
-    ghost use Rattle.gate_settings.specs.declared.settings.Block.{Block};
-
-    ghost Value = { List Block };
-
-    ghost view = { λ a. a.items.items };
-}
-
-impl Blocks {
-    /// The list of these blocks.
-    pub fn of(items: Vec<Block>) -> Blocks
-        ensures { result ≡ items.items }
-    {
-        Blocks { items }
-    }
-
-    /// The blocks in their order.
-    pub fn items(&self) -> &[Block]
-        ensures { result.now ≡ self.now }
-    {
-        &self.items
-    }
-}
+pub type Blocks = Items<Block>;
 
 /// A list of static bindings.
-#[derive(Drop)]
-pub struct Statics {
-    items: Vec<Fixed>,
-}
-
-impl Model for Statics {
-    ghost use Rattle.std.specs.Prelude.{List};
-    ghost use Rattle.gate_settings.specs.declared.settings.Fixed.{Fixed};
-
-    ghost Value = { List Fixed };
-
-    ghost view = { λ a. a.items.items };
-}
-
-impl Statics {
-    /// The list of these bindings.
-    pub fn of(items: Vec<Fixed>) -> Statics
-        ensures { result ≡ items.items }
-    {
-        Statics { items }
-    }
-
-    /// The bindings in their order.
-    pub fn items(&self) -> &[Fixed]
-        ensures { result.now ≡ self.now }
-    {
-        &self.items
-    }
-}
+pub type Statics = Items<Fixed>;
 
 /// A list of rules about object identifiers.
-#[derive(Drop)]
-pub struct OidRules {
-    items: Vec<OidRule>,
-}
-
-impl Model for OidRules {
-    ghost use Rattle.std.specs.Prelude.{List};
-    ghost use Rattle.gate_base.specs.declared.rule.OidRule.{OidRule};
-
-    ghost Value = { List OidRule };
-
-    ghost view = { λ a. a.items.items };
-}
-
-impl OidRules {
-    /// The list of these rules.
-    pub fn of(items: Vec<OidRule>) -> OidRules
-        ensures { result ≡ items.items }
-    {
-        OidRules { items }
-    }
-
-    /// The rules in their order.
-    pub fn items(&self) -> &[OidRule]
-        ensures { result.now ≡ self.now }
-    {
-        &self.items
-    }
-}
+pub type OidRules = Items<OidRule>;
 
 /// How the lines of a report are written: as plain text, or each as an object of JSON.
 #[derive(Clone, Copy, Debug, PartialEq, Eq)]

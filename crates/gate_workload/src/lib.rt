@@ -5,11 +5,9 @@ mod capture;
 mod datagram;
 mod draw;
 mod flow;
-mod octets;
 mod payload;
 mod rounds;
 mod workload;
 
 pub use datagram::udp_reads_back;
-pub use octets::Octets;
 pub use workload::{Workload, captures_are_whole, make};

@@ -2,17 +2,16 @@
 ghost use Rattle.std.specs.Prelude.{◌≡◌, ◌≤◌, ℕ, IfOk};
 ghost use Rattle.gate_workload.specs.Workloads.{IsWhole, settings, workload};
 
-use crate::octets::Octets;
 use crate::rounds::Making;
-use gate_base::OutOfMemory;
+use gate_base::{Items, OutOfMemory};
 use std::alloc::Global;
 
 /// What the gateway is run on: the text of its settings, and a capture for each side.
 #[derive(Drop)]
 pub struct Workload {
-    pub settings: Octets,
-    pub left: Octets,
-    pub right: Octets,
+    pub settings: Items<u8>,
+    pub left: Items<u8>,
+    pub right: Items<u8>,
 }
 
 /// The settings: both links raw, a pool for each side, and static bindings for the host 10.0.0.5 of each realm and for
@@ -36,9 +35,9 @@ pub fn make(alloc: Global, number: u32, count: u32) -> Result<Workload, OutOfMem
     let settings = Vec::from_slice(alloc, SETTINGS)?;
     let (left, right) = Making::of(alloc, number, count)?.captures();
     Ok(Workload {
-        settings: Octets::of(settings),
-        left: Octets::of(left),
-        right: Octets::of(right),
+        settings: Items::of(settings),
+        left: Items::of(left),
+        right: Items::of(right),
     })
 }
 

@@ -47,7 +47,10 @@ accepted_settings = record {
 }
 
 accepted : settings_of settings ≡ Ok accepted_settings
-unfolding toml_on_literals is_utf8 chars quad number_of report join link side mac address block blocks side_keys static_keys static_entry statics side_table all_keys document_of keys_of block_end host_is_taken alias_is_outside pool_size same_in_pool host_in_pool static_outside_pool static_repeated mac_missing first_fault settings_of report_text join_text link_text side_text address_text block_text hex_pair mac_text name_of key_text
+unfolding toml_on_literals is_utf8 chars quad number_of report join link side mac address block blocks side_keys static_keys static_entry statics
+    side_table all_keys document_of keys_of block_end host_is_taken alias_is_outside pool_size same_in_pool host_in_pool static_outside_pool
+    static_repeated mac_missing first_fault settings_of report_text join_text link_text side_text address_text block_text hex_pair mac_text name_of
+    key_text
 accepted = refl
 
 pub never_refused : (f : SettingsFault) → settings_of settings ≡ Err f → ⊥
@@ -56,11 +59,13 @@ never_refused f h = cc (accepted, h)
 whole_or_faulty : (e : CaptureEnding) (f : CaptureFault) (place : ℕ) → e ≡ Whole → e ≡ CaptureEndsFaulty f place → ⊥
 whole_or_faulty e f place whole faulty = cc
 
-both_end : (side : Side) (f : CaptureFault) (place : ℕ) (left right : CaptureEnding) (l r : List Packet) → left ≡ Whole → right ≡ Whole → EndsBy (EndsFaulty side f place) l left r right → ⊥
+both_end : (side : Side) (f : CaptureFault) (place : ℕ) (left right : CaptureEnding) (l r : List Packet) → left ≡ Whole → right ≡ Whole
+    → EndsBy (EndsFaulty side f place) l left r right → ⊥
 both_end Left f place left right l r is_left is_right h = whole_or_faulty left f place is_left h.1
 both_end Right f place left right l r is_left is_right h = whole_or_faulty right f place is_right h.1
 
-pub never_faulty : (number count : ℕ) (side : Side) (f : CaptureFault) (place : ℕ) → count ≤ 100000 → (events_in (workload_in number count)).ending ≡ EndsFaulty side f place → ⊥
+pub never_faulty : (number count : ℕ) (side : Side) (f : CaptureFault) (place : ℕ) → count ≤ 100000
+    → (events_in (workload_in number count)).ending ≡ EndsFaulty side f place → ⊥
 never_faulty number count side f place few h =
     let left = (workload number count).left in
     let right = (workload number count).right in

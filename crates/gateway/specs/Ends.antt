@@ -12,23 +12,21 @@ use Rattle.run_setup.specs.declared.status.Status.{Status}
 use Rattle.run_setup.specs.declared.status.Status.TheVariants.{Done, Usage, SettingsRefused, CaptureRefused, ReadFault, WriteFault, OpenFault, OutOfMemory, Unlawful}
 use Rattle.run_setup.specs.Prelude.{IsAccepted, events_in, Causes}
 use Rattle.gateway.specs.Pieces.{Piece, wrote_pieces, IsFront}
-use Rattle.gate_core.specs.Memory.{MayWant}
-use Rattle.gate_model.specs.Prelude.{whole_rules, World, at_moment}
-use Rattle.gate_sessions.specs.Compact.{CompactSession, compact_rules}
+use Rattle.gate_core.specs.WholeMemory.{MayWantAt}
+use Rattle.gate_model.specs.Prelude.{whole_rules}
 use Rattle.frag_join.specs.Prelude.{Reaches, arrival, joiner_of, by_list}
 use Rattle.gateway.specs.Machine.{after, arrivals_by, frames_of, given_by_all, files, opening}
 
--- the gate may want memory for an event
-abbrev pub MayWantAt : World CompactSession → Event → Type 0
-MayWantAt w e = MayWant (at_moment w e.moment) e
-
 -- the cause of a status, by what the desk tells of the settings and the captures as the run begins, and by the counts, none of which rose where a run is done or refuses its settings or a capture
 abbrev pub HasCause : Status → Outside → Outside → Type 0
-HasCause Done old new = IfSome old.left (λ all. (settings : GateSettings) × IsAccepted settings all × ((events_in all).ending ≡ BothEnded)) × IsAtEnd new LeftIn × IsAtEnd new RightIn × NoneFailed old new
+HasCause Done old new = IfSome old.left (λ all. (settings : GateSettings) × IsAccepted settings all × ((events_in all).ending ≡ BothEnded))
+    × IsAtEnd new LeftIn × IsAtEnd new RightIn × NoneFailed old new
 HasCause Usage old new = ⊥
 HasCause (Unlawful number reason) old new = ⊥
 HasCause (SettingsRefused fault) old new = IfSome old.left (λ all. settings_of all.settings ≡ Err fault) × NoneFailed old new
-HasCause (CaptureRefused side fault place) old new = IfSome old.left (λ all. (settings : GateSettings) × IsAccepted settings all × ((events_in all).ending ≡ EndsFaulty side fault place)) × NoneFailed old new
+HasCause (CaptureRefused side fault place) old new =
+    IfSome old.left (λ all. (settings : GateSettings) × IsAccepted settings all × ((events_in all).ending ≡ EndsFaulty side fault place))
+    × NoneFailed old new
 HasCause (ReadFault slot) old new = Causes (ReadFault slot) old new
 HasCause (WriteFault slot) old new = Causes (WriteFault slot) old new
 HasCause (OpenFault slot) old new = Causes (OpenFault slot) old new
@@ -65,20 +63,23 @@ pub record WantsAt (settings : GateSettings) (events : List Event) (old new : Tr
   pub written : new ≡ wrote_pieces (given_by_all whole_rules settings (opening settings) (arrivals_by settings handled)) old
   pub came : Event
   pub comes : arrivals_by settings (handled ++ next ∷ []) ≡ arrivals_by settings handled ++ Reaches came ∷ []
-  pub wants : MayWantAt (after compact_rules (opening settings) (arrivals_by settings handled)).world came
+  pub wants : MayWantAt (after whole_rules (opening settings) (arrivals_by settings handled)).world came
 
 -- behind what these events gave the frames of the next one stand written, whole; where there is none, nothing, and both captures are at their ends
 abbrev pub WroteFrames : GateSettings → Ending → List Event → List Event → Trace → Trace → Type 0
 WroteFrames settings ending handled [] old new = (ending ≡ BothEnded) × (new ≡ old)
 WroteFrames settings ending handled (next ∷ others) old new =
-    new ≡ wrote_pieces (frames_of whole_rules settings (after whole_rules (opening settings) (arrivals_by settings handled)) (arrival by_list (joiner_of settings.join handled) next)) old
+    new ≡ wrote_pieces
+    (frames_of whole_rules settings (after whole_rules (opening settings) (arrivals_by settings handled))
+    (arrival by_list (joiner_of settings.join handled) next)) old
 
 -- memory was wanting for a line: what the events before it give stands written, whole, and of its own event just the frames
 pub record WantsLine (settings : GateSettings) (all : Merged) (old new : Trace) : Type 0 where
   pub handled : List Event
   pub others : List Event
   pub split : all.events ≡ handled ++ others
-  pub written : WroteFrames settings all.ending handled others (wrote_pieces (given_by_all whole_rules settings (opening settings) (arrivals_by settings handled)) old) new
+  pub written : WroteFrames settings all.ending handled others
+      (wrote_pieces (given_by_all whole_rules settings (opening settings) (arrivals_by settings handled)) old) new
 
 -- memory was wanting behind the heads: for an event on which the gate may want it, or for a line in a form that takes some
 abbrev pub Wants : GateSettings → Merged → Trace → Trace → Type 0

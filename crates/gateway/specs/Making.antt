@@ -34,9 +34,11 @@ pub record IsLineOf (line : Line) (number count : ℕ) : Type 0 where
 -- why a make ended so, and what it started and wrote: the settings of a workload are accepted and its captures are read to their ends, so that no other status comes
 abbrev pub HasMade : Status → ℕ → ℕ → List ℕ → Outside → Outside → Type 0
 HasMade Done number count report old new =
-    (line : Line) × IsLineOf line number count × (new.starts ≡ started_all (make_starts report) old.starts) × (new.written ≡ wrote_pieces (made_piece line ∷ []) old.written) × NoneFailed old new
+    (line : Line) × IsLineOf line number count × (new.starts ≡ started_all (make_starts report) old.starts)
+    × (new.written ≡ wrote_pieces (made_piece line ∷ []) old.written) × NoneFailed old new
 HasMade (WriteFault Report) number count report old new =
-    HasFailed Report old new × (line : Line) × IsLineOf line number count × (new.starts ≡ started_all (make_starts report) old.starts) × IsFront (made_piece line ∷ []) old.written new.written
+    HasFailed Report old new × (line : Line) × IsLineOf line number count × (new.starts ≡ started_all (make_starts report) old.starts)
+    × IsFront (made_piece line ∷ []) old.written new.written
 HasMade (OpenFault Report) number count report old new = HasFailedToStart Report old new × (new.starts ≡ old.starts) × (new.written ≡ old.written)
 HasMade OutOfMemory number count report old new = (new.starts ≡ started_all (make_starts report) old.starts) × (new.written ≡ old.written)
 HasMade status number count report old new = ⊥

@@ -26,7 +26,8 @@ pub record StandsBehind (settings : Settings) (all : Merged) (done : List Arriva
 
 -- so it is with each frame of both captures
 abbrev pub EachStands : Settings → Merged → Type 0
-EachStands settings all = (done others : List Arrival) (a : Arrival) → arrivals_by settings all.events ≡ done ++ a ∷ others → StandsBehind settings all done a
+EachStands settings all = (done others : List Arrival) (a : Arrival) → arrivals_by settings all.events ≡ done ++ a ∷ others
+    → StandsBehind settings all done a
 
 -- the headline, of what a run wrote by accepted settings:
 pub record KeepsPromise (status : Status) (settings : Settings) (all : Merged) (old new : Trace) : Type 0 where

@@ -6,8 +6,8 @@ ghost use Rattle.gate_desk.specs.Outside.{CanWrite};
 ghost use Rattle.frag_join.specs.Prelude.{Reaches, Stopped, arrival, joiner_after, joined_in, by_known};
 ghost use Rattle.ether_frames.specs.Ether.{ipv4_head};
 ghost use Rattle.gateway.specs.Machine.{out_slot, frame_piece, sent};
-ghost use Rattle.gateway.specs.Causes.{WritesPieces};
-ghost use Rattle.gateway.specs.Phases.{CanCount, Handles, counting};
+ghost use Rattle.gateway.specs.Inside.Causes.{WritesPieces};
+ghost use Rattle.gateway.specs.Inside.Phases.{CanCount, Handles, counting};
 
 use crate::report::Reporter;
 use ether_frames::put_head;

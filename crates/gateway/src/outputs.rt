@@ -4,9 +4,9 @@ ghost use Rattle.run_setup.specs.Prelude.{Opens};
 ghost use Rattle.run_setup.specs.RunNames.{names_of, output_starts};
 ghost use Rattle.gate_desk.specs.declared.slot.Slot.TheVariants.{LeftOut, RightOut};
 ghost use Rattle.gate_desk.specs.Outside.{CanWrite};
-ghost use Rattle.gateway.specs.Causes.{WritesPieces};
+ghost use Rattle.gateway.specs.Inside.Causes.{WritesPieces};
 ghost use Rattle.gateway.specs.Machine.{heads};
-ghost use Rattle.gateway.specs.Phases.{Readies};
+ghost use Rattle.gateway.specs.Inside.Phases.{Readies};
 
 use gate_desk::{Access, Desk, Slot};
 use gate_settings::Settings;

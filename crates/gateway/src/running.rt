@@ -9,7 +9,7 @@ ghost use Rattle.pcap_merge.specs.Prelude.{TakenFor, work, AtEnds};
 ghost use Rattle.run_setup.specs.Prelude.{TookInputs};
 ghost use Rattle.gate_desk.specs.declared.slot.Slot.TheVariants.{LeftIn, RightIn, LeftOut, RightOut, Report};
 ghost use Rattle.frag_join.specs.Prelude.{opened};
-ghost use Rattle.gateway.specs.Phases.{Prepared, IsPrepared, EndsUnwritten, Forwards, TookFew};
+ghost use Rattle.gateway.specs.Inside.Phases.{Prepared, IsPrepared, EndsUnwritten, Forwards, TookFew};
 ghost use Rattle.gateway.specs.Answers.{Runs, TookForWritten};
 
 use crate::event::take;
@@ -58,7 +58,7 @@ fn run_prepared<D: Desk>(
     forward(alloc, desk, merge, &mut joiner, gate, &mut outbox)
 }
 
-/// Reads the settings and both heads, and takes the memory of a run.
+/// Reads the settings and both heads, and makes the gate.
 fn prepare<D: Desk>(
     alloc: Global,
     desk: &mut D,

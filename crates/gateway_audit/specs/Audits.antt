@@ -37,12 +37,14 @@ HasStartedToRead slot names old new = new.starts ≡ started_all (plan names) ol
 -- what is started where memory was wanting: the settings alone, no more than both incoming captures, all that is read, or all
 abbrev pub HasStartedToWant : Names → Outside → Outside → Type 0
 HasStartedToWant names old new =
-    (new.starts ≡ started_all (settings_start names.settings) old.starts) ⊎ ((new.starts ≡ started_all (first_starts names) old.starts) ⊎ HasStartedOrAll (read_starts names) names old new)
+    (new.starts ≡ started_all (settings_start names.settings) old.starts)
+    ⊎ ((new.starts ≡ started_all (first_starts names) old.starts) ⊎ HasStartedOrAll (read_starts names) names old new)
 
 -- what an audit has started, by its status
 abbrev pub HasStarted : Status → Names → Outside → Outside → Type 0
 HasStarted (SettingsRefused fault) names old new = new.starts ≡ started_all (settings_start names.settings) old.starts
-HasStarted (CaptureRefused side fault place) names old new = IfSome old.left (λ all. new.starts ≡ started_all (refused_starts (have_good_heads all.left_in all.right_in) names) old.starts)
+HasStarted (CaptureRefused side fault place) names old new =
+    IfSome old.left (λ all. new.starts ≡ started_all (refused_starts (have_good_heads all.left_in all.right_in) names) old.starts)
 HasStarted (ReadFault slot) names old new = HasStartedToRead slot names old new
 HasStarted (OpenFault slot) names old new = StartsBefore slot (plan names) old new
 HasStarted OutOfMemory names old new = HasStartedToWant names old new
@@ -54,7 +56,8 @@ HasAnswered verdict old new = new.written ≡ wrote Report (answer_line verdict)
 
 -- or a front of it
 abbrev pub HasAnsweredPartly : AuditVerdict → Outside → Outside → Type 0
-HasAnsweredPartly verdict old new = (n : ℕ) × (n ≤ length (answer_line verdict)) × (new.written ≡ wrote Report (take n (answer_line verdict)) old.written)
+HasAnsweredPartly verdict old new = (n : ℕ) × (n ≤ length (answer_line verdict))
+    × (new.written ≡ wrote Report (take n (answer_line verdict)) old.written)
 
 -- what stands written after an audit, by its status: its answer, or a front of that, or nothing
 abbrev pub HasWritten : Status → Outside → Outside → Type 0
@@ -72,7 +75,9 @@ pub record TookRead (old new : Outside) : Type 0 where
   pub left_given_count : ℕ
   pub right_given_count : ℕ
   pub report_given_count : ℕ
-  pub left : new.left ≡ took ReportGiven report_given_count (took RightGiven right_given_count (took LeftGiven left_given_count (took RightIn right_in_count (took LeftIn left_in_count (took Settings settings_count old.left)))))
+  pub left : new.left ≡ took ReportGiven report_given_count
+      (took RightGiven right_given_count
+      (took LeftGiven left_given_count (took RightIn right_in_count (took LeftIn left_in_count (took Settings settings_count old.left)))))
 
 -- what an audit took: of each incoming capture no more whole records than those of first events for which the given files are lawful, and
 -- one more, and it read neither further than a capture may be and the head of a record; and of slots that it doesn't read nothing

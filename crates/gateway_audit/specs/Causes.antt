@@ -25,16 +25,21 @@ AreLawful settings all = LawfulFor settings (events_in all) all.left_given all.r
 
 -- this is the first reason why they aren't
 abbrev pub IsFirstReason : GateSettings → PerSlot (List ℕ) → ℕ → AuditReason → Type 0
-IsFirstReason settings all number reason = FirstReason settings (arrivals_of settings.join (events_in all).events) (events_in all).ending all.left_given all.right_given all.report_given number reason
+IsFirstReason settings all number reason =
+    FirstReason settings (arrivals_of settings.join (events_in all).events)
+    (events_in all).ending all.left_given all.right_given all.report_given number reason
 
 -- the verdict on these files: the settings are accepted; and both captures end and the given files are lawful, so many events; or both captures have heads and this is the first reason
 abbrev pub IsVerdict : AuditVerdict → PerSlot (List ℕ) → Type 0
-IsVerdict (verdicts.Lawful events) all = (settings : GateSettings) × IsAccepted settings all × ((events_in all).ending ≡ BothEnded) × AreLawful settings all × (events ≡ length (events_in all).events)
-IsVerdict (verdicts.Unlawful number reason) all = (settings : GateSettings) × IsAccepted settings all × (have_good_heads all.left_in all.right_in ≡ true) × IsFirstReason settings all number reason
+IsVerdict (verdicts.Lawful events) all = (settings : GateSettings) × IsAccepted settings all × ((events_in all).ending ≡ BothEnded)
+    × AreLawful settings all × (events ≡ length (events_in all).events)
+IsVerdict (verdicts.Unlawful number reason) all = (settings : GateSettings) × IsAccepted settings all
+    × (have_good_heads all.left_in all.right_in ≡ true) × IsFirstReason settings all number reason
 
 -- memory may have been wanting for a line in a form that takes some; or it was for an event, behind others at which the given files are lawful
 abbrev pub MayHaveWanted : GateSettings → PerSlot (List ℕ) → Type 0
-MayHaveWanted settings all = (takes_memory settings.report ≡ true) ⊎ WantsAt settings (events_in all) (given_of all.left_given all.right_given all.report_given)
+MayHaveWanted settings all = (takes_memory settings.report ≡ true)
+    ⊎ WantsAt settings (events_in all) (given_of all.left_given all.right_given all.report_given)
 
 -- the slots that an audit reads
 abbrev pub IsRead : Slot → Type 0
@@ -48,13 +53,17 @@ IsRead slot = ⊥
 
 -- the cause of a status, and of the counts, none of which rose where the files decide it: where a capture is refused, the given files are lawful as far as the events go, if both heads are good; where memory was wanting, none of the events was taken, or it was for one of them
 abbrev pub HasCause : Status → Outside → Outside → Type 0
-HasCause Done old new = IfSome old.left (λ all. IsVerdict (verdicts.Lawful (length (events_in all).events)) all) × IsAtEnd new LeftIn × IsAtEnd new RightIn × NoneFailed old new
+HasCause Done old new = IfSome old.left (λ all. IsVerdict (verdicts.Lawful (length (events_in all).events)) all) × IsAtEnd new LeftIn
+    × IsAtEnd new RightIn × NoneFailed old new
 HasCause (Unlawful number reason) old new = IfSome old.left (IsVerdict (verdicts.Unlawful number reason)) × NoneFailed old new
 HasCause (SettingsRefused fault) old new = IfSome old.left (λ all. settings_of all.settings ≡ Err fault) × NoneFailed old new
 HasCause (CaptureRefused side fault place) old new =
-    IfSome old.left (λ all. (settings : GateSettings) × IsAccepted settings all × ((events_in all).ending ≡ EndsFaulty side fault place) × (have_good_heads all.left_in all.right_in ≡ true → AreLawful settings all)) × NoneFailed old new
+    IfSome old.left
+    (λ all. (settings : GateSettings) × IsAccepted settings all × ((events_in all).ending ≡ EndsFaulty side fault place)
+    × (have_good_heads all.left_in all.right_in ≡ true → AreLawful settings all)) × NoneFailed old new
 HasCause (ReadFault slot) old new = IsRead slot × HasFailed slot old new
 HasCause (WriteFault slot) old new = (slot ≡ Report) × HasFailed slot old new
 HasCause (OpenFault slot) old new = IsTrue (is_started slot) × HasFailedToStart slot old new
-HasCause OutOfMemory old new = TakenFor [] old new ⊎ IfSome old.left (λ all. (settings : GateSettings) × IsAccepted settings all × MayHaveWanted settings all)
+HasCause OutOfMemory old new = TakenFor [] old new
+    ⊎ IfSome old.left (λ all. (settings : GateSettings) × IsAccepted settings all × MayHaveWanted settings all)
 HasCause Usage old new = ⊥

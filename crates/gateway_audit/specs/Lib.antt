@@ -1,6 +1,5 @@
 pub mod Lines
-pub mod Stops
 pub mod Causes
 pub mod Audits
-pub mod Phases
 pub mod Decided
+pub mod Inside

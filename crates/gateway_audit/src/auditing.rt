@@ -1,10 +1,8 @@
 // An audit as a command.
-ghost use Rattle.std.specs.Prelude.{◌≡◌};
 ghost use Rattle.run_setup.specs.AuditNames.{names_of};
-ghost use Rattle.gate_desk.specs.Outside.{Grows};
 ghost use Rattle.file_audit.specs.Events.{TookFew};
 ghost use Rattle.gateway_audit.specs.Audits.{IsAudit, TookForEvents};
-ghost use Rattle.gateway_audit.specs.Phases.{Judges, AreToWalk, Walks};
+ghost use Rattle.gateway_audit.specs.Inside.Phases.{Judges, AreToWalk, Walks};
 
 use crate::files::{prepare, ready};
 use crate::verdict::{AuditVerdict, verdict_of, write_verdict};
@@ -61,9 +59,6 @@ fn audit_all<D: Desk>(
         (D.outside desk.new) }
     ensures taken { TookFew settings merge.old given.old (D.outside desk.old)
         (D.outside desk.new) }
-    ensures starts { (D.outside desk.new).starts ≡ (D.outside desk.old).starts }
-    ensures written { (D.outside desk.new).written ≡ (D.outside desk.old).written }
-    ensures counts { Grows (D.outside desk.old) (D.outside desk.new) }
 {
     let mut joiner = open_joiner(alloc, settings.join)?;
     let mut auditor = Auditor::new(alloc, settings, desk.seed())?;

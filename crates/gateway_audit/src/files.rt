@@ -7,10 +7,9 @@ ghost use Rattle.gate_desk.specs.Outside.{CanRead};
 ghost use Rattle.gate_desk.specs.declared.slot.Slot.TheVariants.{LeftGiven, RightGiven};
 ghost use Rattle.file_audit.specs.Given.{ReadsGiven, TookFiles};
 ghost use Rattle.gateway_audit.specs.Audits.{IsAudit};
-ghost use Rattle.gateway_audit.specs.Phases.{Prepared, Begins, LeavesIncoming, Readies};
+ghost use Rattle.gateway_audit.specs.Inside.Phases.{Prepared, Begins, LeavesIncoming, Readies};
 
-use crate::verdict::status_of;
-use file_audit::{AuditStop, GivenFiles};
+use file_audit::GivenFiles;
 use gate_desk::{Access, Desk, Slot};
 use gate_settings::Settings;
 use pcap_merge::Merge;
@@ -61,8 +60,8 @@ fn begin_given<D: Desk>(
 {
     match GivenFiles::begin(alloc, desk, settings) {
         Ok(given) => Ok(Some(given)),
-        Err(AuditStop::Unlawful(_, _)) => Ok(None),
-        Err(stop) => Err(status_of(stop)),
+        Err(Status::Unlawful(_, _)) => Ok(None),
+        Err(status) => Err(status),
     }
 }
 

@@ -2,13 +2,12 @@
 ghost use Rattle.std.specs.Prelude.{◌≡◌, ◌≤◌, length};
 ghost use Rattle.gate_desk.specs.declared.slot.Slot.TheVariants.{Report};
 ghost use Rattle.gate_desk.specs.Outside.{CanWrite};
-ghost use Rattle.gateway_audit.specs.Stops.{status_of, verdict_of};
+ghost use Rattle.gateway_audit.specs.Inside.Stops.{verdict_of};
 ghost use Rattle.gateway_audit.specs.Lines.{answer_line, reason_name};
-ghost use Rattle.gateway_audit.specs.Phases as phases;
-ghost use Rattle.gateway_audit.specs.Phases.{Says};
+ghost use Rattle.gateway_audit.specs.Inside.Phases as phases;
+ghost use Rattle.gateway_audit.specs.Inside.Phases.{Says};
 
 use arrayvec::ArrayString;
-use file_audit::AuditStop;
 use gate_desk::{Desk, Failed, Slot, write_whole};
 use itoa::Buffer;
 use lawful_files::AuditReason;
@@ -35,30 +34,14 @@ impl AuditVerdict {
     }
 }
 
-/// The status of an audit that stopped so.
-pub fn status_of(stop: AuditStop) -> Status
-    ensures { result ≡ status_of stop }
-{
-    match stop {
-        AuditStop::Unlawful(number, reason) => Status::Unlawful(number, reason),
-        AuditStop::Capture(side, fault, place) => Status::CaptureRefused(side, fault, place),
-        AuditStop::Desk(slot) => Status::ReadFault(slot),
-        AuditStop::OutOfMemory => Status::OutOfMemory,
-    }
-}
-
-/// What an audit of all events found, or the status of its stop.
-pub fn verdict_of(found: Result<u64, AuditStop>) -> Result<AuditVerdict, Status>
+/// What an audit of all events found, or why it stopped.
+pub fn verdict_of(found: Result<u64, Status>) -> Result<AuditVerdict, Status>
     ensures { result ≡ verdict_of found }
 {
     match found {
         Ok(events) => Ok(AuditVerdict::Lawful(events)),
-        Err(AuditStop::Unlawful(number, reason)) => Ok(AuditVerdict::Unlawful(number, reason)),
-        Err(AuditStop::Capture(side, fault, place)) => Err(Status::CaptureRefused(
-            side, fault, place,
-        )),
-        Err(AuditStop::Desk(slot)) => Err(Status::ReadFault(slot)),
-        Err(AuditStop::OutOfMemory) => Err(Status::OutOfMemory),
+        Err(Status::Unlawful(number, reason)) => Ok(AuditVerdict::Unlawful(number, reason)),
+        Err(status) => Err(status),
     }
 }
 

@@ -36,7 +36,8 @@ record_same w p whole h =
 record_holds : (w p : Packet) → w.whole ≡ true → p ≡ w → is_record w p ≡ true
 record_holds w p whole e =
     and_from p.whole (p.stamp == w.stamp && bytes_eq p.octets w.octets) (ap (λ (x : Packet). x.whole) e ∙ whole)
-    (and_from (p.stamp == w.stamp) (bytes_eq p.octets w.octets) (eq-eqb p.stamp w.stamp (ap (λ (x : Packet). x.stamp) e)) ((bytes_eq-Decides p.octets w.octets).1 (ap (λ (x : Packet). x.octets) e)))
+    (and_from (p.stamp == w.stamp) (bytes_eq p.octets w.octets) (eq-eqb p.stamp w.stamp (ap (λ (x : Packet). x.stamp) e))
+    ((bytes_eq-Decides p.octets w.octets).1 (ap (λ (x : Packet). x.octets) e)))
 
 -- ## Wrong stays wrong
 
@@ -58,7 +59,8 @@ module _ (settings : Settings) (side : Side) (moment : ℕ) where
   wrong_stays wanted (p ∷ ps) k e = wrong_stays wanted ps (step wanted k p) (and_left k.right (accepts wanted k p) e)
 
   -- where all are right behind one more, that one is right
-  one_right : (wanted : Wanted) (p : Packet) (ps : List Packet) (k : Progress) → (after_all wanted k (p ∷ ps)).right ≡ true → (k.right && accepts wanted k p) ≡ true
+  one_right : (wanted : Wanted) (p : Packet) (ps : List Packet) (k : Progress) → (after_all wanted k (p ∷ ps)).right ≡ true
+      → (k.right && accepts wanted k p) ≡ true
   one_right wanted p ps k h =
       elim (cases_Bool (k.right && accepts wanted k p)) [
         | inl e ↦ e
@@ -66,12 +68,14 @@ module _ (settings : Settings) (side : Side) (moment : ℕ) where
       ]
 
   -- the front of right records is right
-  pub front_right : (wanted : Wanted) (ps qs : List Packet) (k : Progress) → (after_all wanted k (ps ++ qs)).right ≡ true → (after_all wanted k ps).right ≡ true
+  pub front_right : (wanted : Wanted) (ps qs : List Packet) (k : Progress) → (after_all wanted k (ps ++ qs)).right ≡ true
+      → (after_all wanted k ps).right ≡ true
   front_right wanted ps qs k h =
       let last = after_all wanted k ps in
       elim (cases_Bool last.right) [
         | inl e ↦ e
-        | inr e ↦ absurd (false≢true (sym (wrong_stays wanted qs last e) ∙ sym (ap (λ (x : Progress). x.right) (fold-append (step wanted) k ps qs)) ∙ h))
+        | inr e ↦ absurd
+            (false≢true (sym (wrong_stays wanted qs last e) ∙ sym (ap (λ (x : Progress). x.right) (fold-append (step wanted) k ps qs)) ∙ h))
       ]
 
   pub count_is : (wanted : Wanted) (ps : List Packet) (k : Progress) → (after_all wanted k ps).count ≡ k.count + length ps
@@ -85,7 +89,8 @@ module _ (settings : Settings) (side : Side) (moment : ℕ) where
     joined : map packet (drop k.count datagrams) ≡ ps ++ others
     few : k.count + length ps ≤ length datagrams
 
-  exact_right : (datagrams : List (List ℕ)) (ps : List Packet) (k : Progress) → k.count ≤ length datagrams → (after_all (Exactly datagrams) k ps).right ≡ true → ExactFront datagrams k ps
+  exact_right : (datagrams : List (List ℕ)) (ps : List Packet) (k : Progress) → k.count ≤ length datagrams
+      → (after_all (Exactly datagrams) k ps).right ≡ true → ExactFront datagrams k ps
   exact_right datagrams [] k few h = record { others = map packet (drop k.count datagrams); joined = refl; few = omega (arith, few) }
   exact_right datagrams (p ∷ ps) k few h =
       let one = (and_parts k.right (accepts (Exactly datagrams) k p) (one_right (Exactly datagrams) p ps k h)).1 in
@@ -102,7 +107,8 @@ module _ (settings : Settings) (side : Side) (moment : ℕ) where
         few = omega (arith, rest.few);
       }
 
-  exact_whole : (datagrams ds : List (List ℕ)) (k : Progress) → drop k.count datagrams ≡ ds → k.right ≡ true → (after_all (Exactly datagrams) k (map packet ds)).right ≡ true
+  exact_whole : (datagrams ds : List (List ℕ)) (k : Progress) → drop k.count datagrams ≡ ds → k.right ≡ true
+      → (after_all (Exactly datagrams) k (map packet ds)).right ≡ true
   exact_whole datagrams [] k e right = right
   exact_whole datagrams (d ∷ ds) k e right =
       let long : 1 ≤ length (drop k.count datagrams) = omega (arith, ap length e) in
@@ -147,7 +153,8 @@ module _ (settings : Settings) (side : Side) (moment : ℕ) where
     end_of place (q ∷ qs) = end_of (place + length q.octets) qs
 
     -- where they end, and what is left is cut there, all is cut
-    part_whole : (place : ℕ) (all : List ℕ) (qs more : List Piece) (left : List ℕ) → ArePart place all qs left → ArePieces s (end_of place qs) left more → ArePieces s place all (qs ++ more)
+    part_whole : (place : ℕ) (all : List ℕ) (qs more : List Piece) (left : List ℕ) → ArePart place all qs left
+        → ArePieces s (end_of place qs) left more → ArePieces s place all (qs ++ more)
     unfolding end_of
     part_whole place all [] more left h k = subst (λ (xs : List ℕ). ArePieces s place xs more) (sym h) k
     part_whole place all (q ∷ qs) more left h k = (h.0, h.1, part_whole (place + length q.octets) h.0 qs more left h.2 k)
@@ -172,14 +179,19 @@ module _ (settings : Settings) (side : Side) (moment : ℕ) where
         long : length piece.octets ≡ length p.octets - head_size
         within : k.carried + (length p.octets - head_size) ≤ length s.octets
 
-      last_is : (carried size : ℕ) → carried + size ≤ length s.octets → (carried + size == length s.octets) ≡ (length (drop (carried + size) s.octets) == 0)
+      last_is : (carried size : ℕ) → carried + size ≤ length s.octets
+          → (carried + size == length s.octets) ≡ (length (drop (carried + size) s.octets) == 0)
       last_is carried size within = let long = length-drop (carried + size) s.octets in grind (arith, nat_tests)
 
-      is_piece : (k : Progress) (size : ℕ) (push : Bool) → 1 ≤ size → size ≤ s.limit → k.carried + size ≤ length s.octets → (push ≡ true → s.flags.push ≡ true) → IsPiece s k.carried (drop k.carried s.octets) (drop (k.carried + size) s.octets) (piece_behind s k.carried size push)
+      is_piece : (k : Progress) (size : ℕ) (push : Bool) → 1 ≤ size → size ≤ s.limit → k.carried + size ≤ length s.octets
+          → (push ≡ true → s.flags.push ≡ true)
+          → IsPiece s k.carried (drop k.carried s.octets) (drop (k.carried + size) s.octets) (piece_behind s k.carried size push)
       is_piece k size push few most within may =
-          let long : length (take size (drop k.carried s.octets)) ≡ size = length-take-le size (drop k.carried s.octets) (omega (arith, within, length-drop k.carried s.octets)) in
+          let long : length (take size (drop k.carried s.octets)) ≡ size =
+          length-take-le size (drop k.carried s.octets) (omega (arith, within, length-drop k.carried s.octets)) in
           record {
-            joined = sym (take-append-drop size (drop k.carried s.octets)) ∙ ap (λ (xs : List ℕ). take size (drop k.carried s.octets) ++ xs) (drop-drop size k.carried s.octets);
+            joined = sym (take-append-drop size (drop k.carried s.octets))
+                ∙ ap (λ (xs : List ℕ). take size (drop k.carried s.octets) ++ xs) (drop-drop size k.carried s.octets);
             stands = refl;
             some = omega (arith, long, few);
             few = omega (arith, long, most);
@@ -190,13 +202,16 @@ module _ (settings : Settings) (side : Side) (moment : ℕ) where
       next_piece : (k : Progress) (p : Packet) → follows k.carried p (length p.octets - head_size) ≡ true → NextPiece k p
       next_piece k p h =
           let size = length p.octets - head_size in
-          let parts = and_parts (nat_lt 0 size && (nat_le size s.limit && nat_le (k.carried + size) (length s.octets))) (carries k.carried p size false || (s.flags.push && carries k.carried p size true)) h in
+          let parts =
+          and_parts (nat_lt 0 size && (nat_le size s.limit && nat_le (k.carried + size) (length s.octets)))
+          (carries k.carried p size false || (s.flags.push && carries k.carried p size true)) h in
           let sizes = and_parts (nat_lt 0 size) (nat_le size s.limit && nat_le (k.carried + size) (length s.octets)) parts.0 in
           let bounds = and_parts (nat_le size s.limit) (nat_le (k.carried + size) (length s.octets)) sizes.1 in
           let few : 1 ≤ size = let t = sizes.0 in grind (arith, nat_tests) in
           let most : size ≤ s.limit = let t = bounds.0 in grind (arith, nat_tests) in
           let within : k.carried + size ≤ length s.octets = let t = bounds.1 in grind (arith, nat_tests) in
-          let long : length (take size (drop k.carried s.octets)) ≡ size = length-take-le size (drop k.carried s.octets) (omega (arith, within, length-drop k.carried s.octets)) in
+          let long : length (take size (drop k.carried s.octets)) ≡ size =
+          length-take-le size (drop k.carried s.octets) (omega (arith, within, length-drop k.carried s.octets)) in
           elim (or_cases (carries k.carried p size false) (s.flags.push && carries k.carried p size true) parts.1) [
             | inl e ↦ record {
               piece = piece_behind s k.carried size false;
@@ -237,79 +252,115 @@ module _ (settings : Settings) (side : Side) (moment : ℕ) where
           record {
             qs = next.piece ∷ rest.qs;
             left = rest.left;
-            part = (drop (k.carried + (length p.octets - head_size)) s.octets, next.is, subst (λ (n : ℕ). ArePart n (drop (k.carried + (length p.octets - head_size)) s.octets) rest.qs rest.left) (ap (λ (n : ℕ). k.carried + n) (sym next.long)) rest.part);
+            part = (
+              drop (k.carried + (length p.octets - head_size)) s.octets,
+              next.is,
+              subst (λ (n : ℕ). ArePart n (drop (k.carried + (length p.octets - head_size)) s.octets) rest.qs rest.left)
+                  (ap (λ (n : ℕ). k.carried + n) (sym next.long)) rest.part,
+            );
             same = ap (λ (x : Packet). x ∷ ps) next.same ∙ ap (λ (xs : List Packet). piece_packet next.piece ∷ xs) rest.same;
             left_is = rest.left_is;
             within = rest.within;
           }
 
       -- a piece is the one that stands behind what was carried
-      piece_same : (k : Progress) (all next : List ℕ) (q : Piece) → all ≡ drop k.carried s.octets → k.carried ≤ length s.octets → IsPiece s k.carried all next q → piece_behind s k.carried (length q.octets) q.push ≡ q
+      piece_same : (k : Progress) (all next : List ℕ) (q : Piece) → all ≡ drop k.carried s.octets → k.carried ≤ length s.octets
+          → IsPiece s k.carried all next q → piece_behind s k.carried (length q.octets) q.push ≡ q
       piece_same k all next q e within h =
           let joined : drop k.carried s.octets ≡ q.octets ++ next = sym e ∙ h.joined in
-          let octets : take (length q.octets) (drop k.carried s.octets) ≡ q.octets = ap (take (length q.octets)) joined ∙ take_at q.octets next (length q.octets) refl in
+          let octets : take (length q.octets) (drop k.carried s.octets) ≡ q.octets = ap (take (length q.octets)) joined
+          ∙ take_at q.octets next (length q.octets) refl in
           let count = ap length joined in
-          let last : (k.carried + length q.octets == length s.octets) ≡ (length next == 0) = let a = length-drop k.carried s.octets in let b = length-append q.octets next in grind (arith, nat_tests) in
-          ap (λ (n : ℕ). let x : Piece = record { offset = n; octets = take (length q.octets) (drop k.carried s.octets); fin = k.carried + length q.octets == length s.octets && s.flags.fin; push = q.push } in x) (sym h.stands)
-          ∙ ap (λ (xs : List ℕ). let x : Piece = record { offset = q.offset; octets = xs; fin = k.carried + length q.octets == length s.octets && s.flags.fin; push = q.push } in x) octets
-          ∙ ap (λ (b : Bool). let x : Piece = record { offset = q.offset; octets = q.octets; fin = b; push = q.push } in x) (ap (λ (b : Bool). b && s.flags.fin) last ∙ sym h.ends)
+          let last : (k.carried + length q.octets == length s.octets) ≡ (length next == 0) = let a = length-drop k.carried s.octets in let b =
+          length-append q.octets next in grind (arith, nat_tests) in
+          ap (λ (n : ℕ). let x : Piece =
+          record {
+            offset = n;
+            octets = take (length q.octets) (drop k.carried s.octets);
+            fin =
+                k.carried + length q.octets == length s.octets && s.flags.fin;
+            push = q.push;
+          } in x) (sym h.stands)
+          ∙ ap (λ (xs : List ℕ). let x : Piece =
+          record { offset = q.offset; octets = xs; fin = k.carried + length q.octets == length s.octets && s.flags.fin; push = q.push } in x) octets
+          ∙ ap (λ (b : Bool). let x : Piece = record { offset = q.offset; octets = q.octets; fin = b; push = q.push } in x)
+          (ap (λ (b : Bool). b && s.flags.fin) last ∙ sym h.ends)
 
-      piece_right : (k : Progress) (all next : List ℕ) (q : Piece) → all ≡ drop k.carried s.octets → k.carried ≤ length s.octets → IsPiece s k.carried all next q → follows k.carried (piece_packet q) (length q.octets) ≡ true
+      piece_right : (k : Progress) (all next : List ℕ) (q : Piece) → all ≡ drop k.carried s.octets → k.carried ≤ length s.octets
+          → IsPiece s k.carried all next q → follows k.carried (piece_packet q) (length q.octets) ≡ true
       piece_right k all next q e within h =
           let size = length q.octets in
           let p = piece_packet q in
           let count = ap length (sym e ∙ h.joined) in
           let few : nat_lt 0 size ≡ true = let t = h.some in grind (arith, nat_tests) in
           let most : nat_le size s.limit ≡ true = let t = h.few in grind (arith, nat_tests) in
-          let fits : nat_le (k.carried + size) (length s.octets) ≡ true = let a = length-drop k.carried s.octets in let b = length-append q.octets next in grind (arith, nat_tests) in
-          and_from (nat_lt 0 size && (nat_le size s.limit && nat_le (k.carried + size) (length s.octets))) (carries k.carried p size false || (s.flags.push && carries k.carried p size true))
-          (and_from (nat_lt 0 size) (nat_le size s.limit && nat_le (k.carried + size) (length s.octets)) few (and_from (nat_le size s.limit) (nat_le (k.carried + size) (length s.octets)) most fits))
+          let fits : nat_le (k.carried + size) (length s.octets) ≡ true = let a = length-drop k.carried s.octets in let b =
+          length-append q.octets next in grind (arith, nat_tests) in
+          and_from (nat_lt 0 size && (nat_le size s.limit && nat_le (k.carried + size) (length s.octets)))
+          (carries k.carried p size false || (s.flags.push && carries k.carried p size true))
+          (and_from (nat_lt 0 size) (nat_le size s.limit && nat_le (k.carried + size) (length s.octets)) few
+          (and_from (nat_le size s.limit) (nat_le (k.carried + size) (length s.octets)) most fits))
           (by_push q.push refl)
         where
-          by_push : (push : Bool) → q.push ≡ push → (carries k.carried (piece_packet q) (length q.octets) false || (s.flags.push && carries k.carried (piece_packet q) (length q.octets) true)) ≡ true
+          by_push : (push : Bool) → q.push ≡ push
+              → (carries k.carried (piece_packet q) (length q.octets) false ||
+              (s.flags.push && carries k.carried (piece_packet q) (length q.octets) true)) ≡ true
           by_push false g =
               ap (λ (b : Bool). b || (s.flags.push && carries k.carried (piece_packet q) (length q.octets) true))
-              (record_holds (piece_packet (piece_behind s k.carried (length q.octets) false)) (piece_packet q) refl (ap piece_packet (sym (piece_same k all next q e within h) ∙ ap (piece_behind s k.carried (length q.octets)) g)))
+              (record_holds (piece_packet (piece_behind s k.carried (length q.octets) false)) (piece_packet q) refl
+              (ap piece_packet (sym (piece_same k all next q e within h) ∙ ap (piece_behind s k.carried (length q.octets)) g)))
           by_push true g =
               or_right (carries k.carried (piece_packet q) (length q.octets) false)
               (s.flags.push && carries k.carried (piece_packet q) (length q.octets) true)
               (and_from s.flags.push (carries k.carried (piece_packet q) (length q.octets) true) (h.pushes g)
-              (record_holds (piece_packet (piece_behind s k.carried (length q.octets) true)) (piece_packet q) refl (ap piece_packet (sym (piece_same k all next q e within h) ∙ ap (piece_behind s k.carried (length q.octets)) g))))
+              (record_holds (piece_packet (piece_behind s k.carried (length q.octets) true)) (piece_packet q) refl
+              (ap piece_packet (sym (piece_same k all next q e within h) ∙ ap (piece_behind s k.carried (length q.octets)) g))))
 
       record CutWhole (k : Progress) (qs : List Piece) : Type 0 where
         right : (after_all cut k (map piece_packet qs)).right ≡ true
         carried : (after_all cut k (map piece_packet qs)).carried ≡ length s.octets
 
       -- pieces of all octets are right
-      cut_whole : (qs : List Piece) (k : Progress) (all : List ℕ) → all ≡ drop k.carried s.octets → k.right ≡ true → k.carried ≤ length s.octets → ArePieces s k.carried all qs → CutWhole k qs
-      cut_whole [] k all e right within h = record { right = right; carried = omega (arith, ap length (sym e ∙ h), length-drop k.carried s.octets, within) }
+      cut_whole : (qs : List Piece) (k : Progress) (all : List ℕ) → all ≡ drop k.carried s.octets → k.right ≡ true → k.carried ≤ length s.octets
+          → ArePieces s k.carried all qs → CutWhole k qs
+      cut_whole [] k all e right within h =
+          record { right = right; carried = omega (arith, ap length (sym e ∙ h), length-drop k.carried s.octets, within) }
       cut_whole (q ∷ qs) k all e right within h =
           let p = piece_packet q in
           let next = h.0 in
           let size : length p.octets - head_size ≡ length q.octets = omega (arith, piece_long q) in
           let joined : drop k.carried s.octets ≡ q.octets ++ next = sym e ∙ h.1.joined in
-          let left : next ≡ drop (k.carried + length q.octets) s.octets = sym (drop_at q.octets next (length q.octets) refl) ∙ ap (drop (length q.octets)) (sym joined) ∙ drop-drop (length q.octets) k.carried s.octets in
+          let left : next ≡ drop (k.carried + length q.octets) s.octets = sym (drop_at q.octets next (length q.octets) refl)
+          ∙ ap (drop (length q.octets)) (sym joined) ∙ drop-drop (length q.octets) k.carried s.octets in
           let new = step cut k p in
           let carried : new.carried ≡ k.carried + length q.octets = ap (λ (n : ℕ). k.carried + n) size in
           let one : accepts cut k p ≡ true = right_is k p ∙ ap (follows k.carried p) size ∙ piece_right k all next q e within h.1 in
           let rest = cut_whole qs new next (left ∙ ap (λ (n : ℕ). drop n s.octets) (sym carried)) (and_from k.right (accepts cut k p) right one)
-          (omega (arith, carried, ap length joined, length-append q.octets next, length-drop k.carried s.octets, within)) (subst (λ (n : ℕ). ArePieces s n next qs) (sym carried) h.2) in
+          (omega (arith, carried, ap length joined, length-append q.octets next, length-drop k.carried s.octets, within))
+          (subst (λ (n : ℕ). ArePieces s n next qs) (sym carried) h.2) in
           record { right = rest.right; carried = rest.carried }
 
       packets_map : (qs : List Piece) → map piece_packet qs ≡ map packet (map (sent_as d source destination) (map (segment_with s) qs))
       packets_map [] = refl
       packets_map (q ∷ qs) = ap (λ (ps : List Packet). piece_packet q ∷ ps) (packets_map qs)
 
-      may_send : (octets : List ℕ) (qs : List Piece) → (length octets == 0) ≡ false → ArePieces s 0 octets qs → MaySend s octets (map (segment_with s) qs)
+      may_send : (octets : List ℕ) (qs : List Piece) → (length octets == 0) ≡ false → ArePieces s 0 octets qs
+          → MaySend s octets (map (segment_with s) qs)
       may_send [] qs e h = absurd (true≢false e)
       may_send (x ∷ octets) qs e h = (qs, h, refl)
 
-      pieces_of : (octets : List ℕ) (outs : List Outgoing) → (length octets == 0) ≡ false → MaySend s octets outs → (qs : List Piece) × ArePieces s 0 octets qs × (outs ≡ map (segment_with s) qs)
+      pieces_of : (octets : List ℕ) (outs : List Outgoing) → (length octets == 0) ≡ false → MaySend s octets outs → (qs : List Piece)
+          × ArePieces s 0 octets qs × (outs ≡ map (segment_with s) qs)
       pieces_of [] outs e h = absurd (true≢false e)
       pieces_of (x ∷ octets) outs e h = h
 
       lawful_by : (ps : List Packet) (qs : List Piece) → ArePieces s 0 s.octets qs → ps ≡ map piece_packet qs → AreLawful settings side moment cut ps
-      lawful_by ps qs h e = (map (sent_as d source destination) (map (segment_with s) qs), (map (segment_with s) qs, may_send s.octets qs some h, refl), e ∙ packets_map qs)
+      lawful_by ps qs h e = (
+        map (sent_as d source destination) (map (segment_with s) qs),
+        (map (segment_with s) qs, may_send s.octets qs some h, refl),
+        e
+            ∙ packets_map qs,
+      )
 
       -- the pieces of lawful records
       record PiecesBy (ps : List Packet) : Type 0 where
@@ -358,7 +409,8 @@ module _ (settings : Settings) (side : Side) (moment : ℕ) where
           let parts = and_parts k.right (k.carried == length s.octets) (sym (closed_by k) ∙ h) in
           let front = cut_right ps begun (omega arith) parts.0 in
           let none = nothing_left front.left k.carried front.left_is (eqb-true k.carried (length s.octets) parts.1) in
-          lawful_by ps (front.qs ++ []) (part_whole 0 s.octets front.qs [] front.left front.part none) (front.same ∙ ap (map piece_packet) (sym (append-nil front.qs)))
+          lawful_by ps (front.qs ++ []) (part_whole 0 s.octets front.qs [] front.left front.part none)
+          (front.same ∙ ap (map piece_packet) (sym (append-nil front.qs)))
 
       whole_is_cut : (ps : List Packet) → AreLawful settings side moment cut ps → is_closed cut (behind_all settings side moment cut ps) ≡ true
       whole_is_cut ps h =
@@ -366,7 +418,9 @@ module _ (settings : Settings) (side : Side) (moment : ℕ) where
           let whole = cut_whole found.qs begun s.octets refl refl (omega arith) found.are in
           let k = behind_all settings side moment cut ps in
           let same = ap (behind_all settings side moment cut) found.same in
-          closed_by k ∙ and_from k.right (k.carried == length s.octets) (ap (λ (x : Progress). x.right) same ∙ whole.right) (eq-eqb k.carried (length s.octets) (ap (λ (x : Progress). x.carried) same ∙ whole.carried))
+          closed_by k
+          ∙ and_from k.right (k.carried == length s.octets) (ap (λ (x : Progress). x.right) same ∙ whole.right)
+          (eq-eqb k.carried (length s.octets) (ap (λ (x : Progress). x.carried) same ∙ whole.carried))
 
     -- without octets
     module _ (none : s.octets ≡ []) where
@@ -380,7 +434,11 @@ module _ (settings : Settings) (side : Side) (moment : ℕ) where
       alone_closed_by k = ap (λ (b : Bool). k.right && cond b (k.count == 1) (k.carried == length s.octets)) no_length
 
       alone_lawful : AreLawful settings side moment cut (packet (sent_as d source destination (alone s)) ∷ [])
-      alone_lawful = (sent_as d source destination (alone s) ∷ [], (alone s ∷ [], subst (λ (xs : List ℕ). MaySend s xs (alone s ∷ [])) (sym none) refl, refl), refl)
+      alone_lawful = (
+        sent_as d source destination (alone s) ∷ [],
+        (alone s ∷ [], subst (λ (xs : List ℕ). MaySend s xs (alone s ∷ [])) (sym none) refl, refl),
+        refl,
+      )
 
       lawful_alone : (ps : List Packet) → AreLawful settings side moment cut ps → ps ≡ packet (sent_as d source destination (alone s)) ∷ []
       lawful_alone ps h =
@@ -390,13 +448,17 @@ module _ (settings : Settings) (side : Side) (moment : ℕ) where
 
       -- one record behind another isn't right
       second_wrong : (k : Progress) (p : Packet) → 1 ≤ k.count → accepts cut k p ≡ false
-      second_wrong k p some = alone_right_is k p ∙ and_left (k.count == 0) (is_record (packet (sent_as d source destination (alone s))) p) (grind (arith, nat_tests))
+      second_wrong k p some = alone_right_is k p
+          ∙ and_left (k.count == 0) (is_record (packet (sent_as d source destination (alone s))) p) (grind (arith, nat_tests))
 
       alone_is : (p : Packet) → accepts cut begun p ≡ true → p ≡ packet (sent_as d source destination (alone s))
-      alone_is p h = record_same (packet (sent_as d source destination (alone s))) p refl (and_parts true (is_record (packet (sent_as d source destination (alone s))) p) (sym (alone_right_is begun p) ∙ h)).1
+      alone_is p h =
+          record_same (packet (sent_as d source destination (alone s))) p refl
+          (and_parts true (is_record (packet (sent_as d source destination (alone s))) p) (sym (alone_right_is begun p) ∙ h)).1
 
       alone_right : accepts cut begun (packet (sent_as d source destination (alone s))) ≡ true
-      alone_right = alone_right_is begun (packet (sent_as d source destination (alone s))) ∙ record_holds (packet (sent_as d source destination (alone s))) (packet (sent_as d source destination (alone s))) refl refl
+      alone_right = alone_right_is begun (packet (sent_as d source destination (alone s)))
+          ∙ record_holds (packet (sent_as d source destination (alone s))) (packet (sent_as d source destination (alone s))) refl refl
 
       alone_is_front : (ps : List Packet) → (behind_all settings side moment cut ps).right ≡ true → AreFront settings side moment cut ps
       alone_is_front [] h = (packet (sent_as d source destination (alone s)) ∷ [], alone_lawful)
@@ -406,7 +468,9 @@ module _ (settings : Settings) (side : Side) (moment : ℕ) where
           absurd (false≢true (sym (second_wrong k q (omega arith)) ∙ (and_parts k.right (accepts cut k q) (one_right cut q ps k h)).1))
 
       alone_is_right : (ps : List Packet) → AreFront settings side moment cut ps → (behind_all settings side moment cut ps).right ≡ true
-      alone_is_right ps h = front_right cut ps h.0 begun (ap (λ (xs : List Packet). (behind_all settings side moment cut xs).right) (lawful_alone (ps ++ h.0) h.1) ∙ alone_right)
+      alone_is_right ps h =
+          front_right cut ps h.0 begun
+          (ap (λ (xs : List Packet). (behind_all settings side moment cut xs).right) (lawful_alone (ps ++ h.0) h.1) ∙ alone_right)
 
       alone_is_whole : (ps : List Packet) → is_closed cut (behind_all settings side moment cut ps) ≡ true → AreLawful settings side moment cut ps
       alone_is_whole ps h =
@@ -423,36 +487,49 @@ module _ (settings : Settings) (side : Side) (moment : ℕ) where
       whole_is_alone ps h =
           let k = behind_all settings side moment cut ps in
           let same = ap (behind_all settings side moment cut) (lawful_alone ps h) in
-          alone_closed_by k ∙ and_from k.right (k.count == 1) (ap (λ (x : Progress). x.right) same ∙ alone_right) (eq-eqb k.count 1 (ap (λ (x : Progress). x.count) same))
+          alone_closed_by k
+          ∙ and_from k.right (k.count == 1) (ap (λ (x : Progress). x.right) same ∙ alone_right)
+          (eq-eqb k.count 1 (ap (λ (x : Progress). x.count) same))
 
   -- ## All that may be wanted
 
-  exact_is_front : (datagrams : List (List ℕ)) (ps : List Packet) → (behind_all settings side moment (Exactly datagrams) ps).right ≡ true → AreFront settings side moment (Exactly datagrams) ps
+  exact_is_front : (datagrams : List (List ℕ)) (ps : List Packet) → (behind_all settings side moment (Exactly datagrams) ps).right ≡ true
+      → AreFront settings side moment (Exactly datagrams) ps
   exact_is_front datagrams ps h = let front = exact_right datagrams ps begun (omega arith) h in (front.others, (datagrams, refl, sym front.joined))
 
-  exact_is_right : (datagrams : List (List ℕ)) (ps : List Packet) → AreFront settings side moment (Exactly datagrams) ps → (behind_all settings side moment (Exactly datagrams) ps).right ≡ true
+  exact_is_right : (datagrams : List (List ℕ)) (ps : List Packet) → AreFront settings side moment (Exactly datagrams) ps
+      → (behind_all settings side moment (Exactly datagrams) ps).right ≡ true
   exact_is_right datagrams ps h =
       front_right (Exactly datagrams) ps h.0 begun
-      (ap (λ (xs : List Packet). (behind_all settings side moment (Exactly datagrams) xs).right) (h.1.2 ∙ ap (map packet) h.1.1) ∙ exact_whole datagrams datagrams begun refl refl)
+      (ap (λ (xs : List Packet). (behind_all settings side moment (Exactly datagrams) xs).right) (h.1.2 ∙ ap (map packet) h.1.1)
+      ∙ exact_whole datagrams datagrams begun refl refl)
 
-  exact_is_whole : (datagrams : List (List ℕ)) (ps : List Packet) → is_closed (Exactly datagrams) (behind_all settings side moment (Exactly datagrams) ps) ≡ true → AreLawful settings side moment (Exactly datagrams) ps
+  exact_is_whole : (datagrams : List (List ℕ)) (ps : List Packet)
+      → is_closed (Exactly datagrams) (behind_all settings side moment (Exactly datagrams) ps) ≡ true
+      → AreLawful settings side moment (Exactly datagrams) ps
   exact_is_whole datagrams ps h =
       let k = behind_all settings side moment (Exactly datagrams) ps in
       let parts = and_parts k.right (k.count == length datagrams) h in
       let front = exact_right datagrams ps begun (omega arith) parts.0 in
       let count = count_is (Exactly datagrams) ps begun in
       let all = eqb-true k.count (length datagrams) parts.1 in
-      let no_more : front.others ≡ [] = nil_from_length front.others (omega (arith, ap length front.joined, length-append ps front.others, length-map datagrams packet, count, all)) in
+      let no_more : front.others ≡ [] =
+      nil_from_length front.others
+      (omega (arith, ap length front.joined, length-append ps front.others, length-map datagrams packet, count, all)) in
       (datagrams, refl, sym (front.joined ∙ ap (λ (xs : List Packet). ps ++ xs) no_more ∙ append-nil ps))
 
-  whole_is_exact : (datagrams : List (List ℕ)) (ps : List Packet) → AreLawful settings side moment (Exactly datagrams) ps → is_closed (Exactly datagrams) (behind_all settings side moment (Exactly datagrams) ps) ≡ true
+  whole_is_exact : (datagrams : List (List ℕ)) (ps : List Packet) → AreLawful settings side moment (Exactly datagrams) ps
+      → is_closed (Exactly datagrams) (behind_all settings side moment (Exactly datagrams) ps) ≡ true
   whole_is_exact datagrams ps h =
       let k = behind_all settings side moment (Exactly datagrams) ps in
       let same : ps ≡ map packet datagrams = h.2 ∙ ap (map packet) h.1 in
-      and_from k.right (k.count == length datagrams) (ap (λ (xs : List Packet). (behind_all settings side moment (Exactly datagrams) xs).right) same ∙ exact_whole datagrams datagrams begun refl refl)
+      and_from k.right (k.count == length datagrams)
+      (ap (λ (xs : List Packet). (behind_all settings side moment (Exactly datagrams) xs).right) same
+      ∙ exact_whole datagrams datagrams begun refl refl)
       (eq-eqb k.count (length datagrams) (count_is (Exactly datagrams) ps begun ∙ omega (arith, ap length same, length-map datagrams packet)))
 
-  pub is_front : HasMacAddresses (side_settings settings side) → (wanted : Wanted) (ps : List Packet) → IsSound wanted → (behind_all settings side moment wanted ps).right ≡ true → AreFront settings side moment wanted ps
+  pub is_front : HasMacAddresses (side_settings settings side) → (wanted : Wanted) (ps : List Packet) → IsSound wanted
+      → (behind_all settings side moment wanted ps).right ≡ true → AreFront settings side moment wanted ps
   is_front addresses (Exactly datagrams) ps sound h = exact_is_front datagrams ps h
   is_front addresses (Cut d source destination s) ps sound h =
       elim (cases_Bool (length s.octets == 0)) [
@@ -460,7 +537,8 @@ module _ (settings : Settings) (side : Side) (moment : ℕ) where
         | inr e ↦ cut_is_front d source destination s sound.0 addresses e ps sound.1 h
       ]
 
-  pub is_right_front : HasMacAddresses (side_settings settings side) → (wanted : Wanted) (ps : List Packet) → IsSound wanted → AreFront settings side moment wanted ps → (behind_all settings side moment wanted ps).right ≡ true
+  pub is_right_front : HasMacAddresses (side_settings settings side) → (wanted : Wanted) (ps : List Packet) → IsSound wanted
+      → AreFront settings side moment wanted ps → (behind_all settings side moment wanted ps).right ≡ true
   is_right_front addresses (Exactly datagrams) ps sound h = exact_is_right datagrams ps h
   is_right_front addresses (Cut d source destination s) ps sound h =
       elim (cases_Bool (length s.octets == 0)) [
@@ -468,7 +546,8 @@ module _ (settings : Settings) (side : Side) (moment : ℕ) where
         | inr e ↦ cut_is_right d source destination s sound.0 addresses e ps h
       ]
 
-  pub is_whole : HasMacAddresses (side_settings settings side) → (wanted : Wanted) (ps : List Packet) → IsSound wanted → is_closed wanted (behind_all settings side moment wanted ps) ≡ true → AreLawful settings side moment wanted ps
+  pub is_whole : HasMacAddresses (side_settings settings side) → (wanted : Wanted) (ps : List Packet) → IsSound wanted
+      → is_closed wanted (behind_all settings side moment wanted ps) ≡ true → AreLawful settings side moment wanted ps
   is_whole addresses (Exactly datagrams) ps sound h = exact_is_whole datagrams ps h
   is_whole addresses (Cut d source destination s) ps sound h =
       elim (cases_Bool (length s.octets == 0)) [
@@ -476,7 +555,8 @@ module _ (settings : Settings) (side : Side) (moment : ℕ) where
         | inr e ↦ cut_is_whole d source destination s sound.0 addresses e ps h
       ]
 
-  pub whole_is_closed : HasMacAddresses (side_settings settings side) → (wanted : Wanted) (ps : List Packet) → IsSound wanted → AreLawful settings side moment wanted ps → is_closed wanted (behind_all settings side moment wanted ps) ≡ true
+  pub whole_is_closed : HasMacAddresses (side_settings settings side) → (wanted : Wanted) (ps : List Packet) → IsSound wanted
+      → AreLawful settings side moment wanted ps → is_closed wanted (behind_all settings side moment wanted ps) ≡ true
   whole_is_closed addresses (Exactly datagrams) ps sound h = whole_is_exact datagrams ps h
   whole_is_closed addresses (Cut d source destination s) ps sound h =
       elim (cases_Bool (length s.octets == 0)) [

@@ -38,10 +38,13 @@ right_of w e h =
     let rest = world_tests whole_rules live e.side e.moment d (kind_of d) in
     let all : NoneHolds (tests whole_rules live e) = record { none = pass_is (first_that_holds (tests whole_rules live e)) h } in
     let head : NoneHolds (header_tests e) = none_left (header_tests e) (datagram_tests d ++ (transport_tests d ++ rest)) all in
-    let more : List (Bool × Refusal) = (has_bad_header_sum octets, BadHeaderSum) ∷ (is_fragment octets, Fragment) ∷ (has_options octets, IpOptions) ∷ [] in
+    let more : List (Bool × Refusal) =
+    (has_bad_header_sum octets, BadHeaderSum) ∷ (is_fragment octets, Fragment) ∷ (has_options octets, IpOptions) ∷ [] in
     let one = none_tail {test = (not e.whole, Snapped)} {more = (is_not_ipv4 octets, NotIpv4) ∷ (has_bad_header octets, BadHeader) ∷ more} head in
     let two = none_tail {test = (is_not_ipv4 octets, NotIpv4)} {more = (has_bad_header octets, BadHeader) ∷ more} one in
-    let behind : NoneHolds (transport_tests d ++ rest) = none_right (datagram_tests d) (transport_tests d ++ rest) (none_right (header_tests e) (datagram_tests d ++ (transport_tests d ++ rest)) all) in
+    let behind : NoneHolds (transport_tests d ++ rest) =
+    none_right (datagram_tests d) (transport_tests d ++ rest)
+    (none_right (header_tests e) (datagram_tests d ++ (transport_tests d ++ rest)) all) in
     let transport : NoneHolds (transport_tests d) = none_left (transport_tests d) rest behind in
     record {
       header = none_head {test = (has_bad_header octets, BadHeader)} {more = more} two;
@@ -52,8 +55,10 @@ right_of w e h =
 
 header_is : (octets : List ℕ) → has_bad_header octets ≡ false → length (take 20 octets) ≡ 20
 header_is octets h =
-    let a = or_parts ((nat_lt (length octets) 20 || nat_lt (header_length_of octets) 20) || nat_lt (total_length_of octets) (header_length_of octets)) (nat_lt (length octets) (total_length_of octets)) h in
-    let b = or_parts (nat_lt (length octets) 20 || nat_lt (header_length_of octets) 20) (nat_lt (total_length_of octets) (header_length_of octets)) a.0 in
+    let a = or_parts ((nat_lt (length octets) 20 || nat_lt (header_length_of octets) 20) || nat_lt (total_length_of octets) (header_length_of octets))
+    (nat_lt (length octets) (total_length_of octets)) h in
+    let b = or_parts (nat_lt (length octets) 20 || nat_lt (header_length_of octets) 20)
+    (nat_lt (total_length_of octets) (header_length_of octets)) a.0 in
     let c = or_parts (nat_lt (length octets) 20) (nat_lt (header_length_of octets) 20) b.0 in
     let long : 20 ≤ length octets = let t = c.0 in grind (arith, nat_tests) in
     length-take-le 20 octets long
@@ -62,7 +67,8 @@ transport_is : (d : Datagram) → kind_of d ≡ Stream → is_bad_transport d �
 transport_is d e h = by_protocol (d.protocol == 17) (d.protocol == 6) e h
   where
     by_protocol : (udp tcp : Bool) → (if udp then Whole (udp_payload d) else if tcp then Stream else Whole (icmp_payload d)) ≡ Stream
-        → (if udp then has_bad_length d.payload else if tcp then has_bad_offset d.payload || has_bad_options d.payload else nat_lt (length d.payload) 8) ≡ false → (has_bad_offset d.payload || has_bad_options d.payload) ≡ false
+        → (if udp then has_bad_length d.payload else if tcp then has_bad_offset d.payload || has_bad_options d.payload else nat_lt
+        (length d.payload) 8) ≡ false → (has_bad_offset d.payload || has_bad_options d.payload) ≡ false
     by_protocol true tcp f i = absurd (cc)
     by_protocol false true f i = i
     by_protocol false false f i = absurd (cc)
@@ -82,11 +88,16 @@ tcp_is payload h =
 heads_of : (w : World WholeSession) (e : Event) → verdict whole_rules w e ≡ Pass → kind_of (datagram_in e) ≡ Stream → HasHeads (datagram_in e)
 heads_of w e passed stream =
     let right = right_of w e passed in
-    record { ip = header_is (octets_in e.link e.octets) right.header; tcp = tcp_is (datagram_in e).payload (transport_is (datagram_in e) stream right.transport) }
+    record {
+      ip = header_is (octets_in e.link e.octets) right.header;
+      tcp =
+          tcp_is (datagram_in e).payload (transport_is (datagram_in e) stream right.transport);
+    }
 
 -- ## What is wanted
 
-segment_sound : (image : Addr → Option Addr) (side : Side) (d : Datagram) (source destination : ℕ) (t : Option (Tracked WholeSession)) → HasHeads d → (segment_of d).options ≤ 40 → IsSound (wanted_segment whole_sent image side d source destination t)
+segment_sound : (image : Addr → Option Addr) (side : Side) (d : Datagram) (source destination : ℕ) (t : Option (Tracked WholeSession)) → HasHeads d
+    → (segment_of d).options ≤ 40 → IsSound (wanted_segment whole_sent image side d source destination t)
 segment_sound image side d source destination None heads few = tt
 segment_sound image side d source destination (Some t) heads few =
     let host = host_on side t in
@@ -97,9 +108,12 @@ segment_sound image side d source destination (Some t) heads few =
 pub wanted_sound : (w : World WholeSession) (e : Event) → AreOctets e.octets → IsSound (wanted w e)
 wanted_sound w e h = by_verdict (verdict whole_rules w e) refl
   where
-    by_kind : verdict whole_rules w e ≡ Pass → (kind : Kind) → kind_of (datagram_in e) ≡ kind → IsSound (wanted_kind whole_rules whole_sent (at_moment w e.moment) e.side e.moment (datagram_in e) kind)
+    by_kind : verdict whole_rules w e ≡ Pass → (kind : Kind) → kind_of (datagram_in e) ≡ kind
+        → IsSound (wanted_kind whole_rules whole_sent (at_moment w e.moment) e.side e.moment (datagram_in e) kind)
     by_kind p (Whole payload) k = tt
-    by_kind p Stream k = segment_sound _ e.side (datagram_in e) _ _ (taker_in whole_rules (at_moment w e.moment) e.side e.moment (datagram_in e)) (heads_of w e p k) (event_options e h)
+    by_kind p Stream k =
+        segment_sound _ e.side (datagram_in e) _ _ (taker_in whole_rules (at_moment w e.moment) e.side e.moment (datagram_in e)) (heads_of w e p k)
+        (event_options e h)
 
     by_verdict : (v : Verdict) → verdict whole_rules w e ≡ v → IsSound (wanted_by whole_rules whole_sent (at_moment w e.moment) e v)
     by_verdict Pass p = by_kind p (kind_of (datagram_in e)) refl

@@ -52,11 +52,13 @@ after s a frames = record { world = world_after s.world a; totals = counted s.to
 
 -- the whole record of a datagram that goes to a realm: on Ethernet its frame goes from the gateway to the next router or host
 abbrev pub record_of : Settings → Side → ℕ → List ℕ → Packet
-record_of settings side moment datagram = let realm = side_settings settings side in record { stamp = moment; whole = true; octets = framed_on realm.link realm.next_mac realm.gateway_mac datagram }
+record_of settings side moment datagram = let realm = side_settings settings side in
+    record { stamp = moment; whole = true; octets = framed_on realm.link realm.next_mac realm.gateway_mac datagram }
 
 -- the line of a frame for which so many were sent
 abbrev pub line_of : Settings → State → Arrival → ℕ → List ℕ
-line_of settings s a frames = line_octets settings.report (event_line (s.totals.events + 1) (event_in a).side (event_in a).moment (verdict_of s.world a) frames)
+line_of settings s a frames =
+    line_octets settings.report (event_line (s.totals.events + 1) (event_in a).side (event_in a).moment (verdict_of s.world a) frames)
 
 -- the last line
 abbrev pub last_line : Settings → State → List ℕ
@@ -83,7 +85,8 @@ pub record IsLawfulAt (settings : Settings) (s : State) (a : Arrival) (old new :
   pub few : length list < 2 ^ 32
   pub line : old.report ≡ line_of settings s a (length list) ++ new.report
   -- in the capture of the other realm as many records stand next, which carry it at the event's moment;
-  pub records : (given_at (other (event_in a).side) old).packets ≡ map (record_of settings (other (event_in a).side) (event_in a).moment) list ++ (given_at (other (event_in a).side) new).packets
+  pub records : (given_at (other (event_in a).side) old).packets ≡ map (record_of settings (other (event_in a).side) (event_in a).moment) list
+      ++ (given_at (other (event_in a).side) new).packets
   -- and the rest stays
   pub ending : (given_at (other (event_in a).side) new).ending ≡ (given_at (other (event_in a).side) old).ending
   pub others : given_at (event_in a).side new ≡ given_at (event_in a).side old
@@ -98,7 +101,8 @@ pub record IsAtLast (settings : Settings) (s : State) (g : Given) : Type 0 where
 abbrev pub LawfulFrom : Settings → State → List Arrival → Ending → Given → Type 0
 LawfulFrom settings s [] Done g = IsAtLast settings s g
 LawfulFrom settings s [] (Fault side fault place) g = Unit {0}
-LawfulFrom settings s (a ∷ arrivals) ending g = (next : Given) × (at : IsLawfulAt settings s a g next) × LawfulFrom settings (after s a (length at.list)) arrivals ending next
+LawfulFrom settings s (a ∷ arrivals) ending g = (next : Given) × (at : IsLawfulAt settings s a g next)
+    × LawfulFrom settings (after s a (length at.list)) arrivals ending next
 
 abbrev pub given_of : List ℕ → List ℕ → List ℕ → Given
 given_of left right report = record { left = capture_of left; right = capture_of right; report = report }

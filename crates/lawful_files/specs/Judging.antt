@@ -36,7 +36,8 @@ frames_told settings s a report = digits_value 10 (digits_in (drop (length (befo
 
 -- the report goes on with a frame's line for so many frames
 abbrev pub goes_on_with : Settings → State → Arrival → List ℕ → ℕ → Bool
-goes_on_with settings s a report frames = nat_lt frames (2 ^ 32) && bytes_eq (take (length (line_of settings s a frames)) report) (line_of settings s a frames)
+goes_on_with settings s a report frames =
+    nat_lt frames (2 ^ 32) && bytes_eq (take (length (line_of settings s a frames)) report) (line_of settings s a frames)
 
 -- ## The captures
 
@@ -95,7 +96,8 @@ reason_from settings s (a ∷ arrivals) ending g =
 -- the first reason against three files, if there is one
 abbrev pub reason_of : Settings → List Arrival → Ending → List ℕ → List ℕ → List ℕ → Option (ℕ × AuditReason)
 reason_of settings arrivals ending left right report =
-    if has_link settings.left.link left && has_link settings.right.link right then reason_from settings (opening settings) arrivals ending (given_of left right report) else Some (0, Capture)
+    if has_link settings.left.link left && has_link settings.right.link right then reason_from settings (opening settings) arrivals ending
+    (given_of left right report) else Some (0, Capture)
 
 -- for the events of both incoming captures, by what the settings want of fragments
 abbrev pub reason_against : Settings → Merged → List ℕ → List ℕ → List ℕ → Option (ℕ × AuditReason)

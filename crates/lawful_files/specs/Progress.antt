@@ -47,7 +47,8 @@ is_record wanted p = p.whole && (p.stamp == wanted.stamp && bytes_eq p.octets wa
 
 -- the piece of so many octets behind those that were carried
 abbrev pub piece_behind : Sent → ℕ → ℕ → Bool → Piece
-piece_behind s carried size push = record { offset = carried; octets = take size (drop carried s.octets); fin = carried + size == length s.octets && s.flags.fin; push = push }
+piece_behind s carried size push =
+    record { offset = carried; octets = take size (drop carried s.octets); fin = carried + size == length s.octets && s.flags.fin; push = push }
 
 -- a record carries that piece
 abbrev pub carries_piece : Settings → Side → ℕ → Datagram → ℕ → ℕ → Sent → ℕ → Packet → ℕ → Bool → Bool
@@ -58,11 +59,13 @@ carries_piece settings side moment d source destination s carried p size push =
 abbrev pub is_next_piece : Settings → Side → ℕ → Datagram → ℕ → ℕ → Sent → ℕ → Packet → ℕ → Bool
 is_next_piece settings side moment d source destination s carried p size =
     (nat_lt 0 size && (nat_le size s.limit && nat_le (carried + size) (length s.octets)))
-    && (carries_piece settings side moment d source destination s carried p size false || (s.flags.push && carries_piece settings side moment d source destination s carried p size true))
+    && (carries_piece settings side moment d source destination s carried p size false ||
+    (s.flags.push && carries_piece settings side moment d source destination s carried p size true))
 
 -- without octets it is the one segment
 abbrev pub is_alone : Settings → Side → ℕ → Datagram → ℕ → ℕ → Sent → ℕ → Packet → Bool
-is_alone settings side moment d source destination s count p = count == 0 && is_record (record_of settings side moment (sent_as d source destination (alone s))) p
+is_alone settings side moment d source destination s count p =
+    count == 0 && is_record (record_of settings side moment (sent_as d source destination (alone s))) p
 
 abbrev pub is_right_cut : Settings → Side → ℕ → Datagram → ℕ → ℕ → Sent → Progress → Packet → Bool
 is_right_cut settings side moment d source destination s so_far p =
@@ -71,7 +74,8 @@ is_right_cut settings side moment d source destination s so_far p =
 
 -- a record is right behind those that came
 abbrev pub is_right : Settings → Side → ℕ → Wanted → Progress → Packet → Bool
-is_right settings side moment (Exactly datagrams) so_far p = nat_lt so_far.count (length datagrams) && is_record (record_of settings side moment (slice_index_or datagrams so_far.count [])) p
+is_right settings side moment (Exactly datagrams) so_far p =
+    nat_lt so_far.count (length datagrams) && is_record (record_of settings side moment (slice_index_or datagrams so_far.count [])) p
 is_right settings side moment (Cut d source destination s) so_far p = is_right_cut settings side moment d source destination s so_far p
 
 -- what is kept behind one record more
@@ -85,7 +89,8 @@ behind settings side moment wanted so_far p = record {
 -- all that is wanted came
 abbrev pub is_closed : Wanted → Progress → Bool
 is_closed (Exactly datagrams) so_far = so_far.right && so_far.count == length datagrams
-is_closed (Cut d source destination s) so_far = so_far.right && (if length s.octets == 0 then so_far.count == 1 else so_far.carried == length s.octets)
+is_closed (Cut d source destination s) so_far =
+    so_far.right && (if length s.octets == 0 then so_far.count == 1 else so_far.carried == length s.octets)
 
 -- ## What may be wanted
 
@@ -103,7 +108,8 @@ IsSound (Cut d source destination s) = HasHeads d × (1 ≤ s.limit)
 
 -- these are the records of a lawful list
 abbrev pub AreLawful : Settings → Side → ℕ → Wanted → List Packet → Type 0
-AreLawful settings side moment wanted packets = (list : List (List ℕ)) × IsLawfulList wanted list × (packets ≡ map (record_of settings side moment) list)
+AreLawful settings side moment wanted packets = (list : List (List ℕ)) × IsLawfulList wanted list
+    × (packets ≡ map (record_of settings side moment) list)
 
 -- what is kept behind these records
 abbrev pub behind_all : Settings → Side → ℕ → Wanted → List Packet → Progress

@@ -29,9 +29,11 @@ IsFirst settings s (a ∷ arrivals) ending g number reason =
     -- the report doesn't go on with the frame's line;
     ((number ≡ s.totals.events + 1) × (reason ≡ Line) × HasNoLine settings s a g)
     -- else fewer records stand next than it tells;
-    ⊎ ((number ≡ s.totals.events + 1) × (reason ≡ Missing) × (frames : ℕ) × (rest : List ℕ) × GoesOn settings s a g frames rest × (there_for a g < frames))
+    ⊎ ((number ≡ s.totals.events + 1) × (reason ≡ Missing) × (frames : ℕ) × (rest : List ℕ) × GoesOn settings s a g frames rest
+    × (there_for a g < frames))
     -- else these records aren't those of a lawful list;
-    ⊎ ((number ≡ s.totals.events + 1) × (reason ≡ Frame) × (frames : ℕ) × (rest : List ℕ) × GoesOn settings s a g frames rest × (frames ≤ there_for a g) × ((next : Given) → IsLawfulAt settings s a g next → ⊥))
+    ⊎ ((number ≡ s.totals.events + 1) × (reason ≡ Frame) × (frames : ℕ) × (rest : List ℕ) × GoesOn settings s a g frames rest
+    × (frames ≤ there_for a g) × ((next : Given) → IsLawfulAt settings s a g next → ⊥))
     -- or the files are lawful here, and the first reason stands behind this frame
     ⊎ ((next : Given) × (at : IsLawfulAt settings s a g next) × IsFirst settings (after s a (length at.list)) arrivals ending next number reason)
 
@@ -39,4 +41,5 @@ IsFirst settings s (a ∷ arrivals) ending g number reason =
 abbrev pub FirstReason : Settings → List Arrival → Ending → List ℕ → List ℕ → List ℕ → ℕ → AuditReason → Type 0
 FirstReason settings arrivals ending left right report number reason =
     ((number ≡ 0) × (reason ≡ Capture) × (HasLink settings.left.link left × HasLink settings.right.link right → ⊥))
-    ⊎ (HasLink settings.left.link left × HasLink settings.right.link right × IsFirst settings (opening settings) arrivals ending (given_of left right report) number reason)
+    ⊎ (HasLink settings.left.link left × HasLink settings.right.link right
+    × IsFirst settings (opening settings) arrivals ending (given_of left right report) number reason)

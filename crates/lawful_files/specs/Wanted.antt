@@ -30,7 +30,8 @@ whole_sent image from x segment = session_sent from (whole_learned image from x 
 
 -- sessions that are read as those over whole lists send the same for each segment that passes
 abbrev pub SendAlike : {S : Type 0} → (S → WholeSession) → SessionRules S → Sends S → Type 0
-SendAlike {S = S} h rules sends = (image : Addr → Option Addr) (from : Host) (x : S) (segment : Segment) → rules.refusal from x segment ≡ None → whole_sent image from (h x) segment ≡ sends image from x segment
+SendAlike {S = S} h rules sends = (image : Addr → Option Addr) (from : Host) (x : S) (segment : Segment) → rules.refusal from x segment ≡ None
+    → whole_sent image from (h x) segment ≡ sends image from x segment
 
 -- of a segment, by the session that takes it
 abbrev pub wanted_segment : {S : Type 0} → Sends S → (Addr → Option Addr) → Side → Datagram → ℕ → ℕ → Option (Tracked S) → Wanted
@@ -41,7 +42,8 @@ wanted_segment sends image side d source destination (Some t) = Cut d source des
 abbrev pub wanted_kind : {S : Type 0} → SessionRules S → Sends S → World S → Side → ℕ → Datagram → Kind → Wanted
 wanted_kind rules sends live side moment d Stream =
     let table = table_after rules live side moment d Stream in
-    wanted_segment sends (image_in rules live side moment d) side d (called table side (source_of d)).0 (called table side (destination_of d)).0 (taker_in rules live side moment d)
+    wanted_segment sends (image_in rules live side moment d) side d (called table side (source_of d)).0 (called table side (destination_of d)).0
+    (taker_in rules live side moment d)
 wanted_kind rules sends live side moment d (Whole payload) = Exactly (out_kind rules live side moment d (Whole payload))
 
 -- by the verdict

@@ -1,3 +1,3 @@
-pub mod Log
 pub mod Memory
 pub mod Counted
+pub mod Inside

@@ -18,11 +18,13 @@ told_of m = record { left = Some m.left; written = Some m.written; starts = Some
 -- the octets of all slots
 abbrev pub total : PerSlot (List ℕ) → ℕ
 total p =
-    length p.settings + length p.left_in + length p.right_in + length p.left_given + length p.right_given + length p.report_given + length p.left_out + length p.right_out + length p.report + length p.errors
+    length p.settings + length p.left_in + length p.right_in + length p.left_given + length p.right_given + length p.report_given + length p.left_out
+    + length p.right_out + length p.report + length p.errors
 
 -- and, to be audited, two captures and a report that some gateway made of them
 abbrev pub audit_inputs : List ℕ → List ℕ → List ℕ → List ℕ → List ℕ → List ℕ → PerSlot (List ℕ)
-audit_inputs settings left right left_given right_given report_given = record (inputs settings left right) { left_given = left_given; right_given = right_given; report_given = report_given }
+audit_inputs settings left right left_given right_given report_given =
+    record (inputs settings left right) { left_given = left_given; right_given = right_given; report_given = report_given }
 
 -- these octets to be read, nothing written, no start and no fault
 abbrev pub opening_of : PerSlot (List ℕ) → Memory

@@ -25,7 +25,7 @@ impl Model for StartLog {
 
     ghost Value = { List Start };
 
-    ghost use Rattle.memory_desks.specs.Log.{log_view, LogFits};
+    ghost use Rattle.memory_desks.specs.Inside.Log.{log_view, LogFits};
 
     ghost view = { log_view };
 

@@ -13,7 +13,7 @@ use Rattle.binding_table.specs.Bindings.{cross}
 use Rattle.gate_settings.specs.Cross.{block_end}
 use Rattle.icmp_errors.specs.Inner.{inner_with}
 use Rattle.dns_names.specs.Names.{piece_at}
-use Rattle.dns_names.specs.Octets.{reverse_in}
+use Rattle.dns_names.specs.Inside.Octets.{reverse_in}
 use Rattle.dns_names.specs.Reverse.{full_reverse}
 use Rattle.dns_names.specs.Spelling.{spell}
 use Rattle.dns_names.specs.Walk.{name_at}

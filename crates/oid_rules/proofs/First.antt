@@ -11,7 +11,8 @@ use Rattle.gate_base.specs.declared.rule.OidRule.{OidRule}
 use Rattle.oid_rules.specs.declared.sorted.Compared.TheVariants.{Begins}
 use Rattle.oid_rules.specs.declared.sorted.Numbered.{Numbered}
 use Rattle.gate_base.specs.Prelude.{is_rule, AreRules}
-use Rattle.oid_rules.specs.Sorted.{before, by_rule, compared, first_begun, numbered, rule_at, AllRules, AreSorted, IsFirst, IsFound, IsLast}
+use Rattle.oid_rules.specs.Sorted.{before, by_rule, compared, first_begun}
+use Rattle.oid_rules.specs.Inside.Sorted.{numbered, rule_at, AllRules, AreSorted, IsFirst, IsFound, IsLast}
 use Rattle.oid_rules.proofs.Prefixes.{starts_begins, begins_starts}
 
 -- ## In the order of the list

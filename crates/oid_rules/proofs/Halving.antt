@@ -7,7 +7,8 @@ use Rattle.std.proofs.lemmas.List.{get_or_default}
 use Rattle.oid_rules.specs.declared.sorted.Compared.{Compared}
 use Rattle.oid_rules.specs.declared.sorted.Compared.TheVariants.{Before, Begins, Behind}
 use Rattle.oid_rules.specs.declared.sorted.Numbered.{Numbered}
-use Rattle.oid_rules.specs.Sorted.{compared, rule_at, AreOuter, BeginsAt, Halves, InOrder, IsDone, IsLast}
+use Rattle.oid_rules.specs.Sorted.{compared}
+use Rattle.oid_rules.specs.Inside.Sorted.{rule_at, AreOuter, BeginsAt, Halves, InOrder, IsDone, IsLast}
 use Rattle.oid_rules.proofs.Prefixes.{order_goes_on, between_begins}
 
 -- the arcs of the rule at a place

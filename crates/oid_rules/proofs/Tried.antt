@@ -8,7 +8,8 @@ use Rattle.std.proofs.lemmas.List.{get_or_default}
 use Rattle.std.proofs.lemmas.List.Elements.{All-cons, All-from_get_or, All-head, All-nil, All-tail}
 use Rattle.gate_base.specs.declared.address.Addr.{Addr}
 use Rattle.oid_rules.specs.declared.sorted.Numbered.{Numbered}
-use Rattle.oid_rules.specs.Sorted.{before_at, by_rule, earlier_of, rule_at, with_rule, AreTried, BeginsAt, InOrder, IsEarly, IsFirst, IsLast, IsTried, OneStandsFor, StandsFor}
+use Rattle.oid_rules.specs.Sorted.{by_rule}
+use Rattle.oid_rules.specs.Inside.Sorted.{before_at, earlier_of, rule_at, with_rule, AreTried, BeginsAt, InOrder, IsEarly, IsFirst, IsLast, IsTried, OneStandsFor, StandsFor}
 use Rattle.oid_rules.proofs.Halving.{arcs_at}
 use Rattle.oid_rules.proofs.Prefixes.{begins_goes_on, between_begins}
 

@@ -1,2 +1,2 @@
-pub mod Sorted
 pub mod Inside
+pub mod Sorted

@@ -1,7 +1,8 @@
 // Rules, sorted by their arcs.
 ghost use Rattle.std.specs.Prelude.{◌≡◌, ◌<◌, ◌≤◌, ◌==◌, ℕ, None, Some, length, option_map, List, Option, IfNone, IfOk, IfSome, IsSome, IsTrue};
 ghost use Rattle.gate_base.specs.Prelude.{is_rule, AreRules};
-ghost use Rattle.oid_rules.specs.Sorted.{before, before_at, by_rule, compared, earlier_of, with_rule, numbered, rule_at, first_begun, order_of, AllRules, AreOuter, AreSorted, AreTried, AreWithin, BeginsAt, Halves, InOrder, IsEarly, IsFound, IsLast, IsTried};
+ghost use Rattle.oid_rules.specs.Sorted.{before, by_rule, compared, first_begun, order_of};
+ghost use Rattle.oid_rules.specs.Inside.Sorted.{before_at, earlier_of, with_rule, numbered, rule_at, AllRules, AreOuter, AreSorted, AreTried, AreWithin, BeginsAt, Halves, InOrder, IsEarly, IsFound, IsLast, IsTried};
 
 use gate_base::{Addr, OidRule, OutOfMemory};
 use std::alloc::Global;
@@ -96,7 +97,7 @@ impl Model for SortedRules {
 
     ghost Value = { List OidRule };
 
-    ghost use Rattle.oid_rules.specs.Inside.{IsSorted};
+    ghost use Rattle.oid_rules.specs.Inside.Whole.{IsSorted};
 
     ghost view = { λ rules. rules.items.items };
 

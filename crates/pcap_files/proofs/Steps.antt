@@ -13,7 +13,7 @@ use Rattle.pcap_files.specs.declared.form.Form.{Form}
 use Rattle.pcap_files.specs.declared.form.Precision.{Precision}
 use Rattle.pcap_files.specs.Prelude.{Next, Ended, Broken, Came, number_at, Head, Bad, layout_at, by_layout, by_link, link_of, TakesNoRecord, Reading}
 use Rattle.pcap_files.specs.Capture.{next_at, head_of, kept_of}
-use Rattle.pcap_files.specs.Heads.{after_head, body_of}
+use Rattle.pcap_files.specs.Inside.Heads.{after_head, body_of}
 use Rattle.pcap_files.proofs.Records.{nothing_is_ended}
 
 -- a number is read of its own octets alone

@@ -2,7 +2,7 @@
 ghost use Rattle.std.specs.Prelude.{◌≡◌, ◌≤◌, length};
 ghost use Rattle.gate_desk.specs.Outside.{CanRead};
 ghost use Rattle.pcap_files.specs.Capture.{layout_at, link_of, head_of};
-ghost use Rattle.pcap_files.specs.Heads.{head_answer, TakesCaptureHead};
+ghost use Rattle.pcap_files.specs.Inside.Heads.{head_answer, TakesCaptureHead};
 ghost use Rattle.pcap_files.specs.Reader.{LeavesCounts};
 
 use crate::{CaptureFault, Form, Order, Precision, ReadStop};

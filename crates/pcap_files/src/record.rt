@@ -1,7 +1,7 @@
 // The records of a capture.
 ghost use Rattle.std.specs.Prelude.{◌≡◌, ◌^◌, ◌≤◌, length, IfSome};
 ghost use Rattle.gate_desk.specs.Outside.{CanRead};
-ghost use Rattle.pcap_files.specs.Heads.{Judges, StandsWhole, TakesHead, TakesRecord};
+ghost use Rattle.pcap_files.specs.Inside.Heads.{Judges, StandsWhole, TakesHead, TakesRecord};
 ghost use Rattle.pcap_files.specs.Reader.{LeavesCounts};
 
 use crate::{CaptureFault, Form, ReadStop};
@@ -32,8 +32,8 @@ pub struct RecordHead {
 
 /// What the head of a record says that begins at a place of a capture, or its first fault.
 #[inline(always)]
-#[tactic(auto, unfolding(crate::specs::Heads::after_head))]
-fn judge(form: Form, place: u64, head: &[u8]) -> Result<RecordHead, CaptureFault>
+#[tactic(auto, unfolding(crate::specs::Inside::Heads::after_head))]
+fn fields_of(form: Form, place: u64, head: &[u8]) -> Result<RecordHead, CaptureFault>
     requires long { length head.now ≡ 16 }
     requires small { place ≤ 2 ^ 40 }
     ensures { Judges result form place head.now }
@@ -83,7 +83,7 @@ fn read_head<D: Desk>(
     if n < RECORD_HEAD {
         return Err(ReadStop::Fault(CaptureFault::Torn, place));
     }
-    match judge(form, place, &head) {
+    match fields_of(form, place, &head) {
         Ok(fields) => Ok(Some(fields)),
         Err(fault) => Err(ReadStop::Fault(fault, place)),
     }
@@ -100,7 +100,7 @@ fn copy_record(form: Form, place: u64, octets: &[u8], buffer: &mut [u8]) -> Opti
         return None;
     }
     let (head, rest) = octets.split_at(RECORD_HEAD);
-    let Ok(fields) = judge(form, place, head) else {
+    let Ok(fields) = fields_of(form, place, head) else {
         return None;
     };
     if rest.len() < fields.kept {

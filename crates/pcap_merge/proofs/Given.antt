@@ -16,7 +16,7 @@ use Rattle.pcap_merge.specs.declared.order.Last.TheVariants.{Nothing, Event as L
 use Rattle.pcap_merge.specs.declared.stop.MergeStop.{MergeStop}
 use Rattle.pcap_merge.specs.Prelude.{is_unread, count_of_side, EndsAtTaken, TakenFor, with_records, HasRead, Readies, one_for, slot_of, Merging, merging, event_given, reading_of, HasGiven, TakesFew}
 use Rattle.pcap_merge.specs.Given.{whole_in, whole_records, EndsOn, HasTakenFew, total, one_held, IsLast}
-use Rattle.pcap_merge.specs.Sides.{ComesTo, held_size}
+use Rattle.pcap_merge.specs.Inside.Sides.{ComesTo, held_size}
 
 -- ## Records that lie whole in so many octets
 
@@ -186,7 +186,8 @@ given_more l l' r r' clock clock' last e stop start old mid new events held_left
           (HasRead (reading_of x (merging l' r' clock' (LastEvent e.side) stop)) (is_unread x (LastEvent e.side))
           (count_of_side x (events ++ e ∷ [])))) [
             | Left ↦ subst (λ (n : ℕ). IfSome (told_at start.left LeftIn) (HasRead l' (same_side e.side Left) n)) (sym (one_more Left events e)) left
-            | Right ↦ subst (λ (n : ℕ). IfSome (told_at start.left RightIn) (HasRead r' (same_side e.side Right) n)) (sym (one_more Right events e)) right
+            | Right ↦ subst (λ (n : ℕ). IfSome (told_at start.left RightIn) (HasRead r' (same_side e.side Right) n))
+                (sym (one_more Right events e)) right
           ];
       last = subst (λ (o : Option Event). IsLast o (events ++ e ∷ [])) (sym shown) (events, refl);
     }
@@ -339,7 +340,8 @@ pub left_stopped : (l r : Reading) (clock : ℕ) (last : Last) (stop : Option Me
 left_stopped l r clock last stop old new to_read h start events given side =
     elim side as (λ (x : Side). HasTakenFew x start new (count_of_side x events)) [
       | Left ↦ few_stopped Left l (is_unread Left last) (count_of_side Left events) start old new to_read h (given.stands Left) (given.before Left)
-      | Right ↦ few_still Right r (is_unread Right last) (count_of_side Right events) start new (same_right h.count old new h.takes ∙ given.stands Right)
+      | Right ↦ few_still Right r (is_unread Right last) (count_of_side Right events) start new
+          (same_right h.count old new h.takes ∙ given.stands Right)
           (given.near Right) (given.before Right)
     ]
 

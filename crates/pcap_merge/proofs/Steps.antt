@@ -18,8 +18,10 @@ use Rattle.pcap_merge.specs.declared.stop.MergeStop.{MergeStop}
 use Rattle.pcap_merge.specs.declared.stop.MergeStop.TheVariants.{Fault, Desk, OutOfMemory}
 use Rattle.pcap_merge.specs.Prelude.{is_unread, earlier, Merged, Done, Fault as EndsFaulty, Ahead, Gives, Stops, front_of, turn_of, event_at, with_event, merge_from, Readies, ReadsSide, records_ahead, IsSpent, side_work, Merging, merging, event_given, Reads, sides_ahead, ComesTo, Finishes, StopsBy, Advances}
 use Rattle.pcap_merge.specs.Events.{behind_first}
-use Rattle.pcap_merge.specs.Sides.{ReadsSides, held_before}
-use Rattle.pcap_merge.specs.Merge.{HoldsLast, IsSound, ahead}
+use Rattle.pcap_merge.specs.Sides.{held_before}
+use Rattle.pcap_merge.specs.Inside.Sides.{ReadsSides}
+use Rattle.pcap_merge.specs.Merge.{ahead}
+use Rattle.pcap_merge.specs.Inside.Merge.{HoldsLast, IsSound}
 use Rattle.pcap_merge.proofs.Merged.{merge-gives, merge-ends, merge-stops}
 use Rattle.pcap_merge.proofs.Given.{same_right, given_more, ends_taken, both_ready, left_stopped, right_stopped}
 

@@ -6,3 +6,4 @@ pub mod Given
 pub mod Merge
 pub mod Picks
 pub mod Prelude
+pub mod Inside

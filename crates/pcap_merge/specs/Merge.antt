@@ -1,19 +1,19 @@
 -- A merge of two captures, and what its calls answer.
-use Rattle.std.specs.Prelude.{◌≡◌, ℕ, ◌+◌, ◌^◌, ◌<◌, ◌≤◌, List, [], ◌∷◌, ◌++◌, Bool, true, false, Option, Some, None, Result, Ok, Err, IfSome, IsSome, option_map, drop, length}
+use Rattle.std.specs.Prelude.{◌≡◌, ℕ, ◌+◌, ◌^◌, ◌<◌, ◌≤◌, List, [], ◌∷◌, ◌++◌, Bool, true, false, Option, Some, None, Result, Ok, Err, IfSome, option_map, drop, length}
 use Rattle.gate_base.specs.Prelude.{IsMoment, Event}
 use Rattle.gate_base.specs.declared.side.Side.{Side}
 use Rattle.gate_base.specs.declared.side.Side.TheVariants.{Left, Right}
 use Rattle.gate_desk.specs.declared.slot.Slot.TheVariants.{LeftIn, RightIn}
 use Rattle.gate_desk.specs.declared.slot.PerSlot.{PerSlot}
 use Rattle.gate_desk.specs.Outside.{Outside, Trace, told_at, took, HasFailed, Grows, IsAtEnd}
-use Rattle.pcap_files.specs.Prelude.{Packet, Reading, IsSmall}
+use Rattle.pcap_files.specs.Prelude.{Reading}
 use Rattle.pcap_merge.specs.declared.order.Last.{Last}
-use Rattle.pcap_merge.specs.declared.order.Last.TheVariants.{Nothing, Event as LastEvent, End}
+use Rattle.pcap_merge.specs.declared.order.Last.TheVariants.{End}
 use Rattle.pcap_merge.specs.declared.stop.MergeStop.{MergeStop}
 use Rattle.pcap_merge.specs.declared.stop.MergeStop.TheVariants.{Fault, Desk, OutOfMemory}
 use Rattle.pcap_merge.specs.Order.{is_unread}
 use Rattle.pcap_merge.specs.Stops.{slot_of}
-use Rattle.pcap_merge.specs.Events.{Merged, Done, Fault as EndsFaulty, Ahead, merge_from, have_good_heads, events_of, event_at, with_event}
+use Rattle.pcap_merge.specs.Events.{Merged, Done, Fault as EndsFaulty, Ahead, merge_from, have_good_heads, events_of, with_event}
 use Rattle.pcap_merge.specs.Sides.{records_ahead, IsSpent, side_work}
 use Rattle.pcap_merge.specs.Given.{HasRead, IsLast, EndsAtTaken, TakenFor, count_of_side}
 
@@ -27,43 +27,10 @@ pub record Merging : Type 0 where
   pub event : Option Event
   pub stop : Option MergeStop
 
--- the event that was given last: the record that the reader of its side holds, at the greatest stamp so far
-abbrev pub event_given : Last → Reading → Reading → ℕ → Option Event
-event_given Nothing l r clock = None
-event_given (LastEvent Left) l r clock = option_map (event_at Left clock l.form.link) l.packet
-event_given (LastEvent Right) l r clock = option_map (event_at Right clock r.form.link) r.packet
-event_given End l r clock = None
-
--- a merge with these parts
-abbrev pub merging : Reading → Reading → ℕ → Last → Option MergeStop → Merging
-merging l r clock last stop = record { left = l; right = r; clock = clock; last = last; event = event_given last l r clock; stop = stop }
-
 -- the reader of a side
 abbrev pub reading_of : Side → Merging → Reading
 reading_of Left m = m.left
 reading_of Right m = m.right
-
--- after an event the reader of its side holds its record, and after the end none holds one
-abbrev pub HoldsLast : Last → Option Packet → Option Packet → Type 0
-HoldsLast Nothing l r = Unit {0}
-HoldsLast (LastEvent Left) l r = IsSome l
-HoldsLast (LastEvent Right) l r = IsSome r
-HoldsLast End l r = (l ≡ None) × (r ≡ None)
-
--- neither reader has stopped
-pub record IsRunning (l r : Reading) (last : Last) : Type 0 where
-  pub left : l.stop ≡ None
-  pub right : r.stop ≡ None
-  pub holds : HoldsLast last l.packet r.packet
-
--- what the fields of a merge keep
-pub record IsSound (l r : Reading) (clock : ℕ) (last : Last) (stop : Option MergeStop) : Type 0 where
-  pub left : l.slot ≡ LeftIn
-  pub right : r.slot ≡ RightIn
-  pub small_clock : IsMoment clock
-  pub small_left : IfSome l.packet IsSmall
-  pub small_right : IfSome r.packet IsSmall
-  pub running : stop ≡ None → IsRunning l r last
 
 -- so many octets, and nothing else, were taken from the two captures
 pub record Reads (old new : Outside) : Type 0 where

@@ -38,7 +38,8 @@ impl Drop for Merge {
 }
 
 impl Model for Merge {
-    ghost use Rattle.pcap_merge.specs.Merge.{Merging, IsSound, merging};
+    ghost use Rattle.pcap_merge.specs.Merge.{Merging};
+    ghost use Rattle.pcap_merge.specs.Inside.Merge.{IsSound, merging};
 
     ghost Value = { Merging };
 

@@ -1,6 +1,7 @@
 // Which side is read next, and which record is given next.
 ghost use Rattle.std.specs.Prelude.{◌≡◌};
-ghost use Rattle.pcap_merge.specs.Order.{is_unread, earlier};
+ghost use Rattle.pcap_merge.specs.Order.{is_unread};
+ghost use Rattle.pcap_merge.specs.Inside.Order.{earlier};
 
 use gate_base::Side;
 

@@ -1,7 +1,7 @@
 // Reading the sides of a merge.
 ghost use Rattle.std.specs.Prelude.{◌≡◌, None};
 ghost use Rattle.gate_desk.specs.Outside.{CanRead};
-ghost use Rattle.pcap_merge.specs.Sides.{ReadsSide, ReadsSides};
+ghost use Rattle.pcap_merge.specs.Inside.Sides.{ReadsSide, ReadsSides};
 ghost use Rattle.pcap_merge.specs.Stops.{LeavesCounts, slot_of};
 
 use crate::MergeStop;
@@ -53,8 +53,6 @@ pub fn read_sides<D: Desk>(
         (D.outside desk.old) (D.outside desk.new) }
     ensures leaves { LeavesCounts result (D.outside desk.old) (D.outside desk.new) }
 {
-    match read_side(desk, Side::Left, is_unread(Side::Left, last), left) {
-        Ok(()) => read_side(desk, Side::Right, is_unread(Side::Right, last), right),
-        Err(stop) => Err(stop),
-    }
+    read_side(desk, Side::Left, is_unread(Side::Left, last), left)?;
+    read_side(desk, Side::Right, is_unread(Side::Right, last), right)
 }

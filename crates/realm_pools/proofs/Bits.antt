@@ -6,7 +6,7 @@ use Rattle.std.proofs.lemmas.Bool.Decides.{eqb_tells}
 use Rattle.std.proofs.lemmas.List.{get_or-set_same, get_or-set_other, length-set, get_or_past, take_at}
 use Rattle.std.proofs.lemmas.Nat.{shr-shr, shr_le}
 use Rattle.std.proofs.lemmas.Nat.Bits.{bit_at-zero, bit_at_above, bit_at-trailing_zeros, bit_at_set_same, bit_at_set_other, bit_at_clear_same, bit_at_clear_other}
-use Rattle.realm_pools.specs.Places.{one_if, bit_of, any_bit, any_in, with_bit, with_place, IsFirst, IsFirstBefore, IsSet, AreLevels}
+use Rattle.realm_pools.specs.Inside.Places.{one_if, bit_of, any_bit, any_in, with_bit, with_place, IsFirst, IsFirstBefore, IsSet, AreLevels}
 
 -- ## One word
 

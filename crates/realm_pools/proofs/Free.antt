@@ -6,7 +6,7 @@ use Rattle.std.proofs.lemmas.List.Quantifiers.{position-Some}
 use Rattle.std.proofs.lemmas.List.Sums.{fails_before_first, passes_at_first, position_or_len_is, prefix_len-le-length}
 use Rattle.std.proofs.lemmas.Bool.{lt-ltb, le-ltb, cases_Bool, cases_lt, false≢true, not-false, and_parts, and_from, not-true, not_from_false, not_from_true, leb-true, le-leb, ltb-false}
 use Rattle.gate_base.specs.declared.address.Addr.{Addr}
-use Rattle.realm_pools.specs.Places.{bit_of, one_if, IsFirst}
+use Rattle.realm_pools.specs.Inside.Places.{bit_of, one_if, IsFirst}
 use Rattle.realm_pools.specs.Addresses.{Range, Addresses, is_in, is_free, free_from, place_of, IsLeastFree, IsNoneFree}
 
 abbrev address_of : ℕ → Addr

@@ -1,6 +1,6 @@
 // Places, of which the first from any place on is found at a constant cost.
 ghost use Rattle.std.specs.Prelude.{ℕ, ◌≡◌, ◌*◌, ◌<◌, ◌≤◌, nat_lt, length, IfOk};
-ghost use Rattle.realm_pools.specs.Places.{bit_of, one_if, IsFirst, IsSet};
+ghost use Rattle.realm_pools.specs.Inside.Places.{bit_of, one_if, IsFirst, IsSet};
 
 use crate::words::{first_bit, set_bit};
 use gate_base::OutOfMemory;
@@ -23,7 +23,7 @@ impl Model for Places {
 
     ghost Value = { List ℕ };
 
-    ghost use Rattle.realm_pools.specs.Places.{AreLevels};
+    ghost use Rattle.realm_pools.specs.Inside.Places.{AreLevels};
 
     ghost view = { λ levels. levels.places.items };
 

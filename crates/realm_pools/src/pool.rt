@@ -24,7 +24,7 @@ impl Model for Pool {
 
     ghost Value = { Addresses };
 
-    ghost use Rattle.realm_pools.specs.Inside.{addresses_of, IsWhole};
+    ghost use Rattle.realm_pools.specs.Inside.Whole.{addresses_of, IsWhole};
 
     ghost view = { addresses_of };
 

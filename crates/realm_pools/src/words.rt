@@ -1,6 +1,6 @@
 // Bits of words, numbered from the first word's lowest on.
 ghost use Rattle.std.specs.Prelude.{◌≡◌, ◌+◌, ◌*◌, ◌/◌, ◌<◌, ◌≤◌, length};
-ghost use Rattle.realm_pools.specs.Places.{bit_of, any_in, with_bit, with_place, IsFirst, IsFirstBefore, IsSet};
+ghost use Rattle.realm_pools.specs.Inside.Places.{bit_of, any_in, with_bit, with_place, IsFirst, IsFirstBefore, IsSet};
 
 /// The first bit from one on that is 1, where the first word behind its own that isn't 0 is given.
 pub(crate) fn first_bit(words: &[u64], from: usize, next_word: Option<usize>) -> Option<usize>

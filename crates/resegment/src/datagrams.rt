@@ -8,13 +8,14 @@ use gate_base::OutOfMemory;
 use std::alloc::Global;
 use std::marker::Model;
 
-/// The octets, and the datagrams, that one event gives at most.
+/// How many octets there is room for.
 const OCTETS: usize = 524_288;
 
+/// The most datagrams that one event gives.
 const DATAGRAMS: usize = 4_096;
 
-/// The datagrams that go out at an event, one behind the other, with the room for all that an event gives. Who writes a field
-/// proves that they are.
+/// The datagrams that go out at an event, one behind the other: at most 4,096 with at most 524,288 octets, and room for these. Code that
+/// writes a field proves the invariant again.
 pub struct Datagrams {
     /// The octets of all datagrams.
     pub octets: Vec<u8>,
@@ -69,7 +70,7 @@ impl Datagrams {
         &self.octets[start as usize..self.ends[place] as usize]
     }
 
-    /// All datagrams go.
+    /// Drops all datagrams.
     #[inline(always)]
     pub fn clear(&mut self)
         ensures { self.new ≡ [] }

@@ -38,12 +38,14 @@ pub at_told : {A : Type 0} (t : Option A) (x : A) (P : A → Type 0) → t ≡ S
 at_told t x P e h = subst (λ (o : Option _). IfSome o P) e h
 
 -- what holds as both heads are good or not
-pub told_heads : (P : Bool → Type 0) (good : Bool) (t : Trace) → HeadsAre good t → P good → IfSome t (λ all. P (have_good_heads all.left_in all.right_in))
+pub told_heads : (P : Bool → Type 0) (good : Bool) (t : Trace) → HeadsAre good t → P good
+    → IfSome t (λ all. P (have_good_heads all.left_in all.right_in))
 told_heads P good None h p = tt
 told_heads P good (Some all) h p = subst P (sym h) p
 
 -- accepted settings have no fault, and refused ones have one
-pub no_fault : (all : PerSlot (List ℕ)) (settings : GateSettings) (fault : SettingsFault) → IsAccepted settings all → settings_of all.settings ≡ Err fault → ⊥
+pub no_fault : (all : PerSlot (List ℕ)) (settings : GateSettings) (fault : SettingsFault) → IsAccepted settings all
+    → settings_of all.settings ≡ Err fault → ⊥
 no_fault all settings fault a b = cc
 
 pub same_fault : (f g : SettingsFault) (all : PerSlot (List ℕ)) → settings_of all.settings ≡ Err f → settings_of all.settings ≡ Err g → f ≡ g
@@ -53,7 +55,8 @@ same_fault f g all a b = cc
 pub no_end : (e : Ending) (side : Side) (fault : CaptureFault) (place : ℕ) → e ≡ BothEnded → e ≡ EndsFaulty side fault place → ⊥
 no_end e side fault place a b = cc
 
-pub same_end : (e : Ending) (s t : Side) (f g : CaptureFault) (n m : ℕ) → e ≡ EndsFaulty s f n → e ≡ EndsFaulty t g m → CaptureRefused s f n ≡ CaptureRefused t g m
+pub same_end : (e : Ending) (s t : Side) (f g : CaptureFault) (n m : ℕ) → e ≡ EndsFaulty s f n → e ≡ EndsFaulty t g m
+    → CaptureRefused s f n ≡ CaptureRefused t g m
 same_end e s t f g n m a b = cc
 
 too_long : (octets : List ℕ) → 1048576 < length octets → settings_of octets ≡ Err TooLong
@@ -70,20 +73,24 @@ settings_of-take all =
       | inr short ↦ ap settings_of (take_all 1048577 all (omega (arith, ltb-false _ _ short)))
     ]
 
-told_settings-of : (told : Trace) (text : List ℕ) (found : Result GateSettings SettingsFault) → settings_of text ≡ found → IfSome (told_at told Settings) (λ all. text ≡ take 1048577 all) → IfSome told (λ all. settings_of all.settings ≡ found)
+told_settings-of : (told : Trace) (text : List ℕ) (found : Result GateSettings SettingsFault) → settings_of text ≡ found
+    → IfSome (told_at told Settings) (λ all. text ≡ take 1048577 all) → IfSome told (λ all. settings_of all.settings ≡ found)
 unfolding told_at
 told_settings-of None text found e h = tt
 told_settings-of (Some p) text found e h = sym (settings_of-take p.settings) ∙ ap settings_of (sym h) ∙ e
 
-told_settings : (text : List ℕ) (found : Result GateSettings SettingsFault) (xs : List Start) (a b : Outside) → StartsAll xs a b → AreUpTo 1048577 text b Settings → settings_of text ≡ found → IfSome a.left (λ all. settings_of all.settings ≡ found)
-told_settings text found xs a b h are e = told_settings-of a.left text found e (subst (λ (t : Trace). IfSome (told_at t Settings) (λ all. text ≡ take 1048577 all)) h.left are)
+told_settings : (text : List ℕ) (found : Result GateSettings SettingsFault) (xs : List Start) (a b : Outside) → StartsAll xs a b
+    → AreUpTo 1048577 text b Settings → settings_of text ≡ found → IfSome a.left (λ all. settings_of all.settings ≡ found)
+told_settings text found xs a b h are e =
+    told_settings-of a.left text found e (subst (λ (t : Trace). IfSome (told_at t Settings) (λ all. text ≡ take 1048577 all)) h.left are)
 
 abbrev pub status_of_read : Result GateSettings ReadSettings → Result GateSettings Status
 status_of_read (Ok s) = Ok s
 status_of_read (Err e) = Err (status_of_settings e)
 
 -- the settings were taken from their slot
-pub settles : (r : Result GateSettings ReadSettings) (text : List ℕ) (xs : List Start) (a b c : Outside) → StartsAll xs a b → Takes Settings (length text) b c → AreUpTo 1048577 text b Settings → ReturnsFound r (settings_of text)
+pub settles : (r : Result GateSettings ReadSettings) (text : List ℕ) (xs : List Start) (a b c : Outside) → StartsAll xs a b
+    → Takes Settings (length text) b c → AreUpTo 1048577 text b Settings → ReturnsFound r (settings_of text)
     → c.faults ≡ b.faults → IfOk r IsSound → IfOk r HasForms → Settles (status_of_read r) xs a c
 settles (Ok s) text xs a b c h t are e leaves sound forms = record {
   accepted = told_settings text (Ok s) xs a b h are e;
@@ -104,10 +111,17 @@ settles (Err (reads.Fault f)) text xs a b c h t are e leaves sound forms = (
   none_failed_on a b c h.counts (record { faults = leaves; start_faults = t.start_faults }),
 )
 settles (Err reads.OutOfMemory) text xs a b c h t are e leaves sound forms =
-    record { cause = tt; started = t.starts ∙ h.starts; written = t.written ∙ h.written; grows = grows_on a b c h.grows (grows_takes Settings (length text) b c t) }
+    record {
+      cause = tt;
+      started = t.starts ∙ h.starts;
+      written = t.written ∙ h.written;
+      grows =
+          grows_on a b c h.grows (grows_takes Settings (length text) b c t);
+    }
 
 -- the settings could not be taken
-pub settle_stops : (stop : TakeStop) (xs : List Start) (k : ℕ) (a b c : Outside) → StartsAll xs a b → TakesFewer Settings k b c → HasStopped stop Settings b c → EndsAtSettings (status_of_take stop) xs a c
+pub settle_stops : (stop : TakeStop) (xs : List Start) (k : ℕ) (a b c : Outside) → StartsAll xs a b → TakesFewer Settings k b c
+    → HasStopped stop Settings b c → EndsAtSettings (status_of_take stop) xs a c
 settle_stops (takes.Desk s) xs k a b c h t stop = (
   stop.0,
   subst (λ u. Stops (ReadFault u) xs a c) (sym stop.0) (record {
@@ -118,7 +132,13 @@ settle_stops (takes.Desk s) xs k a b c h t stop = (
   }),
 )
 settle_stops takes.OutOfMemory xs k a b c h t stop =
-    record { cause = tt; started = t.2.starts ∙ h.starts; written = t.2.written ∙ h.written; grows = grows_on a b c h.grows (grows_takes Settings t.0 b c t.2) }
+    record {
+      cause = tt;
+      started = t.2.starts ∙ h.starts;
+      written = t.2.written ∙ h.written;
+      grows =
+          grows_on a b c h.grows (grows_takes Settings t.0 b c t.2);
+    }
 
 -- the settings could not be started
 pub at_settings : (e : Status) (xs : List Start) (a b : Outside) → Opens (Err e) xs a b → EndsAtSettings e xs a b
@@ -126,11 +146,14 @@ at_settings (OpenFault s) xs a b h = h
 at_settings e xs a b h = absurd h
 
 -- the same events were given since an earlier start that told the same of the captures
-pub given_since : (start earlier : Outside) (m : Merging) (now : Outside) (events : List Event) → ((side : Side) → told_at start.left (slot_of side) ≡ told_at earlier.left (slot_of side)) → HasGiven start m now events → HasGiven earlier m now events
+pub given_since : (start earlier : Outside) (m : Merging) (now : Outside) (events : List Event)
+    → ((side : Side) → told_at start.left (slot_of side) ≡ told_at earlier.left (slot_of side)) → HasGiven start m now events
+    → HasGiven earlier m now events
 given_since start earlier m now events same h = record {
   stands = λ side. h.stands side ∙ ap (option_map (drop (reading_of side m).place)) (same side);
   near = h.near;
-  before = λ side. subst (λ t. IfSome t (HasRead (reading_of side m) (is_unread side m.last) (count_of_side side events))) (same side) (h.before side);
+  before =
+      λ side. subst (λ t. IfSome t (HasRead (reading_of side m) (is_unread side m.last) (count_of_side side events))) (same side) (h.before side);
   last = h.last;
 }
 
@@ -163,13 +186,15 @@ before_head : (side : Side) (a b c : Outside) → b.left ≡ a.left → (reads :
 before_head Left a b c e reads few = (
   reads.left_count,
   few,
-  ap (λ (t : Trace). told_at t LeftIn) reads.left ∙ told_at-took_other RightIn LeftIn reads.right_count (took LeftIn reads.left_count b.left) refl ∙ told_at-took LeftIn reads.left_count b.left
+  ap (λ (t : Trace). told_at t LeftIn) reads.left ∙ told_at-took_other RightIn LeftIn reads.right_count (took LeftIn reads.left_count b.left) refl
+      ∙ told_at-took LeftIn reads.left_count b.left
       ∙ ap (λ (t : Trace). option_map (drop reads.left_count) (told_at t LeftIn)) e,
 )
 before_head Right a b c e reads few = (
   reads.right_count,
   few,
-  ap (λ (t : Trace). told_at t RightIn) reads.left ∙ told_at-took RightIn reads.right_count (took LeftIn reads.left_count b.left) ∙ ap (option_map (drop reads.right_count)) (told_at-took_other LeftIn RightIn reads.left_count b.left refl)
+  ap (λ (t : Trace). told_at t RightIn) reads.left ∙ told_at-took RightIn reads.right_count (took LeftIn reads.left_count b.left)
+      ∙ ap (option_map (drop reads.right_count)) (told_at-took_other LeftIn RightIn reads.left_count b.left refl)
       ∙ ap (λ (t : Trace). option_map (drop reads.right_count) (told_at t RightIn)) e,
 )
 
@@ -177,9 +202,11 @@ pub is_read_side : (side : Side) → IsTrue (is_read (slot_of side))
 is_read_side Left = refl
 is_read_side Right = refl
 
-pub begin_stops : (stop : MergeStop) (xs : List Start) (a b c : Outside) → StartsAll xs a b → Begins (Err stop) b c → StopLeavesCounts stop b c → EndsAtHeads (status_of_merge stop) xs a c
+pub begin_stops : (stop : MergeStop) (xs : List Start) (a b c : Outside) → StartsAll xs a b → Begins (Err stop) b c → StopLeavesCounts stop b c
+    → EndsAtHeads (status_of_merge stop) xs a c
 begin_stops (merges.Fault side f place) xs a b c h k leaves = (
-  subst (λ t. IfSome (all_events t) (λ all. all.ending ≡ EndsFaulty side f place)) h.left (IfSome_then (all_events b.left) k.1 (λ all e. ap (λ (x : Merged). x.ending) e)),
+  subst (λ t. IfSome (all_events t) (λ all. all.ending ≡ EndsFaulty side f place)) h.left
+      (IfSome_then (all_events b.left) k.1 (λ all e. ap (λ (x : Merged). x.ending) e)),
   k.0.starts ∙ h.starts,
   k.0.written ∙ h.written,
   grows_on a b c h.grows k.0.grows,
@@ -209,15 +236,18 @@ unfolding took
 heads_are-took_settings good n None h = tt
 heads_are-took_settings good n (Some p) h = h
 
-pub heads_before : (good : Bool) (settings : GateSettings) (xs : List Start) (a b : Outside) → Settled settings xs a b → HeadsAre good b.left → HeadsAre good a.left
+pub heads_before : (good : Bool) (settings : GateSettings) (xs : List Start) (a b : Outside) → Settled settings xs a b → HeadsAre good b.left
+    → HeadsAre good a.left
 heads_before good settings xs a b h k = heads_are-took_settings good h.count a.left (subst (HeadsAre good) h.left k)
 
-pub both : (t : Trace) (settings : GateSettings) (P : GateSettings → Merged → Type 0) → IfSome t (IsAccepted settings) → IfSome (all_events t) (P settings) → IfSome t (λ all. (s : GateSettings) × IsAccepted s all × P s (events_in all))
+pub both : (t : Trace) (settings : GateSettings) (P : GateSettings → Merged → Type 0) → IfSome t (IsAccepted settings)
+    → IfSome (all_events t) (P settings) → IfSome t (λ all. (s : GateSettings) × IsAccepted s all × P s (events_in all))
 unfolding all_events
 both None settings P h k = tt
 both (Some p) settings P h k = (settings, h, k)
 
-pub accepted_and : (settings : GateSettings) (xs : List Start) (a b : Outside) (P : Merged → Type 0) → Settled settings xs a b → IfSome (all_events b.left) P → IfSome a.left (λ all. (s : GateSettings) × IsAccepted s all × P (events_in all))
+pub accepted_and : (settings : GateSettings) (xs : List Start) (a b : Outside) (P : Merged → Type 0) → Settled settings xs a b
+    → IfSome (all_events b.left) P → IfSome a.left (λ all. (s : GateSettings) × IsAccepted s all × P (events_in all))
 accepted_and settings xs a b P h k =
     both a.left settings (λ s. P) h.accepted (subst (λ o. IfSome o P) (ap all_events h.left ∙ all_events-took_settings h.count a.left) k)
 
@@ -226,11 +256,15 @@ pub told_before : (side : Side) (n : ℕ) (t : Trace) → told_at (took Settings
 told_before Left n t = told_at-took_other Settings LeftIn n t refl
 told_before Right n t = told_at-took_other Settings RightIn n t refl
 
-pub before_head_since : (s : Slot) (settings : GateSettings) (xs : List Start) (a b c : Outside) → IsTrue (is_read s) → Settled settings xs a b → IsBeforeHead s b c → IsBeforeHead s a c
+pub before_head_since : (s : Slot) (settings : GateSettings) (xs : List Start) (a b c : Outside) → IsTrue (is_read s) → Settled settings xs a b
+    → IsBeforeHead s b c → IsBeforeHead s a c
 before_head_since Settings settings xs a b c is h k = tt
-before_head_since LeftIn settings xs a b c is h k = (k.0, k.1, k.2 ∙ ap (option_map (drop k.0)) (ap (λ (t : Trace). told_at t LeftIn) h.left ∙ told_before Left h.count a.left))
-before_head_since RightIn settings xs a b c is h k = (k.0, k.1, k.2 ∙ ap (option_map (drop k.0)) (ap (λ (t : Trace). told_at t RightIn) h.left ∙ told_before Right h.count a.left))
+before_head_since LeftIn settings xs a b c is h k =
+    (k.0, k.1, k.2 ∙ ap (option_map (drop k.0)) (ap (λ (t : Trace). told_at t LeftIn) h.left ∙ told_before Left h.count a.left))
+before_head_since RightIn settings xs a b c is h k =
+    (k.0, k.1, k.2 ∙ ap (option_map (drop k.0)) (ap (λ (t : Trace). told_at t RightIn) h.left ∙ told_before Right h.count a.left))
 before_head_since s settings xs a b c is h k = absurd (false≢true is)
 
-pub settled_stops : (e : Status) (settings : GateSettings) (xs ys : List Start) (a b c : Outside) → Settled settings xs a b → Stops e ys b c → Stops e (xs ++ ys) a c
+pub settled_stops : (e : Status) (settings : GateSettings) (xs ys : List Start) (a b c : Outside) → Settled settings xs a b → Stops e ys b c
+    → Stops e (xs ++ ys) a c
 settled_stops e settings xs ys a b c h k = stops_on e xs ys a b c h.starts h.written h.grows k

@@ -28,7 +28,8 @@ unfolding started_all
 no_start None = refl
 no_start (Some xs) = ap Some (append-nil xs)
 
-one_start : (s : Slot) (name : List ℕ) (access : Access) (o : Option (List Start)) → started s name access o ≡ started_all ((record { slot = s; name = name; access = access }) ∷ []) o
+one_start : (s : Slot) (name : List ℕ) (access : Access) (o : Option (List Start))
+    → started s name access o ≡ started_all ((record { slot = s; name = name; access = access }) ∷ []) o
 unfolding started started_all
 one_start s name access o = refl
 
@@ -37,7 +38,8 @@ unfolding started_all
 more_starts xs ys None = refl
 more_starts xs ys (Some zs) = ap Some (append_assoc zs xs ys)
 
-pub opens_one : (s : Slot) (name : List ℕ) (access : Access) (a b : Outside) → Starts s name access a b → b.start_faults ≡ a.start_faults → StartsAll ((record { slot = s; name = name; access = access }) ∷ []) a b
+pub opens_one : (s : Slot) (name : List ℕ) (access : Access) (a b : Outside) → Starts s name access a b → b.start_faults ≡ a.start_faults
+    → StartsAll ((record { slot = s; name = name; access = access }) ∷ []) a b
 opens_one s name access a b h leaves = record {
   starts = h.starts ∙ one_start s name access a.starts;
   left = h.left;
@@ -46,10 +48,20 @@ opens_one s name access a b h leaves = record {
   counts = record { faults = h.faults; start_faults = leaves };
 }
 
-pub open_fails : (s : Slot) (name : List ℕ) (access : Access) (a b : Outside) → IsTrue (is_started s) → FailsToStart s a b → Opens (Err (OpenFault s)) ((record { slot = s; name = name; access = access }) ∷ []) a b
+pub open_fails : (s : Slot) (name : List ℕ) (access : Access) (a b : Outside) → IsTrue (is_started s) → FailsToStart s a b
+    → Opens (Err (OpenFault s)) ((record { slot = s; name = name; access = access }) ∷ []) a b
 open_fails s name access a b is h = record {
   cause = (is, h.cause);
-  started = record { front = []; start = record { slot = s; name = name; access = access }; others = []; split = refl; slot_is = refl; starts = h.starts ∙ sym (no_start a.starts) };
+  started =
+      record {
+        front = [];
+        start = record { slot = s; name = name; access = access };
+        others = [];
+        split = refl;
+        slot_is = refl;
+        starts = h.starts
+            ∙ sym (no_start a.starts);
+      };
   written = h.written;
   grows = grows_fails_to_start s a b h;
 }
@@ -66,7 +78,8 @@ before_more s xs ys a b h = record {
 }
 
 -- and where others came before
-pub before_on : (s : Slot) (xs ys : List Start) (a b c : Outside) → b.starts ≡ started_all xs a.starts → StartsBefore s ys b c → StartsBefore s (xs ++ ys) a c
+pub before_on : (s : Slot) (xs ys : List Start) (a b c : Outside) → b.starts ≡ started_all xs a.starts → StartsBefore s ys b c
+    → StartsBefore s (xs ++ ys) a c
 before_on s xs ys a b c e h = record {
   front = xs ++ h.front;
   start = h.start;
@@ -76,10 +89,12 @@ before_on s xs ys a b c e h = record {
   starts = h.starts ∙ ap (started_all h.front) e ∙ more_starts xs h.front a.starts;
 }
 
-pub all_on : (xs ys : List Start) (a b c : Outside) → b.starts ≡ started_all xs a.starts → c.starts ≡ started_all ys b.starts → c.starts ≡ started_all (xs ++ ys) a.starts
+pub all_on : (xs ys : List Start) (a b c : Outside) → b.starts ≡ started_all xs a.starts → c.starts ≡ started_all ys b.starts
+    → c.starts ≡ started_all (xs ++ ys) a.starts
 all_on xs ys a b c e k = k ∙ ap (started_all ys) e ∙ more_starts xs ys a.starts
 
-started_on : (e : Status) (xs ys : List Start) (a b c : Outside) → b.starts ≡ started_all xs a.starts → StartedBy e ys b c → StartedBy e (xs ++ ys) a c
+started_on : (e : Status) (xs ys : List Start) (a b c : Outside) → b.starts ≡ started_all xs a.starts → StartedBy e ys b c
+    → StartedBy e (xs ++ ys) a c
 started_on (OpenFault s) xs ys a b c e k = before_on s xs ys a b c e k
 started_on status xs ys a b c e k = all_on xs ys a b c e k
 
@@ -87,7 +102,8 @@ pub opens_more : (e : Status) (xs ys : List Start) (a b : Outside) → Opens (Er
 opens_more (OpenFault s) xs ys a b h = record { cause = h.cause; started = before_more s xs ys a b h.started; written = h.written; grows = h.grows }
 opens_more e xs ys a b h = h
 
-pub stops_on : (e : Status) (xs ys : List Start) (a b c : Outside) → b.starts ≡ started_all xs a.starts → b.written ≡ a.written → Grows a b → Stops e ys b c → Stops e (xs ++ ys) a c
+pub stops_on : (e : Status) (xs ys : List Start) (a b c : Outside) → b.starts ≡ started_all xs a.starts → b.written ≡ a.written → Grows a b
+    → Stops e ys b c → Stops e (xs ++ ys) a c
 stops_on e xs ys a b c starts written grows h = record {
   cause = causes_since e a b c grows h.cause;
   started = started_on e xs ys a b c starts h.started;
@@ -117,4 +133,5 @@ access-after slot access news (Some olds) h = fold-append _ None olds news ∙ h
 pub access_of : (slot : Slot) (access : Access) (news : List Start) (a b : Outside) → b.starts ≡ started_all news a.starts
     → ((w : Option Access) → fold (λ (x : Option Access) (s : Start). if same_slot s.slot slot then Some s.access else x) w news ≡ Some access)
     → IfSome b.starts (λ starts. last_access slot starts ≡ Some access)
-access_of slot access news a b e h = subst (λ o. IfSome o (λ starts. last_access slot starts ≡ Some access)) (sym e) (access-after slot access news a.starts h)
+access_of slot access news a b e h =
+    subst (λ o. IfSome o (λ starts. last_access slot starts ≡ Some access)) (sym e) (access-after slot access news a.starts h)

@@ -18,12 +18,14 @@ pub settings_taken : (n : ℕ) (a b c : Outside) → b.left ≡ a.left → Takes
 settings_taken n a b c e t few = (n, few, t.left ∙ ap (took Settings n) e)
 
 -- where they are told, a text of them is no longer than they may be and one octet, and else any count will do
-text_taken : (most : ℕ) (text : List ℕ) (t : Trace) → IfSome (told_at t Settings) (λ all. text ≡ take most all) → (count : ℕ) × (count ≤ most) × (took Settings (length text) t ≡ took Settings count t)
+text_taken : (most : ℕ) (text : List ℕ) (t : Trace) → IfSome (told_at t Settings) (λ all. text ≡ take most all) → (count : ℕ) × (count ≤ most)
+    × (took Settings (length text) t ≡ took Settings count t)
 unfolding told_at took
 text_taken most text None h = (0, omega arith, refl)
 text_taken most text (Some p) h = (length text, omega (arith, ap (λ (xs : List ℕ). length xs) h, length-take most p.settings), refl)
 
-pub settings_text : (text : List ℕ) (a b c : Outside) → b.left ≡ a.left → Takes Settings (length text) b c → AreUpTo 1048577 text b Settings → TookSettings a c
+pub settings_text : (text : List ℕ) (a b c : Outside) → b.left ≡ a.left → Takes Settings (length text) b c → AreUpTo 1048577 text b Settings
+    → TookSettings a c
 settings_text text a b c e t up_to =
     let taken = text_taken 1048577 text b.left up_to in
     (taken.0, taken.1, t.left ∙ taken.2 ∙ ap (took Settings taken.0) e)
@@ -33,7 +35,8 @@ settings_text text a b c e t up_to =
 pub captures_none : (a b : Outside) → b.left ≡ a.left → TookCaptures a b
 captures_none a b e = record { left_count = 0; right_count = 0; left = e ∙ sym (took-none RightIn (took LeftIn 0 a.left) ∙ took-none LeftIn a.left) }
 
-captures_more : (l r l' r' : ℕ) (t : Trace) → took RightIn r' (took LeftIn l' (took RightIn r (took LeftIn l t))) ≡ took RightIn (r + r') (took LeftIn (l + l') t)
+captures_more : (l r l' r' : ℕ) (t : Trace)
+    → took RightIn r' (took LeftIn l' (took RightIn r (took LeftIn l t))) ≡ took RightIn (r + r') (took LeftIn (l + l') t)
 unfolding took
 captures_more l r l' r' None = refl
 captures_more l r l' r' (Some p) = ap Some (rw (drop-drop l' l p.left_in, drop-drop r' r p.right_in) refl)
@@ -42,7 +45,8 @@ pub captures_read : (a b c : Outside) → TookCaptures a b → Reads b c → Too
 captures_read a b c h k = record {
   left_count = h.left_count + k.left_count;
   right_count = h.right_count + k.right_count;
-  left = k.left ∙ ap (λ (t : Trace). took RightIn k.right_count (took LeftIn k.left_count t)) h.left ∙ captures_more h.left_count h.right_count k.left_count k.right_count a.left;
+  left = k.left ∙ ap (λ (t : Trace). took RightIn k.right_count (took LeftIn k.left_count t)) h.left
+      ∙ captures_more h.left_count h.right_count k.left_count k.right_count a.left;
 }
 
 -- nothing was read any more
@@ -76,7 +80,8 @@ inputs_on a b c h k = record {
   few = h.few;
   left_count = h.left_count + k.left_count;
   right_count = h.right_count + k.right_count;
-  left = k.left ∙ ap (λ (t : Trace). took RightIn k.right_count (took LeftIn k.left_count t)) h.left ∙ captures_more h.left_count h.right_count k.left_count k.right_count (took Settings h.settings_count a.left);
+  left = k.left ∙ ap (λ (t : Trace). took RightIn k.right_count (took LeftIn k.left_count t)) h.left
+      ∙ captures_more h.left_count h.right_count k.left_count k.right_count (took Settings h.settings_count a.left);
 }
 
 -- the settings, and then both captures
@@ -84,4 +89,5 @@ pub inputs_both : (a b c : Outside) → TookSettings a b → TookCaptures b c �
 inputs_both a b c h k = inputs_on a b c (inputs_settings a b h) k
 
 pub inputs_later : (a b c : Outside) → c.left ≡ b.left → TookInputs a b → TookInputs a c
-inputs_later a b c e h = record { settings_count = h.settings_count; few = h.few; left_count = h.left_count; right_count = h.right_count; left = e ∙ h.left }
+inputs_later a b c e h =
+    record { settings_count = h.settings_count; few = h.few; left_count = h.left_count; right_count = h.right_count; left = e ∙ h.left }

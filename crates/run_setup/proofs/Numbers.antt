@@ -13,11 +13,13 @@ pub other_octet : (limit number x : ℕ) (xs : List ℕ) → number_of (x ∷ []
 unfolding number_behind number_of
 other_octet limit number x xs e = rw e refl
 
-pub above_limit : (limit number x digit : ℕ) (xs : List ℕ) → number_of (x ∷ []) ≡ Some digit → nat_le (10 * number + digit) limit ≡ false → number_behind limit number (x ∷ xs) ≡ None
+pub above_limit : (limit number x digit : ℕ) (xs : List ℕ) → number_of (x ∷ []) ≡ Some digit → nat_le (10 * number + digit) limit ≡ false
+    → number_behind limit number (x ∷ xs) ≡ None
 unfolding number_behind number_of
 above_limit limit number x digit xs e more = rw e (rw more refl)
 
-pub one_digit : (limit number x digit : ℕ) (xs : List ℕ) → number_of (x ∷ []) ≡ Some digit → nat_le (10 * number + digit) limit ≡ true → number_behind limit number (x ∷ xs) ≡ number_behind limit (10 * number + digit) xs
+pub one_digit : (limit number x digit : ℕ) (xs : List ℕ) → number_of (x ∷ []) ≡ Some digit → nat_le (10 * number + digit) limit ≡ true
+    → number_behind limit number (x ∷ xs) ≡ number_behind limit (10 * number + digit) xs
 unfolding number_behind number_of
 one_digit limit number x digit xs e fits = rw e (rw fits refl)
 

@@ -16,7 +16,9 @@ kept_left a b e = taken_none a b (λ side. ap (λ (t : Trace). told_at t (slot_o
 
 -- the settings alone were read
 pub settings_only : (n : ℕ) (a b c : Outside) → b.left ≡ a.left → Takes Settings n b c → TakenFor [] a c
-settings_only n a b c e t = taken_none a c (λ side. ap (λ (u : Trace). told_at u (slot_of side)) t.left ∙ told_before side n b.left ∙ ap (λ (u : Trace). told_at u (slot_of side)) e)
+settings_only n a b c e t =
+    taken_none a c
+    (λ side. ap (λ (u : Trace). told_at u (slot_of side)) t.left ∙ told_before side n b.left ∙ ap (λ (u : Trace). told_at u (slot_of side)) e)
 
 -- a head could not be read
 pub not_begun_few : (stop : MergeStop) (a b c : Outside) → b.left ≡ a.left → Begins (Err stop) b c → TakenFor [] a c
@@ -26,4 +28,5 @@ not_begun_few merges.OutOfMemory a b c e k = taken_since b a c [] (λ side. ap (
 
 -- the same behind the settings
 pub settled_few : (settings : GateSettings) (xs : List Start) (a b c : Outside) → Settled settings xs a b → TakenFor [] b c → TakenFor [] a c
-settled_few settings xs a b c h k = taken_since b a c [] (λ side. ap (λ (t : Trace). told_at t (slot_of side)) h.left ∙ told_before side h.count a.left) k
+settled_few settings xs a b c h k =
+    taken_since b a c [] (λ side. ap (λ (t : Trace). told_at t (slot_of side)) h.left ∙ told_before side h.count a.left) k

@@ -67,7 +67,8 @@ pub record Settled (settings : GateSettings) (appended : List Start) (old new : 
 -- the settings could not be read, or were refused
 abbrev pub EndsAtSettings : Status → List Start → Outside → Outside → Type 0
 EndsAtSettings (SettingsRefused fault) starts old new =
-    IfSome old.left (λ all. settings_of all.settings ≡ Err fault) × (new.starts ≡ started_all starts old.starts) × (new.written ≡ old.written) × Grows old new × NoneFailed old new
+    IfSome old.left (λ all. settings_of all.settings ≡ Err fault) × (new.starts ≡ started_all starts old.starts) × (new.written ≡ old.written)
+    × Grows old new × NoneFailed old new
 EndsAtSettings (ReadFault slot) starts old new = (slot ≡ Settings) × Stops (ReadFault slot) starts old new
 EndsAtSettings (OpenFault slot) starts old new = Stops (OpenFault slot) starts old new
 EndsAtSettings OutOfMemory starts old new = Stops OutOfMemory starts old new
@@ -97,8 +98,10 @@ pub record Begun (m : Merging) (appended : List Start) (old new : Outside) : Typ
 -- the captures could not be started, or their heads not be read, or one is faulty
 abbrev pub EndsAtHeads : Status → List Start → Outside → Outside → Type 0
 EndsAtHeads (CaptureRefused side fault place) starts old new =
-    IfSome (all_events old.left) (λ all. all.ending ≡ EndsFaulty side fault place) × (new.starts ≡ started_all starts old.starts) × (new.written ≡ old.written) × Grows old new × HeadsAre false old.left × NoneFailed old new
-EndsAtHeads (ReadFault slot) starts old new = (side : Side) × (slot ≡ slot_of side) × Stops (ReadFault slot) starts old new × IsBeforeHead slot old new
+    IfSome (all_events old.left) (λ all. all.ending ≡ EndsFaulty side fault place) × (new.starts ≡ started_all starts old.starts)
+    × (new.written ≡ old.written) × Grows old new × HeadsAre false old.left × NoneFailed old new
+EndsAtHeads (ReadFault slot) starts old new = (side : Side) × (slot ≡ slot_of side) × Stops (ReadFault slot) starts old new
+    × IsBeforeHead slot old new
 EndsAtHeads (OpenFault slot) starts old new = Stops (OpenFault slot) starts old new
 EndsAtHeads OutOfMemory starts old new = Stops OutOfMemory starts old new
 EndsAtHeads status starts old new = ⊥

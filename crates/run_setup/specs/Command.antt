@@ -66,7 +66,8 @@ number_in limit word = if is_no_number word then None else number_behind limit 0
 -- six files
 abbrev pub run_of : Names → Command
 run_of names =
-    if is_file_word names.settings && is_file_word names.left_in && is_file_word names.right_in && is_file_word names.left_out && is_file_word names.right_out && is_report_word names.report
+    if is_file_word names.settings && is_file_word names.left_in && is_file_word names.right_in && is_file_word names.left_out && is_file_word
+    names.right_out && is_report_word names.report
     then Run names else Usage
 
 -- the number of a workload, its rounds from 1 to 100,000, and a file
@@ -80,12 +81,14 @@ make_of number count report = made_of (number_in 4294967295 number) (number_in 1
 -- seven files
 abbrev pub audit_of : AuditNames → Command
 audit_of names =
-    if is_file_word names.settings && is_file_word names.left_in && is_file_word names.right_in && is_file_word names.left_given && is_file_word names.right_given && is_file_word names.report_given && is_report_word names.report
+    if is_file_word names.settings && is_file_word names.left_in && is_file_word names.right_in && is_file_word names.left_given && is_file_word
+    names.right_given && is_file_word names.report_given && is_report_word names.report
     then Audit names else Usage
 
 -- what stands behind the word `run`, behind `make` and behind `audit`
 abbrev pub run_in : List (List ℕ) → Command
-run_in (settings ∷ left_in ∷ right_in ∷ left_out ∷ right_out ∷ report ∷ []) = run_of (record { settings = settings; left_in = left_in; right_in = right_in; left_out = left_out; right_out = right_out; report = report })
+run_in (settings ∷ left_in ∷ right_in ∷ left_out ∷ right_out ∷ report ∷ []) =
+    run_of (record { settings = settings; left_in = left_in; right_in = right_in; left_out = left_out; right_out = right_out; report = report })
 run_in operands = Usage
 
 abbrev pub make_in : List (List ℕ) → Command
@@ -94,12 +97,23 @@ make_in operands = Usage
 
 abbrev pub audit_in : List (List ℕ) → Command
 audit_in (settings ∷ left_in ∷ right_in ∷ left_given ∷ right_given ∷ report_given ∷ report ∷ []) =
-    audit_of (record { settings = settings; left_in = left_in; right_in = right_in; left_given = left_given; right_given = right_given; report_given = report_given; report = report })
+    audit_of
+    (record {
+      settings = settings;
+      left_in = left_in;
+      right_in = right_in;
+      left_given = left_given;
+      right_given = right_given;
+      report_given =
+          report_given;
+      report = report;
+    })
 audit_in operands = Usage
 
 -- the first word says which
 abbrev pub command_by : List ℕ → List (List ℕ) → Command
-command_by verb operands = if is_run verb then run_in operands else if is_make verb then make_in operands else if is_audit verb then audit_in operands else Usage
+command_by verb operands =
+    if is_run verb then run_in operands else if is_make verb then make_in operands else if is_audit verb then audit_in operands else Usage
 
 abbrev pub command_of : List (List ℕ) → Command
 command_of [] = Usage

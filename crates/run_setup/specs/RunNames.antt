@@ -16,7 +16,15 @@ pub record Names : Type 0 where
   pub report : List ℕ
 
 abbrev pub names_of : FileNames → Names
-names_of n = record { settings = n.settings.now; left_in = n.left_in.now; right_in = n.right_in.now; left_out = n.left_out.now; right_out = n.right_out.now; report = n.report.now }
+names_of n =
+    record {
+      settings = n.settings.now;
+      left_in = n.left_in.now;
+      right_in = n.right_in.now;
+      left_out = n.left_out.now;
+      right_out = n.right_out.now;
+      report = n.report.now;
+    }
 
 -- what a run starts to read the settings, to read both captures, and to write, in this order
 abbrev pub settings_starts : Names → List Start

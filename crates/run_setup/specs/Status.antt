@@ -22,9 +22,11 @@ code_of (Unlawful number reason) = 9
 -- the line on the slot of errors
 unfoldable pub error_line : Status → List ℕ
 error_line Done = []
-error_line Usage = codes "usage: run SETTINGS LEFT_IN RIGHT_IN LEFT_OUT RIGHT_OUT REPORT | make NUMBER COUNT REPORT | audit SETTINGS LEFT_IN RIGHT_IN LEFT_GIVEN RIGHT_GIVEN REPORT_GIVEN REPORT\n"
+error_line Usage =
+    codes "usage: run SETTINGS LEFT_IN RIGHT_IN LEFT_OUT RIGHT_OUT REPORT | make NUMBER COUNT REPORT | audit SETTINGS LEFT_IN RIGHT_IN LEFT_GIVEN RIGHT_GIVEN REPORT_GIVEN REPORT\n"
 error_line (SettingsRefused fault) = codes "settings: " ++ text_of fault ++ codes "\n"
-error_line (CaptureRefused side fault place) = codes "capture " ++ name_of side ++ codes ": " ++ fault_name fault ++ codes " at " ++ decimal place ++ codes "\n"
+error_line (CaptureRefused side fault place) =
+    codes "capture " ++ name_of side ++ codes ": " ++ fault_name fault ++ codes " at " ++ decimal place ++ codes "\n"
 error_line (ReadFault slot) = codes "read failed: " ++ slot_name slot ++ codes "\n"
 error_line (WriteFault slot) = codes "write failed: " ++ slot_name slot ++ codes "\n"
 error_line (OpenFault slot) = codes "open failed: " ++ slot_name slot ++ codes "\n"

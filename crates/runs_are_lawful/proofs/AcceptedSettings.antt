@@ -68,8 +68,10 @@ side_six side members =
     after SideHas (document.needed document.address (PoolFirst side) members) _ (λ first.
     after SideHas (document.needed document.address (PoolLast side) members) _ (λ last.
     after SideHas (document.needed document.link (Link side) members) _ (λ link.
-    given AreSix SideHas (document.optional document.given_mac None (GatewayMac side) members) _ (optional_six (GatewayMac side) members) (λ gateway h.
-    given AreSix SideHas (document.optional document.given_mac None (NextMac side) members) _ (optional_six (NextMac side) members) (λ next k. record { gateway = or_zeros gateway h; next = or_zeros next k })))))
+    given AreSix SideHas (document.optional document.given_mac None (GatewayMac side) members) _ (optional_six (GatewayMac side) members)
+    (λ gateway h.
+    given AreSix SideHas (document.optional document.given_mac None (NextMac side) members) _ (optional_six (NextMac side) members)
+    (λ next k. record { gateway = or_zeros gateway h; next = or_zeros next k })))))
 
 table_six : (side : Side) (members : Members) → IfOk (document.side_table side members) SideHas
 unfolding document.side_table
@@ -95,13 +97,16 @@ of_octets : (octets : List ℕ) → IfOk (document.keys_of octets) GivenHas
 unfolding document.keys_of
 of_octets octets = by_test (nat_lt 1048576 (length octets))
   where
-    by_test : (b : Bool) → IfOk (if b then Err TooLong else ok_or (document.document_of octets) NotToml >>= (λ members. document.all_keys members)) GivenHas
+    by_test : (b : Bool)
+        → IfOk (if b then Err TooLong else ok_or (document.document_of octets) NotToml >>= (λ members. document.all_keys members)) GivenHas
     by_test true = tt
     by_test false = after GivenHas (ok_or (document.document_of octets) NotToml) document.all_keys keys_six
 
 settings_six : (octets : List ℕ) → IfOk (settings_of octets) HaveMacAddresses
 unfolding settings_of
-settings_six octets = given GivenHas HaveMacAddresses (document.keys_of octets) (λ g. unless (first_fault g) g.settings) (of_octets octets) (λ g h. by_fault g h (first_fault g))
+settings_six octets =
+    given GivenHas HaveMacAddresses (document.keys_of octets) (λ g. unless (first_fault g) g.settings) (of_octets octets)
+    (λ g h. by_fault g h (first_fault g))
   where
     by_fault : (g : Given) → GivenHas g → (o : Option SettingsFault) → IfOk (unless o g.settings) HaveMacAddresses
     by_fault g h None = h

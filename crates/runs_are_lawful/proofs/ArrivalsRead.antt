@@ -88,7 +88,9 @@ or_zero None h = omega arith
 or_zero (Some octet) h = h
 
 payload_read : (fs : List Fragment) (end : ℕ) → AreFragmentsRead fs → AreOctets (payload_below (known_by fs) end)
-payload_read fs end h = table_all (λ octet. octet < 256) (λ place. unwrap_or (octet_of (known_by fs) place) 0) end (λ place. or_zero (octet_of (known_by fs) place) (known_octet fs place h))
+payload_read fs end h =
+    table_all (λ octet. octet < 256) (λ place. unwrap_or (octet_of (known_by fs) place) 0) end
+    (λ place. or_zero (octet_of (known_by fs) place) (known_octet fs place h))
 
 -- ## Its header
 
@@ -130,7 +132,8 @@ datagram_read : (fs : List Fragment) → AreFragmentsRead fs → AreOctets (data
 datagram_read fs h =
     let known = known_by fs in
     let end = unwrap_or known.known_end 0 in
-    All-append (λ octet. octet < 256) (whole_head (unwrap_or known.header []) (20 + end)) (payload_below known end) (head_read (unwrap_or known.header []) (20 + end) (or_none known.header (header_read fs h))) (payload_read fs end h)
+    All-append (λ octet. octet < 256) (whole_head (unwrap_or known.header []) (20 + end)) (payload_below known end)
+    (head_read (unwrap_or known.header []) (20 + end) (or_none known.header (header_read fs h))) (payload_read fs end h)
 
 -- ## One frame
 
@@ -142,10 +145,12 @@ record IsStepRead (one : Step (List Fragment)) : Type 0 where
   parts : All IsPartRead one.state.parts
   joined : IfSome one.state.joined IsRead
 
-changed_read : (parts : List (Part (List Fragment))) (place : Option ℕ) (part : Option (Part (List Fragment))) → All IsPartRead parts → IfSome part IsPartRead → All IsPartRead (changed parts place part)
+changed_read : (parts : List (Part (List Fragment))) (place : Option ℕ) (part : Option (Part (List Fragment))) → All IsPartRead parts
+    → IfSome part IsPartRead → All IsPartRead (changed parts place part)
 changed_read parts None None h k = h
 changed_read parts None (Some part) h k = All-push IsPartRead parts part h k
-changed_read parts (Some i) None h k = All-append IsPartRead (take i parts) (drop (suc i) parts) (All-take IsPartRead i parts h) (All-drop IsPartRead (suc i) parts h)
+changed_read parts (Some i) None h k =
+    All-append IsPartRead (take i parts) (drop (suc i) parts) (All-take IsPartRead i parts h) (All-drop IsPartRead (suc i) parts h)
 changed_read parts (Some i) (Some part) h k = All-set IsPartRead parts i part k h
 
 part_found : (parts : List (Part (List Fragment))) (o : Option ℕ) → All IsPartRead parts → IfSome (option_and_then (slice_get parts) o) IsPartRead
@@ -154,7 +159,8 @@ part_found parts (Some i) h = by_element (slice_get parts i) refl
   where
     by_element : (o : Option (Part (List Fragment))) → slice_get parts i ≡ o → IfSome o IsPartRead
     by_element None e = tt
-    by_element (Some part) e = subst IsPartRead (get_or_from_slice_get parts i part part e) (All-get_or IsPartRead parts i part (slice_get_within parts i part e) h)
+    by_element (Some part) e =
+        subst IsPartRead (get_or_from_slice_get parts i part part e) (All-get_or IsPartRead parts i part (slice_get_within parts i part e) h)
 
 part_read : (e : Event) (o : Option (Part (List Fragment))) → IfSome o IsPartRead → IsPartRead (part_or_new by_list e o)
 unfolding IsPartRead AreFragmentsRead
@@ -165,19 +171,30 @@ with_read : (e : Event) (part : Part (List Fragment)) → AreOctets e.octets →
 unfolding IsPartRead
 with_read e part octets h = one_more part.kept (fragment_in e) h (fragment_read e octets)
 
-settled_read : (parts : List (Part (List Fragment))) (place : Option ℕ) (e : Event) (part : Part (List Fragment)) → IsRead e → All IsPartRead parts → IsPartRead part → IsStepRead (settled by_list parts place e part)
+settled_read : (parts : List (Part (List Fragment))) (place : Option ℕ) (e : Event) (part : Part (List Fragment)) → IsRead e → All IsPartRead parts
+    → IsPartRead part → IsStepRead (settled by_list parts place e part)
 unfolding IsPartRead
 settled_read parts place e part read h k = by_test (is_complete (known_by part.kept))
   where
     by_test : (whole : Bool) → IsStepRead (if whole
-        then record { answer = taken.Joined; state = record { parts = changed parts place None; joined = Some (record { side = e.side; moment = e.moment; link = Raw; whole = true; octets = datagram_of (known_by part.kept) }) } }
+        then record {
+          answer = taken.Joined;
+          state =
+              record {
+                parts = changed parts place None;
+                joined =
+                    Some (record { side = e.side; moment = e.moment; link = Raw; whole = true; octets = datagram_of (known_by part.kept) });
+              };
+        }
         else record { answer = taken.Held; state = record { parts = changed parts place (Some part); joined = None } })
     by_test true = record { parts = changed_read parts place None h tt; joined = record { moment = read.moment; octets = datagram_read part.kept k } }
     by_test false = record { parts = changed_read parts place (Some part) h k; joined = tt }
 
-taken_read : (parts : List (Part (List Fragment))) (e : Event) (part : Part (List Fragment)) (o : Option Refusal) → IsRead e → All IsPartRead parts → IsPartRead part → IsStepRead (taken_unless by_list parts e part o)
+taken_read : (parts : List (Part (List Fragment))) (e : Event) (part : Part (List Fragment)) (o : Option Refusal) → IsRead e → All IsPartRead parts
+    → IsPartRead part → IsStepRead (taken_unless by_list parts e part o)
 taken_read parts e part (Some refusal) read h k = record { parts = h; joined = tt }
-taken_read parts e part None read h k = settled_read parts (place_of (name_in e) parts) e (with_fragment by_list part e) read h (with_read e part read.octets k)
+taken_read parts e part None read h k =
+    settled_read parts (place_of (name_in e) parts) e (with_fragment by_list part e) read h (with_read e part read.octets k)
 
 step_read : (parts : List (Part (List Fragment))) (e : Event) → IsRead e → All IsPartRead parts → IsStepRead (step_by by_list parts e)
 step_read parts e read h = by_test (is_fragment e)
@@ -185,8 +202,13 @@ step_read parts e read h = by_test (is_fragment e)
     part : Part (List Fragment)
     part = part_or_new by_list e (part_of (name_in e) parts)
 
-    by_test : (fragment : Bool) → IsStepRead (if fragment then fragment_step by_list parts e else record { answer = taken.Plain; state = record { parts = parts; joined = None } })
-    by_test true = taken_read parts e (part_or_new by_list e (part_of (name_in e) parts)) (first_that_holds (fragment_tests parts e (known_by (part_or_new by_list e (part_of (name_in e) parts)).kept))) read h (part_read e (part_of (name_in e) parts) (part_found parts (place_of (name_in e) parts) h))
+    by_test : (fragment : Bool)
+        → IsStepRead
+        (if fragment then fragment_step by_list parts e else record { answer = taken.Plain; state = record { parts = parts; joined = None } })
+    by_test true =
+        taken_read parts e (part_or_new by_list e (part_of (name_in e) parts))
+        (first_that_holds (fragment_tests parts e (known_by (part_or_new by_list e (part_of (name_in e) parts)).kept))) read h
+        (part_read e (part_of (name_in e) parts) (part_found parts (place_of (name_in e) parts) h))
     by_test false = record { parts = h; joined = tt }
 
 -- ## All frames
@@ -215,7 +237,8 @@ one_read (Some state) e read h =
     by_answer taken.Joined o k = joined_read o k
     by_answer (taken.Refused refusal) o k = read
 
-all_read : (joiner : Option (State (List Fragment))) (events : List Event) → IsJoinerRead joiner → AreRead events → AreFine (arrivals_from by_list joiner events)
+all_read : (joiner : Option (State (List Fragment))) (events : List Event) → IsJoinerRead joiner → AreRead events
+    → AreFine (arrivals_from by_list joiner events)
 unfolding arrivals_from
 all_read joiner [] h read = tt
 all_read joiner (e ∷ events) h read =

@@ -22,7 +22,8 @@ use Rattle.runs_are_lawful.proofs.Files.{files_lawful}
 
 -- ## What stands written
 
-pub stands_written : (pieces : List Piece) (told : PerSlot (List ℕ)) (slot : Slot) → told_at (wrote_pieces pieces (Some told)) slot ≡ Some (at told slot ++ octets_to slot pieces)
+pub stands_written : (pieces : List Piece) (told : PerSlot (List ℕ)) (slot : Slot)
+    → told_at (wrote_pieces pieces (Some told)) slot ≡ Some (at told slot ++ octets_to slot pieces)
 unfolding told_at wrote_pieces wrote
 stands_written [] told slot = ap Some (sym (append-nil (at told slot)))
 stands_written (p ∷ pieces) told slot =
@@ -41,14 +42,18 @@ heads_good left right e = by_heads_of (head_of left) (head_of right) e
     by_heads_of (Good l) (Bad f) g = cc
     by_heads_of (Good l) (Good r) g = refl
 
-pub faulty : (all : PerSlot (List ℕ)) (settings : Settings) → IsAccepted settings all → IsOctets all → have_good_heads all.left_in all.right_in ≡ true → let pieces = outputs_of settings all in OutputsFit pieces
+pub faulty : (all : PerSlot (List ℕ)) (settings : Settings) → IsAccepted settings all → IsOctets all → have_good_heads all.left_in all.right_in ≡ true
+    → let pieces = outputs_of settings all in OutputsFit pieces
     → LawfulFor settings (events_in all) (octets_to slots.LeftOut pieces) (octets_to slots.RightOut pieces) (octets_to slots.Report pieces)
 faulty all settings accepted octets good fit =
     let same = good_outputs settings all good in
     let small : OutputsFit (files settings (events_in all)) = subst OutputsFit same fit in
-    subst (λ (ps : List Piece). LawfulFor settings (events_in all) (octets_to slots.LeftOut ps) (octets_to slots.RightOut ps) (octets_to slots.Report ps)) (sym same)
-    (files_lawful settings (events_in all) (accepted_have all.settings settings accepted) (events_are_read all.left_in all.right_in octets.left octets.right) small.left small.right)
+    subst (λ (ps : List Piece). LawfulFor settings (events_in all) (octets_to slots.LeftOut ps) (octets_to slots.RightOut ps)
+    (octets_to slots.Report ps)) (sym same)
+    (files_lawful settings (events_in all) (accepted_have all.settings settings accepted)
+    (events_are_read all.left_in all.right_in octets.left octets.right) small.left small.right)
 
-pub done : (all : PerSlot (List ℕ)) (settings : Settings) → IsAccepted settings all → IsOctets all → (events_in all).ending ≡ Done → let pieces = outputs_of settings all in OutputsFit pieces
+pub done : (all : PerSlot (List ℕ)) (settings : Settings) → IsAccepted settings all → IsOctets all → (events_in all).ending ≡ Done → let pieces =
+    outputs_of settings all in OutputsFit pieces
     → LawfulFor settings (events_in all) (octets_to slots.LeftOut pieces) (octets_to slots.RightOut pieces) (octets_to slots.Report pieces)
 done all settings accepted octets ended fit = faulty all settings accepted octets (heads_good all.left_in all.right_in ended) fit

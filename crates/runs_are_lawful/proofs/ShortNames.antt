@@ -25,8 +25,10 @@ digits_short : (k n : ℕ) (acc : List ℕ) → length (digits_onto k 10 false n
 digits_short zero n acc = omega arith
 digits_short (suc k) n acc = by_last (n / 10 == 0) (digits_short k (n / 10) (digit_glyph false (n % 10) ∷ acc))
   where
-    by_last : (last : Bool) → length (digits_onto k 10 false (n / 10) (digit_glyph false (n % 10) ∷ acc)) ≤ k + length (digit_glyph false (n % 10) ∷ acc)
-        → length (if last then digit_glyph false (n % 10) ∷ acc else digits_onto k 10 false (n / 10) (digit_glyph false (n % 10) ∷ acc)) ≤ suc k + length acc
+    by_last : (last : Bool)
+        → length (digits_onto k 10 false (n / 10) (digit_glyph false (n % 10) ∷ acc)) ≤ k + length (digit_glyph false (n % 10) ∷ acc)
+        → length
+        (if last then digit_glyph false (n % 10) ∷ acc else digits_onto k 10 false (n / 10) (digit_glyph false (n % 10) ∷ acc)) ≤ suc k + length acc
     by_last true h = omega arith
     by_last false h = omega (arith, h)
 
@@ -54,7 +56,8 @@ numbers_short address =
 
 spelled_both : (xs ys : List (List ℕ)) → length (spelled (xs ++ ys)) ≡ length (spelled xs) + length (spelled ys)
 spelled_both [] ys = omega arith
-spelled_both (x ∷ xs) ys = omega (arith, length-append (spelled_label x) (spelled (xs ++ ys)), length-append (spelled_label x) (spelled xs), spelled_both xs ys)
+spelled_both (x ∷ xs) ys =
+    omega (arith, length-append (spelled_label x) (spelled (xs ++ ys)), length-append (spelled_label x) (spelled xs), spelled_both xs ys)
 
 address_short : (address : ℕ) (labels : List (List ℕ)) → length (spelled (with_address address labels)) ≤ 260 + length (spelled labels)
 address_short address [] = omega arith
@@ -78,7 +81,8 @@ name_short (Some image) labels = address_short image.0 labels
 
 -- ## Messages that are cut
 
-question_small : (images : List (Option Addr)) (q : Option Question) → IfSome q (λ q. length (spelled q.name) ≤ 254) → IfSome (question_renamed images q) (λ q. length (spelled q.name) ≤ 514)
+question_small : (images : List (Option Addr)) (q : Option Question) → IfSome q (λ q. length (spelled q.name) ≤ 254)
+    → IfSome (question_renamed images q) (λ q. length (spelled q.name) ≤ 514)
 question_small images None h = tt
 question_small images (Some q) h = omega (arith, h, name_short (image_of (full_reverse q.name) images 0) q.name)
 
@@ -89,15 +93,18 @@ asked_small o (Some q) count after h = h.1.name.short
 message_small : (o : List ℕ) (m : Message) → message_at o ≡ Some m → IfSome m.question (λ q. length (spelled q.name) ≤ 254)
 message_small o m e = let is = message-is o m e in asked_small o m.question is.asked is.p is.question
 
-reply_by_tests : (m : Message) (incoming : ℕ) (far out : Bool) → nat_lt 65535 (length (spelling m)) ≡ out → length (spelling (cut m)) ≤ 66000 → length (if far || out then spelling (cut m) else spelling m) ≤ 66000
+reply_by_tests : (m : Message) (incoming : ℕ) (far out : Bool) → nat_lt 65535 (length (spelling m)) ≡ out → length (spelling (cut m)) ≤ 66000
+    → length (if far || out then spelling (cut m) else spelling m) ≤ 66000
 reply_by_tests m incoming true out e short = short
 reply_by_tests m incoming false true e short = short
 reply_by_tests m incoming false false e short = grind (arith, nat_tests)
 
 reply_long : (m : Message) (incoming : ℕ) → length (spelling (cut m)) ≤ 66000 → length (reply_of m incoming) ≤ 66000
-reply_long m incoming short = reply_by_tests m incoming (nat_lt (max 512 incoming) (length (spelling m))) (nat_lt 65535 (length (spelling m))) refl short
+reply_long m incoming short =
+    reply_by_tests m incoming (nat_lt (max 512 incoming) (length (spelling m))) (nat_lt 65535 (length (spelling m))) refl short
 
-names_long : (images : List (Option Addr)) (octets : List ℕ) (o : Option Message) → message_at octets ≡ o → length octets ≤ 65535 → length (reply_by images octets o) ≤ 66000
+names_long : (images : List (Option Addr)) (octets : List ℕ) (o : Option Message) → message_at octets ≡ o → length octets ≤ 65535
+    → length (reply_by images octets o) ≤ 66000
 names_long images octets None e few = omega (arith, few)
 names_long images octets (Some m) e few = by_images (list_any is_some images)
   where
@@ -108,4 +115,6 @@ names_long images octets (Some m) e few = by_images (list_any is_some images)
         reply_long (message_renamed images m) (length octets) (omega (arith, short))
 
 pub names_short : (table after : Bindings) (side : Side) (d : Datagram) → length d.payload ≤ 65535 → length (names_after table after side d) ≤ 66000
-names_short table after side d few = names_long (map (image_after table after side) (named_in (message_in d))) (carried d) (message_in d) refl (omega (arith, few, length-drop 8 d.payload))
+names_short table after side d few =
+    names_long (map (image_after table after side) (named_in (message_in d))) (carried d) (message_in d) refl
+    (omega (arith, few, length-drop 8 d.payload))

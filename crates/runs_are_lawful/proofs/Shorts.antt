@@ -23,13 +23,26 @@ use Rattle.lawful_files.proofs.SentLists.{AreOctets, octet_at, in_octets, payloa
 
 u16_long : (place value : ℕ) (xs : List ℕ) → length (with_u16 place value xs) ≤ length xs + 2
 u16_long place value xs =
-    omega (arith, length-append (take place xs ++ big_bytes 2 value) (drop (place + 2) xs), length-append (take place xs) (big_bytes 2 value), length-take place xs, length-drop (place + 2) xs)
+    omega (
+      arith,
+      length-append (take place xs ++ big_bytes 2 value) (drop (place + 2) xs),
+      length-append (take place xs) (big_bytes 2 value),
+      length-take place xs,
+      length-drop (place + 2) xs,
+    )
 
 u32_long : (place value : ℕ) (xs : List ℕ) → length (with_u32 place value xs) ≤ length xs + 4
 u32_long place value xs =
-    omega (arith, length-append (take place xs ++ big_bytes 4 value) (drop (place + 4) xs), length-append (take place xs) (big_bytes 4 value), length-take place xs, length-drop (place + 4) xs)
+    omega (
+      arith,
+      length-append (take place xs ++ big_bytes 4 value) (drop (place + 4) xs),
+      length-append (take place xs) (big_bytes 4 value),
+      length-take place xs,
+      length-drop (place + 4) xs,
+    )
 
-head_with_long : (model : List ℕ) (total lifetime source destination : ℕ) → length (head_with model total lifetime source destination) ≤ length model + 12
+head_with_long : (model : List ℕ) (total lifetime source destination : ℕ)
+    → length (head_with model total lifetime source destination) ≤ length model + 12
 unfolding head_with
 head_with_long model total lifetime source destination =
     let a = with_u16 2 total model in
@@ -38,14 +51,16 @@ head_with_long model total lifetime source destination =
     let d = with_u32 12 source c in
     omega (arith, u16_long 2 total model, length-set a 8 lifetime, u16_long 10 0 b, u32_long 12 source c, u32_long 16 destination d)
 
-head_long : (model : List ℕ) (total lifetime source destination : ℕ) → length (spelled_head model total lifetime source destination) ≤ length model + 14
+head_long : (model : List ℕ) (total lifetime source destination : ℕ)
+    → length (spelled_head model total lifetime source destination) ≤ length model + 14
 head_long model total lifetime source destination =
     let head = head_with model total lifetime source destination in
     omega (arith, head_with_long model total lifetime source destination, u16_long 10 (checksum head) head)
 
 sealed_tcp_long : (source destination : ℕ) (segment : List ℕ) → length (sealed_tcp source destination segment) ≤ length segment + 4
 unfolding sealed_tcp
-sealed_tcp_long source destination segment = let empty = with_u16 16 0 segment in omega (arith, u16_long 16 0 segment, u16_long 16 (checksum (tcp_covered source destination empty)) empty)
+sealed_tcp_long source destination segment = let empty = with_u16 16 0 segment in
+    omega (arith, u16_long 16 0 segment, u16_long 16 (checksum (tcp_covered source destination empty)) empty)
 
 sealed_icmp_long : (message : List ℕ) → length (sealed_icmp message) ≤ length message + 4
 unfolding sealed_icmp
@@ -55,15 +70,26 @@ sealed_udp_long : (source destination : ℕ) (segment : List ℕ) → length (se
 unfolding sealed_udp
 sealed_udp_long source destination segment = by_sum (u16_at 6 segment == 0)
   where
-    by_sum : (none : Bool) → length (if none then segment else with_u16 6 (udp_sum_of (checksum (udp_covered source destination (with_u16 6 0 segment)))) (with_u16 6 0 segment)) ≤ length segment + 4
+    by_sum : (none : Bool)
+        → length
+        (if none then segment else with_u16 6 (udp_sum_of (checksum (udp_covered source destination (with_u16 6 0 segment)))) (with_u16 6 0 segment))
+        ≤ length segment + 4
     by_sum true = omega arith
-    by_sum false = omega (arith, u16_long 6 0 segment, u16_long 6 (udp_sum_of (checksum (udp_covered source destination (with_u16 6 0 segment)))) (with_u16 6 0 segment))
+    by_sum false =
+        omega (
+          arith,
+          u16_long 6 0 segment,
+          u16_long 6 (udp_sum_of (checksum (udp_covered source destination (with_u16 6 0 segment)))) (with_u16 6 0 segment),
+        )
 
 sealed_long : (protocol source destination : ℕ) (payload : List ℕ) → length (sealed_payload protocol source destination payload) ≤ length payload + 4
 unfolding sealed_payload
 sealed_long protocol source destination payload = by_protocol (protocol == 17) (protocol == 6) (protocol == 1)
   where
-    by_protocol : (udp tcp icmp : Bool) → length (if udp then sealed_udp source destination payload else if tcp then sealed_tcp source destination payload else if icmp then sealed_icmp payload else payload) ≤ length payload + 4
+    by_protocol : (udp tcp icmp : Bool)
+        → length
+        (if udp then sealed_udp source destination payload else if tcp then sealed_tcp source destination payload else if icmp then sealed_icmp
+        payload else payload) ≤ length payload + 4
     by_protocol true tcp icmp = sealed_udp_long source destination payload
     by_protocol false true icmp = sealed_tcp_long source destination payload
     by_protocol false false true = sealed_icmp_long payload
@@ -75,7 +101,12 @@ renamed_long : (d : Datagram) (source destination : ℕ) → length (renamed d s
 unfolding renamed
 renamed_long d source destination =
     let next = with_addresses d source destination in
-    omega (arith, length-append next.header next.payload, head_long d.header (20 + length d.payload) (d.lifetime - 1) source destination, sealed_long d.protocol source destination d.payload)
+    omega (
+      arith,
+      length-append next.header next.payload,
+      head_long d.header (20 + length d.payload) (d.lifetime - 1) source destination,
+      sealed_long d.protocol source destination d.payload,
+    )
 
 header_short : (octets : List ℕ) → length (datagram_of octets).header ≤ 20
 header_short octets = omega (arith, length-take 20 octets)
@@ -95,9 +126,15 @@ pub record IsShort (d : Datagram) : Type 0 where
 pub event_short : (e : Event) → AreOctets e.octets → IsShort (datagram_in e)
 event_short e h =
     let inside = in_octets e.link e.octets h in
-    record { header = header_short (octets_in e.link e.octets); payload = payload_short (octets_in e.link e.octets) inside; octets = payload_octets (octets_in e.link e.octets) inside }
+    record {
+      header = header_short (octets_in e.link e.octets);
+      payload = payload_short (octets_in e.link e.octets) inside;
+      octets =
+          payload_octets (octets_in e.link e.octets) inside;
+    }
 
-pub renamed_short : (d : Datagram) (payload : List ℕ) (source destination : ℕ) → length d.header ≤ 20 → length payload ≤ 65535 + 2000 → length (renamed (record d { payload = payload }) source destination) ≤ 131072
+pub renamed_short : (d : Datagram) (payload : List ℕ) (source destination : ℕ) → length d.header ≤ 20 → length payload ≤ 65535 + 2000
+    → length (renamed (record d { payload = payload }) source destination) ≤ 131072
 renamed_short d payload source destination header few = omega (arith, renamed_long (record d { payload = payload }) source destination, header, few)
 
 -- ## Segments of sessions
@@ -113,7 +150,8 @@ blanked_long xs =
     none None e = omega arith
     none (Some x) e = absurd (true≢false e)
 
-tcp_head_long : (model : List ℕ) (sequence acknowledgement flags : ℕ) → length (tcp_header_with model sequence acknowledgement flags) ≤ length model + 10
+tcp_head_long : (model : List ℕ) (sequence acknowledgement flags : ℕ)
+    → length (tcp_header_with model sequence acknowledgement flags) ≤ length model + 10
 unfolding tcp_header_with
 tcp_head_long model sequence acknowledgement flags =
     let a = with_u32 4 sequence (take 20 model) in
@@ -134,7 +172,8 @@ tcp_head_long model sequence acknowledgement flags =
 tcp_long : (d : Datagram) → AreOctets d.payload → length (tcp_of d).header ≤ 60
 tcp_long d h = let one = octet_at d.payload 12 h in omega (arith, one, length-take (tcp_header_length_of d.payload) d.payload)
 
-pub sent_short : (d : Datagram) (source destination : ℕ) (o : Outgoing) → IsShort d → length o.octets ≤ 65495 → length (sent_as d source destination o) ≤ 131072
+pub sent_short : (d : Datagram) (source destination : ℕ) (o : Outgoing) → IsShort d → length o.octets ≤ 65495
+    → length (sent_as d source destination o) ≤ 131072
 sent_short d source destination o h few =
     let model = (tcp_of d).header in
     let head = tcp_header_with model o.sequence o.acknowledgement (flags_octet o.flags) in
@@ -154,7 +193,8 @@ sent_short d source destination o h few =
 
 -- ## ICMP errors
 
-inner_long : (octets : List ℕ) (source destination : ℕ) (sequence : Option ℕ) → length (inner_with octets source destination sequence) ≤ length octets + 16
+inner_long : (octets : List ℕ) (source destination : ℕ) (sequence : Option ℕ)
+    → length (inner_with octets source destination sequence) ≤ length octets + 16
 unfolding inner_with
 inner_long octets source destination sequence =
     let a = addressed octets source destination in
@@ -172,13 +212,27 @@ inner_long octets source destination sequence =
     numbered_long None xs = omega arith
     numbered_long (Some n) xs = u32_long 24 n xs
 
-pub error_short : (d : Datagram) (source destination : ℕ) (sequence : Option ℕ) → length d.payload ≤ 65535 → length (take 8 d.payload ++ inner_with (drop 8 d.payload) source destination sequence) ≤ 65535 + 2000
+pub error_short : (d : Datagram) (source destination : ℕ) (sequence : Option ℕ) → length d.payload ≤ 65535
+    → length (take 8 d.payload ++ inner_with (drop 8 d.payload) source destination sequence) ≤ 65535 + 2000
 error_short d source destination sequence few =
     let inner = inner_with (drop 8 d.payload) source destination sequence in
-    omega (arith, few, length-append (take 8 d.payload) inner, length-take 8 d.payload, length-drop 8 d.payload, inner_long (drop 8 d.payload) source destination sequence)
+    omega (
+      arith,
+      few,
+      length-append (take 8 d.payload) inner,
+      length-take 8 d.payload,
+      length-drop 8 d.payload,
+      inner_long (drop 8 d.payload) source destination sequence,
+    )
 
 -- ## Payloads of UDP
 
 pub rebuilt_short : (d : Datagram) (payload : List ℕ) → length payload ≤ 66000 → length (with_payload d payload).payload ≤ 65535 + 2000
 rebuilt_short d payload few =
-    omega (arith, few, u16_long 4 (8 + length payload) (take 8 d.payload ++ payload), length-append (take 8 d.payload) payload, length-take 8 d.payload)
+    omega (
+      arith,
+      few,
+      u16_long 4 (8 + length payload) (take 8 d.payload ++ payload),
+      length-append (take 8 d.payload) payload,
+      length-take 8 d.payload,
+    )

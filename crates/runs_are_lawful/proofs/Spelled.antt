@@ -30,9 +30,11 @@ outs_of s (Reaches e) = out whole_rules s.world e
 outs_of s (Stopped e v) = []
 
 abbrev pub line_piece_of : Settings → State WholeSession → Arrival → Piece
-line_piece_of settings s a = event_piece settings.report (s.totals.events + 1) (event_in a).side (event_in a).moment (verdict_of s.world a) (length (outs_of s a))
+line_piece_of settings s a =
+    event_piece settings.report (s.totals.events + 1) (event_in a).side (event_in a).moment (verdict_of s.world a) (length (outs_of s a))
 
-pub gives : (settings : Settings) (s : State WholeSession) (a : Arrival) → given_by whole_rules settings s a ≡ sent settings (other (event_in a).side) (event_in a).moment (outs_of s a) ++ line_piece_of settings s a ∷ []
+pub gives : (settings : Settings) (s : State WholeSession) (a : Arrival)
+    → given_by whole_rules settings s a ≡ sent settings (other (event_in a).side) (event_in a).moment (outs_of s a) ++ line_piece_of settings s a ∷ []
 gives settings s (Reaches e) = refl
 gives settings s (Stopped e v) = refl
 
@@ -55,16 +57,21 @@ to_other Right xs = refl
 
 -- a datagram to a realm as a record is spelled
 abbrev pub entry_of : Settings → Side → ℕ → List ℕ → Entry
-entry_of settings side moment datagram = let frame = framed settings side datagram in record { seconds = moment / 1000000000; fraction = moment % 1000000000; original = length frame; octets = frame }
+entry_of settings side moment datagram = let frame = framed settings side datagram in
+    record { seconds = moment / 1000000000; fraction = moment % 1000000000; original = length frame; octets = frame }
 
 -- the records of a realm
 abbrev pub packets_to : Settings → Side → State WholeSession → List Arrival → List Packet
 packets_to settings side s [] = []
-packets_to settings side s (e ∷ es) = if_to side (other (event_in e).side) (map (record_of settings (other (event_in e).side) (event_in e).moment) (outs_of s e)) ++ packets_to settings side (after_one whole_rules s e) es
+packets_to settings side s (e ∷ es) =
+    if_to side (other (event_in e).side) (map (record_of settings (other (event_in e).side) (event_in e).moment) (outs_of s e))
+    ++ packets_to settings side (after_one whole_rules s e) es
 
 abbrev pub entries_to : Settings → Side → State WholeSession → List Arrival → List Entry
 entries_to settings side s [] = []
-entries_to settings side s (e ∷ es) = if_to side (other (event_in e).side) (map (entry_of settings (other (event_in e).side) (event_in e).moment) (outs_of s e)) ++ entries_to settings side (after_one whole_rules s e) es
+entries_to settings side s (e ∷ es) =
+    if_to side (other (event_in e).side) (map (entry_of settings (other (event_in e).side) (event_in e).moment) (outs_of s e))
+    ++ entries_to settings side (after_one whole_rules s e) es
 
 -- ## Octets of slots
 
@@ -76,24 +83,30 @@ octets-append slot (p ∷ ps) qs =
 
 spelled-append : (xs ys : List Entry) → all_spelled Little (xs ++ ys) ≡ all_spelled Little xs ++ all_spelled Little ys
 spelled-append [] ys = refl
-spelled-append (x ∷ xs) ys = ap (λ zs. spelled Little x ++ zs) (spelled-append xs ys) ∙ sym (append_assoc (spelled Little x) (all_spelled Little xs) (all_spelled Little ys))
+spelled-append (x ∷ xs) ys = ap (λ zs. spelled Little x ++ zs) (spelled-append xs ys)
+    ∙ sym (append_assoc (spelled Little x) (all_spelled Little xs) (all_spelled Little ys))
 
-sent_octets : (settings : Settings) (side to : Side) (moment : ℕ) (ds : List (List ℕ)) → octets_to (out_slot side) (sent settings to moment ds) ≡ all_spelled Little (if_to side to (map (entry_of settings to moment) ds))
+sent_octets : (settings : Settings) (side to : Side) (moment : ℕ) (ds : List (List ℕ))
+    → octets_to (out_slot side) (sent settings to moment ds) ≡ all_spelled Little (if_to side to (map (entry_of settings to moment) ds))
 unfolding record_octets
 sent_octets settings Left Left moment [] = refl
 sent_octets settings Left Right moment [] = refl
 sent_octets settings Right Left moment [] = refl
 sent_octets settings Right Right moment [] = refl
-sent_octets settings Left Left moment (d ∷ ds) = ap (λ xs. spelled Little (entry_of settings Left moment d) ++ xs) (sent_octets settings Left Left moment ds)
-sent_octets settings Right Right moment (d ∷ ds) = ap (λ xs. spelled Little (entry_of settings Right moment d) ++ xs) (sent_octets settings Right Right moment ds)
+sent_octets settings Left Left moment (d ∷ ds) =
+    ap (λ xs. spelled Little (entry_of settings Left moment d) ++ xs) (sent_octets settings Left Left moment ds)
+sent_octets settings Right Right moment (d ∷ ds) =
+    ap (λ xs. spelled Little (entry_of settings Right moment d) ++ xs) (sent_octets settings Right Right moment ds)
 sent_octets settings Left Right moment (d ∷ ds) = sent_octets settings Left Right moment ds
 sent_octets settings Right Left moment (d ∷ ds) = sent_octets settings Right Left moment ds
 
-no_report : (settings : Settings) (side : Side) (s : State WholeSession) (e : Arrival) → octets_to (out_slot side) (line_piece_of settings s e ∷ []) ≡ []
+no_report : (settings : Settings) (side : Side) (s : State WholeSession) (e : Arrival)
+    → octets_to (out_slot side) (line_piece_of settings s e ∷ []) ≡ []
 no_report settings Left s e = refl
 no_report settings Right s e = refl
 
-pub given_octets : (settings : Settings) (side : Side) (s : State WholeSession) (es : List Arrival) → octets_to (out_slot side) (given_by_all whole_rules settings s es) ≡ all_spelled Little (entries_to settings side s es)
+pub given_octets : (settings : Settings) (side : Side) (s : State WholeSession) (es : List Arrival)
+    → octets_to (out_slot side) (given_by_all whole_rules settings s es) ≡ all_spelled Little (entries_to settings side s es)
 unfolding given_by_all
 given_octets settings side s [] = refl
 given_octets settings side s (e ∷ es) =
@@ -103,9 +116,12 @@ given_octets settings side s (e ∷ es) =
     ap (λ (ps : List Piece). octets_to (out_slot side) (ps ++ given_by_all whole_rules settings (after_one whole_rules s e) es)) (gives settings s e)
     ∙ octets-append (out_slot side) (frames ++ line ∷ []) (given_by_all whole_rules settings (after_one whole_rules s e) es)
     ∙ ap (λ xs. xs ++ octets_to (out_slot side) (given_by_all whole_rules settings (after_one whole_rules s e) es))
-    (octets-append (out_slot side) frames (line ∷ []) ∙ ap (λ xs. octets_to (out_slot side) frames ++ xs) (no_report settings side s e) ∙ append-nil (octets_to (out_slot side) frames) ∙ sent_octets settings side (other (event_in e).side) (event_in e).moment ds)
-    ∙ ap (λ xs. all_spelled Little (if_to side (other (event_in e).side) (map (entry_of settings (other (event_in e).side) (event_in e).moment) ds)) ++ xs) (given_octets settings side (after_one whole_rules s e) es)
-    ∙ sym (spelled-append (if_to side (other (event_in e).side) (map (entry_of settings (other (event_in e).side) (event_in e).moment) ds)) (entries_to settings side (after_one whole_rules s e) es))
+    (octets-append (out_slot side) frames (line ∷ []) ∙ ap (λ xs. octets_to (out_slot side) frames ++ xs) (no_report settings side s e)
+    ∙ append-nil (octets_to (out_slot side) frames) ∙ sent_octets settings side (other (event_in e).side) (event_in e).moment ds)
+    ∙ ap (λ xs. all_spelled Little (if_to side (other (event_in e).side) (map (entry_of settings (other (event_in e).side) (event_in e).moment) ds))
+    ++ xs) (given_octets settings side (after_one whole_rules s e) es)
+    ∙ sym (spelled-append (if_to side (other (event_in e).side) (map (entry_of settings (other (event_in e).side) (event_in e).moment) ds))
+    (entries_to settings side (after_one whole_rules s e) es))
 
 -- ## What is read of them
 
@@ -118,12 +134,17 @@ whole_is n = grind (arith, nat_tests)
 stamp_is : (moment : ℕ) → moment / 1000000000 * 1000000000 + moment % 1000000000 * 1 ≡ moment
 stamp_is moment = omega (arith, div-add-mod' moment 1000000000)
 
-packet_is : (settings : Settings) (side : Side) (moment : ℕ) (link : Link) (d : List ℕ) → packet_from (form_of link) (entry_of settings side moment d) ≡ record_of settings side moment d
+packet_is : (settings : Settings) (side : Side) (moment : ℕ) (link : Link) (d : List ℕ)
+    → packet_from (form_of link) (entry_of settings side moment d) ≡ record_of settings side moment d
 packet_is settings side moment link d =
-    ap (λ (n : ℕ). let p : Packet = record { stamp = n; whole = nat_le (length (framed settings side d)) (length (framed settings side d)); octets = framed settings side d } in p) (stamp_is moment)
-    ∙ ap (λ (b : Bool). let p : Packet = record { stamp = moment; whole = b; octets = framed settings side d } in p) (whole_is (length (framed settings side d)))
+    ap (λ (n : ℕ). let p : Packet =
+    record { stamp = n; whole = nat_le (length (framed settings side d)) (length (framed settings side d)); octets = framed settings side d } in
+    p) (stamp_is moment)
+    ∙ ap (λ (b : Bool). let p : Packet = record { stamp = moment; whole = b; octets = framed settings side d } in p)
+    (whole_is (length (framed settings side d)))
 
-packets_are : (settings : Settings) (side : Side) (moment : ℕ) (link : Link) (ds : List (List ℕ)) → map (packet_from (form_of link)) (map (entry_of settings side moment) ds) ≡ map (record_of settings side moment) ds
+packets_are : (settings : Settings) (side : Side) (moment : ℕ) (link : Link) (ds : List (List ℕ))
+    → map (packet_from (form_of link)) (map (entry_of settings side moment) ds) ≡ map (record_of settings side moment) ds
 packets_are settings side moment link [] = refl
 packets_are settings side moment link (d ∷ ds) =
     ap (λ (p : Packet). p ∷ map (packet_from (form_of link)) (map (entry_of settings side moment) ds)) (packet_is settings side moment link d)
@@ -135,14 +156,18 @@ to_map f Right Right xs = refl
 to_map f Left Right xs = refl
 to_map f Right Left xs = refl
 
-pub read_packets : (settings : Settings) (side : Side) (link : Link) (s : State WholeSession) (es : List Arrival) → map (packet_from (form_of link)) (entries_to settings side s es) ≡ packets_to settings side s es
+pub read_packets : (settings : Settings) (side : Side) (link : Link) (s : State WholeSession) (es : List Arrival)
+    → map (packet_from (form_of link)) (entries_to settings side s es) ≡ packets_to settings side s es
 read_packets settings side link s [] = refl
 read_packets settings side link s (e ∷ es) =
     let ds = outs_of s e in
     let entries = map (entry_of settings (other (event_in e).side) (event_in e).moment) ds in
     map-append (packet_from (form_of link)) (if_to side (other (event_in e).side) entries) (entries_to settings side (after_one whole_rules s e) es)
-    ∙ ap (λ (ps : List Packet). ps ++ map (packet_from (form_of link)) (entries_to settings side (after_one whole_rules s e) es)) (to_map (packet_from (form_of link)) side (other (event_in e).side) entries ∙ ap (if_to side (other (event_in e).side)) (packets_are settings (other (event_in e).side) (event_in e).moment link ds))
-    ∙ ap (λ (ps : List Packet). if_to side (other (event_in e).side) (map (record_of settings (other (event_in e).side) (event_in e).moment) ds) ++ ps) (read_packets settings side link (after_one whole_rules s e) es)
+    ∙ ap (λ (ps : List Packet). ps ++ map (packet_from (form_of link)) (entries_to settings side (after_one whole_rules s e) es))
+    (to_map (packet_from (form_of link)) side (other (event_in e).side) entries
+    ∙ ap (if_to side (other (event_in e).side)) (packets_are settings (other (event_in e).side) (event_in e).moment link ds))
+    ∙ ap (λ (ps : List Packet). if_to side (other (event_in e).side) (map (record_of settings (other (event_in e).side) (event_in e).moment) ds)
+    ++ ps) (read_packets settings side link (after_one whole_rules s e) es)
 
 -- ## Records that can be read
 
@@ -160,7 +185,8 @@ pub small-append : (xs ys : List Entry) → AreSmall xs → AreSmall ys → AreS
 small-append [] ys h k = k
 small-append (x ∷ xs) ys h k = (h.0, small-append xs ys h.1 k)
 
-good_all : (link : Link) (place : ℕ) (es : List Entry) → AreSmall es → place + length (all_spelled Little es) ≤ 2 ^ 40 → AreGood (form_of link) place es
+good_all : (link : Link) (place : ℕ) (es : List Entry) → AreSmall es → place + length (all_spelled Little es) ≤ 2 ^ 40
+    → AreGood (form_of link) place es
 good_all link place [] h fits = tt
 good_all link place (e ∷ es) h fits =
     let long = length-spelled Little e in
@@ -176,7 +202,8 @@ good_all link place (e ∷ es) h fits =
     )
 
 pub read_capture : (link : Link) (es : List Entry) → AreSmall es → 24 + length (all_spelled Little es) ≤ 2 ^ 40
-    → (head_of (head_octets link ++ all_spelled Little es) ≡ Good (form_of link)) × (capture_of (head_octets link ++ all_spelled Little es) ≡ record { packets = map (packet_from (form_of link)) es; ending = Whole })
+    → (head_of (head_octets link ++ all_spelled Little es) ≡ Good (form_of link))
+    × (capture_of (head_octets link ++ all_spelled Little es) ≡ record { packets = map (packet_from (form_of link)) es; ending = Whole })
 read_capture link es small fits =
     reads (head_octets link ++ all_spelled Little es) (form_of link) (map (packet_from (form_of link)) es) Whole
     (record {

@@ -34,14 +34,17 @@ sent_no_report settings Right moment [] = refl
 sent_no_report settings Left moment (d ∷ ds) = sent_no_report settings Left moment ds
 sent_no_report settings Right moment (d ∷ ds) = sent_no_report settings Right moment ds
 
-line_is : (settings : Settings) (s : State WholeSession) (e : Arrival) → octets_to Report (line_piece_of settings s e ∷ []) ≡ line_of settings (known_of s) e (length (outs_of s e))
+line_is : (settings : Settings) (s : State WholeSession) (e : Arrival)
+    → octets_to Report (line_piece_of settings s e ∷ []) ≡ line_of settings (known_of s) e (length (outs_of s e))
 line_is settings s e = append-nil (line_of settings (known_of s) e (length (outs_of s e)))
 
 -- what the report is from here on, where the captures end so
 abbrev pub report_from : Settings → State WholeSession → List Arrival → Ending → List ℕ
 report_from settings s es ending = octets_to Report (given_by_all whole_rules settings s es ++ ended_by settings (after whole_rules s es) ending)
 
-report_step : (settings : Settings) (s : State WholeSession) (e : Arrival) (es : List Arrival) (ending : Ending) → report_from settings s (e ∷ es) ending ≡ line_of settings (known_of s) e (length (outs_of s e)) ++ report_from settings (after_one whole_rules s e) es ending
+report_step : (settings : Settings) (s : State WholeSession) (e : Arrival) (es : List Arrival) (ending : Ending)
+    → report_from settings s (e ∷ es) ending ≡ line_of settings (known_of s) e (length (outs_of s e)) ++ report_from settings
+    (after_one whole_rules s e) es ending
 unfolding given_by_all
 report_step settings s e es ending =
     let frames = sent settings (other (event_in e).side) (event_in e).moment (outs_of s e) in
@@ -52,7 +55,10 @@ report_step settings s e es ending =
     ap (λ (ps : List Piece). octets_to Report ((ps ++ rest) ++ last)) (gives settings s e)
     ∙ ap (octets_to Report) (append_assoc (frames ++ line ∷ []) rest last)
     ∙ octets-append Report (frames ++ line ∷ []) (rest ++ last)
-    ∙ ap (λ xs. xs ++ octets_to Report (rest ++ last)) (octets-append Report frames (line ∷ []) ∙ ap (λ xs. xs ++ octets_to Report (line ∷ [])) (sent_no_report settings (other (event_in e).side) (event_in e).moment (outs_of s e)) ∙ line_is settings s e)
+    ∙ ap (λ xs. xs ++ octets_to Report (rest ++ last))
+    (octets-append Report frames (line ∷ [])
+    ∙ ap (λ xs. xs ++ octets_to Report (line ∷ [])) (sent_no_report settings (other (event_in e).side) (event_in e).moment (outs_of s e))
+    ∙ line_is settings s e)
 
 report_end : (settings : Settings) (s : State WholeSession) → report_from settings s [] Done ≡ last_line settings (known_of s)
 unfolding given_by_all
@@ -64,9 +70,15 @@ abbrev pub records_of : (Side → List Packet) → Side → Records
 records_of packets side = record { packets = packets side; ending = Whole }
 
 abbrev pub given_from : Settings → State WholeSession → List Arrival → Ending → Given
-given_from settings s es ending = record { left = records_of (λ side. packets_to settings side s es) Left; right = records_of (λ side. packets_to settings side s es) Right; report = report_from settings s es ending }
+given_from settings s es ending =
+    record {
+      left = records_of (λ side. packets_to settings side s es) Left;
+      right = records_of (λ side. packets_to settings side s es) Right;
+      report = report_from settings s es ending;
+    }
 
-given_is : (settings : Settings) (s : State WholeSession) (es : List Arrival) (ending : Ending) (side : Side) → given_at side (given_from settings s es ending) ≡ records_of (λ x. packets_to settings x s es) side
+given_is : (settings : Settings) (s : State WholeSession) (es : List Arrival) (ending : Ending) (side : Side)
+    → given_at side (given_from settings s es ending) ≡ records_of (λ x. packets_to settings x s es) side
 given_is settings s es ending Left = refl
 given_is settings s es ending Right = refl
 
@@ -75,7 +87,9 @@ abbrev pub AllFew : State WholeSession → List Arrival → Type 0
 AllFew s [] = Unit {0}
 AllFew s (e ∷ es) = (length (outs_of s e) < 2 ^ 32) × IsLawfulList (wanted_of s.world e) (outs_of s e) × AllFew (after_one whole_rules s e) es
 
-abbrev at_one : (settings : Settings) (s : State WholeSession) (e : Arrival) (es : List Arrival) (ending : Ending) → length (outs_of s e) < 2 ^ 32 → IsLawfulList (wanted_of s.world e) (outs_of s e) → IsLawfulAt settings (known_of s) e (given_from settings s (e ∷ es) ending) (given_from settings (after_one whole_rules s e) es ending)
+abbrev at_one : (settings : Settings) (s : State WholeSession) (e : Arrival) (es : List Arrival) (ending : Ending) → length (outs_of s e) < 2 ^ 32
+    → IsLawfulList (wanted_of s.world e) (outs_of s e)
+    → IsLawfulAt settings (known_of s) e (given_from settings s (e ∷ es) ending) (given_from settings (after_one whole_rules s e) es ending)
 at_one settings s e es ending few lawful =
     let next = after_one whole_rules s e in
     let ds = outs_of s e in
@@ -88,20 +102,24 @@ at_one settings s e es ending few lawful =
           ap (λ (r : Records). r.packets) (given_is settings s (e ∷ es) ending (other (event_in e).side))
           ∙ ap (λ (ps : List Packet). ps ++ packets_to settings (other (event_in e).side) next es) (to_it (other (event_in e).side) records)
           ∙ ap (λ (r : Records). records ++ r.packets) (sym (given_is settings next es ending (other (event_in e).side)));
-      ending = ap (λ (r : Records). r.ending) (given_is settings next es ending (other (event_in e).side)) ∙ sym (ap (λ (r : Records). r.ending) (given_is settings s (e ∷ es) ending (other (event_in e).side)));
+      ending = ap (λ (r : Records). r.ending) (given_is settings next es ending (other (event_in e).side))
+          ∙ sym (ap (λ (r : Records). r.ending) (given_is settings s (e ∷ es) ending (other (event_in e).side)));
       others =
           given_is settings next es ending (event_in e).side
-          ∙ ap (λ (ps : List Packet). let r : Records = record { packets = ps ++ packets_to settings (event_in e).side next es; ending = Whole } in r) (sym (to_other (event_in e).side records))
+          ∙ ap (λ (ps : List Packet). let r : Records = record { packets = ps ++ packets_to settings (event_in e).side next es; ending = Whole } in r)
+          (sym (to_other (event_in e).side records))
           ∙ sym (given_is settings s (e ∷ es) ending (event_in e).side);
       lawful = lawful;
     }
 
-pub walked : (settings : Settings) (s : State WholeSession) (es : List Arrival) (ending : Ending) → AllFew s es → LawfulFrom settings (known_of s) es ending (given_from settings s es ending)
+pub walked : (settings : Settings) (s : State WholeSession) (es : List Arrival) (ending : Ending) → AllFew s es
+    → LawfulFrom settings (known_of s) es ending (given_from settings s es ending)
 walked settings s [] Done all = record { left = refl; right = refl; report = report_end settings s }
 walked settings s [] (Fault side fault place) all = tt
 walked settings s (e ∷ es) ending all =
     let next = after_one whole_rules s e in (
       given_from settings next es ending,
       at_one settings s e es ending all.0 all.1,
-      subst (λ (k : AuditState). LawfulFrom settings k es ending (given_from settings next es ending)) (sym (known_is s e)) (walked settings next es ending all.2),
+      subst (λ (k : AuditState). LawfulFrom settings k es ending (given_from settings next es ending)) (sym (known_is s e))
+          (walked settings next es ending all.2),
     )

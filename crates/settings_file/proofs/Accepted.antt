@@ -15,14 +15,17 @@ pub record IsAccepted (settings : Settings) : Type 0 where
   pub sound : IsSound settings
   pub forms : HasForms settings
 
-from_given : (fault : Option SettingsFault) (given : Given) (settings : Settings) → (fault ≡ None → IsSound given.settings) → HasForms given.settings → unless fault given.settings ≡ Ok settings → IsAccepted settings
-from_given None given settings fits forms is = let e : given.settings ≡ settings = cc in subst IsAccepted e (record { sound = fits refl; forms = forms })
+from_given : (fault : Option SettingsFault) (given : Given) (settings : Settings) → (fault ≡ None → IsSound given.settings) → HasForms given.settings
+    → unless fault given.settings ≡ Ok settings → IsAccepted settings
+from_given None given settings fits forms is = let e : given.settings ≡ settings = cc in
+    subst IsAccepted e (record { sound = fits refl; forms = forms })
 from_given (Some fault) given settings fits forms is = cc
 
 pub accepted : (octets : List ℕ) (settings : Settings) → settings_of octets ≡ Ok settings → IsAccepted settings
 unfolding settings_of
 accepted octets settings is = from (keys_of octets) refl is
   where
-    from : (found : Found Given) → keys_of octets ≡ found → (found >>= (λ given. unless (first_fault given) given.settings)) ≡ Ok settings → IsAccepted settings
+    from : (found : Found Given) → keys_of octets ≡ found → (found >>= (λ given. unless (first_fault given) given.settings)) ≡ Ok settings
+        → IsAccepted settings
     from (Ok given) was is = from_given (first_fault given) given settings (sound given) (formed octets given was) is
     from (Err fault) was is = cc

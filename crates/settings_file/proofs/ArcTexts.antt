@@ -24,7 +24,8 @@ pub above : (number x digit : ℕ) (xs : List ℕ) → number_of (x ∷ []) ≡ 
 unfolding arc_behind number_of
 above number x digit xs e more = let no : nat_le (10 * number + digit) greatest ≡ false = grind (arith, nat_tests) in rw e (rw no refl)
 
-pub one_digit : (number x digit : ℕ) (xs : List ℕ) → number_of (x ∷ []) ≡ Some digit → 10 * number + digit ≤ greatest → arc_behind number (x ∷ xs) ≡ arc_behind (10 * number + digit) xs
+pub one_digit : (number x digit : ℕ) (xs : List ℕ) → number_of (x ∷ []) ≡ Some digit → 10 * number + digit ≤ greatest
+    → arc_behind number (x ∷ xs) ≡ arc_behind (10 * number + digit) xs
 unfolding arc_behind number_of
 one_digit number x digit xs e fits = let yes : nat_le (10 * number + digit) greatest ≡ true = grind (arith, nat_tests) in rw e (rw yes refl)
 
@@ -46,14 +47,16 @@ one_less : (i : ℕ) (rest : List ℕ) → i < 64 → arcs_text (64 - i) rest �
 unfolding arcs_text
 one_less i rest within = let e : 64 - i ≡ suc (63 - i) = omega arith in rw e refl
 
-next : (arc : Option ℕ) (more : Option (List ℕ)) (arcs longer : List ℕ) → Some longer ≡ with_one arcs arc → behind longer more ≡ behind arcs (arc >>= (λ arc. more >>= (λ more. Some (arc ∷ more))))
+next : (arc : Option ℕ) (more : Option (List ℕ)) (arcs longer : List ℕ) → Some longer ≡ with_one arcs arc
+    → behind longer more ≡ behind arcs (arc >>= (λ arc. more >>= (λ more. Some (arc ∷ more))))
 next None more arcs longer h = cc
 next (Some arc) None arcs longer h = refl
 next (Some arc) (Some more) arcs longer h =
     let e : longer ≡ arcs ++ arc ∷ [] = same_Some _ _ h in
     rw (e, append_assoc) refl
 
-none : (arc : Option ℕ) (more : Option (List ℕ)) (arcs : List ℕ) → None ≡ with_one arcs arc → None ≡ behind arcs (arc >>= (λ arc. more >>= (λ more. Some (arc ∷ more))))
+none : (arc : Option ℕ) (more : Option (List ℕ)) (arcs : List ℕ) → None ≡ with_one arcs arc
+    → None ≡ behind arcs (arc >>= (λ arc. more >>= (λ more. Some (arc ∷ more))))
 none None more arcs h = refl
 none (Some arc) more arcs h = cc
 
@@ -61,13 +64,16 @@ last : (arc : Option ℕ) (arcs : List ℕ) → with_one arcs arc ≡ behind arc
 last None arcs = refl
 last (Some arc) arcs = refl
 
-pub arcs-next : (i : ℕ) (arcs rest first others longer : List ℕ) → i < 64 → Some (first, others) ≡ cut_at 46 rest → Some longer ≡ with_one arcs (arc_text first) → behind longer (arcs_text (64 - (i + 1)) others) ≡ behind arcs (arcs_text (64 - i) rest)
+pub arcs-next : (i : ℕ) (arcs rest first others longer : List ℕ) → i < 64 → Some (first, others) ≡ cut_at 46 rest
+    → Some longer ≡ with_one arcs (arc_text first) → behind longer (arcs_text (64 - (i + 1)) others) ≡ behind arcs (arcs_text (64 - i) rest)
 arcs-next i arcs rest first others longer within parts one =
     let e : 64 - (i + 1) ≡ 63 - i = omega arith in
     rw (e, one_less i rest within, sym parts) (next (arc_text first) (arcs_text (63 - i) others) arcs longer one)
 
-pub arcs-none : (i : ℕ) (arcs rest first others : List ℕ) → i < 64 → Some (first, others) ≡ cut_at 46 rest → None ≡ with_one arcs (arc_text first) → None ≡ behind arcs (arcs_text (64 - i) rest)
-arcs-none i arcs rest first others within parts one = rw (one_less i rest within, sym parts) (none (arc_text first) (arcs_text (63 - i) others) arcs one)
+pub arcs-none : (i : ℕ) (arcs rest first others : List ℕ) → i < 64 → Some (first, others) ≡ cut_at 46 rest → None ≡ with_one arcs (arc_text first)
+    → None ≡ behind arcs (arcs_text (64 - i) rest)
+arcs-none i arcs rest first others within parts one =
+    rw (one_less i rest within, sym parts) (none (arc_text first) (arcs_text (63 - i) others) arcs one)
 
 pub arcs-last : (i : ℕ) (arcs rest : List ℕ) → i < 64 → None ≡ cut_at 46 rest → with_one arcs (arc_text rest) ≡ behind arcs (arcs_text (64 - i) rest)
 arcs-last i arcs rest within parts = rw (one_less i rest within, sym parts) (last (arc_text rest) arcs)
@@ -77,14 +83,17 @@ unfolding arcs_text
 arcs-end more arcs rest none = rw none refl
 
 -- where a function read something, it is what another equation says
-pub if_read : {A B E : Type 0} (view : A → B) (result : Result (Option A) E) (one all : Option B) → IfOk result (λ r. option_map view r ≡ one) → one ≡ all → IfOk result (λ r. option_map view r ≡ all)
+pub if_read : {A B E : Type 0} (view : A → B) (result : Result (Option A) E) (one all : Option B) → IfOk result (λ r. option_map view r ≡ one)
+    → one ≡ all → IfOk result (λ r. option_map view r ≡ all)
 if_read view (Ok r) one all h e = h ∙ e
 if_read view (Err e) one all h is = tt
 
 -- ## A prefix
 
 pub are_arcs : (arcs : List ℕ) → ((k : ℕ) → get_or arcs k 0 < 2 ^ 32) → list_all (λ arc. nat_le arc greatest) arcs ≡ true
-are_arcs arcs small = list_all-from_AllPass (λ arc. nat_le arc greatest) arcs (All-from_get_or (λ arc. nat_le arc greatest ≡ true) arcs 0 (λ k within. let below = small k in grind (arith, nat_tests)))
+are_arcs arcs small =
+    list_all-from_AllPass (λ arc. nat_le arc greatest) arcs
+    (All-from_get_or (λ arc. nat_le arc greatest ≡ true) arcs 0 (λ k within. let below = small k in grind (arith, nat_tests)))
 
 and_true : (test : Bool) → test ≡ (test && true)
 and_true true = refl
@@ -93,5 +102,7 @@ and_true false = refl
 abbrev can_begin : ℕ → ℕ → Bool
 can_begin first second = (nat_le first 1 && nat_le second 39) || (first == 2 && nat_le second 4_294_967_215)
 
-pub prefix_is : (arcs : List ℕ) → 2 ≤ length arcs → length arcs ≤ 64 → ((k : ℕ) → get_or arcs k 0 < 2 ^ 32) → can_begin (get_or arcs 0 0) (get_or arcs 1 0) ≡ is_prefix arcs
-prefix_is arcs some few small = rw (le-leb 2 (length arcs) some, le-leb (length arcs) 64 few, are_arcs arcs small) (and_true (can_begin (get_or arcs 0 0) (get_or arcs 1 0)))
+pub prefix_is : (arcs : List ℕ) → 2 ≤ length arcs → length arcs ≤ 64 → ((k : ℕ) → get_or arcs k 0 < 2 ^ 32)
+    → can_begin (get_or arcs 0 0) (get_or arcs 1 0) ≡ is_prefix arcs
+prefix_is arcs some few small =
+    rw (le-leb 2 (length arcs) some, le-leb (length arcs) 64 few, are_arcs arcs small) (and_true (can_begin (get_or arcs 0 0) (get_or arcs 1 0)))

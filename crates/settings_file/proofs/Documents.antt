@@ -7,7 +7,8 @@ use Rattle.toml.specs.Data.{Members}
 use Rattle.toml.specs.Parse.{parse_document}
 use Rattle.settings_file.specs.Document.{document_of}
 
-pub document-read : (octets : List ℕ) (document : Members) → IsUtf8 octets → parse_document octets ≡ Some document → document_of octets ≡ Some document
+pub document-read : (octets : List ℕ) (document : Members) → IsUtf8 octets → parse_document octets ≡ Some document
+    → document_of octets ≡ Some document
 unfolding document_of
 document-read octets document text parsed = rw (is_utf8-from_IsUtf8 octets text) parsed
 

@@ -64,7 +64,8 @@ found : {A : Type 0} (P : A → Type 0) (o : Option A) (fault : SettingsFault) �
 found P None fault h = tt
 found P (Some x) fault h = h
 
-pub given : {A B : Type 0} (Q : A → Type 0) (P : B → Type 0) (first : Found A) (f : A → Found B) → IfOk first Q → ((x : A) → Q x → IfOk (f x) P) → IfOk (first >>= f) P
+pub given : {A B : Type 0} (Q : A → Type 0) (P : B → Type 0) (first : Found A) (f : A → Found B) → IfOk first Q → ((x : A) → Q x → IfOk (f x) P)
+    → IfOk (first >>= f) P
 given Q P (Ok x) f q h = h x q
 given Q P (Err e) f q h = tt
 
@@ -72,8 +73,10 @@ pub after : {A B : Type 0} (P : B → Type 0) (first : Found A) (f : A → Found
 after P (Ok x) f h = h x
 after P (Err e) f h = tt
 
-pub spelled : {A : Type 0} (P : A → Type 0) (spell : List ℕ → Option A) (fault : Key → SettingsFault) → ((text : List ℕ) → IfSome (spell text) P) → (key : Key) (value : Data) → IfOk (document.spelled spell fault key value) P
-spelled P spell fault h key value = after P (document.text key value) (λ words. ok_or (spell words) (fault key)) (λ words. found P (spell words) (fault key) (h words))
+pub spelled : {A : Type 0} (P : A → Type 0) (spell : List ℕ → Option A) (fault : Key → SettingsFault) → ((text : List ℕ) → IfSome (spell text) P)
+    → (key : Key) (value : Data) → IfOk (document.spelled spell fault key value) P
+spelled P spell fault h key value =
+    after P (document.text key value) (λ words. ok_or (spell words) (fault key)) (λ words. found P (spell words) (fault key) (h words))
 
 address : (key : Key) (value : Data) → IfOk (document.address key value) IsUnicast
 unfolding document.address
@@ -101,32 +104,40 @@ skip key value = found IsFew _ _ (from (as_integer value))
 
 -- ## Keys
 
-needed : {A : Type 0} (P : A → Type 0) (read : Key → Data → Found A) → ((key : Key) (value : Data) → IfOk (read key value) P) → (key : Key) (table : Members) → IfOk (document.needed read key table) P
+needed : {A : Type 0} (P : A → Type 0) (read : Key → Data → Found A) → ((key : Key) (value : Data) → IfOk (read key value) P)
+    → (key : Key) (table : Members) → IfOk (document.needed read key table) P
 needed P read h key table = after P _ (read key) (h key)
 
-pub optional : {A : Type 0} (P : A → Type 0) (read : Key → Data → Found A) (default : A) → P default → ((key : Key) (value : Data) → IfOk (read key value) P) → (key : Key) (members : Members) → IfOk (document.optional read default key members) P
+pub optional : {A : Type 0} (P : A → Type 0) (read : Key → Data → Found A) (default : A) → P default
+    → ((key : Key) (value : Data) → IfOk (read key value) P) → (key : Key) (members : Members) → IfOk (document.optional read default key members) P
 optional P read default base h key members = from (get_member (name_of key) members)
   where
     from : (o : Option Data) → IfOk (document.read_or (read key) default o) P
     from None = base
     from (Some value) = h key value
 
-each : {A : Type 0} (P : A → Type 0) (read : ℕ → Data → Found A) → ((n : ℕ) (value : Data) → IfOk (read n value) P) → (n : ℕ) (values : Items) → IfOk (document.each read n values) (AllByRecursion P)
+each : {A : Type 0} (P : A → Type 0) (read : ℕ → Data → Found A) → ((n : ℕ) (value : Data) → IfOk (read n value) P) → (n : ℕ) (values : Items)
+    → IfOk (document.each read n values) (AllByRecursion P)
 each P read h n no_items = tt
 each P read h n (item value values) = both (read n value) (document.each read (n + 1) values) (h n value) (each P read h (n + 1) values)
   where
-    both : (first : Found _) (others : Found (List _)) → IfOk first P → IfOk others (AllByRecursion P) → IfOk (first >>= (λ x. others >>= (λ xs. Ok (x ∷ xs)))) (AllByRecursion P)
+    both : (first : Found _) (others : Found (List _)) → IfOk first P → IfOk others (AllByRecursion P)
+        → IfOk (first >>= (λ x. others >>= (λ xs. Ok (x ∷ xs)))) (AllByRecursion P)
     both (Ok x) (Ok xs) p ps = (p, ps)
     both (Ok x) (Err e) p ps = tt
     both (Err e) others p ps = tt
 
-chosen : {A : Type 0} (P : A → Type 0) (test : Bool) (all : Found (List A)) (fault : SettingsFault) → IfOk all (AllByRecursion P) → IfOk (if test then all else Err fault) (All P)
+chosen : {A : Type 0} (P : A → Type 0) (test : Bool) (all : Found (List A)) (fault : SettingsFault) → IfOk all (AllByRecursion P)
+    → IfOk (if test then all else Err fault) (All P)
 chosen P true (Ok xs) fault h = All-from_recursion P xs h
 chosen P true (Err e) fault h = tt
 chosen P false all fault h = tt
 
-array_of : {A : Type 0} (P : A → Type 0) (is_kind : Data → Bool) (read : ℕ → Data → Found A) → ((n : ℕ) (value : Data) → IfOk (read n value) P) → (key : Key) (value : Data) → IfOk (document.array_of is_kind read key value) (All P)
-array_of P is_kind read h key value = after (All P) (document.array key value) _ (λ values. chosen P (document.are_all is_kind values) (document.each read 1 values) (Kind key) (each P read h 1 values))
+array_of : {A : Type 0} (P : A → Type 0) (is_kind : Data → Bool) (read : ℕ → Data → Found A) → ((n : ℕ) (value : Data) → IfOk (read n value) P)
+    → (key : Key) (value : Data) → IfOk (document.array_of is_kind read key value) (All P)
+array_of P is_kind read h key value =
+    after (All P) (document.array key value) _
+    (λ values. chosen P (document.are_all is_kind values) (document.each read 1 values) (Kind key) (each P read h 1 values))
 
 -- ## The keys of a document
 
@@ -136,11 +147,14 @@ HasUnicastSide side = HasUnicastPool side.settings
 side_keys : (side : Side) (members : Members) → IfOk (document.side_keys side members) HasUnicastSide
 unfolding document.side_keys
 side_keys side members =
-    given IsUnicast HasUnicastSide (document.needed document.address (PoolFirst side) members) _ (needed IsUnicast document.address address (PoolFirst side) members) (λ first is_first.
-    given IsUnicast HasUnicastSide (document.needed document.address (PoolLast side) members) _ (needed IsUnicast document.address address (PoolLast side) members) (λ last is_last.
+    given IsUnicast HasUnicastSide (document.needed document.address (PoolFirst side) members) _
+    (needed IsUnicast document.address address (PoolFirst side) members) (λ first is_first.
+    given IsUnicast HasUnicastSide (document.needed document.address (PoolLast side) members) _
+    (needed IsUnicast document.address address (PoolLast side) members) (λ last is_last.
     after HasUnicastSide (document.needed document.link (Link side) members) _ (λ link.
     after HasUnicastSide (document.optional document.given_mac None (GatewayMac side) members) _ (λ gateway.
-    after HasUnicastSide (document.optional document.given_mac None (NextMac side) members) _ (λ next. record { first = is_first; last = is_last })))))
+    after HasUnicastSide (document.optional document.given_mac None (NextMac side) members) _
+    (λ next. record { first = is_first; last = is_last })))))
 
 side_table : (side : Side) (members : Members) → IfOk (document.side_table side members) HasUnicastSide
 unfolding document.side_table
@@ -150,8 +164,10 @@ static_keys : (n : ℕ) (members : Members) → IfOk (document.static_keys n mem
 unfolding document.static_keys
 static_keys n members =
     after IsUnicastPair (document.needed document.side (StaticSide n) members) _ (λ side.
-    given IsUnicast IsUnicastPair (document.needed document.address (StaticHost n) members) _ (needed IsUnicast document.address address (StaticHost n) members) (λ host is_host.
-    given IsUnicast IsUnicastPair (document.needed document.address (StaticAlias n) members) _ (needed IsUnicast document.address address (StaticAlias n) members) (λ alias is_alias.
+    given IsUnicast IsUnicastPair (document.needed document.address (StaticHost n) members) _
+    (needed IsUnicast document.address address (StaticHost n) members) (λ host is_host.
+    given IsUnicast IsUnicastPair (document.needed document.address (StaticAlias n) members) _
+    (needed IsUnicast document.address address (StaticAlias n) members) (λ alias is_alias.
     record { host = is_host; alias = is_alias })))
 
 static_entry : (n : ℕ) (value : Data) → IfOk (document.static_entry n value) IsUnicastPair
@@ -164,8 +180,10 @@ IsRule rule = is_rule rule ≡ true
 oid_keys : (n : ℕ) (members : Members) → IfOk (document.oid_keys n members) IsRule
 unfolding document.oid_keys
 oid_keys n members =
-    given IsPrefix IsRule (document.needed document.prefix (OidPrefix n) members) _ (needed IsPrefix document.prefix prefix (OidPrefix n) members) (λ prefix is_prefix.
-    given IsFew IsRule (document.needed document.skip (OidSkip n) members) _ (needed IsFew document.skip skip (OidSkip n) members) (λ skip is_few. rw (is_prefix, is_few) refl))
+    given IsPrefix IsRule (document.needed document.prefix (OidPrefix n) members) _ (needed IsPrefix document.prefix prefix (OidPrefix n) members)
+    (λ prefix is_prefix.
+    given IsFew IsRule (document.needed document.skip (OidSkip n) members) _ (needed IsFew document.skip skip (OidSkip n) members)
+    (λ skip is_few. rw (is_prefix, is_few) refl))
 
 oid_entry : (n : ℕ) (value : Data) → IfOk (document.oid_entry n value) IsRule
 unfolding document.oid_entry
@@ -191,11 +209,14 @@ unfolding document.all_keys
 all_keys members =
     after HasGivenForms (document.optional document.report Text Report members) _ (λ report.
     after HasGivenForms (document.optional document.join false Fragments members) _ (λ join.
-    given (All IsBlock) HasGivenForms (document.optional document.blocks [] Same members) _ (optional (All IsBlock) document.blocks [] (All-nil IsBlock) blocks Same members) (λ same are_blocks.
+    given (All IsBlock) HasGivenForms (document.optional document.blocks [] Same members) _
+    (optional (All IsBlock) document.blocks [] (All-nil IsBlock) blocks Same members) (λ same are_blocks.
     given HasUnicastSide HasGivenForms (document.side_table Left members) _ (side_table Left members) (λ left has_left.
     given HasUnicastSide HasGivenForms (document.side_table Right members) _ (side_table Right members) (λ right has_right.
-    given (All IsUnicastPair) HasGivenForms (document.optional document.statics [] Statics members) _ (optional (All IsUnicastPair) document.statics [] (All-nil IsUnicastPair) statics Statics members) (λ statics are_pairs.
-    given (All IsRule) HasGivenForms (document.optional document.oids [] Oids members) _ (optional (All IsRule) document.oids [] (All-nil IsRule) oids Oids members) (λ oids are_rules. record {
+    given (All IsUnicastPair) HasGivenForms (document.optional document.statics [] Statics members) _
+    (optional (All IsUnicastPair) document.statics [] (All-nil IsUnicastPair) statics Statics members) (λ statics are_pairs.
+    given (All IsRule) HasGivenForms (document.optional document.oids [] Oids members) _
+    (optional (All IsRule) document.oids [] (All-nil IsRule) oids Oids members) (λ oids are_rules. record {
       blocks = are_blocks;
       left = has_left;
       right = has_right;
@@ -207,7 +228,8 @@ keys_formed : (octets : List ℕ) → IfOk (document.keys_of octets) HasGivenFor
 unfolding document.keys_of
 keys_formed octets = chosen (nat_lt 1048576 (length octets))
   where
-    chosen : (test : Bool) → IfOk (if test then Err TooLong else ok_or (document.document_of octets) NotToml >>= (λ members. document.all_keys members)) HasGivenForms
+    chosen : (test : Bool)
+        → IfOk (if test then Err TooLong else ok_or (document.document_of octets) NotToml >>= (λ members. document.all_keys members)) HasGivenForms
     chosen true = tt
     chosen false = after HasGivenForms (ok_or (document.document_of octets) NotToml) document.all_keys all_keys
 

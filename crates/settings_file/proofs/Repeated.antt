@@ -14,11 +14,12 @@ use Rattle.gate_settings.specs.Prelude.{collides}
 use Rattle.gate_settings.specs.declared.settings.Fixed.{Fixed}
 use Rattle.settings_file.specs.declared.fault.SettingsFault.TheVariants.{StaticRepeated}
 use Rattle.settings_file.specs.Accepting.{first_repeated}
-use Rattle.settings_file.specs.Numbers.{number_of, host_number, alias_number}
+use Rattle.settings_file.specs.Inside.Numbers.{number_of, host_number, alias_number}
 
 -- ## What collides
 
-by_numbers : (s t : Side) (a b c d : ℕ) → (same_side s t && ((a == b) || (c == d))) ≡ ((number_of s a == number_of t b) || (number_of s c == number_of t d))
+by_numbers : (s t : Side) (a b c d : ℕ)
+    → (same_side s t && ((a == b) || (c == d))) ≡ ((number_of s a == number_of t b) || (number_of s c == number_of t d))
 by_numbers Left Left a b c d = grind (arith, nat_tests)
 by_numbers Left Right a b c d = grind (arith, nat_tests)
 by_numbers Right Left a b c d = grind (arith, nat_tests)
@@ -30,7 +31,9 @@ joined false true true d = refl
 joined false true false d = refl
 joined false false c d = refl
 
-any_collides : (fixed : Fixed) (earlier : List Fixed) → list_any (collides fixed) earlier ≡ (list_any (λ e. host_number e == host_number fixed) earlier || list_any (λ e. alias_number e == alias_number fixed) earlier)
+any_collides : (fixed : Fixed) (earlier : List Fixed)
+    → list_any (collides fixed) earlier
+    ≡ (list_any (λ e. host_number e == host_number fixed) earlier || list_any (λ e. alias_number e == alias_number fixed) earlier)
 any_collides fixed [] = refl
 any_collides fixed (e ∷ es) =
     ap (λ b. b || list_any (collides fixed) es) (by_numbers e.side fixed.side e.host.0 fixed.host.0 e.alias.0 fixed.alias.0)
@@ -68,7 +71,10 @@ numbers_more number old new statics i d key q l is h before =
 
 -- ## The next static
 
-at_next : (statics : List Fixed) (i : ℕ) (d : Fixed) → i < length statics → first_repeated (take i statics) (drop i statics) ≡ (if list_any (collides (get_or statics i d)) (take i statics) then Some (StaticRepeated (i + 1)) else first_repeated (take (i + 1) statics) (drop (i + 1) statics))
+at_next : (statics : List Fixed) (i : ℕ) (d : Fixed) → i < length statics
+    → first_repeated (take i statics) (drop i statics)
+    ≡ (if list_any (collides (get_or statics i d)) (take i statics) then Some (StaticRepeated (i + 1)) else first_repeated (take (i + 1) statics)
+    (drop (i + 1) statics))
 at_next statics i d l =
     let fixed = get_or statics i d in
     let found = list_any (collides fixed) (take i statics) in
@@ -89,14 +95,17 @@ has_alias statics i fixed = list_any (λ e. alias_number e == alias_number fixed
 by_test : (statics : List Fixed) (i : ℕ) (d : Fixed) (b : Bool) → i < length statics
     → (has_host statics i (get_or statics i d) || has_alias statics i (get_or statics i d)) ≡ b → first_repeated (take i statics) (drop i statics)
     ≡ (if b then Some (StaticRepeated (i + 1)) else first_repeated (take (i + 1) statics) (drop (i + 1) statics))
-by_test statics i d b l is = at_next statics i d l ∙ ap (λ b. if b then Some (StaticRepeated (i + 1)) else first_repeated (take (i + 1) statics) (drop (i + 1) statics)) (any_collides (get_or statics i d) (take i statics) ∙ is)
+by_test statics i d b l is = at_next statics i d l
+    ∙ ap (λ b. if b then Some (StaticRepeated (i + 1)) else first_repeated (take (i + 1) statics) (drop (i + 1) statics))
+    (any_collides (get_or statics i d) (take i statics) ∙ is)
 
 pub collides_next : (statics : List Fixed) (i : ℕ) (d : Fixed) (new_host new_alias : Bool) → i < length statics
     → new_host ≡ not (has_host statics i (get_or statics i d)) → new_alias ≡ not (has_alias statics i (get_or statics i d)) → (new_host ≡ false)
     ⊎ ((new_host ≡ true) × (new_alias ≡ false)) → first_repeated (take i statics) (drop i statics) ≡ Some (StaticRepeated (i + 1))
 collides_next statics i d new_host new_alias l host alias either = by_test statics i d true l (held _ _ new_host new_alias host alias either)
   where
-    held : (a b new_host new_alias : Bool) → new_host ≡ not a → new_alias ≡ not b → (new_host ≡ false) ⊎ ((new_host ≡ true) × (new_alias ≡ false)) → (a || b) ≡ true
+    held : (a b new_host new_alias : Bool) → new_host ≡ not a → new_alias ≡ not b → (new_host ≡ false) ⊎ ((new_host ≡ true) × (new_alias ≡ false))
+        → (a || b) ≡ true
     held true b m n g h e = refl
     held false true m n g h e = refl
     held false false m n g h (inl e) = cc
@@ -105,7 +114,8 @@ collides_next statics i d new_host new_alias l host alias either = by_test stati
 pub passes_next : (statics : List Fixed) (i : ℕ) (d : Fixed) (new_host new_alias : Bool) → i < length statics
     → new_host ≡ not (has_host statics i (get_or statics i d)) → new_alias ≡ not (has_alias statics i (get_or statics i d)) → new_host ≡ true
     → new_alias ≡ true → first_repeated (take i statics) (drop i statics) ≡ first_repeated (take (i + 1) statics) (drop (i + 1) statics)
-passes_next statics i d new_host new_alias l host alias first second = by_test statics i d false l (none _ _ new_host new_alias host alias first second)
+passes_next statics i d new_host new_alias l host alias first second =
+    by_test statics i d false l (none _ _ new_host new_alias host alias first second)
   where
     none : (a b new_host new_alias : Bool) → new_host ≡ not a → new_alias ≡ not b → new_host ≡ true → new_alias ≡ true → (a || b) ≡ false
     none false false m n g h e f = refl

@@ -18,7 +18,8 @@ use Rattle.gate_settings.specs.Prelude.{collides, is_bad_pool, meets_same, host_
 use Rattle.settings_file.specs.Accepting.{first_side, first_static, first_repeated, first_fault, pool_size, same_in_pool, host_in_pool, static_outside_pool, static_repeated, mac_missing}
 
 -- where no line has a fault, each line has none
-no_line : (line : Option SettingsFault) (lines : List (Option SettingsFault)) → fold option_or line lines ≡ None → AllByRecursion (λ l. l ≡ None) (line ∷ lines)
+no_line : (line : Option SettingsFault) (lines : List (Option SettingsFault)) → fold option_or line lines ≡ None
+    → AllByRecursion (λ l. l ≡ None) (line ∷ lines)
 no_line None [] h = (refl, tt)
 no_line None (line ∷ lines) h = (refl, no_line line lines h)
 no_line (Some fault) [] h = cc
@@ -39,10 +40,12 @@ no_place test statics h k d within =
       | inr fails ↦ fails_before_first test statics k d (omega (arith, ltb-false))
     ]
 
-no_static : (test : Fixed → Bool) (fault : ℕ → SettingsFault) (statics : List Fixed) → first_static test fault statics ≡ None → All (λ fixed. test fixed ≡ false) statics
+no_static : (test : Fixed → Bool) (fault : ℕ → SettingsFault) (statics : List Fixed) → first_static test fault statics ≡ None
+    → All (λ fixed. test fixed ≡ false) statics
 no_static test fault statics h = no_place test statics (none_mapped (λ place. fault (place + 1)) (position test statics) h)
 
-none_at : (test : Fixed → Bool) (statics : List Fixed) (k : ℕ) (d : Fixed) → list_any test statics ≡ false → k < length statics → test (get_or statics k d) ≡ false
+none_at : (test : Fixed → Bool) (statics : List Fixed) (k : ℕ) (d : Fixed) → list_any test statics ≡ false → k < length statics
+    → test (get_or statics k d) ≡ false
 none_at test statics k d h within =
     elim (cases_Bool (test (get_or statics k d))) [ inl holds ↦ cc (list_any_at test statics k d within holds) | inr fails ↦ fails ]
 
@@ -55,7 +58,9 @@ no_repeated earlier (fixed ∷ later) once h =
     elim (cases_Bool (list_any (collides fixed) earlier)) [
       | inl holds ↦ cc (rw holds at h)
       | inr fails ↦
-          let more = all_pairs_push (λ one two. collides two one ≡ false) earlier fixed once (λ k d within. none_at (collides fixed) earlier k d fails within) in
+          let more =
+          all_pairs_push (λ one two. collides two one ≡ false) earlier fixed once
+          (λ k d within. none_at (collides fixed) earlier k d fails within) in
           rw append_assoc at (no_repeated (earlier ++ fixed ∷ []) later more (rw fails at h))
     ]
 

@@ -13,11 +13,6 @@ abbrev pub ◌>>=◌ : {A B : Type 0} → Result A SettingsFault → (A → Resu
 (Ok x) >>= f = f x
 (Err e) >>= f = Err e
 
--- What a function returned, seen by `see`, is this.
-abbrev pub Sees : {X Y : Type 0} → (X → Y) → Result X SettingsFault → Result Y SettingsFault → Type 0
-Sees see (Ok x) found = found ≡ Ok (see x)
-Sees see (Err f) found = found ≡ Err f
-
 abbrev pub Fails : {Y : Type 0} → ReadSettings → Result Y SettingsFault → Type 0
 Fails (Fault f) found = found ≡ Err f
 Fails OutOfMemory found = Unit {0}
@@ -26,8 +21,3 @@ Fails OutOfMemory found = Unit {0}
 abbrev pub ReturnsFound : {Y : Type 0} → Result Y ReadSettings → Result Y SettingsFault → Type 0
 ReturnsFound (Ok x) found = found ≡ Ok x
 ReturnsFound (Err e) found = Fails e found
-
--- The same, seen by `see`.
-abbrev pub ReturnsFoundBy : {X Y : Type 0} → (X → Y) → Result X ReadSettings → Result Y SettingsFault → Type 0
-ReturnsFoundBy see (Ok x) found = found ≡ Ok (see x)
-ReturnsFoundBy see (Err e) found = Fails e found

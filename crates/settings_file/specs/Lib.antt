@@ -5,4 +5,4 @@ pub mod Texts
 pub mod Prefixes
 pub mod Document
 pub mod Accepting
-pub mod Numbers
+pub mod Inside

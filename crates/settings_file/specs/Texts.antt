@@ -58,7 +58,8 @@ hex_pair text place = do
 
 -- a colon (58) behind each pair of digits but the last
 abbrev pub has_colons : List ℕ → Bool
-has_colons text = (((slice_index text 2 == 58 && slice_index text 5 == 58) && slice_index text 8 == 58) && slice_index text 11 == 58) && slice_index text 14 == 58
+has_colons text =
+    (((slice_index text 2 == 58 && slice_index text 5 == 58) && slice_index text 8 == 58) && slice_index text 11 == 58) && slice_index text 14 == 58
 
 -- the numbers of six pairs of digits
 abbrev pub six_pairs : List ℕ → Option (List ℕ)

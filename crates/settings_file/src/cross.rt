@@ -2,7 +2,7 @@
 ghost use Rattle.std.specs.Prelude.{◌≡◌, ◌<◌, ◌^◌, [], length, position, IfOk, IfSome};
 ghost use Rattle.gate_settings.specs.Cross as cross;
 ghost use Rattle.settings_file.specs.Accepting as accepting;
-ghost use Rattle.settings_file.specs.Numbers as keys;
+ghost use Rattle.settings_file.specs.Inside.Numbers as keys;
 
 use crate::fault::SettingsFault;
 use crate::given::Given;

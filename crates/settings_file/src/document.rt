@@ -1,7 +1,8 @@
 // The settings of octets.
 ghost use Rattle.std.specs.Prelude.{◌≡◌, ◌<◌, ◌^◌, length, IfOk, ok_or};
 ghost use Rattle.toml.specs.View.{table_view};
-ghost use Rattle.settings_file.specs.Firsts.{ReturnsFound, ReturnsFoundBy};
+ghost use Rattle.settings_file.specs.Firsts.{ReturnsFound};
+ghost use Rattle.settings_file.specs.Inside.Firsts.{ReturnsFoundBy};
 ghost use Rattle.settings_file.specs.Document.{document_of, keys_of};
 ghost use Rattle.settings_file.specs.Accepting.{settings_of};
 ghost use Rattle.gate_settings.specs.Prelude.{HasForms, IsSound};

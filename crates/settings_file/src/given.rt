@@ -2,7 +2,8 @@
 ghost use Rattle.std.specs.Prelude.{◌≡◌, ◌<◌, ◌^◌, [], None, false, length, IfOk};
 ghost use Rattle.toml.specs.View.{view, items_view, table_view};
 ghost use Rattle.gate_settings.specs.declared.settings.ReportForm.TheVariants.{Text};
-ghost use Rattle.settings_file.specs.Firsts.{Sees, ReturnsFound, ReturnsFoundBy};
+ghost use Rattle.settings_file.specs.Firsts.{ReturnsFound};
+ghost use Rattle.settings_file.specs.Inside.Firsts.{Sees, ReturnsFoundBy};
 ghost use Rattle.settings_file.specs.Document as document;
 
 use crate::fault::{ReadSettings, SettingsFault};

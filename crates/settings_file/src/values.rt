@@ -3,7 +3,8 @@ ghost use Rattle.std.specs.Prelude.{◌≡◌, option_map, ok_or};
 ghost use Rattle.toml.specs.Data.{get_member};
 ghost use Rattle.toml.specs.View.{view, array_view, table_view};
 ghost use Rattle.settings_file.specs.Keys.{name_of};
-ghost use Rattle.settings_file.specs.Firsts.{Sees, ReturnsFound};
+ghost use Rattle.settings_file.specs.Firsts.{ReturnsFound};
+ghost use Rattle.settings_file.specs.Inside.Firsts.{Sees};
 ghost use Rattle.settings_file.specs.Document as document;
 ghost use Rattle.settings_file.specs.declared.fault.SettingsFault.TheVariants.{Missing};
 

@@ -1,7 +1,5 @@
 pub mod Answers
-pub mod Inside
-pub mod Room
 pub mod Kept
-pub mod Order
 pub mod Sources
 pub mod Prelude
+pub mod Inside

@@ -42,7 +42,7 @@ impl Model for Ledger {
 
     ghost Value = { Kept };
 
-    ghost use Rattle.shift_ledger.specs.Inside.{kept_of, IsInOrder};
+    ghost use Rattle.shift_ledger.specs.Inside.Whole.{kept_of, IsInOrder};
 
     ghost view = { kept_of };
 

@@ -22,7 +22,7 @@ pub struct Recent {
 
 impl Model for Recent {
     ghost use Rattle.std.specs.Prelude.{ℕ, List, drop, length, vec_capacity};
-    ghost use Rattle.shift_ledger.specs.Room.{HasRoom};
+    ghost use Rattle.shift_ledger.specs.Inside.Room.{HasRoom};
 
     ghost Value = { List ℕ };
 

@@ -6,7 +6,7 @@ use Rattle.snmp_gateway.specs.declared.message.SnmpKind.{SnmpKind}
 use Rattle.snmp_gateway.specs.declared.outline.Outline.{Outline}
 use Rattle.snmp_gateway.specs.declared.part.Part.{Part}
 use Rattle.snmp_gateway.specs.Message.{binding, bindings, outline_of, places_ahead, message, kind_of, places_of}
-use Rattle.snmp_gateway.specs.Walk.{is_at_end, StandsIn, Passes}
+use Rattle.snmp_gateway.specs.Inside.Walk.{is_at_end, StandsIn, Passes}
 use Rattle.snmp_gateway.specs.Renaming.{renamed_at, renamed}
 use Rattle.snmp_gateway.proofs.Reading.{message_by, binding_leaves, bindings_next, bindings_stop}
 use Rattle.snmp_gateway.proofs.Kept.{renamed_differs, bindings_same}

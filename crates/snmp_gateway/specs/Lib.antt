@@ -1,5 +1,5 @@
 pub mod Parts
 pub mod Message
-pub mod Walk
 pub mod Renaming
 pub mod Element
+pub mod Inside

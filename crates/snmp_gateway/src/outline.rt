@@ -2,7 +2,7 @@
 ghost use Rattle.std.specs.Prelude.{◌≡◌, ◌++◌, if◌then◌else◌, Some, None, [], length, option_map, option_to_list, IsNone};
 ghost use Rattle.std.specs.Option.{ForSome};
 ghost use Rattle.snmp_gateway.specs.Message.{address_in, is_common_value_tag, is_value_tag, binding, request, trap, is_pdu_tag, pdu, with_community, by_version, outline_of, places_ahead};
-ghost use Rattle.snmp_gateway.specs.Walk.{is_at_end, StandsIn, Passes};
+ghost use Rattle.snmp_gateway.specs.Inside.Walk.{is_at_end, StandsIn, Passes};
 
 use crate::message::SnmpKind;
 use crate::part::{

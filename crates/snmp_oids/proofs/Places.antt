@@ -11,7 +11,8 @@ use Rattle.gate_base.specs.declared.rule.OidRule.{OidRule}
 use Rattle.gate_base.proofs.Options.{some_mapped}
 use Rattle.snmp_gateway.proofs.Whole.{tested_first}
 use Rattle.oid_rules.specs.Sorted.{before}
-use Rattle.snmp_oids.specs.Arcs.{joined, numbers_from, numbers_of, numbers_in, arcs_for, arcs_of, arcs_in, address_of, named_by, named, named_in, small_first}
+use Rattle.snmp_oids.specs.Arcs.{joined, numbers_from, numbers_of, arcs_for, arcs_of, address_of, named_by, named, named_in, small_first}
+use Rattle.snmp_oids.specs.Inside.Arcs.{numbers_in, arcs_in}
 use Rattle.snmp_oids.specs.Identifier.{place_behind}
 use Rattle.snmp_oids.proofs.SubIdentifiers.{all_of}
 

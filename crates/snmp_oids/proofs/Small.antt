@@ -4,7 +4,8 @@ use Rattle.std.proofs.Math.ListN.{replicate, set}
 use Rattle.std.proofs.lemmas.Bool.{cases_lt, cases_order}
 use Rattle.std.proofs.lemmas.List.{get_or-set_same, get_or-set_other}
 use Rattle.gate_base.specs.Prelude.{◌>>=◌}
-use Rattle.snmp_oids.specs.Arcs.{address_of, arcs_of, four_at, four_of, numbers_in, small, small_at, small_first}
+use Rattle.snmp_oids.specs.Arcs.{address_of, arcs_of, small_first}
+use Rattle.snmp_oids.specs.Inside.Arcs.{four_at, four_of, numbers_in, small, small_at}
 use Rattle.snmp_oids.proofs.Places.{arcs_are, drop_arcs}
 use Rattle.snmp_oids.proofs.SubIdentifiers.{all_of}
 

@@ -8,7 +8,7 @@ use Rattle.gate_base.specs.declared.rule.OidRule.{OidRule}
 use Rattle.snmp_gateway.specs.Element.{Element, element_at, element_with, length_at, is_long_form}
 use Rattle.snmp_gateway.proofs.Elements.{element_room}
 use Rattle.snmp_oids.specs.Elements.{octets_for, shortest, head_for, head_of, is_constructed, primitive_renamed, content_renamed, elements_within, elements_renamed}
-use Rattle.snmp_oids.specs.Written.{with_octets}
+use Rattle.snmp_oids.specs.Inside.Written.{with_octets}
 use Rattle.snmp_oids.proofs.Writing.{written_after, overwritten, read_back}
 
 -- a content is shorter than 2 ^ 32 octets

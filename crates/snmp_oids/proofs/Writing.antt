@@ -3,7 +3,7 @@ use Rattle.std.proofs.Common.{◌≡◌, ℕ, ◌+◌, ◌≤◌, List, [], ◌+
 use Rattle.std.proofs.lemmas.List.{length-take-le, take_at, drop_at, drop-drop, take-append-le}
 use Rattle.std.proofs.Math.Seq.{drop-append-add}
 use Rattle.snmp_oids.specs.Elements.{head_for, shortest}
-use Rattle.snmp_oids.specs.Written.{with_octets}
+use Rattle.snmp_oids.specs.Inside.Written.{with_octets}
 
 past : (xs rest : List ℕ) (n : ℕ) → drop (length xs + n) (xs ++ rest) ≡ drop n rest
 past xs rest n = drop-append-add xs rest n

@@ -1,5 +1,5 @@
 -- The arcs of an object identifier (X.690, 8.19), and the address that a rule finds among them (RFC 2962, 4.2).
-use Rattle.std.specs.Prelude.{ℕ, zero, suc, ◌+◌, ◌-◌, ◌*◌, ◌%◌, ◌==◌, nat_eq, ◌&&◌, ◌||◌, nat_lt, nat_le, if◌then◌else◌, List, [], ◌∷◌, drop, Option, Some, None, option_map, option_and_then, unwrap_or}
+use Rattle.std.specs.Prelude.{ℕ, ◌+◌, ◌-◌, ◌*◌, ◌%◌, ◌==◌, nat_eq, ◌&&◌, ◌||◌, nat_lt, nat_le, if◌then◌else◌, List, [], ◌∷◌, drop, Option, Some, None, option_map, option_and_then}
 use Rattle.std.specs.List.{starts_with}
 use Rattle.std.specs.Option.{option_or}
 use Rattle.gate_base.specs.Prelude.{◌>>=◌, greatest}
@@ -21,10 +21,6 @@ numbers_from so_far (octet ∷ more) = do
 abbrev pub numbers_of : List ℕ → Option (List ℕ)
 numbers_of content = numbers_from 0 content
 
--- the same, or none
-abbrev pub numbers_in : List ℕ → List ℕ
-numbers_in content = unwrap_or (numbers_of content) []
-
 -- the two arcs for which the first sub-identifier stands (X.690, 8.19.4)
 abbrev pub first_two : ℕ → ℕ × ℕ
 first_two number = if nat_lt number 40 then (0, number) else if nat_lt number 80 then (1, number - 40) else (2, number - 80)
@@ -37,10 +33,6 @@ arcs_for (number ∷ numbers) = (first_two number).0 ∷ (first_two number).1 �
 -- the arcs of content, if it has any
 abbrev pub arcs_of : List ℕ → Option (List ℕ)
 arcs_of content = option_map arcs_for (numbers_of content)
-
--- the same, or none
-abbrev pub arcs_in : List ℕ → List ℕ
-arcs_in content = unwrap_or (arcs_of content) []
 
 -- the first arc, if it is at most 255, and the others
 abbrev pub small_first : List ℕ → Option (ℕ × List ℕ)
@@ -55,29 +47,6 @@ address_of arcs = do
   (c, arcs) ← small_first arcs
   (d, arcs) ← small_first arcs
   Some (((a * 256 + b) * 256 + c) * 256 + d)
-
--- an arc, if it is at most 255
-abbrev pub small : ℕ → Option ℕ
-small arc = if nat_le arc 255 then Some arc else None
-
--- one of some arcs, if there are so many and it is at most 255
-abbrev pub small_at : List ℕ → ℕ → Option ℕ
-small_at [] place = None
-small_at (arc ∷ arcs) zero = small arc
-small_at (arc ∷ arcs) (suc place) = small_at arcs place
-
--- the address that four arcs make
-abbrev pub four_of : Option ℕ → Option ℕ → Option ℕ → Option ℕ → Option ℕ
-four_of first second third fourth = do
-  a ← first
-  b ← second
-  c ← third
-  d ← fourth
-  Some (((a * 256 + b) * 256 + c) * 256 + d)
-
--- the same for those from a place on
-abbrev pub four_at : (ℕ → Option ℕ) → ℕ → Option ℕ
-four_at arc place = four_of (arc place) (arc (place + 1)) (arc (place + 2)) (arc (place + 3))
 
 -- the address that a rule names: its prefix begins the arcs, and the address follows behind the skipped ones
 abbrev pub named_by : OidRule → List ℕ → Option ℕ

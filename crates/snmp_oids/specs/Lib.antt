@@ -1,4 +1,4 @@
 pub mod Arcs
 pub mod Identifier
 pub mod Elements
-pub mod Written
+pub mod Inside

@@ -1,7 +1,8 @@
 // The arcs of an object identifier, read from its content without memory (X.690, 8.19).
 ghost use Rattle.std.specs.Prelude.{◌≡◌, ◌≤◌, ◌==◌, ◌&&◌, nat_lt, [], ◌∷◌, length, is_some, option_map, IsSome, IfSome, IfNone};
 ghost use Rattle.oid_rules.specs.Sorted.{compared};
-ghost use Rattle.snmp_oids.specs.Arcs.{joined, numbers_of, numbers_in, first_two, arcs_of, arcs_in, small_first, address_of};
+ghost use Rattle.snmp_oids.specs.Arcs.{joined, numbers_of, first_two, arcs_of, small_first, address_of};
+ghost use Rattle.snmp_oids.specs.Inside.Arcs.{numbers_in, arcs_in};
 
 use gate_base::Addr;
 use oid_rules::{Compared, order_of};

@@ -3,7 +3,7 @@ ghost use Rattle.std.specs.Prelude.{◌≡◌, ◌+◌, ◌*◌, ◌^◌, ◌<�
 ghost use Rattle.snmp_gateway.specs.Element.{Element, element_at};
 ghost use Rattle.gate_base.specs.Prelude.{AreRules};
 ghost use Rattle.snmp_oids.specs.Elements.{is_constructed, address_renamed, primitive_renamed, content_renamed, elements_renamed};
-ghost use Rattle.snmp_oids.specs.Written.{with_octets};
+ghost use Rattle.snmp_oids.specs.Inside.Written.{with_octets};
 
 use crate::head::{LEAST_HEAD, put_before};
 use crate::identifier::put_identifier;

@@ -1,7 +1,7 @@
 // The octets before an element's content: its tag and its length (X.690, 8.1.3).
 ghost use Rattle.std.specs.Prelude.{◌≡◌, ◌+◌, ◌*◌, ◌^◌, ◌<◌, ◌≤◌, ◌++◌, take, drop, length};
 ghost use Rattle.snmp_oids.specs.Elements.{octets_for, shortest, head_for};
-ghost use Rattle.snmp_oids.specs.Written.{with_octets};
+ghost use Rattle.snmp_oids.specs.Inside.Written.{with_octets};
 
 use crate::put::put;
 use byteorder::{BigEndian, ByteOrder};

@@ -3,7 +3,7 @@ ghost use Rattle.std.specs.Prelude.{◌≡◌, ◌+◌, ◌*◌, ◌^◌, ◌<�
 ghost use Rattle.snmp_oids.specs.Arcs.{address_of, arcs_of, named_in};
 ghost use Rattle.gate_base.specs.Prelude.{AreRules};
 ghost use Rattle.snmp_oids.specs.Identifier.{place_behind, arc_octets, address_octets, change_at, change_of, changed, identifier_renamed};
-ghost use Rattle.snmp_oids.specs.Written.{with_octets};
+ghost use Rattle.snmp_oids.specs.Inside.Written.{with_octets};
 
 use crate::arcs::{address_of, compare_content, has_arcs};
 use crate::numbers::Numbers;

@@ -1,6 +1,7 @@
 // The first sub-identifiers of an object identifier, read once for many rules.
 ghost use Rattle.std.specs.Prelude.{◌≡◌, ◌<◌, ◌≤◌, ◌-◌, ℕ, None, drop, length, slice_index_or, option_and_then, option_map, IfSome, IfNone, IsSome};
-ghost use Rattle.snmp_oids.specs.Arcs.{address_of, arcs_of, four_at, numbers_in, numbers_of, small, small_at};
+ghost use Rattle.snmp_oids.specs.Arcs.{address_of, arcs_of, numbers_of};
+ghost use Rattle.snmp_oids.specs.Inside.Arcs.{four_at, numbers_in, small, small_at};
 
 use crate::arcs::{has_arcs, next_number};
 use gate_base::Addr;
@@ -17,7 +18,7 @@ pub(crate) struct Numbers {
 
 impl Addresses for Numbers {
     ghost use Rattle.std.specs.Prelude.{◌-◌, None, slice_index_or};
-    ghost use Rattle.snmp_oids.specs.Arcs.{four_at};
+    ghost use Rattle.snmp_oids.specs.Inside.Arcs.{four_at};
 
     // the first two arcs stand in one sub-identifier
     ghost address_by = { λ numbers place. four_at (λ at. slice_index_or numbers.small at None) (place - 1) };

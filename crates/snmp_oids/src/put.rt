@@ -1,6 +1,6 @@
 // Octets written into others.
 ghost use Rattle.std.specs.Prelude.{◌≡◌, ◌+◌, ◌≤◌, length};
-ghost use Rattle.snmp_oids.specs.Written.{with_octets};
+ghost use Rattle.snmp_oids.specs.Inside.Written.{with_octets};
 
 /// Writes octets at a place, and changes nothing else. The result is the place behind them.
 pub(crate) fn put(octets: &[u8], target: &mut [u8], place: usize) -> usize

@@ -50,7 +50,8 @@ no_backlog a b g k =
           ]
     ]
   where
-    fits : BeginsBy a g (acknowledged_of a) → (start_of a g).before < length g.octets → length (recent a) + (length g.octets - (start_of a g).before) ≤ 65536
+    fits : BeginsBy a g (acknowledged_of a) → (start_of a g).before < length g.octets
+        → length (recent a) + (length g.octets - (start_of a g).before) ≤ 65536
     fits begins some =
         let r : length (recent a) ≡ length a.octets - acknowledged_of a = length-drop (acknowledged_of a) a.octets in
         elim (one_side a g) [
@@ -64,7 +65,8 @@ no_gap a b g k =
     le-ltb _ _ (elim (one_side a g) [ inl e ↦ omega (arith, k.begins) | inr e ↦ omega arith ]) in
     and_right _ _ z
 
-pub keeping_passes : (f : Host) (a b : Sender) (g : Segment) → KeepsTo a b g → refusal_of f (extent a) (extent b) (arrival g) (repeats_unlike a g) ≡ None
+pub keeping_passes : (f : Host) (a b : Sender) (g : Segment) → KeepsTo a b g
+    → refusal_of f (extent a) (extent b) (arrival g) (repeats_unlike a g) ≡ None
 keeping_passes f a b g k =
     let d : IsData g = data_of g k.kind in
     none_first (tests f (extent a) (extent b) (arrival g) (repeats_unlike a g)) (

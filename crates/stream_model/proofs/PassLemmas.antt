@@ -62,7 +62,8 @@ passes_by f a b g u e =
 abbrev pub Passes : Host → Sender → Sender → Segment → Type 0
 Passes from a b g = PassesBy from (extent a) (extent b) (arrival g) (repeats_unlike a g)
 
-pub passes : (from : Host) (a b : Sender) (g : Segment) → first_that_holds (tests from (extent a) (extent b) (arrival g) (repeats_unlike a g)) ≡ None → Passes from a b g
+pub passes : (from : Host) (a b : Sender) (g : Segment) → first_that_holds (tests from (extent a) (extent b) (arrival g) (repeats_unlike a g)) ≡ None
+    → Passes from a b g
 passes f a b g e = passes_by f (extent a) (extent b) (arrival g) (repeats_unlike a g) e
 
 number_is : (o : Option ℕ) (n : ℕ) → is_number o n ≡ true → o ≡ Some n
@@ -97,7 +98,8 @@ pub data_is : (g : Segment) → IsData g → is_data (arrival g) ≡ true
 data_is g d = rw (d.0, d.1) refl
 
 -- both initial numbers are known
-pub both_known : (f : Host) (a b : Extent) (g : Arrival) (u : Bool) → PassesBy f a b g u → is_data g ≡ true → (is_some a.initial ≡ true) × (is_some b.initial ≡ true)
+pub both_known : (f : Host) (a b : Extent) (g : Arrival) (u : Bool) → PassesBy f a b g u → is_data g ≡ true → (is_some a.initial ≡ true)
+    × (is_some b.initial ≡ true)
 both_known f a b g u p d =
     let n : (is_none a.initial ≡ false) × (is_none b.initial ≡ false) = or_parts _ _ (second_false (is_data g) _ p.no_session d) in
     (some_is a.initial n.0, some_is b.initial n.1)
@@ -110,7 +112,8 @@ one-le true = omega arith
 one-le false = omega arith
 
 -- no more is acknowledged than was sent
-pub ack_within : (f : Host) (a b : Extent) (g : Arrival) (u : Bool) → PassesBy f a b g u → g.flags.syn ≡ false → is_data g ≡ true → place_acknowledged b g ≤ b.due + one_if b.ended
+pub ack_within : (f : Host) (a b : Extent) (g : Arrival) (u : Bool) → PassesBy f a b g u → g.flags.syn ≡ false → is_data g ≡ true
+    → place_acknowledged b g ≤ b.due + one_if b.ended
 ack_within f a b g u p syn d =
     let t : (g.flags.ack && is_some b.initial && nat_lt (one_if b.ended) (acknowledged_at b g).after) ≡ false =
     sym (cond-false (g.flags.syn && g.flags.ack) _ _ (and_left _ _ syn)) ∙ p.ack_ahead in
@@ -122,7 +125,8 @@ ack_within f a b g u p syn d =
 pub nothing_past : (f : Host) (a b : Sender) (g : Segment) → Passes f a b g → IsData g → a.ended ≡ true → drop (start_of a g).before g.octets ≡ []
 nothing_past f a b g p d ended =
     let x : past_end_at (extent a) (arrival g) (start_of a g) ≡ false = second_false (is_data (arrival g)) _ p.past_end (data_is g d) in
-    let one : (a.ended && nat_lt 0 (length g.octets) && nat_lt (start_of a g).before ((start_of a g).after + length g.octets)) ≡ false = (or_parts _ _ (or_parts _ _ x).0).0 in
+    let one : (a.ended && nat_lt 0 (length g.octets) && nat_lt (start_of a g).before ((start_of a g).after + length g.octets)) ≡ false =
+    (or_parts _ _ (or_parts _ _ x).0).0 in
     at_near (start_of a g) g.octets (rw ended at one)
   where
     at_near : (n : Offset) (os : List ℕ) → (nat_lt 0 (length os) && nat_lt n.before (n.after + length os)) ≡ false → drop n.before os ≡ []

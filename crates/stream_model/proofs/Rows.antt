@@ -42,8 +42,10 @@ renamed_line_holds = refl
 
 -- a reply with an address, and its acknowledgement
 abbrev renamed_reply : List Row
-renamed_reply =
-    (server 5001 1001 (line (codes "227 Entering Passive Mode (10,0,0,5,4,1).")), goes 5001 1001 (line (codes "227 Entering Passive Mode (192,168,200,1,4,1).")))
+renamed_reply = (
+  server 5001 1001 (line (codes "227 Entering Passive Mode (10,0,0,5,4,1).")),
+  goes 5001 1001 (line (codes "227 Entering Passive Mode (192,168,200,1,4,1).")),
+)
     ∷ (client 1001 5049 [], goes 1001 5044 [])
     ∷ []
 
@@ -183,7 +185,10 @@ noop_line = line (codes "NOOP " ++ replicate 93 120)
 abbrev two_pieces : List Row
 two_pieces =
     shake 1000 88
-    ++ (client_with ack_push 1001 5001 noop_line, Goes (goes_with ack 1001 5001 (take 88 noop_line) ∷ goes_with ack_push 1089 5001 (drop 88 noop_line) ∷ []))
+    ++ (
+      client_with ack_push 1001 5001 noop_line,
+      Goes (goes_with ack 1001 5001 (take 88 noop_line) ∷ goes_with ack_push 1089 5001 (drop 88 noop_line) ∷ []),
+    )
     ∷ []
 
 two_pieces_hold : found (begun 1000) two_pieces ≡ wanted two_pieces
@@ -303,7 +308,8 @@ stream_limits : map full ((2 ^ 30 - 2) ∷ (2 ^ 30 - 1) ∷ []) ≡ None ∷ Som
 stream_limits = refl
 
 -- numbers that lie before the first place, farthest after it, and farthest before it; and the same past 2 ^ 32
-places : map (place_near 1000 0) (990 ∷ 1001 ∷ 2147484648 ∷ 2147484649 ∷ []) ≡ record { before = 11; after = 0 } ∷ record { before = 0; after = 0 } ∷ record { before = 0; after = 2147483647 } ∷ record { before = 2147483648; after = 0 } ∷ []
+places : map (place_near 1000 0) (990 ∷ 1001 ∷ 2147484648 ∷ 2147484649 ∷ []) ≡ record { before = 11; after = 0 } ∷ record
+    { before = 0; after = 0 } ∷ record { before = 0; after = 2147483647 } ∷ record { before = 2147483648; after = 0 } ∷ []
 places = refl
 
 places_around : map (place_near 4294967293 19) (17 ∷ 4294967294 ∷ []) ≡ record { before = 0; after = 0 } ∷ record { before = 19; after = 0 } ∷ []
@@ -323,7 +329,9 @@ inner_unknown : session_inner Server (begun 1000) 5001 ≡ None
 inner_unknown = refl
 
 -- changed lines that are not acknowledged whole
-opened_lines : map session_open (run shaken (port_row ∷ []) ∷ run shaken part_acknowledged ∷ run shaken repeated_line ∷ run shaken renamed_reply ∷ run shaken ended_rest ∷ []) ≡ 1 ∷ 1 ∷ 0 ∷ 0 ∷ 0 ∷ []
+opened_lines : map session_open
+    (run shaken (port_row ∷ []) ∷ run shaken part_acknowledged ∷ run shaken repeated_line ∷ run shaken renamed_reply ∷ run shaken ended_rest ∷ [])
+    ≡ 1 ∷ 1 ∷ 0 ∷ 0 ∷ 0 ∷ []
 unfolding number four six port eprt delimited passive client_text server_text spelled digits
 opened_lines = refl
 

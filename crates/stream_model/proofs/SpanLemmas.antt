@@ -11,20 +11,25 @@ abbrev pub Rising : ℕ → ℕ → List Span → Type 0
 Rising first past [] = Unit {0}
 Rising first past (s ∷ ss) = (first ≤ s.first) × (past ≤ s.past) × (s.first ≤ s.past) × Rising s.first s.past ss
 
-Rising-plain : (n at first past : ℕ) (ss : List Span) → first ≤ at → past ≤ at → ((f p : ℕ) → f ≤ at + n → p ≤ at + n → Rising f p ss) → Rising first past (plain_spans at n ++ ss)
+Rising-plain : (n at first past : ℕ) (ss : List Span) → first ≤ at → past ≤ at → ((f p : ℕ) → f ≤ at + n → p ≤ at + n → Rising f p ss)
+    → Rising first past (plain_spans at n ++ ss)
 Rising-plain zero at first past ss f p h = h first past (omega arith) (omega arith)
-Rising-plain (suc n) at first past ss f p h = (f, omega arith, omega arith, Rising-plain n (at + 1) at (at + 1) ss (omega arith) (omega arith) (λ f p k l. h f p (omega arith) (omega arith)))
+Rising-plain (suc n) at first past ss f p h =
+    (f, omega arith, omega arith, Rising-plain n (at + 1) at (at + 1) ss (omega arith) (omega arith) (λ f p k l. h f p (omega arith) (omega arith)))
 
-Rising-replicate : (n at len first past : ℕ) (ss : List Span) → first ≤ at → past ≤ at + len → ((f p : ℕ) → f ≤ at + len → p ≤ at + len → Rising f p ss) → Rising first past (replicate n (record { first = at; past = at + len }) ++ ss)
+Rising-replicate : (n at len first past : ℕ) (ss : List Span) → first ≤ at → past ≤ at + len
+    → ((f p : ℕ) → f ≤ at + len → p ≤ at + len → Rising f p ss) → Rising first past (replicate n (record { first = at; past = at + len }) ++ ss)
 Rising-replicate zero at len first past ss f p h = h first past (omega arith) p
 Rising-replicate (suc n) at len first past ss f p h = (f, p, omega arith, Rising-replicate n at len at (at + len) ss (omega arith) (omega arith) h)
 
 -- those of pushes do
 pub Rising-spans : (ps : List Push) (at first past : ℕ) → first ≤ at → past ≤ at → Rising first past (spans_from at ps)
 Rising-spans [] at first past f p = tt
-Rising-spans (Plain n ∷ ps) at first past f p = Rising-plain n at first past (spans_from (at + n) ps) f p (λ g q k l. Rising-spans ps (at + n) g q k l)
+Rising-spans (Plain n ∷ ps) at first past f p =
+    Rising-plain n at first past (spans_from (at + n) ps) f p (λ g q k l. Rising-spans ps (at + n) g q k l)
 Rising-spans (Changed unit image ∷ ps) at first past f p =
-    Rising-replicate unit at (length image) first past (spans_from (at + length image) ps) f (omega arith) (λ g q k l. Rising-spans ps (at + length image) g q k l)
+    Rising-replicate unit at (length image) first past (spans_from (at + length image) ps) f (omega arith)
+    (λ g q k l. Rising-spans ps (at + length image) g q k l)
 
 -- beyond past q all are
 past_on : (ss : List Span) (first past due q p : ℕ) → Rising first past ss → q < past → q < due → q < rear_at due (slice_get ss p)
@@ -50,11 +55,14 @@ rear_past_back (s ∷ ss) first past due q (suc (suc p)) r l d =
     ]
 
 -- what ends above an octet goes past each of its places
-pub rear_past : (ss : List Span) (first past due q p e : ℕ) (x : Span) → Rising first past ss → slice_get ss p ≡ Some x → q < x.past → p < e → q < due → q < rear_in ss due e
+pub rear_past : (ss : List Span) (first past due q p e : ℕ) (x : Span) → Rising first past ss → slice_get ss p ≡ Some x → q < x.past → p < e → q < due
+    → q < rear_in ss due e
 rear_past ss first past due q p zero x r at l k d = absurd (omega arith)
 rear_past [] first past due q p (suc e) x r at l k d = d
-rear_past (s ∷ ss) first past due q zero (suc zero) x r at l k d = let f : s.past ≡ x.past = ap (λ (y : Span). y.past) (same_Some s x at) in omega arith
-rear_past (s ∷ ss) first past due q zero (suc (suc e)) x r at l k d = let f : s.past ≡ x.past = ap (λ (y : Span). y.past) (same_Some s x at) in past_on ss s.first s.past due q e r.3 (omega arith) d
+rear_past (s ∷ ss) first past due q zero (suc zero) x r at l k d = let f : s.past ≡ x.past = ap (λ (y : Span). y.past) (same_Some s x at) in
+    omega arith
+rear_past (s ∷ ss) first past due q zero (suc (suc e)) x r at l k d = let f : s.past ≡ x.past = ap (λ (y : Span). y.past) (same_Some s x at) in
+    past_on ss s.first s.past due q e r.3 (omega arith) d
 rear_past (s ∷ ss) first past due q (suc p) (suc zero) x r at l k d = absurd (omega arith)
 rear_past (s ∷ ss) first past due q (suc p) (suc (suc e)) x r at l k d = rear_past ss s.first s.past due q p (suc e) x r.3 at l (omega arith) d
 
@@ -64,9 +72,11 @@ first_least (s ∷ ss) first past zero x r at = let f : s.first ≡ x.first = ap
 first_least (s ∷ ss) first past (suc p) x r at = omega (arith, r.0, first_least ss s.first s.past p x r.3 at)
 
 -- what begins at or below an octet begins at or below each of its places
-pub fore_below : (ss : List Span) (first past due q b p : ℕ) (x : Span) → Rising first past ss → slice_get ss p ≡ Some x → x.first ≤ q → b ≤ p → fore_in ss due b ≤ q
+pub fore_below : (ss : List Span) (first past due q b p : ℕ) (x : Span) → Rising first past ss → slice_get ss p ≡ Some x → x.first ≤ q → b ≤ p
+    → fore_in ss due b ≤ q
 fore_below [] first past due q b p x r at l k = absurd (none-some x at)
-fore_below (s ∷ ss) first past due q zero p x r at l k = let f : s.first ≤ x.first = first_least (s ∷ ss) s.first s.past p x (omega arith, omega arith, r.2, r.3) at in omega arith
+fore_below (s ∷ ss) first past due q zero p x r at l k = let f : s.first ≤ x.first =
+    first_least (s ∷ ss) s.first s.past p x (omega arith, omega arith, r.2, r.3) at in omega arith
 fore_below (s ∷ ss) first past due q (suc b) zero x r at l k = absurd (omega arith)
 fore_below (s ∷ ss) first past due q (suc b) (suc p) x r at l k = fore_below ss s.first s.past due q b p x r.3 at l (omega arith)
 
@@ -75,7 +85,8 @@ pub end_below : (ps : List Push) (at q : ℕ) → AllProper ps → at ≤ q → 
 end_below [] at q proper l e = l
 end_below (Plain n ∷ ps) at q proper l e =
     let ss = spans_from (at + n) ps in
-    let long : length (plain_spans at n ++ ss) ≡ n + length ss = length-append (plain_spans at n) ss ∙ ap (λ m. m + length ss) (length-plain_spans at n) in
+    let long : length (plain_spans at n ++ ss) ≡ n + length ss = length-append (plain_spans at n) ss
+    ∙ ap (λ m. m + length ss) (length-plain_spans at n) in
     elim (cases_lt q (at + n)) [
       | inl part ↦ absurd (let b : back_in (plain_spans at n ++ ss) q ≡ q - at = back_in-plain_part n at ss q l part in omega arith)
       | inr all ↦
@@ -89,11 +100,13 @@ end_below (Changed unit image ∷ ps) at q proper l e =
       | inl part ↦ absurd (none unit part proper.0.0 e)
       | inr all ↦
           let b : back_in (replicate unit s ++ ss) q ≡ unit + back_in ss q = back_in-replicate unit s ss q all in
-          let long : length (replicate unit s ++ ss) ≡ unit + length ss = length-append (replicate unit s) ss ∙ ap (λ m. m + length ss) (length-replicate unit s) in
+          let long : length (replicate unit s ++ ss) ≡ unit + length ss = length-append (replicate unit s) ss
+          ∙ ap (λ m. m + length ss) (length-replicate unit s) in
           end_below ps (at + length image) q proper.1 all (omega arith)
     ]
   where
-    none : (unit : ℕ) → q < at + length image → 1 ≤ unit → back_in (spans_from at (Changed unit image ∷ ps)) q ≡ length (spans_from at (Changed unit image ∷ ps)) → ⊥
+    none : (unit : ℕ) → q < at + length image → 1 ≤ unit
+        → back_in (spans_from at (Changed unit image ∷ ps)) q ≡ length (spans_from at (Changed unit image ∷ ps)) → ⊥
     none zero part one e = omega arith
     none (suc n) part one e =
         let f : nat_le (at + length image) q ≡ false = lt-leb (at + length image) q part in
@@ -130,7 +143,8 @@ Clear-plain (suc n) at k low ss l h =
       | inr within ↦ inl (within, omega arith, Clear-plain n (at + 1) k (at + 1) ss (omega arith) (λ m i. h m (omega arith)))
     ]
 
-Clear-replicate : (n at len k low : ℕ) (ss : List Span) → low ≤ at → at + len ≤ k → ((l : ℕ) → l ≤ at + len → Clear k l ss) → Clear k low (replicate n (record { first = at; past = at + len }) ++ ss)
+Clear-replicate : (n at len k low : ℕ) (ss : List Span) → low ≤ at → at + len ≤ k → ((l : ℕ) → l ≤ at + len → Clear k l ss)
+    → Clear k low (replicate n (record { first = at; past = at + len }) ++ ss)
 Clear-replicate n at len k low ss l w h = go n low (omega arith)
   where
     go : (n low : ℕ) → low ≤ at + len → Clear k low (replicate n (record { first = at; past = at + len }) ++ ss)
@@ -144,7 +158,8 @@ Clear-spans (Changed zero image ∷ ps) at k low proper l = absurd (omega (arith
 Clear-spans (Changed (suc n) image ∷ ps) at k low proper l =
     elim (cases_lt k (at + length image)) [
       | inl beyond ↦ inr (beyond, l)
-      | inr within ↦ Clear-replicate (suc n) at (length image) k low (spans_from (at + length image) ps) l within (λ m i. Clear-spans ps (at + length image) k m proper.1 i)
+      | inr within ↦ Clear-replicate (suc n) at (length image) k low (spans_from (at + length image) ps) l within
+          (λ m i. Clear-spans ps (at + length image) k m proper.1 i)
     ]
 
 back_passed : (s : Span) (ss : List Span) (k : ℕ) → s.past ≤ k → back_in (s ∷ ss) k ≡ suc (back_in ss k)
@@ -176,6 +191,7 @@ rear_before_fore (s ∷ ss) k low due (suc (suc p)) c l =
     elim c [
       | inl h ↦
           let b : back_in (s ∷ ss) k ≡ suc (back_in ss k) = back_passed s ss k h.0 in
-          subst (λ (n : ℕ). rear_in (s ∷ ss) due (suc (suc p)) ≤ fore_in (s ∷ ss) due n) (sym b) (rear_before_fore ss k s.past due (suc p) h.2 (omega arith))
+          subst (λ (n : ℕ). rear_in (s ∷ ss) due (suc (suc p)) ≤ fore_in (s ∷ ss) due n) (sym b)
+          (rear_before_fore ss k s.past due (suc p) h.2 (omega arith))
       | inr h ↦ absurd (let b : back_in (s ∷ ss) k ≡ 0 = back_stopped s ss k h.0 in omega arith)
     ]

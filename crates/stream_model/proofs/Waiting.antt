@@ -24,7 +24,8 @@ image_parts m ended s =
 
 held_is_rest : (m : Meaning) → IsLawful m → (ended : Bool) (s : List ℕ) → IsRest m (held_rest m ended (cut m s).rest)
 held_is_rest m law true s = IsRest-nil m law
-held_is_rest m law false s = elim (is_held m (cut m s).rest) as (λ b. IsRest m (cond b (cut m s).rest [])) [ true ↦ IsRest-cut m law s | false ↦ IsRest-nil m law ]
+held_is_rest m law false s =
+    elim (is_held m (cut m s).rest) as (λ b. IsRest m (cond b (cut m s).rest [])) [ true ↦ IsRest-cut m law s | false ↦ IsRest-nil m law ]
 
 held_holds : (m : Meaning) (ended : Bool) (r : List ℕ) → (held_rest m ended r ≡ []) ⊎ (m.holds (held_rest m ended r) ≡ true)
 held_holds m true r = inl refl
@@ -58,16 +59,20 @@ not_all_in m law s q l =
     ]
 
 -- Back of what is due, in a stream that has not ended
-back_due : (m : Meaning) → IsLawful m → (s : List ℕ) → back_in (spans m s) (length (due m false s)) + length (held_rest m false (cut m s).rest) ≡ length s
+back_due : (m : Meaning) → IsLawful m → (s : List ℕ)
+    → back_in (spans m s) (length (due m false s)) + length (held_rest m false (cut m s).rest) ≡ length s
 back_due m law s =
     let c = cut m s in
     let dr = due_rest m false c.rest in
     let a : (more : List Span) × (spans m s ≡ due_spans m (cut m s) ++ more) × Beyond (length (due m false s)) more = spans_due m law s in
     let same : back_in (spans m s) (length (due m false s)) ≡ back_in (due_spans m (cut m s)) (length (due m false s)) =
-    ap (λ ss. back_in ss (length (due m false s))) a.1 ∙ back_in-beyond (due_spans m (cut m s)) a.0 (length (due m false s)) (length (due m false s)) a.2 (omega arith) in
+    ap (λ ss. back_in ss (length (due m false s))) a.1
+    ∙ back_in-beyond (due_spans m (cut m s)) a.0 (length (due m false s)) (length (due m false s)) a.2 (omega arith) in
     let end : end_from 0 (pushes_of m c dr) ≡ length (due m false s) =
-    end_from-append 0 (map (push_of m) c.units) (Plain (length dr) ∷ []) ∙ omega (arith, end_from-map m 0 c.units, length-append (flat_map m.image c.units) dr) in
-    let all : back_in (due_spans m (cut m s)) (length (due m false s)) ≡ length (due_spans m (cut m s)) = all_below (pushes_of m c dr) 0 (length (due m false s)) (omega arith) (omega arith) in
+    end_from-append 0 (map (push_of m) c.units) (Plain (length dr) ∷ [])
+    ∙ omega (arith, end_from-map m 0 c.units, length-append (flat_map m.image c.units) dr) in
+    let all : back_in (due_spans m (cut m s)) (length (due m false s)) ≡ length (due_spans m (cut m s)) =
+    all_below (pushes_of m c dr) 0 (length (due m false s)) (omega arith) (omega arith) in
     omega (
       arith,
       same,
@@ -87,20 +92,25 @@ back_is m ended s q l =
     let off : (ended && (q == length (image m s) + 1)) ≡ false = and_right ended _ ne in
     rw off refl
 
-octets_in : (m : Meaning) → IsLawful m → (ended : Bool) (s : List ℕ) → back m ended s (length (due m ended s)) + length (held_rest m ended (cut m s).rest) ≡ length s
+octets_in : (m : Meaning) → IsLawful m → (ended : Bool) (s : List ℕ)
+    → back m ended s (length (due m ended s)) + length (held_rest m ended (cut m s).rest) ≡ length s
 octets_in m law true s = omega (arith, back_is m true s (length (due m true s)) (omega arith), all_in m s (length (image m s)) (omega arith))
 octets_in m law false s = omega (arith, back_is m false s (length (due m false s)) (length-due-le m law false s), back_due m law s)
 
 ending_in : (m : Meaning) (s : List ℕ) → back m true s (length (due m true s) + 1) ≡ length s + 1
-ending_in m s = let e : (length (image m s) + 1 == length (image m s) + 1) ≡ true = eq-eqb (length (image m s) + 1) (length (image m s) + 1) refl in rw e refl
+ending_in m s = let e : (length (image m s) + 1 == length (image m s) + 1) ≡ true = eq-eqb (length (image m s) + 1) (length (image m s) + 1) refl in
+    rw e refl
 
 pub only_held : (a : Sender) → IsLawful a.meaning → OnlyHeldWaits a
 only_held a law = record {
   due = image_parts a.meaning a.ended a.octets;
   rest = held_is_rest a.meaning law a.ended a.octets;
   holds = held_holds a.meaning a.ended (cut a.meaning a.octets).rest;
-  octets = λ e. subst (λ (q : ℕ). back a.meaning a.ended a.octets q + length (held_of a) ≡ length a.octets) (sym e) (octets_in a.meaning law a.ended a.octets);
+  octets =
+      λ e. subst (λ (q : ℕ). back a.meaning a.ended a.octets q + length (held_of a) ≡ length a.octets) (sym e)
+      (octets_in a.meaning law a.ended a.octets);
   ending = λ b e.
       subst (λ (q : ℕ). back a.meaning a.ended a.octets q ≡ length a.octets + 1) (sym e)
-      (subst (λ (x : Bool). back a.meaning x a.octets (length (due a.meaning x a.octets) + 1) ≡ length a.octets + 1) (sym b) (ending_in a.meaning a.octets));
+      (subst (λ (x : Bool). back a.meaning x a.octets (length (due a.meaning x a.octets) + 1) ≡ length a.octets + 1) (sym b)
+      (ending_in a.meaning a.octets));
 }

@@ -1,4 +1,4 @@
--- What the law speaks of that two senders who answer alike send alike.
+-- The words of the law that two senders send alike if they answer alike.
 use Rattle.std.specs.Prelude.{◌≡◌, ◌≤◌, ◌<◌, ◌+◌, ℕ, Bool}
 use Rattle.tcp_segments.specs.Prelude.{one_if}
 use Rattle.stream_model.specs.Standing.{Standing, first_recent}
@@ -14,7 +14,7 @@ pub record Agree (s t : Standing) : Type 0 where
   pub acked : s.acked ≡ t.acked
   -- No more is acknowledged than was sent.
   pub within : s.acked ≤ s.extent.due + one_if s.extent.ended
-  -- Back is the same of each place that is sent and not acknowledged, and behind them.
+  -- Back is the same from the first place that is not acknowledged to the one behind all that was sent.
   pub back : (q : ℕ) → s.acked ≤ q → q ≤ s.extent.due + one_if s.extent.ended → s.back q ≡ t.back q
   -- Fore and Rear are the same from the first octet on that is not acknowledged.
   pub fore : (p : ℕ) → first_recent s ≤ p → s.fore p ≡ t.fore p

@@ -4,7 +4,7 @@ use Rattle.stream_model.specs.Standing.{Standing}
 use Rattle.stream_model.specs.Sending.{Sent}
 use Rattle.stream_model.specs.declared.step.Going.{Going}
 
--- All that goes out, with its octets out of the image of the sender that stands so.
+-- All that goes out, with its octets out of the image of the sender with this standing.
 abbrev pub sent_with : Standing → Going → Sent
 sent_with s g = record {
   sequence = g.sequence;

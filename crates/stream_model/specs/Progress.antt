@@ -89,10 +89,13 @@ pub record Brings (a new : Sender) (g : Segment) (outs : List Outgoing) : Type 0
   -- and all that is due from there on, where it goes as far as its sender's octets so far;
   pub onward : Covers a g (acknowledged_of a) → Reaches a g (length a.octets) → AllShown (known a.initial) (due_in new) a.acked outs
   -- of each of its octets that is not acknowledged to its sender, the whole image, as far as it is due;
-  pub each : (p q : ℕ) (x : Span) → acknowledged_of a ≤ p → Covers a g p → slice_get (spans new.meaning new.octets) p ≡ Some x → x.first ≤ q → q < x.past → q < length (due_in new) → OneShows (known a.initial) (due_in new) q outs
+  pub each : (p q : ℕ) (x : Span) → acknowledged_of a ≤ p → Covers a g p → slice_get (spans new.meaning new.octets) p ≡ Some x → x.first ≤ q
+      → q < x.past → q < length (due_in new) → OneShows (known a.initial) (due_in new) q outs
   -- where it has the end, which its receiver has not acknowledged, the end,
   pub ending : g.flags.fin ≡ true → a.acked ≤ length (image new.meaning new.octets) → OneEnds (known a.initial) (length (due_in new)) outs
   -- behind all that is due and not acknowledged, unless it begins behind the first octet that is not acknowledged to its sender;
-  pub behind : g.flags.fin ≡ true → a.acked ≤ length (image new.meaning new.octets) → BeginsBy a g (acknowledged_of a) → AllShown (known a.initial) (due_in new) a.acked outs
+  pub behind : g.flags.fin ≡ true → a.acked ≤ length (image new.meaning new.octets) → BeginsBy a g (acknowledged_of a)
+      → AllShown (known a.initial) (due_in new) a.acked outs
   -- and where all of it, the end too, is acknowledged to its sender and it repeats something, a segment that asks the receiver to acknowledge again
-  pub again : EndsBy a g (acknowledged_of a) → ((1 ≤ (start_of a g).before) ⊎ (g.flags.fin ≡ true)) → ((g.flags.fin ≡ false) ⊎ (length (image new.meaning new.octets) < a.acked)) → AsksAgain (known a.initial) a.acked outs
+  pub again : EndsBy a g (acknowledged_of a) → ((1 ≤ (start_of a g).before) ⊎ (g.flags.fin ≡ true))
+      → ((g.flags.fin ≡ false) ⊎ (length (image new.meaning new.octets) < a.acked)) → AsksAgain (known a.initial) a.acked outs

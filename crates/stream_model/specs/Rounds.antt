@@ -45,7 +45,8 @@ pub record IsRound (host : Host) (s : Session) (knows had : ℕ) (x : Round) : T
   -- while not all that is due is acknowledged, or the end isn't, a segment passes that has the first octet that isn't known to be acknowledged, or begins there and has the end;
   pub passes : segment_refusal host s x.repeat ≡ None
   pub kind : is_data (arrival x.repeat) ≡ true
-  pub lacks : LacksOctets (own host s) (own host (after_repeat host s x)) x.repeat knows ⊎ LacksEnd (own host s) (own host (after_repeat host s x)) x.repeat knows
+  pub lacks : LacksOctets (own host s) (own host (after_repeat host s x)) x.repeat knows
+      ⊎ LacksEnd (own host s) (own host (after_repeat host s x)) x.repeat knows
   -- the other host hears what goes out for it,
   pub hears : Hears (known (own host s).initial) (due_in (own host (after_repeat host s x))) had (session_out host s x.repeat) x.has
   -- and acknowledges all that it has by a segment that passes
@@ -56,7 +57,8 @@ pub record IsRound (host : Host) (s : Session) (knows had : ℕ) (x : Round) : T
 -- one round after the other; what comes back with an answer is known from then on
 abbrev pub AllRounds : Host → Session → ℕ → ℕ → List Round → Type 0
 AllRounds host s knows had [] = Unit {0}
-AllRounds host s knows had (x ∷ xs) = IsRound host s knows had x × AllRounds host (after_round host s x) (acknowledged_of (own host (after_round host s x))) x.has xs
+AllRounds host s knows had (x ∷ xs) = IsRound host s knows had x
+    × AllRounds host (after_round host s x) (acknowledged_of (own host (after_round host s x))) x.has xs
 
 -- the session after them
 abbrev pub after_rounds : Host → Session → List Round → Session

@@ -100,7 +100,7 @@ reset_sent old receiver segment limit = record {
   octets = [];
 }
 
--- These octets go out, or one segment without any: from so far above the initial number on, and with an end or without one.
+-- These octets go out, or one segment without octets. The first stands so far behind the initial number. FIN goes out, or doesn't.
 abbrev pub data_sent : Standing → ℕ → Segment → ℕ → ℕ → List ℕ → Bool → Bool → Sent
 data_sent new acknowledgement segment limit offset octets fin push = record {
   sequence = number_after (known new.extent.initial) offset;
@@ -165,7 +165,7 @@ segment_with s p = record {
 abbrev pub alone : Sent → Outgoing
 alone s = record { sequence = s.sequence; acknowledgement = s.acknowledgement; flags = s.flags; octets = s.octets }
 
--- It goes out as that one segment, or as pieces of the limit of which the last may be shorter.
+-- Without octets that one segment goes out, otherwise pieces of the limit, of which the last may be shorter.
 abbrev pub sent_in : Sent → List ℕ → List Outgoing
 sent_in s [] = alone s ∷ []
 sent_in s (octet ∷ octets) = map (segment_with s) (pieces s.limit 0 (octet ∷ octets) s.flags.fin s.flags.push)

@@ -35,7 +35,7 @@ pub trait Stands {
     fn acked(&self) -> u64
         ensures { result ≡ (standing self.now).acked };
 
-    /// How many octets have all their image places below one.
+    /// How many octets have all their image places below a place.
     fn back(&self, place: u64) -> u64
         ensures { result ≡ (standing self.now).back place };
 
@@ -48,8 +48,8 @@ pub trait Stands {
         ensures { result ≡ (standing self.now).rear end };
 }
 
-/// What goes out for a segment, but for the octets: those of the image from the first place to before the one behind the last.
-/// Without such places it is one segment without octets.
+/// What goes out for a segment, but for the octets. They are those of the image from `first` to before `past`. If there are none, it is
+/// one segment without octets.
 #[derive(Clone, Copy)]
 pub struct Going {
     pub sequence: u32,
@@ -188,7 +188,7 @@ pub fn acknowledgement_to<S: Stands>(receiver: &S) -> u32
     )
 }
 
-/// Its own number of a place of its image, if that was sent.
+/// The sender's own number for a number of its image, if the place of that was sent.
 pub fn inner_number<S: Stands>(sender: &S, sequence: u32) -> Option<u32>
     ensures { result
         ≡ inner_by (S.standing sender.now) (S.standing sender.now).extent.initial

@@ -17,7 +17,7 @@ use Rattle.gate_base.specs.declared.side.Side.TheVariants.{Left, Right}
 use Rattle.gate_base.proofs.Options.{some_mapped}
 use Rattle.tcp_segments.specs.Prelude.{flags_of}
 use Rattle.tcp_tracker.specs.Prelude.{is_of, place_of, connection_of, AreNamedOnce, changed, after, held, with_flags, unused, is_reset, starts_anew, timeout_or_short, kept, kept_or_begun, IsFiled}
-use Rattle.tcp_tracker.specs.Filed.{IsKey, number_of, filed}
+use Rattle.tcp_tracker.specs.Inside.Filed.{IsKey, number_of, filed}
 
 -- ## Names and numbers
 

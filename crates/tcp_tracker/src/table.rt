@@ -31,7 +31,7 @@ impl<X: Drop> Drop for SessionTable<X> {
 impl<X> Model for SessionTable<X> {
     ghost use Rattle.std.specs.Prelude.{List};
     ghost use Rattle.tcp_tracker.specs.declared.connection.Connection.{Connection};
-    ghost use Rattle.tcp_tracker.specs.Joined.{joined, IsJoined};
+    ghost use Rattle.tcp_tracker.specs.Inside.Joined.{joined, IsJoined};
 
     ghost Value = { List (Connection X) };
 

@@ -1,13 +1,15 @@
 use Rattle.std.proofs.Common.{◌∙◌, ◌==◌, ◌&&◌, ℕ, Bool, List, ap}
 use Rattle.tcp_segments.specs.declared.flags.Flags.{Flags}
 use Rattle.gate_model.specs.Prelude.{sent_as}
-use Rattle.audit_records.specs.Records.{holds}
+use Rattle.audit_records.specs.Inside.Records.{holds}
 use Rattle.audit_records.proofs.cutting.is_alone.Goals as goal
 
 pub returns-clause-answer : goal.returns-clause-answer
 returns-clause-answer c =
     let p = c.args.pieces.now in
-    let R : ℕ → Flags → List ℕ → Bool = λ n f o. holds c.args.came.now (sent_as p.datagram p.source p.destination (record { sequence = n; acknowledgement = p.sent.acknowledgement; flags = f; octets = o })) in
+    let R : ℕ → Flags → List ℕ → Bool =
+    λ n f o. holds c.args.came.now
+    (sent_as p.datagram p.source p.destination (record { sequence = n; acknowledgement = p.sent.acknowledgement; flags = f; octets = o })) in
     c.is_both.ensures
     ∙ ap (λ (b : Bool). (c.args.count == 0) && b)
     (c.is_segment-same.ensures.answer

@@ -21,7 +21,11 @@ returns-clause-answer c =
     c.args.carried r.packet c.args.size true))) (sym (sym c.is_within.ensures ∙ c.if-is_within.false))
 
 pub either_piece-requires-clause-few : goal.either_piece-requires-clause-few
-either_piece-requires-clause-few c = (within_is c.args.size c.args.pieces.now.sent.limit (c.args.carried + c.args.size) (length c.args.pieces.now.sent.octets) (sym c.is_within.ensures ∙ c.if-is_within.true)).0
+either_piece-requires-clause-few c =
+    (within_is c.args.size c.args.pieces.now.sent.limit (c.args.carried + c.args.size) (length c.args.pieces.now.sent.octets)
+    (sym c.is_within.ensures ∙ c.if-is_within.true)).0
 
 pub either_piece-requires-clause-within : goal.either_piece-requires-clause-within
-either_piece-requires-clause-within c = (within_is c.args.size c.args.pieces.now.sent.limit (c.args.carried + c.args.size) (length c.args.pieces.now.sent.octets) (sym c.is_within.ensures ∙ c.if-is_within.true)).1
+either_piece-requires-clause-within c =
+    (within_is c.args.size c.args.pieces.now.sent.limit (c.args.carried + c.args.size) (length c.args.pieces.now.sent.octets)
+    (sym c.is_within.ensures ∙ c.if-is_within.true)).1

@@ -1,5 +1,5 @@
 use Rattle.std.proofs.Common.{◌∙◌, ℕ, List, ap}
-use Rattle.audit_records.specs.Records.{holds}
+use Rattle.audit_records.specs.Inside.Records.{holds}
 use Rattle.audit_records.proofs.cutting.is_segment.Goals as goal
 
 pub returns-clause-answer : goal.returns-clause-answer

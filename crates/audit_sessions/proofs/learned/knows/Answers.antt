@@ -1,6 +1,6 @@
 use Rattle.std.proofs.Common.{◌∙◌, ap, is_some}
 use Rattle.dialogue.proofs.ListedImages.{image_of_listed}
-use Rattle.audit_sessions.specs.Sessions.{listed_of}
+use Rattle.audit_sessions.specs.Inside.Sessions.{listed_of}
 use Rattle.audit_sessions.proofs.learned.knows.Goals as goal
 
 pub returns : goal.returns

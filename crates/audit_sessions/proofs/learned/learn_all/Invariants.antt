@@ -1,5 +1,5 @@
 use Rattle.std.proofs.Common.{◌≡◌, take}
-use Rattle.audit_sessions.specs.Sessions.{with_entered}
+use Rattle.audit_sessions.specs.Inside.Sessions.{with_entered}
 use Rattle.audit_sessions.proofs.learned.learn_all.Given as goal
 
 abbrev pub invariant-loop-one : goal.invariant-loop-one

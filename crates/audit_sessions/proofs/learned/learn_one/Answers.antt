@@ -1,6 +1,6 @@
 use Rattle.std.proofs.Common.{subst, sym, ◌∙◌}
 use Rattle.gate_base.specs.declared.host.Host.{Host}
-use Rattle.audit_sessions.specs.Sessions.{IsListedSide}
+use Rattle.audit_sessions.specs.Inside.Sessions.{IsListedSide}
 use Rattle.audit_sessions.proofs.LearnedSessions.{known_already, newly_known}
 use Rattle.audit_sessions.proofs.learned.learn_one.Goals as goal
 
@@ -14,4 +14,7 @@ pub learn-requires-clause-server_known : goal.learn-requires-clause-server_known
 learn-requires-clause-server_known c = λ is. subst (λ (b : Host). IsListedSide b c.args.session.now) is c.requires.listed
 
 pub returns : goal.returns
-returns c = newly_known c.args.host c.args.session.now c.learn.new.self c.args.one (sym c.knows.ensures ∙ c.if-knows.false) c.learn.ensures.entries c.learn.ensures.client_heard c.learn.ensures.server_heard c.learn.ensures.server c.learn.ensures.client
+returns c =
+    newly_known c.args.host c.args.session.now c.learn.new.self c.args.one
+    (sym c.knows.ensures ∙ c.if-knows.false) c.learn.ensures.entries c.learn.ensures.client_heard c.learn.ensures.server_heard
+    c.learn.ensures.server c.learn.ensures.client

@@ -3,7 +3,7 @@ use Rattle.std.proofs.lemmas.Bool.{cond-true}
 use Rattle.tcp_segments.specs.Prelude.{flags_of}
 use Rattle.tcp_segments.specs.declared.flags.Flags.{Flags}
 use Rattle.stream_model.specs.Prelude.{Sender, Segment, Sent, segment_in, start_of, standing, limit_of, syn_sent, sent, ends_by}
-use Rattle.audit_streams.specs.Hosts.{sender_of}
+use Rattle.audit_streams.specs.Inside.Hosts.{sender_of}
 use Rattle.audit_streams.specs.Sending.{Handed, handed}
 use Rattle.audit_streams.proofs.streams.pass.Goals as goal
 

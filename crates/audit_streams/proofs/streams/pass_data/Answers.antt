@@ -5,7 +5,7 @@ use Rattle.tcp_segments.specs.Prelude.{flags_of}
 use Rattle.stream_model.specs.Prelude.{Sender, Segment, Sent, segment_in, extent, start_at, start_of, taken, acknowledged, standing, acknowledgement_to, limit_of}
 use Rattle.stream_model.specs.declared.refusals.Extent.{Extent}
 use Rattle.stream_model.proofs.SentLaw.{high-le}
-use Rattle.audit_streams.specs.Hosts.{sender_of}
+use Rattle.audit_streams.specs.Inside.Hosts.{sender_of}
 use Rattle.audit_streams.specs.Sending.{handed}
 use Rattle.audit_streams.proofs.GoesOut.{few_taken, taken_is, acknowledged_is, data_is, on_ok}
 use Rattle.audit_streams.proofs.streams.pass_data.Given.{Over}

@@ -1,5 +1,5 @@
 use Rattle.std.specs.Prelude.{◌≡◌, ◌≤◌, ◌-◌, ◌++◌, length, take}
-use Rattle.audit_streams.specs.Transcripts.{IsOf}
+use Rattle.audit_streams.specs.Inside.Transcripts.{IsOf}
 use Rattle.audit_streams.proofs.taking.take_octets.Given as goal
 
 -- the octets so far were taken

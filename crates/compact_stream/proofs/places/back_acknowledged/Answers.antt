@@ -9,7 +9,8 @@ pub returns-then-acknowledged-octets_out : goal.returns-then-acknowledged-octets
 returns-then-acknowledged-octets_out c = λ m h a law i k ledger held acked.
     let out : h.ledger.octets_out ≡ c.args.ledger.now.octets_out = ap (λ (l : Kept). l.octets_out) ledger in
     sender_back m law h a c.args.acknowledged c.back.result k (sym acked) (omega (arith, c.if-acknowledged-octets_out.true, c.octets_out.ensures))
-    (λ st low high. c.back.ensures.stands _ _ (subst (λ (l : Kept). StandsFor l (sent_pushes m h.ended (cut m a.octets)) (min h.acked h.ledger.octets_out)) ledger st) low (omega arith))
+    (λ st low high. c.back.ensures.stands _ _
+    (subst (λ (l : Kept). StandsFor l (sent_pushes m h.ended (cut m a.octets)) (min h.acked h.ledger.octets_out)) ledger st) low (omega arith))
 
 pub returns : goal.returns
 returns c = λ m h a law i k ledger held acked.

@@ -1,6 +1,6 @@
 use Rattle.std.proofs.Common.{take, drop}
 use Rattle.std.specs.List.{AllByRecursion}
-use Rattle.dns_messages.specs.Suits.{ResourceFits}
+use Rattle.dns_messages.specs.Inside.Suits.{ResourceFits}
 use Rattle.dns_messages.proofs.Wrote.{Left}
 use Rattle.dns_messages.proofs.writing.put_resources.Given as goal
 

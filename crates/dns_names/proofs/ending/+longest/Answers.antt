@@ -1,8 +1,8 @@
 use Rattle.std.proofs.Common.{◌≡◌, ◌≤◌, ◌+◌, ℕ, List, Option, Some, length, ap, sym, subst, ◌∙◌, arith, rules}
 use Rattle.std.proofs.lemmas.List.{nil_from_length}
 use Rattle.dns_names.specs.Prelude.{behind, IsLongest, Start, starts_in}
-use Rattle.dns_names.specs.Writers.{after_in}
-use Rattle.dns_names.proofs.Longest.{behind-shorter, ends-after, longest-here, longest-more, longest-none}
+use Rattle.dns_names.specs.Inside.Writers.{after_in}
+use Rattle.dns_names.proofs.Longest.{behind-shorter, ends-after, longest-here, longest-more, longest-none, longest-one}
 use Rattle.dns_names.proofs.ending.+longest.Goals as goal
 
 -- what is known of the rest, where nothing is to be written of it
@@ -13,7 +13,7 @@ rest-ends starts rest name count place is none deep =
     subst (λ (n : ℕ). IsLongest starts (behind name) n place) zero_is (subst (λ (x : List ℕ). IsLongest starts x count place) is deep)
 
 pub returns-then-is_empty-2-clause-longest : goal.returns-then-is_empty-2-clause-longest
-returns-then-is_empty-2-clause-longest n c = longest-none _ c.args.name.now (ap starts_in (nil_from_length c.args.places.now.entries (search rules)))
+returns-then-is_empty-2-clause-longest n c = longest-none _ c.args.name.now (ap starts_in (nil_from_length c.args.places.now (search rules)))
 
 pub overflow_add-result : goal.overflow_add-result
 overflow_add-result n c =
@@ -27,13 +27,13 @@ returns-then-count-gt0-clause-longest n c =
     longest-more _ c.args.edge.octets.now c.args.name.now c.requires.closed.0 c.longest-count.result.0 c.longest-count.result.1 some
     c.requires.closed.1 (search rules) (omega (arith, c.if-count-gt0.true))
     (omega (arith, c.if-count-gt0.true, c.longest-count.ensures.few, ap length is))
-    (subst (λ (x : List ℕ). IsLongest (starts_in c.args.places.now.entries) x c.longest-count.result.0 c.longest-count.result.1) is
+    (subst (λ (x : List ℕ). IsLongest (starts_in c.args.places.now) x c.longest-count.result.0 c.longest-count.result.1) is
     c.longest-count.ensures.longest)
 
 pub returns-clause-longest : goal.returns-clause-longest
 returns-clause-longest n c =
     let some : 1 ≤ length c.args.name.now = search rules in
-    let starts = starts_in c.args.places.now.entries in
+    let starts = starts_in c.args.places.now in
     let rest = rest-ends starts c.behind_label.result.now c.args.name.now c.longest-count.result.0 c.longest-count.result.1
     c.behind_label.ensures (omega (arith, c.if-count-gt0.false)) c.longest-count.ensures.longest in
     let after : after_in starts (behind c.args.name.now) ≡ Some c.unwrap_or.result =
@@ -44,10 +44,21 @@ returns-clause-longest n c =
 pub returns-clause-rows : goal.returns-clause-rows
 returns-clause-rows n c =
     let some : 1 ≤ length c.args.name.now = search rules in
-    let starts = starts_in c.args.places.now.entries in
+    let starts = starts_in c.args.places.now in
     let rest = rest-ends starts c.behind_label.result.now c.args.name.now c.longest-count.result.0 c.longest-count.result.1
     c.behind_label.ensures (omega (arith, c.if-count-gt0.false)) c.longest-count.ensures.longest in
     let after : after_in starts (behind c.args.name.now) ≡ Some c.unwrap_or.result =
     ends-after starts (behind c.args.name.now) c.longest-count.result.1 rest.ends ∙ ap Some (sym c.unwrap_or.ensures) in
     c.keep-2.ensures starts c.longest-count.ensures.rows (λ near. sym (c.requires.finds c.args.name.now c.unwrap_or.result some after)
     ∙ sym c.place_of-2.ensures ∙ c.in-Some-place_of.is)
+
+pub returns-in_default-place_of-clause-longest : goal.returns-in_default-place_of-clause-longest
+returns-in_default-place_of-clause-longest n c =
+    let some : 1 ≤ length c.args.name.now = search rules in
+    let starts = starts_in c.args.places.now in
+    let rest = rest-ends starts c.behind_label.result.now c.args.name.now c.longest-count.result.0 c.longest-count.result.1
+    c.behind_label.ensures (omega (arith, c.if-count-gt0.false)) c.longest-count.ensures.longest in
+    let after : after_in starts (behind c.args.name.now) ≡ Some c.unwrap_or.result =
+    ends-after starts (behind c.args.name.now) c.longest-count.result.1 rest.ends ∙ ap Some (sym c.unwrap_or.ensures) in
+    longest-one starts c.args.name.now c.longest-count.result.1 some rest
+    (sym (c.requires.finds c.args.name.now c.unwrap_or.result some after) ∙ sym c.place_of-2.ensures ∙ c.in_default-place_of.is)

@@ -3,7 +3,7 @@ use Rattle.gate_base.specs.Prelude.{◌>>=◌, number_of}
 use Rattle.gate_base.specs.declared.address.Addr.{Addr}
 use Rattle.dns_names.specs.Reverse.{full_reverse}
 use Rattle.dns_names.specs.Prelude.{label_in}
-use Rattle.dns_names.specs.Octets.{reverse_in}
+use Rattle.dns_names.specs.Inside.Octets.{reverse_in}
 use Rattle.dns_names.proofs.reverse.address_in.Goals as goal
 
 always : {A B : Type 0} (found : Option A) (f : A → Option B) → ((x : A) → f x ≡ None) → (found >>= f) ≡ None

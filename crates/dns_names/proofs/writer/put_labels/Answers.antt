@@ -1,12 +1,12 @@
 use Rattle.std.proofs.Common.{◌≡◌, ◌∙◌, ◌-◌, ◌≤◌, ◌<◌, ◌⊎◌, ◌++◌, ℕ, suc, List, Some, arith, rules, length, sym, ap, subst, [], refl, inl, inr, length-append}
 use Rattle.dns_names.proofs.Kept.{ends-near, pending-first, pending-fresh, pending-index}
 use Rattle.dns_names.specs.declared.suffix.Suffix.{Suffix}
-use Rattle.dns_names.specs.Longest.{ending}
-use Rattle.dns_names.specs.Writers.{key_at, IsPending, Remembers}
+use Rattle.dns_names.specs.Inside.Longest.{ending}
+use Rattle.dns_names.specs.Inside.Writers.{key_at, IsPending, Remembers}
 use Rattle.dns_names.proofs.Pending.{GoesOn, edge-later, put-found, put-label, rows-later}
 use Rattle.dns_names.proofs.Longest.{longest-new, longest-step, longest-ends, behind-shorter, closing-first, closing-put, closing-ends, behind-is}
 use Rattle.dns_names.proofs.Putting.{Left-ends, Left-closed, Left-new, Left-within, Left-label, ending-some, grew_more, grew_none, grew_octets}
-use Rattle.dns_names.specs.Prelude.{behind, found, labels_in, with_start, IsIndex, IsLongest, starts_in}
+use Rattle.dns_names.specs.Prelude.{behind, found, key, key_of, labels_in, with_start, IsIndex, IsLongest, starts_in}
 use Rattle.dns_names.proofs.writer.put_labels.Goals as goal
 use Rattle.dns_names.proofs.writer.put_labels.Goals.{then-labels-test+else-not-is_empty, else-labels-test}
 
@@ -21,11 +21,11 @@ labels-init c = (
     starts = refl;
     fresh = λ o le. refl;
   },
-  pending-first c.args.places.now.entries c.args.edge.octets.now c.args.name.now
+  pending-first c.args.places.now c.args.edge.octets.now c.args.name.now
       (length c.args.out.now.items) c.requires.index c.requires.fresh c.requires.closed,
-  grew_none (starts_in c.args.places.now.entries) c.args.out.now.items,
+  grew_none (starts_in c.args.places.now) c.args.out.now.items,
   c.longest-count.ensures.longest,
-  closing-first (starts_in c.args.places.now.entries) c.args.edge.octets.now c.args.name.now (length c.args.out.now.items) c.requires.closed,
+  closing-first (starts_in c.args.places.now) c.args.edge.octets.now c.args.name.now (length c.args.out.now.items) c.requires.closed,
   c.requires.edge,
   c.longest-count.ensures.rows,
 )
@@ -65,12 +65,12 @@ labels-preserved c =
     let len : c.len-place.result ≡ length c.labels.out.items = omega (arith, c.labels.out.ok.0) in
     let rest : c.split_at.result.1.now ≡ behind c.labels.rest.now = c.split_at.ensures.back ∙ sym (behind-is c.labels.rest.now some) in
     let step = longest-step _ c.labels.rest.now (c.labels.left - 1) _
-    (subst (λ (n : ℕ). IsLongest (starts_in c.args.places.now.entries) c.labels.rest.now n c.longest-count.result.1) more v.3) in
+    (subst (λ (n : ℕ). IsLongest (starts_in c.args.places.now) c.labels.rest.now n c.longest-count.result.1) more v.3) in
     let limit = length c.extend_from_slice.new.self.items in
     let now : c.len.result ≡ limit = omega (arith, c.len.ensures, c.extend_from_slice.new.self.ok.0) in
     let key_is : c.key_at-behind.result ≡ key_at c.is_end.result limit c.longest-count.result.1 =
     c.key_at-behind.ensures ∙ ap (λ (n : ℕ). key_at c.is_end.result n c.longest-count.result.1) now in
-    let way : GoesOn (starts_in c.args.places.now.entries) c.labels.places.entries c.labels.rest.now c.is_end.result c.longest-count.result.1 =
+    let way : GoesOn (starts_in c.args.places.now) c.labels.places c.labels.rest.now c.is_end.result c.longest-count.result.1 =
     record {
       ends = λ e. longest-ends _ (behind c.labels.rest.now) (c.labels.left - 1) _ step
           (subst (λ (x : List ℕ). (c.labels.left - 1 < 1) ⊎ (length x < 1)) rest (c.is_end.ensures.ends e));
@@ -80,7 +80,9 @@ labels-preserved c =
           ∙ longest-new _ (behind c.labels.rest.now) (c.labels.left - 1) _ step on.0 (subst (λ (x : List ℕ). 1 ≤ length x) rest on.1);
       long = λ e. subst (λ (x : List ℕ). 1 ≤ length x) rest (c.is_end.ensures.goes_on e).1;
     } in
-    let s : Suffix = record { octets = c.labels.rest; behind = c.key_at-behind.result } in
+    let s : Suffix = c.new-suffix.result in
+    let is_its : key s ≡ key_of (key_at c.is_end.result limit c.longest-count.result.1) c.labels.rest.now =
+    c.new-suffix.ensures.key ∙ ap (λ (n : ℕ). key_of n c.labels.rest.now) key_is in
     let on : length c.labels.out.items < limit = omega (
       arith,
       c.labels.out.ok.0,
@@ -88,24 +90,24 @@ labels-preserved c =
       c.split_at.ensures.front_len,
       c.extend_from_slice.new.self.ok.0,
     ) in
-    let is = put-label (starts_in c.args.places.now.entries)
-    (v.2.0).starts c.labels.places.entries c.remember.new.places.entries c.labels.edge.octets.now c.labels.rest.now
+    let is = put-label (starts_in c.args.places.now)
+    (v.2.0).starts c.labels.places c.remember.new.places c.labels.edge.octets.now c.labels.rest.now
     (length c.labels.out.items) limit s c.is_end.result c.longest-count.result.1
-    refl key_is (subst (λ (n : ℕ). Remembers s n c.labels.places.entries c.remember.new.places.entries) len
+    c.new-suffix.ensures.octets is_its (subst (λ (n : ℕ). Remembers s n c.labels.places c.remember.new.places) len
     c.in_ok-remember.ensures.remembers) v.1 v.4 absent some on v.2.2 way in
-    let found_now = put-found c.labels.places.entries c.remember.new.places.entries c.labels.rest.now (length c.labels.out.items) limit is absent in
-    let found_at : c.len-place.result < 16384 → found (starts_in c.remember.new.places.entries) c.labels.rest.now
+    let found_now = put-found c.labels.places c.remember.new.places c.labels.rest.now (length c.labels.out.items) limit is absent in
+    let found_at : c.len-place.result < 16384 → found (starts_in c.remember.new.places) c.labels.rest.now
     ≡ Some c.len-place.result = λ near. found_now (omega (arith, near, len)) ∙ ap Some (sym len) in
-    let starts_at : starts_in c.remember.new.places.entries ≡ starts_in c.labels.places.entries ++ with_start c.len-place.result
-    c.labels.rest.now [] = is.starts ∙ ap (λ (n : ℕ). starts_in c.labels.places.entries ++ with_start n c.labels.rest.now []) (sym len) in (
+    let starts_at : starts_in c.remember.new.places ≡ starts_in c.labels.places ++ with_start c.len-place.result
+    c.labels.rest.now [] = is.starts ∙ ap (λ (n : ℕ). starts_in c.labels.places ++ with_start n c.labels.rest.now []) (sym len) in (
       rw (c.split_at.ensures.back, c.in_ok-extend_from_slice.ensures.items, c.split_at.ensures.front, is.starts) put,
-      subst (λ (x : List ℕ). IsPending c.remember.new.places.entries x limit) (sym rest) is.pending,
+      subst (λ (x : List ℕ). IsPending c.remember.new.places x limit) (sym rest) is.pending,
       grew_more _ _ _ _ _ _ (record {
         octets = c.split_at.result.0.now;
         starts =
             with_start (length c.labels.out.items) c.labels.rest.now [];
       }) v.2 c.in_ok-extend_from_slice.ensures.items is.starts,
-      subst (λ (x : List ℕ). IsLongest (starts_in c.args.places.now.entries) x (c.labels.left - 1) c.longest-count.result.1) (sym rest) step,
+      subst (λ (x : List ℕ). IsLongest (starts_in c.args.places.now) x (c.labels.left - 1) c.longest-count.result.1) (sym rest) step,
       closing-put _ _ _ _ c.labels.rest.now _ _ c.len-place.result c.len-in-labels.result _ v.4 absent len
           (omega (
             arith,
@@ -115,8 +117,8 @@ labels-preserved c =
             c.split_at.ensures.front_len,
             c.extend_from_slice.new.self.ok.0,
           )) (search rules) starts_at c.edge_after-edge.ensures.by rest,
-      c.edge_after-edge.ensures.edge (starts_in c.remember.new.places.entries) (edge-later _ _ _ c.labels.edge is.starts v.5) found_at,
-      c.keep.ensures (starts_in c.remember.new.places.entries) (rows-later _ _ _ c.labels.rows is.starts v.6) found_at,
+      c.edge_after-edge.ensures.edge (starts_in c.remember.new.places) (edge-later _ _ _ c.labels.edge is.starts v.5) found_at,
+      c.keep.ensures (starts_in c.remember.new.places) (rows-later _ _ _ c.labels.rows is.starts v.6) found_at,
     )
 
 pub returns-clause-octets : goal.returns-clause-octets

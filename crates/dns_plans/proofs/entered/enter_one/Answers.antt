@@ -33,20 +33,33 @@ returns-then-listed-len-eq-MOST_ENTRIES-clause-room g c =
     let es : List Entry = g.S.Session.rules.listed c.args.sender.now.host c.args.sender.now.session.now in
     let new : List Entry = c.args.new.now in
     let one : Entry = c.args.one in
-    let unlisted : is_listed new one.0.0 ≡ false = sym (image_of_listed new one.0.0) ∙ ap is_some (sym c.image_of.ensures) ∙ sym c.is_some.ensures ∙ c.if-is_some.false in
-    let unknown : (is_listed es one.0.0 || is_listed new one.0.0) ≡ false = ap (λ b. b || is_listed new one.0.0) (sym c.knows.ensures ∙ c.if-knows.false) ∙ unlisted in
+    let unlisted : is_listed new one.0.0 ≡ false = sym (image_of_listed new one.0.0) ∙ ap is_some (sym c.image_of.ensures) ∙ sym c.is_some.ensures
+    ∙ c.if-is_some.false in
+    let unknown : (is_listed es one.0.0 || is_listed new one.0.0) ≡ false =
+    ap (λ b. b || is_listed new one.0.0) (sym c.knows.ensures ∙ c.if-knows.false) ∙ unlisted in
     let many : most_entries < length (enter_one (es ++ new) one) =
-    omega (arith, ap length (enters_new es new one unknown), length-append es (new ++ one ∷ []), length-append new (one ∷ []), c.listed.ensures.count, c.len.ensures.len, c.if-listed-len-eq-MOST_ENTRIES.true) in
+    omega (
+      arith,
+      ap length (enters_new es new one unknown),
+      length-append es (new ++ one ∷ []),
+      length-append new (one ∷ []),
+      c.listed.ensures.count,
+      c.len.ensures.len,
+      c.if-listed-len-eq-MOST_ENTRIES.true,
+    ) in
     sym (ap not (lt-ltb most_entries (length (enter_one (es ++ new) one)) many))
 
 pub learn-requires-clause-unknown : goal.learn-requires-clause-unknown
-learn-requires-clause-unknown g c = sym (image_of_listed c.args.new.now c.args.one.0.0) ∙ ap is_some (sym c.image_of.ensures) ∙ sym c.is_some.ensures ∙ c.if-is_some.false
+learn-requires-clause-unknown g c = sym (image_of_listed c.args.new.now c.args.one.0.0) ∙ ap is_some (sym c.image_of.ensures) ∙ sym c.is_some.ensures
+    ∙ c.if-is_some.false
 
 pub returns-clause-entered : goal.returns-clause-entered
 returns-clause-entered g c = λ _.
     let es : List Entry = g.S.Session.rules.listed c.args.sender.now.host c.args.sender.now.session.now in
     let new : List Entry = c.args.new.now in
     let one : Entry = c.args.one in
-    let unlisted : is_listed new one.0.0 ≡ false = sym (image_of_listed new one.0.0) ∙ ap is_some (sym c.image_of.ensures) ∙ sym c.is_some.ensures ∙ c.if-is_some.false in
-    let unknown : (is_listed es one.0.0 || is_listed new one.0.0) ≡ false = ap (λ b. b || is_listed new one.0.0) (sym c.knows.ensures ∙ c.if-knows.false) ∙ unlisted in
+    let unlisted : is_listed new one.0.0 ≡ false = sym (image_of_listed new one.0.0) ∙ ap is_some (sym c.image_of.ensures) ∙ sym c.is_some.ensures
+    ∙ c.if-is_some.false in
+    let unknown : (is_listed es one.0.0 || is_listed new one.0.0) ≡ false =
+    ap (λ b. b || is_listed new one.0.0) (sym c.knows.ensures ∙ c.if-knows.false) ∙ unlisted in
     ap (λ (xs : List Entry). es ++ xs) c.learn.ensures ∙ sym (enters_new es new one unknown)

@@ -13,6 +13,9 @@ returns-then-not-enter_one-clause-few g c =
     let d : Entry = (record { 0 = 0 }, None) in
     let one : Entry = slice_index_or named i d in
     let within : i < length named = search (rules, tests) in
-    let full : nat_lt 256 (length (enter_one (es ++ c.loop-one.new) one)) ≡ true = not-false _ (sym c.enter_one.ensures.room ∙ c.if-not-enter_one.true) in
-    let grown : 256 < length (enter_one (entered_all es (take i named)) one) = subst (λ (xs : List Entry). 256 < length (enter_one xs one)) c.loop-one.invariant.0 (ltb-true 256 (length (enter_one (es ++ c.loop-one.new) one)) full) in
+    let full : nat_lt 256 (length (enter_one (es ++ c.loop-one.new) one)) ≡ true =
+    not-false _ (sym c.enter_one.ensures.room ∙ c.if-not-enter_one.true) in
+    let grown : 256 < length (enter_one (entered_all es (take i named)) one) =
+    subst (λ (xs : List Entry). 256 < length (enter_one xs one)) c.loop-one.invariant.0
+    (ltb-true 256 (length (enter_one (es ++ c.loop-one.new) one)) full) in
     sym (full_with es named (drop (suc i) named) one i (drop-next named i d within) grown)

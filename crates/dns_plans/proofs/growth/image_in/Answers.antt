@@ -10,4 +10,5 @@ returns-in-Some g c =
 pub returns-in-None : goal.returns-in-None
 returns-in-None g c =
     let es = g.S.Session.rules.listed c.args.sender.now.host c.args.sender.now.session.now in
-    c.unwrap_or.ensures ∙ ap (λ o. unwrap_or o None) c.image_of-in-None.ensures ∙ sym (image_of_new es c.args.new.now c.args.address.0 (sym c.image_of.ensures ∙ c.in-None.is))
+    c.unwrap_or.ensures ∙ ap (λ o. unwrap_or o None) c.image_of-in-None.ensures
+    ∙ sym (image_of_new es c.args.new.now c.args.address.0 (sym c.image_of.ensures ∙ c.in-None.is))

@@ -7,4 +7,5 @@ abbrev pub invariant-loop-read : goal.invariant-loop-read
 invariant-loop-read g l =
     (goal.iterator-loop-read g).can_next l.read-iterator ×
     (goal.iterator-loop-read g).is_finite l.read-iterator ×
-    ImagedSoFar (g.S.Session.rules.listed l.sender.host l.sender.session.now ++ l.new) l.fn.units.items (into_iter_items l.read-iterator) l.images.items
+    ImagedSoFar (g.S.Session.rules.listed l.sender.host l.sender.session.now ++ l.new) l.fn.units.items
+    (into_iter_items l.read-iterator) l.images.items

@@ -8,4 +8,6 @@ pub returns-clause-named : goal.returns-clause-named
 returns-clause-named c =
     c.in_ok-push.ensures.named
     ∙ ap (λ (xs : List Addr). c.args.read.now.named.items ++ xs)
-    (c.deref.ensures.value ∙ of_unit c.in_ok-addresses.addresses.items c.args.unit.now (c.in_ok-addresses.ensures ∙ sym (ap addresses_of c.in_ok-message.ensures.message)))
+    (c.deref.ensures.value
+    ∙ of_unit c.in_ok-addresses.addresses.items c.args.unit.now
+    (c.in_ok-addresses.ensures ∙ sym (ap addresses_of c.in_ok-message.ensures.message)))

@@ -2,7 +2,7 @@ use Rattle.std.proofs.Common.{◌≡◌, ◌+◌, ◌-◌, ◌++◌, ◌∷◌, 
 use Rattle.std.proofs.lemmas.Result.{err_from_is_err_and}
 use Rattle.std.proofs.lemmas.List.{take_rest}
 use Rattle.dns_stream.specs.declared.stop.UnitStop.TheVariants as stop
-use Rattle.dns_stream.specs.Ends.{within}
+use Rattle.dns_stream.specs.Inside.Ends.{within}
 use Rattle.dns_stream.specs.Prelude.{unit_end}
 use Rattle.gate_model.specs.Prelude.{is_bad, addresses_in}
 use Rattle.dns_plans.proofs.NamedLemmas.{goes_on, all_named, all_good, one_bad, reads_on, all_read}
@@ -18,10 +18,12 @@ loop-end-preserved c =
     let unit : take (at + n - at) (drop at octets) ≡ take n (drop at octets) = ap (λ (i : ℕ). take i (drop at octets)) (omega arith) in
     let so_far = c.loop-end.invariant in (
       goes_on octets at n c.loop-end.read.named.items c.add_unit.new.read.named.items so_far.0 first (within (drop at octets) n first).1
-          (subst (λ (u : List ℕ). c.add_unit.new.read.named.items ≡ c.loop-end.read.named.items ++ addresses_in (u ∷ [])) unit c.in_ok-add_unit.ensures.named)
+          (subst (λ (u : List ℕ). c.add_unit.new.read.named.items ≡ c.loop-end.read.named.items ++ addresses_in (u ∷ [])) unit
+          c.in_ok-add_unit.ensures.named)
           (subst (λ (u : List ℕ). is_bad u ≡ false) unit c.in_ok-add_unit.ensures.good),
       reads_on octets at n c.loop-end.read.units.items c.add_unit.new.read.units.items so_far.1 first
-          (subst (λ (u : List ℕ). map unit_of c.add_unit.new.read.units.items ≡ map unit_of c.loop-end.read.units.items ++ u ∷ []) unit c.in_ok-add_unit.ensures.units)
+          (subst (λ (u : List ℕ). map unit_of c.add_unit.new.read.units.items ≡ map unit_of c.loop-end.read.units.items ++ u ∷ []) unit
+          c.in_ok-add_unit.ensures.units)
           (c.in_ok-add_unit.ensures.each so_far.1.each),
     )
 

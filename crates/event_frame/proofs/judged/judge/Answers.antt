@@ -16,7 +16,10 @@ returns-in_err-datagram c =
     let e = event_of c.args.event.now in
     let d = datagram_in e in
     let p = err_from_is_err_and c.from_residual.result c.from_residual.ensures.1 in
-    rw (p.1, p.2) (front_is e ∙ ap (λ x. option_or x (option_or (first_that_holds (datagram_tests d)) (first_that_holds (transport_tests d)))) (judged_err (first_that_holds (header_tests e)) c.in_err-datagram.field-0.0 d c.in_err-datagram.ensures.judged))
+    rw (p.1, p.2)
+    (front_is e
+    ∙ ap (λ x. option_or x (option_or (first_that_holds (datagram_tests d)) (first_that_holds (transport_tests d))))
+    (judged_err (first_that_holds (header_tests e)) c.in_err-datagram.field-0.0 d c.in_err-datagram.ensures.judged))
 
 pub returns-in-Some : goal.returns-in-Some
 returns-in-Some c =
@@ -24,7 +27,8 @@ returns-in-Some c =
     let good = judged_ok (first_that_holds (header_tests e)) c.in_ok-datagram.datagram (datagram_in e) c.in_ok-datagram.ensures.judged in
     let held = ap (λ x. first_that_holds (datagram_tests x)) (sym good.1) ∙ sym c.in-Some.ensures.refusal in
     front_is e
-    ∙ ap (λ x. option_or x (option_or (first_that_holds (datagram_tests (datagram_in e))) (first_that_holds (transport_tests (datagram_in e))))) good.0
+    ∙ ap (λ x. option_or x (option_or (first_that_holds (datagram_tests (datagram_in e))) (first_that_holds (transport_tests (datagram_in e)))))
+    good.0
     ∙ ap (λ x. option_or x (first_that_holds (transport_tests (datagram_in e)))) held
 
 pub returns-in_err-content : goal.returns-in_err-content
@@ -34,7 +38,8 @@ returns-in_err-content c =
     let none = ap (λ x. first_that_holds (datagram_tests x)) (sym good.1) ∙ sym c.datagram_refusal.ensures.refusal ∙ c.in_default.is in
     let p = err_from_is_err_and c.from_residual-in_err-content.result c.from_residual-in_err-content.ensures.1 in
     rw (p.1, p.2) (front_is e
-    ∙ ap (λ x. option_or x (option_or (first_that_holds (datagram_tests (datagram_in e))) (first_that_holds (transport_tests (datagram_in e))))) good.0
+    ∙ ap (λ x. option_or x (option_or (first_that_holds (datagram_tests (datagram_in e))) (first_that_holds (transport_tests (datagram_in e)))))
+    good.0
     ∙ ap (λ x. option_or x (first_that_holds (transport_tests (datagram_in e)))) none
     ∙ ap (λ x. first_that_holds (transport_tests x)) (sym good.1) ∙ c.in_err-content.ensures)
 
@@ -54,14 +59,17 @@ returns c =
     let good = judged_ok (first_that_holds (header_tests e)) c.in_ok-datagram.datagram (datagram_in e) c.in_ok-datagram.ensures.judged in
     let none = sym c.datagram_refusal.ensures.refusal ∙ c.in_default.is in
     let total : c.from-total.result ≡ total_length_of c.octets_in-octets.result.now = c.from-total.ensures ∙ c.get_u16.ensures in
-    let same : c.in_ok-datagram.datagram ≡ datagram_of c.octets_in-octets.result.now = good.1 ∙ ap (λ (x : List ℕ). datagram_of x) (sym c.octets_in-octets.ensures) in
+    let same : c.in_ok-datagram.datagram ≡ datagram_of c.octets_in-octets.result.now = good.1
+    ∙ ap (λ (x : List ℕ). datagram_of x) (sym c.octets_in-octets.ensures) in
     let judged = is_judged c.octets_in-octets.result.now c.in_ok-datagram.datagram c.in_ok-content.content c.in_ok-datagram.ensures.read same none
     c.in_ok-content.ensures.0 (c.datagram_refusal.ensures.alive c.in_default.is) (omega (arith, total, c.from-total.ensures, c.get_u16.type_inv))
     c.in_ok-content.ensures.1 in
     record {
       none = front_is e
-          ∙ ap (λ x. option_or x (option_or (first_that_holds (datagram_tests (datagram_in e))) (first_that_holds (transport_tests (datagram_in e))))) good.0
-          ∙ ap (λ x. option_or x (first_that_holds (transport_tests (datagram_in e)))) (ap (λ x. first_that_holds (datagram_tests x)) (sym good.1) ∙ none)
+          ∙ ap (λ x. option_or x (option_or (first_that_holds (datagram_tests (datagram_in e))) (first_that_holds (transport_tests (datagram_in e)))))
+          good.0
+          ∙ ap (λ x. option_or x (first_that_holds (transport_tests (datagram_in e))))
+          (ap (λ x. first_that_holds (datagram_tests x)) (sym good.1) ∙ none)
           ∙ ap (λ x. first_that_holds (transport_tests x)) (sym good.1) ∙ c.in_ok-content.ensures.0;
       datagram_is = good.1;
       judged = subst (λ (x : Datagram). IsJudged (take c.from-total.result c.octets_in-octets.result.now) x c.in_ok-content.content) good.1

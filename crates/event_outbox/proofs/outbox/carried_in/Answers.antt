@@ -14,4 +14,10 @@ pub returns-clause-carried : goal.returns-clause-carried
 returns-clause-carried c = take_rest c.args.octets.now 28 ∙ sym (behind c.args.octets.now (can_translate c.args.octets.now c.requires.can))
 
 pub returns-clause-length : goal.returns-clause-length
-returns-clause-length c = omega (arith, ap length (take_rest c.args.octets.now 28), length-drop 28 c.args.octets.now, udp_long c.args.octets.now c.requires.can c.requires.protocol)
+returns-clause-length c =
+    omega (
+      arith,
+      ap length (take_rest c.args.octets.now 28),
+      length-drop 28 c.args.octets.now,
+      udp_long c.args.octets.now c.requires.can c.requires.protocol,
+    )

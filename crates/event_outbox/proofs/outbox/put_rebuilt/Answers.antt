@@ -12,7 +12,12 @@ pub end-requires-clause-none : goal.end-requires-clause-none
 end-requires-clause-none c = no_ends c.outbox.inside.octets.items c.outbox.inside.ends.items (c.outbox.view_is ∙ c.requires.empty)
 
 pub invariant_of-outbox : goal.invariant_of-outbox
-invariant_of-outbox c = one_box _ _ _ _ _ c.deref.ensures.value c.end.ensures.one (omega (arith, c.outbox.invariant.room, c.resize-fits.ensures.capacity)) c.end.ensures.places
+invariant_of-outbox c =
+    one_box _ _ _ _ _ c.deref.ensures.value c.end.ensures.one
+    (omega (arith, c.outbox.invariant.room, c.resize-fits.ensures.capacity)) c.end.ensures.places
 
 pub returns : goal.returns
-returns c = one_view _ _ _ _ c.deref.ensures.value c.end.ensures.one (written c.rebuild.new.target c.resize-fits.new.self.items c.resize-fits.new.self.len (c.rebuild.auto.target ∙ c.deref_mut.ensures.len) ∙ c.rebuild.ensures)
+returns c =
+    one_view _ _ _ _ c.deref.ensures.value c.end.ensures.one
+    (written c.rebuild.new.target c.resize-fits.new.self.items c.resize-fits.new.self.len (c.rebuild.auto.target ∙ c.deref_mut.ensures.len)
+    ∙ c.rebuild.ensures)

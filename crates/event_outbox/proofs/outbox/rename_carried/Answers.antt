@@ -23,7 +23,8 @@ returns-clause-can g c =
     let octets = c.args.datagram.now in
     let new = c.rename_in_place.new.octets in
     let long = udp_long octets c.requires.can c.requires.protocol in
-    subst CanTranslate (sym (last_part 28 octets new long)) (changes octets new (can_translate octets c.requires.can) long (c.rename_in_place.auto.octets ∙ ap length (take_rest octets 28))).can
+    subst CanTranslate (sym (last_part 28 octets new long))
+    (changes octets new (can_translate octets c.requires.can) long (c.rename_in_place.auto.octets ∙ ap length (take_rest octets 28))).can
 
 pub returns-clause-payload : goal.returns-clause-payload
 returns-clause-payload g c =
@@ -31,7 +32,8 @@ returns-clause-payload g c =
     let new = c.rename_in_place.new.octets in
     let long = udp_long octets c.requires.can c.requires.protocol in
     let d = datagram_of octets in
-    let rest : take (length octets - 28) (drop 28 octets) ≡ drop 8 d.payload = take_rest octets 28 ∙ sym (behind octets (can_translate octets c.requires.can)) in
+    let rest : take (length octets - 28) (drop 28 octets) ≡ drop 8 d.payload = take_rest octets 28
+    ∙ sym (behind octets (can_translate octets c.requires.can)) in
     let image = g.L.Lookup.image_of c.args.lookup.now in
     let part = last_part 28 octets new long in
     let fits = subst (λ (xs : List ℕ). (k : ℕ) → Fits w8 (get_or xs k 0)) part c.type_inv.datagram in

@@ -23,7 +23,8 @@ returns-clause-can c =
     let octets = c.args.datagram.now in
     let new = c.put_inner.new.inner in
     let long = inside_long octets c.requires.can c.requires.inside in
-    subst CanTranslate (sym (last_part 28 octets new long)) (changes octets new (can_translate octets c.requires.can) long (c.put_inner.auto.inner ∙ ap length (take_rest octets 28))).can
+    subst CanTranslate (sym (last_part 28 octets new long))
+    (changes octets new (can_translate octets c.requires.can) long (c.put_inner.auto.inner ∙ ap length (take_rest octets 28))).can
 
 pub returns-clause-payload : goal.returns-clause-payload
 returns-clause-payload c =
@@ -34,4 +35,5 @@ returns-clause-payload c =
     let rest : take (length octets - 28) (drop 28 octets) ≡ inside (datagram_of octets) = take_rest octets 28 ∙ sym (behind octets can) in
     ap datagram_of (last_part 28 octets new long)
     ∙ (changes octets new can long (c.put_inner.auto.inner ∙ ap length (take_rest octets 28))).same
-    ∙ ap (with_inside (datagram_of octets)) (c.put_inner.ensures ∙ ap (λ (xs : List ℕ). inner_with xs c.args.source.0 c.args.destination.0 c.args.sequence) rest)
+    ∙ ap (with_inside (datagram_of octets))
+    (c.put_inner.ensures ∙ ap (λ (xs : List ℕ). inner_with xs c.args.source.0 c.args.destination.0 c.args.sequence) rest)

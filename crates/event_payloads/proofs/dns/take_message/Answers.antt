@@ -15,12 +15,18 @@ planned_images-requires c =
     let table = c.args.table.now in
     let way = c.args.received.way.now in
     let named = c.in_ok-named.named.items in
-    let addresses = c.deref-3.ensures.value ∙ c.in_ok-addresses.ensures ∙ ap (λ (xs : List Addr). way.source ∷ way.destination ∷ xs) c.deref-2.ensures.value in
+    let addresses = c.deref-3.ensures.value ∙ c.in_ok-addresses.ensures
+    ∙ ap (λ (xs : List Addr). way.source ∷ way.destination ∷ xs) c.deref-2.ensures.value in
     let none = ap (has_unbound table way.side) (sym c.deref.ensures.value) ∙ sym c.has_unbound.ensures ∙ c.if-has_unbound.false in
-    record { bound = all_bound table way.side way.source way.destination named c.deref-3.result.now addresses c.requires.outside (ap is_settled (sym c.requires.way.destination) ∙ c.requires.settled) none }
+    record {
+      bound =
+          all_bound table way.side way.source way.destination named c.deref-3.result.now addresses c.requires.outside
+          (ap is_settled (sym c.requires.way.destination) ∙ c.requires.settled) none;
+    }
 
 pub reply_by-requires-clause-few : goal.reply_by-requires-clause-few
-reply_by-requires-clause-few c = short_payload c.args.received.datagram.now.octets.now c.args.received.datagram.now.payload.now c.requires.whole.few c.requires.whole.same
+reply_by-requires-clause-few c =
+    short_payload c.args.received.datagram.now.octets.now c.args.received.datagram.now.payload.now c.requires.whole.few c.requires.whole.same
 
 pub returns-clause-taken : goal.returns-clause-taken
 returns-clause-taken c = λ live same w.
@@ -32,15 +38,24 @@ returns-clause-taken c = λ live same w.
     let uses = named_uses way.side way.moment.0 way.source way.destination named in
     let addresses = c.in_ok-addresses.ensures ∙ ap (λ (xs : List Addr). way.source ∷ way.destination ∷ xs) c.deref-2.ensures.value in
     let none = ap (has_unbound table way.side) (sym c.deref.ensures.value) ∙ sym c.has_unbound.ensures ∙ c.if-has_unbound.false in
-    let room = ap (λ (xs : List Addr). nat_lt (free table (other way.side)) (needed table way.side xs)) (sym (c.deref-3.ensures.value ∙ addresses)) ∙ sym c.in_ok-images.ensures.none ∙ ap is_none c.in-Some.is in
+    let room = ap (λ (xs : List Addr). nat_lt (free table (other way.side)) (needed table way.side xs)) (sym (c.deref-3.ensures.value ∙ addresses))
+    ∙ sym c.in_ok-images.ensures.none ∙ ap is_none c.in-Some.is in
     let octets : List ℕ → List ℕ = λ payload. unwrap_or (option_map (λ (v : Vec ℕ Global). v.items) c.in_ok-reply.reply) payload in
     let P : List ℕ → Type 0 = λ payload. octets payload ≡ reply_by (drop 2 (images_after table uses)) payload (Some m) in
     let message = ap message_at (sym c.requires.whole.same) ∙ c.requires.message in
-    let planned = c.in_ok-images.ensures.images uses (all_used way.side way.moment.0 way.source way.destination named c.deref-3.result.now (c.deref-3.ensures.value ∙ addresses)) in
-    let images : c.deref-4.result.now ≡ images_after table uses = c.deref-4.ensures.value ∙ subst (λ (o : Option (Vec (Option Addr) Global)). IfSome o (λ v. v.items ≡ images_after table uses)) c.in-Some.is planned in
-    let answer = subst P c.requires.whole.same (c.in_ok-reply.ensures.is ∙ ap (λ (xs : List (Option Addr)). reply_by (drop 2 xs) c.args.received.datagram.now.payload.now (Some m)) images) in
-    names_passed plain_rules live way.side d m named way table c.pass_names.new.table (octets (carried d)) c.pass_names.new.outbox same w message c.in_ok-named.ensures none room
-    (c.pass_names.ensures.table ∙ ap (λ (xs : List Addr). after_uses table (named_uses way.side way.moment.0 way.source way.destination xs)) c.deref-5.ensures.value)
+    let planned =
+    c.in_ok-images.ensures.images uses
+    (all_used way.side way.moment.0 way.source way.destination named c.deref-3.result.now (c.deref-3.ensures.value ∙ addresses)) in
+    let images : c.deref-4.result.now ≡ images_after table uses = c.deref-4.ensures.value
+    ∙ subst (λ (o : Option (Vec (Option Addr) Global)). IfSome o (λ v. v.items ≡ images_after table uses)) c.in-Some.is planned in
+    let answer =
+    subst P c.requires.whole.same
+    (c.in_ok-reply.ensures.is
+    ∙ ap (λ (xs : List (Option Addr)). reply_by (drop 2 xs) c.args.received.datagram.now.payload.now (Some m)) images) in
+    names_passed plain_rules live way.side d m named way table c.pass_names.new.table
+    (octets (carried d)) c.pass_names.new.outbox same w message c.in_ok-named.ensures none room
+    (c.pass_names.ensures.table
+    ∙ ap (λ (xs : List Addr). after_uses table (named_uses way.side way.moment.0 way.source way.destination xs)) c.deref-5.ensures.value)
     answer
     c.pass_names.ensures.out
 

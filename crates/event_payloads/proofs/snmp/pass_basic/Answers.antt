@@ -17,4 +17,5 @@ returns-clause-out c =
     c.put_snmp.ensures
     ∙ ap (λ (a : Addr). rebuilt d a.0 c.destination_image.result.0 message ∷ []) c.source_image.ensures
     ∙ ap (λ (a : Addr). rebuilt d (image_by way.of_source way.source).0 a.0 message ∷ []) c.destination_image.ensures
-    ∙ ap (λ (xs : List ℕ). rebuilt d (image_by way.of_source way.source).0 (image_by way.of_destination way.destination).0 xs ∷ []) (basic_is image c.args.datagram.now.payload.now (carried d) c.requires.message c.requires.whole.same)
+    ∙ ap (λ (xs : List ℕ). rebuilt d (image_by way.of_source way.source).0 (image_by way.of_destination way.destination).0 xs ∷ [])
+    (basic_is image c.args.datagram.now.payload.now (carried d) c.requires.message c.requires.whole.same)

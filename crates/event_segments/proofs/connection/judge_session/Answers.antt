@@ -21,5 +21,8 @@ returns-in-Ok g c = λ live t lawful way found.
 
 pub returns-in-Err-OutOfMemory : goal.returns-in-Err-OutOfMemory
 returns-in-Err-OutOfMemory g c = λ live t lawful way found.
-    let on = c.in-Err-OutOfMemory.ensures.stopped live t (record { lawful = lawful; way_is = way; found = found; refusal = sym c.session_refusal.ensures ∙ c.in_default.is }) in
-    subst (λ (stop : PlanStop). IsStopped {S = g.row.S.Denot} g.S.Session.rules live c.args.way.now.side c.args.segment.now.datagram.now stop) c.in-Err-OutOfMemory.field-0-is on
+    let on =
+    c.in-Err-OutOfMemory.ensures.stopped live t
+    (record { lawful = lawful; way_is = way; found = found; refusal = sym c.session_refusal.ensures ∙ c.in_default.is }) in
+    subst (λ (stop : PlanStop). IsStopped {S = g.row.S.Denot} g.S.Session.rules live c.args.way.now.side c.args.segment.now.datagram.now stop)
+    c.in-Err-OutOfMemory.field-0-is on

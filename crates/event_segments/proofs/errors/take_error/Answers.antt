@@ -12,7 +12,9 @@ use Rattle.event_segments.proofs.errors.take_error.Goals as goal
 pub returns-in_default : goal.returns-in_default
 returns-in_default g c = record {
   taken = λ live t s w.
-      error_bad g.S.Session.rules live c.args.way.now.side (datagram_of c.args.octets.now) c.args.inside.now c.in_default.field-0 c.args.table.now c.args.outbox.now c.requires.inside (sym c.inner_of.ensures ∙ c.in_default.is) (sym t) c.requires.empty;
+      error_bad g.S.Session.rules live c.args.way.now.side
+      (datagram_of c.args.octets.now) c.args.inside.now c.in_default.field-0 c.args.table.now c.args.outbox.now c.requires.inside
+      (sym c.inner_of.ensures ∙ c.in_default.is) (sym t) c.requires.empty;
 }
 
 pub returns-in_default-seen : goal.returns-in_default-seen
@@ -21,8 +23,10 @@ returns-in_default-seen g c = record {
       let d = datagram_of c.args.octets.now in
       let side = c.args.way.now.side in
       let read = inner_read (inside d) c.in-Ok.inner (ap read_inner (sym c.requires.inside) ∙ sym c.inner_of.ensures ∙ c.in-Ok.is) in
-      let none : seen live.table side c.in-Ok.inner.source ≡ None = ap (λ (x : Bindings). seen x side c.in-Ok.inner.source) t ∙ sym c.seen.ensures ∙ c.in_default-seen.is in
-      error_unseen g.S.Session.rules live side d c.in-Ok.inner c.args.table.now c.args.outbox.now read (ap (λ (o : Option Addr). is_none o || is_none (seen live.table side c.in-Ok.inner.destination)) none) (sym t) c.requires.empty;
+      let none : seen live.table side c.in-Ok.inner.source ≡ None = ap (λ (x : Bindings). seen x side c.in-Ok.inner.source) t ∙ sym c.seen.ensures
+      ∙ c.in_default-seen.is in
+      error_unseen g.S.Session.rules live side d c.in-Ok.inner c.args.table.now c.args.outbox.now read
+      (ap (λ (o : Option Addr). is_none o || is_none (seen live.table side c.in-Ok.inner.destination)) none) (sym t) c.requires.empty;
 }
 
 pub returns-in_default-seen-2 : goal.returns-in_default-seen-2
@@ -31,9 +35,13 @@ returns-in_default-seen-2 g c = record {
       let d = datagram_of c.args.octets.now in
       let side = c.args.way.now.side in
       let read = inner_read (inside d) c.in-Ok.inner (ap read_inner (sym c.requires.inside) ∙ sym c.inner_of.ensures ∙ c.in-Ok.is) in
-      let some : seen live.table side c.in-Ok.inner.source ≡ Some c.in-Some.source = ap (λ (x : Bindings). seen x side c.in-Ok.inner.source) t ∙ sym c.seen.ensures ∙ c.in-Some.is in
-      let none : seen live.table side c.in-Ok.inner.destination ≡ None = ap (λ (x : Bindings). seen x side c.in-Ok.inner.destination) t ∙ sym c.seen-2.ensures ∙ c.in_default-seen-2.is in
-      error_unseen g.S.Session.rules live side d c.in-Ok.inner c.args.table.now c.args.outbox.now read (ap (λ (o : Option Addr). is_none o || is_none (seen live.table side c.in-Ok.inner.destination)) some ∙ ap is_none none) (sym t) c.requires.empty;
+      let some : seen live.table side c.in-Ok.inner.source ≡ Some c.in-Some.source = ap (λ (x : Bindings). seen x side c.in-Ok.inner.source) t
+      ∙ sym c.seen.ensures ∙ c.in-Some.is in
+      let none : seen live.table side c.in-Ok.inner.destination ≡ None = ap (λ (x : Bindings). seen x side c.in-Ok.inner.destination) t
+      ∙ sym c.seen-2.ensures ∙ c.in_default-seen-2.is in
+      error_unseen g.S.Session.rules live side d c.in-Ok.inner c.args.table.now c.args.outbox.now read
+      (ap (λ (o : Option Addr). is_none o || is_none (seen live.table side c.in-Ok.inner.destination)) some ∙ ap is_none none)
+      (sym t) c.requires.empty;
 }
 
 pub returns-then-is_unknown : goal.returns-then-is_unknown
@@ -41,14 +49,18 @@ returns-then-is_unknown g c = record {
   taken = λ live t s w.
       let d = datagram_of c.args.octets.now in
       let side = c.args.way.now.side in
-      let source_is : seen live.table side c.in-Ok.inner.source ≡ Some c.in-Some.source = ap (λ (x : Bindings). seen x side c.in-Ok.inner.source) t ∙ sym c.seen.ensures ∙ c.in-Some.is in
-      let known : IsKnown g.S.Session.rules live side d c.in-Ok.inner c.in-Some.source c.in-Some-seen.destination c.inner_number-number.result = record {
+      let source_is : seen live.table side c.in-Ok.inner.source ≡ Some c.in-Some.source = ap (λ (x : Bindings). seen x side c.in-Ok.inner.source) t
+      ∙ sym c.seen.ensures ∙ c.in-Some.is in
+      let known : IsKnown g.S.Session.rules live side d c.in-Ok.inner c.in-Some.source c.in-Some-seen.destination c.inner_number-number.result =
+      record {
         read = inner_read (inside d) c.in-Ok.inner (ap read_inner (sym c.requires.inside) ∙ sym c.inner_of.ensures ∙ c.in-Ok.is);
         source_is = source_is;
         destination_is = ap (λ (x : Bindings). seen x side c.in-Ok.inner.destination) t ∙ sym c.seen-2.ensures ∙ c.in-Some-seen.is;
         number_is = c.inner_number-number.ensures live s (ap (λ (o : Option Addr). unwrap_or o c.in-Ok.inner.source) source_is);
       } in
-      error_unknown g.S.Session.rules live side d c.args.way.now c.in-Ok.inner c.in-Some.source c.in-Some-seen.destination c.inner_number-number.result c.args.table.now c.args.outbox.now w known (sym c.is_unknown.ensures ∙ c.if-is_unknown.true) (sym t) c.requires.empty;
+      error_unknown g.S.Session.rules live side d c.args.way.now c.in-Ok.inner c.in-Some.source c.in-Some-seen.destination
+      c.inner_number-number.result c.args.table.now c.args.outbox.now w known (sym c.is_unknown.ensures ∙ c.if-is_unknown.true)
+      (sym t) c.requires.empty;
 }
 
 pub returns-then-lacks_alias : goal.returns-then-lacks_alias
@@ -56,8 +68,10 @@ returns-then-lacks_alias g c = record {
   taken = λ live t s w.
       let d = datagram_of c.args.octets.now in
       let side = c.args.way.now.side in
-      let source_is : seen live.table side c.in-Ok.inner.source ≡ Some c.in-Some.source = ap (λ (x : Bindings). seen x side c.in-Ok.inner.source) t ∙ sym c.seen.ensures ∙ c.in-Some.is in
-      let known : IsKnown g.S.Session.rules live side d c.in-Ok.inner c.in-Some.source c.in-Some-seen.destination c.inner_number-number.result = record {
+      let source_is : seen live.table side c.in-Ok.inner.source ≡ Some c.in-Some.source = ap (λ (x : Bindings). seen x side c.in-Ok.inner.source) t
+      ∙ sym c.seen.ensures ∙ c.in-Some.is in
+      let known : IsKnown g.S.Session.rules live side d c.in-Ok.inner c.in-Some.source c.in-Some-seen.destination c.inner_number-number.result =
+      record {
         read = inner_read (inside d) c.in-Ok.inner (ap read_inner (sym c.requires.inside) ∙ sym c.inner_of.ensures ∙ c.in-Ok.is);
         source_is = source_is;
         destination_is = ap (λ (x : Bindings). seen x side c.in-Ok.inner.destination) t ∙ sym c.seen-2.ensures ∙ c.in-Some-seen.is;
@@ -79,16 +93,20 @@ returns g c = record {
       let way = c.args.way.now in
       let side = way.side in
       let number = c.inner_number-number.result in
-      let source_is : seen live.table side c.in-Ok.inner.source ≡ Some c.in-Some.source = ap (λ (x : Bindings). seen x side c.in-Ok.inner.source) t ∙ sym c.seen.ensures ∙ c.in-Some.is in
+      let source_is : seen live.table side c.in-Ok.inner.source ≡ Some c.in-Some.source = ap (λ (x : Bindings). seen x side c.in-Ok.inner.source) t
+      ∙ sym c.seen.ensures ∙ c.in-Some.is in
       let known : IsKnown g.S.Session.rules live side d c.in-Ok.inner c.in-Some.source c.in-Some-seen.destination number = record {
         read = inner_read (inside d) c.in-Ok.inner (ap read_inner (sym c.requires.inside) ∙ sym c.inner_of.ensures ∙ c.in-Ok.is);
         source_is = source_is;
         destination_is = ap (λ (x : Bindings). seen x side c.in-Ok.inner.destination) t ∙ sym c.seen-2.ensures ∙ c.in-Some-seen.is;
         number_is = c.inner_number-number.ensures live s (ap (λ (o : Option Addr). unwrap_or o c.in-Ok.inner.source) source_is);
       } in
-      let R : Option ℕ → Addr → Addr → List (List ℕ) = λ n a b. renamed (with_inside d (inner_with (inside d) c.in-Some.source.0 c.in-Some-seen.destination.0 n)) a.0 b.0 ∷ [] in
-      error_passes g.S.Session.rules live side d way c.in-Ok.inner c.in-Some.source c.in-Some-seen.destination number c.use_both.new.table c.put_error.new.outbox w known (sym c.is_unknown.ensures ∙ c.if-is_unknown.false) (sym c.lacks_alias.ensures ∙ c.if-lacks_alias.false)
-      (c.use_both.ensures ∙ ap (λ (x : Bindings). after_uses x (uses_until side (way.moment.0 + icmp_timeout) (way.source ∷ way.destination ∷ []))) (sym t))
+      let R : Option ℕ → Addr → Addr → List (List ℕ) =
+      λ n a b. renamed (with_inside d (inner_with (inside d) c.in-Some.source.0 c.in-Some-seen.destination.0 n)) a.0 b.0 ∷ [] in
+      error_passes g.S.Session.rules live side d way c.in-Ok.inner c.in-Some.source c.in-Some-seen.destination number c.use_both.new.table
+      c.put_error.new.outbox w known (sym c.is_unknown.ensures ∙ c.if-is_unknown.false) (sym c.lacks_alias.ensures ∙ c.if-lacks_alias.false)
+      (c.use_both.ensures
+      ∙ ap (λ (x : Bindings). after_uses x (uses_until side (way.moment.0 + icmp_timeout) (way.source ∷ way.destination ∷ []))) (sym t))
       (c.put_error.ensures
       ∙ ap (λ (n : Option ℕ). R n c.source_image.result c.destination_image.result) (c.flatten.ensures ∙ flatten_is number)
       ∙ ap (λ (a : Addr). R (option_and_then (λ n. n) number) a c.destination_image.result) c.source_image.ensures

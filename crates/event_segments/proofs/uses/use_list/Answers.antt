@@ -13,4 +13,5 @@ loop-place-preserved g c =
     c.use_entry.ensures
     ∙ ap (λ (b : Bindings). after_uses b (uses_until c.args.side until (renamed_in (c.entry.result ∷ [])))) c.loop-place.invariant
     ∙ next_used c.args.table.now c.args.side until (take c.loop-place.place xs) c.entry.result
-    ∙ ap (λ (ys : List Entry). after_uses c.args.table.now (uses_until c.args.side until (renamed_in ys))) (sym (take-next xs c.loop-place.place c.entry.result c.entry.ensures))
+    ∙ ap (λ (ys : List Entry). after_uses c.args.table.now (uses_until c.args.side until (renamed_in ys)))
+    (sym (take-next xs c.loop-place.place c.entry.result c.entry.ensures))

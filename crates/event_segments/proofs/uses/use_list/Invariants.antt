@@ -4,4 +4,5 @@ use Rattle.gate_model.specs.Prelude.{renamed_in, uses_until}
 use Rattle.event_segments.proofs.uses.use_list.Given as goal
 
 abbrev pub invariant-loop-place : goal.invariant-loop-place
-invariant-loop-place g l = l.table ≡ after_uses l.initial.table (uses_until l.side l.until.0 (renamed_in (take l.place (g.S.Session.rules.listed l.host l.session))))
+invariant-loop-place g l =
+    l.table ≡ after_uses l.initial.table (uses_until l.side l.until.0 (renamed_in (take l.place (g.S.Session.rules.listed l.host l.session))))

@@ -35,7 +35,10 @@ returns-in-Some-clause-lost g c = λ t e.
     let is : Some c.in-Some.tracked.now ≡ Some t = c.in-Some.ensures.value ∙ e in
     let same : c.in-Some.tracked.now ≡ t = cc in
     on_err_weaker c.take.result (λ lost. record {
-      same = λ keeps. ap (replaced c.args.connections.now c.args.on.key.now) (lost.same keeps) ∙ replaced_same c.args.on.key.now c.args.connections.now c.in-Some.tracked.now (sym c.in-Some.ensures.value);
+      same = λ keeps. ap (replaced c.args.connections.now c.args.on.key.now) (lost.same keeps)
+          ∙ replaced_same c.args.on.key.now c.args.connections.now c.in-Some.tracked.now (sym c.in-Some.ensures.value);
       nothing = lost.nothing;
-      wants = subst (λ (x : Tracked g.row.S.Denot). g.S.Engine.gives.MayWant (host_on c.args.on.way.now.side x) x.session (segment_of c.args.on.segment.now.datagram.now)) same lost.wants;
+      wants = subst
+          (λ (x : Tracked g.row.S.Denot). g.S.Engine.gives.MayWant (host_on c.args.on.way.now.side x) x.session
+          (segment_of c.args.on.segment.now.datagram.now)) same lost.wants;
     }) c.take.ensures.lost

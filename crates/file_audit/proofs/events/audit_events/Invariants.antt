@@ -2,7 +2,7 @@ use Rattle.std.proofs.Common.{◌≡◌, None, ◌+◌, ◌^◌, ◌≤◌, fals
 use Rattle.gate_desk.specs.Outside.{Grows}
 use Rattle.pcap_merge.specs.Prelude.{work, AtEnds}
 use Rattle.file_audit.specs.Given.{Fits, IsRunning, TookFiles}
-use Rattle.file_audit.specs.Events.{state_of}
+use Rattle.file_audit.specs.Inside.Events.{state_of}
 use Rattle.file_audit.proofs.Walked.{Walked}
 use Rattle.file_audit.proofs.events.audit_events.Given as goal
 
@@ -21,7 +21,8 @@ invariant-events g l = record {
   grows : Grows (g.D.Desk.outside l.initial.desk) (g.D.Desk.outside l.desk);
   files : TookFiles (g.D.Desk.outside l.initial.desk) (g.D.Desk.outside l.desk);
   ends : AtEnds l.merge (g.D.Desk.outside l.desk);
-  walked : Walked l.initial.auditor.settings l.initial.merge l.merge l.initial.given l.given (g.D.Desk.outside l.initial.desk) (g.D.Desk.outside l.desk) l.joiner (state_of l.auditor l.totals);
+  walked : Walked l.initial.auditor.settings l.initial.merge l.merge l.initial.given l.given (g.D.Desk.outside l.initial.desk)
+      (g.D.Desk.outside l.desk) l.joiner (state_of l.auditor l.totals);
 }
 
 abbrev pub decreases-events : goal.decreases-events

@@ -1,5 +1,5 @@
 use Rattle.std.proofs.Common.{◌≡◌, ◌+◌, drop}
-use Rattle.file_audit.specs.Lines.{agreed}
+use Rattle.file_audit.specs.Inside.Lines.{agreed}
 use Rattle.file_audit.proofs.line.agreed.Given as goal
 
 abbrev pub invariant-loop-place : goal.invariant-loop-place

@@ -1,5 +1,5 @@
 use Rattle.std.proofs.Common.{◌≡◌, drop}
-use Rattle.file_audit.specs.Lines.{number_after}
+use Rattle.file_audit.specs.Inside.Lines.{number_after}
 use Rattle.file_audit.proofs.line.number_in_front.Given as goal
 
 abbrev pub invariant-loop-octet : goal.invariant-loop-octet

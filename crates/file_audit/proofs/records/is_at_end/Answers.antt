@@ -7,17 +7,20 @@ pub returns-then-more-clause-finds : goal.returns-then-more-clause-finds
 returns-then-more-clause-finds g c =
     let old = g.D.Desk.outside c.args.desk.now in
     let new = g.D.Desk.outside c.advance.new.desk in
-    end_more c.args.reader.now c.advance.new.self old new (subst (λ b. Advances (Ok b) c.args.reader.now c.advance.new.self old new) c.if-more.true (c.in-Ok.ensures.first c.requires.running))
+    end_more c.args.reader.now c.advance.new.self old new
+    (subst (λ b. Advances (Ok b) c.args.reader.now c.advance.new.self old new) c.if-more.true (c.in-Ok.ensures.first c.requires.running))
 
 pub returns-else-more-clause-finds : goal.returns-else-more-clause-finds
 returns-else-more-clause-finds g c =
     let old = g.D.Desk.outside c.args.desk.now in
     let new = g.D.Desk.outside c.advance.new.desk in
-    end_ended c.args.reader.now c.advance.new.self old new (subst (λ b. Advances (Ok b) c.args.reader.now c.advance.new.self old new) c.if-more.false (c.in-Ok.ensures.first c.requires.running))
+    end_ended c.args.reader.now c.advance.new.self old new
+    (subst (λ b. Advances (Ok b) c.args.reader.now c.advance.new.self old new) c.if-more.false (c.in-Ok.ensures.first c.requires.running))
 
 pub returns-in-Err-Fault-clause-finds : goal.returns-in-Err-Fault-clause-finds
 returns-in-Err-Fault-clause-finds g c =
     let old = g.D.Desk.outside c.args.desk.now in
     let new = g.D.Desk.outside c.advance.new.desk in
     end_broken c.in-Err-Fault.field-0-0 c.in-Err-Fault.field-0-1 c.args.reader.now c.advance.new.self old new
-    (subst (λ e. Advances (Err e) c.args.reader.now c.advance.new.self old new) c.in-Err-Fault.field-0-is (c.in-Err-Fault.ensures.first c.requires.running))
+    (subst (λ e. Advances (Err e) c.args.reader.now c.advance.new.self old new) c.in-Err-Fault.field-0-is
+    (c.in-Err-Fault.ensures.first c.requires.running))

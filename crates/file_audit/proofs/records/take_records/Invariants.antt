@@ -1,7 +1,7 @@
 use Rattle.std.proofs.Common.{◌≡◌, ◌-◌, ◌*◌, ◌≤◌, List, length, false}
 use Rattle.pcap_files.specs.Prelude.{Packet}
 use Rattle.gate_desk.specs.Outside.{CanRead}
-use Rattle.file_audit.specs.Records.{Took}
+use Rattle.file_audit.specs.Inside.Records.{Took}
 use Rattle.file_audit.proofs.records.take_records.Given as goal
 
 abbrev pub invariant-loop-taken : goal.invariant-loop-taken

@@ -18,4 +18,6 @@ unfolding read_tcp
 read_is d s t y p = given (has_bad_offset d.payload) (has_bad_options d.payload) _ (tcp_of d) y p
 
 pub of-requires-3-clause-segment : goal.of-requires-3-clause-segment
-of-requires-3-clause-segment c = read_is c.in-Ok.ip c.source.result.0 c.destination.result.0 c.in-Ok-of.tcp (sym c.in-Ok-of.is ∙ c.of-2.ensures ∙ ap (λ (x : List ℕ). read_tcp x c.source.result.0 c.destination.result.0) c.payload.ensures.octets)
+of-requires-3-clause-segment c =
+    read_is c.in-Ok.ip c.source.result.0 c.destination.result.0 c.in-Ok-of.tcp
+    (sym c.in-Ok-of.is ∙ c.of-2.ensures ∙ ap (λ (x : List ℕ). read_tcp x c.source.result.0 c.destination.result.0) c.payload.ensures.octets)

@@ -19,5 +19,6 @@ returns-in-Err g c =
       waited = c.in-Err.ensures.waited;
       cause = subst (λ (d : Files). HasFailed slot (told_by c.args.desk.now) (told_by d)) dropped c.in-Err.ensures.cause;
       code_is = c.code.ensures ∙ ap code_of c.write_error_line.ensures.answer_is;
-      line = subst (λ (d : Files). TellsLine (WriteFault slot) (told_by d) (told_by c.write_error_line.new.desk)) dropped c.write_error_line.ensures.line;
+      line = subst
+          (λ (d : Files). TellsLine (WriteFault slot) (told_by d) (told_by c.write_error_line.new.desk)) dropped c.write_error_line.ensures.line;
     })

@@ -9,7 +9,8 @@ pub returns : goal.returns
 returns k = record {
   streams = λ settings events client. streams_are events settings client;
   facts = λ settings events client. facts_are events settings client;
-  world = λ settings events. sym (run_as (λ (t : RememberedSession). t.session) remembering_rules whole_rules remembered_reads events (opening_world settings));
+  world = λ settings events. sym
+      (run_as (λ (t : RememberedSession). t.session) remembering_rules whole_rules remembered_reads events (opening_world settings));
   sent = λ w e. sym (out_as (λ (t : RememberedSession). t.session) remembering_rules whole_rules remembered_reads w e);
   verdict = λ w e. sym (verdict_as (λ (t : RememberedSession). t.session) remembering_rules whole_rules remembered_reads w e);
 }

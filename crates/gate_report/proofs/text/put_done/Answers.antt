@@ -4,7 +4,9 @@ use Rattle.gate_report.specs.Lines.{done_text}
 use Rattle.gate_report.proofs.text.put_done.Goals as goal
 
 -- pieces that were put before one another
-joined : (a b c d e f g h i j k l m : List ℕ) → a ++ (b ++ (c ++ (d ++ (e ++ (f ++ (g ++ (h ++ (i ++ (j ++ (k ++ (l ++ (m ++ [])))))))))))) ≡ a ++ b ++ c ++ d ++ e ++ f ++ g ++ h ++ i ++ j ++ k ++ l ++ m
+joined : (a b c d e f g h i j k l m : List ℕ)
+    → a ++ (b ++ (c ++ (d ++ (e ++ (f ++ (g ++ (h ++ (i ++ (j ++ (k ++ (l ++ (m ++ [])))))))))))) ≡ a ++ b ++ c ++ d ++ e ++ f ++ g ++ h ++ i ++ j
+    ++ k ++ l ++ m
 joined a b c d e f g h i j k l m = simp (append_assoc, append-nil)
 
 pub returns-clause-line : goal.returns-clause-line

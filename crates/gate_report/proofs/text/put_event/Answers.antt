@@ -5,7 +5,8 @@ use Rattle.gate_report.specs.Lines.{event_text}
 use Rattle.gate_report.proofs.text.put_event.Goals as goal
 
 -- pieces that were put before one another
-joined : (a b c d e f g h i j : List ℕ) → a ++ (b ++ (c ++ (d ++ (e ++ (f ++ (g ++ (h ++ (i ++ (j ++ []))))))))) ≡ a ++ b ++ c ++ d ++ e ++ f ++ g ++ h ++ i ++ j
+joined : (a b c d e f g h i j : List ℕ)
+    → a ++ (b ++ (c ++ (d ++ (e ++ (f ++ (g ++ (h ++ (i ++ (j ++ []))))))))) ≡ a ++ b ++ c ++ d ++ e ++ f ++ g ++ h ++ i ++ j
 joined a b c d e f g h i j = simp (append_assoc, append-nil)
 
 pub returns-clause-line : goal.returns-clause-line
@@ -29,4 +30,5 @@ returns-clause-line c =
     ∙ ap (λ xs. space ++ xs) (c.put_number_before-end.ensures.octets
     ∙ ap (λ xs. frames ++ xs) (c.put_word_before-end.ensures.octets ∙ ap (λ xs. codes "\n" ++ xs) last))))))))) in
     pieces ∙ joined number space side space moment space verdict space frames (codes "\n")
-    ∙ ap (λ n. number ++ space ++ name_of c.args.side ++ space ++ moment ++ space ++ verdict_name c.args.verdict ++ space ++ decimal n ++ codes "\n") c.from.ensures
+    ∙ ap (λ n. number ++ space ++ name_of c.args.side ++ space ++ moment ++ space ++ verdict_name c.args.verdict ++ space ++ decimal n ++ codes "\n")
+    c.from.ensures

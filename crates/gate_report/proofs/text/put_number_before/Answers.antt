@@ -6,4 +6,7 @@ pub write_digits-requires : goal.write_digits-requires
 write_digits-requires c = (omega (arith, length-decimal-le 20 c.args.number (omega arith) (omega arith) (omega arith)), c.requires.1)
 
 pub returns-clause-begin : goal.returns-clause-begin
-returns-clause-begin c = (omega (arith, c.write_digits.ensures.start, length-decimal-le 20 c.args.number (omega arith) (omega arith) (omega arith)), omega (arith, c.write_digits.ensures.start))
+returns-clause-begin c = (
+  omega (arith, c.write_digits.ensures.start, length-decimal-le 20 c.args.number (omega arith) (omega arith) (omega arith)),
+  omega (arith, c.write_digits.ensures.start),
+)

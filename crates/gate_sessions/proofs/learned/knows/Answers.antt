@@ -1,6 +1,6 @@
 use Rattle.std.proofs.Common.{◌∙◌, ap, is_some}
 use Rattle.dialogue.proofs.ListedImages.{image_of_listed}
-use Rattle.gate_sessions.specs.Directions.{listed_of}
+use Rattle.gate_sessions.specs.Inside.Directions.{listed_of}
 use Rattle.gate_sessions.proofs.learned.knows.Goals as goal
 
 pub returns : goal.returns

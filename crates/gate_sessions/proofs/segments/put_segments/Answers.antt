@@ -16,11 +16,13 @@ sends (Err x) out all same e f = tt
 pub returns-clause-out : goal.returns-clause-out
 returns-clause-out g c =
     let session = c.args.session.now in
-    let out : Segment → List Outgoing = kept_out (g.C.Dialogue.meaning session.client_dialogue) (g.S.Dialogue.meaning session.server_dialogue) c.args.passing.now.from session.kept in
+    let out : Segment → List Outgoing =
+    kept_out (g.C.Dialogue.meaning session.client_dialogue) (g.S.Dialogue.meaning session.server_dialogue) c.args.passing.now.from session.kept in
     sends c.step.result _ _ _ c.step.ensures.out
     (sent_same c.args.passing.now.segment.now.datagram.now c.args.passing.now.segment.now.tcp.now c.header.result.now c.lifetime.result
     c.args.passing.now.source.0 c.args.passing.now.destination.0 out c.requires.segment c.header.ensures.octets c.lifetime.ensures)
 
 pub returns-clause-over : goal.returns-clause-over
 returns-clause-over g c =
-    subst (λ (t : Tcp). IfOk c.step.result (λ b. b ≡ kept_ends c.args.passing.now.from c.args.session.now.kept (segment_in t))) c.requires.segment c.step.ensures.over
+    subst (λ (t : Tcp). IfOk c.step.result (λ b. b ≡ kept_ends c.args.passing.now.from c.args.session.now.kept (segment_in t))) c.requires.segment
+    c.step.ensures.over

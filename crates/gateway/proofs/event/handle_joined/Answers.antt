@@ -9,4 +9,6 @@ handle-requires-clause-early g c = subst (λ (o : Option Event). IfSome o (λ e.
 
 pub returns : goal.returns
 returns g c =
-    subst (λ (o : Option Event). IfSome o (λ e. Handles (counting c.handle.new.reporter.totals c.handle.result) c.args.gate.now c.handle.new.gate c.args.reporter.now.totals (Reaches e) (g.D.Desk.outside c.args.desk.now) (g.D.Desk.outside c.handle.new.desk))) (sym c.joined.ensures) c.handle.ensures
+    subst (λ (o : Option Event). IfSome o
+    (λ e. Handles (counting c.handle.new.reporter.totals c.handle.result) c.args.gate.now c.handle.new.gate c.args.reporter.now.totals (Reaches e)
+    (g.D.Desk.outside c.args.desk.now) (g.D.Desk.outside c.handle.new.desk))) (sym c.joined.ensures) c.handle.ensures

@@ -14,15 +14,22 @@ returns-in_err-send g c =
     let old = g.D.Desk.outside c.args.desk.now in
     let mid = g.D.Desk.outside c.loop-place.desk in
     let new = g.D.Desk.outside c.send.new.desk in
-    handed_on (λ r. WritesPieces r (sent c.args.settings.now c.args.side c.args.moment.0 c.args.outbox.now) old new) c.from_residual.result c.in_err-send.field-0.0 c.from_residual.ensures.1
-    (sending_fails c.in_err-send.field-0.0 c.args.settings.now c.args.side c.args.moment.0 c.args.outbox.now c.loop-place.place c.datagram.result.now old mid new (omega (arith, c.loop-place-test.true, c.len-place-end.ensures.count)) c.datagram.ensures.octets c.loop-place.invariant.written c.in_err-send.ensures)
+    handed_on
+    (λ r. WritesPieces r (sent c.args.settings.now c.args.side c.args.moment.0 c.args.outbox.now) old new) c.from_residual.result
+    c.in_err-send.field-0.0 c.from_residual.ensures.1
+    (sending_fails c.in_err-send.field-0.0 c.args.settings.now c.args.side c.args.moment.0 c.args.outbox.now c.loop-place.place c.datagram.result.now
+    old mid new (omega (arith, c.loop-place-test.true, c.len-place-end.ensures.count)) c.datagram.ensures.octets c.loop-place.invariant.written
+    c.in_err-send.ensures)
 
 pub loop-place-preserved : goal.loop-place-preserved
 loop-place-preserved g c =
     let old = g.D.Desk.outside c.args.desk.now in
     let mid = g.D.Desk.outside c.loop-place.desk in
     let new = g.D.Desk.outside c.send.new.desk in
-    let next = sends_next c.args.settings.now c.args.side c.args.moment.0 c.args.outbox.now c.loop-place.place c.datagram.result.now old mid new (omega (arith, c.loop-place-test.true, c.len-place-end.ensures.count)) c.datagram.ensures.octets c.loop-place.invariant.written c.in_ok-send.ensures in
+    let next =
+    sends_next c.args.settings.now c.args.side c.args.moment.0 c.args.outbox.now c.loop-place.place c.datagram.result.now old mid new
+    (omega (arith, c.loop-place-test.true, c.len-place-end.ensures.count)) c.datagram.ensures.octets c.loop-place.invariant.written
+    c.in_ok-send.ensures in
     record {
       written = next;
       left = can_still_write LeftOut mid new c.in_ok-send.ensures.only.starts c.loop-place.invariant.left;

@@ -9,7 +9,9 @@ returns-in-Ok-write_whole g c =
     let old = g.D.Desk.outside c.args.desk.now in
     let new = g.D.Desk.outside c.write_whole.new.desk in
     record {
-      answer = gives_one Report _ old new (subst (λ xs. Writes Report xs old new) c.in-Ok.ensures.line c.in-Ok-write_whole.ensures.ok) c.in-Ok-write_whole.ensures.leaves;
+      answer =
+          gives_one Report _ old new
+          (subst (λ xs. Writes Report xs old new) c.in-Ok.ensures.line c.in-Ok-write_whole.ensures.ok) c.in-Ok-write_whole.ensures.leaves;
       status = tt;
     }
 
@@ -18,6 +20,8 @@ returns-in-Err-write_whole g c =
     let old = g.D.Desk.outside c.args.desk.now in
     let new = g.D.Desk.outside c.write_whole.new.desk in
     record {
-      answer = give_fails Report _ old new refl (subst (λ xs. WritesPart Report xs old new) c.in-Ok.ensures.line c.in-Err-write_whole.ensures.err) c.in-Err-write_whole.ensures.cause;
+      answer =
+          give_fails Report _ old new refl
+          (subst (λ xs. WritesPart Report xs old new) c.in-Ok.ensures.line c.in-Err-write_whole.ensures.err) c.in-Err-write_whole.ensures.cause;
       status = inr refl;
     }

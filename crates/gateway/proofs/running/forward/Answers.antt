@@ -20,7 +20,8 @@ use Rattle.gateway.proofs.Took.{took_stop, took_end, took_fail}
 use Rattle.gateway.proofs.running.forward.Goals as goal
 
 -- the last line, by the settings with which the events began and by what the gate says that ever waited
-last_line : (r : Result Line Status) (s now first : GateSettings) (totals : Totals) (n pending : ℕ) (a b : Outside) → s ≡ now → now ≡ first → n ≡ pending
+last_line : (r : Result Line Status) (s now first : GateSettings) (totals : Totals) (n pending : ℕ) (a b : Outside) → s ≡ now → now ≡ first
+    → n ≡ pending
     → WritesLastLine r s.report (done_line totals n) a b → WritesLastLine r first.report (done_line totals pending) a b
 last_line r s now first totals n pending a b same kept waited h =
     subst (λ (k : ℕ). WritesLastLine r first.report (done_line totals k) a b) waited
@@ -33,12 +34,17 @@ events-init g c =
       stop = c.requires.stop;
       settings = refl;
       few = subst (λ (t : Totals). t.events + work c.args.merge.now ≤ 2 ^ 41) (sym c.new-reporter.ensures) (omega (arith, c.requires.work));
-      counts = subst CanCount (sym c.new-reporter.ensures) (record { passed = omega arith; refused = omega arith; to_left = omega arith; to_right = omega arith });
+      counts =
+          subst CanCount (sym c.new-reporter.ensures)
+          (record { passed = omega arith; refused = omega arith; to_left = omega arith; to_right = omega arith });
       starts = refl;
       grows = grows_not old;
       ends = c.requires.ends;
-      progress = subst (λ (t : Totals). Progress c.args.gate.now.settings c.args.merge.now old old c.args.merge.now (state_of c.args.gate.now t) c.args.joiner.now) (sym c.new-reporter.ensures)
-          (subst (λ (w : World CompactSession). Progress c.args.gate.now.settings c.args.merge.now old old c.args.merge.now (record { world = w; totals = nothing_counted }) c.args.joiner.now) (sym c.requires.world)
+      progress =
+          subst (λ (t : Totals). Progress c.args.gate.now.settings c.args.merge.now old old c.args.merge.now
+          (state_of c.args.gate.now t) c.args.joiner.now) (sym c.new-reporter.ensures)
+          (subst (λ (w : World CompactSession). Progress c.args.gate.now.settings c.args.merge.now old old c.args.merge.now
+          (record { world = w; totals = nothing_counted }) c.args.joiner.now) (sym c.requires.world)
           (progress_none c.args.gate.now.settings c.args.merge.now old c.args.joiner.now c.requires.joiner));
     }
 
@@ -50,11 +56,19 @@ returns-in_err-more g c =
     let stop = c.in_err-more.field-0.0 in
     let stopped = c.in_err-more.ensures.first c.events.invariant.stop in
     record {
-      answer = handed_on (λ r. Forwards r c.args.gate.now.settings c.args.merge.now old new) c.from_residual.result (status_of_merge stop) c.from_residual.ensures.1
-          (forwards_stop stop c.args.gate.now.settings c.args.merge.now c.events.merge old now new (state_of c.events.gate c.events.reporter.totals) c.events.joiner c.events.invariant.progress c.events.invariant.grows stopped.1 c.in_err-more.ensures.leaves);
-      taken = took_stop c.in_err-more.field-0.0 c.args.gate.now.settings c.args.merge.now c.events.merge old now new (state_of c.events.gate c.events.reporter.totals) c.events.joiner c.events.invariant.progress (c.in_err-more.ensures.first c.events.invariant.stop).1;
+      answer =
+          handed_on (λ r. Forwards r c.args.gate.now.settings c.args.merge.now old new) c.from_residual.result
+          (status_of_merge stop) c.from_residual.ensures.1
+          (forwards_stop stop c.args.gate.now.settings c.args.merge.now c.events.merge old now new
+          (state_of c.events.gate c.events.reporter.totals) c.events.joiner c.events.invariant.progress c.events.invariant.grows stopped.1
+          c.in_err-more.ensures.leaves);
+      taken = took_stop c.in_err-more.field-0.0 c.args.gate.now.settings c.args.merge.now c.events.merge old now new
+          (state_of c.events.gate c.events.reporter.totals) c.events.joiner c.events.invariant.progress
+          (c.in_err-more.ensures.first c.events.invariant.stop).1;
       starts = search rules;
-      counts = grows_on old now new c.events.invariant.grows (stop_grows c.in_err-more.field-0.0 c.events.merge now new (c.in_err-more.ensures.first c.events.invariant.stop).1);
+      counts =
+          grows_on old now new c.events.invariant.grows
+          (stop_grows c.in_err-more.field-0.0 c.events.merge now new (c.in_err-more.ensures.first c.events.invariant.stop).1);
     }
 
 pub returns-then-not-more-clause-answer : goal.returns-then-not-more-clause-answer
@@ -63,9 +77,14 @@ returns-then-not-more-clause-answer g c =
     let now = g.D.Desk.outside c.events.desk in
     let mid = g.D.Desk.outside c.advance.new.desk in
     let new = g.D.Desk.outside c.finish.new.desk in
-    let finished = subst (λ b. Advances (Ok b) c.events.merge c.advance.new.self now mid) c.if-not-more.true (c.in_ok-more.ensures.first c.events.invariant.stop) in
-    forwards_done c.finish.result c.args.gate.now.settings c.args.merge.now c.events.merge c.advance.new.self old now mid new (state_of c.events.gate c.events.reporter.totals) c.events.joiner c.events.invariant.progress c.events.invariant.grows finished c.in_ok-more.ensures.leaves c.events.invariant.ends
-    (last_line c.finish.result c.settings.result.now c.events.gate.settings c.args.gate.now.settings c.events.reporter.totals c.pending.result c.events.gate.world.pending mid new
+    let finished =
+    subst (λ b. Advances (Ok b) c.events.merge c.advance.new.self now mid) c.if-not-more.true
+    (c.in_ok-more.ensures.first c.events.invariant.stop) in
+    forwards_done c.finish.result c.args.gate.now.settings c.args.merge.now c.events.merge c.advance.new.self old now mid new
+    (state_of c.events.gate c.events.reporter.totals) c.events.joiner c.events.invariant.progress c.events.invariant.grows finished
+    c.in_ok-more.ensures.leaves c.events.invariant.ends
+    (last_line c.finish.result c.settings.result.now c.events.gate.settings c.args.gate.now.settings c.events.reporter.totals c.pending.result
+    c.events.gate.world.pending mid new
     c.settings.ensures c.events.invariant.settings c.pending.ensures c.finish.ensures)
 
 pub returns-in_err-take : goal.returns-in_err-take
@@ -75,14 +94,31 @@ returns-in_err-take g c =
     let mid = g.D.Desk.outside c.advance.new.desk in
     let new = g.D.Desk.outside c.take.new.desk in
     let e = event_of c.event.result in
-    let came = came_to c.in_ok-more.more e c.events.merge c.advance.new.self now mid c.if-not-more.false (c.in_ok-more.ensures.first c.events.invariant.stop) c.event.ensures in
-    let failed = subst (λ s. Handles (Err c.in_err-take.field-0.0) (record c.events.gate { settings = s }) c.take.new.gate c.events.reporter.totals (arrival by_known c.events.joiner e) mid new) c.events.invariant.settings c.in_err-take.ensures.answer in
+    let came =
+    came_to c.in_ok-more.more e c.events.merge c.advance.new.self now mid c.if-not-more.false
+    (c.in_ok-more.ensures.first c.events.invariant.stop) c.event.ensures in
+    let failed =
+    subst (λ s. Handles (Err c.in_err-take.field-0.0) (record c.events.gate { settings = s }) c.take.new.gate c.events.reporter.totals
+    (arrival by_known c.events.joiner e) mid new) c.events.invariant.settings c.in_err-take.ensures.answer in
     record {
-      answer = handed_on (λ r. Forwards r c.args.gate.now.settings c.args.merge.now old new) c.from_residual-in_err-take.result c.in_err-take.field-0.0 c.from_residual-in_err-take.ensures.1
-          (forwards_fail c.in_err-take.field-0.0 c.args.gate.now.settings c.take.new.gate c.args.merge.now c.events.merge c.advance.new.self old now mid new (state_of c.events.gate c.events.reporter.totals) c.events.joiner e c.events.invariant.progress c.events.invariant.grows came failed);
-      taken = took_fail c.in_err-take.field-0.0 c.args.gate.now.settings c.events.gate c.take.new.gate c.events.reporter.totals c.args.merge.now c.events.merge c.advance.new.self old now mid new (state_of c.events.gate c.events.reporter.totals) c.events.joiner e (arrival by_known c.events.joiner e) c.events.invariant.progress came c.in_err-take.ensures.answer;
-      starts = (failed_only c.in_err-take.field-0.0 c.events.gate c.take.new.gate c.events.reporter.totals (arrival by_known c.events.joiner e) mid new c.in_err-take.ensures.answer).starts ∙ came.reads.starts ∙ c.events.invariant.starts;
-      counts = grows_on old now new c.events.invariant.grows (grows_on now mid new came.reads.grows (failed_only c.in_err-take.field-0.0 c.events.gate c.take.new.gate c.events.reporter.totals (arrival by_known c.events.joiner e) mid new c.in_err-take.ensures.answer).grows);
+      answer =
+          handed_on
+          (λ r. Forwards r c.args.gate.now.settings c.args.merge.now old new) c.from_residual-in_err-take.result c.in_err-take.field-0.0
+          c.from_residual-in_err-take.ensures.1
+          (forwards_fail c.in_err-take.field-0.0 c.args.gate.now.settings c.take.new.gate c.args.merge.now c.events.merge c.advance.new.self old now
+          mid new (state_of c.events.gate c.events.reporter.totals) c.events.joiner e c.events.invariant.progress c.events.invariant.grows came
+          failed);
+      taken = took_fail c.in_err-take.field-0.0 c.args.gate.now.settings c.events.gate c.take.new.gate c.events.reporter.totals c.args.merge.now
+          c.events.merge c.advance.new.self old now mid new (state_of c.events.gate c.events.reporter.totals) c.events.joiner e
+          (arrival by_known c.events.joiner e) c.events.invariant.progress came c.in_err-take.ensures.answer;
+      starts =
+          (failed_only c.in_err-take.field-0.0 c.events.gate c.take.new.gate c.events.reporter.totals
+          (arrival by_known c.events.joiner e) mid new c.in_err-take.ensures.answer).starts ∙ came.reads.starts ∙ c.events.invariant.starts;
+      counts =
+          grows_on old now new c.events.invariant.grows
+          (grows_on now mid new came.reads.grows
+          (failed_only c.in_err-take.field-0.0 c.events.gate c.take.new.gate c.events.reporter.totals
+          (arrival by_known c.events.joiner e) mid new c.in_err-take.ensures.answer).grows);
     }
 
 pub events-preserved : goal.events-preserved
@@ -92,9 +128,13 @@ events-preserved g c =
     let mid = g.D.Desk.outside c.advance.new.desk in
     let new = g.D.Desk.outside c.take.new.desk in
     let e = event_of c.event.result in
-    let came = came_to c.in_ok-more.more e c.events.merge c.advance.new.self now mid c.if-not-more.false (c.in_ok-more.ensures.first c.events.invariant.stop) c.event.ensures in
+    let came =
+    came_to c.in_ok-more.more e c.events.merge c.advance.new.self now mid c.if-not-more.false
+    (c.in_ok-more.ensures.first c.events.invariant.stop) c.event.ensures in
     let handled = c.in_ok-take.ensures.answer in
-    let counted = counts c.events.gate c.take.new.gate c.events.reporter.totals c.take.new.reporter.totals (arrival by_known c.events.joiner e) mid new handled c.events.invariant.counts in
+    let counted =
+    counts c.events.gate c.take.new.gate c.events.reporter.totals c.take.new.reporter.totals
+    (arrival by_known c.events.joiner e) mid new handled c.events.invariant.counts in
     record {
       stop = came.stop;
       settings = handled.settings ∙ c.events.invariant.settings;
@@ -103,9 +143,15 @@ events-preserved g c =
       starts = handled.gives.only.starts ∙ came.reads.starts ∙ c.events.invariant.starts;
       grows = grows_on old now new c.events.invariant.grows (grows_on now mid new came.reads.grows handled.gives.only.grows);
       ends = ends_kept c.advance.new.self mid new handled.gives.only.left (came.ends c.events.invariant.ends);
-      progress = subst (λ s. Progress s c.args.merge.now old new c.advance.new.self (state_of c.take.new.gate c.take.new.reporter.totals) c.take.new.joiner) c.events.invariant.settings
-          (progress_on c.events.gate.settings c.args.merge.now c.events.merge c.advance.new.self old now mid new (state_of c.events.gate c.events.reporter.totals) (state_of c.take.new.gate c.take.new.reporter.totals) c.events.joiner c.take.new.joiner e
-          (subst (λ s. Progress s c.args.merge.now old now c.events.merge (state_of c.events.gate c.events.reporter.totals) c.events.joiner) (sym c.events.invariant.settings) c.events.invariant.progress) came c.in_ok-more.ensures.leaves handled.state c.in_ok-take.ensures.joiner handled.gives);
+      progress =
+          subst (λ s. Progress s c.args.merge.now old new c.advance.new.self (state_of c.take.new.gate c.take.new.reporter.totals) c.take.new.joiner)
+          c.events.invariant.settings
+          (progress_on c.events.gate.settings c.args.merge.now c.events.merge c.advance.new.self old now mid new
+          (state_of c.events.gate c.events.reporter.totals)
+          (state_of c.take.new.gate c.take.new.reporter.totals) c.events.joiner c.take.new.joiner e
+          (subst (λ s. Progress s c.args.merge.now old now c.events.merge (state_of c.events.gate c.events.reporter.totals) c.events.joiner)
+          (sym c.events.invariant.settings) c.events.invariant.progress) came c.in_ok-more.ensures.leaves handled.state
+          c.in_ok-take.ensures.joiner handled.gives);
     }
 
 pub returns-then-not-more-clause-taken : goal.returns-then-not-more-clause-taken
@@ -114,7 +160,11 @@ returns-then-not-more-clause-taken g c =
     let now = g.D.Desk.outside c.events.desk in
     let mid = g.D.Desk.outside c.advance.new.desk in
     let new = g.D.Desk.outside c.finish.new.desk in
-    let finished = subst (λ b. Advances (Ok b) c.events.merge c.advance.new.self now mid) c.if-not-more.true (c.in_ok-more.ensures.first c.events.invariant.stop) in
-    took_end c.finish.result c.args.gate.now.settings c.args.merge.now c.events.merge c.advance.new.self old now mid new (state_of c.events.gate c.events.reporter.totals) c.events.joiner _ c.events.invariant.progress finished
-    (last_line c.finish.result c.settings.result.now c.events.gate.settings c.args.gate.now.settings c.events.reporter.totals c.pending.result c.events.gate.world.pending mid new
+    let finished =
+    subst (λ b. Advances (Ok b) c.events.merge c.advance.new.self now mid) c.if-not-more.true
+    (c.in_ok-more.ensures.first c.events.invariant.stop) in
+    took_end c.finish.result c.args.gate.now.settings c.args.merge.now c.events.merge c.advance.new.self old now mid new
+    (state_of c.events.gate c.events.reporter.totals) c.events.joiner _ c.events.invariant.progress finished
+    (last_line c.finish.result c.settings.result.now c.events.gate.settings c.args.gate.now.settings c.events.reporter.totals c.pending.result
+    c.events.gate.world.pending mid new
     c.settings.ensures c.events.invariant.settings c.pending.ensures c.finish.ensures)

@@ -14,7 +14,8 @@ invariant-events g l = record {
   starts : (g.D.Desk.outside l.desk).starts ≡ (g.D.Desk.outside l.initial.desk).starts;
   grows : Grows (g.D.Desk.outside l.initial.desk) (g.D.Desk.outside l.desk);
   ends : AtEnds l.merge (g.D.Desk.outside l.desk);
-  progress : Progress l.initial.gate.settings l.initial.merge (g.D.Desk.outside l.initial.desk) (g.D.Desk.outside l.desk) l.merge (state_of l.gate l.reporter.totals) l.joiner;
+  progress : Progress l.initial.gate.settings l.initial.merge (g.D.Desk.outside l.initial.desk) (g.D.Desk.outside l.desk) l.merge
+      (state_of l.gate l.reporter.totals) l.joiner;
 }
 
 abbrev pub decreases-events : goal.decreases-events

@@ -22,4 +22,5 @@ pub returns-clause-taken : goal.returns-clause-taken
 returns-clause-taken g c = c.run_prepared.ensures.taken (g.D.Desk.outside c.args.desk.now) c.in_ok-merge.ensures.answer
 
 pub returns-in_err-merge-clause-taken : goal.returns-in_err-merge-clause-taken
-returns-in_err-merge-clause-taken g c = took_unwritten (g.D.Desk.outside c.args.desk.now) (g.D.Desk.outside c.prepare.new.desk) c.in_err-merge.ensures.taken c.prepare.ensures.inputs
+returns-in_err-merge-clause-taken g c =
+    took_unwritten (g.D.Desk.outside c.args.desk.now) (g.D.Desk.outside c.prepare.new.desk) c.in_err-merge.ensures.taken c.prepare.ensures.inputs

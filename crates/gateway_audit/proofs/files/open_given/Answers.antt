@@ -12,7 +12,9 @@ returns-in_err-start_slot-clause-answer g c =
     let new = g.D.Desk.outside c.start_slot.new.desk in
     let status = c.in_err-start_slot.field-0.0 in
     handed_on (λ r. Opens r (given_starts (names_of c.args.names)) old new) c.from_residual.result status c.from_residual.ensures.1
-    (opens_more status ((record { slot = LeftGiven; name = c.args.names.left_given.now; access = Read }) ∷ []) ((record { slot = RightGiven; name = c.args.names.right_given.now; access = Read }) ∷ (record { slot = ReportGiven; name = c.args.names.report_given.now; access = Read }) ∷ [])
+    (opens_more status ((record { slot = LeftGiven; name = c.args.names.left_given.now; access = Read }) ∷ [])
+    ((record { slot = RightGiven; name = c.args.names.right_given.now; access = Read })
+    ∷ (record { slot = ReportGiven; name = c.args.names.report_given.now; access = Read }) ∷ [])
     old new c.in_err-start_slot.ensures.answer)
 
 pub returns-in_err-start_slot-2-clause-answer : goal.returns-in_err-start_slot-2-clause-answer
@@ -21,10 +23,15 @@ returns-in_err-start_slot-2-clause-answer g c =
     let mid = g.D.Desk.outside c.start_slot.new.desk in
     let new = g.D.Desk.outside c.start_slot-2.new.desk in
     let status = c.in_err-start_slot-2.field-0.0 in
-    handed_on (λ r. Opens r (given_starts (names_of c.args.names)) old new) c.from_residual-in_err-start_slot-2.result status c.from_residual-in_err-start_slot-2.ensures.1
-    (opens_on (Err status) ((record { slot = LeftGiven; name = c.args.names.left_given.now; access = Read }) ∷ []) ((record { slot = RightGiven; name = c.args.names.right_given.now; access = Read }) ∷ (record { slot = ReportGiven; name = c.args.names.report_given.now; access = Read }) ∷ [])
+    handed_on
+    (λ r. Opens r (given_starts (names_of c.args.names)) old new) c.from_residual-in_err-start_slot-2.result status
+    c.from_residual-in_err-start_slot-2.ensures.1
+    (opens_on (Err status) ((record { slot = LeftGiven; name = c.args.names.left_given.now; access = Read }) ∷ [])
+    ((record { slot = RightGiven; name = c.args.names.right_given.now; access = Read })
+    ∷ (record { slot = ReportGiven; name = c.args.names.report_given.now; access = Read }) ∷ [])
     old mid new c.in_ok-start_slot.ensures.answer
-    (opens_more status ((record { slot = RightGiven; name = c.args.names.right_given.now; access = Read }) ∷ []) ((record { slot = ReportGiven; name = c.args.names.report_given.now; access = Read }) ∷ []) mid new c.in_err-start_slot-2.ensures.answer))
+    (opens_more status ((record { slot = RightGiven; name = c.args.names.right_given.now; access = Read }) ∷ [])
+    ((record { slot = ReportGiven; name = c.args.names.report_given.now; access = Read }) ∷ []) mid new c.in_err-start_slot-2.ensures.answer))
 
 pub returns-clause-answer : goal.returns-clause-answer
 returns-clause-answer g c =
@@ -32,7 +39,10 @@ returns-clause-answer g c =
     let one = g.D.Desk.outside c.start_slot.new.desk in
     let two = g.D.Desk.outside c.start_slot-2.new.desk in
     let three = g.D.Desk.outside c.start_slot-3.new.desk in
-    opens_on c.start_slot-3.result ((record { slot = LeftGiven; name = c.args.names.left_given.now; access = Read }) ∷ []) ((record { slot = RightGiven; name = c.args.names.right_given.now; access = Read }) ∷ (record { slot = ReportGiven; name = c.args.names.report_given.now; access = Read }) ∷ [])
+    opens_on c.start_slot-3.result ((record { slot = LeftGiven; name = c.args.names.left_given.now; access = Read }) ∷ [])
+    ((record { slot = RightGiven; name = c.args.names.right_given.now; access = Read })
+    ∷ (record { slot = ReportGiven; name = c.args.names.report_given.now; access = Read }) ∷ [])
     now one three c.in_ok-start_slot.ensures.answer
-    (opens_on c.start_slot-3.result ((record { slot = RightGiven; name = c.args.names.right_given.now; access = Read }) ∷ []) ((record { slot = ReportGiven; name = c.args.names.report_given.now; access = Read }) ∷ [])
+    (opens_on c.start_slot-3.result ((record { slot = RightGiven; name = c.args.names.right_given.now; access = Read }) ∷ [])
+    ((record { slot = ReportGiven; name = c.args.names.report_given.now; access = Read }) ∷ [])
     one two three c.in_ok-start_slot-2.ensures.answer c.start_slot-3.ensures.answer)

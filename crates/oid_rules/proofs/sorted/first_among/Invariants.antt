@@ -1,5 +1,6 @@
 use Rattle.std.proofs.Common.{◌<◌, ℕ, List, All, get_or, IfSome, IsSome}
-use Rattle.oid_rules.specs.Sorted.{before_at, by_rule, rule_at, BeginsAt, IsEarly, IsFound}
+use Rattle.oid_rules.specs.Sorted.{by_rule}
+use Rattle.oid_rules.specs.Inside.Sorted.{before_at, rule_at, BeginsAt, IsEarly, IsFound}
 use Rattle.oid_rules.proofs.sorted.first_among.Given as goal
 
 abbrev pub invariant-loop-at : goal.invariant-loop-at

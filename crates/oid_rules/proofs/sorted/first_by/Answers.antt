@@ -1,6 +1,7 @@
 use Rattle.std.proofs.Common.{◌≡◌, IsSome, get_or, subst, arith}
 use Rattle.std.proofs.lemmas.List.Elements.{All-get_or}
-use Rattle.oid_rules.specs.Sorted.{before_at, by_rule, rule_at, BeginsAt, IsEarly}
+use Rattle.oid_rules.specs.Sorted.{by_rule}
+use Rattle.oid_rules.specs.Inside.Sorted.{before_at, rule_at, BeginsAt, IsEarly}
 use Rattle.oid_rules.proofs.First.{first_is}
 use Rattle.oid_rules.proofs.Tried.{tried_first}
 use Rattle.oid_rules.proofs.sorted.first_by.Goals as goal

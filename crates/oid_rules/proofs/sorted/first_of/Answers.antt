@@ -1,6 +1,7 @@
 use Rattle.std.proofs.Common.{Some, ◌∙◌, ap, option_map, subst, arith}
 use Rattle.oid_rules.specs.declared.sorted.Numbered.{Numbered}
-use Rattle.oid_rules.specs.Sorted.{by_rule, IsLast}
+use Rattle.oid_rules.specs.Sorted.{by_rule}
+use Rattle.oid_rules.specs.Inside.Sorted.{IsLast}
 use Rattle.oid_rules.proofs.First.{not_begun}
 use Rattle.oid_rules.proofs.Halving.{at_rule}
 use Rattle.oid_rules.proofs.Tried.{tried_there}

@@ -1,7 +1,8 @@
 use Rattle.std.proofs.Common.{◌≡◌, ◌∙◌, ap, arith, refl, subst}
 use Rattle.oid_rules.specs.declared.sorted.Compared.TheVariants.{Begins}
 use Rattle.oid_rules.specs.declared.sorted.Numbered.{Numbered}
-use Rattle.oid_rules.specs.Sorted.{compared, Halves}
+use Rattle.oid_rules.specs.Sorted.{compared}
+use Rattle.oid_rules.specs.Inside.Sorted.{Halves}
 use Rattle.oid_rules.proofs.Halving.{at_rule, half_above, half_below}
 use Rattle.oid_rules.proofs.sorted.halved.Goals as goal
 

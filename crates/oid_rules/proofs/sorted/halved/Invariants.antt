@@ -1,5 +1,5 @@
 use Rattle.std.proofs.Common.{◌≡◌, ◌-◌, ◌≤◌, ℕ, List, Some}
-use Rattle.oid_rules.specs.Sorted.{Halves}
+use Rattle.oid_rules.specs.Inside.Sorted.{Halves}
 use Rattle.oid_rules.proofs.sorted.halved.Given as goal
 
 abbrev pub invariant-loop-low : goal.invariant-loop-low

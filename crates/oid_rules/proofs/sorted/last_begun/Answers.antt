@@ -1,6 +1,7 @@
 use Rattle.std.proofs.Common.{◌<◌, ℕ, ◌∙◌, Option, IfSome, length, ap, sym, arith, subst}
 use Rattle.oid_rules.specs.declared.sorted.Numbered.{Numbered}
-use Rattle.oid_rules.specs.Sorted.{compared, Halves, IsLast}
+use Rattle.oid_rules.specs.Sorted.{compared}
+use Rattle.oid_rules.specs.Inside.Sorted.{Halves, IsLast}
 use Rattle.oid_rules.proofs.Halving.{at_rule, beneath_last, beneath_outer, last_is, nothing_begun, outer_within, Beneath}
 use Rattle.oid_rules.proofs.sorted.last_begun.Goals as goal
 

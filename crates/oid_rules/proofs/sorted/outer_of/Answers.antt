@@ -1,6 +1,6 @@
 use Rattle.std.proofs.Common.{◌≡◌, ◌∙◌, ap, sym, arith, length, length-append, subst, List, [], ◌∷◌, ℕ, Option, refl}
 use Rattle.oid_rules.specs.declared.sorted.Numbered.{Numbered}
-use Rattle.oid_rules.specs.Sorted.{AreOuter, IsLast}
+use Rattle.oid_rules.specs.Inside.Sorted.{AreOuter, IsLast}
 use Rattle.oid_rules.proofs.Halving.{at_rule, arcs_at, one_more}
 use Rattle.oid_rules.proofs.sorted.outer_of.Goals as goal
 

@@ -1,5 +1,5 @@
 use Rattle.std.proofs.Common.{◌≡◌, length}
-use Rattle.oid_rules.specs.Sorted.{AreOuter}
+use Rattle.oid_rules.specs.Inside.Sorted.{AreOuter}
 use Rattle.oid_rules.proofs.sorted.outer_of.Given as goal
 
 abbrev pub invariant-loop-one : goal.invariant-loop-one

@@ -3,7 +3,7 @@ use Rattle.std.proofs.lemmas.Cmp.{nat_list_cmp_total}
 use Rattle.std.proofs.lemmas.List.Sorted.{All-permutation, answers_always, ranks_by, sorted_far}
 use Rattle.oid_rules.specs.declared.sorted.Numbered.{Numbered}
 use Rattle.gate_base.specs.Prelude.{is_rule}
-use Rattle.oid_rules.specs.Sorted.{numbered, rule_at}
+use Rattle.oid_rules.specs.Inside.Sorted.{numbered, rule_at}
 use Rattle.oid_rules.proofs.First.{all_rules}
 use Rattle.oid_rules.proofs.Prefixes.{not_less}
 use Rattle.oid_rules.proofs.sorted.sorted.Goals as goal

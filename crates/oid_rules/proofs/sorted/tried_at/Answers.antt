@@ -1,6 +1,6 @@
 use Rattle.std.proofs.Common.{◌≡◌, ◌∙◌, List, ℕ, subst, sym, arith}
 use Rattle.std.proofs.lemmas.Result.{IfOk-weaker}
-use Rattle.oid_rules.specs.Sorted.{with_rule, IsLast, IsTried}
+use Rattle.oid_rules.specs.Inside.Sorted.{with_rule, IsLast, IsTried}
 use Rattle.oid_rules.proofs.Halving.{arcs_at}
 use Rattle.oid_rules.proofs.Tried.{tried_further, tried_there}
 use Rattle.oid_rules.proofs.sorted.tried_at.Goals as goal

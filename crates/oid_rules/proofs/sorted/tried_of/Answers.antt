@@ -1,5 +1,5 @@
 use Rattle.std.proofs.Common.{ap, sym, arith, length, length-append, subst, [], ◌∷◌}
-use Rattle.oid_rules.specs.Sorted.{AreTried, IsTried}
+use Rattle.oid_rules.specs.Inside.Sorted.{AreTried, IsTried}
 use Rattle.oid_rules.proofs.Tried.{one_more_tried}
 use Rattle.oid_rules.proofs.sorted.tried_of.Goals as goal
 

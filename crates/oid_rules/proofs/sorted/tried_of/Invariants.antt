@@ -1,5 +1,5 @@
 use Rattle.std.proofs.Common.{◌≡◌, length}
-use Rattle.oid_rules.specs.Sorted.{AreTried}
+use Rattle.oid_rules.specs.Inside.Sorted.{AreTried}
 use Rattle.oid_rules.proofs.sorted.tried_of.Given as goal
 
 abbrev pub invariant-loop-at : goal.invariant-loop-at

@@ -1,5 +1,5 @@
 use Rattle.std.proofs.Common.{◌≡◌, ◌++◌, drop}
-use Rattle.oid_rules.specs.Sorted.{numbered}
+use Rattle.oid_rules.specs.Inside.Sorted.{numbered}
 use Rattle.oid_rules.proofs.sorted.with_numbers.Given as goal
 
 abbrev pub invariant-loop-number : goal.invariant-loop-number

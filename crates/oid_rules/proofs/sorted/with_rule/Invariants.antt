@@ -1,5 +1,5 @@
 use Rattle.std.proofs.Common.{◌≡◌, ◌<◌, ◌++◌, drop, length}
-use Rattle.oid_rules.specs.Sorted.{with_rule}
+use Rattle.oid_rules.specs.Inside.Sorted.{with_rule}
 use Rattle.oid_rules.proofs.sorted.with_rule.Given as goal
 
 abbrev pub invariant-loop-place : goal.invariant-loop-place

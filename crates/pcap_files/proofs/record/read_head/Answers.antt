@@ -26,28 +26,28 @@ returns-then-n-lt-RECORD_HEAD-clause-takes g c =
       torn_head c.args.form c.args.place c.in-Ok.n c.read_full.new.buffer told (omega arith) (omega arith) (omega arith) c.in-Ok.ensures.octets,
     )
 
-pub returns-in-Ok-judge-clause-takes : goal.returns-in-Ok-judge-clause-takes
-returns-in-Ok-judge-clause-takes g c =
+pub returns-in-Ok-fields_of-clause-takes : goal.returns-in-Ok-fields_of-clause-takes
+returns-in-Ok-fields_of-clause-takes g c =
     let told = told_at (g.D.Desk.outside c.args.desk.now).left c.args.slot in
-    let h = c.in-Ok-judge.fields in
+    let h = c.in-Ok-fields_of.fields in
     let e : c.in-Ok.n ≡ 16 = omega (arith, c.in-Ok.ensures.fits) in (
-      c.in-Ok-judge.ensures.0,
+      c.in-Ok-fields_of.ensures.0,
       rw e at c.in-Ok.ensures.ok,
       by_the_head c.args.form c.args.place c.in-Ok.n c.read_full.new.buffer (body_of h.stamp h.whole h.kept) told (omega arith)
-          (omega arith) c.in-Ok.ensures.octets c.in-Ok-judge.ensures.1,
+          (omega arith) c.in-Ok.ensures.octets c.in-Ok-fields_of.ensures.1,
       enough_left c.in-Ok.n c.read_full.new.buffer told (omega arith) (omega arith) c.in-Ok.ensures.octets,
     )
 
-pub returns-in-Err-judge-clause-takes : goal.returns-in-Err-judge-clause-takes
-returns-in-Err-judge-clause-takes g c =
+pub returns-in-Err-fields_of-clause-takes : goal.returns-in-Err-fields_of-clause-takes
+returns-in-Err-fields_of-clause-takes g c =
     let told = told_at (g.D.Desk.outside c.args.desk.now).left c.args.slot in (
       refl,
       record {
         count = c.in-Ok.n;
         takes = c.in-Ok.ensures.ok;
         near = omega (arith, c.in-Ok.ensures.fits, c.requires.small);
-        exact = some_is told (λ octets. omega (arith, c.in-Ok.ensures.fits, c.in-Err-judge.ensures.0 (length octets)));
+        exact = some_is told (λ octets. omega (arith, c.in-Ok.ensures.fits, c.in-Err-fields_of.ensures.0 (length octets)));
       },
-      by_the_head c.args.form c.args.place c.in-Ok.n c.read_full.new.buffer (λ rest. Broken c.in-Err-judge.fault) told (omega arith)
-          (omega arith) c.in-Ok.ensures.octets c.in-Err-judge.ensures.1,
+      by_the_head c.args.form c.args.place c.in-Ok.n c.read_full.new.buffer (λ rest. Broken c.in-Err-fields_of.fault) told (omega arith)
+          (omega arith) c.in-Ok.ensures.octets c.in-Err-fields_of.ensures.1,
     )

@@ -2,7 +2,7 @@ use Rattle.std.proofs.Common.{◌≡◌, ◌+◌, ◌≤◌, ◌<◌, Ok, length
 use Rattle.std.proofs.lemmas.List.{take-append-le, length-take-le}
 use Rattle.gate_desk.specs.Outside.{told_at, Takes}
 use Rattle.gate_desk.proofs.Laws.{takes_on, moved, failed_later}
-use Rattle.pcap_files.specs.Heads.{TakesHead}
+use Rattle.pcap_files.specs.Inside.Heads.{TakesHead}
 use Rattle.pcap_files.specs.Prelude.{next_at, Came}
 use Rattle.pcap_files.proofs.Steps.{no_body, torn_body, whole_body, all_left_behind}
 use Rattle.pcap_files.proofs.record.read_in_parts.Goals as goal

@@ -1,6 +1,6 @@
 use Rattle.std.proofs.Common.{rules, ◌+◌, ◌/◌, ◌^◌, ◌<◌, subst, ℕ, Option, slice_index, arith, w64}
 use Rattle.std.proofs.lemmas.Nat.Bits.{bit_at-trailing_zeros}
-use Rattle.realm_pools.specs.Places.{any_in, IsFirst}
+use Rattle.realm_pools.specs.Inside.Places.{any_in, IsFirst}
 use Rattle.realm_pools.proofs.Bits.{one_any, word_within, next_word}
 use Rattle.realm_pools.proofs.words.first_bit.Goals as goal
 

@@ -1,5 +1,5 @@
 use Rattle.std.proofs.Common.{◌/◌, ℕ, slice_set, subst, sym}
-use Rattle.realm_pools.specs.Places.{IsSet}
+use Rattle.realm_pools.specs.Inside.Places.{IsSet}
 use Rattle.realm_pools.proofs.Bits.{placed}
 use Rattle.realm_pools.proofs.words.set_bit.Goals as goal
 

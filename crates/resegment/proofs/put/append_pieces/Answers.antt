@@ -35,18 +35,23 @@ loop-index-preserved c =
     let next = flat_map (λ d. d) (datagrams_below m octets limit (index + 1)) in
     let long = piece_long octets start end c.piece-start.ensures.order c.piece-start.ensures.within in
     let items : c.put_datagram.new.outbox.items ≡ c.args.outbox.now.items ++ next =
-    appended c.args.outbox.now.items (flat_map (λ d. d) (datagrams_below m octets limit index)) c.loop-index.outbox.items _ c.put_datagram.new.outbox.items next i.octets
+    appended c.args.outbox.now.items
+    (flat_map (λ d. d) (datagrams_below m octets limit index)) c.loop-index.outbox.items _ c.put_datagram.new.outbox.items next i.octets
     (c.put_datagram.ensures.octets ∙ ap (λ xs. c.loop-index.outbox.items ++ xs)
     (piece_is m octets limit index start end _ c.piece_flags-flags.result c.piece-start.ensures.start c.piece-start.ensures.end refl
     (c.piece_flags-flags.ensures ∙ ap (λ n. piece_flags m.flags (nat_lt (index + 1) n)) c.pieces-count.ensures)))
     (sym (datagrams_joined-more m octets limit index)) in
     let len : c.len.result ≡ length c.put_datagram.new.outbox.items = search rules in
-    let last : c.len.result ≡ length c.args.outbox.now.items + length next = omega (arith, len, ap length items, length-append c.args.outbox.now.items next) in
+    let last : c.len.result ≡ length c.args.outbox.now.items + length next =
+    omega (arith, len, ap length items, length-append c.args.outbox.now.items next) in
     let times : (index + 1) * (20 + length m.tcp.now) ≡ index * (20 + length m.tcp.now) + (20 + length m.tcp.now) = grind arith in
     record {
       octets = items;
-      ends = appended c.args.ends.now.items (ends_from (length c.args.outbox.now.items) (datagrams_below m octets limit index)) c.loop-index.ends.items (c.len.result ∷ []) c.push_reserved.new.self.items _ i.ends c.push_reserved.ensures.items
-          (ap (λ n. ends_from (length c.args.outbox.now.items) (datagrams_below m octets limit index) ++ n ∷ []) last ∙ sym (ends-more m octets limit index (length c.args.outbox.now.items)));
+      ends = appended c.args.ends.now.items
+          (ends_from (length c.args.outbox.now.items) (datagrams_below m octets limit index)) c.loop-index.ends.items
+          (c.len.result ∷ []) c.push_reserved.new.self.items _ i.ends c.push_reserved.ensures.items
+          (ap (λ n. ends_from (length c.args.outbox.now.items) (datagrams_below m octets limit index) ++ n ∷ []) last
+          ∙ sym (ends-more m octets limit index (length c.args.outbox.now.items)));
       len = omega (arith, i.len, c.put_datagram.ensures.len, long, c.piece-start.ensures.start, c.piece-start.ensures.end, times);
       many = omega (arith, i.many, ap length c.push_reserved.ensures.items, length-append c.loop-index.ends.items (c.len.result ∷ []));
       room = omega (arith, i.room, c.put_datagram.ensures.room);

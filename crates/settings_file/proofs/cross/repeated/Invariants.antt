@@ -2,7 +2,7 @@ use Rattle.std.proofs.Common.{◌≡◌, ◌==◌, ℕ, [], drop, take, nat_cmp}
 use Rattle.std.specs.BTreeSet.{contains}
 use Rattle.std.specs.List.{list_any}
 use Rattle.settings_file.specs.Accepting.{first_repeated}
-use Rattle.settings_file.specs.Numbers.{host_number, alias_number}
+use Rattle.settings_file.specs.Inside.Numbers.{host_number, alias_number}
 use Rattle.settings_file.proofs.cross.repeated.Given as goal
 
 -- none so far collides with an earlier one, and both sets have their numbers

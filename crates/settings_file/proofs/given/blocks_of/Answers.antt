@@ -8,4 +8,6 @@ pub loop-value-preserved : goal.loop-value-preserved
 loop-value-preserved c =
     let reads = sym c.block.ensures ∙ c.in_ok-block.was in
     rw c.in_ok-push.ensures.items
-    (sym (read_next (λ n value. block Same value) c.loop-value.blocks.items c.in_ok-block.block c.args.values.now c.loop-value.value-index c.value-item.result c.loop-value-test.true c.value-item.is reads) ∙ c.loop-value.invariant)
+    (sym (read_next
+    (λ n value. block Same value) c.loop-value.blocks.items c.in_ok-block.block c.args.values.now c.loop-value.value-index c.value-item.result
+    c.loop-value-test.true c.value-item.is reads) ∙ c.loop-value.invariant)

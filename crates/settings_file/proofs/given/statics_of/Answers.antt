@@ -9,7 +9,9 @@ loop-index-preserved c =
     let reads = sym c.static_entry.ensures ∙ c.in_ok-fixed.was in
     rw c.in_ok-push.ensures.items
     (record {
-      all = sym (read_next static_entry c.loop-index.statics.items c.in_ok-fixed.fixed c.args.values.now c.loop-index.index c.index-values-index.result c.loop-index-test.true c.index-values-index.is reads) ∙ c.loop-index.invariant.all;
+      all = sym
+          (read_next static_entry c.loop-index.statics.items c.in_ok-fixed.fixed c.args.values.now c.loop-index.index c.index-values-index.result
+          c.loop-index-test.true c.index-values-index.is reads) ∙ c.loop-index.invariant.all;
       count = omega (arith, length-append {A = Fixed}, c.loop-index.invariant.count);
     })
 

@@ -1,4 +1,4 @@
-use Rattle.snmp_gateway.specs.Walk.{size_ahead}
+use Rattle.snmp_gateway.specs.Inside.Walk.{size_ahead}
 use Rattle.snmp_gateway.proofs.Walk.{Checks}
 use Rattle.snmp_gateway.proofs.message.check.Given as goal
 

@@ -1,6 +1,7 @@
 use Rattle.std.proofs.Common.{◌≡◌, drop, IsSome}
 use Rattle.oid_rules.specs.Sorted.{compared}
-use Rattle.snmp_oids.specs.Arcs.{numbers_of, numbers_in}
+use Rattle.snmp_oids.specs.Arcs.{numbers_of}
+use Rattle.snmp_oids.specs.Inside.Arcs.{numbers_in}
 use Rattle.snmp_oids.proofs.arcs.compare_numbers.Given as goal
 
 abbrev pub invariant-loop-number : goal.invariant-loop-number

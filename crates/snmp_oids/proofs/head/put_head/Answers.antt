@@ -1,6 +1,6 @@
 use Rattle.std.proofs.Common.{ℕ, ◌∙◌, ap, sym, List, length, take, arith, length-append}
 use Rattle.snmp_oids.specs.Elements.{shortest}
-use Rattle.snmp_oids.specs.Written.{with_octets}
+use Rattle.snmp_oids.specs.Inside.Written.{with_octets}
 use Rattle.snmp_oids.proofs.Writing.{written_after, head_other}
 use Rattle.snmp_oids.proofs.head.put_head.Goals as goal
 

@@ -1,6 +1,6 @@
 use Rattle.std.proofs.Common.{◌∙◌, ap, List, ℕ, [], ◌++◌, get_or, length, arith}
 use Rattle.snmp_oids.specs.Identifier.{arc_octets}
-use Rattle.snmp_oids.specs.Written.{with_octets}
+use Rattle.snmp_oids.specs.Inside.Written.{with_octets}
 use Rattle.snmp_oids.proofs.Writing.{four_written}
 use Rattle.snmp_oids.proofs.identifier.put_address.Goals as goal
 

@@ -1,7 +1,7 @@
 use Rattle.std.proofs.Common.{◌∙◌, ap, ◌++◌, List, ℕ, take, drop, arith, length-append}
 use Rattle.std.proofs.lemmas.List.{take_rest}
 use Rattle.snmp_oids.specs.Identifier.{address_octets}
-use Rattle.snmp_oids.specs.Written.{with_octets}
+use Rattle.snmp_oids.specs.Inside.Written.{with_octets}
 use Rattle.snmp_oids.proofs.Writing.{written_after}
 use Rattle.snmp_oids.proofs.identifier.put_changed.Goals as goal
 

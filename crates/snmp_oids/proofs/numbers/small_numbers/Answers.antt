@@ -1,5 +1,6 @@
 use Rattle.std.proofs.Common.{◌∙◌, refl, arith, rules}
-use Rattle.snmp_oids.specs.Arcs.{numbers_in, numbers_of}
+use Rattle.snmp_oids.specs.Arcs.{numbers_of}
+use Rattle.snmp_oids.specs.Inside.Arcs.{numbers_in}
 use Rattle.snmp_oids.proofs.Small.{drop_next, kept_next, left_next, none_left, nothing_kept}
 use Rattle.snmp_oids.proofs.SubIdentifiers as one
 use Rattle.snmp_oids.proofs.numbers.small_numbers.Goals as goal

@@ -1,5 +1,6 @@
 use Rattle.std.proofs.Common.{◌≡◌, ◌<◌, ◌≤◌, ℕ, None, drop, get_or, length, IsSome}
-use Rattle.snmp_oids.specs.Arcs.{numbers_in, numbers_of, small_at}
+use Rattle.snmp_oids.specs.Arcs.{numbers_of}
+use Rattle.snmp_oids.specs.Inside.Arcs.{numbers_in, small_at}
 use Rattle.snmp_oids.proofs.numbers.small_numbers.Given as goal
 
 abbrev pub invariant-loop-place : goal.invariant-loop-place

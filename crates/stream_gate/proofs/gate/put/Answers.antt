@@ -8,7 +8,7 @@ use Rattle.stream_model.specs.Prelude.{Sent}
 use Rattle.stream_model.specs.Goings.{sent_with}
 use Rattle.compact_stream.specs.Prelude.{CompactSender, recent_start, standing_kept}
 use Rattle.stream_gate.specs.Prelude.{way_of}
-use Rattle.stream_gate.specs.Gates.{CanCut}
+use Rattle.stream_gate.specs.Inside.Gates.{CanCut}
 use Rattle.stream_gate.proofs.GateLemmas.{few_pieces, few_octets}
 use Rattle.stream_gate.proofs.Sending.{pieces_sent, bare_sent}
 use Rattle.stream_gate.proofs.gate.put.Given.{Over}

@@ -11,7 +11,14 @@ returns c =
     let g = segment_in c.args.segment.now in
     let tcp = c.args.segment.now in
     let pair = c.args.pair in
-    let fresh : ℕ → ℕ → FtpHeard = λ initial mss. record { client_dialogue = record { pair = pair }; server_dialogue = record { pair = pair }; client = unheard (Some initial) mss; server = unheard None 536 } in
+    let fresh : ℕ → ℕ → FtpHeard =
+    λ initial mss. record {
+      client_dialogue = record { pair = pair };
+      server_dialogue = record { pair = pair };
+      client = unheard (Some initial) mss;
+      server =
+          unheard None 536;
+    } in
     c.refusal.ensures
     ∙ ap (λ (x : FtpHeard). segment_refusal Client (lines_of x) g) c.ftp_session-session.ensures
     ∙ ap (λ (n : ℕ). segment_refusal Client (lines_of (fresh n c.mss.result)) g) c.sequence.ensures

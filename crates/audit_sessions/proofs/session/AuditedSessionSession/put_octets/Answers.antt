@@ -1,7 +1,7 @@
 use Rattle.std.proofs.Common.{◌≡◌, ◌∙◌, ap, sym, subst, None}
 use Rattle.stream_model.specs.Prelude.{segment_in}
 use Rattle.audit_sessions.specs.Heard.{HeardSession, heard_rules}
-use Rattle.audit_sessions.specs.Sessions.{session_by, dns_session}
+use Rattle.audit_sessions.specs.Inside.Sessions.{session_by, dns_session}
 use Rattle.audit_sessions.proofs.session.AuditedSessionSession.put_octets.Goals as goal
 
 pub put_units-requires-clause-passes : goal.put_units-requires-clause-passes

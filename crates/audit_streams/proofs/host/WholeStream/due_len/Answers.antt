@@ -1,6 +1,6 @@
 use Rattle.std.proofs.Common.{◌≡◌, ◌-◌, length, ◌∙◌, ap, subst}
 use Rattle.stream_model.specs.Prelude.{due_in}
-use Rattle.audit_streams.specs.Hosts.{HeardStream, sender_of}
+use Rattle.audit_streams.specs.Inside.Hosts.{HeardStream, sender_of}
 use Rattle.audit_streams.proofs.HostLists.{due_open}
 use Rattle.audit_streams.proofs.host.WholeStream.due_len.Goals as goal
 

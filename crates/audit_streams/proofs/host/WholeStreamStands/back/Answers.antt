@@ -1,6 +1,6 @@
 use Rattle.std.proofs.Common.{◌≡◌, ◌+◌, length, sym, ◌∙◌, ap, subst}
 use Rattle.dialogue.specs.Prelude.{back_in, spans, back_if}
-use Rattle.audit_streams.specs.Hosts.{HeardStream}
+use Rattle.audit_streams.specs.Inside.Hosts.{HeardStream}
 use Rattle.audit_streams.proofs.HostLists.{spans_are}
 use Rattle.audit_streams.proofs.host.WholeStreamStands.back.Goals as goal
 

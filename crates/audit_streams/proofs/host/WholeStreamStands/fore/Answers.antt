@@ -1,6 +1,6 @@
 use Rattle.std.proofs.Common.{◌≡◌, ◌∙◌, ap, subst}
 use Rattle.dialogue.specs.Prelude.{fore_in, spans}
-use Rattle.audit_streams.specs.Hosts.{HeardStream}
+use Rattle.audit_streams.specs.Inside.Hosts.{HeardStream}
 use Rattle.audit_streams.proofs.HostLists.{spans_are}
 use Rattle.audit_streams.proofs.host.WholeStreamStands.fore.Goals as goal
 

@@ -1,6 +1,7 @@
 use Rattle.std.proofs.Common.{◌≡◌, IfOk}
 use Rattle.gate_base.proofs.Hosts.{at_host}
-use Rattle.audit_streams.specs.Hosts.{sender_of, session_of}
+use Rattle.audit_streams.specs.Hosts.{session_of}
+use Rattle.audit_streams.specs.Inside.Hosts.{sender_of}
 use Rattle.audit_streams.specs.Sending.{handed}
 use Rattle.stream_model.specs.Prelude.{Segment, segment_in, session_sent, session_ends}
 use Rattle.audit_streams.proofs.BothHosts.{heard_by, next_at}
@@ -34,12 +35,15 @@ pass-requires-in-Server-clause-can g c =
 
 pub returns-in-Client-clause-next : goal.returns-in-Client-clause-next
 returns-in-Client-clause-next g c =
-    next_at Client c.args.from c.pass.result g.C.Dialogue.meaning g.S.Dialogue.meaning (heard_by c.self.inside.client c.self.inside.server) c.args.self.now (segment_in c.args.segment.now) c.pass.new.own c.pass.new.other c.in-Client.is c.self.view_is c.pass.ensures.own c.pass.ensures.other
+    next_at Client c.args.from c.pass.result g.C.Dialogue.meaning g.S.Dialogue.meaning
+    (heard_by c.self.inside.client c.self.inside.server) c.args.self.now
+    (segment_in c.args.segment.now) c.pass.new.own c.pass.new.other c.in-Client.is c.self.view_is c.pass.ensures.own c.pass.ensures.other
 
 pub returns-in-Client-clause-sent : goal.returns-in-Client-clause-sent
 returns-in-Client-clause-sent g c =
     let t : Segment = segment_in c.args.segment.now in
-    at_host (λ h w. let s = session_of g.C.Dialogue.meaning g.S.Dialogue.meaning w in IfOk c.pass.result (λ r. r ≡ handed (session_sent h s t) (session_ends h s t)))
+    at_host (λ h w. let s = session_of g.C.Dialogue.meaning g.S.Dialogue.meaning w in
+    IfOk c.pass.result (λ r. r ≡ handed (session_sent h s t) (session_ends h s t)))
     Client c.args.from (heard_by c.self.inside.client c.self.inside.server) c.args.self.now c.in-Client.is c.self.view_is c.pass.ensures.sent
 
 pub returns-in-Server-clause-next : goal.returns-in-Server-clause-next
@@ -51,5 +55,7 @@ returns-in-Server-clause-next g c =
 pub returns-in-Server-clause-sent : goal.returns-in-Server-clause-sent
 returns-in-Server-clause-sent g c =
     let t : Segment = segment_in c.args.segment.now in
-    at_host (λ h w. let s = session_of g.C.Dialogue.meaning g.S.Dialogue.meaning w in IfOk c.pass-in-Server.result (λ r. r ≡ handed (session_sent h s t) (session_ends h s t)))
-    Server c.args.from (heard_by c.self.inside.client c.self.inside.server) c.args.self.now c.in-Server.is c.self.view_is c.pass-in-Server.ensures.sent
+    at_host (λ h w. let s = session_of g.C.Dialogue.meaning g.S.Dialogue.meaning w in
+    IfOk c.pass-in-Server.result (λ r. r ≡ handed (session_sent h s t) (session_ends h s t)))
+    Server c.args.from
+    (heard_by c.self.inside.client c.self.inside.server) c.args.self.now c.in-Server.is c.self.view_is c.pass-in-Server.ensures.sent

@@ -2,7 +2,7 @@ use Rattle.std.proofs.Common.{◌≡◌, ◌≤◌, ◌<◌, ◌++◌, List, len
 use Rattle.std.proofs.lemmas.List.Sorted.{IsPartitionPoint-from_clause}
 use Rattle.dialogue.specs.Prelude.{back_in}
 use Rattle.audit_streams.specs.declared.transcript.ChangedUnit.{ChangedUnit}
-use Rattle.audit_streams.specs.Transcripts.{Transcribed, InOrder}
+use Rattle.audit_streams.specs.Inside.Transcripts.{Transcribed, InOrder}
 use Rattle.audit_streams.proofs.Places.{Parted, parted, ends_parted, octets_end, until, until-le, below_is}
 use Rattle.audit_streams.proofs.transcript.Transcript.below.Goals as goal
 use Rattle.audit_streams.proofs.transcript.Transcript.below.Goals.{After-ends_of-octet, in-Some, in-None}
@@ -14,7 +14,9 @@ parts c =
     let q = c.args.place in
     let i = c.partition_point-next.result in
     let order : InOrder 0 0 xs = subst (λ (us : List ChangedUnit). InOrder 0 0 us) (sym c.deref.ensures.value) c.self.invariant.order in
-    let point = IsPartitionPoint-from_clause (λ (u : ChangedUnit). nat_le u.end q) xs i c.partition_point-next.ensures.partitioned (ends_parted xs q order) (λ a r f k. search (rules, tests)) in
+    let point =
+    IsPartitionPoint-from_clause (λ (u : ChangedUnit). nat_le u.end q) xs i c.partition_point-next.ensures.partitioned (ends_parted xs q order)
+    (λ a r f k. search (rules, tests)) in
     let same : c.deref-2.result.now ≡ xs = c.deref-2.ensures.value ∙ sym c.deref.ensures.value in
     parted (λ (u : ChangedUnit). u.end) xs _ _ q i c.partition_point-next.ensures.bound point
     (c.split_at.ensures.front ∙ ap (take i) same)
@@ -55,7 +57,8 @@ returns-clause-back c =
     let before = c.split_at.result.0.now in
     let next = slice_get c.split_at.result.1.now 0 in
     let is = below_is a.units.items before c.split_at.result.1.now n q c.self.invariant.order (joined d) (parts d) in
-    omega (arith, c.min.ensures, c.ends_of-octet.ensures.past, c.ends_of-octet.ensures.end, until_is d, is) ∙ ap (λ (l : Transcribed). back_in l.places q) c.self.view_is
+    omega (arith, c.min.ensures, c.ends_of-octet.ensures.past, c.ends_of-octet.ensures.end, until_is d, is)
+    ∙ ap (λ (l : Transcribed). back_in l.places q) c.self.view_is
 
 pub returns-clause-few : goal.returns-clause-few
 returns-clause-few c =

@@ -1,6 +1,6 @@
 use Rattle.std.proofs.Common.{◌≡◌, ◌+◌, ◌-◌, ◌++◌, ◌∷◌, [], List, length, take, sym, ◌∙◌, ap, subst, refl, arith, rules, tests}
 use Rattle.audit_streams.specs.declared.transcript.ChangedUnit.{ChangedUnit}
-use Rattle.audit_streams.specs.Transcripts.{Transcribed, IsTranscript, changed, with_octets}
+use Rattle.audit_streams.specs.Inside.Transcripts.{Transcribed, IsTranscript, changed, with_octets}
 use Rattle.audit_streams.proofs.Places.{kept, kept_changed, changed_transcript}
 use Rattle.audit_streams.proofs.transcript.Transcript.change.Goals as goal
 use Rattle.audit_streams.proofs.transcript.Transcript.change.Goals.{After-self-1}
@@ -34,7 +34,8 @@ invariant_of-self-2 c =
     let octets_is = ap (λ (l : Transcribed). length l.octets) c.self.view_is in
     let rest_is = ap (λ (l : Transcribed). l.rest) c.self.view_is in
     let image_is = ap (λ (l : Transcribed). length l.image) c.self.view_is in
-    let new = changed_transcript a.octets.items a.image.items a.units.items a.rest c.self.invariant t c.args.image.now (unit c) refl (past c) (at c) refl
+    let new =
+    changed_transcript a.octets.items a.image.items a.units.items a.rest c.self.invariant t c.args.image.now (unit c) refl (past c) (at c) refl
     (omega (arith, c.requires.some, octets_is, rest_is))
     (omega (arith, c.requires.few, octets_is))
     (omega (arith, at c, c.requires.short, octets_is, rest_is, image_is))
@@ -42,8 +43,10 @@ invariant_of-self-2 c =
     let n : length a.octets.items ≡ c.len.result = sym (c.len.ensures ∙ a.octets.ok.0) in
     subst (λ v. IsTranscript v c.extend_from_slice-fits.new.self.items c.push_reserved.new.self.items (c.len.result + length t)) (sym (octets c))
     (subst (λ v. IsTranscript (a.octets.items ++ t) v c.push_reserved.new.self.items (c.len.result + length t)) (sym (image c))
-    (subst (λ (us : List ChangedUnit). IsTranscript (a.octets.items ++ t) (take (unit c).at a.image.items ++ c.args.image.now) us (c.len.result + length t)) (sym (units c))
-    (subst (λ k. IsTranscript (a.octets.items ++ t) (take (unit c).at a.image.items ++ c.args.image.now) (a.units.items ++ unit c ∷ []) (k + length t)) n new)))
+    (subst (λ (us : List ChangedUnit). IsTranscript (a.octets.items ++ t) (take (unit c).at a.image.items ++ c.args.image.now) us
+    (c.len.result + length t)) (sym (units c))
+    (subst (λ k. IsTranscript (a.octets.items ++ t) (take (unit c).at a.image.items ++ c.args.image.now) (a.units.items ++ unit c ∷ [])
+    (k + length t)) n new)))
 
 pub returns-clause-ok : goal.returns-clause-ok
 returns-clause-ok c =
@@ -53,6 +56,7 @@ returns-clause-ok c =
     ap (λ v. kept v c.extend_from_slice-fits.new.self.items c.push_reserved.new.self.items (c.len.result + length t)) (octets c)
     ∙ ap (λ v. kept (a.octets.items ++ t) v c.push_reserved.new.self.items (c.len.result + length t)) (image c)
     ∙ ap (λ (us : List ChangedUnit). kept (a.octets.items ++ t) (take (unit c).at a.image.items ++ new) us (c.len.result + length t)) (units c)
-    ∙ ap (λ k. kept (a.octets.items ++ t) (take (unit c).at a.image.items ++ new) (a.units.items ++ unit c ∷ []) (k + length t)) (c.len.ensures ∙ a.octets.ok.0)
+    ∙ ap (λ k. kept (a.octets.items ++ t) (take (unit c).at a.image.items ++ new) (a.units.items ++ unit c ∷ []) (k + length t))
+    (c.len.ensures ∙ a.octets.ok.0)
     ∙ kept_changed a.octets.items a.image.items a.units.items a.rest c.self.invariant t new (unit c) refl (past c) (at c) refl
     ∙ ap (λ (l : Transcribed). changed (with_octets l t) new) c.self.view_is

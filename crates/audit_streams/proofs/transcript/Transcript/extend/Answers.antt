@@ -1,5 +1,5 @@
 use Rattle.std.proofs.Common.{◌≡◌, ◌++◌, ◌∙◌, ap, rules, tests}
-use Rattle.audit_streams.specs.Transcripts.{Transcribed, with_octets}
+use Rattle.audit_streams.specs.Inside.Transcripts.{Transcribed, with_octets}
 use Rattle.audit_streams.proofs.Places.{kept, kept_on}
 use Rattle.audit_streams.proofs.transcript.Transcript.extend.Goals as goal
 

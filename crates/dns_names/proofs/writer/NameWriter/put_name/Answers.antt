@@ -12,8 +12,8 @@ put_labels-requires-clause-spelled c =
 pub returns-clause-text : goal.returns-clause-text
 returns-clause-text c =
     let back = labels_in-spelled c.octets-octets.result.now c.args.name.now c.octets-octets.ensures.octets_are in
-    rw (← c.self.view_is) (put_name-is c.self.inside.octets.items c.put_labels.new.out.items (starts_in c.self.inside.places.entries)
-    (starts_in c.put_labels.new.places.entries) c.args.name.now (rw back at c.in_ok-edge.ensures.octets) (rw back at c.in_ok-edge.ensures.starts))
+    rw (← c.self.view_is) (put_name-is c.self.inside.octets.items c.put_labels.new.out.items (starts_in c.self.inside.places)
+    (starts_in c.put_labels.new.places) c.args.name.now (rw back at c.in_ok-edge.ensures.octets) (rw back at c.in_ok-edge.ensures.starts))
 
 pub returns-in_default-clause-kept : goal.returns-in_default-clause-kept
 returns-in_default-clause-kept c = subst (λ (t : Text). BeginsWith c.args.self.now t) (sym c.self.view_is) (begins-with-itself c.args.self.now)

@@ -15,9 +15,13 @@ pub returns-in-Some : goal.returns-in-Some
 returns-in-Some g c =
     let live = world_in c.args.self.now in
     let d = c.args.frame.now.datagram in
-    let way = way_is live c.args.side d c.args.self.now.clock c.of-way.result c.source.result c.destination.result c.source.ensures c.destination.ensures c.of-way.ensures in
+    let way =
+    way_is live c.args.side d c.args.self.now.clock c.of-way.result c.source.result c.destination.result c.source.ensures c.destination.ensures
+    c.of-way.ensures in
     record {
-      answer = refused_way g.S.Session.rules live c.args.side d c.in-Some.refusal (ap (λ w. first_that_holds (way_tests c.args.self.now.table w)) (sym way) ∙ sym c.address_refusal.ensures ∙ c.in-Some.is);
+      answer =
+          refused_way g.S.Session.rules live c.args.side d c.in-Some.refusal
+          (ap (λ w. first_that_holds (way_tests c.args.self.now.table w)) (sym way) ∙ sym c.address_refusal.ensures ∙ c.in-Some.is);
       left = refl {a = live};
       gone = ap g.S.Engine.gives.tells.whole c.requires.empty;
     }
@@ -26,8 +30,10 @@ pub take_udp-requires-clause-way : goal.take_udp-requires-clause-way
 take_udp-requires-clause-way g c =
     let live = world_in c.args.self.now in
     let d = c.args.frame.now.datagram in
-    let a = allowed live c.args.side d c.args.self.now.clock c.of-way.result c.source.result c.destination.result refl c.source.ensures c.destination.ensures c.of-way.ensures (sym c.address_refusal.ensures ∙ c.in_default.is) in
-    way_plain live c.of-way.result.side (datagram_of c.args.frame.now.octets.now) c.of-way.result (subst (λ x. IsWayOf live c.of-way.result.side x c.of-way.result) (sym c.requires.judged.same) a.of)
+    let a = allowed live c.args.side d c.args.self.now.clock c.of-way.result c.source.result c.destination.result refl c.source.ensures
+    c.destination.ensures c.of-way.ensures (sym c.address_refusal.ensures ∙ c.in_default.is) in
+    way_plain live c.of-way.result.side (datagram_of c.args.frame.now.octets.now) c.of-way.result
+    (subst (λ x. IsWayOf live c.of-way.result.side x c.of-way.result) (sym c.requires.judged.same) a.of)
 
 pub take_udp-requires-clause-whole : goal.take_udp-requires-clause-whole
 take_udp-requires-clause-whole g c =
@@ -43,14 +49,16 @@ pub take_icmp-requires-clause-way : goal.take_icmp-requires-clause-way
 take_icmp-requires-clause-way g c =
     let live = world_in c.args.self.now in
     let d = c.args.frame.now.datagram in
-    let a = allowed live c.args.side d c.args.self.now.clock c.of-way.result c.source.result c.destination.result refl c.source.ensures c.destination.ensures c.of-way.ensures (sym c.address_refusal.ensures ∙ c.in_default.is) in
+    let a = allowed live c.args.side d c.args.self.now.clock c.of-way.result c.source.result c.destination.result refl c.source.ensures
+    c.destination.ensures c.of-way.ensures (sym c.address_refusal.ensures ∙ c.in_default.is) in
     subst (λ x. IsWayOf live c.of-way.result.side x c.of-way.result) (sym c.requires.judged.same) a.of
 
 pub take_segment-requires-clause-way : goal.take_segment-requires-clause-way
 take_segment-requires-clause-way g c =
     let live = world_in c.args.self.now in
     let d = c.args.frame.now.datagram in
-    let a = allowed live c.args.side d c.args.self.now.clock c.of-way.result c.source.result c.destination.result refl c.source.ensures c.destination.ensures c.of-way.ensures (sym c.address_refusal.ensures ∙ c.in_default.is) in
+    let a = allowed live c.args.side d c.args.self.now.clock c.of-way.result c.source.result c.destination.result refl c.source.ensures
+    c.destination.ensures c.of-way.ensures (sym c.address_refusal.ensures ∙ c.in_default.is) in
     a.of
 
 pub take_segment-requires-clause-whole : goal.take_segment-requires-clause-whole
@@ -65,30 +73,41 @@ returns-in-Udp g c =
     let one = datagram_of c.args.frame.now.octets.now in
     let way = c.of-way.result in
     let table = c.take_udp.new.table in
-    let a = allowed live c.args.side d c.args.self.now.clock c.of-way.result c.source.result c.destination.result refl c.source.ensures c.destination.ensures c.of-way.ensures (sym c.address_refusal.ensures ∙ c.in_default.is) in
+    let a = allowed live c.args.side d c.args.self.now.clock c.of-way.result c.source.result c.destination.result refl c.source.ensures
+    c.destination.ensures c.of-way.ensures (sym c.address_refusal.ensures ∙ c.in_default.is) in
     let content = subst (λ x. IsContentOf d x) c.in-Udp.is c.requires.judged.content_is in
     let on = subst (λ x. IsWayOf live way.side x way) (sym c.requires.judged.same) a.of in
     let after = world_of c.args.self.now.clock.0 table c.args.self.now.connections c.args.self.now.pending in
-    subst (λ r. IsDone g.S.Session.rules g.S.Engine.gives (first_that_holds (world_tests g.S.Session.rules live c.args.side live.clock d (kind_of d))) (first_that_holds (address_tests live.table c.args.side d)) live c.args.side d r after c.take_udp.new.outbox) (sym c.whole_of.ensures)
-    (udp_done g.S.Session.rules g.S.Engine.gives live (world_of c.args.self.now.clock.0 table c.args.self.now.connections c.args.self.now.pending) c.args.side one d way c.take_udp.result table c.take_udp.new.outbox a c.requires.judged.same content.0
-    refl (udp_like g.S.Session.rules live way.side one way c.take_udp.result table c.take_udp.new.outbox on c.take_udp.ensures.taken) c.take_udp.ensures.memory c.take_udp.ensures.wants)
+    subst (λ r. IsDone g.S.Session.rules g.S.Engine.gives (first_that_holds (world_tests g.S.Session.rules live c.args.side live.clock d (kind_of d)))
+    (first_that_holds (address_tests live.table c.args.side d)) live c.args.side d r after c.take_udp.new.outbox) (sym c.whole_of.ensures)
+    (udp_done g.S.Session.rules g.S.Engine.gives live
+    (world_of c.args.self.now.clock.0 table c.args.self.now.connections c.args.self.now.pending) c.args.side one d way c.take_udp.result table
+    c.take_udp.new.outbox a c.requires.judged.same content.0
+    refl (udp_like g.S.Session.rules live way.side one way c.take_udp.result table c.take_udp.new.outbox on c.take_udp.ensures.taken)
+    c.take_udp.ensures.memory c.take_udp.ensures.wants)
 
 pub returns-in-Icmp : goal.returns-in-Icmp
 returns-in-Icmp g c =
     let live = world_in c.args.self.now in
     let d = c.args.frame.now.datagram in
-    let a = allowed live c.args.side d c.args.self.now.clock c.of-way.result c.source.result c.destination.result refl c.source.ensures c.destination.ensures c.of-way.ensures (sym c.address_refusal.ensures ∙ c.in_default.is) in
+    let a = allowed live c.args.side d c.args.self.now.clock c.of-way.result c.source.result c.destination.result refl c.source.ensures
+    c.destination.ensures c.of-way.ensures (sym c.address_refusal.ensures ∙ c.in_default.is) in
     let content = subst (λ x. IsContentOf d x) c.in-Icmp.is c.requires.judged.content_is in
     subst (λ t. IsDone g.S.Session.rules g.S.Engine.gives (first_that_holds (world_tests g.S.Session.rules live c.args.side live.clock d (kind_of d)))
     (first_that_holds (address_tests live.table c.args.side d)) live c.args.side d (Ok t) (world_in c.take_icmp.new.self) c.take_icmp.new.outbox)
     (sym c.whole.ensures)
-    (icmp_done g.S.Session.rules g.S.Engine.gives live (world_in c.take_icmp.new.self) c.args.side _ d c.of-way.result c.take_icmp.result c.take_icmp.new.self.table c.take_icmp.new.outbox a c.requires.judged.same content.0 content.1
+    (icmp_done g.S.Session.rules g.S.Engine.gives live
+    (world_in c.take_icmp.new.self) c.args.side _ d c.of-way.result c.take_icmp.result c.take_icmp.new.self.table c.take_icmp.new.outbox a
+    c.requires.judged.same content.0 content.1
     (ap world_in c.take_icmp.ensures.rest) c.take_icmp.ensures.taken)
 
 pub returns-in-Tcp : goal.returns-in-Tcp
 returns-in-Tcp g c =
     let live = world_in c.args.self.now in
     let d = c.args.frame.now.datagram in
-    let a = allowed live c.args.side d c.args.self.now.clock c.of-way.result c.source.result c.destination.result refl c.source.ensures c.destination.ensures c.of-way.ensures (sym c.address_refusal.ensures ∙ c.in_default.is) in
+    let a = allowed live c.args.side d c.args.self.now.clock c.of-way.result c.source.result c.destination.result refl c.source.ensures
+    c.destination.ensures c.of-way.ensures (sym c.address_refusal.ensures ∙ c.in_default.is) in
     let content = subst (λ x. IsContentOf d x) c.in-Tcp.is c.requires.judged.content_is in
-    tcp_done g.S.Session.rules g.S.Engine.gives live (world_in c.take_segment.new.self) c.args.side d c.of-way.result c.take_segment.result c.take_segment.new.outbox a content.0 c.take_segment.ensures
+    tcp_done g.S.Session.rules g.S.Engine.gives live
+    (world_in c.take_segment.new.self) c.args.side d c.of-way.result c.take_segment.result c.take_segment.new.outbox a content.0
+    c.take_segment.ensures

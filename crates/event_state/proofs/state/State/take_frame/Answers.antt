@@ -9,7 +9,8 @@ use Rattle.event_state.proofs.Early.{first_early}
 use Rattle.event_state.proofs.state.State.take_frame.Goals as goal
 
 pub take-requires-clause-judged : goal.take-requires-clause-judged
-take-requires-clause-judged g c = subst (λ d. IsJudged c.in-Ok.frame.octets.now d c.in-Ok.frame.content) (sym c.in-Ok.ensures.datagram_is) c.in-Ok.ensures.judged
+take-requires-clause-judged g c =
+    subst (λ d. IsJudged c.in-Ok.frame.octets.now d c.in-Ok.frame.content) (sym c.in-Ok.ensures.datagram_is) c.in-Ok.ensures.judged
 
 pub returns-in-Ok : goal.returns-in-Ok
 returns-in-Ok g c =
@@ -22,10 +23,16 @@ returns-in-Ok g c =
     let told = subst (λ o. IsDone g.S.Session.rules g.S.Engine.gives o (first_that_holds (address_tests live.table e.side (datagram_in e))) live
     e.side (datagram_in e) c.take.result after c.take.new.outbox)
     (first_world g.S.Session.rules live e (ap (λ m. m.0) c.requires.clock) c.in-Ok.ensures.none) h in
-    subst (λ o. IsDone g.S.Session.rules g.S.Engine.gives (first_that_holds (tests g.S.Session.rules live e)) o live e.side (datagram_in e) c.take.result after c.take.new.outbox) (first_early live e c.in-Ok.ensures.none) told
+    subst (λ o. IsDone g.S.Session.rules g.S.Engine.gives (first_that_holds (tests g.S.Session.rules live e)) o live e.side
+    (datagram_in e) c.take.result after c.take.new.outbox) (first_early live e c.in-Ok.ensures.none) told
 
 pub returns-in-Err : goal.returns-in-Err
 returns-in-Err g c =
     let e = event_of c.args.event.now in
     let live = world_in c.args.self.now in
-    record { answer = first_front g.S.Session.rules live e c.in-Err.refusal c.in-Err.ensures; left = refl {a = live}; gone = ap g.S.Engine.gives.tells.whole c.requires.empty }
+    record {
+      answer = first_front g.S.Session.rules live e c.in-Err.refusal c.in-Err.ensures;
+      left = refl {a = live};
+      gone =
+          ap g.S.Engine.gives.tells.whole c.requires.empty;
+    }

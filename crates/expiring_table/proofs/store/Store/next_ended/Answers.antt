@@ -1,5 +1,5 @@
 use Rattle.std.proofs.Common.{◌≡◌, ◌<◌, refl, subst, arith, All}
-use Rattle.expiring_table.specs.Armed.{Armed}
+use Rattle.expiring_table.specs.Inside.Armed.{Armed}
 use Rattle.expiring_table.specs.Prelude.{count_due}
 use Rattle.expiring_table.proofs.Review.{open_popped, due_less, none_due}
 use Rattle.expiring_table.proofs.store.Store.next_ended.Goals as goal

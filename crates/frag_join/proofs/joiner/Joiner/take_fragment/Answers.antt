@@ -8,7 +8,7 @@ use Rattle.ipv4_frames.specs.Ipv4.{has_options}
 use Rattle.frag_join.specs.declared.part.Part.{Part}
 use Rattle.frag_join.specs.Prelude.{name_in, fragment_in, octets_of, Coverage, nothing, is_bad, State, Step, by_known, is_of, place_of, limit, fragment_step, part_or_new, with_fragment, known_at, put_at}
 use Rattle.frag_join.specs.Fragments.{name_of, fragment_of}
-use Rattle.frag_join.specs.Kept.{known_or_nothing, new_part}
+use Rattle.frag_join.specs.Inside.Kept.{known_or_nothing, new_part}
 use Rattle.frag_join.proofs.PartLemmas.{get-last}
 use Rattle.frag_join.proofs.StepLemmas.{good-last, step-options, step-bad, step-full, step-there, step-new, settled-last}
 use Rattle.frag_join.proofs.joiner.Joiner.take_fragment.Goals as goal
@@ -125,32 +125,34 @@ put-requires-in-None c =
     record {
       within = omega (
         arith,
-        c.begin-place.ensures.place,
-        ap (λ (s : State Coverage). length s.parts) c.begin-place.ensures.state,
+        c.begin_datagram-place.ensures.place,
+        ap (λ (s : State Coverage). length s.parts) c.begin_datagram-place.ensures.state,
         length_push parts new,
       );
-      joined = ap (λ (s : State Coverage). s.joined) c.begin-place.ensures.state ∙ c.requires.joined;
+      joined = ap (λ (s : State Coverage). s.joined) c.begin_datagram-place.ensures.state ∙ c.requires.joined;
       fragment = c.of-fragment.ensures ∙ ap fragment_of c.requires.octets;
-      good = good-last parts c.begin-place.new.self.parts c.begin-place.result new f
-          (ap (λ (s : State Coverage). s.parts) c.begin-place.ensures.state) c.begin-place.ensures.place good;
+      good = good-last parts c.begin_datagram-place.new.self.parts c.begin_datagram-place.result new f
+          (ap (λ (s : State Coverage). s.parts) c.begin_datagram-place.ensures.state) c.begin_datagram-place.ensures.place good;
     }
 
 named : (c : goal.After-put-in-None) → c.name_of-name.result ≡ name_in (event_of c.args.event.now)
 named c = c.name_of-name.ensures ∙ ap (name_of c.args.event.now.side) c.requires.octets
 
-begun : (c : goal.After-put-in-None) → c.begin-place.new.self.parts ≡ c.args.self.now.parts ++ part_or_new by_known (event_of c.args.event.now) None
+begun : (c : goal.After-put-in-None)
+    → c.begin_datagram-place.new.self.parts ≡ c.args.self.now.parts ++ part_or_new by_known (event_of c.args.event.now) None
     ∷ []
-begun c = ap (λ (s : State Coverage). s.parts) c.begin-place.ensures.state
+begun c = ap (λ (s : State Coverage). s.parts) c.begin_datagram-place.ensures.state
     ∙ ap (λ n. c.args.self.now.parts ++ new_part n c.args.event.now.moment ∷ []) (named c)
 
-last : (c : goal.After-put-in-None) → slice_get c.begin-place.new.self.parts c.begin-place.result
+last : (c : goal.After-put-in-None) → slice_get c.begin_datagram-place.new.self.parts c.begin_datagram-place.result
     ≡ Some (part_or_new by_known (event_of c.args.event.now) None)
 last c =
     let new = part_or_new by_known (event_of c.args.event.now) None in
-    ap (λ parts. slice_get parts c.begin-place.result) (begun c) ∙ ap (slice_get (c.args.self.now.parts ++ new ∷ [])) c.begin-place.ensures.place
+    ap (λ parts. slice_get parts c.begin_datagram-place.result) (begun c)
+    ∙ ap (slice_get (c.args.self.now.parts ++ new ∷ [])) c.begin_datagram-place.ensures.place
     ∙ get-last c.args.self.now.parts new
 
-first : (c : goal.After-put-in-None) → put_at c.begin-place.new.self.parts c.begin-place.result (event_of c.args.event.now)
+first : (c : goal.After-put-in-None) → put_at c.begin_datagram-place.new.self.parts c.begin_datagram-place.result (event_of c.args.event.now)
     (part_or_new by_known (event_of c.args.event.now) None) ≡ fragment_step by_known c.args.self.now.parts (event_of c.args.event.now)
 first c =
     let e = event_of c.args.event.now in
@@ -166,7 +168,8 @@ first c =
     ∙ ap (is_bad (known_at parts c.place_of-place.result)) (sym (c.of-fragment.ensures ∙ ap fragment_of c.requires.octets))
     ∙ sym c.is_bad.ensures ∙ c.if-is_bad.false in
     let room : leb limit (length parts) ≡ false = lt-leb limit (length parts) (omega (arith, c.len.ensures)) in
-    ap (λ all. put_at all c.begin-place.result e new) (begun c) ∙ ap (λ place. put_at (parts ++ new ∷ []) place e new) c.begin-place.ensures.place
+    ap (λ all. put_at all c.begin_datagram-place.result e new) (begun c)
+    ∙ ap (λ place. put_at (parts ++ new ∷ []) place e new) c.begin_datagram-place.ensures.place
     ∙ settled-last by_known parts e new (with_fragment by_known new e) ∙ sym (step-new by_known parts e options none good room)
 
 pub returns-in-None-clause-answer : goal.returns-in-None-clause-answer

@@ -1,28 +1,31 @@
 use Rattle.std.proofs.Common.{◌≡◌, ◌∙◌, ap, subst, sym}
-use Rattle.gate_base.specs.Prelude.{event_of, first_that_holds}
+use Rattle.gate_base.specs.Prelude.{event_of}
 use Rattle.gate_settings.specs.declared.settings.Settings.{Settings}
-use Rattle.gate_model.specs.Prelude.{datagram_in, kind_of, KeepsListed, next, tests, World, at_moment}
+use Rattle.gate_model.specs.Prelude.{KeepsListed, next, World, at_moment}
 use Rattle.gate_model.proofs.ListsWorld.{moment_lists, next_lists}
 use Rattle.gate_sessions.specs.Compact.{CompactSession, compact_rules}
 use Rattle.gate_sessions.proofs.Listing.{kept_have_lists}
 use Rattle.gate_core.specs.Gates.{Gateway}
 use Rattle.gate_core.specs.Memory.{MayWant}
-use Rattle.gate_core.proofs.Laws.{kept_laws}
-use Rattle.gate_core.proofs.Stepping.{stepped, wanted, put_is}
-use Rattle.event_state.specs.Given.{IsGiven, refusal_of, given_by}
+use Rattle.gate_core.proofs.KeptLaws.{kept_laws}
+use Rattle.gate_core.proofs.Lost.{wanted}
+use Rattle.gate_core.proofs.Stepping.{stepped_by, put_is}
 use Rattle.event_state.specs.Knowing.{world_in}
-use Rattle.gate_sessions.specs.Gives.{kept_gives}
 use Rattle.gate_base.proofs.Options.{on_err}
 use Rattle.gate_core.proofs.gate.Gate.step.Goals as goal
 
 pub take_frame-requires-clause-listed : goal.take_frame-requires-clause-listed
-take_frame-requires-clause-listed c = subst (λ (x : World CompactSession). KeepsListed compact_rules x) (sym c.expire.ensures.live) (moment_lists compact_rules (world_in c.self.inside.state) (event_of c.args.event.now).moment c.self.invariant)
+take_frame-requires-clause-listed c =
+    subst (λ (x : World CompactSession). KeepsListed compact_rules x) (sym c.expire.ensures.live)
+    (moment_lists compact_rules (world_in c.self.inside.state) (event_of c.args.event.now).moment c.self.invariant)
 
 pub take_frame-requires-clause-laws : goal.take_frame-requires-clause-laws
 take_frame-requires-clause-laws c = kept_laws
 
 pub invariant_of-self : goal.invariant_of-self
-invariant_of-self c = subst (λ (x : World CompactSession). KeepsListed compact_rules x) (sym (c.in_err-taken.ensures.same tt ∙ c.expire.ensures.live)) (moment_lists compact_rules (world_in c.self.inside.state) (event_of c.args.event.now).moment c.self.invariant)
+invariant_of-self c =
+    subst (λ (x : World CompactSession). KeepsListed compact_rules x) (sym (c.in_err-taken.ensures.same tt ∙ c.expire.ensures.live))
+    (moment_lists compact_rules (world_in c.self.inside.state) (event_of c.args.event.now).moment c.self.invariant)
 
 pub invariant_of-self-2 : goal.invariant_of-self-2
 invariant_of-self-2 c =
@@ -30,8 +33,10 @@ invariant_of-self-2 c =
     let w = c.args.self.now.world in
     let state : world_in c.self.inside.state ≡ w = ap (λ g. g.world) (c.self.view_is ∙ c.spread_keys.ensures) in
     let live : world_in c.expire.new.self ≡ at_moment w e.moment = c.expire.ensures.live ∙ ap (λ x. at_moment x e.moment) state in
-    let s = stepped w e (refusal_of c.in_ok-taken.taken) (world_in c.take_frame.new.self) (given_by kept_gives c.in_ok-taken.taken c.take_frame.new.outbox) (subst (λ x. IsGiven compact_rules kept_gives (first_that_holds (tests compact_rules x e)) (kind_of (datagram_in e)) x e.side (datagram_in e) c.in_ok-taken.taken (world_in c.take_frame.new.self) c.take_frame.new.outbox) live c.in_ok-taken.ensures) in
-    subst (λ (x : World CompactSession). KeepsListed compact_rules x) (sym s.next_is) (next_lists compact_rules kept_have_lists w e (subst (λ (x : World CompactSession). KeepsListed compact_rules x) state c.self.invariant))
+    let s = stepped_by w (world_in c.expire.new.self) (world_in c.take_frame.new.self) e c.in_ok-taken.taken c.take_frame.new.outbox live
+    c.in_ok-taken.ensures in
+    subst (λ (x : World CompactSession). KeepsListed compact_rules x) (sym s.next_is)
+    (next_lists compact_rules kept_have_lists w e (subst (λ (x : World CompactSession). KeepsListed compact_rules x) state c.self.invariant))
 
 pub returns-clause-verdict : goal.returns-clause-verdict
 returns-clause-verdict c =
@@ -39,7 +44,8 @@ returns-clause-verdict c =
     let w = c.args.self.now.world in
     let state : world_in c.self.inside.state ≡ w = ap (λ g. g.world) (c.self.view_is ∙ c.spread_keys.ensures) in
     let live : world_in c.expire.new.self ≡ at_moment w e.moment = c.expire.ensures.live ∙ ap (λ x. at_moment x e.moment) state in
-    let s = stepped w e (refusal_of c.in_ok-taken.taken) (world_in c.take_frame.new.self) (given_by kept_gives c.in_ok-taken.taken c.take_frame.new.outbox) (subst (λ x. IsGiven compact_rules kept_gives (first_that_holds (tests compact_rules x e)) (kind_of (datagram_in e)) x e.side (datagram_in e) c.in_ok-taken.taken (world_in c.take_frame.new.self) c.take_frame.new.outbox) live c.in_ok-taken.ensures) in
+    let s = stepped_by w (world_in c.expire.new.self) (world_in c.take_frame.new.self) e c.in_ok-taken.taken c.take_frame.new.outbox live
+    c.in_ok-taken.ensures in
     c.verdict_of.ensures ∙ s.verdict_is
 
 pub returns-clause-next : goal.returns-clause-next
@@ -48,7 +54,8 @@ returns-clause-next c =
     let w = c.args.self.now.world in
     let state : world_in c.self.inside.state ≡ w = ap (λ g. g.world) (c.self.view_is ∙ c.spread_keys.ensures) in
     let live : world_in c.expire.new.self ≡ at_moment w e.moment = c.expire.ensures.live ∙ ap (λ x. at_moment x e.moment) state in
-    let s = stepped w e (refusal_of c.in_ok-taken.taken) (world_in c.take_frame.new.self) (given_by kept_gives c.in_ok-taken.taken c.take_frame.new.outbox) (subst (λ x. IsGiven compact_rules kept_gives (first_that_holds (tests compact_rules x e)) (kind_of (datagram_in e)) x e.side (datagram_in e) c.in_ok-taken.taken (world_in c.take_frame.new.self) c.take_frame.new.outbox) live c.in_ok-taken.ensures) in
+    let s = stepped_by w (world_in c.expire.new.self) (world_in c.take_frame.new.self) e c.in_ok-taken.taken c.take_frame.new.outbox live
+    c.in_ok-taken.ensures in
     let settings : c.self.inside.settings ≡ c.args.self.now.settings = ap (λ g. g.settings) (c.self.view_is ∙ c.spread_keys.ensures) in
     ap (λ (x : World CompactSession). let g : Gateway = record { settings = c.self.inside.settings; world = x } in g) s.next_is
     ∙ ap (λ (x : Settings). let g : Gateway = record { settings = x; world = next compact_rules w e } in g) settings
@@ -59,7 +66,8 @@ returns-clause-out c =
     let w = c.args.self.now.world in
     let state : world_in c.self.inside.state ≡ w = ap (λ g. g.world) (c.self.view_is ∙ c.spread_keys.ensures) in
     let live : world_in c.expire.new.self ≡ at_moment w e.moment = c.expire.ensures.live ∙ ap (λ x. at_moment x e.moment) state in
-    let s = stepped w e (refusal_of c.in_ok-taken.taken) (world_in c.take_frame.new.self) (given_by kept_gives c.in_ok-taken.taken c.take_frame.new.outbox) (subst (λ x. IsGiven compact_rules kept_gives (first_that_holds (tests compact_rules x e)) (kind_of (datagram_in e)) x e.side (datagram_in e) c.in_ok-taken.taken (world_in c.take_frame.new.self) c.take_frame.new.outbox) live c.in_ok-taken.ensures) in
+    let s = stepped_by w (world_in c.expire.new.self) (world_in c.take_frame.new.self) e c.in_ok-taken.taken c.take_frame.new.outbox live
+    c.in_ok-taken.ensures in
     sym (put_is c.in_ok-taken.taken c.take_frame.new.outbox) ∙ s.out_is
 
 pub returns-in_err-taken-clause-wants : goal.returns-in_err-taken-clause-wants

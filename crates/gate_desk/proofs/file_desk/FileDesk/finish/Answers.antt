@@ -12,7 +12,7 @@ returns-in-None-clause-ok g c =
     let none = none_before c.self.inside.refused c.hand_out.new.refused c.hand_out.ensures.kept c.in-None.is in
     rw (← c.self.view_is) record {
       files = none_failed c.hand_out.result c.hand_out.new.refused c.hand_out.ensures.err c.in-None.is c.hand_out.ensures.files;
-      rest = files_alike _ _ c.hand_out.ensures.accesses c.hand_out.ensures.ahead c.hand_out.ensures.unread refl
+      rest = files_alike _ _ c.hand_out.ensures.keeps.accesses c.hand_out.ensures.keeps.ahead c.hand_out.ensures.keeps.unread refl
           (none_failed c.hand_out.result c.hand_out.new.refused c.hand_out.ensures.err c.in-None.is c.hand_out.ensures.all) (c.in-None.is ∙ sym none)
           refl refl;
     }

@@ -64,10 +64,10 @@ pub returns-in-Err-clause-cause : goal.returns-in-Err-clause-cause
 returns-in-Err-clause-cause g c = rw (← c.self.view_is) (rose_one c.args.slot c.self.inside.faults c.raise.new.self c.raise.ensures)
 
 pub invariant_of-self : goal.invariant_of-self
-invariant_of-self g c = c.in-Ok.ensures.still c.self.invariant
+invariant_of-self g c = c.in-Ok.ensures.loses.still c.self.invariant
 
 pub invariant_of-self-in-Err : goal.invariant_of-self-in-Err
-invariant_of-self-in-Err g c = c.in-Err.ensures.still c.self.invariant
+invariant_of-self-in-Err g c = c.in-Err.ensures.loses.still c.self.invariant
 
 pub returns-in-Err-clause-fails : goal.returns-in-Err-clause-fails
-returns-in-Err-clause-fails g c = rw (← c.self.view_is) c.in-Err.ensures.fails
+returns-in-Err-clause-fails g c = rw (← c.self.view_is) c.in-Err.ensures.loses.fails

@@ -22,4 +22,10 @@ returns-in-Err-clause-err g c =
     rw (← c.self.view_is) (untold_start_fails c.args.slot c.self.inside.faults c.self.inside.start_faults c.raise.new.self c.raise.ensures)
 
 pub returns-in-Err-clause-fails : goal.returns-in-Err-clause-fails
-returns-in-Err-clause-fails g c = rw (← c.self.view_is) c.in-Err.ensures.fails
+returns-in-Err-clause-fails g c = rw (← c.self.view_is) c.in-Err.ensures.loses.fails
+
+pub invariant_of-self : goal.invariant_of-self
+invariant_of-self g c = c.in-Ok.ensures.loses.still c.self.invariant
+
+pub invariant_of-self-in-Err : goal.invariant_of-self-in-Err
+invariant_of-self-in-Err g c = c.in-Err.ensures.loses.still c.self.invariant

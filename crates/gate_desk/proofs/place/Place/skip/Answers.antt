@@ -1,6 +1,7 @@
 use Rattle.std.proofs.Common.{◌==◌, drop, length, min, option_map, ap, sym, ◌∙◌}
 use Rattle.std.specs.Io.Buffered.{reader_buffer, reader_capacity, reader_inner}
-use Rattle.gate_desk.specs.Gathering.{ahead, unread}
+use Rattle.gate_desk.specs.Gathering.{ahead}
+use Rattle.gate_desk.specs.Inside.Gathering.{unread}
 use Rattle.gate_desk.proofs.Unread.{dropped_all, remaining_is}
 use Rattle.gate_desk.proofs.place.Place.skip.Goals as goal
 

@@ -27,9 +27,12 @@ returns-clause-next c = λ image called.
     let d = c.args.segment.now.datagram.now in
     let t = c.args.tracked.now in
     let entries = c.args.completed.entries.now in
-    let i : IsSeen compact_rules c.tracked.inside.client c.tracked.inside.pair c.tracked.inside.session c.host_on.result side d t image entries = record { seen = c.tracked.view_is; sender = c.host_on.ensures; called = called } in
-    next_is compact_rules c.tracked.inside.client c.tracked.inside.pair c.tracked.inside.session c.step.new.self c.host_on.result side d t image entries i
-    (c.in_ok-over.ensures.next image (called_is compact_rules c.tracked.inside.client c.tracked.inside.pair c.tracked.inside.session c.host_on.result side d t image entries i))
+    let i : IsSeen compact_rules c.tracked.inside.client c.tracked.inside.pair c.tracked.inside.session c.host_on.result side d t image entries =
+    record { seen = c.tracked.view_is; sender = c.host_on.ensures; called = called } in
+    next_is compact_rules c.tracked.inside.client c.tracked.inside.pair c.tracked.inside.session c.step.new.self c.host_on.result side d t image
+    entries i
+    (c.in_ok-over.ensures.next image
+    (called_is compact_rules c.tracked.inside.client c.tracked.inside.pair c.tracked.inside.session c.host_on.result side d t image entries i))
 
 pub returns-clause-stepped : goal.returns-clause-stepped
 returns-clause-stepped c = λ image called.
@@ -38,13 +41,18 @@ returns-clause-stepped c = λ image called.
     let d = c.args.segment.now.datagram.now in
     let t = c.args.tracked.now in
     let entries = c.args.completed.entries.now in
-    let i : IsSeen compact_rules c.tracked.inside.client c.tracked.inside.pair c.tracked.inside.session c.host_on.result side d t image entries = record { seen = c.tracked.view_is; sender = c.host_on.ensures; called = called } in
-    let named = called_is compact_rules c.tracked.inside.client c.tracked.inside.pair c.tracked.inside.session c.host_on.result side d t image entries i in
+    let i : IsSeen compact_rules c.tracked.inside.client c.tracked.inside.pair c.tracked.inside.session c.host_on.result side d t image entries =
+    record { seen = c.tracked.view_is; sender = c.host_on.ensures; called = called } in
+    let named =
+    called_is compact_rules c.tracked.inside.client c.tracked.inside.pair c.tracked.inside.session c.host_on.result side d t image entries i in
     record {
-      gone = gone_is c.tracked.inside.client c.tracked.inside.pair c.tracked.inside.session c.host_on.result side d t image entries c.source_image.result.0 c.destination_image.result.0 c.step.new.outbox i (c.in_ok-over.ensures.out image named)
+      gone = gone_is c.tracked.inside.client c.tracked.inside.pair c.tracked.inside.session c.host_on.result side d t image entries
+          c.source_image.result.0 c.destination_image.result.0 c.step.new.outbox i (c.in_ok-over.ensures.out image named)
           ∙ ap (λ (a : Addr). stream_out compact_rules image side d a.0 c.destination_image.result.0 (Some t)) c.source_image.ensures
           ∙ ap (λ (a : Addr). stream_out compact_rules image side d (image_by way.of_source way.source).0 a.0 (Some t)) c.destination_image.ensures;
-      waits = waits_is compact_rules c.tracked.inside.client c.tracked.inside.pair c.tracked.inside.session c.step.new.self c.host_on.result side d t image entries c.in_ok-over.over c.waiting-waiting.result i (c.in_ok-over.ensures.next image named) c.in_ok-over.ensures.over c.waiting-waiting.ensures;
+      waits = waits_is compact_rules c.tracked.inside.client c.tracked.inside.pair c.tracked.inside.session c.step.new.self c.host_on.result side d t
+          image entries c.in_ok-over.over c.waiting-waiting.result i
+          (c.in_ok-over.ensures.next image named) c.in_ok-over.ensures.over c.waiting-waiting.ensures;
     }
 
 pub returns-in_err-over-clause-lost : goal.returns-in_err-over-clause-lost
@@ -54,5 +62,7 @@ returns-in_err-over-clause-lost c =
     on_err c.from_residual.result (record {
       same = λ keeps. ap (seen_as c.tracked.inside.client c.tracked.inside.pair) c.in_err-over.ensures.same ∙ c.tracked.view_is;
       nothing = λ keeps. c.in_err-over.ensures.nothing;
-      wants = subst (λ (b : Host). MayWantIn b t.session (segment_of d)) c.host_on.ensures (subst (λ (x : Tracked CompactSession). MayWantIn c.host_on.result x.session (segment_of d)) c.tracked.view_is c.in_err-over.ensures.memory);
+      wants = subst (λ (b : Host). MayWantIn b t.session (segment_of d)) c.host_on.ensures
+          (subst (λ (x : Tracked CompactSession). MayWantIn c.host_on.result x.session (segment_of d)) c.tracked.view_is
+          c.in_err-over.ensures.memory);
     })

@@ -1,7 +1,7 @@
 use Rattle.std.proofs.Common.{ap, subst, sym, None}
 use Rattle.compact_stream.specs.Prelude.{CompactState}
-use Rattle.gate_sessions.specs.Directions.{DnsKept, dns_session}
-use Rattle.gate_sessions.specs.Sessions.{IsSession}
+use Rattle.gate_sessions.specs.Inside.Directions.{DnsKept, dns_session}
+use Rattle.gate_sessions.specs.Inside.Sessions.{IsSession}
 use Rattle.gate_sessions.proofs.SessionLemmas.{made_session}
 use Rattle.gate_sessions.proofs.session.AnySession.opened.Goals as goal
 
@@ -14,5 +14,8 @@ invariant_of-result c = (
 
 pub invariant_of-result-2 : goal.invariant_of-result-2
 invariant_of-result-2 c =
-    let is = c.in_ok-ftp_session.ensures in
-    ((ap (λ s. s.client_dialogue.pair) is, ap (λ s. s.server_dialogue.pair) is), subst (λ (h : CompactState). IsSession (record { pair = c.args.pair; lists = None; kept = h })) (sym (ap (λ s. s.kept) is)) (made_session 21 c.args.pair c.args.initial c.args.mss))
+    let is = c.in_ok-ftp_session.ensures in (
+      (ap (λ s. s.client_dialogue.pair) is, ap (λ s. s.server_dialogue.pair) is),
+      subst (λ (h : CompactState). IsSession (record { pair = c.args.pair; lists = None; kept = h })) (sym (ap (λ s. s.kept) is))
+          (made_session 21 c.args.pair c.args.initial c.args.mss),
+    )

@@ -1,5 +1,5 @@
 use Rattle.std.proofs.Common.{subst}
-use Rattle.gate_sessions.specs.Sessions.{session_of, IsSession}
+use Rattle.gate_sessions.specs.Inside.Sessions.{session_of, IsSession}
 use Rattle.gate_sessions.specs.declared.kinds.SessionKind.{SessionKind}
 use Rattle.gate_sessions.proofs.ListedLemmas.{few_in}
 use Rattle.gate_sessions.proofs.session.AnySessionSession.listed.Goals as goal

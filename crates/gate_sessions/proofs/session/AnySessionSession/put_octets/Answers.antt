@@ -3,13 +3,13 @@ use Rattle.std.proofs.lemmas.List.{take_rest}
 use Rattle.gate_base.specs.declared.event.Pair.{Pair}
 use Rattle.gate_base.specs.declared.host.Host.{Host}
 use Rattle.gate_base.specs.declared.host.Host.TheVariants.{Client, Server}
-use Rattle.dns_stream.specs.Ends.{rest-short}
+use Rattle.dns_stream.specs.Inside.Ends.{rest-short}
 use Rattle.stream_model.specs.Prelude.{Segment, arrival, segment_in, is_data}
 use Rattle.compact_stream.specs.Prelude.{start_kept, sender_kept}
 use Rattle.gate_sessions.specs.Compact.{CompactSession, kept_units}
 use Rattle.dns_plans.specs.Prelude.{whole_units}
-use Rattle.gate_sessions.specs.Directions.{DnsKept, dns_session}
-use Rattle.gate_sessions.specs.Sessions.{session_of, IsSession}
+use Rattle.gate_sessions.specs.Inside.Directions.{DnsKept, dns_session}
+use Rattle.gate_sessions.specs.Inside.Sessions.{session_of, IsSession}
 use Rattle.gate_sessions.specs.declared.kinds.SessionKind.{SessionKind}
 use Rattle.gate_sessions.proofs.SessionLemmas.{joined_units}
 use Rattle.gate_sessions.proofs.session.AnySessionSession.put_octets.Goals as goal
@@ -34,7 +34,9 @@ returns-then-is_data c =
     let g : Segment = segment_in c.args.segment.now in
     let seen : dns_session pair d ≡ c.args.self.now = ap (session_of pair) (sym c.in-Units.is) ∙ c.self.view_is in
     let repeated : c.repeated-repeated.result ≡ min (length g.octets) (start_kept (sender_kept f d.kept) g).before = c.repeated-repeated.ensures in
-    let fresh : drop c.repeated-repeated.result c.payload.result.now ≡ drop (min (length g.octets) (start_kept (sender_kept f d.kept) g).before) g.octets = ap (λ (n : ℕ). drop n c.payload.result.now) repeated ∙ ap (drop (min (length g.octets) (start_kept (sender_kept f d.kept) g).before)) c.payload.ensures.octets in
+    let fresh : drop c.repeated-repeated.result c.payload.result.now ≡ drop
+    (min (length g.octets) (start_kept (sender_kept f d.kept) g).before) g.octets = ap (λ (n : ℕ). drop n c.payload.result.now) repeated
+    ∙ ap (drop (min (length g.octets) (start_kept (sender_kept f d.kept) g).before)) c.payload.ensures.octets in
     let joined : c.join.new.self ≡ (sender_kept f d.kept).rest ++ drop (min (length g.octets) (start_kept (sender_kept f d.kept) g).before) g.octets =
     c.join.ensures
     ∙ ap (λ (t : List ℕ). c.rest.result.now ++ t) (take_rest c.payload.result.now c.repeated-repeated.result ∙ fresh)

@@ -7,4 +7,5 @@ use Rattle.memory_desks.proofs.counted_desk.CountedDeskDesk.skip.Goals as goal
 pub returns-clause-takes : goal.returns-clause-takes
 returns-clause-takes c =
     let none : c.args._count ≡ 0 = omega arith in
-    subst (λ n. Takes c.args._slot n (told_by c.args.self.now) (told_by c.args.self.now)) (sym none) (takes_none c.args._slot (told_by c.args.self.now))
+    subst (λ n. Takes c.args._slot n (told_by c.args.self.now) (told_by c.args.self.now)) (sym none)
+    (takes_none c.args._slot (told_by c.args.self.now))

@@ -7,7 +7,8 @@ pub unreachable-requires-then-is_err-2 : goal.unreachable-requires-then-is_err-2
 unreachable-requires-then-is_err-2 c =
     let size = names_size-starts_in c.self.inside.entries.items c.self.inside.names.items (omega (arith, c.self.invariant.whole)) in
     let room = rw (← c.self.view_is) at c.requires in
-    let fits : c.self.inside.names.len + length c.args.name.now ≤ c.self.inside.names.cap = omega (arith, size, room, c.self.invariant.names, c.self.inside.names.ok.0, c.self.invariant.whole) in
+    let fits : c.self.inside.names.len + length c.args.name.now ≤ c.self.inside.names.cap =
+    omega (arith, size, room, c.self.invariant.names, c.self.inside.names.ok.0, c.self.invariant.whole) in
     let ok = c.extend_from_slice.ensures.succeeds fits in
     search rules
 
@@ -20,7 +21,15 @@ invariant_of-self c =
     let room = rw (← c.self.view_is) at c.requires in
     record {
       whole = rw (es, ns, total_len-append) (omega (arith, c.self.invariant.whole, length-append c.self.inside.names.items c.args.name.now));
-      small = rw (es, ns) (omega (arith, size, room, c.self.invariant.whole, length-append c.self.inside.names.items c.args.name.now, length-append c.self.inside.entries.items (e ∷ [])));
+      small = rw (es, ns)
+          (omega (
+            arith,
+            size,
+            room,
+            c.self.invariant.whole,
+            length-append c.self.inside.names.items c.args.name.now,
+            length-append c.self.inside.entries.items (e ∷ []),
+          ));
       entries = omega (arith, c.push.ensures.capacity, c.self.invariant.entries);
       names = omega (arith, c.extend_from_slice.ensures.capacity, c.self.invariant.names);
     }

@@ -11,8 +11,12 @@ returns-clause-ok c =
 
 pub returns-clause-octets : goal.returns-clause-octets
 returns-clause-octets c =
-    rw (← c.self.view_is) (memory_next c.args.slot c.take.result (the_view c.self.inside) c.take.new.buffer (omega (arith, c.take.ensures.count, c.take.auto.buffer)) (c.take.ensures.octets ∙ ap (take c.take.result) c.at_mut.ensures.value))
+    rw (← c.self.view_is)
+    (memory_next c.args.slot c.take.result (the_view c.self.inside) c.take.new.buffer (omega (arith, c.take.ensures.count, c.take.auto.buffer))
+    (c.take.ensures.octets ∙ ap (take c.take.result) c.at_mut.ensures.value))
 
 pub returns-clause-end : goal.returns-clause-end
 returns-clause-end c =
-    rw (← c.self.view_is) (λ none some. memory_end c.args.slot (the_view c.self.inside) (omega (arith, c.take.ensures.count, none, some, ap (λ (xs : List ℕ). length xs) c.at_mut.ensures.value)))
+    rw (← c.self.view_is)
+    (λ none some. memory_end c.args.slot (the_view c.self.inside)
+    (omega (arith, c.take.ensures.count, none, some, ap (λ (xs : List ℕ). length xs) c.at_mut.ensures.value)))

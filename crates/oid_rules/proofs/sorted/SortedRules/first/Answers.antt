@@ -1,6 +1,6 @@
 use Rattle.std.proofs.Common.{List, subst, sym}
 use Rattle.oid_rules.specs.declared.sorted.Numbered.{Numbered}
-use Rattle.oid_rules.specs.Sorted.{AreTried}
+use Rattle.oid_rules.specs.Inside.Sorted.{AreTried}
 use Rattle.oid_rules.proofs.sorted.SortedRules.first.Goals as goal
 
 pub first_of-requires-clause-tried : goal.first_of-requires-clause-tried

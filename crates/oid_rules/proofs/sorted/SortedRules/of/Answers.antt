@@ -1,7 +1,7 @@
 use Rattle.std.proofs.Common.{◌∙◌, ap, length, List, subst, sym}
 use Rattle.gate_base.specs.declared.rule.OidRule.{OidRule}
 use Rattle.oid_rules.specs.declared.sorted.Numbered.{Numbered}
-use Rattle.oid_rules.specs.Sorted.{AreOuter, AreSorted, AreTried}
+use Rattle.oid_rules.specs.Inside.Sorted.{AreOuter, AreSorted, AreTried}
 use Rattle.oid_rules.proofs.sorted.SortedRules.of.Goals as goal
 
 pub invariant_of-result : goal.invariant_of-result

@@ -1,5 +1,5 @@
 use Rattle.std.proofs.Common.{◌≡◌, ℕ, ◌*◌, ◌<◌, nat_lt, length}
-use Rattle.realm_pools.specs.Places.{bit_of, one_if}
+use Rattle.realm_pools.specs.Inside.Places.{bit_of, one_if}
 use Rattle.realm_pools.proofs.places.Places.new.Given as goal
 
 abbrev pub invariant-loop-place : goal.invariant-loop-place

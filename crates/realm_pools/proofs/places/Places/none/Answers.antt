@@ -1,5 +1,5 @@
 use Rattle.std.proofs.Common.{rules, ◌≡◌, ◌+◌, ◌/◌, ◌∙◌, ap, sym, replicate}
-use Rattle.realm_pools.specs.Places.{bit_of, any_in}
+use Rattle.realm_pools.specs.Inside.Places.{bit_of, any_in}
 use Rattle.realm_pools.proofs.Bits.{no_bits, none_any}
 use Rattle.realm_pools.proofs.places.Places.none.Goals as goal
 

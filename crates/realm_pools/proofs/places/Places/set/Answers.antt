@@ -1,6 +1,6 @@
 use Rattle.std.proofs.Common.{◌≡◌, ◌/◌, ◌<◌, ◌∙◌, ap, sym, subst, List, ℕ, not, ◌==◌, slice_index, length, arith}
 use Rattle.std.proofs.lemmas.List.{get_or_read}
-use Rattle.realm_pools.specs.Places.{any_bit, with_place, IsSet}
+use Rattle.realm_pools.specs.Inside.Places.{any_bit, with_place, IsSet}
 use Rattle.realm_pools.proofs.Bits.{any_is, leveled, written_back, same_levels}
 use Rattle.realm_pools.proofs.places.Places.set.Goals as goal
 

@@ -1,6 +1,6 @@
 use Rattle.std.proofs.Common.{rules, arith, ℕ, ◌≡◌, ◌+◌, ◌-◌, ◌∙◌, ap, sym, false, true, not, get_or, count_by, replicate}
 use Rattle.std.proofs.lemmas.List.Folds.{sum_by-replicate}
-use Rattle.realm_pools.specs.Places.{one_if}
+use Rattle.realm_pools.specs.Inside.Places.{one_if}
 use Rattle.realm_pools.proofs.Free.{free_below}
 use Rattle.realm_pools.proofs.pool.Pool.new.Goals as goal
 

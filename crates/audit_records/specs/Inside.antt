@@ -1,0 +1,5 @@
+-- What only proofs and private contracts need. What is believed or said by a public contract stands in specs/ itself.
+pub mod Cutting
+pub mod Kept
+pub mod Records
+pub mod Rooms

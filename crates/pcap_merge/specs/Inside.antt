@@ -1,0 +1,4 @@
+-- What only proofs and private contracts need. What is believed or said by a public contract stands in specs/ itself.
+pub mod Merge
+pub mod Order
+pub mod Sides
