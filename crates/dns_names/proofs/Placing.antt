@@ -116,14 +116,6 @@ place-first : (xs ys : List (Suffix × ℕ)) (k : List ℕ) → place_in ys k �
 place-first [] ys k e = e
 place-first (x ∷ xs) ys k e = ap (λ (o : Option ℕ). cond (is_eq (slice_cmp nat_cmp k (key x.0))) (Some x.1) o) (place-first xs ys k e)
 
-none-front : (xs ys : List (Suffix × ℕ)) (k : List ℕ) → place_in (xs ++ ys) k ≡ None → (place_in xs k ≡ None) × (place_in ys k ≡ None)
-none-front [] ys k e = (refl, e)
-none-front (x ∷ xs) ys k e =
-    elim (cases_Bool (is_eq (slice_cmp nat_cmp k (key x.0)))) [
-      | inl t ↦ absurd (let h : Some x.1 ≡ None = rw t at e in cc)
-      | inr f ↦ let r = none-front xs ys k (rw f at e) in (rw f r.0, r.1)
-    ]
-
 -- among entries with other places behind their first labels it isn't
 abbrev IsOff : Suffix → Suffix × ℕ → Type 0
 IsOff s e = e.0.behind ≡ s.behind → ⊥

@@ -79,17 +79,6 @@ own_stands : (sorted : List Numbered) (rest : List ℕ) (at k : ℕ) → k ≡ a
 own_stands sorted rest at k e = one_stands sorted rest at k (record
     { same = ap (before_at sorted) (sym e); early = omega (arith, ap (λ n. (rule_at sorted n).number) e) })
 
-pub tried_alone : (sorted : List Numbered) (at : ℕ) → at < length sorted → IsLast at sorted (arcs_at sorted at) None
-    → IsTried sorted at (with_rule sorted [] at)
-tried_alone sorted at within last = record {
-  within = All-cons (λ place. place < length sorted) at [] within (All-nil (λ place. place < length sorted));
-  begun = λ arcs begins. All-cons (BeginsAt sorted arcs) at [] begins (All-nil (BeginsAt sorted arcs));
-  every = λ k l begins. elim (cases_lt k at) as (λ o. OneStandsFor sorted (with_rule sorted [] at) k) [
-    | inl s ↦ absurd (last k s begins)
-    | inr s ↦ own_stands sorted [] at k (omega (arith, l, s))
-  ];
-}
-
 pub tried_further : (sorted : List Numbered) (outer at : ℕ) (rest : List ℕ) → InOrder sorted → at < length sorted
     → IsLast at sorted (arcs_at sorted at) (Some outer) → IsTried sorted outer rest → IsTried sorted at (with_rule sorted rest at)
 tried_further sorted outer at rest order within last tried = record {
