@@ -47,6 +47,10 @@ class Trusted(unittest.TestCase):
         self.assertEqual([word for word in page.all if trusted.INSIDE in word[0]], [])
         self.assertTrue(any(trusted.INSIDE in module for module in trusted.MODULES))
 
+    def test_constants(self) -> None:
+        """A constant of the code that definitions name is told with its value, and with what its comment says."""
+        self.assertIn("| gate_base | `SECOND` | 1,000,000,000 | the nanoseconds of a second |", list(trusted.Page().constants()))
+
     def test_reading(self) -> None:
         """Definitions without comments, constructors as their type, other names, and operators."""
         with tempfile.TemporaryDirectory() as room:

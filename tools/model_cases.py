@@ -3,14 +3,19 @@
 
 usage: model_cases.py CASES NAME.. > crates/model_cases/proofs/NAME.antt
 
+Then `rt fmt` in that crate indents the lines.
+
 A case is a folder with settings.toml, left.pcap, right.pcap, report.txt, left_out.pcap and right_out.pcap. Each event
 becomes a frame in hexadecimal, and what is wanted of it: its verdict, and the datagrams that go out.
 """
 import os
+import re
 import struct
 import sys
 import tomllib
 
+WIDTH = 150  # columns of a line
+PIECE = 56  # octets of a line
 MAGICS = {b"\xa1\xb2\xc3\xd4": (">", 1000), b"\xd4\xc3\xb2\xa1": ("<", 1000), b"\xa1\xb2\x3c\x4d": (">", 1), b"\x4d\x3c\xb2\xa1": ("<", 1)}
 
 
@@ -39,6 +44,29 @@ def events(left, right):
 
 def hexed(octets):
     return "hex %d 0x%s" % (len(octets), octets.hex()) if octets else "[]"
+
+
+def pieces(octets, indent):
+    """Octets in hexadecimal, those of many on lines of their own."""
+    if len(octets) <= PIECE:
+        return hexed(octets)
+    return "(%s)" % (indent + "++ ").join(hexed(octets[n:n + PIECE]) for n in range(0, len(octets), PIECE))
+
+
+def narrow(line):
+    """A line that is too wide, broken: between the words of a row, and within octets."""
+    if len(line) <= WIDTH:
+        return line
+    if re.match(r"\w+ = (with_rules|set)\b", line):
+        return re.sub(r" \((fixed|set) ", r"\n    (\1 ", line, count=2)
+    if re.match(r"\w+ : found ", line):
+        return line.replace(" ≡ wanted", "\n    ≡ wanted")
+    deep = "\n" + " " * (len(line) - len(line.lstrip(" ")) + 4)
+    line = re.sub(r"hex \d+ 0x([0-9a-f]+)", lambda found: pieces(bytes.fromhex(found[1]), deep + "  "), line)
+    line = re.sub(r"\(\((hex[^()]+)\)\)", r"(\1)", line)
+    for words in (r" (?=\(passes \(|\(refused )", r" (?=\(hex)", r" (?=∷ \(?hex)"):
+        line = "\n".join(re.sub(words, lambda found: found[0].rstrip() + deep, part) if len(part) > WIDTH else part for part in line.split("\n"))
+    return line
 
 
 def listed(items, indent):
@@ -77,14 +105,14 @@ def case(folder, name):
         else:
             refusals.add(verdict)
             wanted = "refused %s" % verdict
-        rows.append("(event %s %d %s %s (%s), %s)" % (side, moment, link, "true" if whole else "false", hexed(octets), wanted))
+        rows.append("frame %s %d %s %s (%s) (%s)" % (side, moment, link, "true" if whole else "false", hexed(octets), wanted))
     pending = next(l for l in lines if l.startswith("done")).split("pending=")[1]
     readme = open(at("README")).read().strip().split("\n")[0]
     text = "-- %s\n" % readme
     text += "abbrev %s : List Row\n%s =\n%s\n" % (name, name, listed(rows, "    "))
     text += "%s_settings : Settings\n%s_settings = %s\n\n" % ("abbrev " + name, name, settings(table))
     text += "%s_holds : found %s_settings %s ≡ wanted %s %s\nunfolding frames_on_literals\n%s_holds = refl\n" % (name, name, name, name, pending, name)
-    return text, refusals
+    return "\n".join(narrow(line) for line in text.split("\n")), refusals
 
 
 def main():
@@ -95,14 +123,15 @@ def main():
         texts.append(text)
         refusals |= more
     print("-- Worked cases, computed: whole frames, the verdict on each and the datagrams that go out. Written by tools/model_cases.py.")
-    print("use Rattle.std.proofs.Common.{◌≡◌, true, false, List, [], ◌∷◌, refl}")
+    joins = "◌++◌, " if any("++ hex" in text for text in texts) else ""
+    print("use Rattle.std.proofs.Common.{%s◌≡◌, true, false, List, [], ◌∷◌, refl}" % joins)
     if refusals:
         print("use Rattle.gate_base.specs.declared.refusal.Refusal.TheVariants.{%s}" % ", ".join(sorted(refusals)))
     print("use Rattle.gate_base.specs.declared.side.Link.TheVariants.{Ethernet, Raw}")
     print("use Rattle.gate_base.specs.declared.side.Side.TheVariants.{Left, Right}")
     print("use Rattle.gate_settings.specs.declared.settings.Settings.{Settings}")
-    print("use Rattle.gate_model.proofs.RowWords.{Row, hex, block, fixed, pool, rule, set, with_rules, event, passes, refused, found, wanted}")
-    print("use Rattle.model_cases.proofs.OnLiterals.{frames_on_literals}\n")
+    print("use Rattle.gate_model.proofs.RowWords.{Row, hex, block, fixed, pool, rule, set, with_rules, frame, passes, refused, found, wanted}")
+    print("use Rattle.gate_model.proofs.OnLiterals.{frames_on_literals}\n")
     print("\n".join(texts), end="")
 
 

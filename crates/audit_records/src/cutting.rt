@@ -1,5 +1,6 @@
 // Whether a record is the next piece of what a session sends.
 ghost use Rattle.std.specs.Prelude.{◌≡◌, ◌≤◌, ◌<◌, ◌+◌, ◌-◌, ◌^◌, ◌%◌, ◌&&◌, ◌||◌, ◌==◌, nat_lt, nat_le, true, false, if◌then◌else◌, length, take, drop};
+ghost use Rattle.gate_base.specs.declared.protocol.TheConstants.{LONGEST_DATAGRAM};
 ghost use Rattle.gate_model.specs.Prelude.{sent_as};
 ghost use Rattle.lawful_files.specs.Progress as progress;
 ghost use Rattle.audit_records.specs.Inside.Records.{holds};
@@ -17,7 +18,7 @@ pub fn is_right_cut(
     room: &mut [u8],
 ) -> bool
     requires carried { carried < 2 ^ 62 }
-    requires room { 65535 ≤ length room.old }
+    requires room { LONGEST_DATAGRAM ≤ length room.old }
     ensures answer { let r = came.now in
         let p = pieces.now in
         result
@@ -68,7 +69,7 @@ fn is_nothing(pieces: &Pieces) -> bool
 /// Whether a record is the one segment of a session that sends no octets.
 fn is_alone(came: &Came<'_>, pieces: &Pieces, count: u64, room: &mut [u8]) -> bool
     requires none { length pieces.now.sent.octets ≡ 0 }
-    requires room { 65535 ≤ length room.old }
+    requires room { LONGEST_DATAGRAM ≤ length room.old }
     ensures answer { let r = came.now in
         let p = pieces.now in
         result
@@ -90,7 +91,7 @@ fn is_alone(came: &Came<'_>, pieces: &Pieces, count: u64, room: &mut [u8]) -> bo
 /// Whether a record carries the next octets, one at least and no more than the limit.
 fn is_next_piece(came: &Came<'_>, pieces: &Pieces, carried: u64, size: u64, room: &mut [u8]) -> bool
     requires sum { carried + size < 2 ^ 64 }
-    requires room { 65535 ≤ length room.old }
+    requires room { LONGEST_DATAGRAM ≤ length room.old }
     ensures answer { let r = came.now in
         let p = pieces.now in
         result
@@ -123,7 +124,7 @@ fn is_within(pieces: &Pieces, carried: u64, size: u64) -> bool
 fn either_piece(came: &Came<'_>, pieces: &Pieces, carried: u64, size: u64, room: &mut [u8]) -> bool
     requires few { size ≤ pieces.now.sent.limit }
     requires within { carried + size ≤ length pieces.now.sent.octets }
-    requires room { 65535 ≤ length room.old }
+    requires room { LONGEST_DATAGRAM ≤ length room.old }
     ensures answer { let r = came.now in
         let p = pieces.now in
         result
@@ -144,7 +145,7 @@ fn either_piece(came: &Came<'_>, pieces: &Pieces, carried: u64, size: u64, room:
 fn is_pushed(came: &Came<'_>, pieces: &Pieces, carried: u64, size: u64, room: &mut [u8]) -> bool
     requires few { size ≤ pieces.now.sent.limit }
     requires within { carried + size ≤ length pieces.now.sent.octets }
-    requires room { 65535 ≤ length room.old }
+    requires room { LONGEST_DATAGRAM ≤ length room.old }
     ensures answer { let r = came.now in
         let p = pieces.now in
         result
@@ -170,7 +171,7 @@ fn is_piece(
 ) -> bool
     requires few { size ≤ pieces.now.sent.limit }
     requires within { carried + size ≤ length pieces.now.sent.octets }
-    requires room { 65535 ≤ length room.old }
+    requires room { LONGEST_DATAGRAM ≤ length room.old }
     ensures answer { let r = came.now in
         let p = pieces.now in
         result
@@ -201,7 +202,7 @@ fn is_segment(
 ) -> bool
     requires ecn { flags.ecn ≤ 3 }
     requires few { length octets.now ≤ pieces.now.sent.limit }
-    requires room { 65535 ≤ length room.old }
+    requires room { LONGEST_DATAGRAM ≤ length room.old }
     ensures answer { let p = pieces.now in
         result
         ≡ holds came.now (sent_as p.datagram p.source p.destination (record {

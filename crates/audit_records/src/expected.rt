@@ -9,8 +9,8 @@ ghost use Rattle.audit_records.specs.Inside.Kept.{wanted_of, progress_of, carrie
 use crate::came::Came;
 use crate::cutting::{has_all, is_right_cut, size_of};
 use crate::pieces::Pieces;
-use crate::single::{LONGEST, Single};
-use gate_base::{Moment, OutOfMemory, Side};
+use crate::single::Single;
+use gate_base::{LONGEST_DATAGRAM, Moment, OutOfMemory, Side};
 use gate_settings::Settings;
 use pcap_files::Packet;
 use std::alloc::Global;
@@ -44,6 +44,7 @@ pub struct Expected {
 
 impl Model for Expected {
     ghost use Rattle.std.specs.Prelude.{◌≤◌, length};
+    ghost use Rattle.gate_base.specs.declared.protocol.TheConstants.{LONGEST_DATAGRAM};
     ghost use Rattle.audit_records.specs.Kept.{Expecting};
     ghost use Rattle.audit_records.specs.Inside.Kept.{wanted_of, progress_of};
 
@@ -51,7 +52,7 @@ impl Model for Expected {
 
     ghost view = { λ e. record { side = e.side; moment = e.moment.0; wanted = wanted_of e.pieces e.single; so_far = progress_of e.so_far } };
 
-    ghost invariant = { λ e. 65535 ≤ length e.room.items };
+    ghost invariant = { λ e. LONGEST_DATAGRAM ≤ length e.room.items };
 }
 
 impl Expected {
@@ -72,7 +73,7 @@ impl Expected {
             single: Single::new(alloc)?,
             pieces: None,
             so_far: BEGUN,
-            room: vec![in alloc; 0; LONGEST]?,
+            room: vec![in alloc; 0; LONGEST_DATAGRAM]?,
         })
     }
 
@@ -95,7 +96,7 @@ impl Expected {
 
     /// This datagram is wanted of an event.
     pub fn want_datagram(&mut self, side: Side, moment: Moment, datagram: &[u8])
-        requires { length datagram.now ≤ 65535 }
+        requires { length datagram.now ≤ LONGEST_DATAGRAM }
         ensures { self.new
             ≡ record {
               side = side;
@@ -172,7 +173,7 @@ fn behind(
 ) -> Progress
     requires count { so_far.count < 2 ^ 32 }
     requires carried { so_far.carried < 2 ^ 62 }
-    requires room { 65535 ≤ length room.old }
+    requires room { LONGEST_DATAGRAM ≤ length room.old }
     ensures next { let r = came.now in
         progress_of result
         ≡ progress.behind r.settings r.side r.moment (wanted_of pieces.now single.now)
@@ -196,7 +197,7 @@ fn is_right(
     room: &mut [u8],
 ) -> bool
     requires carried { so_far.carried < 2 ^ 62 }
-    requires room { 65535 ≤ length room.old }
+    requires room { LONGEST_DATAGRAM ≤ length room.old }
     ensures answer { let r = came.now in
         result
         ≡ progress.is_right r.settings r.side r.moment

@@ -2,6 +2,7 @@
 ghost use Rattle.std.specs.Prelude.{◌≡◌, ◌≤◌, ◌+◌, ◌-◌, length, IfOk};
 ghost use Rattle.ipv4_frames.specs.Ipv4.{fields_of};
 ghost use Rattle.tcp_segments.specs.Prelude.{IsTcpHeader};
+ghost use Rattle.tcp_segments.specs.declared.TheConstants.{MOST_PAYLOAD};
 ghost use Rattle.gate_model.specs.Prelude.{tcp_of, sent_as};
 ghost use Rattle.audit_records.specs.Cutting.{told};
 
@@ -48,7 +49,8 @@ impl Pieces {
         sent: Sent,
     ) -> Result<Pieces, OutOfMemory>
         requires segment { segment.now ≡ tcp_of datagram.now }
-        requires fits { sent.limit + (length segment.now.header - 20) ≤ 65495 }
+        requires fits { sent.limit + (length segment.now.header - 20)
+            ≤ MOST_PAYLOAD }
         ensures { IfOk result (λ p. p
             ≡ record {
               datagram = fields_of datagram.now.header datagram.now.payload;
@@ -104,7 +106,8 @@ impl Pieces {
         ensures octets { result.now ≡ (tcp_of self.now.datagram).header }
         ensures right { IsTcpHeader result.now }
         ensures few { length result.now ≤ 60 }
-        ensures fits { self.now.sent.limit + (length result.now - 20) ≤ 65495 }
+        ensures fits { self.now.sent.limit + (length result.now - 20)
+            ≤ MOST_PAYLOAD }
     {
         &self.tcp
     }

@@ -3,12 +3,9 @@ ghost use Rattle.std.specs.Prelude.{◌≡◌, ◌≤◌, ◌&&◌, [], ◌∷�
 ghost use Rattle.audit_records.specs.Inside.Records.{holds};
 
 use crate::came::{Came, is_both};
-use gate_base::OutOfMemory;
+use gate_base::{LONGEST_DATAGRAM, OutOfMemory};
 use std::alloc::Global;
 use std::marker::Model;
-
-/// The most octets of a datagram.
-pub const LONGEST: usize = 65_535;
 
 /// Room for one datagram: a list of one or of none.
 #[derive(Drop)]
@@ -35,7 +32,7 @@ impl Single {
         ensures { IfOk result (λ s. s ≡ []) }
     {
         Ok(Single {
-            octets: vec![in alloc; 0; LONGEST]?,
+            octets: vec![in alloc; 0; LONGEST_DATAGRAM]?,
             size: None,
         })
     }
@@ -59,7 +56,7 @@ impl Single {
 
     /// This datagram is the one.
     pub fn put(&mut self, datagram: &[u8])
-        requires { length datagram.now ≤ 65535 }
+        requires { length datagram.now ≤ LONGEST_DATAGRAM }
         ensures { self.new ≡ datagram.now ∷ [] }
     {
         put_front(&mut self.octets, datagram);

@@ -10,7 +10,8 @@ use Rattle.dialogue.specs.Prelude.{Entry, AllListed, Meaning}
 use Rattle.dns_stream.specs.Prelude.{unit_addresses}
 use Rattle.stream_model.specs.Prelude.{Session, Segment, own, session_next}
 use Rattle.audit_streams.specs.Hosts.{Heard, sender_by}
-use Rattle.gate_model.specs.Prelude.{HasLists, Lists, addresses_in, entered, most_entries, Reads, whole_rules, WholeSession, lists_at, meaning_by, entries_by, completed, whole_units, whole_learned, whole_next}
+use Rattle.gate_model.specs.Prelude.{HasLists, Lists, addresses_in, entered, Reads, whole_rules, WholeSession, lists_at, meaning_by, entries_by, completed, whole_units, whole_learned, whole_next}
+use Rattle.dialogue.specs.declared.TheConstants.{MOST_ENTRIES}
 use Rattle.gate_model.specs.Sessions.{with_entries}
 use Rattle.gate_model.proofs.Entering.{listed_units_more}
 use Rattle.gate_model.proofs.ListsWorld.{whole_lists}
@@ -106,11 +107,11 @@ next_known image f h g k =
         (own_read f h) (k f) (k host) (new_listed image h.lists f (completed (own f (session_in h).session) g))
 
 pub next_session : (image : Addr → Option Addr) (f : Host) (h : HeardSession) (g : Segment) → IsSession h
-    → length (entered image (heard_rules.listed f h) (addresses_in (heard_rules.units f h g))) ≤ most_entries
+    → length (entered image (heard_rules.listed f h) (addresses_in (heard_rules.units f h g))) ≤ MOST_ENTRIES
     → IsSession (heard_rules.next image f h g)
 next_session image f h g k few = record {
   known = next_known image f h g k.known;
-  few = both (λ (b : Host). length (heard_rules.listed b (heard_rules.next image f h g)) ≤ most_entries) f
+  few = both (λ (b : Host). length (heard_rules.listed b (heard_rules.next image f h g)) ≤ MOST_ENTRIES) f
       (omega (arith, few, ap length (heard_lists.own image f h g)))
       (omega (arith, k.few (peer f), ap length (heard_lists.other image f h g)));
 }

@@ -7,7 +7,8 @@ use Rattle.dns_stream.specs.Prelude.{unit_addresses, dns_units}
 use Rattle.stream_model.specs.Prelude.{Sender, own}
 use Rattle.audit_streams.specs.Hosts.{Heard, sender_by}
 use Rattle.dialogue.specs.Prelude.{AllUnitsListed}
-use Rattle.gate_model.specs.Prelude.{Lists, list_of, most_entries, SessionRules, whole_rules, WholeSession, meaning_by}
+use Rattle.gate_model.specs.Prelude.{Lists, list_of, SessionRules, whole_rules, WholeSession, meaning_by}
+use Rattle.dialogue.specs.declared.TheConstants.{MOST_ENTRIES}
 use Rattle.lawful_files.specs.Wanted.{Sends, whole_sent}
 
 -- the pair of a session's hosts, its lists where it is one of DNS, and what was heard of both hosts
@@ -57,4 +58,4 @@ AreKnown lists host octets = IfSome lists (λ l. AllUnitsListed unit_addresses (
 -- what holds of each session by itself: all addresses that were heard of are listed, and no list is longer than the most
 pub record IsSession (h : HeardSession) : Type 0 where
   pub known : (host : Host) → AreKnown h.lists host (own host (session_in h).session).octets
-  pub few : (host : Host) → length (heard_rules.listed host h) ≤ most_entries
+  pub few : (host : Host) → length (heard_rules.listed host h) ≤ MOST_ENTRIES

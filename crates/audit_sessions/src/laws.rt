@@ -4,7 +4,8 @@ ghost use Rattle.gate_base.specs.declared.address.Addr.{Addr};
 ghost use Rattle.gate_base.specs.declared.event.Pair.{Pair};
 ghost use Rattle.gate_base.specs.declared.host.Host.{Host};
 ghost use Rattle.stream_model.specs.Prelude.{Segment};
-ghost use Rattle.gate_model.specs.Prelude.{HasLists, addresses_in, entered, most_entries, Reads, whole_rules};
+ghost use Rattle.gate_model.specs.Prelude.{HasLists, addresses_in, entered, Reads, whole_rules};
+ghost use Rattle.dialogue.specs.declared.TheConstants.{MOST_ENTRIES};
 ghost use Rattle.lawful_files.specs.Wanted.{SendAlike};
 ghost use Rattle.audit_sessions.specs.Heard.{HeardSession, session_in, heard_rules, heard_sent, IsSession};
 
@@ -20,6 +21,6 @@ pub fn audited_sessions_are_whole()
         (g : Segment)
         → IsSession h
         → length (entered image (heard_rules.listed from h)
-        (addresses_in (heard_rules.units from h g))) ≤ most_entries
+        (addresses_in (heard_rules.units from h g))) ≤ MOST_ENTRIES
         → IsSession (heard_rules.next image from h g) }
 {}

@@ -1,6 +1,7 @@
 // A connection of DNS that learns what its units name.
 ghost use Rattle.std.specs.Prelude.{◌≡◌, ◌≤◌, ◌<◌, ◌∷◌, [], false, length, None, IfOk, OnOk};
 ghost use Rattle.dialogue.specs.Prelude.{is_listed, AreImages};
+ghost use Rattle.dialogue.specs.declared.TheConstants.{MOST_ENTRIES};
 ghost use Rattle.dns_stream.specs.Prelude.{dns_units};
 ghost use Rattle.stream_model.specs.Prelude.{segment_refusal, session_ends, session_sent, segment_in};
 ghost use Rattle.audit_streams.specs.Sending.{handed};
@@ -23,7 +24,7 @@ fn knows(session: &DnsSession, host: Host, address: Addr) -> bool
 /// Enters an address into a host's list, unless it is listed.
 fn learn_one(session: &mut DnsSession, host: Host, one: Entry)
     requires few { is_listed (listed_of host session.old) one.0.0 ≡ false
-        → length (listed_of host session.old) < 256 }
+        → length (listed_of host session.old) < MOST_ENTRIES }
     requires listed { IsListedSide host session.old }
     ensures { session.new ≡ with_entered host (one ∷ []) session.old }
 {
@@ -35,7 +36,8 @@ fn learn_one(session: &mut DnsSession, host: Host, one: Entry)
 
 /// Enters addresses into a host's list, one after the other.
 fn learn_all(session: &mut DnsSession, host: Host, named: &[Entry])
-    requires few { length (entered_all (listed_of host session.old) named.now) ≤ 256 }
+    requires few { length (entered_all (listed_of host session.old) named.now)
+        ≤ MOST_ENTRIES }
     requires listed { IsListedSide host session.old }
     ensures { session.new ≡ with_entered host named.now session.old }
 {
@@ -53,7 +55,8 @@ pub fn step_units(
     completed: Completed<'_>,
 ) -> Result<Sent, OutOfMemory>
     requires few { length
-        (entered_all (listed_of from session.old) completed.entries.now) ≤ 256 }
+        (entered_all (listed_of from session.old) completed.entries.now)
+        ≤ MOST_ENTRIES }
     requires images { AreImages
         (dns_units (entered_all (listed_of from session.old) completed.entries.now))
         completed.images.items }

@@ -2,6 +2,7 @@
 ghost use Rattle.std.specs.Prelude.{◌≡◌, ◌≤◌, ◌<◌, [], Option, length, slice_get, Some, None, IfOk, OnOk};
 ghost use Rattle.gate_base.specs.declared.address.Addr.{Addr};
 ghost use Rattle.dialogue.specs.Prelude.{AreImages};
+ghost use Rattle.dialogue.specs.declared.TheConstants.{MOST_ENTRIES};
 ghost use Rattle.dns_stream.specs.Prelude.{dns_units};
 ghost use Rattle.stream_model.specs.Prelude.{own, arrival, segment_in, is_data, segment_refusal};
 ghost use Rattle.audit_streams.specs.Hosts.{unheard};
@@ -172,7 +173,7 @@ impl AuditedSession {
     ) -> Result<Sent, OutOfMemory>
         requires few { length
             (entered_all (heard_rules.listed from self.old) completed.entries.now)
-            ≤ 256 }
+            ≤ MOST_ENTRIES }
         requires images { AreImages
             (dns_units (entered_all (heard_rules.listed from self.old)
             completed.entries.now)) completed.images.items }

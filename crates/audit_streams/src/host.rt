@@ -1,6 +1,7 @@
 // One host of a session over whole lists.
 ghost use Rattle.std.specs.Prelude.{◌≡◌, ◌≤◌, ◌<◌, ◌+◌, ◌-◌, ◌^◌, ◌++◌, ◌∷◌, ◌||◌, ◌&&◌, ◌==◌, ℕ, false, cond, List, [], length, max, slice_range, slice_get, Some, IfOk, OnOk, nat_lt};
 ghost use Rattle.dialogue.specs.Prelude.{is_unlike, differ, is_listed, listed_image, ReadAlike, AllUnitsListed, AreImages, image, back};
+ghost use Rattle.dialogue.specs.declared.TheConstants.{MOST_ENTRIES};
 ghost use Rattle.stream_model.specs.Prelude.{due_in, recent, extent, open_of};
 ghost use Rattle.audit_streams.specs.Hosts.{unheard, held_in};
 ghost use Rattle.audit_streams.specs.Inside.Hosts.{sender_of};
@@ -297,7 +298,7 @@ impl<D: Learns> WholeStream<D> {
     /// Appends an entry. All addresses in its whole units have to be listed already: its lists then stay as they are.
     pub(crate) fn learn(&mut self, address: Addr, image: Option<Addr>)
         requires unknown { is_listed (D.entries self.old.dialogue) address.0 ≡ false }
-        requires few { length (D.entries self.old.dialogue) < 256 }
+        requires few { length (D.entries self.old.dialogue) < MOST_ENTRIES }
         requires known { AllUnitsListed D.addresses (D.meaning self.old.dialogue)
             (D.entries self.old.dialogue) self.old.heard.octets }
         ensures entries { D.entries self.new.dialogue

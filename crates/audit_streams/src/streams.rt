@@ -2,6 +2,7 @@
 ghost use Rattle.std.specs.Prelude.{◌≡◌, ◌≤◌, ◌<◌, ◌+◌, ◌-◌, ◌^◌, ◌++◌, ◌∷◌, ℕ, List, slice_get, false, true, [], length, drop, min, max, None, Some, IfOk, OnOk};
 ghost use Rattle.gate_base.specs.declared.host.Host.TheVariants.{Client, Server};
 ghost use Rattle.dialogue.specs.Prelude.{image, is_listed, listed_image, ReadAlike, AllUnitsListed, AreImages};
+ghost use Rattle.dialogue.specs.declared.TheConstants.{MOST_ENTRIES};
 ghost use Rattle.tcp_segments.specs.Prelude.{flags_of, flags_octet};
 ghost use Rattle.stream_model.specs.Prelude.{own, arrival, extent, start_of, repeats_unlike, segment_in, refusal_of, segment_refusal, session_next, session_inner, session_open, session_ends, taken, acknowledged, own_after, other_after, standing, limit_of, acknowledgement_to, reset_sent, other_sent, sent, session_sent, ends_by};
 ghost use Rattle.stream_model.specs.Goings.{sent_with};
@@ -17,13 +18,10 @@ use gate_base::{Addr, Host, OutOfMemory, Refusal};
 use std::alloc::Global;
 use std::marker::Model;
 use stream_model::{
-    Arrival, Going, Stands, acknowledgement_to, going_out, going_reset, going_syn, inner_number,
-    place_acknowledged, refusal, start_at,
+    Arrival, Going, LEAST_PIECE, Stands, acknowledgement_to, going_out, going_reset, going_syn,
+    inner_number, place_acknowledged, refusal, start_at,
 };
-use tcp_segments::{TcpView, flags_octet, flags_of};
-
-/// The largest payload that fits a datagram.
-const PAYLOAD: usize = 65_495;
+use tcp_segments::{MOST_PAYLOAD, TcpView, flags_octet, flags_of};
 
 /// A session that keeps all octets of both hosts, what their octets become on the way, and where units with another image stand. It
 /// takes some two octets of memory for each octet, and 16 for each such unit.
@@ -175,12 +173,13 @@ impl<C: Learns, S: Learns> WholeStreams<C, S> {
         }
     }
 
-    /// Appends an entry to a host's list. The address must not be known, and there must be fewer than 256 entries. All addresses
+    /// Appends an entry to a host's list. The address must not be known, and there must be fewer than `MOST_ENTRIES`. All addresses
     /// in the whole units that were heard of that host so far must be listed already: its octets then read as they did.
     pub fn learn(&mut self, host: Host, address: Addr, image: Option<Addr>)
         requires unknown { is_listed (entries_of C.entries S.entries host self.old)
             address.0 ≡ false }
-        requires few { length (entries_of C.entries S.entries host self.old) < 256 }
+        requires few { length (entries_of C.entries S.entries host self.old)
+            < MOST_ENTRIES }
         requires client_known { host ≡ Client
             → AllUnitsListed C.addresses (C.meaning self.old.client_dialogue)
             (C.entries self.old.client_dialogue) self.old.client.octets }
@@ -377,13 +376,13 @@ fn hand_on<A: Dialogue>(
     })
 }
 
-/// The largest piece: what the receiver takes, at least 88, and what fits a datagram, less the octets of the options.
+/// The largest piece: what the receiver takes, at least `LEAST_PIECE`, and what fits a datagram, less the options' octets.
 fn limit_of(mss: u16, options: &[u8]) -> usize
-    ensures { result ≡ min (max mss 88) 65495 - length options.now }
+    ensures { result ≡ min (max mss LEAST_PIECE) MOST_PAYLOAD - length options.now }
 {
     usize::from(mss)
-        .max(88)
-        .min(PAYLOAD)
+        .max(LEAST_PIECE)
+        .min(MOST_PAYLOAD)
         .saturating_sub(options.len())
 }
 

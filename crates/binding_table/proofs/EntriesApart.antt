@@ -15,7 +15,7 @@ use Rattle.expiring_table.specs.Rows.{is_of}
 use Rattle.expiring_table.proofs.Taken.{without_none, with_none}
 use Rattle.binding_table.specs.declared.binding.Binding.{Binding}
 use Rattle.binding_table.specs.Prelude.{all_rows, AreApart, ending, filed}
-use Rattle.binding_table.specs.Inside.EntriesInside.{fixed_row, HaveNoneOf}
+use Rattle.binding_table.specs.Inside.Entries.{fixed_row, HaveNoneOf}
 
 -- ## Fixed rows
 

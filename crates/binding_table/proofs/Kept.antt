@@ -13,7 +13,9 @@ use Rattle.gate_base.specs.declared.event.Moment.{Moment}
 use Rattle.gate_base.specs.declared.side.Side.{Side}
 use Rattle.gate_base.proofs.Sides.{same_side-true, other_other}
 use Rattle.realm_pools.specs.Addresses.{Range, is_in, is_free, is_taken}
-use Rattle.binding_table.specs.Prelude.{AreTaken, CanHold, aliases_of, aliases_with, changed, filed, lasts, plain_table, Bindings, is_of_host, host_of, is_of_alias, is_used, is_live, in_pool, range_of, pool_with, pool_of, with_binding, expired, extend_through, is_through, lasting, IsLawful, IsInPlace, collides}
+use Rattle.binding_table.specs.Prelude.{AreTaken, CanHold, aliases_of, aliases_with, changed, filed, lasts, plain_table, Bindings, is_of_host}
+use Rattle.binding_table.specs.Prelude.{host_of, is_of_alias, is_used, is_live, in_pool, range_of, pool_with, pool_of, with_binding, expired}
+use Rattle.binding_table.specs.Prelude.{extend_through, is_through, lasting, IsLawful, IsInPlace, collides}
 use Rattle.binding_table.proofs.Filed.{found_filed, others}
 use Rattle.expiring_table.specs.Prelude.{row_of}
 use Rattle.binding_table.specs.declared.binding.Binding.{Binding}

@@ -1,5 +1,7 @@
 -- A plan gives the images that the uses will give.
-use Rattle.std.proofs.Common.{take_all, drop-cons, add-one, ◌≡◌, ◌≢◌, ℕ, ◌+◌, ◌-◌, ◌<◌, ◌≤◌, ◌⊎◌, Bool, true, false, not, ◌||◌, ◌==◌, nat_lt, nat_le, cond, if◌then◌else◌, List, [], ◌∷◌, ◌++◌, length, map, get_or, set, take, drop, position, All, Option, Some, None, option_map, refl, sym, ◌∙◌, ap, subst, arith, inl, inr}
+use Rattle.std.proofs.Common.{take_all, drop-cons, add-one, ◌≡◌, ◌≢◌, ℕ, ◌+◌, ◌-◌, ◌<◌, ◌≤◌, ◌⊎◌, Bool, true, false, not, ◌||◌, ◌==◌, nat_lt, nat_le}
+use Rattle.std.proofs.Common.{cond, if◌then◌else◌, List, [], ◌∷◌, ◌++◌, length, map, get_or, set, take, drop, position, All, Option, Some, None}
+use Rattle.std.proofs.Common.{option_map, refl, sym, ◌∙◌, ap, subst, arith, inl, inr}
 use Rattle.std.specs.List.{find, count_by, position_or_len}
 use Rattle.std.specs.Option.{option_or}
 use Rattle.std.proofs.lemmas.List.{get_or_default, get_or_push, get_or_append_left, get_or-set_same, get_or-set_other, length_push, length-take-le, take_more, append-nil, same_lists, length-map, length-drop, get_or-drop, get_or-map}
@@ -19,7 +21,10 @@ use Rattle.gate_settings.specs.Prelude.{is_in_same}
 use Rattle.gate_settings.specs.declared.settings.Block.{Block}
 use Rattle.realm_pools.specs.Addresses.{Range, Addresses, is_in, least_free, free_from}
 use Rattle.realm_pools.proofs.Free.{from_low}
-use Rattle.binding_table.specs.Prelude.{Aliases, given_image, next_alias, planned_by, is_settled, Bindings, is_same, is_of_host, is_of_alias, is_used, in_pool, range_of, pool_with, pool_of, alias_of, host_of, known_or, new_or_empty, seen_by, with_binding, extended, extend_through, images_after, Use, AreUsesOf, used, used_by, after_uses, unless_same, image_after, needs_binding, is_address, is_among, is_fresh, fresh_after}
+use Rattle.binding_table.specs.Prelude.{Aliases, given_image, next_alias, planned_by, is_settled, Bindings, is_same, is_of_host, is_of_alias, is_used}
+use Rattle.binding_table.specs.Prelude.{in_pool, range_of, pool_with, pool_of, alias_of, host_of, known_or, new_or_empty, seen_by, with_binding}
+use Rattle.binding_table.specs.Prelude.{extended, extend_through, images_after, Use, AreUsesOf, used, used_by, after_uses, unless_same, image_after}
+use Rattle.binding_table.specs.Prelude.{needs_binding, is_address, is_among, is_fresh, fresh_after}
 use Rattle.binding_table.specs.declared.binding.Binding.{Binding}
 use Rattle.binding_table.specs.declared.binding.Crossing.{Crossing}
 use Rattle.binding_table.specs.declared.binding.Crossing.TheVariants.{Same, Bound, New, Unbound, Empty}

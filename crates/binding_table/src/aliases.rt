@@ -31,7 +31,7 @@ impl Model for Aliases {
 
     ghost Value = { Aliases };
 
-    ghost use Rattle.binding_table.specs.Inside.AliasesInside.{aliases_in, AreWhole};
+    ghost use Rattle.binding_table.specs.Inside.Aliases.{aliases_in, AreWhole};
 
     ghost view = { aliases_in };
 
@@ -77,11 +77,11 @@ impl Aliases {
     }
 
     /// Lets a free address stand for a host.
-    pub fn take(&mut self, alias: Addr, host: Addr)
+    pub fn allocate(&mut self, alias: Addr, host: Addr)
         requires { IsTrue (is_free alias self.old.pool) }
         ensures { self.new ≡ steps.with_host alias (Some host) self.old }
     {
-        self.pool.take(alias);
+        self.pool.allocate(alias);
         self.hosts[(alias.0 - self.first) as usize] = Some(host);
     }
 

@@ -24,7 +24,7 @@ impl Model for Entries {
 
     ghost Value = { Table Binding };
 
-    ghost use Rattle.binding_table.specs.Inside.EntriesInside.{fixed_rows, rows_inside, AreApart};
+    ghost use Rattle.binding_table.specs.Inside.Entries.{fixed_rows, rows_inside, AreApart};
 
     ghost view = { rows_inside };
 

@@ -260,7 +260,7 @@ impl Table {
         ensures { OnOk result (self.new ≡ tables.with_binding self.old binding) }
     {
         self.bindings.fix(binding)?;
-        take_alias(&mut self.left, &mut self.right, &binding);
+        allocate_alias(&mut self.left, &mut self.right, &binding);
         Ok(())
     }
 
@@ -270,7 +270,7 @@ impl Table {
         requires moving { binding.fixed ≡ false }
         ensures { self.new ≡ tables.with_binding self.old binding }
     {
-        take_alias(&mut self.left, &mut self.right, &binding);
+        allocate_alias(&mut self.left, &mut self.right, &binding);
         self.bindings.push(binding.filed());
     }
 
@@ -373,7 +373,7 @@ impl Table {
     }
 }
 
-fn take_alias(left: &mut Aliases, right: &mut Aliases, binding: &Binding)
+fn allocate_alias(left: &mut Aliases, right: &mut Aliases, binding: &Binding)
     requires left { binding.now.side ≡ Side.Right
         → IsTrue (is_free binding.now.alias left.old.pool) }
     requires right { binding.now.side ≡ Side.Left
@@ -384,8 +384,8 @@ fn take_alias(left: &mut Aliases, right: &mut Aliases, binding: &Binding)
         ≡ changed Side.Right binding.now (Some binding.now.host) right.old }
 {
     match binding.side {
-        Side::Left => right.take(binding.alias, binding.host),
-        Side::Right => left.take(binding.alias, binding.host),
+        Side::Left => right.allocate(binding.alias, binding.host),
+        Side::Right => left.allocate(binding.alias, binding.host),
     }
 }
 

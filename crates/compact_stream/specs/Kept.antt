@@ -1,6 +1,7 @@
 -- What is kept of a sender, without the octets that will not be sent again.
 use Rattle.std.specs.Prelude.{◌≡◌, ◌≤◌, ◌<◌, ◌+◌, ◌-◌, ◌*◌, ◌^◌, ℕ, Bool, true, false, ◌||◌, cond, nat_le, min, max, List, [], ◌++◌, length, drop, Option, Some}
 use Rattle.dialogue.specs.Prelude.{Meaning, IsRest, is_released, Push, Plain, is_unlike, Cut, cut, due_rest, pushes_of, back}
+use Rattle.dialogue.specs.declared.TheConstants.{MOST_RECENT}
 use Rattle.shift_ledger.specs.Prelude.{back_by, Kept, StandsFor, pushed, pruned}
 use Rattle.tcp_segments.specs.Prelude.{one_if}
 use Rattle.stream_model.specs.Prelude.{Sender, Segment, arrival, start_at, place_acknowledged}
@@ -65,7 +66,7 @@ pub record InRange (m : Meaning) (h : CompactSender) : Type 0 where
   pub image : 2 * h.ledger.octets_out ≤ 3 * h.ledger.octets_in
   pub acked : h.acked ≤ h.ledger.octets_out + one_if h.ended
   pub rest : IsRest m h.rest
-  pub recent : length h.recent ≤ 65536
+  pub recent : length h.recent ≤ MOST_RECENT
 
 -- an open stream with these octets more
 abbrev pub went_on : Meaning → CompactSender → List ℕ → CompactSender

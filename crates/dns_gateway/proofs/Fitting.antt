@@ -1,6 +1,7 @@
 -- Renamed data suits the same types.
 use Rattle.std.proofs.Common.{◌≡◌, ℕ, ◌+◌, List, [], ◌∷◌, length, Option, Some, None}
 use Rattle.std.specs.List.{AllByRecursion}
+use Rattle.std.specs.Prelude.{option_to_list}
 use Rattle.gate_base.specs.declared.address.Addr.{Addr}
 use Rattle.dns_names.specs.Prelude.{full_reverse}
 use Rattle.dns_messages.specs.declared.form.Form.{Form}
@@ -10,7 +11,7 @@ use Rattle.dns_messages.specs.declared.message.Content.TheVariants.{Address, One
 use Rattle.dns_messages.specs.declared.message.Resource.{Resource}
 use Rattle.dns_messages.specs.Forms.{form_of}
 use Rattle.dns_messages.specs.Suits.{Suits, ResourceSuits}
-use Rattle.dns_gateway.specs.Addresses.{content_address, at_most_one, resource_addresses}
+use Rattle.dns_gateway.specs.Addresses.{content_address, resource_addresses}
 use Rattle.dns_gateway.specs.Renaming.{image_at, image_of, content_to, resources_renamed}
 
 address-suits : (f : Form) (a : Addr) (image : Option Addr) → f ≡ form.Address → Suits f (content_to image (Address a))
@@ -30,6 +31,6 @@ pub resources-suit : (images : List (Option Addr)) (place : ℕ) (rs : List Reso
     → AllByRecursion ResourceSuits (resources_renamed images place rs)
 resources-suit images place [] ok = tt
 resources-suit images place (r ∷ rs) ok = (
-  content-suits (form_of r.kind r.class) r.content images (place + length (at_most_one (full_reverse r.name))) ok.0,
+  content-suits (form_of r.kind r.class) r.content images (place + length (option_to_list (full_reverse r.name))) ok.0,
   resources-suit images (place + length (resource_addresses r)) rs ok.1,
 )

@@ -1,5 +1,5 @@
 -- The addresses in a message that are renamed.
-use Rattle.std.specs.Prelude.{ℕ, List, [], ◌∷◌, ◌++◌, Option, Some, None}
+use Rattle.std.specs.Prelude.{ℕ, List, [], ◌++◌, Option, Some, None, option_to_list}
 use Rattle.std.specs.List.{flat_map}
 use Rattle.dns_names.specs.Prelude.{full_reverse}
 use Rattle.dns_messages.specs.declared.message.Content.{Content}
@@ -13,19 +13,14 @@ abbrev pub content_address : Content → Option ℕ
 content_address (Address a) = Some a.0
 content_address _ = None
 
--- one address, or none
-abbrev pub at_most_one : Option ℕ → List ℕ
-at_most_one None = []
-at_most_one (Some address) = address ∷ []
-
 -- of a question: the address whose full reverse name it asks for
 abbrev pub question_addresses : Option Question → List ℕ
 question_addresses None = []
-question_addresses (Some q) = at_most_one (full_reverse q.name)
+question_addresses (Some q) = option_to_list (full_reverse q.name)
 
 -- of a record: the address whose full reverse name owns it, and then the one in its data
 abbrev pub resource_addresses : Resource → List ℕ
-resource_addresses r = at_most_one (full_reverse r.name) ++ at_most_one (content_address r.content)
+resource_addresses r = option_to_list (full_reverse r.name) ++ option_to_list (content_address r.content)
 
 -- of records, one after the other
 abbrev pub resources_addresses : List Resource → List ℕ

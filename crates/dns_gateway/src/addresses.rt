@@ -1,6 +1,6 @@
 // The addresses in a message that are renamed.
-ghost use Rattle.std.specs.Prelude.{◌≡◌, ◌++◌, map, IfOk, OnOk, option_map};
-ghost use Rattle.dns_gateway.specs.Addresses.{content_address, at_most_one, question_addresses, resource_addresses, resources_addresses, message_addresses};
+ghost use Rattle.std.specs.Prelude.{◌≡◌, ◌++◌, map, IfOk, OnOk, option_map, option_to_list};
+ghost use Rattle.dns_gateway.specs.Addresses.{content_address, question_addresses, resource_addresses, resources_addresses, message_addresses};
 
 use dns_messages::{Content, Message, Question, Resource};
 use dns_names::address_of;
@@ -20,7 +20,7 @@ pub fn address_in(content: &Content) -> Option<Addr>
 fn add(addresses: &mut Vec<Addr>, address: Option<Addr>) -> Result<(), OutOfMemory>
     ensures { OnOk result (map (λ a. a.0) addresses.new.items
         ≡ map (λ a. a.0) addresses.old.items
-        ++ at_most_one (option_map (λ a. a.0) address)) }
+        ++ option_to_list (option_map (λ a. a.0) address)) }
 {
     if let Some(address) = address {
         addresses.push(address)?;

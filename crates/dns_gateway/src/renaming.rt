@@ -1,7 +1,7 @@
 // A message with the images of its addresses (RFC 2694).
-ghost use Rattle.std.specs.Prelude.{◌≡◌, ◌+◌, ◌≤◌, length, option_map, IfOk, OnOk};
+ghost use Rattle.std.specs.Prelude.{◌≡◌, ◌+◌, ◌≤◌, length, option_map, option_to_list, IfOk, OnOk};
 ghost use Rattle.dns_messages.specs.Suits.{MessageSuits};
-ghost use Rattle.dns_gateway.specs.Addresses.{at_most_one, question_addresses, resource_addresses, resources_addresses, message_addresses};
+ghost use Rattle.dns_gateway.specs.Addresses.{question_addresses, resource_addresses, resources_addresses, message_addresses};
 ghost use Rattle.dns_gateway.specs.Renaming.{image_at, image_of, resource_renamed, resources_renamed, question_renamed, message_renamed};
 
 use crate::addresses::address_in;
@@ -31,7 +31,7 @@ fn image_of(address: Option<Addr>, images: &[Option<Addr>], place: usize) -> Opt
 
 /// How many images an address takes.
 fn count_of(address: Option<Addr>) -> usize
-    ensures count { result ≡ length (at_most_one (option_map (λ a. a.0) address)) }
+    ensures count { result ≡ length (option_to_list (option_map (λ a. a.0) address)) }
     ensures small { result ≤ 1 }
 {
     match address {

@@ -2,6 +2,7 @@
 use Rattle.std.proofs.Common.{◌≡◌, ℕ, ◌+◌, ◌-◌, ◌≤◌, ◌<◌, ◌^◌, true, false, ltb, eqb, List, [], ◌∷◌, ◌++◌, length, Option, Some, None, refl, sym, ap, subst, append_assoc, arith, inl, inr, add-zero, ◌==◌, if◌then◌else◌, IfSome, take_at, append-nil, length-append, length-drop}
 use Rattle.byteorder.specs.Endian.{big_number, big_bytes}
 use Rattle.std.specs.List.{AllByRecursion}
+use Rattle.std.specs.Option.{option_len}
 use Rattle.std.proofs.lemmas.Bool.{le-ltb, cases_Bool, eq-eqb}
 use Rattle.dns_names.specs.Prelude.{IsName, spelled, name_at, Start, Added, spell_by, found}
 use Rattle.dns_names.specs.Spelling.{spell}
@@ -18,7 +19,7 @@ use Rattle.dns_messages.specs.Forms.{form_of, form_at}
 use Rattle.dns_messages.specs.Suits.{Suits, ResourceSuits, MessageSuits}
 use Rattle.dns_messages.specs.Inside.Suits.{ContentFits, ResourceFits, QuestionFits, MessageFits}
 use Rattle.dns_messages.specs.Reading.{number_at, octets_at, content_by, resource_at, resources_at, question_at, questions_at, message_at}
-use Rattle.dns_messages.specs.Writing.{put, join, behind_length, content_written, resource_written, resources_written, questions_written, question_count, message_written, spelling}
+use Rattle.dns_messages.specs.Writing.{put, join, behind_length, content_written, resource_written, resources_written, questions_written, message_written, spelling}
 use Rattle.dns_messages.proofs.Exact.{ends}
 
 -- the label starts are known once more was written
@@ -282,7 +283,7 @@ resources-again m starts place (e ∷ es) ok suits short known h =
 -- ---- the question and the message
 
 pub record QuestionsAgain (m : List ℕ) (starts : List Start) (place : ℕ) (q : Option Question) : Type 0 where
-  pub reads : questions_at (question_count q) m place ≡ Some (q, place + length (Added.octets (questions_written q starts place)))
+  pub reads : questions_at (option_len q) m place ≡ Some (q, place + length (Added.octets (questions_written q starts place)))
   pub knows : Knows m starts place (questions_written q starts place)
 
 questions-again : (m : List ℕ) (starts : List Start) (place : ℕ) (q : Option Question) → IfSome q QuestionFits → AreKnown m place starts
@@ -318,7 +319,7 @@ unfolding message_at
 whole-again m w ok suits short same h =
     let o0 = big_bytes 2 w.id in
     let o1 = big_bytes 2 w.flags in
-    let o2 = big_bytes 2 (question_count w.question) in
+    let o2 = big_bytes 2 (option_len w.question) in
     let o3 = big_bytes 2 (length w.answers) in
     let o4 = big_bytes 2 (length w.authority) in
     let o5 = big_bytes 2 (length w.additional) in
@@ -360,7 +361,7 @@ whole-again m w ok suits short same h =
     let h9 = Holds-back m p8 x8.octets x9.octets h8 in
     let n0 = number-again 2 (2 ^ 16) wide16 m 0 w.id ok.id (Holds-front m 0 o0 r1 h) in
     let n1 = number-again 2 (2 ^ 16) wide16 m p1 w.flags ok.flags (Holds-front m p1 o1 r2 h1) in
-    let n2 = number-again 2 (2 ^ 16) wide16 m p2 (question_count w.question) (count_small w.question) (Holds-front m p2 o2 r3 h2) in
+    let n2 = number-again 2 (2 ^ 16) wide16 m p2 (option_len w.question) (count_small w.question) (Holds-front m p2 o2 r3 h2) in
     let n3 = number-again 2 (2 ^ 16) wide16 m p3 (length w.answers) ok.answers_count (Holds-front m p3 o3 r4 h3) in
     let n4 = number-again 2 (2 ^ 16) wide16 m p4 (length w.authority) ok.authority_count (Holds-front m p4 o4 r5 h4) in
     let n5 = number-again 2 (2 ^ 16) wide16 m p5 (length w.additional) ok.additional_count (Holds-front m p5 o5 r6 h5) in
@@ -371,7 +372,7 @@ whole-again m w ok suits short same h =
     let end : eqb (p9 + length x9.octets) (length m) ≡ true = eq-eqb _ _ (omega arith) in
     rw (n0, n1, n2, n3, n4, n5, q.reads, a.reads, b.reads, c.reads, end) refl
   where
-    count_small : (q : Option Question) → question_count q < 2 ^ 16
+    count_small : (q : Option Question) → option_len q < 2 ^ 16
     count_small None = omega arith
     count_small (Some q) = omega arith
 

@@ -95,12 +95,6 @@ message_at message = do
   answers ← resources_at answered.0 message question.1
   authority ← resources_at backed.0 message answers.1
   additional ← resources_at added.0 message authority.1
-  if additional.1 == length message then Some
-      (record {
-        id = id.0;
-        flags = flags.0;
-        question = question.0;
-        answers = answers.0;
-        authority = authority.0;
-        additional = additional.0;
-      }) else None
+  let read : Message =
+      record { id = id.0; flags = flags.0; question = question.0; answers = answers.0; authority = authority.0; additional = additional.0 }
+  if additional.1 == length message then Some read else None

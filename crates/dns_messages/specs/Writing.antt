@@ -1,5 +1,6 @@
 -- How a message is written.
 use Rattle.std.specs.Prelude.{ℕ, ◌+◌, List, [], ◌∷◌, ◌++◌, length, Option, Some, None}
+use Rattle.std.specs.Option.{option_len}
 use Rattle.byteorder.specs.Endian.{big_bytes}
 use Rattle.dns_names.specs.Prelude.{Start, Added, spell}
 use Rattle.dns_messages.specs.declared.message.Content.{Content}
@@ -65,14 +66,9 @@ abbrev pub questions_written : Option Question → Writer
 questions_written None = put []
 questions_written (Some q) = name q.name ⨟ put (big_bytes 2 q.kind) ⨟ put (big_bytes 2 q.class)
 
--- how many questions
-abbrev pub question_count : Option Question → ℕ
-question_count None = 0
-question_count (Some q) = 1
-
 -- the header
 abbrev pub header_written : Message → Writer
-header_written m = put (big_bytes 2 m.id) ⨟ put (big_bytes 2 m.flags) ⨟ put (big_bytes 2 (question_count m.question)) ⨟ put
+header_written m = put (big_bytes 2 m.id) ⨟ put (big_bytes 2 m.flags) ⨟ put (big_bytes 2 (option_len m.question)) ⨟ put
     (big_bytes 2 (length m.answers)) ⨟ put (big_bytes 2 (length m.authority)) ⨟ put (big_bytes 2 (length m.additional))
 
 -- the whole message

@@ -1,12 +1,13 @@
 // Writing messages.
 ghost use Rattle.std.specs.Prelude.{◌≡◌, ◌+◌, ◌<◌, ◌≤◌, ◌^◌, OnOk, IfOk, IfSome, length, Err, true, false};
 ghost use Rattle.std.specs.List.{AllByRecursion};
+ghost use Rattle.std.specs.Option.{option_len};
 ghost use Rattle.byteorder.specs.Endian.{big_bytes};
 ghost use Rattle.dns_names.specs.Prelude.{IsName, nothing};
 ghost use Rattle.dns_messages.specs.Relation.{IsMessage};
 ghost use Rattle.dns_messages.specs.Suits.{MessageSuits};
 ghost use Rattle.dns_messages.specs.Inside.Suits.{HasNoRecords, ContentFits, ResourceFits, QuestionFits, MessageFits};
-ghost use Rattle.dns_messages.specs.Writing.{content_written, sized, head_written, resource_written, resources_written, questions_written, header_written, question_count, message_written, spelling, put, name, ◌⨟◌};
+ghost use Rattle.dns_messages.specs.Writing.{content_written, sized, head_written, resource_written, resources_written, questions_written, header_written, message_written, spelling, put, name, ◌⨟◌};
 ghost use Rattle.dns_messages.specs.Inside.Writers.{wrote, Writes};
 
 use crate::message::{Content, Message, Question, Resource};
@@ -184,7 +185,7 @@ fn put_question<'a>(
 }
 
 fn asked(question: &Option<Question>) -> u16
-    ensures { result ≡ question_count question.now }
+    ensures { result ≡ option_len question.now }
 {
     match question {
         None => 0,

@@ -1,21 +1,13 @@
 -- The label starts that a writer's map holds.
-use Rattle.std.proofs.Common.{◌≡◌, ◌⊎◌, ℕ, ◌<◌, ◌≤◌, Bool, true, false, cond, List, [], ◌∷◌, ◌++◌, length, Option, Some, None, refl, sym, ap, subst, ◌∙◌, arith, inl, inr, nat_lt, IfSome, bytes_eq, append-nil, take-append-drop}
-use Rattle.std.specs.Ordering.{is_eq, match_ordering, nat_cmp}
-use Rattle.std.specs.declared.cmp.Ordering.{Ordering}
-use Rattle.std.specs.declared.cmp.Ordering.TheVariants.{Less, Equal, Greater}
-use Rattle.std.specs.Cmp.Lexicographic.{on_texts, slice_cmp}
-use Rattle.std.specs.BTreeMap.{BTreeMap, UpdatesBy, insert_entry}
-use Rattle.std.specs.Map.{lookup, IsKeyTest, AreApart, KeepsOthers}
+use Rattle.std.proofs.Common.{◌≡◌, ◌⊎◌, ℕ, ◌<◌, ◌≤◌, true, false, cond, List, [], ◌∷◌, ◌++◌, length, Option, Some, None, refl, sym, ap, ◌∙◌, arith, inl, inr, nat_lt, IfSome, bytes_eq, append-nil, take-append-drop}
 use Rattle.std.specs.List.{AllByRecursion}
-use Rattle.std.proofs.lemmas.Bool.{cases_Bool, lt-ltb, le-ltb, ltb-true}
-use Rattle.std.specs.Cmp.{eq_by_cmp_equiv}
-use Rattle.std.proofs.lemmas.Map.Text.{is_eq-slice_cmp}
+use Rattle.std.proofs.lemmas.Bool.{cases_Bool, ltb-true}
 use Rattle.std.proofs.lemmas.Slice.Eq.{bytes_eq-Decides}
 use Rattle.dns_names.specs.declared.suffix.Suffix.{Suffix}
-use Rattle.dns_names.specs.Prelude.{behind, first_label, key, key_of, Start, found, with_start, Ends, EndsAt, starts_in, IsIndex}
+use Rattle.dns_names.specs.Prelude.{behind, first_label, key_of, Start, found, with_start, Ends, EndsAt, starts_in, IsIndex}
 use Rattle.dns_names.specs.Inside.Longest.{IsClosed}
 use Rattle.dns_names.proofs.Walking.{chosen}
-use Rattle.dns_names.specs.Inside.Writers.{put_start, place_in, after_in, HaveOwnPlaces, IsFresh, IsNear, IsPending, Remembers}
+use Rattle.dns_names.specs.Inside.Writers.{after_in, HaveOwnPlaces, IsFresh, IsNear, IsPending}
 
 pub apart : (bs cs ks : List ℕ) → bytes_eq bs cs ≡ false → bytes_eq bs ks ≡ true → bytes_eq cs ks ≡ false
 apart bs cs ks n y =

@@ -152,30 +152,40 @@ halves (x ∷ low) middle high r =
     let all = all-front _ low (middle ∷ high) r.0 in
     record { low_rises = (all.0, h.low_rises); high_rises = h.high_rises; below = (all.1.0, h.below); above = h.above }
 
-module _ (s : Suffix) (low : List (Suffix × ℕ)) (middle : Suffix × ℕ) (high : List (Suffix × ℕ)) (r : Rises (low ++ middle ∷ high)) where
-  high-off : s.behind ≤ middle.0.behind → AllByRecursion (IsOff s) high
-  high-off le = all-more _ (IsOff s) high (λ x gt same. omega (arith, le, gt, same)) (halves low middle high r).above
+-- where a suffix is sought in a list that rises and was halved
+pub record Halved (s : Suffix) (all low : List (Suffix × ℕ)) (middle : Suffix × ℕ) (high : List (Suffix × ℕ)) : Type 0 where
+  pub in_low : s.behind < middle.0.behind → Rises low × (place_in all (key s) ≡ place_in low (key s))
+  pub in_high : middle.0.behind < s.behind → Rises high × (place_in all (key s) ≡ place_in high (key s))
+  pub in_middle : s.behind ≡ middle.0.behind → place_in all (key s) ≡ place_in (middle ∷ []) (key s)
 
-  low-off : middle.0.behind ≤ s.behind → AllByRecursion (IsOff s) low
-  low-off le = all-more _ (IsOff s) low (λ x lt same. omega (arith, le, lt, same)) (halves low middle high r).below
-
-  pub place-low : s.behind < middle.0.behind → Rises low × (place_in (low ++ middle ∷ high) (key s) ≡ place_in low (key s))
-  place-low lt = (
-    (halves low middle high r).low_rises,
-    place-first low (middle ∷ high) (key s)
-        (place-off s (middle ∷ high) ((λ same. omega (arith, lt, same)), high-off (omega (arith, lt)))),
-  )
-
-  pub place-high : middle.0.behind < s.behind → Rises high × (place_in (low ++ middle ∷ high) (key s) ≡ place_in high (key s))
-  place-high lt = (
-    (halves low middle high r).high_rises,
-    place-none low (middle ∷ high) (key s) (place-off s low (low-off (omega (arith, lt))))
-        ∙ place-none (middle ∷ []) high (key s) (place-off s (middle ∷ []) ((λ same. omega (arith, lt, same)), tt)),
-  )
-
-  pub place-middle : s.behind ≡ middle.0.behind → place_in (low ++ middle ∷ high) (key s) ≡ place_in (middle ∷ []) (key s)
-  place-middle same = place-none low (middle ∷ high) (key s) (place-off s low (low-off (omega (arith, same))))
-      ∙ place-first (middle ∷ []) high (key s) (place-off s high (high-off (omega (arith, same))))
+pub halved : (s : Suffix) (all low rest : List (Suffix × ℕ)) (middle : Suffix × ℕ) (high : List (Suffix × ℕ)) → Rises all → all ≡ low ++ rest
+    → rest ≡ middle ∷ high → Halved s all low middle high
+halved s all low rest middle high rises cut first =
+    let is = cut ∙ ap (λ (es : List (Suffix × ℕ)). low ++ es) first in
+    subst (λ (es : List (Suffix × ℕ)). Halved s es low middle high) (sym is)
+    (where_sought (subst (λ (es : List (Suffix × ℕ)). Rises es) is rises))
+  where
+    where_sought : Rises (low ++ middle ∷ high) → Halved s (low ++ middle ∷ high) low middle high
+    where_sought r =
+        let h = halves low middle high r in
+        let high-off = λ (le : s.behind ≤ middle.0.behind).
+        all-more _ (IsOff s) high (λ x gt same. omega (arith, le, gt, same)) h.above in
+        let low-off = λ (le : middle.0.behind ≤ s.behind).
+        all-more _ (IsOff s) low (λ x lt same. omega (arith, le, lt, same)) h.below in
+        record {
+          in_low = λ lt. (
+            h.low_rises,
+            place-first low (middle ∷ high) (key s)
+                (place-off s (middle ∷ high) ((λ same. omega (arith, lt, same)), high-off (omega (arith, lt)))),
+          );
+          in_high = λ lt. (
+            h.high_rises,
+            place-none low (middle ∷ high) (key s) (place-off s low (low-off (omega (arith, lt))))
+                ∙ place-none (middle ∷ []) high (key s) (place-off s (middle ∷ []) ((λ same. omega (arith, lt, same)), tt)),
+          );
+          in_middle = λ same. place-none low (middle ∷ high) (key s) (place-off s low (low-off (omega (arith, same))))
+              ∙ place-first (middle ∷ []) high (key s) (place-off s high (high-off (omega (arith, same))));
+        }
 
 -- a list goes on to rise
 pub rises-push : (es : List (Suffix × ℕ)) (e : Suffix × ℕ) → Rises es → AreBelow e.0.behind es → Rises (es ++ e ∷ [])

@@ -1,8 +1,8 @@
 -- The walk finds the name that stands at a place, and no other.
-use Rattle.std.proofs.Common.{◌≡◌, ℕ, zero, suc, ◌+◌, ◌-◌, ◌≤◌, ◌<◌, false, ltb, List, [], ◌∷◌, length, Some, None, refl, sym, ap, subst, arith, inl, inr, nat_lt, ltb-false, ltb-true, le-ltb, lt-ltb, length-append, IfOk, Result, Ok, Err}
+use Rattle.std.proofs.Common.{◌≡◌, ℕ, zero, suc, ◌+◌, ◌-◌, ◌≤◌, ◌<◌, false, ltb, List, [], ◌∷◌, length, Some, None, refl, sym, ap, subst, arith, inl, inr, nat_lt, ltb-false, ltb-true, le-ltb, lt-ltb, length-append, option_map, IfOk, Result, Ok, Err}
 use Rattle.dns_names.specs.Prelude.{Root, Label, Pointer, Nothing, piece_at, Stands, AtRoot, AtLabel, AtPointer, NameAt, spelled, ReturnsRead}
 use Rattle.dns_names.specs.Names.{Piece}
-use Rattle.dns_names.specs.Walk.{Walked, with_label, ending_at, walk_on, walk, name_at}
+use Rattle.dns_names.specs.Walk.{Walked, walk_on, walk, name_at}
 use Rattle.dns_names.proofs.Walking.{chosen}
 use Rattle.dns_names.specs.declared.stop.NameStop.{NameStop}
 use Rattle.dns_names.specs.declared.stop.NameStop.TheVariants.{BadDns, OutOfMemory}
@@ -30,7 +30,8 @@ pub record Labelled (l : List ℕ) (w : Walked) (ls : List (List ℕ)) (after : 
   pub is : ls ≡ l ∷ rest
   pub was : w ≡ Some (rest, after)
 
-labelled : (l : List ℕ) (w : Walked) (ls : List (List ℕ)) (after : ℕ) → with_label l w ≡ Some (ls, after) → Labelled l w ls after
+labelled : (l : List ℕ) (w : Walked) (ls : List (List ℕ)) (after : ℕ)
+    → option_map {U = List (List ℕ) × ℕ} (λ x. (l ∷ x.0, x.1)) w ≡ Some (ls, after) → Labelled l w ls after
 labelled l None ls after e = absurd cc
 labelled l (Some x) ls after e =
     let p : (l ∷ x.0, x.1) ≡ (ls, after) = cc in
@@ -42,7 +43,8 @@ pub record Ended (at : ℕ) (w : Walked) (ls : List (List ℕ)) (after : ℕ) : 
   pub is : after ≡ at
   pub was : w ≡ Some (ls, before)
 
-ended : (at : ℕ) (w : Walked) (ls : List (List ℕ)) (after : ℕ) → ending_at at w ≡ Some (ls, after) → Ended at w ls after
+ended : (at : ℕ) (w : Walked) (ls : List (List ℕ)) (after : ℕ) → option_map {U = List (List ℕ) × ℕ} (λ x. (x.0, at)) w ≡ Some (ls, after)
+    → Ended at w ls after
 ended at None ls after e = absurd cc
 ended at (Some x) ls after e =
     let p : (x.0, at) ≡ (ls, after) = cc in
@@ -57,11 +59,12 @@ walk_on-stands go m finds room start place ls after Root is e =
     let p : ([], place + 1) ≡ (ls, after) = cc in
     subst (λ (x : List (List ℕ) × ℕ). IsWalked m room start place x.0 x.1) p (record { stands = AtRoot start place is; short = omega arith })
 walk_on-stands go m finds room start place ls after (Label l) is e =
-    elim (chosen (nat_lt room (1 + length l)) no_walk (with_label l (go (room - (1 + length l)) start (place + 1 + length l))) (Some (ls, after)) e) [
+    let rest = go (room - (1 + length l)) start (place + 1 + length l) in
+    elim (chosen (nat_lt room (1 + length l)) no_walk (option_map {U = List (List ℕ) × ℕ} (λ x. (l ∷ x.0, x.1)) rest) (Some (ls, after)) e) [
       | inl t ↦ absurd (let q : no_walk ≡ Some (ls, after) = t.1 in cc)
       | inr f ↦
           let fits : 1 + length l ≤ room = ltb-false _ _ f.0 in
-          let g = labelled l (go (room - (1 + length l)) start (place + 1 + length l)) ls after f.1 in
+          let g = labelled l rest ls after f.1 in
           let r = finds (room - (1 + length l)) start (place + 1 + length l) g.rest after g.was in
           subst (λ (x : List (List ℕ)). IsWalked m room start place x after) (sym g.is) (record {
             stands = AtLabel start place l g.rest after is r.stands;
@@ -69,7 +72,7 @@ walk_on-stands go m finds room start place ls after (Label l) is e =
           })
     ]
 walk_on-stands go m finds room start place ls after (Pointer to) is e =
-    elim (chosen (nat_lt to start) (ending_at (place + 2) (go room to to)) no_walk (Some (ls, after)) e) [
+    elim (chosen (nat_lt to start) (option_map {U = List (List ℕ) × ℕ} (λ x. (x.0, place + 2)) (go room to to)) no_walk (Some (ls, after)) e) [
       | inl t ↦
           let g = ended (place + 2) (go room to to) ls after t.1 in
           let r = finds room to to ls g.before g.was in

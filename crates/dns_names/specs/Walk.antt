@@ -1,27 +1,18 @@
 -- The name at a place, in one walk.
-use Rattle.std.specs.Prelude.{ℕ, zero, suc, ◌+◌, ◌-◌, if◌then◌else◌, nat_lt, List, [], ◌∷◌, length, Option, Some, None}
+use Rattle.std.specs.Prelude.{ℕ, zero, suc, ◌+◌, ◌-◌, if◌then◌else◌, nat_lt, List, [], ◌∷◌, length, Option, Some, None, option_map}
 use Rattle.dns_names.specs.Names.{Piece, Root, Label, Pointer, Nothing, piece_at}
 
 -- labels, and the place after them
 abbrev pub Walked : Type 0
 Walked = Option (List (List ℕ) × ℕ)
 
--- a label before the others
-abbrev pub with_label : List ℕ → Walked → Walked
-with_label label None = None
-with_label label (Some x) = Some (label ∷ x.0, x.1)
-
--- the same labels, but another place after them
-abbrev pub ending_at : ℕ → Walked → Walked
-ending_at after None = None
-ending_at after (Some x) = Some (x.0, after)
-
 -- how a walk goes on from a piece, where the labels to come have room for so many octets
 abbrev pub walk_on : (ℕ → ℕ → ℕ → Walked) → Piece → ℕ → ℕ → ℕ → Walked
 walk_on go Root room start place = Some ([], place + 1)
-walk_on go (Label label) room start place = if nat_lt room (1 + length label) then None else with_label label
-    (go (room - (1 + length label)) start (place + 1 + length label))
-walk_on go (Pointer to) room start place = if nat_lt to start then ending_at (place + 2) (go room to to) else None
+walk_on go (Label label) room start place =
+    if nat_lt room (1 + length label) then None
+    else option_map (λ x. (label ∷ x.0, x.1)) (go (room - (1 + length label)) start (place + 1 + length label))
+walk_on go (Pointer to) room start place = if nat_lt to start then option_map (λ x. (x.0, place + 2)) (go room to to) else None
 walk_on go Nothing room start place = None
 
 -- a walk over at most so many pieces

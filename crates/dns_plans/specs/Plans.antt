@@ -10,7 +10,8 @@ use Rattle.binding_table.specs.Prelude.{AreUsesOf, Bindings, cross, free, Use, a
 use Rattle.binding_table.specs.declared.binding.Crossing.TheVariants.{Unbound}
 use Rattle.dialogue.specs.Prelude.{Entry, cut}
 use Rattle.dns_stream.specs.Prelude.{dns_units}
-use Rattle.gate_model.specs.Prelude.{most_entries, addresses_in, entered, is_bad, grows_too_much, is_new_unbound}
+use Rattle.gate_model.specs.Prelude.{addresses_in, entered, is_bad, grows_too_much, is_new_unbound}
+use Rattle.dialogue.specs.declared.TheConstants.{MOST_ENTRIES}
 use Rattle.dns_plans.specs.declared.plan.Endpoints.{Endpoints}
 use Rattle.dns_plans.specs.declared.stop.PlanStop.{PlanStop}
 use Rattle.dns_plans.specs.declared.stop.PlanStop.TheVariants.{Refused, OutOfMemory}
@@ -51,7 +52,7 @@ plan_tests table called ends entries octets =
     let after = entered called entries names in
     (list_any is_bad units, BadUnit)
     ∷ (list_any (is_new_unbound table ends.side entries) names, UnitUnbound)
-    ∷ (nat_lt most_entries (length after), RenamesFull)
+    ∷ (nat_lt MOST_ENTRIES (length after), RenamesFull)
     ∷ (nat_lt (free table (other ends.side)) (needed table ends.side (all_addresses ends names)), PoolEmpty)
     ∷ (list_any (grows_too_much after) units, UnitGrows)
     ∷ []

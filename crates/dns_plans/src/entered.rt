@@ -1,29 +1,28 @@
 // Addresses that are entered into a list.
 ghost use Rattle.std.specs.Prelude.{◌≡◌, ◌≤◌, ◌++◌, true, not, is_none, nat_lt, length, IfOk, IfSome};
 ghost use Rattle.std.specs.List.{list_any};
-ghost use Rattle.gate_model.specs.Prelude.{most_entries, is_unbound, is_new_unbound};
+ghost use Rattle.gate_model.specs.Prelude.{is_unbound, is_new_unbound};
 ghost use Rattle.dns_plans.specs.Steps.{enter_one, entered_all};
 
 use crate::sender::Sender;
 use crate::session::Session;
 use binding_table::{Crossing, Table};
+use dialogue::MOST_ENTRIES;
 use dns_stream::{Entry, RenameList};
 use gate_base::{Addr, OutOfMemory, Side};
 use std::alloc::Global;
 
-/// The most entries of a list.
-const MOST_ENTRIES: usize = 256;
-
 /// Enters an address into `new`, unless the sender's list or `new` has it. False exactly where it would be the 257th entry.
 fn enter_one<S: Session>(sender: &Sender<'_, S>, new: &mut RenameList, one: Entry) -> bool
     requires few { length
-        (S.rules.listed sender.now.host sender.now.session.now ++ new.old) ≤ 256 }
+        (S.rules.listed sender.now.host sender.now.session.now ++ new.old)
+        ≤ MOST_ENTRIES }
     ensures entered { result ≡ true
         → S.rules.listed sender.now.host sender.now.session.now ++ new.new
         ≡ enter_one
         (S.rules.listed sender.now.host sender.now.session.now ++ new.old) one }
     ensures room { result
-        ≡ not (nat_lt most_entries (length (enter_one
+        ≡ not (nat_lt MOST_ENTRIES (length (enter_one
         (S.rules.listed sender.now.host sender.now.session.now ++ new.old) one))) }
 {
     if sender.knows(one.0) || new.image_of(one.0).is_some() {
@@ -36,7 +35,7 @@ fn enter_one<S: Session>(sender: &Sender<'_, S>, new: &mut RenameList, one: Entr
     true
 }
 
-/// What is new to the sender's list once these are entered, one after the other. None exactly where the list would have more than 256
+/// What is new to the sender's list once these are entered, one after the other. None exactly where the list would have more than `MOST_ENTRIES`
 /// entries with it.
 pub fn new_entries<S: Session>(
     alloc: Global,
@@ -44,7 +43,7 @@ pub fn new_entries<S: Session>(
     named: &[Entry],
 ) -> Result<Option<RenameList>, OutOfMemory>
     ensures few { IfOk result (λ new. is_none new
-        ≡ nat_lt most_entries (length (entered_all
+        ≡ nat_lt MOST_ENTRIES (length (entered_all
         (S.rules.listed sender.now.host sender.now.session.now) named.now))) }
     ensures list { IfOk result (λ new. IfSome new (λ list.
         S.rules.listed sender.now.host sender.now.session.now ++ list
@@ -52,7 +51,7 @@ pub fn new_entries<S: Session>(
         named.now)) }
 {
     let mut new = RenameList::new(alloc)?;
-    // The proof needs that the list has at most 256 entries.
+    // The proof needs that the list has at most `MOST_ENTRIES`.
     let _few = sender.listed();
     for one in named {
         if !enter_one(sender, &mut new, *one) {

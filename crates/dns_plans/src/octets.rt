@@ -1,5 +1,6 @@
 // Room for the octets in which units end.
 ghost use Rattle.std.specs.Prelude.{◌≡◌, ◌≤◌, ◌++◌, [], length, IfOk};
+ghost use Rattle.gate_base.specs.declared.protocol.TheConstants.{LONGEST_DATAGRAM};
 
 use gate_base::OutOfMemory;
 use std::alloc::Global;
@@ -51,7 +52,7 @@ impl UnitOctets {
     /// Holds a rest, of at most 8,193 octets, and what follows it, at most 65,535.
     pub fn join(&mut self, rest: &[u8], fresh: &[u8])
         requires rest { length rest.now ≤ 8193 }
-        requires fresh { length fresh.now ≤ 65535 }
+        requires fresh { length fresh.now ≤ LONGEST_DATAGRAM }
         ensures { self.new ≡ rest.now ++ fresh.now }
     {
         self.octets.clear();

@@ -108,7 +108,7 @@ fn plan_none<S: Session>(
     ensures images { IfOk result (λ plan. plan.images.items ≡ []) }
     ensures memory { result ≢ Err PlanStop.OutOfMemory }
 {
-    // The proof needs that the list has at most 256 entries.
+    // The proof needs that the list has at most `MOST_ENTRIES`.
     let _few = sender.listed();
     let header = [endpoints.source, endpoints.destination];
     if !table.plan(endpoints.side, &header, &mut [None, None], seen_addresses) {

@@ -1,6 +1,7 @@
 // The host of a session that sends a segment.
 ghost use Rattle.std.specs.Prelude.{◌≡◌, ◌≤◌, length};
 ghost use Rattle.dialogue.specs.Prelude.{is_listed, listed_image};
+ghost use Rattle.dialogue.specs.declared.TheConstants.{MOST_ENTRIES};
 
 use crate::session::Session;
 use gate_base::{Addr, Host};
@@ -22,7 +23,7 @@ impl<S: Session> Sender<'_, S> {
     pub(crate) fn listed(&self) -> usize
         ensures count { result
             ≡ length (S.rules.listed self.now.host self.now.session.now) }
-        ensures few { result ≤ 256 }
+        ensures few { result ≤ MOST_ENTRIES }
     {
         self.session.listed(self.host)
     }

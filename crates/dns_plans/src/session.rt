@@ -1,6 +1,7 @@
 // Sessions that are tracked, whatever they keep.
 ghost use Rattle.std.specs.Prelude.{◌≡◌, ◌≤◌, ◌<◌, length, slice_get, None, Some};
 ghost use Rattle.dialogue.specs.Prelude.{listed_image};
+ghost use Rattle.dialogue.specs.declared.TheConstants.{MOST_ENTRIES};
 ghost use Rattle.stream_model.specs.Prelude.{segment_in};
 ghost use Rattle.dns_plans.specs.Plans.{whole_units};
 ghost use Rattle.gate_model.specs.Prelude.{SessionRules, host_on};
@@ -24,10 +25,10 @@ pub trait Session {
     fn inner(&self, host: Host, sequence: u32) -> Option<u32>
         ensures { result ≡ rules.inner host self.now sequence };
 
-    /// How many entries the list of a host has, at most 256: none in a session of FTP.
+    /// How many entries the list of a host has, at most `MOST_ENTRIES`: none in a session of FTP.
     fn listed(&self, host: Host) -> usize
         ensures count { result ≡ length (rules.listed host self.now) }
-        ensures few { result ≤ 256 };
+        ensures few { result ≤ MOST_ENTRIES };
 
     /// The address and its image at a place of that list; None for an address that is kept. The place must lie below `listed`.
     fn entry(&self, host: Host, place: usize) -> Entry

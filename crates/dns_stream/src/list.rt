@@ -3,17 +3,15 @@ ghost use Rattle.std.specs.Prelude.{◌≡◌, ◌≤◌, ◌<◌, ◌+◌, fals
 ghost use Rattle.dialogue.specs.Prelude.{Entry, is_listed, listed_image};
 ghost use Rattle.dns_stream.specs.Inside.Order.{Rises, IsAt, IsGapFor, AreOneList};
 
+use dialogue::MOST_ENTRIES;
 use gate_base::{Addr, OutOfMemory};
 use std::alloc::Global;
 use std::marker::Model;
 
-/// The most entries of a list.
-const MOST_ENTRIES: usize = 256;
-
 /// An address with its image, or one that is kept.
 pub type Entry = (Addr, Option<Addr>);
 
-/// A list of at most 256 entries, in which an address is found by halving. Contracts see the entries in the order in which they
+/// A list of at most `MOST_ENTRIES`, in which an address is found by halving. Contracts see the entries in the order in which they
 /// were learned.
 #[derive(Drop)]
 pub struct RenameList {
@@ -25,17 +23,20 @@ pub struct RenameList {
 impl Model for RenameList {
     ghost use Rattle.std.specs.Prelude.{◌≤◌, List, vec_capacity};
     ghost use Rattle.dialogue.specs.Prelude.{Entry};
+    ghost use Rattle.dialogue.specs.declared.TheConstants.{MOST_ENTRIES};
     ghost use Rattle.dns_stream.specs.Inside.Order.{AreOneList};
 
     ghost Value = { List Entry };
 
     ghost view = { λ list. list.entries.items };
 
-    ghost invariant = { λ list. (256 ≤ vec_capacity list.entries) × (256 ≤ vec_capacity list.sorted) × AreOneList list.entries.items list.sorted.items };
+    ghost invariant = { λ list. (MOST_ENTRIES ≤ vec_capacity list.entries)
+        × (MOST_ENTRIES ≤ vec_capacity list.sorted)
+        × AreOneList list.entries.items list.sorted.items };
 }
 
 impl RenameList {
-    /// No entry, and room for 256; the error is that there is too little memory. Nothing that is learned takes memory.
+    /// No entry, and room for `MOST_ENTRIES`; the error is that there is too little memory. Nothing that is learned takes memory.
     pub fn new(alloc: Global) -> Result<RenameList, OutOfMemory>
         ensures { IfOk result (λ list. list ≡ []) }
     {
@@ -48,7 +49,7 @@ impl RenameList {
     /// The number of entries.
     pub fn len(&self) -> usize
         ensures len { result ≡ length self.now }
-        ensures few { result ≤ 256 }
+        ensures few { result ≤ MOST_ENTRIES }
     {
         self.entries.len()
     }
@@ -72,10 +73,10 @@ impl RenameList {
         }
     }
 
-    /// Appends an entry. The address must not be listed, and there must be fewer than 256 entries.
+    /// Appends an entry. The address must not be listed, and there must be fewer than `MOST_ENTRIES`.
     pub fn learn(&mut self, address: Addr, image: Option<Addr>)
         requires unknown { is_listed self.old address.0 ≡ false }
-        requires few { length self.old < 256 }
+        requires few { length self.old < MOST_ENTRIES }
         ensures { self.new ≡ self.old ++ (address, image) ∷ [] }
     {
         self.entries.push_reserved((address, image));
@@ -106,7 +107,7 @@ fn put(sorted: &mut Vec<Entry>, entry: Entry)
     requires rises { Rises sorted.old.items }
     requires room { vec_len sorted.old < vec_capacity sorted.old }
     ensures one { (entries : List Entry)
-        → length entries < 256
+        → length entries < MOST_ENTRIES
         → AreOneList entries sorted.old.items
         → AreOneList (entries ++ entry ∷ []) sorted.new.items }
     ensures room { vec_capacity sorted.old ≤ vec_capacity sorted.new }
@@ -121,10 +122,10 @@ fn put(sorted: &mut Vec<Entry>, entry: Entry)
 
 /// Makes a list of these entries in the order of their addresses.
 fn sort(sorted: &mut Vec<Entry>, entries: &[Entry])
-    requires few { length entries.now ≤ 256 }
-    requires room { 256 ≤ vec_capacity sorted.old }
+    requires few { length entries.now ≤ MOST_ENTRIES }
+    requires room { MOST_ENTRIES ≤ vec_capacity sorted.old }
     ensures one { AreOneList entries.now sorted.new.items }
-    ensures room { 256 ≤ vec_capacity sorted.new }
+    ensures room { MOST_ENTRIES ≤ vec_capacity sorted.new }
 {
     sorted.clear();
     for entry in entries {

@@ -4,18 +4,19 @@ use Rattle.std.proofs.lemmas.List.{length-drop, take_at, drop_at, drop_all, drop
 use borrow.Rule.Slice.PartMut.{put_mid}
 use Rattle.byteorder.specs.Endian.{big_bytes, big_number}
 use Rattle.gate_base.specs.Prelude.{with_u16}
-use Rattle.ether_frames.specs.Ether.{Ether, ipv4_head, ipv4_type, read_frame}
+use Rattle.ether_frames.specs.Ether.{Ether, ipv4_head, read_frame}
+use Rattle.ether_frames.specs.declared.head.TheConstants.{IPV4}
 
 -- two addresses and what stands behind them, once the type was put there
 written : (destination source rest : List ℕ) → length destination ≡ 6 → length source ≡ 6 → length rest ≡ 2
-    → with_u16 12 ipv4_type ((destination ++ source) ++ rest) ≡ ipv4_head destination source
+    → with_u16 12 IPV4 ((destination ++ source) ++ rest) ≡ ipv4_head destination source
 written destination source rest d s r =
     let addresses = length-append destination source in
     let front : take 12 ((destination ++ source) ++ rest) ≡ destination ++ source = take_at (destination ++ source) rest 12 (omega arith) in
     let behind : drop 14 ((destination ++ source) ++ rest) ≡ [] =
     drop_all 14 ((destination ++ source) ++ rest) (omega (arith, length-append (destination ++ source) rest)) in
-    ap (λ (xs : List ℕ). xs ++ big_bytes 2 ipv4_type ++ drop 14 ((destination ++ source) ++ rest)) front
-    ∙ ap (λ (xs : List ℕ). (destination ++ source) ++ big_bytes 2 ipv4_type ++ xs) behind ∙ append-nil (ipv4_head destination source)
+    ap (λ (xs : List ℕ). xs ++ big_bytes 2 IPV4 ++ drop 14 ((destination ++ source) ++ rest)) front
+    ∙ ap (λ (xs : List ℕ). (destination ++ source) ++ big_bytes 2 IPV4 ++ xs) behind ∙ append-nil (ipv4_head destination source)
 
 -- the second address, put behind the first
 second : (destination source head : List ℕ) → length destination ≡ 6 → length head ≡ 14
@@ -44,19 +45,19 @@ head_written destination source head octets a b d s h first last put =
 
 -- a frame with such a head is read with its type and what follows
 pub head_reads : (destination source payload : List ℕ) → length destination ≡ 6 → length source ≡ 6
-    → read_frame (ipv4_head destination source ++ payload) ≡ Some (record { kind = ipv4_type; payload = payload })
+    → read_frame (ipv4_head destination source ++ payload) ≡ Some (record { kind = IPV4; payload = payload })
 unfolding read_frame
 head_reads destination source payload d s =
     let addresses = length-append destination source in
-    let head = length-append (destination ++ source) (big_bytes 2 ipv4_type) in
+    let head = length-append (destination ++ source) (big_bytes 2 IPV4) in
     let all = length-append (ipv4_head destination source) payload in
     let enough : nat_lt (length (ipv4_head destination source ++ payload)) 14 ≡ false = le-ltb (length (ipv4_head destination source ++ payload)) 14
     (omega (arith, addresses, head, all)) in
     let behind : drop 14 (ipv4_head destination source ++ payload) ≡ payload =
     drop_at (ipv4_head destination source) payload 14 (omega (arith, addresses, head)) in
-    let kind : drop 12 (ipv4_head destination source ++ payload) ≡ big_bytes 2 ipv4_type ++ payload =
-    ap (drop 12) (append_assoc (destination ++ source) (big_bytes 2 ipv4_type) payload)
-    ∙ drop_at (destination ++ source) (big_bytes 2 ipv4_type ++ payload) 12 (omega (arith, addresses)) in
+    let kind : drop 12 (ipv4_head destination source ++ payload) ≡ big_bytes 2 IPV4 ++ payload =
+    ap (drop 12) (append_assoc (destination ++ source) (big_bytes 2 IPV4) payload)
+    ∙ drop_at (destination ++ source) (big_bytes 2 IPV4 ++ payload) 12 (omega (arith, addresses)) in
     rw enough (ap (λ (xs : List ℕ). let e : Ether = record { kind = big_number 2 xs; payload = drop 14 (ipv4_head destination source ++ payload) } in
     Some e) kind
-    ∙ ap (λ (xs : List ℕ). let e : Ether = record { kind = ipv4_type; payload = xs } in Some e) behind)
+    ∙ ap (λ (xs : List ℕ). let e : Ether = record { kind = IPV4; payload = xs } in Some e) behind)

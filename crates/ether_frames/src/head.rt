@@ -1,10 +1,10 @@
 ghost use Rattle.std.specs.Prelude.{◌≡◌, ◌≤◌, ◌++◌, Some, length, drop};
-ghost use Rattle.ether_frames.specs.Ether.{ipv4_head, ipv4_type, read_frame};
+ghost use Rattle.ether_frames.specs.Ether.{ipv4_head, read_frame};
 
 use gate_base::put_u16;
 
 /// The type of frames that carry IPv4 (RFC 894).
-pub(crate) const IPV4: u16 = 0x0800;
+pub const IPV4: u16 = 0x0800;
 
 /// Writes the head of a frame that carries IPv4 into the first 14 octets of a target, and leaves the rest.
 pub fn put_head(destination: &[u8; 6], source: &[u8; 6], target: &mut [u8])
@@ -21,5 +21,5 @@ pub fn put_head(destination: &[u8; 6], source: &[u8; 6], target: &mut [u8])
 /// A frame with the head that `put_head` writes is read with the type of IPv4 and with what follows that head.
 pub fn reads_back(destination: &[u8; 6], source: &[u8; 6], payload: &[u8])
     ensures { read_frame (ipv4_head destination.now source.now ++ payload.now)
-        ≡ Some (record { kind = ipv4_type; payload = payload.now }) }
+        ≡ Some (record { kind = IPV4; payload = payload.now }) }
 {}

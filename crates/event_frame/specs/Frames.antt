@@ -2,6 +2,7 @@
 use Rattle.std.specs.Prelude.{◌≡◌, ◌≤◌, ℕ, List, length, Some, None, Result, Ok, Err}
 use Rattle.gate_base.specs.Prelude.{Event, first_that_holds}
 use Rattle.gate_base.specs.declared.refusal.Refusal.{Refusal}
+use Rattle.gate_base.specs.declared.protocol.TheConstants.{LONGEST_DATAGRAM}
 use Rattle.ipv4_frames.specs.Ipv4.{Datagram}
 use Rattle.twice_translate.specs.Renamed.{CanGoOn, datagram_of}
 use Rattle.gate_model.specs.Prelude.{datagram_in}
@@ -13,7 +14,7 @@ use Rattle.event_frame.specs.declared.judged.Judged.{Judged}
 pub record IsJudged (octets : List ℕ) (d : Datagram) (content : Content) : Type 0 where
   pub same : datagram_of octets ≡ d
   pub can : CanGoOn octets
-  pub few : length octets ≤ 65535
+  pub few : length octets ≤ LONGEST_DATAGRAM
   pub content_is : IsContentOf d content
 
 -- of a frame that passes by itself

@@ -1,6 +1,7 @@
 -- A frame by itself, as far as it asks for nothing that is known.
 use Rattle.std.specs.Prelude.{◌≡◌, ◌==◌, Bool, false, List, ◌++◌}
 use Rattle.gate_base.specs.Prelude.{Event}
+use Rattle.gate_base.specs.declared.protocol.TheConstants.{TCP, UDP}
 use Rattle.gate_base.specs.declared.refusal.Refusal.{Refusal}
 use Rattle.ipv4_frames.specs.Ipv4.{Datagram}
 use Rattle.udp_icmp.specs.Icmp.{icmp_fields_of}
@@ -11,9 +12,9 @@ use Rattle.event_frame.specs.declared.content.Content.TheVariants.{Udp, Icmp as 
 
 -- what is read in a datagram's payload
 abbrev pub IsContentOf : Datagram → Content → Type 0
-IsContentOf d (Udp v) = (d.protocol ≡ 17) × (v ≡ udp_fields_of d.payload)
-IsContentOf d (Tcp v) = (d.protocol ≡ 6) × (v ≡ tcp_of d)
-IsContentOf d (OfIcmp v) = ((d.protocol == 17) ≡ false) × ((d.protocol == 6) ≡ false) × (v ≡ icmp_fields_of d.payload)
+IsContentOf d (Udp v) = (d.protocol ≡ UDP) × (v ≡ udp_fields_of d.payload)
+IsContentOf d (Tcp v) = (d.protocol ≡ TCP) × (v ≡ tcp_of d)
+IsContentOf d (OfIcmp v) = ((d.protocol == UDP) ≡ false) × ((d.protocol == TCP) ≡ false) × (v ≡ icmp_fields_of d.payload)
 
 -- all tests of a frame by itself
 abbrev pub front_tests : Event → List (Bool × Refusal)

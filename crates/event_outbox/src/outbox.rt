@@ -1,15 +1,19 @@
 // Datagrams that are put where there are none.
 ghost use Rattle.std.specs.Prelude.{◌≡◌, ◌+◌, ◌≤◌, ◌<◌, if◌then◌else◌, not, nat_lt, [], ◌∷◌, length, take, slice_index, slice_index_or, IsTrue, IsSome, IfOk, vec_capacity};
+ghost use Rattle.resegment.specs.declared.datagrams.TheConstants.{MOST_DATAGRAMS};
+ghost use Rattle.resegment.specs.declared.scratch.TheConstants.{SCRATCH_OCTETS};
 ghost use Rattle.icmp_errors.specs.Inner.{is_inner, inner_with};
 ghost use Rattle.snmp_gateway.specs.Message.{message, places_of};
 ghost use Rattle.snmp_gateway.specs.Renaming.{renamed as renamed_message};
 ghost use Rattle.gate_base.specs.Prelude.{AreRules};
+ghost use Rattle.gate_base.specs.declared.protocol.TheConstants.{LONGEST_DATAGRAM, UDP};
 ghost use Rattle.snmp_oids.specs.Elements.{oid_renamed};
 ghost use Rattle.twice_translate.specs.Renamed.{CanGoOn, CanTranslate, datagram_of, renamed, rebuilt, with_payload};
 ghost use Rattle.gate_model.specs.Prelude.{inside, with_inside, carried};
 ghost use Rattle.event_outbox.specs.Inside.One.{IsOne};
 
 use gate_base::Addr;
+use gate_model::MOST_CARRIED;
 use icmp_errors::put_inner;
 use oid_rules::SortedRules;
 use resegment::{Datagrams, Scratch};
@@ -17,13 +21,10 @@ use snmp_gateway::{Lookup, rename_in_place};
 use snmp_oids::rename_into;
 use twice_translate::{rebuild, translate, translate_accepted};
 
-/// The most octets that a UDP datagram carries.
-const MOST_CARRIED: usize = 65_507;
-
 /// Puts the first datagram: this one, with these addresses.
 pub fn put_renamed(outbox: &mut Datagrams, octets: &[u8], source: Addr, destination: Addr)
     requires empty { outbox.old ≡ [] }
-    requires few { length octets.now ≤ 65535 }
+    requires few { length octets.now ≤ LONGEST_DATAGRAM }
     requires can { CanGoOn octets.now }
     ensures { outbox.new
         ≡ renamed (datagram_of octets.now) source.0 destination.0 ∷ [] }
@@ -44,7 +45,7 @@ pub fn put_error(
     sequence: Option<u32>,
 )
     requires empty { outbox.old ≡ [] }
-    requires few { length octets.now ≤ 65535 }
+    requires few { length octets.now ≤ LONGEST_DATAGRAM }
     requires can { CanGoOn octets.now }
     requires inside { IsTrue (is_inner (inside (datagram_of octets.now))) }
     ensures { outbox.new
@@ -73,9 +74,9 @@ pub fn put_snmp<L: Lookup>(
     lookup: &L,
 )
     requires empty { outbox.old ≡ [] }
-    requires few { length octets.now ≤ 65535 }
+    requires few { length octets.now ≤ LONGEST_DATAGRAM }
     requires can { CanGoOn octets.now }
-    requires protocol { (datagram_of octets.now).protocol ≡ 17 }
+    requires protocol { (datagram_of octets.now).protocol ≡ UDP }
     requires message { IsSome (message (carried (datagram_of octets.now))) }
     ensures { outbox.new
         ≡ renamed
@@ -103,13 +104,13 @@ pub fn put_snmp_by_rules<L: Lookup>(
     scratch: &mut Scratch,
 ) -> bool
     requires empty { outbox.old ≡ [] }
-    requires few { length octets.now ≤ 65535 }
+    requires few { length octets.now ≤ LONGEST_DATAGRAM }
     requires can { CanGoOn octets.now }
-    requires protocol { (datagram_of octets.now).protocol ≡ 17 }
+    requires protocol { (datagram_of octets.now).protocol ≡ UDP }
     requires message { IsSome (message (carried (datagram_of octets.now))) }
     requires rules { AreRules rules.now }
     ensures fits { result
-        ≡ not (nat_lt 65507 (length (oid_renamed (L.image_of lookup.now) rules.now
+        ≡ not (nat_lt MOST_CARRIED (length (oid_renamed (L.image_of lookup.now) rules.now
         (carried (datagram_of octets.now))))) }
     ensures out { outbox.new
         ≡ (if result then rebuilt (datagram_of octets.now) source.0 destination.0
@@ -132,8 +133,8 @@ pub fn put_rebuilt(
 )
     requires empty { outbox.old ≡ [] }
     requires can { CanGoOn octets.now }
-    requires protocol { (datagram_of octets.now).protocol ≡ 17 }
-    requires fits { 28 + length payload.now ≤ 65535 }
+    requires protocol { (datagram_of octets.now).protocol ≡ UDP }
+    requires fits { 28 + length payload.now ≤ LONGEST_DATAGRAM }
     ensures { outbox.new
         ≡ rebuilt (datagram_of octets.now) source.0 destination.0 payload.now
         ∷ [] }
@@ -154,8 +155,8 @@ fn put_if_carried(
 ) -> bool
     requires empty { outbox.old ≡ [] }
     requires can { CanGoOn octets.now }
-    requires protocol { (datagram_of octets.now).protocol ≡ 17 }
-    ensures fits { result ≡ not (nat_lt 65507 (length payload.now)) }
+    requires protocol { (datagram_of octets.now).protocol ≡ UDP }
+    ensures fits { result ≡ not (nat_lt MOST_CARRIED (length payload.now)) }
     ensures out { outbox.new
         ≡ (if result then rebuilt (datagram_of octets.now) source.0 destination.0
         payload.now ∷ [] else []) }
@@ -170,10 +171,10 @@ fn put_if_carried(
 // Ends the first datagram, which these octets are.
 fn end(ends: &mut Vec<u32>, octets: &[u8])
     requires none { ends.old.items ≡ [] }
-    requires few { length octets.now ≤ 65535 }
-    requires places { 4096 ≤ vec_capacity ends.old }
+    requires few { length octets.now ≤ LONGEST_DATAGRAM }
+    requires places { MOST_DATAGRAMS ≤ vec_capacity ends.old }
     ensures one { IsOne octets.now ends.new.items }
-    ensures places { 4096 ≤ vec_capacity ends.new }
+    ensures places { MOST_DATAGRAMS ≤ vec_capacity ends.new }
 {
     ends.push_reserved(octets.len() as u32);
 }
@@ -202,7 +203,7 @@ fn rename_inside(datagram: &mut [u8], source: Addr, destination: Addr, sequence:
 // Renames the addresses in the SNMP message that a UDP datagram carries.
 fn rename_carried<L: Lookup>(datagram: &mut [u8], lookup: &L)
     requires can { CanGoOn datagram.old }
-    requires protocol { (datagram_of datagram.old).protocol ≡ 17 }
+    requires protocol { (datagram_of datagram.old).protocol ≡ UDP }
     requires message { IsSome (message (carried (datagram_of datagram.old))) }
     ensures can { CanTranslate datagram.new }
     ensures payload { datagram_of datagram.new
@@ -216,7 +217,7 @@ fn rename_carried<L: Lookup>(datagram: &mut [u8], lookup: &L)
 // What a UDP datagram carries.
 fn carried_in(octets: &[u8]) -> &[u8]
     requires can { CanGoOn octets.now }
-    requires protocol { (datagram_of octets.now).protocol ≡ 17 }
+    requires protocol { (datagram_of octets.now).protocol ≡ UDP }
     ensures carried { result.now ≡ carried (datagram_of octets.now) }
     ensures length { 28 + length result.now ≡ length octets.now }
 {
@@ -233,9 +234,9 @@ fn write_renamed<L: Lookup>(
 ) -> usize
     requires message { IsSome (message octets.now) }
     requires rules { AreRules rules.now }
-    requires short { length octets.now ≤ 65507 }
+    requires short { length octets.now ≤ MOST_CARRIED }
     requires empty { room.old.items ≡ [] }
-    requires places { 262144 ≤ vec_capacity room.old }
+    requires places { SCRATCH_OCTETS ≤ vec_capacity room.old }
     ensures size { result
         ≡ length (oid_renamed (L.image_of lookup.now) rules.now octets.now) }
     ensures within { result ≤ length room.new.items }

@@ -4,7 +4,7 @@ use Rattle.gate_base.specs.declared.refusal.Refusal.{Refusal}
 use Rattle.gate_base.specs.declared.side.Side.{Side}
 use Rattle.binding_table.specs.Prelude.{Bindings}
 use Rattle.ipv4_frames.specs.Ipv4.{Datagram}
-use Rattle.gate_model.specs.Prelude.{Whole, Kind, Udp, Echo, Error, Dns, Snmp, Stream, SessionRules, World}
+use Rattle.gate_model.specs.Prelude.{Whole, Kind, Error, Stream, SessionRules, World}
 use Rattle.event_payloads.specs.Prelude.{plain_rules, asks_none, IsTaken, IsWayOf}
 use Rattle.event_payloads.specs.Inside.Plain.{like}
 use Rattle.event_payloads.specs.declared.addresses.Way.{Way}
@@ -23,9 +23,6 @@ way_like live side d way w = record {
 pub taken_like : {S : Type 0} (rules : SessionRules S) (live : World S) (side : Side) (d : Datagram) (k : Kind) (r : Option Refusal)
     (table : Bindings) (sent : List (List ℕ)) → asks_none k ≡ true → IsTaken plain_rules (like live) side d k r table sent
     → IsTaken rules live side d k r table sent
-taken_like rules live side d (Whole Udp) r table sent e t = record { answer = t.answer; bound = t.bound; gone = t.gone }
-taken_like rules live side d (Whole Echo) r table sent e t = record { answer = t.answer; bound = t.bound; gone = t.gone }
-taken_like rules live side d (Whole Dns) r table sent e t = record { answer = t.answer; bound = t.bound; gone = t.gone }
-taken_like rules live side d (Whole Snmp) r table sent e t = record { answer = t.answer; bound = t.bound; gone = t.gone }
 taken_like rules live side d (Whole Error) r table sent e t = absurd cc
 taken_like rules live side d Stream r table sent e t = absurd cc
+taken_like rules live side d (Whole _) r table sent e t = record { answer = t.answer; bound = t.bound; gone = t.gone }

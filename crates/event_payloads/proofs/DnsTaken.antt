@@ -1,5 +1,7 @@
 -- Datagrams with a DNS message.
-use Rattle.std.proofs.Common.{Fits, w8, ◌≡◌, ◌≢◌, ℕ, ◌+◌, ◌-◌, ◌/◌, ◌%◌, ◌≤◌, ◌==◌, Bool, true, false, not, ◌&&◌, ◌||◌, nat_lt, cond, if◌then◌else◌, List, [], ◌∷◌, ◌++◌, length, map, take, drop, get_or, All, Option, Some, None, Result, Ok, Err, refl, sym, ap, subst, ◌∙◌, arith, eq-eqb, length-drop, IfOk, is_none, is_ok, take_all, take-append-drop, length-take, get_or-drop}
+use Rattle.std.proofs.Common.{Fits, w8, ◌≡◌, ◌≢◌, ℕ, ◌+◌, ◌-◌, ◌/◌, ◌%◌, ◌≤◌, ◌==◌, Bool, true, false, not, ◌&&◌, ◌||◌, nat_lt, cond, if◌then◌else◌}
+use Rattle.std.proofs.Common.{List, [], ◌∷◌, ◌++◌, length, map, take, drop, get_or, All, Option, Some, None, Result, Ok, Err, refl, sym, ap, subst}
+use Rattle.std.proofs.Common.{◌∙◌, arith, eq-eqb, length-drop, IfOk, is_none, is_ok, take_all, take-append-drop, length-take, get_or-drop}
 use Rattle.std.proofs.lemmas.Bool.{true≢false, ltb-false, le-ltb, or_parts}
 use Rattle.std.proofs.lemmas.Bool.Decides.{nat_tests}
 use Rattle.std.proofs.lemmas.List.Elements.{All-nil, All-cons}
@@ -21,7 +23,8 @@ use Rattle.twice_translate.proofs.Accepted.{ok_as, reads_udp}
 use Rattle.udp_icmp.proofs.Sealed.{long_segment}
 use Rattle.gate_base.specs.declared.refusal.Refusal.{Refusal}
 use Rattle.gate_base.specs.declared.refusal.Refusal.TheVariants.{BadDns, DnsUnbound, PoolEmpty}
-use Rattle.gate_model.specs.Prelude.{Whole, Dns, Udp, carried, message_in, named_in, is_unbound, has_unbound, reply_by, names_after, udp_timeout, named_timeout, uses_until, World, source_of, destination_of, called, SessionRules}
+use Rattle.gate_model.specs.Prelude.{Whole, Dns, Udp, carried, message_in, named_in, is_unbound, has_unbound, reply_by, names_after, uses_until, World, source_of, destination_of, called, SessionRules}
+use Rattle.gate_model.specs.declared.timeouts.TheConstants.{NAMED_TIMEOUT, UDP_TIMEOUT}
 use Rattle.gate_model.proofs.ListsKept.{known_unbound}
 use Rattle.gate_model.proofs.ListsBound.{not_unbound}
 use Rattle.event_payloads.specs.Prelude.{named_uses, IsTaken, IsWayOf, image_by, is_empty}
@@ -67,13 +70,13 @@ images_used f side until (address ∷ rest) = ap (λ more. f side address ∷ mo
 pub all_used : (side : Side) (moment : ℕ) (source destination : Addr) (named addresses : List Addr) → addresses ≡ source ∷ destination ∷ named
     → AreUsesOf side addresses (named_uses side moment source destination named)
 all_used side moment source destination named addresses e =
-    let until : Moment = record { 0 = moment + udp_timeout } in
-    let rest = uses_until side (moment + named_timeout) named in
+    let until : Moment = record { 0 = moment + UDP_TIMEOUT } in
+    let rest = uses_until side (moment + NAMED_TIMEOUT) named in
     let one : Use = record { side = side; address = source; until = until } in
     let two : Use = record { side = side; address = destination; until = until } in
     record {
-      sides = All-cons (IsOf side) one (two ∷ rest) refl (All-cons (IsOf side) two rest refl (used_sides side (moment + named_timeout) named));
-      each = ap (λ more. source ∷ destination ∷ more) (used_addresses side (moment + named_timeout) named) ∙ sym e;
+      sides = All-cons (IsOf side) one (two ∷ rest) refl (All-cons (IsOf side) two rest refl (used_sides side (moment + NAMED_TIMEOUT) named));
+      each = ap (λ more. source ∷ destination ∷ more) (used_addresses side (moment + NAMED_TIMEOUT) named) ∙ sym e;
     }
 
 -- the images of those in the message, once all are used
@@ -81,7 +84,7 @@ images_named : (t : Bindings) (side : Side) (moment : ℕ) (source destination :
     named_uses side moment source destination named in
     drop 2 (images_after t uses) ≡ map (image_after t (after_uses t uses) side) named
 images_named t side moment source destination named =
-    images_used (image_after t (after_uses t (named_uses side moment source destination named))) side (moment + named_timeout) named
+    images_used (image_after t (after_uses t (named_uses side moment source destination named))) side (moment + NAMED_TIMEOUT) named
 
 -- ## None of them is unbound
 
@@ -126,23 +129,23 @@ source_goes : (t : Bindings) (side : Side) (moment : ℕ) (source destination : 
     → nat_lt (free t (other side)) (needed t side (source ∷ destination ∷ named)) ≡ false →
     called (after_uses t (named_uses side moment source destination named)) side source ≡ image_by (cross t side source) source
 source_goes t side moment source destination named outside room =
-    let until : Moment = record { 0 = moment + udp_timeout } in
+    let until : Moment = record { 0 = moment + UDP_TIMEOUT } in
     let one : Use = record { side = side; address = source; until = until } in
     let first =
     used_called t side source until (cross t side source) refl (known_unbound t side source outside)
     (has_room t side source (destination ∷ named) room) in
     let header = still_after (used t one) side source _ until.0 (destination ∷ []) first in
-    called_is (still_after (after_uses t (uses_until side until.0 (source ∷ destination ∷ []))) side source _ (moment + named_timeout) named header)
+    called_is (still_after (after_uses t (uses_until side until.0 (source ∷ destination ∷ []))) side source _ (moment + NAMED_TIMEOUT) named header)
 
 destination_goes : (t : Bindings) (side : Side) (moment : ℕ) (source destination : Addr) (named : List Addr)
     → is_settled (cross t side destination) ≡ true →
     called (after_uses t (named_uses side moment source destination named)) side destination ≡ image_by (cross t side destination) destination
 destination_goes t side moment source destination named settled =
-    let until : ℕ = moment + udp_timeout in
+    let until : ℕ = moment + UDP_TIMEOUT in
     let header =
     still_after t side destination _ until (source ∷ destination ∷ []) (of_crossing t side destination (cross t side destination) refl settled) in
     called_is
-    (still_after (after_uses t (uses_until side until (source ∷ destination ∷ []))) side destination _ (moment + named_timeout) named header)
+    (still_after (after_uses t (uses_until side until (source ∷ destination ∷ []))) side destination _ (moment + NAMED_TIMEOUT) named header)
 
 -- ## A payload that stays
 

@@ -9,7 +9,8 @@ use Rattle.ipv4_frames.specs.Ipv4.{Datagram}
 use Rattle.twice_translate.specs.Renamed.{renamed}
 use Rattle.gate_base.specs.Prelude.{first_that_holds, unless_refused, u16_at}
 use Rattle.udp_icmp.specs.Icmp.{is_error_type}
-use Rattle.gate_model.specs.Prelude.{Whole, Udp, Echo, udp_payload, icmp_payload, udp_timeout, icmp_timeout, is_pool_empty, uses_until, World, source_of, destination_of, called, SessionRules}
+use Rattle.gate_model.specs.Prelude.{Whole, Udp, Echo, udp_payload, icmp_payload, is_pool_empty, uses_until, World, source_of, destination_of, called, SessionRules}
+use Rattle.gate_model.specs.declared.timeouts.TheConstants.{ICMP_TIMEOUT, UDP_TIMEOUT}
 use Rattle.event_payloads.specs.Prelude.{IsTaken, IsWayOf, image_by, is_empty, header_uses}
 use Rattle.event_payloads.specs.declared.addresses.Way.{Way}
 use Rattle.event_payloads.proofs.Passes.{pool_empty_is, source_called, destination_called}
@@ -77,24 +78,24 @@ uses_are live side d way timeout w =
 
 pub udp_taken : {S : Type 0} (rules : SessionRules S) (live : World S) (side : Side) (d : Datagram) (way : Way) (r : Option Refusal)
     (table : Bindings) (sent : List (List ℕ)) → IsWayOf live side d way → r ≡ first_that_holds ((is_empty way.of_source, PoolEmpty) ∷ [])
-    → table ≡ unless_refused r (after_uses live.table (header_uses way udp_timeout)) live.table
+    → table ≡ unless_refused r (after_uses live.table (header_uses way UDP_TIMEOUT)) live.table
     → sent ≡ unless_refused r (renamed d (image_by way.of_source way.source).0 (image_by way.of_destination way.destination).0 ∷ []) []
     → IsTaken rules live side d (Whole Udp) r table sent
 udp_taken rules live side d way r table sent w e t o = record {
   answer = e ∙ ap (λ (b : Bool). first_that_holds ((b, PoolEmpty) ∷ [])) (empty_is rules live side d way w);
-  bound = t ∙ ap (λ (x : Bindings). unless_refused r x live.table) (uses_are live side d way udp_timeout w);
-  gone = o ∙ by_refusal (is_empty way.of_source) r _ _ e (images_are live side d way (live.clock + udp_timeout) w);
+  bound = t ∙ ap (λ (x : Bindings). unless_refused r x live.table) (uses_are live side d way UDP_TIMEOUT w);
+  gone = o ∙ by_refusal (is_empty way.of_source) r _ _ e (images_are live side d way (live.clock + UDP_TIMEOUT) w);
 }
 
 pub echo_taken : {S : Type 0} (rules : SessionRules S) (live : World S) (side : Side) (d : Datagram) (way : Way) (r : Option Refusal)
     (table : Bindings) (sent : List (List ℕ)) → IsWayOf live side d way → r ≡ first_that_holds ((is_empty way.of_source, PoolEmpty) ∷ [])
-    → table ≡ unless_refused r (after_uses live.table (header_uses way icmp_timeout)) live.table
+    → table ≡ unless_refused r (after_uses live.table (header_uses way ICMP_TIMEOUT)) live.table
     → sent ≡ unless_refused r (renamed d (image_by way.of_source way.source).0 (image_by way.of_destination way.destination).0 ∷ []) []
     → IsTaken rules live side d (Whole Echo) r table sent
 echo_taken rules live side d way r table sent w e t o = record {
   answer = e ∙ ap (λ (b : Bool). first_that_holds ((b, PoolEmpty) ∷ [])) (empty_is rules live side d way w);
-  bound = t ∙ ap (λ (x : Bindings). unless_refused r x live.table) (uses_are live side d way icmp_timeout w);
-  gone = o ∙ by_refusal (is_empty way.of_source) r _ _ e (images_are live side d way (live.clock + icmp_timeout) w);
+  bound = t ∙ ap (λ (x : Bindings). unless_refused r x live.table) (uses_are live side d way ICMP_TIMEOUT w);
+  gone = o ∙ by_refusal (is_empty way.of_source) r _ _ e (images_are live side d way (live.clock + ICMP_TIMEOUT) w);
 }
 
 -- ## Kinds

@@ -21,7 +21,8 @@ use Rattle.snmp_oids.proofs.Lengths.{message_length}
 use Rattle.snmp_oids.proofs.Messages.{no_rule}
 use Rattle.gate_base.specs.Prelude.{first_that_holds, unless_refused}
 use Rattle.twice_translate.specs.Renamed.{rebuilt}
-use Rattle.gate_model.specs.Prelude.{Whole, Snmp, number_seen, management_after, is_snmp_too_long, carried, udp_timeout, kind_tests, late_tests, is_pool_empty, table_after, uses_until, World, source_of, destination_of, called, SessionRules}
+use Rattle.gate_model.specs.Prelude.{Whole, Snmp, number_seen, management_after, is_snmp_too_long, carried, kind_tests, late_tests, is_pool_empty, table_after, uses_until, World, source_of, destination_of, called, SessionRules}
+use Rattle.gate_model.specs.declared.timeouts.TheConstants.{UDP_TIMEOUT}
 use Rattle.gate_model.specs.Management.{is_bad_snmp}
 use Rattle.gate_model.proofs.ListsKept.{known_unbound}
 use Rattle.event_payloads.specs.Prelude.{IsTaken, IsWayOf, image_by, is_empty, header_uses}
@@ -81,7 +82,7 @@ oids_after t (one ∷ uses) = oids_after (used t one) uses ∙ oids_by t one.sid
 -- ## What its addresses are called
 
 abbrev after_both : {S : Type 0} → World S → Side → Datagram → Bindings
-after_both live side d = after_uses live.table (uses_until side (live.clock + udp_timeout) (source_of d ∷ destination_of d ∷ []))
+after_both live side d = after_uses live.table (uses_until side (live.clock + UDP_TIMEOUT) (source_of d ∷ destination_of d ∷ []))
 
 numbered : (address image : Addr) (table : Bindings) (side : Side) (n : ℕ) → n ≡ address.0 → seen table side address ≡ Some image
     → number_seen table side n ≡ Some image.0
@@ -94,18 +95,18 @@ planned_at live side d way w room n = elim (cases_Bool (n == way.source.0)) [
   | inl same ↦
       let s = of_source_is live side d way w in
       let first =
-      used_called live.table side (source_of d) (record { 0 = live.clock + udp_timeout }) (cross live.table side (source_of d)) refl
+      used_called live.table side (source_of d) (record { 0 = live.clock + UDP_TIMEOUT }) (cross live.table side (source_of d)) refl
       (known_unbound live.table side (source_of d) w.outside) (ap is_empty (sym s) ∙ room) in
       let both =
-      still_after (used live.table (record { side = side; address = source_of d; until = record { 0 = live.clock + udp_timeout } })) side
-      (source_of d) _ (live.clock + udp_timeout) (destination_of d ∷ []) first in
+      still_after (used live.table (record { side = side; address = source_of d; until = record { 0 = live.clock + UDP_TIMEOUT } })) side
+      (source_of d) _ (live.clock + UDP_TIMEOUT) (destination_of d ∷ []) first in
       rw same (ap (λ (c : Crossing). let o : Option ℕ = Some (image_by c way.source).0 in o) s
       ∙ ap (λ (a : Addr). let o : Option ℕ = Some (image_by (cross live.table side (source_of d)) a).0 in o) w.source_is
       ∙ sym (numbered (source_of d) _ (after_both live side d) side n (eqb-true n way.source.0 same ∙ ap (λ (a : Addr). a.0) w.source_is) both.seen))
   | inr other ↦
       let one : Addr = record { 0 = n } in
       let t = live.table in
-      let until : Moment = record { 0 = live.clock + udp_timeout } in
+      let until : Moment = record { 0 = live.clock + UDP_TIMEOUT } in
       let mid = used t (record { side = side; address = source_of d; until = until }) in
       let settled =
       settled_stays t mid side (destination_of d) (used_follows t (record { side = side; address = source_of d; until = until }))
@@ -129,28 +130,28 @@ planned_is : {S : Type 0} (rules : SessionRules S) (live : World S) (side : Side
 planned_is rules live side d way w room =
     ap (λ (image : ℕ → Option ℕ). oid_renamed image live.table.oids (carried d)) (λ i n. planned_at live side d way w room n i)
     ∙ ap (λ (rules : List OidRule). oid_renamed (number_seen (after_both live side d) side) rules (carried d))
-    (sym (oids_after live.table (uses_until side (live.clock + udp_timeout) (source_of d ∷ destination_of d ∷ []))))
+    (sym (oids_after live.table (uses_until side (live.clock + UDP_TIMEOUT) (source_of d ∷ destination_of d ∷ []))))
 
 -- a message that the rules rename
 pub message_by_rules : {S : Type 0} (rules : SessionRules S) (live : World S) (side : Side) (d : Datagram) (way : Way) (r : Option Refusal)
     (table : Bindings) (sent : List (List ℕ)) → IsWayOf live side d way → is_bad_snmp d ≡ false → is_empty way.of_source ≡ false
     → r ≡ first_that_holds ((nat_lt 65507 (length (oid_renamed (number_planned live.table way) live.table.oids (carried d))), SnmpTooLong) ∷ [])
-    → table ≡ unless_refused r (after_uses live.table (header_uses way udp_timeout)) live.table
+    → table ≡ unless_refused r (after_uses live.table (header_uses way UDP_TIMEOUT)) live.table
     → sent ≡ unless_refused r
     (rebuilt d (image_by way.of_source way.source).0 (image_by way.of_destination way.destination).0
     (oid_renamed (number_planned live.table way) live.table.oids (carried d)) ∷ []) [] → IsTaken rules live side d (Whole Snmp) r table sent
 message_by_rules rules live side d way r table sent w good room e t s =
     let planned = oid_renamed (number_planned live.table way) live.table.oids (carried d) in
     let same = planned_is rules live side d way w room in
-    let images = are_images live side d way (live.clock + udp_timeout) w room in
-    let after = after_uses live.table (uses_until side (live.clock + udp_timeout) (source_of d ∷ destination_of d ∷ [])) in
+    let images = are_images live side d way (live.clock + UDP_TIMEOUT) w room in
+    let after = after_uses live.table (uses_until side (live.clock + UDP_TIMEOUT) (source_of d ∷ destination_of d ∷ [])) in
     let R : List ℕ → Addr → Addr → List (List ℕ) = λ x a b. unless_refused r (rebuilt d a.0 b.0 x ∷ []) [] in
     record {
       answer =
           e
           ∙ ap (λ (b : Bool). first_by false b (nat_lt 65507 (length planned))) (sym room)
           ∙ first_is rules live side d way (nat_lt 65507 (length planned)) w good (ap (λ (xs : List ℕ). nat_lt 65507 (length xs)) same);
-      bound = t ∙ ap (λ (x : Bindings). unless_refused r x live.table) (uses_are live side d way udp_timeout w);
+      bound = t ∙ ap (λ (x : Bindings). unless_refused r x live.table) (uses_are live side d way UDP_TIMEOUT w);
       gone = s
           ∙ ap (λ (x : List ℕ). R x (image_by way.of_source way.source) (image_by way.of_destination way.destination)) same
           ∙ ap (λ (a : Addr). R (management_after after side d) a (image_by way.of_destination way.destination)) images.source
@@ -162,14 +163,14 @@ pub taken_by_rules : {S : Type 0} (rules : SessionRules S) (live : World S) (sid
     (payload : List ℕ) (r : Option Refusal) (table : Bindings) (sent : List (List ℕ)) → live.table ≡ old → payload ≡ carried d
     → IsWayOf live side d way → is_bad_snmp d ≡ false → is_empty way.of_source ≡ false
     → r ≡ first_that_holds ((nat_lt 65507 (length (oid_renamed (number_planned old way) old.oids payload)), SnmpTooLong) ∷ [])
-    → table ≡ unless_refused r (after_uses old (header_uses way udp_timeout)) old
+    → table ≡ unless_refused r (after_uses old (header_uses way UDP_TIMEOUT)) old
     → sent ≡ unless_refused r
     (rebuilt d (image_by way.of_source way.source).0 (image_by way.of_destination way.destination).0
     (oid_renamed (number_planned old way) old.oids payload) ∷ []) [] → IsTaken rules live side d (Whole Snmp) r table sent
 taken_by_rules rules live side d way old payload r table sent same p w good room =
     let P : Bindings → List ℕ → Type 0 = λ x xs.
     r ≡ first_that_holds ((nat_lt 65507 (length (oid_renamed (number_planned x way) x.oids xs)), SnmpTooLong) ∷ [])
-    → table ≡ unless_refused r (after_uses x (header_uses way udp_timeout)) x
+    → table ≡ unless_refused r (after_uses x (header_uses way UDP_TIMEOUT)) x
     → sent ≡ unless_refused r
     (rebuilt d (image_by way.of_source way.source).0 (image_by way.of_destination way.destination).0
     (oid_renamed (number_planned x way) x.oids xs) ∷ []) [] → IsTaken rules live side d (Whole Snmp) r table sent in
@@ -180,14 +181,14 @@ taken_by_rules rules live side d way old payload r table sent same p w good room
 pub message_basic : {S : Type 0} (rules : SessionRules S) (live : World S) (side : Side) (d : Datagram) (way : Way) (table : Bindings)
     (sent : List (List ℕ)) → IsWayOf live side d way → is_bad_snmp d ≡ false → is_empty way.of_source ≡ false → live.table.oids ≡ []
     → length (carried d) ≤ 65507
-    → table ≡ after_uses live.table (header_uses way udp_timeout)
+    → table ≡ after_uses live.table (header_uses way UDP_TIMEOUT)
     → sent ≡ rebuilt d (image_by way.of_source way.source).0 (image_by way.of_destination way.destination).0
     (oid_renamed (number_seen table way.side) [] (carried d)) ∷ [] → IsTaken rules live side d (Whole Snmp) None table sent
 message_basic rules live side d way table sent w good room none few t s =
-    let images = are_images live side d way (live.clock + udp_timeout) w room in
-    let after = after_uses live.table (uses_until side (live.clock + udp_timeout) (source_of d ∷ destination_of d ∷ [])) in
-    let bound = t ∙ uses_are live side d way udp_timeout w in
-    let none_left : after.oids ≡ [] = oids_after live.table (uses_until side (live.clock + udp_timeout) (source_of d ∷ destination_of d ∷ []))
+    let images = are_images live side d way (live.clock + UDP_TIMEOUT) w room in
+    let after = after_uses live.table (uses_until side (live.clock + UDP_TIMEOUT) (source_of d ∷ destination_of d ∷ [])) in
+    let bound = t ∙ uses_are live side d way UDP_TIMEOUT w in
+    let none_left : after.oids ≡ [] = oids_after live.table (uses_until side (live.clock + UDP_TIMEOUT) (source_of d ∷ destination_of d ∷ []))
     ∙ none in
     let same : oid_renamed (number_seen table way.side) [] (carried d) ≡ management_after after side d =
     ap (λ (x : Bindings). oid_renamed (number_seen x way.side) [] (carried d)) bound
@@ -210,12 +211,12 @@ message_basic rules live side d way table sent w good room none few t s =
 pub taken_basic : {S : Type 0} (rules : SessionRules S) (live : World S) (side : Side) (d : Datagram) (way : Way) (old : Bindings) (payload : List ℕ)
     (table : Bindings) (sent : List (List ℕ)) → live.table ≡ old → payload ≡ carried d → IsWayOf live side d way → is_bad_snmp d ≡ false
     → is_empty way.of_source ≡ false → old.oids ≡ [] → length payload ≤ 65507
-    → table ≡ after_uses old (header_uses way udp_timeout)
+    → table ≡ after_uses old (header_uses way UDP_TIMEOUT)
     → sent ≡ rebuilt d (image_by way.of_source way.source).0 (image_by way.of_destination way.destination).0
     (oid_renamed (number_seen table way.side) [] payload) ∷ [] → IsTaken rules live side d (Whole Snmp) None table sent
 taken_basic rules live side d way old payload table sent same p w good room =
     let P : Bindings → List ℕ → Type 0 = λ x xs.
-    x.oids ≡ [] → length xs ≤ 65507 → table ≡ after_uses x (header_uses way udp_timeout)
+    x.oids ≡ [] → length xs ≤ 65507 → table ≡ after_uses x (header_uses way UDP_TIMEOUT)
     → sent ≡ rebuilt d (image_by way.of_source way.source).0 (image_by way.of_destination way.destination).0
     (oid_renamed (number_seen table way.side) [] xs) ∷ [] → IsTaken rules live side d (Whole Snmp) None table sent in
     subst (λ (x : Bindings). P x payload) same

@@ -6,6 +6,7 @@ use Rattle.gate_base.specs.declared.side.Side.{Side}
 use Rattle.binding_table.specs.Prelude.{Bindings, in_pool, is_settled}
 use Rattle.ipv4_frames.specs.Ipv4.{Datagram}
 use Rattle.gate_base.specs.Prelude.{first_that_holds, unless_refused}
+use Rattle.gate_base.specs.declared.protocol.TheConstants.{LONGEST_DATAGRAM, UDP}
 use Rattle.twice_translate.specs.Renamed.{CanGoOn, datagram_of}
 use Rattle.gate_model.specs.Prelude.{Kind, carried, out_kind, kind_tests, late_tests, is_pool_empty, table_after, World, source_of, destination_of, SessionRules}
 use Rattle.event_payloads.specs.Ways.{IsWay}
@@ -32,7 +33,7 @@ pub record IsWayOf {S : Type 0} (live : World S) (side : Side) (d : Datagram) (w
 
 -- the octets of a UDP datagram that can go on, and what it carries
 pub record IsUdpOf (octets payload : List ℕ) : Type 0 where
-  pub few : length octets ≤ 65535
+  pub few : length octets ≤ LONGEST_DATAGRAM
   pub can : CanGoOn octets
-  pub protocol : (datagram_of octets).protocol ≡ 17
+  pub protocol : (datagram_of octets).protocol ≡ UDP
   pub same : payload ≡ carried (datagram_of octets)

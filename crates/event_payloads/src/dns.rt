@@ -2,6 +2,8 @@
 ghost use Rattle.std.specs.Prelude.{◌≡◌, ◌≢◌, ◌+◌, ◌≤◌, [], ◌∷◌, List, drop, length, option_map, unwrap_or, true, false, All, IfOk, IfSome, OnErr, is_some, is_none, nat_lt};
 ghost use Rattle.std.specs.List.{list_any};
 ghost use Rattle.gate_base.specs.Prelude.{IsMoment, other};
+ghost use Rattle.gate_base.specs.declared.protocol.TheConstants.{LONGEST_DATAGRAM, UDP};
+ghost use Rattle.gate_model.specs.declared.TheConstants.{MOST_CARRIED};
 ghost use Rattle.binding_table.specs.Prelude.{cross, in_pool, free, is_settled, Use, AreUsesOf, needed, after_uses, images_after};
 ghost use Rattle.dns_gateway.specs.Addresses.{message_addresses};
 ghost use Rattle.dns_messages.specs.Reading.{message_at};
@@ -15,7 +17,7 @@ ghost use Rattle.event_payloads.specs.Plain.{PlainSession, plain_rules};
 ghost use Rattle.event_payloads.specs.Taken.{IsTaken, IsUdpOf, IsWayOf};
 
 use crate::addresses::{Way, use_address};
-use crate::plain::{UDP_TIMEOUT, take_plain};
+use crate::plain::take_plain;
 use crate::udp::UdpDatagram;
 use binding_table::{Crossing, SeenAddresses, Table};
 use dns_gateway::{addresses_of, rename, reply};
@@ -23,10 +25,8 @@ use dns_messages::{Message, read_message};
 use dns_names::NameStop;
 use event_outbox::{Datagrams, put_rebuilt, put_renamed};
 use gate_base::{Addr, Moment, OutOfMemory, Refusal, Side};
+use gate_model::{NAMED_TIMEOUT, UDP_TIMEOUT};
 use std::alloc::Global;
-
-/// For how long a use by an address in a DNS message keeps a binding, in nanoseconds: 60 seconds.
-const NAMED_TIMEOUT: u64 = 60_000_000_000;
 
 /// The message that the octets are, or None where they are none.
 fn message_in(alloc: Global, octets: &[u8]) -> Result<Option<Message>, OutOfMemory>
@@ -90,12 +90,12 @@ fn reply_by(
 ) -> Result<Option<Vec<u8>>, OutOfMemory>
     requires images { length images.now ≡ 2 + length (message_addresses message.old) }
     requires suits { MessageSuits message.old }
-    requires few { length payload.now ≤ 65507 }
+    requires few { length payload.now ≤ MOST_CARRIED }
     ensures is { IfOk result (λ reply. unwrap_or (option_map (λ v. v.items) reply)
         payload.now
         ≡ reply_by (drop 2 images.now) payload.now (Some message.old)) }
     ensures fits { IfOk result
-        (λ reply. IfSome reply (λ v. 28 + length v.items ≤ 65535)) }
+        (λ reply. IfSome reply (λ v. 28 + length v.items ≤ LONGEST_DATAGRAM)) }
 {
     let images = &images[2..];
     if !has_image(images) {
@@ -152,10 +152,10 @@ fn put_reply(
     reply: &Option<Vec<u8>>,
 )
     requires empty { outbox.old ≡ [] }
-    requires few { length octets.now ≤ 65535 }
+    requires few { length octets.now ≤ LONGEST_DATAGRAM }
     requires can { CanGoOn octets.now }
-    requires protocol { (datagram_of octets.now).protocol ≡ 17 }
-    requires fits { IfSome reply.now (λ v. 28 + length v.items ≤ 65535) }
+    requires protocol { (datagram_of octets.now).protocol ≡ UDP }
+    requires fits { IfSome reply.now (λ v. 28 + length v.items ≤ LONGEST_DATAGRAM) }
     ensures { outbox.new
         ≡ rebuilt (datagram_of octets.now) source.0 destination.0 (unwrap_or
         (option_map (λ v. v.items) reply.now)
@@ -180,10 +180,10 @@ fn pass_names(
     requires settled { is_settled way.now.of_destination ≡ true }
     requires moment { IsMoment way.now.moment.0 }
     requires empty { outbox.old ≡ [] }
-    requires few { length octets.now ≤ 65535 }
+    requires few { length octets.now ≤ LONGEST_DATAGRAM }
     requires can { CanGoOn octets.now }
-    requires protocol { (datagram_of octets.now).protocol ≡ 17 }
-    requires fits { IfSome reply.now (λ v. 28 + length v.items ≤ 65535) }
+    requires protocol { (datagram_of octets.now).protocol ≡ UDP }
+    requires fits { IfSome reply.now (λ v. 28 + length v.items ≤ LONGEST_DATAGRAM) }
     ensures table { table.new
         ≡ after_uses table.old (named_uses way.now.side way.now.moment.0
         way.now.source way.now.destination named.now) }
@@ -211,9 +211,9 @@ fn take_unnamed(
     requires settled { is_settled way.now.of_destination ≡ true }
     requires moment { IsMoment way.now.moment.0 }
     requires empty { outbox.old ≡ [] }
-    requires few { length octets.now ≤ 65535 }
+    requires few { length octets.now ≤ LONGEST_DATAGRAM }
     requires can { CanGoOn octets.now }
-    requires protocol { (datagram_of octets.now).protocol ≡ 17 }
+    requires protocol { (datagram_of octets.now).protocol ≡ UDP }
     ensures taken { (live : World PlainSession)
         → live.table ≡ table.old
         → IsWayOf live way.now.side (datagram_of octets.now) way.now

@@ -11,6 +11,6 @@ mod udp;
 pub use addresses::{Way, address_refusal, lacks_alias, use_address};
 pub use dns::{take_dns, use_all};
 pub use keys::key_of;
-pub use plain::{ICMP_TIMEOUT, UDP_TIMEOUT, pass_plain, take_plain};
+pub use plain::{pass_plain, take_plain};
 pub use snmp::take_snmp;
 pub use udp::UdpDatagram;

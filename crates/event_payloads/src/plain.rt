@@ -4,6 +4,7 @@ ghost use Rattle.gate_base.specs.Prelude.{IsMoment, IsTimeout, first_that_holds,
 ghost use Rattle.binding_table.specs.Prelude.{after_uses, is_settled};
 ghost use Rattle.twice_translate.specs.Renamed.{CanGoOn, datagram_of, renamed};
 ghost use Rattle.gate_base.specs.declared.refusal.Refusal.TheVariants.{PoolEmpty};
+ghost use Rattle.gate_base.specs.declared.protocol.TheConstants.{LONGEST_DATAGRAM};
 ghost use Rattle.gate_model.specs.Prelude.{uses_until};
 ghost use Rattle.event_payloads.specs.Ways.{IsWay, image_by, is_empty, header_uses};
 
@@ -12,12 +13,6 @@ use binding_table::Table;
 use event_outbox::{Datagrams, put_renamed};
 use gate_base::Refusal;
 
-/// For how long a use by a UDP header keeps a binding, in nanoseconds: 300 seconds.
-pub const UDP_TIMEOUT: u64 = 300_000_000_000;
-
-/// For how long one by an ICMP header does: 60 seconds.
-pub const ICMP_TIMEOUT: u64 = 60_000_000_000;
-
 /// The datagram passes: its addresses are used, and it goes on.
 pub fn pass_plain(table: &mut Table, way: &Way, timeout: u64, octets: &[u8], outbox: &mut Datagrams)
     requires way { IsWay table.old way.now }
@@ -25,7 +20,7 @@ pub fn pass_plain(table: &mut Table, way: &Way, timeout: u64, octets: &[u8], out
     requires moment { IsMoment way.now.moment.0 }
     requires timeout { IsTimeout timeout }
     requires empty { outbox.old ≡ [] }
-    requires few { length octets.now ≤ 65535 }
+    requires few { length octets.now ≤ LONGEST_DATAGRAM }
     requires can { CanGoOn octets.now }
     ensures table { table.new ≡ after_uses table.old (header_uses way.now timeout) }
     ensures out { outbox.new
@@ -50,7 +45,7 @@ pub fn take_plain(
     requires moment { IsMoment way.now.moment.0 }
     requires timeout { IsTimeout timeout }
     requires empty { outbox.old ≡ [] }
-    requires few { length octets.now ≤ 65535 }
+    requires few { length octets.now ≤ LONGEST_DATAGRAM }
     requires can { CanGoOn octets.now }
     ensures refusal { result
         ≡ first_that_holds ((is_empty way.now.of_source, PoolEmpty) ∷ []) }

@@ -5,7 +5,8 @@ ghost use Rattle.binding_table.specs.Prelude.{is_settled, after_uses};
 ghost use Rattle.twice_translate.specs.Renamed.{datagram_of, rebuilt};
 ghost use Rattle.gate_base.specs.declared.refusal.Refusal.TheVariants.{SnmpTooLong};
 ghost use Rattle.gate_model.specs.Frame as kinds;
-ghost use Rattle.gate_model.specs.Prelude.{number_seen, udp_timeout, uses_until, World};
+ghost use Rattle.gate_model.specs.Prelude.{number_seen, uses_until, World};
+ghost use Rattle.gate_model.specs.declared.TheConstants.{MOST_CARRIED};
 ghost use Rattle.snmp_gateway.specs.Message.{message};
 ghost use Rattle.snmp_oids.specs.Elements.{oid_renamed};
 ghost use Rattle.event_payloads.specs.Inside.Planned.{number_planned};
@@ -14,11 +15,11 @@ ghost use Rattle.event_payloads.specs.Plain.{PlainSession, plain_rules};
 ghost use Rattle.event_payloads.specs.Taken.{IsTaken, IsUdpOf, IsWayOf};
 
 use crate::addresses::{Way, lacks_alias};
-use crate::plain::UDP_TIMEOUT;
 use crate::udp::UdpDatagram;
 use binding_table::Table;
 use event_outbox::{Datagrams, Scratch, put_snmp, put_snmp_by_rules};
 use gate_base::{Addr, Refusal, Side};
+use gate_model::UDP_TIMEOUT;
 use snmp_gateway::{Lookup, check};
 
 /// What addresses of a realm are called in the other.
@@ -69,7 +70,7 @@ fn pass_basic(table: &mut Table, way: &Way, datagram: &UdpDatagram<'_>, outbox: 
     requires whole { IsUdpOf datagram.now.octets.now datagram.now.payload.now }
     requires message { IsSome (message datagram.now.payload.now) }
     ensures table { table.new
-        ≡ after_uses table.old (header_uses way.now udp_timeout) }
+        ≡ after_uses table.old (header_uses way.now UDP_TIMEOUT) }
     ensures out { outbox.new
         ≡ rebuilt (datagram_of datagram.now.octets.now)
         (image_by way.now.of_source way.now.source).0
@@ -107,13 +108,13 @@ fn pass_by_rules(
     requires message { IsSome (message datagram.now.payload.now) }
     ensures refusal { result
         ≡ first_that_holds ((
-          nat_lt 65507
+          nat_lt MOST_CARRIED
               (length (oid_renamed (number_planned table.old way.now) table.old.oids datagram.now.payload.now)),
           SnmpTooLong,
         ) ∷ []) }
     ensures table { table.new
         ≡ unless_refused result
-        (after_uses table.old (header_uses way.now udp_timeout)) table.old }
+        (after_uses table.old (header_uses way.now UDP_TIMEOUT)) table.old }
     ensures out { outbox.new
         ≡ unless_refused result
         (rebuilt (datagram_of datagram.now.octets.now)

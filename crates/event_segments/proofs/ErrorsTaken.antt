@@ -11,7 +11,8 @@ use Rattle.icmp_errors.specs.declared.Inner.{Inner}
 use Rattle.ipv4_frames.specs.Ipv4.{Datagram}
 use Rattle.gate_base.specs.Prelude.{first_that_holds}
 use Rattle.twice_translate.specs.Renamed.{renamed}
-use Rattle.gate_model.specs.Prelude.{Error, Whole, inside, with_inside, inner_number, is_unknown, is_inner_unbound, icmp_timeout, kind_tests, is_pool_empty, uses_until, World, source_of, destination_of, called, SessionRules}
+use Rattle.gate_model.specs.Prelude.{Error, Whole, inside, with_inside, inner_number, is_unknown, is_inner_unbound, kind_tests, is_pool_empty, uses_until, World, source_of, destination_of, called, SessionRules}
+use Rattle.gate_model.specs.declared.timeouts.TheConstants.{ICMP_TIMEOUT}
 use Rattle.gate_model.specs.Inner.{inner_after}
 use Rattle.event_payloads.specs.Prelude.{IsTaken, IsWayOf, image_by, is_empty, header_uses}
 use Rattle.event_payloads.specs.declared.addresses.Way.{Way}
@@ -137,18 +138,18 @@ inner_is rules live side d inner source destination number k =
 pub error_passes : {S : Type 0} (rules : SessionRules S) (live : World S) (side : Side) (d : Datagram) (way : Way) (inner : Inner)
     (source destination : Addr) (number : Option (Option ℕ)) (table : Bindings) (sent : List (List ℕ)) → IsWayOf live side d way
     → IsKnown rules live side d inner source destination number → is_unknown number ≡ false → is_empty way.of_source ≡ false
-    → table ≡ after_uses live.table (header_uses way icmp_timeout)
+    → table ≡ after_uses live.table (header_uses way ICMP_TIMEOUT)
     → sent ≡ renamed (with_inside d (inner_with (inside d) source.0 destination.0 (option_and_then (λ n. n) number)))
     (image_by way.of_source way.source).0 (image_by way.of_destination way.destination).0 ∷ []
     → IsTaken rules live side d (Whole Error) None table sent
 error_passes rules live side d way inner source destination number table sent w k known room t s =
-    let images = are_images live side d way (live.clock + icmp_timeout) w room in
-    let after = after_uses live.table (uses_until side (live.clock + icmp_timeout) (source_of d ∷ destination_of d ∷ [])) in
+    let images = are_images live side d way (live.clock + ICMP_TIMEOUT) w room in
+    let after = after_uses live.table (uses_until side (live.clock + ICMP_TIMEOUT) (source_of d ∷ destination_of d ∷ [])) in
     let R : List ℕ → Addr → Addr → List (List ℕ) = λ octets a b. renamed (with_inside d octets) a.0 b.0 ∷ [] in
     record {
       answer = ap (first_by true false) (sym room) ∙ ap (λ (b : Bool). first_by true b (is_empty way.of_source)) (sym known)
           ∙ first_is rules live side d way inner source destination number w k;
-      bound = t ∙ uses_are live side d way icmp_timeout w;
+      bound = t ∙ uses_are live side d way ICMP_TIMEOUT w;
       gone = s
           ∙ ap (λ (octets : List ℕ). R octets (image_by way.of_source way.source) (image_by way.of_destination way.destination))
           (inner_is rules live side d inner source destination number k)

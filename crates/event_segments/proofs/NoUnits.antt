@@ -11,7 +11,11 @@ use Rattle.binding_table.specs.Prelude.{Bindings, free, after_uses, needed}
 use Rattle.dialogue.specs.Prelude.{Entry}
 use Rattle.ipv4_frames.specs.Ipv4.{Datagram}
 use Rattle.tcp_segments.specs.Prelude.{flags_of}
-use Rattle.gate_model.specs.Prelude.{Whole, Udp, Stream, is_tracked_port, HasLists, most_entries, addresses_in, entered, is_bad, grows_too_much, tcp_of, segment_of, is_opening, found_in, session_in, stream_timeout, made_by, pair_in, uses_until, units_in, names_in, entries_in, uses_of_lists, is_new_unbound, unit_tests, growth_tests, is_pool_empty, table_after, Tracked, World, addresses_of, host_on, SessionRules}
+use Rattle.gate_model.specs.Prelude.{Whole, Udp, Stream, is_tracked_port, HasLists, addresses_in, entered, is_bad, grows_too_much}
+use Rattle.dialogue.specs.declared.TheConstants.{MOST_ENTRIES}
+use Rattle.gate_model.specs.Prelude.{tcp_of, segment_of, is_opening, found_in, session_in, stream_timeout, made_by, pair_in, uses_until, units_in}
+use Rattle.gate_model.specs.Prelude.{names_in, entries_in, uses_of_lists, is_new_unbound, unit_tests, growth_tests, is_pool_empty, table_after}
+use Rattle.gate_model.specs.Prelude.{Tracked, World, addresses_of, host_on, SessionRules}
 
 -- no unit is completed in the session that takes the segment, and nothing is listed
 pub record NamesNothing {S : Type 0} (rules : SessionRules S) (side : Side) (d : Datagram) (taker : Option (Tracked S)) : Type 0 where
@@ -53,7 +57,7 @@ tests_none rules image table side d o h = ap (λ (us : List (List ℕ)). T us (e
     T : List (List ℕ) → List Entry → List (Bool × Refusal)
     T us es =
         (list_any is_bad us, BadUnit) ∷ (list_any (is_new_unbound table side es) (addresses_in us), UnitUnbound)
-        ∷ (nat_lt most_entries (length (entered image es (addresses_in us))), RenamesFull) ∷ []
+        ∷ (nat_lt MOST_ENTRIES (length (entered image es (addresses_in us))), RenamesFull) ∷ []
 
 pub growth_none : {S : Type 0} (rules : SessionRules S) (image : Addr → Option Addr) (side : Side) (d : Datagram) (o : Option (Tracked S))
     → NamesNothing rules side d o → growth_tests rules image side d o ≡ (false, UnitGrows) ∷ []

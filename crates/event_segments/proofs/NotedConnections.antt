@@ -6,7 +6,8 @@ use Rattle.gate_base.specs.declared.side.Side.{Side}
 use Rattle.gate_base.specs.declared.side.Side.TheVariants.{Left, Right}
 use Rattle.gate_base.proofs.Lists.{remove_set}
 use Rattle.tcp_segments.specs.Prelude.{flags_of}
-use Rattle.tcp_tracker.specs.Prelude.{is_of, place_of, connection_of, is_reset, starts_anew, unused, kept, with_flags, held, after, changed, noted, without, timeout_of, timeout_or_short, kept_or_begun, short_timeout, with_session, replaced}
+use Rattle.tcp_tracker.specs.Prelude.{is_of, place_of, connection_of, is_reset, starts_anew, unused, kept, with_flags, held, after, changed, noted, without, timeout_of, timeout_or_short, kept_or_begun, with_session, replaced}
+use Rattle.tcp_tracker.specs.declared.connection.TheConstants.{SHORT_TIMEOUT}
 use Rattle.tcp_tracker.specs.declared.connection.ConnKey.{ConnKey}
 use Rattle.tcp_tracker.specs.declared.connection.Connection.{Connection}
 use Rattle.tcp_tracker.proofs.Joining.{place_none}
@@ -227,11 +228,11 @@ none_left (Some c) = refl
 -- an RST of it changes nothing
 -- an RST without a connection holds its addresses as long as one that isn't established
 pub timeout_reset : {S : Type 0} (key : ConnKey) (all : List (Connection S)) (side : Side) (flags : ℕ)
-    → (is_none (connection_of key all) && (flags_of flags).reset) ≡ true → timeout_of all key side flags ≡ short_timeout
+    → (is_none (connection_of key all) && (flags_of flags).reset) ≡ true → timeout_of all key side flags ≡ SHORT_TIMEOUT
 timeout_reset {S = S} key all side flags e = by_connection (connection_of key all) (flags_of flags).reset refl refl e
   where
     by_connection : (o : Option (Connection S)) (b : Bool) → connection_of key all ≡ o → (flags_of flags).reset ≡ b → (is_none o && b) ≡ true
-        → timeout_of all key side flags ≡ short_timeout
+        → timeout_of all key side flags ≡ SHORT_TIMEOUT
     by_connection (Some c) b f r h = absurd (cc)
     by_connection None false f r h = absurd (cc)
     by_connection None true f r h =

@@ -15,8 +15,12 @@ use Rattle.tcp_segments.specs.Prelude.{Tcp, flags_of}
 use Rattle.tcp_tracker.specs.Prelude.{connection_of, is_tracked}
 use Rattle.tcp_tracker.specs.declared.connection.ConnKey.{ConnKey}
 use Rattle.tcp_tracker.specs.declared.connection.Connection.{Connection}
+use Rattle.tcp_tracker.specs.declared.tracker.TheConstants.{MOST_CONNECTIONS}
+use Rattle.tcp_tracker.specs.declared.table.TheConstants.{MOST_SESSIONS}
 use Rattle.gate_base.specs.Prelude.{first_that_holds}
-use Rattle.gate_model.specs.Prelude.{HasLists, Stream, is_tracked_port, taker_in, most_connections, most_sessions, tcp_of, segment_of, key_in, found_in, session_in, is_opening, lacks_session, is_full, made_by, taker_by, session_refusal, unit_tests, growth_tests, refusal_tests, is_pool_empty, late_tests, table_after, image_in, Tracked, World, host_on, addresses_in, SessionRules}
+use Rattle.gate_model.specs.Prelude.{HasLists, Stream, is_tracked_port, taker_in, tcp_of, segment_of, key_in, found_in, session_in, is_opening}
+use Rattle.gate_model.specs.Prelude.{lacks_session, is_full, made_by, taker_by, session_refusal, unit_tests, growth_tests, refusal_tests}
+use Rattle.gate_model.specs.Prelude.{is_pool_empty, late_tests, table_after, image_in, Tracked, World, host_on, addresses_in, SessionRules}
 use Rattle.event_payloads.specs.Prelude.{IsWayOf, is_empty}
 use Rattle.event_payloads.specs.declared.addresses.Way.{Way}
 use Rattle.event_payloads.proofs.HeadersOnly.{empty_is}
@@ -151,7 +155,7 @@ new_joined {S = S} rules live side d none lacks other = record {
   names = none_names rules side d;
 }
   where
-    by_test : (a b : Bool) → b ≡ false → (a || (b && nat_le most_sessions (count_by is_tracked live.connections))) ≡ a
+    by_test : (a b : Bool) → b ≡ false → (a || (b && nat_le MOST_SESSIONS (count_by is_tracked live.connections))) ≡ a
     by_test true true e = refl
     by_test true false e = refl
     by_test false true e = absurd (cc)
@@ -161,7 +165,7 @@ new_joined {S = S} rules live side d none lacks other = record {
 pub begun_joined : {S : Type 0} (rules : SessionRules S) (lists : HasLists rules) (live : World S) (side : Side) (d : Datagram)
     → found_in live side d ≡ None → (is_opening (tcp_of d).flags && is_tracked_port (tcp_of d).destination_port) ≡ true →
     IsJoined rules live side d (Some (made_by rules (table_after rules live side live.clock d Stream) side d))
-    (not (flags_of (tcp_of d).flags).reset && nat_le most_connections (length live.connections) || nat_le most_sessions
+    (not (flags_of (tcp_of d).flags).reset && nat_le MOST_CONNECTIONS (length live.connections) || nat_le MOST_SESSIONS
     (count_by is_tracked live.connections))
 begun_joined {S = S} rules lists live side d none begun = record {
   begins = ap (λ (o : Option (Connection (Tracked S))). lacks_session o d) none
@@ -170,8 +174,8 @@ begun_joined {S = S} rules lists live side d none begun = record {
   taker_is = ap (λ (o : Option (Connection (Tracked S))). taker_by rules (table_after rules live side live.clock d Stream) side d o) none
       ∙ ap (λ (b : Bool). if b then Some (made_by rules (table_after rules live side live.clock d Stream) side d) else None) begun;
   full_is = ap (λ (o : Option (Connection (Tracked S))). is_full live.connections o d) none
-      ∙ ap (λ (b : Bool). not (flags_of (tcp_of d).flags).reset && nat_le most_connections (length live.connections) ||
-      (b && nat_le most_sessions (count_by is_tracked live.connections))) begun;
+      ∙ ap (λ (b : Bool). not (flags_of (tcp_of d).flags).reset && nat_le MOST_CONNECTIONS (length live.connections) ||
+      (b && nat_le MOST_SESSIONS (count_by is_tracked live.connections))) begun;
   alone = none_alone (found_in live side d) none;
   names = made_names rules lists (table_after rules live side live.clock d Stream) side d begun;
 }
@@ -211,14 +215,14 @@ made_enters rules lists way tcp d image is opens verdict =
 pub record IsFirst {S : Type 0} (rules : SessionRules S) (live : World S) (side : Side) (d : Datagram) (verdict : Option Refusal) : Type 0 where
   pub none : found_in live side d ≡ None
   pub joined : IsJoined rules live side d (Some (made_by rules (table_after rules live side live.clock d Stream) side d))
-      (not (flags_of (tcp_of d).flags).reset && nat_le most_connections (length live.connections) || nat_le most_sessions
+      (not (flags_of (tcp_of d).flags).reset && nat_le MOST_CONNECTIONS (length live.connections) || nat_le MOST_SESSIONS
       (count_by is_tracked live.connections))
   pub told : session_refusal rules side d (Some (made_by rules (table_after rules live side live.clock d Stream) side d)) ≡ verdict
   pub plain : verdict ≡ None → (flags_of (tcp_of d).flags).reset ≡ false
   pub full : verdict ≡ None
-      → (not (flags_of (tcp_of d).flags).reset && nat_le most_connections (length live.connections) || nat_le most_sessions
+      → (not (flags_of (tcp_of d).flags).reset && nat_le MOST_CONNECTIONS (length live.connections) || nat_le MOST_SESSIONS
       (count_by is_tracked live.connections))
-      ≡ (nat_le most_connections (length live.connections) || nat_le most_sessions (count_by is_tracked live.connections))
+      ≡ (nat_le MOST_CONNECTIONS (length live.connections) || nat_le MOST_SESSIONS (count_by is_tracked live.connections))
 
 pub first_is : {S : Type 0} (rules : SessionRules S) (lists : HasLists rules) (live : World S) (side : Side) (d : Datagram) (key : ConnKey)
     (tcp : Tcp) (verdict : Option Refusal) → key ≡ key_in live.table side d → connection_of key live.connections ≡ None → tcp ≡ tcp_of d →
@@ -234,7 +238,7 @@ first_is rules lists live side d key tcp verdict named absent is first told plai
       told = told;
       plain = plain;
       full = λ n.
-          ap (λ (b : Bool). not b && nat_le most_connections (length live.connections) || nat_le most_sessions (count_by is_tracked live.connections))
+          ap (λ (b : Bool). not b && nat_le MOST_CONNECTIONS (length live.connections) || nat_le MOST_SESSIONS (count_by is_tracked live.connections))
           (plain n);
     }
 

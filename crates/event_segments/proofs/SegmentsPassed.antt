@@ -9,12 +9,15 @@ use Rattle.gate_base.specs.declared.side.Side.{Side}
 use Rattle.binding_table.specs.Prelude.{Bindings, cross, is_settled, after_uses}
 use Rattle.ipv4_frames.specs.Ipv4.{Datagram}
 use Rattle.tcp_segments.specs.Prelude.{Tcp, flags_of}
-use Rattle.tcp_tracker.specs.Prelude.{connection_of, timeout_of, short_timeout, noted, without, changed, place_of, after, with_session, replaced}
+use Rattle.tcp_tracker.specs.Prelude.{connection_of, timeout_of, noted, without, changed, place_of, after, with_session, replaced}
+use Rattle.tcp_tracker.specs.declared.connection.TheConstants.{SHORT_TIMEOUT}
 use Rattle.tcp_tracker.specs.declared.connection.ConnKey.{ConnKey}
 use Rattle.tcp_tracker.specs.declared.connection.Connection.{Connection}
 use Rattle.twice_translate.specs.Renamed.{datagram_of, renamed}
 use Rattle.gate_base.specs.Prelude.{first_that_holds, unless_refused}
-use Rattle.gate_model.specs.Prelude.{Stream, is_tracked_port, taker_in, with_connection, tcp_of, key_in, found_in, session_in, begins, is_opening, pair_in, made_by, session_refusal, stepped, ends_by, stream_timeout, connection_after, connections_with, pending_by, pending_in, table_after, uses_until, Tracked, World, called, source_of, destination_of, SessionRules}
+use Rattle.gate_model.specs.Prelude.{Stream, is_tracked_port, taker_in, with_connection, tcp_of, key_in, found_in, session_in, begins, is_opening}
+use Rattle.gate_model.specs.Prelude.{pair_in, made_by, session_refusal, stepped, ends_by, stream_timeout, connection_after, connections_with}
+use Rattle.gate_model.specs.Prelude.{pending_by, pending_in, table_after, uses_until, Tracked, World, called, source_of, destination_of, SessionRules}
 use Rattle.event_payloads.specs.Prelude.{IsWayOf, image_by, is_empty, header_uses}
 use Rattle.event_payloads.specs.declared.addresses.Way.{Way}
 use Rattle.event_payloads.proofs.Passes.{source_called, destination_called}
@@ -129,7 +132,7 @@ untracked_taken {S = S} rules tells live way d full None table_new connections_n
     let timeout = timeout_of live.connections key way.side flags in
     passed_is rules tells live way.side d way None table_new connections_new live.pending sent
     (used_alone rules live way.side d way timeout table_new w (room_none full (is_empty way.of_source) a).1 lone
-    (ap (λ (s : Option (Tracked S)). if ends_by rules way.side d s then short_timeout else timeout) lone) b)
+    (ap (λ (s : Option (Tracked S)). if ends_by rules way.side d s then SHORT_TIMEOUT else timeout) lone) b)
     j.taker_is (a ∙ joined_refusal rules live way.side d way None full w j)
     (c ∙ ap (noted live.connections key way.side flags None) (now_is live way.side d way w)
     ∙ noted_untracked key live.connections way.side flags (now_of live) lone)
@@ -208,8 +211,8 @@ session_goes_on {S = S} rules tells live way d t waiting table_new connections_n
     let left : Bool → Option (Connection (Tracked S)) =
     λ x. if x then None else option_map (with_session (Some s)) (after key way.side flags (Some t) (now_of live) (found_in live way.side d)) in
     passed_is rules tells live way.side d way (Some t) table_new connections_new (max live.pending waiting) sent
-    (b (ap (λ (o : Option (Tracked S)). if ends_by rules way.side d o then short_timeout else timeout) e
-    ∙ ap (λ (x : Bool). if x then short_timeout else timeout) on.0))
+    (b (ap (λ (o : Option (Tracked S)). if ends_by rules way.side d o then SHORT_TIMEOUT else timeout) e
+    ∙ ap (λ (x : Bool). if x then SHORT_TIMEOUT else timeout) on.0))
     (session_takes rules live way.side d t e) none
     (c ∙ ap (noted (replaced live.connections key s) key way.side flags None) (now_is live way.side d way w)
     ∙ noted_replaced key live.connections t s way.side flags (Some t) (now_of live) e
@@ -225,7 +228,7 @@ pub session_is_over : {S A : Type 0} (rules : SessionRules S) (tells : Tells S A
     let key = key_in live.table way.side d in
     IsWayOf live way.side d way → session_in (found_in live way.side d) ≡ Some t → None ≡ stream_refusal rules live way.side d
     → None ≡ waiting_after rules (image_of rules live way.side d) way.side d t →
-    (stream_timeout rules live way.side d ≡ short_timeout → AreUsed rules live way.side d way table_new) →
+    (stream_timeout rules live way.side d ≡ SHORT_TIMEOUT → AreUsed rules live way.side d way table_new) →
     connections_new ≡ without (replaced live.connections key (stepped rules (image_of rules live way.side d) way.side d t)) key →
     sent ≡ tells.segment (image_of rules live way.side d) way.side d (image_by way.of_source way.source).0
     (image_by way.of_destination way.destination).0 (Some t) →
@@ -239,8 +242,8 @@ session_is_over {S = S} rules tells live way d t table_new connections_new sent 
     let left : Bool → Option (Connection (Tracked S)) =
     λ x. if x then None else option_map (with_session (Some s)) (after key way.side flags (Some t) (now_of live) (found_in live way.side d)) in
     passed_is rules tells live way.side d way (Some t) table_new connections_new live.pending sent
-    (b (ap (λ (o : Option (Tracked S)). if ends_by rules way.side d o then short_timeout else timeout) e
-    ∙ ap (λ (x : Bool). if x then short_timeout else timeout) over))
+    (b (ap (λ (o : Option (Tracked S)). if ends_by rules way.side d o then SHORT_TIMEOUT else timeout) e
+    ∙ ap (λ (x : Bool). if x then SHORT_TIMEOUT else timeout) over))
     (session_takes rules live way.side d t e) none
     (c ∙ without_replaced key live.connections t s e
     ∙ sym (ap (λ (x : Bool). changed live.connections (place_of key live.connections) (left x)) over))
@@ -297,7 +300,7 @@ session_begins {S = S} rules tells live way d waiting full table_new connections
     λ x. if x then None else option_map (with_session (Some s)) (after key way.side flags (Some t) (now_of live) (found_in live way.side d)) in
     passed_is rules tells live way.side d way (Some t) table_new connections_new (max live.pending (unwrap_or waiting 0)) sent
     (used_alone rules live way.side d way timeout table_new w room j.alone
-    (ap (λ (o : Option (Connection (Tracked S))). if ends_by rules way.side d (session_in o) then short_timeout else timeout) none) b)
+    (ap (λ (o : Option (Connection (Tracked S))). if ends_by rules way.side d (session_in o) then SHORT_TIMEOUT else timeout) none) b)
     (j.taker_is ∙ ap Some (made_is rules live d way w room j.alone))
     (passes rules live way.side d way
     (Some (made_by rules (table_after rules live way.side live.clock d Stream) way.side d)) full w j verdict few room)

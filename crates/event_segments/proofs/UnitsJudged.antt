@@ -13,7 +13,11 @@ use Rattle.dialogue.specs.Prelude.{Entry, AreImages}
 use Rattle.dns_stream.specs.Prelude.{dns_units}
 use Rattle.ipv4_frames.specs.Ipv4.{Datagram}
 use Rattle.stream_model.specs.Prelude.{Segment}
-use Rattle.gate_model.specs.Prelude.{Whole, Stream, Udp, most_entries, addresses_in, entered, is_bad, grows_too_much, taker_in, segment_of, found_in, session_in, lacks_session, is_full, session_refusal, uses_until, is_new_unbound, units_in, names_in, entries_in, entries_after, unit_tests, growth_tests, refusal_tests, is_pool_empty, Tracked, World, addresses_of, source_of, destination_of, host_on, SessionRules}
+use Rattle.gate_model.specs.Prelude.{Whole, Stream, Udp, addresses_in, entered, is_bad, grows_too_much, taker_in, segment_of, found_in}
+use Rattle.dialogue.specs.declared.TheConstants.{MOST_ENTRIES}
+use Rattle.gate_model.specs.Prelude.{session_in, lacks_session, is_full, session_refusal, uses_until, is_new_unbound, units_in, names_in, entries_in}
+use Rattle.gate_model.specs.Prelude.{entries_after, unit_tests, growth_tests, refusal_tests, is_pool_empty, Tracked, World, addresses_of, source_of}
+use Rattle.gate_model.specs.Prelude.{destination_of, host_on, SessionRules}
 use Rattle.gate_model.proofs.ListsKept.{table_of}
 use Rattle.event_payloads.specs.Prelude.{is_empty}
 use Rattle.event_payloads.specs.declared.addresses.Way.{Way}
@@ -47,7 +51,7 @@ order false false false empty grows = refl
 abbrev by_units : {S : Type 0} (rules : SessionRules S) → World S → Side → Datagram → List Entry → List (List ℕ) → Option Refusal
 by_units rules live side d es us =
     five (list_any is_bad us) (list_any (is_new_unbound live.table side es) (addresses_in us))
-    (nat_lt most_entries (length (entered (image_of rules live side d) es (addresses_in us))))
+    (nat_lt MOST_ENTRIES (length (entered (image_of rules live side d) es (addresses_in us))))
     (nat_lt (free live.table (other side)) (needed live.table side (addresses_of d ++ addresses_in us)))
     (list_any (grows_too_much (entered (image_of rules live side d) es (addresses_in us))) us)
 
@@ -97,11 +101,11 @@ planned_is rules live side d way t octets on e = refusal_is rules live side d t 
 
 pub none_stopped : {S : Type 0} (rules : SessionRules S) (live : World S) (side : Side) (d : Datagram) (way : Way) (t : Tracked S) (octets : List ℕ)
     → IsOn rules live side d way t → whole_units octets ≡ rules.units (host_on side t) t.session (segment_of d) → whole_units octets ≡ []
-    → length (rules.listed (host_on side t) t.session) ≤ most_entries
+    → length (rules.listed (host_on side t) t.session) ≤ MOST_ENTRIES
     → stream_refusal rules live side d ≡ first_that_holds ((is_empty way.of_source, PoolEmpty) ∷ [])
 none_stopped rules live side d way t octets on e none few =
     let es = rules.listed (host_on side t) t.session in
-    let full : nat_lt most_entries (length es) ≡ false = le-ltb most_entries (length es) few in
+    let full : nat_lt MOST_ENTRIES (length es) ≡ false = le-ltb MOST_ENTRIES (length es) few in
     planned_is rules live side d way t octets on e
     ∙ ap (λ (us : List (List ℕ)). by_units rules live side d es us) none
     ∙ ap (λ (b : Bool). five false false b (nat_lt (free live.table (other side)) (needed live.table side (addresses_of d ++ []))) false) full
@@ -123,7 +127,7 @@ pub record IsReady {S : Type 0} (rules : SessionRules S) (live : World S) (side 
   pub entries_are : es ≡ rules.listed (host_on side t) t.session
   pub header : AreBound live.table ends.side (ends.source ∷ ends.destination ∷ [])
   pub listed : IsListBound live.table ends.side es
-  pub few : length (rules.listed (host_on side t) t.session) ≤ most_entries
+  pub few : length (rules.listed (host_on side t) t.session) ≤ MOST_ENTRIES
 
 names_are : {S : Type 0} (rules : SessionRules S) (live : World S) (side : Side) (d : Datagram) (way : Way) (t : Tracked S) (octets : List ℕ)
     (ends : Endpoints) (es : List Entry) → IsReady rules live side d way t octets ends es
@@ -207,7 +211,7 @@ some_planned rules live side d way t octets ends es plan r none named entries im
           (used_bound live.table ends es ns r.header r.listed told.bound));
       room = subst (λ (ys : List Addr). needed live.table side ys ≤ free live.table (other side)) same
           (subst (λ (s : Side). needed live.table s (all_addresses ends ns) ≤ free live.table (other s)) side_is (ltb-false _ _ told.room));
-      few = subst (λ (xs : List Entry). length xs ≤ most_entries) after told.few;
+      few = subst (λ (xs : List Entry). length xs ≤ MOST_ENTRIES) after told.few;
       named = named ∙ names;
       entries = entries ∙ beside_alike (called_so rules live side d ends octets) image ns alike ∙ ap (beside image) names;
       images =
@@ -231,7 +235,7 @@ none_planned rules live side d way t octets ends es plan r none room named entri
       bound = subst (λ (ys : List Addr). All (λ address. cross live.table side address ≢ Unbound) ys) used
           (subst (λ (e : Endpoints). AreBound live.table e.side (e.source ∷ e.destination ∷ [])) r.ends_are r.header);
       room = subst (λ (ys : List Addr). needed live.table side ys ≤ free live.table (other side)) used (ltb-false _ _ fits);
-      few = subst (λ (ns : List Addr). length (entered image listed ns) ≤ most_entries) (sym names) r.few;
+      few = subst (λ (ns : List Addr). length (entered image listed ns) ≤ MOST_ENTRIES) (sym names) r.few;
       named = named ∙ sym names;
       entries = entries ∙ ap (beside image) (sym names);
       images =

@@ -7,7 +7,8 @@ use Rattle.gate_base.specs.declared.refusal.Refusal.{Refusal}
 use Rattle.gate_base.specs.declared.refusal.Refusal.TheVariants.{BadUnit, UnitUnbound, RenamesFull, PoolEmpty, UnitGrows}
 use Rattle.binding_table.specs.Prelude.{Bindings, free, needed}
 use Rattle.dialogue.specs.Prelude.{Entry}
-use Rattle.gate_model.specs.Prelude.{most_entries, addresses_in, enter, entered, is_bad, grows_too_much, is_new_unbound}
+use Rattle.gate_model.specs.Prelude.{addresses_in, enter, entered, is_bad, grows_too_much, is_new_unbound}
+use Rattle.dialogue.specs.declared.TheConstants.{MOST_ENTRIES}
 use Rattle.dns_plans.specs.Prelude.{whole_units, beside, all_addresses, plan_tests}
 use Rattle.dns_plans.specs.declared.plan.Endpoints.{Endpoints}
 use Rattle.dns_plans.proofs.EnteredLemmas.{same_count, entered-beside}
@@ -59,8 +60,8 @@ plans_alike table f g ends es octets same =
     let bad = list_any is_bad units in
     let unbound = list_any (is_new_unbound table ends.side es) names in
     let empty = nat_lt (free table (other ends.side)) (needed table ends.side (all_addresses ends names)) in
-    ap (λ (n : ℕ). five bad unbound (nat_lt most_entries n) empty (list_any (grows_too_much (entered f es names)) units)) (counts_alike f g es names)
-    ∙ five_alike bad unbound (nat_lt most_entries (length (entered g es names))) empty (list_any (grows_too_much (entered f es names)) units)
+    ap (λ (n : ℕ). five bad unbound (nat_lt MOST_ENTRIES n) empty (list_any (grows_too_much (entered f es names)) units)) (counts_alike f g es names)
+    ∙ five_alike bad unbound (nat_lt MOST_ENTRIES (length (entered g es names))) empty (list_any (grows_too_much (entered f es names)) units)
     (list_any (grows_too_much (entered g es names)) units)
     (λ good few room. ap (λ (xs : List Entry). list_any (grows_too_much xs) units) (entered_alike f g es names (same few room)))
 
@@ -68,7 +69,7 @@ plans_alike table f g ends es octets same =
 
 pub record NoneTold (table : Bindings) (f : Addr → Option Addr) (ends : Endpoints) (es : List Entry) (octets : List ℕ) : Type 0 where
   pub bound : list_any (is_new_unbound table ends.side es) (addresses_in (whole_units octets)) ≡ false
-  pub few : length (entered f es (addresses_in (whole_units octets))) ≤ most_entries
+  pub few : length (entered f es (addresses_in (whole_units octets))) ≤ MOST_ENTRIES
   pub room : nat_lt (free table (other ends.side)) (needed table ends.side (all_addresses ends (addresses_in (whole_units octets)))) ≡ false
 
 five_none : (bad unbound full empty grows : Bool) → five bad unbound full empty grows ≡ None → (unbound ≡ false) × ((full ≡ false) × (empty ≡ false))
@@ -84,7 +85,7 @@ none_told table f ends es octets none =
     let units = whole_units octets in
     let names = addresses_in units in
     let parts = five_none (list_any is_bad units) (list_any (is_new_unbound table ends.side es) names)
-    (nat_lt most_entries (length (entered f es names)))
+    (nat_lt MOST_ENTRIES (length (entered f es names)))
     (nat_lt (free table (other ends.side)) (needed table ends.side (all_addresses ends names)))
     (list_any (grows_too_much (entered f es names)) units) none in
-    record { bound = parts.0; few = ltb-false most_entries (length (entered f es names)) parts.1.0; room = parts.1.1 }
+    record { bound = parts.0; few = ltb-false MOST_ENTRIES (length (entered f es names)) parts.1.0; room = parts.1.1 }

@@ -8,7 +8,8 @@ use Rattle.gate_base.specs.declared.host.Host.TheVariants.{Client, Server}
 use Rattle.binding_table.specs.Prelude.{cross, free, Use, needed}
 use Rattle.binding_table.specs.declared.binding.Crossing.TheVariants.{Unbound}
 use Rattle.ipv4_frames.specs.Ipv4.{Datagram}
-use Rattle.gate_model.specs.Prelude.{most_entries, renamed_in, found_in, session_in, session_refusal, uses_until, units_in, names_in, entries_after, image_in, Tracked, World, addresses_of, SessionRules}
+use Rattle.gate_model.specs.Prelude.{renamed_in, found_in, session_in, session_refusal, uses_until, units_in, names_in, entries_after, image_in, Tracked, World, addresses_of, SessionRules}
+use Rattle.dialogue.specs.declared.TheConstants.{MOST_ENTRIES}
 use Rattle.event_payloads.specs.declared.addresses.Way.{Way}
 use Rattle.dialogue.specs.Prelude.{AreImages}
 use Rattle.dns_stream.specs.Prelude.{dns_units}
@@ -33,7 +34,7 @@ pub record IsUnitPlan {S : Type 0} (rules : SessionRules S) (live : World S) (si
   pub passes : stream_refusal rules live side d ≡ None
   pub bound : All (λ address. cross live.table side address ≢ Unbound) (used_by rules side d t)
   pub room : needed live.table side (used_by rules side d t) ≤ free live.table (other side)
-  pub few : length (entries_after rules (image_of rules live side d) side d (Some t)) ≤ most_entries
+  pub few : length (entries_after rules (image_of rules live side d) side d (Some t)) ≤ MOST_ENTRIES
   pub named : plan.named.items ≡ names_in rules side d (Some t)
   pub entries : plan.entries.items ≡ beside (image_of rules live side d) (names_in rules side d (Some t))
   pub images : AreImages (dns_units (entries_after rules (image_of rules live side d) side d (Some t))) plan.images.items

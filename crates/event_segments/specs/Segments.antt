@@ -6,12 +6,15 @@ use Rattle.gate_base.specs.declared.event.Pair.{Pair}
 use Rattle.gate_base.specs.declared.refusal.Refusal.{Refusal}
 use Rattle.gate_base.specs.declared.refusal.Refusal.TheVariants.{PoolEmpty, SessionsFull}
 use Rattle.gate_base.specs.declared.side.Side.{Side}
+use Rattle.gate_base.specs.declared.protocol.TheConstants.{LONGEST_DATAGRAM}
 use Rattle.ipv4_frames.specs.Ipv4.{Datagram}
 use Rattle.tcp_segments.specs.Prelude.{Tcp, flags_of}
 use Rattle.tcp_tracker.specs.declared.connection.Connection.{Connection}
-use Rattle.gate_model.specs.Prelude.{Kind, Stream, tcp_of, segment_of, stepped, ends_by, pending_by, most_connections, kind_tests, late_tests, is_pool_empty, Tracked, World, host_on, addresses_in, SessionRules}
+use Rattle.tcp_tracker.specs.declared.tracker.TheConstants.{MOST_CONNECTIONS}
+use Rattle.gate_model.specs.Prelude.{Kind, Stream, tcp_of, segment_of, stepped, ends_by, pending_by, kind_tests, late_tests, is_pool_empty, Tracked, World, host_on, addresses_in, SessionRules}
 use Rattle.twice_translate.specs.Renamed.{CanGoOn, datagram_of}
 use Rattle.dialogue.specs.Prelude.{Entry, AreImages}
+use Rattle.dialogue.specs.declared.TheConstants.{MOST_ENTRIES}
 use Rattle.dialogue.specs.declared.learns.UnitImage.{UnitImage}
 use Rattle.dns_stream.specs.Prelude.{dns_units}
 use Rattle.dns_plans.specs.Prelude.{beside, entered_all}
@@ -21,7 +24,7 @@ use Rattle.event_payloads.specs.declared.addresses.Way.{Way}
 -- what stands in the octets of a segment, which can go on
 pub record IsSegmentOf (octets : List ℕ) (d : Datagram) (tcp : Tcp) : Type 0 where
   pub same : datagram_of octets ≡ d
-  pub few : length octets ≤ 65535
+  pub few : length octets ≤ LONGEST_DATAGRAM
   pub can : CanGoOn octets
   pub tcp_is : tcp ≡ tcp_of d
 
@@ -42,7 +45,7 @@ room_tests full empty = (full, SessionsFull) ∷ (empty, PoolEmpty) ∷ []
 
 -- it would make a connection, and the most of them live
 abbrev pub lacks_place : {X : Type 0} → List (Connection X) → Option (Connection X) → ℕ → Bool
-lacks_place all found flags = is_none found && (not (flags_of flags).reset && nat_le most_connections (length all))
+lacks_place all found flags = is_none found && (not (flags_of flags).reset && nat_le MOST_CONNECTIONS (length all))
 
 -- the addresses that the units of a segment name, each beside what it is called
 abbrev pub AreCalled : {S : Type 0} (rules : SessionRules S) → (Addr → Option Addr) → Side → Datagram → Tracked S → List Entry → Type 0
@@ -52,7 +55,7 @@ AreCalled rules image side d t entries = entries ≡ beside image (addresses_in 
 pub record Enters {S : Type 0} (rules : SessionRules S) (side : Side) (d : Datagram) (t : Tracked S) (entries : List Entry)
     (images : List UnitImage) : Type 0 where
   pub passes : rules.refusal (host_on side t) t.session (segment_of d) ≡ None
-  pub few : length (entered_all (rules.listed (host_on side t) t.session) entries) ≤ 256
+  pub few : length (entered_all (rules.listed (host_on side t) t.session) entries) ≤ MOST_ENTRIES
   pub image : Addr → Option Addr
   pub called : AreCalled rules image side d t entries
   pub right : AreImages (dns_units (entered_all (rules.listed (host_on side t) t.session) entries)) images

@@ -6,6 +6,7 @@ ghost use Rattle.gate_model.specs.Stream as streams;
 ghost use Rattle.gate_model.specs.World as worlds;
 ghost use Rattle.gate_model.specs.Prelude.{World, host_on};
 ghost use Rattle.tcp_tracker.specs.Prelude.{connection_of};
+ghost use Rattle.dialogue.specs.declared.TheConstants.{MOST_ENTRIES};
 ghost use Rattle.dns_plans.specs.Prelude.{AreBound, IsListBound};
 ghost use Rattle.event_payloads.specs.Prelude.{IsWayOf};
 ghost use Rattle.event_segments.specs.SegmentFate.{IsUnitPlan, IsFound};
@@ -54,7 +55,7 @@ fn plan_session<S: Session>(
     requires listed { IsListBound table.now way.now.side
         (S.rules.listed (host_on way.now.side tracked.now) tracked.now.session) }
     requires few { (host : Host)
-        → length (S.rules.listed host tracked.now.session) ≤ 256 }
+        → length (S.rules.listed host tracked.now.session) ≤ MOST_ENTRIES }
     ensures planned { (live : World S)
         → live.table ≡ table.now
         → IsOn S.rules live way.now.side segment.now.datagram.now way.now tracked.now

@@ -1,6 +1,7 @@
 // ICMP errors: the datagram inside, which came from the other realm and goes back.
 ghost use Rattle.std.specs.Prelude.{◌≡◌, ◌≤◌, ◌==◌, true, false, [], drop, length};
 ghost use Rattle.gate_base.specs.Prelude.{IsMoment};
+ghost use Rattle.gate_base.specs.declared.protocol.TheConstants.{LONGEST_DATAGRAM, UDP};
 ghost use Rattle.binding_table.specs.Prelude.{is_settled};
 ghost use Rattle.twice_translate.specs.Renamed.{CanGoOn, datagram_of};
 ghost use Rattle.gate_model.specs.Frame as kinds;
@@ -10,8 +11,9 @@ ghost use Rattle.event_payloads.specs.Prelude.{IsWay, IsTaken, IsWayOf};
 use binding_table::Table;
 use dns_plans::{Session, Tracked};
 use event_outbox::{Datagrams, put_error};
-use event_payloads::{ICMP_TIMEOUT, Way, key_of, lacks_alias};
+use event_payloads::{Way, key_of, lacks_alias};
 use gate_base::{Addr, Refusal, Side, TCP};
+use gate_model::ICMP_TIMEOUT;
 use icmp_errors::{Inner, inner_of};
 use tcp_tracker::SessionTable;
 
@@ -62,11 +64,11 @@ pub fn take_error<S: Session>(
     requires settled { is_settled way.now.of_destination ≡ true }
     requires moment { IsMoment way.now.moment.0 }
     requires empty { outbox.old ≡ [] }
-    requires few { length octets.now ≤ 65535 }
+    requires few { length octets.now ≤ LONGEST_DATAGRAM }
     requires can { CanGoOn octets.now }
     requires inside { inside.now ≡ drop 8 (datagram_of octets.now).payload }
-    requires protocol { ((datagram_of octets.now).protocol == 17) ≡ false }
-    requires stream { ((datagram_of octets.now).protocol == 6) ≡ false }
+    requires protocol { ((datagram_of octets.now).protocol == UDP) ≡ false }
+    requires stream { ((datagram_of octets.now).protocol == TCP) ≡ false }
     ensures taken { (live : World S)
         → live.table ≡ table.old
         → live.connections ≡ connections.now

@@ -11,8 +11,9 @@ ghost use Rattle.event_segments.specs.Passed.{plain_world};
 use crate::workspace::Workspace;
 use binding_table::Table;
 use event_outbox::Datagrams;
-use event_payloads::{UDP_TIMEOUT, UdpDatagram, Way, take_dns, take_plain, take_snmp};
+use event_payloads::{UdpDatagram, Way, take_dns, take_plain, take_snmp};
 use gate_base::{DNS_PORT, OutOfMemory, Refusal, SNMP_PORT, TRAP_PORT};
+use gate_model::UDP_TIMEOUT;
 use udp_icmp::UdpView;
 
 /// Takes a UDP datagram, by its ports. There is too little memory only at one of DNS, and then nothing has changed.

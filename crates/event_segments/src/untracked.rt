@@ -1,11 +1,12 @@
 // Segments that no session takes, and the room for connections.
 ghost use Rattle.std.specs.Prelude.{◌≡◌, ◌≤◌, ◌||◌, ◌&&◌, nat_le, [], ◌∷◌, length, true, false, None, is_none, count_by};
 ghost use Rattle.gate_base.specs.Prelude.{IsMoment, IsTimeout, first_that_holds, unless_refused};
+ghost use Rattle.gate_base.specs.declared.protocol.TheConstants.{LONGEST_DATAGRAM};
 ghost use Rattle.binding_table.specs.Prelude.{is_settled, after_uses};
 ghost use Rattle.twice_translate.specs.Renamed.{CanGoOn, datagram_of, renamed};
 ghost use Rattle.tcp_segments.specs.Prelude.{flags_of};
 ghost use Rattle.tcp_tracker.specs.Prelude.{connection_of, timeout_of, noted, is_tracked};
-ghost use Rattle.gate_model.specs.Prelude.{most_connections, most_sessions, uses_until};
+ghost use Rattle.gate_model.specs.Prelude.{uses_until};
 ghost use Rattle.event_payloads.specs.Prelude.{IsWay, image_by, is_empty, header_uses};
 ghost use Rattle.event_segments.specs.Segments.{room_tests, lacks_place};
 
@@ -14,13 +15,7 @@ use event_outbox::{Datagrams, Segment};
 use event_payloads::{Way, lacks_alias, pass_plain};
 use gate_base::Refusal;
 use tcp_segments::flags_of;
-use tcp_tracker::{ConnKey, SHORT_TIMEOUT, SessionTable};
-
-/// The most connections that live at once.
-const CONNECTIONS: usize = 65_536;
-
-/// The most sessions that live at once.
-const SESSIONS: usize = 4_096;
+use tcp_tracker::{ConnKey, MOST_CONNECTIONS, MOST_SESSIONS, SHORT_TIMEOUT, SessionTable};
 
 /// Takes a segment that no session takes.
 #[inline(always)]
@@ -36,7 +31,7 @@ pub fn take_untracked<X>(
     requires settled { is_settled way.now.of_destination ≡ true }
     requires moment { IsMoment way.now.moment.0 }
     requires empty { outbox.old ≡ [] }
-    requires few { length segment.now.octets.now ≤ 65535 }
+    requires few { length segment.now.octets.now ≤ LONGEST_DATAGRAM }
     requires can { CanGoOn segment.now.octets.now }
     ensures refusal { result
         ≡ first_that_holds (room_tests
@@ -99,16 +94,16 @@ fn lacks_place<X>(connections: &SessionTable<X>, key: &ConnKey, flags: u8) -> bo
     ensures { result
         ≡ lacks_place connections.now (connection_of key.now connections.now) flags }
 {
-    CONNECTIONS <= connections.len() && !flags_of(flags).reset && !connections.contains(key)
+    MOST_CONNECTIONS <= connections.len() && !flags_of(flags).reset && !connections.contains(key)
 }
 
 /// The most connections live, or the most sessions.
 pub fn is_full<X>(connections: &SessionTable<X>) -> bool
     ensures { result
-        ≡ (nat_le most_connections (length connections.now)
-        || nat_le most_sessions (count_by is_tracked connections.now)) }
+        ≡ (nat_le MOST_CONNECTIONS (length connections.now)
+        || nat_le MOST_SESSIONS (count_by is_tracked connections.now)) }
 {
-    CONNECTIONS <= connections.len() || SESSIONS <= connections.sessions()
+    MOST_CONNECTIONS <= connections.len() || MOST_SESSIONS <= connections.sessions()
 }
 
 /// The timeout of a segment's addresses, which is that of its connection.

@@ -2,6 +2,7 @@
 ghost use Rattle.std.specs.Prelude.{◌≡◌, ◌≤◌, Option, [], length, IfOk, OnErr, OnOk};
 ghost use Rattle.gate_base.specs.declared.address.Addr.{Addr};
 ghost use Rattle.gate_base.specs.declared.host.Host.TheVariants.{Client};
+ghost use Rattle.gate_base.specs.declared.protocol.TheConstants.{LONGEST_DATAGRAM};
 ghost use Rattle.stream_model.specs.Prelude.{segment_in};
 ghost use Rattle.gate_model.specs.Stream as streams;
 ghost use Rattle.event_segments.specs.Prelude.{IsSegmentOf, AreCalled, Enters};
@@ -41,7 +42,7 @@ pub trait Engine: Session + Drop {
 
     /// Why the first segment of a client is refused by the session that it makes; None where it passes.
     fn opening_refusal(alloc: Global, pair: Pair, segment: &TcpView<'_>) -> Option<Refusal>
-        requires { length segment.now.payload ≤ 65535 }
+        requires { length segment.now.payload ≤ LONGEST_DATAGRAM }
         ensures { result
             ≡ Self.rules.refusal Client
             (Self.rules.made segment.now.destination_port pair

@@ -1,6 +1,7 @@
 // What is known from event to event, and what a frame changes of it.
 ghost use Rattle.std.specs.Prelude.{◌≡◌, ◌≤◌, false, ◌==◌, [], length, IfOk};
 ghost use Rattle.gate_base.specs.Prelude.{IsMoment, event_of, first_that_holds};
+ghost use Rattle.gate_base.specs.declared.protocol.TheConstants.{LONGEST_DATAGRAM, TCP, UDP};
 ghost use Rattle.twice_translate.specs.Renamed.{CanGoOn, datagram_of};
 ghost use Rattle.gate_model.specs.Frame as kinds;
 ghost use Rattle.gate_model.specs.Prelude.{opening_world, at_moment, KeepsListed, datagram_in, kind_of, tests, world_tests, address_tests};
@@ -18,10 +19,11 @@ use binding_table::Table;
 use dns_plans::Tracked;
 use event_frame::{Content, Judged, judge};
 use event_outbox::{Datagrams, Segment};
-use event_payloads::{ICMP_TIMEOUT, UdpDatagram, Way, address_refusal, take_plain};
+use event_payloads::{UdpDatagram, Way, address_refusal, take_plain};
 use event_segments::{Workspace, take_error, take_udp};
 use expiring_table::Seed;
 use gate_base::{Event, Moment, OutOfMemory, Refusal, Side};
+use gate_model::ICMP_TIMEOUT;
 use gate_settings::Settings;
 use std::alloc::Global;
 use tcp_tracker::SessionTable;
@@ -177,11 +179,11 @@ impl<S: Engine> State<S> {
             (datagram_of octets.now) way.now }
         requires moment { IsMoment way.now.moment.0 }
         requires empty { outbox.old ≡ [] }
-        requires few { length octets.now ≤ 65535 }
+        requires few { length octets.now ≤ LONGEST_DATAGRAM }
         requires can { CanGoOn octets.now }
         requires view { view.now ≡ icmp_fields_of (datagram_of octets.now).payload }
-        requires other { ((datagram_of octets.now).protocol == 17) ≡ false }
-        requires neither { ((datagram_of octets.now).protocol == 6) ≡ false }
+        requires other { ((datagram_of octets.now).protocol == UDP) ≡ false }
+        requires neither { ((datagram_of octets.now).protocol == TCP) ≡ false }
         ensures rest { self.new ≡ record self.old { table = self.new.table } }
         ensures taken { IsTaken S.rules (world_in self.old) way.now.side
             (datagram_of octets.now) (kinds.Whole (kinds.icmp_payload (datagram_of octets.now))) result

@@ -13,14 +13,15 @@ use Rattle.gate_report.specs.Counts.{counted}
 use Rattle.gate_report.proofs.Counts.{few_passed, few_refused}
 use Rattle.gate_report.specs.declared.totals.Totals.{Totals}
 use Rattle.gate_report.specs.Lines.{line_octets, event_line}
+use Rattle.gate_settings.specs.Prelude.{HaveMacAddresses}
 use Rattle.gate_settings.specs.declared.settings.ReportForm.{ReportForm}
 use Rattle.gate_settings.specs.declared.settings.Settings.{Settings}
 use Rattle.pcap_files.specs.Prelude.{Packet, Records}
 use Rattle.pcap_merge.specs.Prelude.{with_records}
 use Rattle.lawful_files.specs.declared.reason.AuditReason.TheVariants as reasons
-use Rattle.lawful_files.specs.Prelude.{Given, given_at, State, line_of, record_of, HaveMacAddresses, IsSound, behind, is_closed, event_in, verdict_of, wanted_of}
+use Rattle.lawful_files.specs.Prelude.{Given, given_at, State, line_of, record_of, IsSound, behind, is_closed, event_in, verdict_of, wanted_of}
 use Rattle.lawful_files.specs.Progress.{behind_all}
-use Rattle.lawful_files.proofs.Judged.{addresses_of, not_lawful}
+use Rattle.lawful_files.proofs.Judged.{not_lawful}
 use Rattle.lawful_files.proofs.Progressed.{is_whole}
 use Rattle.file_audit.specs.declared.given.GivenFiles.{GivenFiles}
 use Rattle.file_audit.specs.declared.line.LineHead.{LineHead}
@@ -189,7 +190,7 @@ lawful_with : (settings : Settings) (s : State) (x : Arrival) (frames : ℕ) (pa
     → Went settings s x frames packets g next → IsLawfulWith settings s x frames g next
 lawful_with settings s x frames packets g next addresses sound few count right w =
     let to = other (event_in x).side in
-    let lawful = is_whole settings to (event_in x).moment (addresses_of settings to addresses) (wanted_of s.world x) packets sound right in
+    let lawful = is_whole settings to (event_in x).moment (addresses to) (wanted_of s.world x) packets sound right in
     let size : length lawful.0 ≡ frames = sym (length-map lawful.0 (record_of settings to (event_in x).moment))
     ∙ sym (ap (λ (ps : List Packet). length ps) lawful.2) ∙ count in (
       record {

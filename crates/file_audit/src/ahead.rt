@@ -12,7 +12,7 @@ use std::marker::Model;
 /// The most octets that are read ahead: more than a line has, as text or as JSON.
 pub const AHEAD: usize = 256;
 
-/// The octets of the given report that were read and not taken yet.
+/// The octets of the given report that were read and not skipped yet.
 #[derive(Drop)]
 pub struct Ahead {
     room: [u8; AHEAD],
@@ -61,15 +61,15 @@ impl Ahead {
         }
     }
 
-    /// The octets that were read and not taken yet.
+    /// The octets that were read and not skipped yet.
     pub fn octets(&self) -> &[u8]
         ensures { result.now ≡ self.now }
     {
         &self.room[..self.count]
     }
 
-    /// Takes so many from the front.
-    pub fn take(&mut self, n: usize)
+    /// Drops so many from the front.
+    pub fn skip(&mut self, n: usize)
         requires { n ≤ length self.old }
         ensures { self.new ≡ drop n self.old }
     {

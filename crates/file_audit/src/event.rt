@@ -1,8 +1,8 @@
 // What is found at a frame, and behind the last one.
-ghost use Rattle.std.specs.Prelude.{◌≡◌, ◌<◌, ◌^◌, length};
+ghost use Rattle.std.specs.Prelude.{◌≡◌, ◌<◌, ◌^◌};
 ghost use Rattle.gate_base.specs.Prelude.{IsMoment};
 ghost use Rattle.frag_join.specs.Prelude.{Arrival};
-ghost use Rattle.lawful_files.specs.Prelude.{HaveMacAddresses, State, begun};
+ghost use Rattle.lawful_files.specs.Prelude.{State, begun};
 ghost use Rattle.file_audit.specs.Inside.Events.{state_of, CanGoOn, FindsAt, FindsLast, IsExpecting};
 ghost use Rattle.file_audit.specs.Given.{ReadsGiven};
 ghost use Rattle.file_audit.specs.Inside.Stops.{LeavesFaults};
@@ -13,27 +13,9 @@ use crate::records::is_at_end;
 use gate_audit::Auditor;
 use gate_desk::Desk;
 use gate_report::Totals;
-use gate_settings::Settings;
 use lawful_files::AuditReason;
 use run_setup::Status;
 use std::alloc::Global;
-
-// An Ethernet address has six octets, by its type.
-fn has_six_octets(address: &[u8; 6])
-    ensures { length address.now ≡ 6 }
-{
-    let _ = address.len();
-}
-
-// Both Ethernet addresses of each realm have six octets.
-fn have_addresses(settings: &Settings)
-    ensures { HaveMacAddresses settings.now }
-{
-    has_six_octets(&settings.left.gateway_mac);
-    has_six_octets(&settings.left.next_mac);
-    has_six_octets(&settings.right.gateway_mac);
-    has_six_octets(&settings.right.next_mac);
-}
 
 /// Takes what the given files have for the frame that is expected: its line, and so many records as that tells. It answers
 /// what is counted then.
@@ -56,7 +38,6 @@ pub fn take_event<D: Desk>(
     ensures reads { ReadsGiven (D.outside desk.old) (D.outside desk.new) }
     ensures leaves { LeavesFaults result (D.outside desk.old) (D.outside desk.new) }
 {
-    have_addresses(auditor.settings());
     let form = auditor.settings().report;
     let Some(frames) = take_line(alloc, desk, &mut given.report, form, head)? else {
         return Err(Status::Unlawful(head.number, AuditReason::Line));

@@ -184,7 +184,7 @@ pub fn take_line<D: Desk>(
     report.fill(desk)?;
     match find_line(alloc, form, head, report.octets())? {
         Some(found) => {
-            report.take(found.length);
+            report.skip(found.length);
             Ok(Some(found.frames))
         }
         None => Ok(None),

@@ -1,5 +1,6 @@
 // The next records of a given capture.
 ghost use Rattle.std.specs.Prelude.{◌≡◌, ◌≤◌, ◌*◌, ◌<◌, ◌^◌, false, None};
+ghost use Rattle.pcap_files.specs.declared.record.TheConstants.{LONGEST_RECORD};
 ghost use Rattle.gate_desk.specs.Outside.{CanRead};
 ghost use Rattle.lawful_files.specs.Prelude.{begun};
 ghost use Rattle.file_audit.specs.Inside.Records.{FindsEnd, TakesRecord, TakesRecords};
@@ -21,7 +22,7 @@ fn take_record<D: Desk>(
     requires kept { auditor.old.lost ≡ false }
     requires count { auditor.old.expecting.so_far.count < 2 ^ 32 }
     requires carried { auditor.old.expecting.so_far.carried
-        ≤ 262144 * auditor.old.expecting.so_far.count }
+        ≤ LONGEST_RECORD * auditor.old.expecting.so_far.count }
     ensures takes { TakesRecord result reader.old reader.new auditor.old auditor.new
         (D.outside desk.old) (D.outside desk.new) }
     ensures leaves { LeavesFaults result (D.outside desk.old) (D.outside desk.new) }

@@ -1,4 +1,4 @@
-use gate_base::{Moment, Refusal, Side, Verdict};
+use gate_base::{Moment, Refusal, SECOND, Side, Verdict};
 use gate_report::{Line, LineRoom, Totals};
 use gate_settings::ReportForm;
 use std::test::Fail;
@@ -6,7 +6,7 @@ use std::test::Fail;
 const PASSED: Line = Line::Event {
     number: 1,
     side: Side::Left,
-    moment: Moment(1_000_000_000),
+    moment: Moment(SECOND),
     verdict: Verdict::Pass,
     frames: 1,
 };
@@ -22,7 +22,7 @@ const REFUSED: Line = Line::Event {
 const HELD: Line = Line::Event {
     number: 1,
     side: Side::Left,
-    moment: Moment(1_000_000_000),
+    moment: Moment(SECOND),
     verdict: Verdict::Held,
     frames: 0,
 };

@@ -2,7 +2,7 @@
 ghost use Rattle.std.specs.Prelude.{◌≡◌, OnOk};
 ghost use Rattle.gate_desk.specs.Outside.{CanRead};
 
-use gate_base::Side;
+use gate_base::{SECOND, Side};
 use gate_desk::{Access, Desk, Failed, Slot};
 use memory_desks::MemoryDesk;
 use pcap_merge::{Merge, MergeStop};
@@ -52,7 +52,7 @@ fn next<D: Desk>(merge: &mut Merge, desk: &mut D) -> Result<Option<(Side, u64)>,
     match merge.advance(desk) {
         Ok(true) => {
             let event = merge.event();
-            Ok(Some((event.side, event.moment.0 / 1_000_000_000)))
+            Ok(Some((event.side, event.moment.0 / SECOND)))
         }
         Ok(false) => Ok(None),
         Err(stop) => Err(stop),

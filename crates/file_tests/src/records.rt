@@ -5,7 +5,7 @@ ghost use Rattle.lawful_files.specs.Prelude.{begun};
 
 use audit_records::{Expected, Pieces};
 use audit_streams::Sent;
-use gate_base::{Addr, Moment, Side};
+use gate_base::{Addr, Moment, SECOND, Side};
 use gate_settings::Settings;
 use ipv4_frames::IpView;
 use pcap_files::Packet;
@@ -39,7 +39,7 @@ const SEQUENCE: u32 = 0xffff_fff0;
 
 const ACKNOWLEDGEMENT: u32 = 7000;
 
-const MOMENT: u64 = 1_000_000_000;
+const MOMENT: u64 = SECOND;
 
 const OCTETS: &[u8; 100] =
     b"0123456789abcdefghijklmnopqrstuvwxyzABCDEFGHIJKLMNOPQRSTUVWXYZ0123456789abcdefghijklmnopqrstuvwxyzAB";

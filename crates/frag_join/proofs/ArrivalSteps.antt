@@ -7,7 +7,10 @@ use Rattle.gate_base.specs.declared.refusal.Refusal.{Refusal}
 use Rattle.gate_base.specs.declared.side.Side.{Side}
 use Rattle.frag_join.specs.declared.part.Part.{Part}
 use Rattle.frag_join.specs.declared.taken.Taken.TheVariants.{Plain, Held, Joined}
-use Rattle.frag_join.specs.Prelude.{Fragment, is_fragment, name_in, Coverage, is_complete, datagram_of, Keeping, State, Step, by_list, by_known, live, part_of, part_or_new, changed, place_of, event_from, fragment_tests, with_fragment, taken_unless, fragment_step, Arrival, Reaches, Stopped, ArrivalsAre, opened, joiner_after, joined_in, arrival_by, arrival, arrivals_of, joiner_of, known_joiner}
+use Rattle.frag_join.specs.Prelude.{Fragment, is_fragment, name_in, Coverage, is_complete, datagram_of, Keeping, State, Step, by_list, by_known, live}
+use Rattle.frag_join.specs.Prelude.{part_of, part_or_new, changed, place_of, event_from, fragment_tests, with_fragment, taken_unless, fragment_step}
+use Rattle.frag_join.specs.Prelude.{Arrival, Reaches, Stopped, ArrivalsAre, opened, joiner_after, joined_in, arrival_by, arrival, arrivals_of}
+use Rattle.frag_join.specs.Prelude.{joiner_of, known_joiner}
 use Rattle.frag_join.specs.Arrivals.{ArrivalIs, part_before, fragment_reason, known_with, arrivals_from, coming}
 use Rattle.frag_join.proofs.KeptSteps.{step-known}
 

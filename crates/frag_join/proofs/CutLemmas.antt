@@ -4,7 +4,9 @@ use Rattle.std.specs.Option.{option_or}
 use Rattle.std.proofs.lemmas.Bool.{true≢false, cases_Bool, ltb-true, ltb-false, leb-true, eq-eqb, le-ltb, ne_eqb, and_parts, false≢true}
 use Rattle.std.proofs.lemmas.List.Edits.{get_or-between}
 use Rattle.std.proofs.lemmas.List.Elements.{All-head, All-tail}
-use Rattle.frag_join.specs.Prelude.{table, Fragment, end_of, covers, octet_in, octet_at, reach_of, end_by, end_told, header_by, header_told, known_by, octet_of, are_unlike, is_unlike, is_other, is_above, is_torn, ends_otherwise, is_bad, is_complete, is_covered, whole_head, datagram_of, Original, IsCut, cover}
+use Rattle.frag_join.specs.Prelude.{table, Fragment, end_of, covers, octet_in, octet_at, reach_of, end_by, end_told, header_by, header_told, known_by}
+use Rattle.frag_join.specs.Prelude.{octet_of, are_unlike, is_unlike, is_other, is_above, is_torn, ends_otherwise, is_bad, is_complete, is_covered}
+use Rattle.frag_join.specs.Prelude.{whole_head, datagram_of, Original, IsCut, cover}
 use Rattle.frag_join.proofs.PlaceLemmas.{length-table, is-table, none-any, all-each, each-all, same-all}
 use Rattle.frag_join.proofs.FragmentLemmas.{octet-outside, octet-covered}
 use Rattle.frag_join.proofs.KnownLemmas.{octet_of-known}

@@ -8,7 +8,9 @@ use Rattle.gate_base.proofs.Lists.{filter_as, position_as, remove_as}
 use Rattle.frag_join.specs.declared.part.Name.{Name}
 use Rattle.frag_join.specs.declared.part.Part.{Part}
 use Rattle.frag_join.specs.declared.taken.Taken.TheVariants.{Plain, Held, Joined}
-use Rattle.frag_join.specs.Prelude.{Fragment, is_fragment, name_in, fragment_in, Coverage, known_by, is_complete, datagram_of, State, Step, by_list, by_known, is_live, live, is_of, place_of, part_of, part_or_new, changed, event_from, fragment_tests, settled, with_fragment, taken_unless, fragment_taken, fragment_step, step_by, step, after, state_known, step_known}
+use Rattle.frag_join.specs.Prelude.{Fragment, is_fragment, name_in, fragment_in, Coverage, known_by, is_complete, datagram_of, State, Step, by_list}
+use Rattle.frag_join.specs.Prelude.{by_known, is_live, live, is_of, place_of, part_of, part_or_new, changed, event_from, fragment_tests, settled}
+use Rattle.frag_join.specs.Prelude.{with_fragment, taken_unless, fragment_taken, fragment_step, step_by, step, after, state_known, step_known}
 use Rattle.frag_join.specs.Joining.{tests_by, part_known}
 use Rattle.frag_join.proofs.KnownLemmas.{known-push}
 

@@ -2,6 +2,7 @@
 use Rattle.std.specs.Prelude.{ℕ, ◌+◌, ◌*◌, ◌/◌, ◌%◌, ◌^◌, Bool, false, not, ◌&&◌, ◌||◌, ◌==◌, nat_lt, if◌then◌else◌, max, List, [], ◌∷◌, ◌++◌, length, slice_index_or, Option, Some, None, unwrap_or, is_some}
 use Rattle.std.specs.Option.{option_or}
 use Rattle.gate_base.specs.Prelude.{u16_at, with_u16}
+use Rattle.gate_base.specs.declared.protocol.TheConstants.{LONGEST_DATAGRAM}
 use Rattle.inet_sum.specs.Sum.{checksum}
 use Rattle.frag_join.specs.Places.{table, any_below, all_below}
 use Rattle.frag_join.specs.Fragments.{Fragment, end_of, octet_in}
@@ -87,7 +88,7 @@ is_above place (Some end) = nat_lt end place
 
 -- its payload is empty; or MF is set and its payload is no multiple of 8; or header, start and payload are above 65,535 octets together
 abbrev pub is_torn : Fragment → Bool
-is_torn f = (length f.payload == 0 || f.more && not (length f.payload % 8 == 0)) || nat_lt 65535 (20 + end_of f)
+is_torn f = (length f.payload == 0 || f.more && not (length f.payload % 8 == 0)) || nat_lt LONGEST_DATAGRAM (20 + end_of f)
 
 -- with MF its end is above the known end; or without MF its end isn't the known end, or is at or below a place that is covered
 abbrev pub ends_otherwise : Coverage → Fragment → Bool

@@ -1,5 +1,5 @@
 -- Fragments are joined (RFC 791, 3.2).
-use Rattle.std.specs.Prelude.{ℕ, ◌+◌, ◌*◌, Bool, true, not, ◌&&◌, nat_lt, nat_le, if◌then◌else◌, List, [], ◌∷◌, ◌++◌, length, filter, map, fold, position, slice_get, slice_set, Option, Some, None, is_some, option_and_then}
+use Rattle.std.specs.Prelude.{ℕ, ◌+◌, Bool, true, not, ◌&&◌, nat_lt, nat_le, if◌then◌else◌, List, [], ◌∷◌, ◌++◌, length, filter, map, fold, position, slice_get, slice_set, Option, Some, None, is_some, option_and_then}
 use Rattle.std.specs.List.{remove}
 use Rattle.gate_base.specs.Prelude.{Event, first_that_holds}
 use Rattle.gate_base.specs.declared.side.Side.{Side}
@@ -7,6 +7,8 @@ use Rattle.gate_base.specs.declared.side.Link.TheVariants.{Raw}
 use Rattle.gate_base.specs.declared.refusal.Refusal.{Refusal}
 use Rattle.gate_base.specs.declared.refusal.Refusal.TheVariants.{IpOptions, BadFragment, FragmentsFull}
 use Rattle.ipv4_frames.specs.Ipv4.{has_options}
+use Rattle.frag_join.specs.declared.joiner.TheConstants.{LIMIT}
+use Rattle.frag_join.specs.declared.part.TheConstants.{TIMEOUT}
 use Rattle.frag_join.specs.declared.part.Name.{Name}
 use Rattle.frag_join.specs.declared.part.Part.{Part}
 use Rattle.frag_join.specs.declared.taken.Taken.{Taken}
@@ -40,16 +42,9 @@ pub record State (K : Type 0) : Type 0 where
 abbrev pub empty : {K : Type 0} → State K
 empty = record { parts = []; joined = None }
 
--- the most datagrams that are joined at once
-abbrev pub limit : ℕ
-limit = 64
-
--- parts are dropped 30 seconds after the first of them came
-abbrev pub timeout : ℕ
-timeout = 30 * 1000000000
-
+-- parts are dropped so long after the first of them came
 abbrev pub is_live : {K : Type 0} → ℕ → Part K → Bool
-is_live now part = nat_lt now (part.since.0 + timeout)
+is_live now part = nat_lt now (part.since.0 + TIMEOUT)
 
 abbrev pub live : {K : Type 0} → ℕ → List (Part K) → List (Part K)
 live now parts = filter (is_live now) parts
@@ -89,7 +84,7 @@ abbrev pub tests_by : Event → Coverage → Option ℕ → ℕ → List (Bool �
 tests_by e known place count =
     (has_options (octets_of e), IpOptions)
     ∷ (is_bad known (fragment_in e), BadFragment)
-    ∷ (not (is_some place) && nat_le limit count, FragmentsFull)
+    ∷ (not (is_some place) && nat_le LIMIT count, FragmentsFull)
     ∷ []
 
 abbrev pub fragment_tests : {K : Type 0} → List (Part K) → Event → Coverage → List (Bool × Refusal)

@@ -7,13 +7,10 @@ ghost use Rattle.frag_join.specs.Coverage as known;
 ghost use Rattle.frag_join.specs.Inside.Held.{header_held};
 
 use crate::fragment::FragmentView;
-use gate_base::{OutOfMemory, get_u16, put_u16};
+use gate_base::{LONGEST_DATAGRAM, OutOfMemory, get_u16, put_u16};
 use inet_sum::sum;
 use std::alloc::Global;
 use std::marker::Model;
-
-/// The octets of the longest datagram.
-const LONGEST: usize = 65_535;
 
 /// The units of 8 octets of the longest payload.
 const UNITS: usize = 8_190;
@@ -51,11 +48,11 @@ impl Buffer {
     pub fn new(alloc: Global) -> Result<Buffer, OutOfMemory>
         ensures { IfOk result (λ buffer. buffer ≡ known.nothing) }
     {
-        Buffer::with_room(alloc, LONGEST, UNITS)
+        Buffer::with_room(alloc, LONGEST_DATAGRAM, UNITS)
     }
 
     fn with_room(alloc: Global, octets: usize, units: usize) -> Result<Buffer, OutOfMemory>
-        requires octets { octets ≡ LONGEST }
+        requires octets { octets ≡ LONGEST_DATAGRAM }
         requires units { units ≡ UNITS }
         ensures { IfOk result (λ buffer. buffer ≡ known.nothing) }
     {

@@ -7,7 +7,7 @@ ghost use Rattle.frag_join.specs.Coverage.{is_torn};
 
 use crate::part::Name;
 use ether_frames::octets_in;
-use gate_base::{Addr, Event, Side, get_u16, get_u32};
+use gate_base::{Addr, Event, LONGEST_DATAGRAM, Side, get_u16, get_u32};
 use ipv4_frames::{IpFault, IpView};
 use std::marker::Model;
 
@@ -94,7 +94,7 @@ impl<'a> FragmentView<'a> {
         ensures { result ≡ is_torn self.now }
     {
         let count = self.payload.len();
-        count == 0 || (self.more && count % 8 != 0) || 20 + self.end() > 65_535
+        count == 0 || (self.more && count % 8 != 0) || 20 + self.end() > LONGEST_DATAGRAM
     }
 }
 

@@ -19,7 +19,7 @@ use std::alloc::Global;
 use std::marker::Model;
 
 /// The most datagrams that are joined at once.
-const LIMIT: usize = 64;
+pub const LIMIT: usize = 64;
 
 /// Joins the fragments of datagrams, in whatever order they come. It is seen as the datagrams of which fragments are held,
 /// with what is known of each, and the datagram that the last frame completed. No call after `new` takes memory.
@@ -190,7 +190,7 @@ impl Joiner {
 
     // Begins a datagram, and answers its place.
     fn begin_datagram(&mut self, name: Name, since: Moment) -> usize
-        requires few { length self.old.parts < 64 }
+        requires few { length self.old.parts < LIMIT }
         requires joined { self.old.joined ≡ None }
         ensures place { result ≡ length self.old.parts }
         ensures state { self.new

@@ -3,10 +3,10 @@ ghost use Rattle.std.specs.Prelude.{◌≡◌};
 ghost use Rattle.frag_join.specs.Fragments.{same_name};
 ghost use Rattle.frag_join.specs.Joining as joining;
 
-use gate_base::{Addr, Moment, Side};
+use gate_base::{Addr, Moment, SECOND, Side};
 
-/// Nanoseconds from a datagram's first fragment to the moment at which its parts are dropped.
-const TIMEOUT: u64 = 30_000_000_000;
+/// Nanoseconds from a datagram's first fragment to the moment at which its parts are dropped: 30 seconds.
+pub const TIMEOUT: u64 = 30 * SECOND;
 
 /// What the fragments of one datagram have in common: the realm from which they come, and the fields of their headers
 /// by which they belong together (RFC 791, 3.2).

@@ -47,6 +47,7 @@ impl Drop for Auditor {
 impl Model for Auditor {
     ghost use Rattle.std.specs.Prelude.{◌≡◌, false};
     ghost use Rattle.gate_model.specs.Prelude.{KeepsListed};
+    ghost use Rattle.gate_settings.specs.Prelude.{HasForms};
     ghost use Rattle.audit_sessions.specs.Heard.{heard_rules};
     ghost use Rattle.gate_audit.specs.Auditing.{Auditing};
     ghost use Rattle.event_state.specs.Knowing.{world_in};
@@ -55,7 +56,7 @@ impl Model for Auditor {
 
     ghost view = { λ a. record { settings = a.settings; world = world_in a.state; expecting = a.expected; lost = a.lost } };
 
-    ghost invariant = { λ a. a.lost ≡ false → KeepsListed heard_rules (world_in a.state) };
+    ghost invariant = { λ a. HasForms a.settings × (a.lost ≡ false → KeepsListed heard_rules (world_in a.state)) };
 }
 
 impl Auditor {
@@ -77,7 +78,8 @@ impl Auditor {
 
     /// The settings.
     pub fn settings(&self) -> &Settings
-        ensures { result.now ≡ self.now.settings }
+        ensures value { result.now ≡ self.now.settings }
+        ensures forms { HasForms self.now.settings }
     {
         &self.settings
     }

@@ -6,5 +6,5 @@ pub use Rattle.gate_base.specs.Hosts.{peer}
 pub use Rattle.gate_base.specs.Refusal.{verdict_name}
 pub use Rattle.gate_base.specs.Tests.{first_that_holds, unless_refused}
 pub use Rattle.gate_base.specs.Events.{Event, event_of}
-pub use Rattle.gate_base.specs.Rules.{AreRules, greatest, is_prefix, is_rule}
+pub use Rattle.gate_base.specs.Rules.{AreRules, is_prefix, is_rule}
 pub use Rattle.gate_base.specs.Moments.{IsMoment, IsTimeout}

@@ -1,4 +1,7 @@
-// The protocol numbers of RFC 791, 3.1, and the ports of the services whose payloads hold addresses.
+// The length and the protocol numbers of RFC 791, 3.1, and the ports of the services whose payloads hold addresses.
+
+/// The most octets of an IPv4 datagram: what its total length can say (RFC 791, 3.1).
+pub const LONGEST_DATAGRAM: usize = 65_535;
 
 /// The protocol number of ICMP.
 pub const ICMP: u8 = 1;

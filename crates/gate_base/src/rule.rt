@@ -3,6 +3,12 @@ ghost use Rattle.std.specs.Prelude.{◌≡◌, IfOk};
 use crate::{Items, OutOfMemory};
 use std::alloc::Global;
 
+/// The greatest arc of an object identifier, the greatest number of 32 bits.
+pub const GREATEST_ARC: u64 = 4_294_967_295;
+
+/// The most arcs of the prefix of a rule.
+pub const MOST_ARCS: usize = 64;
+
 /// The arcs of an object identifier, from the root on (X.690, 8.19).
 pub type Arcs = Items<u32>;
 

@@ -1,6 +1,7 @@
 // The whole call.
 ghost use Rattle.std.specs.Prelude.{◌≤◌, map};
 ghost use Rattle.std.specs.String.{string_bytes};
+ghost use Rattle.run_setup.specs.declared.command.TheConstants.{MOST_ROUNDS};
 ghost use Rattle.run_setup.specs.RunNames.{names_of};
 ghost use Rattle.run_setup.specs.Prelude.{command_of};
 ghost use Rattle.run_setup.specs.AuditNames.{names_of as audit_names_of};
@@ -25,7 +26,7 @@ fn told_run<D: Desk>(alloc: Global, desk: &mut D, names: FileNames<'_>) -> Statu
 
 /// A make, and the line about what went wrong.
 fn told_make<D: Desk>(alloc: Global, desk: &mut D, number: u32, count: u32, report: &str) -> Status
-    requires { count ≤ 100000 }
+    requires { count ≤ MOST_ROUNDS }
     ensures { AnswersMake result number count report.now (D.outside desk.old)
         (D.outside desk.new) }
 {

@@ -65,7 +65,7 @@ pub trait Desk {
         ensures count { length result.now ≡ ready self.now slot }
         ensures octets { AreNext result.now (outside self.now) slot };
 
-    /// Takes so many of the octets that stand ready.
+    /// Drops so many of the octets that stand ready.
     fn skip(&mut self, slot: Slot, count: usize)
         requires { count ≤ ready self.old slot }
         ensures takes { Takes slot count (outside self.old) (outside self.new) }

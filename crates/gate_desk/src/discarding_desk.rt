@@ -68,7 +68,7 @@ impl Desk for DiscardingDesk {
             ((told_by self.new).faults ≡ (told_by self.old).faults) }
         ensures exact { IsOk result }
     {
-        Ok(self.left.at_mut(slot).take(buffer))
+        Ok(self.left.at_mut(slot).read(buffer))
     }
 
     fn write(&mut self, slot: Slot, piece: &[u8]) -> Result<usize, Failed>

@@ -196,7 +196,7 @@ fn read_slot<R: Runtime>(
     }
 }
 
-// Takes two whole pieces of a slot, the one behind the other.
+// Gathers two whole pieces for a slot, the one behind the other.
 #[inline(always)]
 fn write_slot<R: Runtime>(
     rt: &R,

@@ -22,11 +22,11 @@ pub enum Gathering {
     Refused,
 }
 
-/// Octets that were taken for a file, and that aren't written out yet.
+/// Octets that are gathered for a file, and that aren't written out yet.
 #[derive(Drop)]
 pub struct Gathered<A: Allocator> {
     octets: Vec<u8, A>,
-    // how many of them, from the first on, were taken
+    // how many of them, from the first on, are gathered
     count: usize,
 }
 
@@ -61,16 +61,16 @@ impl<A: Allocator> Gathered<A> {
         Ok(Gathered { octets, count: 0 })
     }
 
-    /// Takes two whole pieces, the one behind the other, or nothing of them. What is greater than the room is taken where
-    /// nothing else is gathered.
+    /// Gathers two whole pieces, the one behind the other, or nothing of them. What is greater than the room is
+    /// gathered where nothing else is.
     #[inline(always)]
-    pub fn take(&mut self, first: &[u8], second: &[u8]) -> Gathering
+    pub fn gather(&mut self, first: &[u8], second: &[u8]) -> Gathering
         ensures { self.new
             ≡ gathered_after result (first.now ++ second.now) self.old }
     {
         let room = self.octets.len() - self.count;
         if room < first.len() || room - first.len() < second.len() {
-            return self.take_alone(first, second);
+            return self.gather_large(first, second);
         }
         let middle = put_behind(&mut self.octets, self.count, first);
         self.count = put_behind(&mut self.octets, middle, second);
@@ -79,7 +79,7 @@ impl<A: Allocator> Gathered<A> {
 
     // The same of pieces for which there is no room behind what is gathered.
     #[inline(never)]
-    fn take_alone(&mut self, first: &[u8], second: &[u8]) -> Gathering
+    fn gather_large(&mut self, first: &[u8], second: &[u8]) -> Gathering
         ensures { self.new
             ≡ gathered_after result (first.now ++ second.now) self.old }
     {

@@ -193,7 +193,7 @@ impl<F: Read + Drop, A: Allocator> Place<F, A> {
         }
     }
 
-    /// Takes so many of the octets that were read ahead, or all.
+    /// Drops so many of the octets that were read ahead, or all.
     #[inline(always)]
     pub fn skip(&mut self, count: usize)
         ensures ahead { ahead self.new ≡ drop count (ahead self.old) }
@@ -240,8 +240,8 @@ impl<F: Read + Drop, A: Allocator> Place<F, A> {
         ensures unread { unread F.remaining self.new ≡ unread F.remaining self.old }
     {
         match self {
-            Place::Output(_, gathered) => gathered.take(first, second),
-            Place::StandardOutput(gathered) => gathered.take(first, second),
+            Place::Output(_, gathered) => gathered.gather(first, second),
+            Place::StandardOutput(gathered) => gathered.gather(first, second),
             _ => Gathering::Refused,
         }
     }

@@ -45,7 +45,7 @@ impl Source {
     }
 
     /// Moves octets from the front to the buffer, as many as fit, and answers how many.
-    pub fn take(&mut self, buffer: &mut [u8]) -> usize
+    pub fn read(&mut self, buffer: &mut [u8]) -> usize
         ensures count { result ≡ min (length buffer.old) (length self.old) }
         ensures rest { self.new ≡ drop result self.old }
         ensures octets { take result buffer.new ≡ take result self.old }

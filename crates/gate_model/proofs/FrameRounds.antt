@@ -12,7 +12,9 @@ use Rattle.stream_model.specs.Prelude.{known, acknowledged_of, Hears, LacksOctet
 use Rattle.stream_model.proofs.Lacking.{data_of, out_is}
 use Rattle.stream_model.proofs.PassLemmas.{Passes, passes}
 use Rattle.stream_model.proofs.RoundsEnd.{Stands, Raised, raised_in, IsFull, full}
-use Rattle.gate_model.specs.Prelude.{datagram_in, streams_of, Lists, with_list, addresses_in, entered, Remembered, RememberedSession, remembering_rules, stream_of, UnitsAreRenamed, EachTracked, meaning_by, entries_by, whole_units, next as world_next, segment_of, image_in, Tracked, World, at_moment, host_on}
+use Rattle.gate_model.specs.Prelude.{datagram_in, streams_of, Lists, with_list, addresses_in, entered, Remembered, RememberedSession}
+use Rattle.gate_model.specs.Prelude.{remembering_rules, UnitsAreRenamed, EachTracked, meaning_by, entries_by, whole_units}
+use Rattle.gate_model.specs.Prelude.{next as world_next, segment_of, image_in, Tracked, World, at_moment, host_on}
 use Rattle.gate_model.specs.Rounds.{FrameRound, at_repeat, at_answer, at_end, repeated, answered, IsFrameRound, AllFrameRounds, after_frame_rounds}
 use Rattle.gate_model.proofs.RememberedSessions.{with_meaning, Holds, own_same, own_alike, learned, IsLonger, longer, holds_learned, verdict_learned, TrackedHolds, remembered_keeps}
 use Rattle.gate_model.proofs.Tracking.{run_keeps, next_keeps, taken_before}
@@ -124,7 +126,7 @@ raised_by_segments image other_image f by t g h knows had has other_host holds v
     (addresses_in (whole_units (peer f) (remembering_rules.next image f t.session g).session h))))
     (remembering_rules.next image f t.session g).session.lists) (after_segment image f t.session g) h))
     (raised_learned t.session.session.lists f (streams_of t) g h es (own (peer f) (after_segment image f t.session g)) knows had has
-    (learned_stands t.session.session.lists t.pair f (streams_of t) (stream_of f t.session) es knows had more (holds.streams.units f)
+    (learned_stands t.session.session.lists t.pair f (streams_of t) (t.session.streams f) es knows had more (holds.streams.units f)
     (holds.streams.holds f) below acked)
     (verdict_learned t.session.session.lists t.pair f (streams_of t) g es more (holds.streams.units f) (holds.streams.holds f).meaning ∙ v)
     d lacks hears (answer_passes f (after_segment image f t.session g) h w) e all))

@@ -13,7 +13,9 @@ use Rattle.stream_model.specs.Prelude.{Sender, Session, Segment, Outgoing, own, 
 use Rattle.stream_model.proofs.Lacking.{session_brings, session_carries}
 use Rattle.stream_model.proofs.RecentFact.{facts_of}
 use Rattle.stream_model.proofs.Waiting.{only_held}
-use Rattle.gate_model.specs.Prelude.{Lists, with_list, addresses_in, entered, meaning_by, entries_by, whole_units, whole_learned, Tracked, at_moment, host_on, RememberedSession, remembering_rules, stream_of, UnitsAreRenamed, EachTracked, datagram_in, segment_of, TakesSegment, image_in, streams_of, remembered_after}
+use Rattle.gate_model.specs.Prelude.{Lists, with_list, addresses_in, entered, meaning_by, entries_by, whole_units, whole_learned, Tracked, at_moment}
+use Rattle.gate_model.specs.Prelude.{host_on, RememberedSession, remembering_rules, UnitsAreRenamed, EachTracked, datagram_in, segment_of}
+use Rattle.gate_model.specs.Prelude.{TakesSegment, image_in, streams_of, remembered_after}
 use Rattle.gate_model.specs.Taken.{taken_by}
 use Rattle.gate_model.specs.GoingOn.{OnlyRestsWait, HasDataSegment, GoesOn, GoesOnBy}
 use Rattle.gate_model.proofs.Tracking.{taken_before, taken_keeps}
@@ -57,15 +59,15 @@ goes_by image f t g h v d waits =
           (entered image (entries_by t.session.session.lists f) (addresses_in (whole_units f t.session.session g))) _ _
           (longer t.session.session.lists f image (addresses_in (whole_units f t.session.session g))) (h.streams.units f) (h.streams.holds f).meaning
           (session_brings f (whole_learned image f t.session.session g).session g holds.acked.lawful
-          (facts_of (own f (whole_learned image f t.session.session g).session) (stream_of f t.session).places
-          (stream_of f t.session).numbers holds.acked holds.short holds.few) passes d);
+          (facts_of (own f (whole_learned image f t.session.session g).session) (t.session.streams f).places
+          (t.session.streams f).numbers holds.acked holds.short holds.few) passes d);
       carries = session_carries f (whole_learned image f t.session.session g).session g d;
       waits = waits;
     }
   where
     holds : Holds (meaning_by (whole_learned image f t.session.session g).lists t.pair f) (own f (whole_learned image f t.session.session g).session)
-        (stream_of f t.session)
-    holds = holds_learned t.session.session.lists t.pair f f t.session.session.session (stream_of f t.session)
+        (t.session.streams f)
+    holds = holds_learned t.session.session.lists t.pair f f t.session.session.session (t.session.streams f)
         (entered image (entries_by t.session.session.lists f) (addresses_in (whole_units f t.session.session g)))
         (longer t.session.session.lists f image (addresses_in (whole_units f t.session.session g))) (h.streams.units f) (h.streams.holds f)
 

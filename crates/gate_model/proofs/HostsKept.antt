@@ -20,10 +20,14 @@ use Rattle.binding_table.proofs.Kept.{lawful_expired}
 use Rattle.binding_table.proofs.Back.{crosses_back}
 use Rattle.ipv4_frames.specs.Ipv4.{Datagram}
 use Rattle.tcp_segments.specs.Prelude.{flags_of}
-use Rattle.tcp_tracker.specs.Prelude.{is_of, place_of, connection_of, is_reset, starts_anew, unused, kept, kept_or_begun, with_flags, held, timeout, timeout_or_short, short_timeout, after, live, with_session}
+use Rattle.tcp_tracker.specs.Prelude.{is_of, place_of, connection_of, is_reset, starts_anew, unused, kept, kept_or_begun, with_flags, held, timeout, timeout_or_short, after, live, with_session}
+use Rattle.tcp_tracker.specs.declared.connection.TheConstants.{SHORT_TIMEOUT}
 use Rattle.tcp_tracker.specs.declared.connection.ConnKey.{ConnKey}
 use Rattle.tcp_tracker.specs.declared.connection.Connection.{Connection}
-use Rattle.gate_model.specs.Prelude.{Whole, Kind, Stream, datagram_in, kind_of, SessionRules, Tracked, World, at_moment, called, source_of, destination_of, tcp_of, key_of, key_in, found_in, session_in, begins, pair_in, made_by, taker_by, stepped, ends_by, stream_timeout, connection_after, payload_addresses, payload_uses, image_in, uses_of, table_after, is_reachable, verdict, taker_in, after_kind, next_by, next, host_in, IsPairOf, KeepsHosts}
+use Rattle.gate_model.specs.Prelude.{Whole, Kind, Stream, datagram_in, kind_of, SessionRules, Tracked, World, at_moment, called, source_of}
+use Rattle.gate_model.specs.Prelude.{destination_of, tcp_of, key_of, key_in, found_in, session_in, begins, pair_in, made_by, taker_by, stepped}
+use Rattle.gate_model.specs.Prelude.{ends_by, stream_timeout, connection_after, payload_addresses, payload_uses, image_in, uses_of, table_after}
+use Rattle.gate_model.specs.Prelude.{is_reachable, verdict, taker_in, after_kind, next_by, next, host_in, IsPairOf, KeepsHosts}
 use Rattle.gate_model.proofs.Passing.{Passes, passes, none_head, none_tail}
 use Rattle.gate_model.proofs.Tracking.{all_changed}
 use Rattle.gate_model.proofs.BoundTables.{known_expired, known_seen, known_once, lawful_after, bound_crosses}
@@ -146,7 +150,7 @@ pub record IsLeft {S : Type 0} (rules : SessionRules S) (image : Addr → Option
 -- the timeout, by the connection that was found
 abbrev timeout_with : {S : Type 0} → SessionRules S → World S → Side → Datagram → Option (Connection (Tracked S)) → ℕ
 timeout_with rules live side d found =
-    if ends_by rules side d (session_in found) then short_timeout else timeout_or_short
+    if ends_by rules side d (session_in found) then SHORT_TIMEOUT else timeout_or_short
     (option_map (with_flags side (tcp_of d).flags) (kept_or_begun (key_in live.table side d) (tcp_of d).flags None found))
 
 pub left_of : {S : Type 0} (rules : SessionRules S) (image : Addr → Option Addr) (live : World S) (side : Side) (moment : ℕ) (d : Datagram)

@@ -22,7 +22,14 @@ use Rattle.stream_model.specs.Prelude.{Segment, own}
 use Rattle.tcp_segments.specs.Prelude.{flags_of}
 use Rattle.tcp_tracker.specs.Prelude.{is_of, place_of, live}
 use Rattle.tcp_tracker.specs.declared.connection.Connection.{Connection}
-use Rattle.gate_model.specs.Prelude.{Whole, is_tracked_port, Kind, Stream, datagram_in, kind_of, IsImage, IsEntryBound, HasLists, KeepsListed, EntryCrosses, ListsCross, Lists, with_list, addresses_in, entered, is_bad, most_entries, SessionRules, whole_rules, entries_by, units_by, completed, Tracked, World, at_moment, called, source_of, destination_of, addresses_of, host_on, opening_world, tcp_of, segment_of, is_opening, key_in, found_in, session_in, begins, made_by, taker_by, session_refusal, stepped, stream_timeout, connection_after, uses_until, units_in, names_in, entries_after, uses_of_lists, is_new_unbound, unit_tests, uses_of, table_after, image_in, is_reachable, verdict, taker_in, after_kind, next_by, next, EachTracked}
+use Rattle.gate_model.specs.Prelude.{Whole, is_tracked_port, Kind, Stream, datagram_in, kind_of, IsImage, IsEntryBound, HasLists, KeepsListed}
+use Rattle.gate_model.specs.Prelude.{EntryCrosses, ListsCross, Lists, with_list, addresses_in, entered, is_bad, SessionRules}
+use Rattle.dialogue.specs.declared.TheConstants.{MOST_ENTRIES}
+use Rattle.gate_model.specs.Prelude.{whole_rules, entries_by, units_by, completed, Tracked, World, at_moment, called, source_of, destination_of}
+use Rattle.gate_model.specs.Prelude.{addresses_of, host_on, opening_world, tcp_of, segment_of, is_opening, key_in, found_in, session_in, begins}
+use Rattle.gate_model.specs.Prelude.{made_by, taker_by, session_refusal, stepped, stream_timeout, connection_after, uses_until, units_in, names_in}
+use Rattle.gate_model.specs.Prelude.{entries_after, uses_of_lists, is_new_unbound, unit_tests, uses_of, table_after, image_in, is_reachable, verdict}
+use Rattle.gate_model.specs.Prelude.{taker_in, after_kind, next_by, next, EachTracked}
 use Rattle.gate_model.specs.Held.{side_of, ListsAreBound, KeepsLists, ListsAreFew}
 use Rattle.gate_base.specs.declared.refusal.Refusal.TheVariants.{BadUnit, UnitUnbound, RenamesFull}
 use Rattle.gate_base.proofs.Hosts.{both}
@@ -330,7 +337,7 @@ left_lists {S = S} rules has live side moment d p lawful found f kept c left =
         subst (λ (o : Option (Tracked S)). NoneHolds (unit_tests rules (image_in rules live side moment d) live.table side d o)) taker s.units in
         let image = image_in rules live side moment d in
         let last : List (Bool × Refusal) =
-        (nat_lt most_entries (length (entries_after rules (image_in rules live side moment d) side d (Some t))), RenamesFull) ∷ [] in
+        (nat_lt MOST_ENTRIES (length (entries_after rules (image_in rules live side moment d) side d (Some t))), RenamesFull) ∷ [] in
         session_keeps rules has live side moment d p t sooner
         (record {
           holder = h;
@@ -468,7 +475,7 @@ few_keep : {S : Type 0} (rules : SessionRules S) → HasLists rules → Keeps ru
 few_keep rules has = record {
   made = λ port client pair initial mss host. let none : length (rules.listed host (rules.made port pair initial mss)) ≡ 0 =
       ap length (has.made port pair initial mss host) in omega (arith, none);
-  next = λ image f t g v fit h. both_listed rules has (λ c es. length es ≤ most_entries) image f t.session g (ltb-false _ _ fit.few) (h (peer f));
+  next = λ image f t g v fit h. both_listed rules has (λ c es. length es ≤ MOST_ENTRIES) image f t.session g (ltb-false _ _ fit.few) (h (peer f));
 }
 
 pub lists_few : {S : Type 0} (rules : SessionRules S) → HasLists rules → (events : List Event) (settings : Settings)

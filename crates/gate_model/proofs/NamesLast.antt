@@ -18,7 +18,8 @@ use Rattle.binding_table.proofs.Kept.{lawful_expired}
 use Rattle.binding_table.proofs.Used.{all_seen}
 use Rattle.ipv4_frames.specs.Ipv4.{Datagram}
 use Rattle.gate_model.specs.Called.{table_by, called_by, IsKeptUntil, header_until}
-use Rattle.gate_model.specs.Prelude.{Whole, SessionRules, Kind, Dns, World, at_moment, called, source_of, destination_of, addresses_of, datagram_in, kind_of, message_in, named_in, has_unbound, named_timeout, uses_until, is_reachable, table_after}
+use Rattle.gate_model.specs.Prelude.{Whole, SessionRules, Kind, Dns, World, at_moment, called, source_of, destination_of, addresses_of, datagram_in, kind_of, message_in, named_in, has_unbound, uses_until, is_reachable, table_after}
+use Rattle.gate_model.specs.declared.timeouts.TheConstants.{NAMED_TIMEOUT}
 use Rattle.gate_model.specs.Transparent.{NamesAreCalled}
 use Rattle.gate_model.specs.Verdict.{timeout_by, verdict}
 use Rattle.gate_model.proofs.AliasesLast.{StandFor, cross_back, stands_as, lawful_by, HostsAre, hosts_are}
@@ -93,7 +94,7 @@ crosses_stands table side until address lawful (inr h) = elim h.1 [
 -- the addresses that a message names
 names_stand : {S : Type 0} (rules : SessionRules S) (live : World S) (side : Side) (moment : ℕ) (d : Datagram) → IsLawful live.table
     → Passes rules live side moment d (Whole Dns) → All (λ (a : Addr). StandFor (table_after rules live side moment d (Whole Dns)) side a.0
-    (called (table_after rules live side moment d (Whole Dns)) side a).0 (moment + named_timeout)) (named_in (message_in d))
+    (called (table_after rules live side moment d (Whole Dns)) side a).0 (moment + NAMED_TIMEOUT)) (named_in (message_in d))
 names_stand rules live side moment d lawful p =
     let names = named_in (message_in d) in
     let header = uses_until side (moment + timeout_by rules live side d (Whole Dns)) (addresses_of d) in
@@ -117,14 +118,14 @@ names_stand rules live side moment d lawful p =
     (All-cons (λ address. cross live.table side address ≢ Unbound) (destination_of d) names far
     (names_bound_once live.table side 0 [] names lawful tt unbound)) in
     let room : needed live.table side (addresses_of d ++ names) ≤ free live.table (other side) = ltb-false _ _ p.pool in
-    let crossing = behind_cross names live.table side (moment + named_timeout) (addresses_of d) header lawful
+    let crossing = behind_cross names live.table side (moment + NAMED_TIMEOUT) (addresses_of d) header lawful
     (uses_are side (moment + timeout_by rules live side d (Whole Dns)) (addresses_of d)) bound room in
-    let is : table ≡ after_uses (after_uses live.table header) (uses_until side (moment + named_timeout) names) =
-    fold-append used live.table header (uses_until side (moment + named_timeout) names) in
-    let lawful_later : IsLawful table = lawful_after (header ++ uses_until side (moment + named_timeout) names) live.table lawful in
-    let all = All-from_recursion (Crosses table side (moment + named_timeout)) names
-    (subst (λ (t : Bindings). AllByRecursion (Crosses t side (moment + named_timeout)) names) (sym is) crossing) in
-    λ k a within. crosses_stands table side (moment + named_timeout) (get_or names k a) lawful_later (all k a within)
+    let is : table ≡ after_uses (after_uses live.table header) (uses_until side (moment + NAMED_TIMEOUT) names) =
+    fold-append used live.table header (uses_until side (moment + NAMED_TIMEOUT) names) in
+    let lawful_later : IsLawful table = lawful_after (header ++ uses_until side (moment + NAMED_TIMEOUT) names) live.table lawful in
+    let all = All-from_recursion (Crosses table side (moment + NAMED_TIMEOUT)) names
+    (subst (λ (t : Bindings). AllByRecursion (Crosses t side (moment + NAMED_TIMEOUT)) names) (sym is) crossing) in
+    λ k a within. crosses_stands table side (moment + NAMED_TIMEOUT) (get_or names k a) lawful_later (all k a within)
 
 -- each address that a frame keeps stands for what it is called
 pub kept_stands : {S : Type 0} (rules : SessionRules S) (w : World S) (e : Event) (address : Addr) (until : ℕ) → IsLawful w.table
@@ -151,16 +152,16 @@ kept_stands {S = S} rules w e address until lawful v kept = elim kept [
         (header_until rules w e)) (sym destination) (inr (hosts_are rules w e lawful v).far)
 
     by_name : kind_of (datagram_in e) ≡ Whole Dns → Contains (named_in (message_in (datagram_in e))) address
-        → StandFor (table_by rules w e) e.side address.0 (called_by rules w e address).0 (e.moment + named_timeout)
+        → StandFor (table_by rules w e) e.side address.0 (called_by rules w e address).0 (e.moment + NAMED_TIMEOUT)
     by_name dns has =
         let live = at_moment w e.moment in
         let d = datagram_in e in
         let p = subst (Passes rules live e.side e.moment d) dns (passes rules w e v) in
         let all = names_stand rules live e.side e.moment d (lawful_expired w.table (record { 0 = e.moment }) lawful) p in
         subst (λ (kind : Kind). StandFor (table_after rules live e.side e.moment d kind) e.side address.0
-        (called (table_after rules live e.side e.moment d kind) e.side address).0 (e.moment + named_timeout)) (sym dns)
+        (called (table_after rules live e.side e.moment d kind) e.side address).0 (e.moment + NAMED_TIMEOUT)) (sym dns)
         (All-contains (λ (a : Addr). StandFor (table_after rules live e.side e.moment d (Whole Dns)) e.side a.0
-        (called (table_after rules live e.side e.moment d (Whole Dns)) e.side a).0 (e.moment + named_timeout))
+        (called (table_after rules live e.side e.moment d (Whole Dns)) e.side a).0 (e.moment + NAMED_TIMEOUT))
         (named_in (message_in d)) address all has)
 
 -- ## What goes out for the names
@@ -178,7 +179,7 @@ pub names_called : {S : Type 0} (rules : SessionRules S) (w : World S) (e : Even
 names_called rules w e lawful v dns = λ k a within.
     let names = named_in (message_in (datagram_in e)) in
     let x : Addr = get_or names k a in
-    let until = e.moment + named_timeout in
+    let until = e.moment + NAMED_TIMEOUT in
     let stands = kept_stands rules w e x until lawful v (inr (dns, Contains-get_or names k a within, refl)) in
     image_called (at_moment w e.moment).table (table_by rules w e) e.side x (called_by rules w e x)
     (cross_back (table_by rules w e) e.side x.0 (called_by rules w e x).0 until (lawful_by rules w e lawful) stands).there

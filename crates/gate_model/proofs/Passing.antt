@@ -6,7 +6,9 @@ use Rattle.gate_base.specs.declared.refusal.Refusal.{Refusal}
 use Rattle.gate_base.specs.declared.refusal.Refusal.TheVariants.{NoSession, SessionsFull, PoolEmpty}
 use Rattle.gate_base.specs.declared.side.Side.{Side}
 use Rattle.ipv4_frames.specs.Ipv4.{Datagram}
-use Rattle.gate_model.specs.Prelude.{Kind, Stream, datagram_in, header_tests, datagram_tests, transport_tests, kind_of, SessionRules, found_in, lacks_session, session_refusal, is_full, verdict_of, tests, world_tests, address_tests, kind_tests, late_tests, is_pool_empty, image_in, refusal_tests, taker_in, unit_tests, World, at_moment}
+use Rattle.gate_model.specs.Prelude.{Kind, Stream, datagram_in, header_tests, datagram_tests, transport_tests, kind_of, SessionRules, found_in}
+use Rattle.gate_model.specs.Prelude.{lacks_session, session_refusal, is_full, verdict_of, tests, world_tests, address_tests, kind_tests, late_tests}
+use Rattle.gate_model.specs.Prelude.{is_pool_empty, image_in, refusal_tests, taker_in, unit_tests, World, at_moment}
 use Rattle.gate_model.specs.Verdict.{verdict}
 
 -- no test holds

@@ -14,8 +14,11 @@ use Rattle.ipv4_frames.specs.Ipv4.{Datagram}
 use Rattle.tcp_tracker.specs.Prelude.{is_of, is_live, place_of}
 use Rattle.tcp_tracker.specs.declared.connection.ConnKey.{ConnKey}
 use Rattle.tcp_tracker.specs.declared.connection.Connection.{Connection}
-use Rattle.gate_model.specs.Prelude.{Whole, SessionRules, Kind, Stream, Tracked, World, at_moment, opening_world, called, destination_of, datagram_in, kind_of, tcp_of, is_tracked_port, is_opening, begins, made_by, taker_by, taker_in, key_of, key_in, found_in, session_in, stepped, connection_after, image_in, table_after, verdict, after_kind, next_by, next}
-use Rattle.gate_model.specs.Transparent.{has_tracked_port, IsUntracked}
+use Rattle.gate_model.specs.Prelude.{Whole, SessionRules, Kind, Stream, Tracked, World, at_moment, opening_world, called, destination_of, datagram_in}
+use Rattle.gate_model.specs.Prelude.{kind_of, tcp_of, is_tracked_port, is_opening, begins, made_by, taker_by, taker_in, key_of, key_in, found_in}
+use Rattle.gate_model.specs.Prelude.{session_in, stepped, connection_after, image_in, table_after, verdict, after_kind, next_by, next}
+use Rattle.gate_model.specs.Stream.{has_tracked_port}
+use Rattle.gate_model.specs.Transparent.{IsUntracked}
 use Rattle.gate_model.proofs.HostsKept.{found_is, left_of, IsLeft}
 use Rattle.gate_model.proofs.Tracking.{all_changed}
 

@@ -1,5 +1,7 @@
 -- The most connections and sessions are never passed.
-use Rattle.std.proofs.Common.{◌≡◌, ◌≤◌, ◌<◌, ℕ, zero, suc, Bool, true, false, not, ◌&&◌, ◌||◌, nat_le, if◌then◌else◌, cond, List, [], ◌∷◌, ◌++◌, length, set, Option, Some, None, option_map, is_some, count_by, refl, sym, ◌∙◌, ap, subst, arith, option_and_then, slice_get, IfSome, filter, fold, remove, leb-false}
+use Rattle.std.proofs.Common.{◌≡◌, ◌≤◌, ◌<◌, ℕ, zero, suc, Bool, true, false, not, ◌&&◌, ◌||◌, nat_le, if◌then◌else◌, cond, List, [], ◌∷◌, ◌++◌}
+use Rattle.std.proofs.Common.{length, set, Option, Some, None, option_map, is_some, count_by, refl, sym, ◌∙◌, ap, subst, arith, option_and_then}
+use Rattle.std.proofs.Common.{slice_get, IfSome, filter, fold, remove, leb-false}
 use Rattle.std.proofs.lemmas.List.{length-set, length_push, length-append}
 use Rattle.std.proofs.lemmas.List.Sums.{length-filter, count_by-le-length}
 use Rattle.std.proofs.lemmas.List.Elements.{filter-append}
@@ -14,7 +16,9 @@ use Rattle.tcp_segments.specs.Prelude.{flags_of}
 use Rattle.tcp_tracker.specs.Prelude.{is_of, is_tracked, is_live, place_of, changed, kept_or_begun, held, with_flags, after, live, with_session}
 use Rattle.tcp_tracker.specs.declared.connection.Connection.{Connection}
 use Rattle.tcp_tracker.proofs.Joining.{place_within, none_past}
-use Rattle.gate_model.specs.Prelude.{Whole, Kind, Stream, datagram_in, kind_of, SessionRules, Tracked, World, at_moment, tcp_of, key_in, found_in, begins, made_by, taker_by, stepped, ends_by, is_full, most_connections, most_sessions, connection_after, table_after, image_in, verdict, taker_in, after_kind, next_by, next}
+use Rattle.tcp_tracker.specs.declared.tracker.TheConstants.{MOST_CONNECTIONS}
+use Rattle.tcp_tracker.specs.declared.table.TheConstants.{MOST_SESSIONS}
+use Rattle.gate_model.specs.Prelude.{Whole, Kind, Stream, datagram_in, kind_of, SessionRules, Tracked, World, at_moment, tcp_of, key_in, found_in, begins, made_by, taker_by, stepped, ends_by, is_full, connection_after, table_after, image_in, verdict, taker_in, after_kind, next_by, next}
 use Rattle.gate_model.specs.Ranges.{InRange}
 use Rattle.gate_model.proofs.Passing.{Passes, passes, StreamPasses, stream_passes}
 use Rattle.gate_model.proofs.HostsKept.{begun_is}
@@ -110,40 +114,40 @@ begins_plain {S = S} rules image live side moment d taker none =
 
 -- there is room for a connection, and for a session where one begins
 room : {S : Type 0} (all : List (Connection (Tracked S))) (d : Datagram) → is_full {S = S} all None d ≡ false
-    → (flags_of (tcp_of d).flags).reset ≡ false → (length all < most_connections)
-    × (begins {S = S} None d ≡ true → count_by is_tracked all < most_sessions)
+    → (flags_of (tcp_of d).flags).reset ≡ false → (length all < MOST_CONNECTIONS)
+    × (begins {S = S} None d ≡ true → count_by is_tracked all < MOST_SESSIONS)
 room {S = S} all d full plain =
-    by_tests (flags_of (tcp_of d).flags).reset (nat_le most_connections (length all)) (begins {S = S} None d)
-    (nat_le most_sessions (count_by is_tracked all)) plain refl refl full
+    by_tests (flags_of (tcp_of d).flags).reset (nat_le MOST_CONNECTIONS (length all)) (begins {S = S} None d)
+    (nat_le MOST_SESSIONS (count_by is_tracked all)) plain refl refl full
   where
-    by_tests : (r n b m : Bool) → r ≡ false → nat_le most_connections (length all) ≡ n → nat_le most_sessions (count_by is_tracked all) ≡ m
-        → (not r && n || (b && m)) ≡ false → (length all < most_connections) × (b ≡ true → count_by is_tracked all < most_sessions)
+    by_tests : (r n b m : Bool) → r ≡ false → nat_le MOST_CONNECTIONS (length all) ≡ n → nat_le MOST_SESSIONS (count_by is_tracked all) ≡ m
+        → (not r && n || (b && m)) ≡ false → (length all < MOST_CONNECTIONS) × (b ≡ true → count_by is_tracked all < MOST_SESSIONS)
     by_tests true n b m p e f q = absurd (cc)
     by_tests false true b m p e f q = absurd (cc)
     by_tests false false true true p e f q = absurd (cc)
     by_tests false false true false p e f q =
-        (omega (arith, leb-false most_connections (length all) e), λ t. omega (arith, leb-false most_sessions (count_by is_tracked all) f))
-    by_tests false false false m p e f q = (omega (arith, leb-false most_connections (length all) e), λ t. absurd (cc))
+        (omega (arith, leb-false MOST_CONNECTIONS (length all) e), λ t. omega (arith, leb-false MOST_SESSIONS (count_by is_tracked all) f))
+    by_tests false false false m p e f q = (omega (arith, leb-false MOST_CONNECTIONS (length all) e), λ t. absurd (cc))
 
 -- what fits
 pub record Fits {S : Type 0} (xs : List (Connection (Tracked S))) : Type 0 where
-  pub connections : length xs ≤ most_connections
-  pub sessions : many is_tracked xs ≤ most_sessions
+  pub connections : length xs ≤ MOST_CONNECTIONS
+  pub sessions : many is_tracked xs ≤ MOST_SESSIONS
 
 -- a new connection, with or without a session
-fits_more : {S : Type 0} (all : List (Connection (Tracked S))) (c : Connection (Tracked S)) → Fits all → length all < most_connections
-    → (is_tracked c ≡ true → many is_tracked all < most_sessions) → Fits (all ++ c ∷ [])
+fits_more : {S : Type 0} (all : List (Connection (Tracked S))) (c : Connection (Tracked S)) → Fits all → length all < MOST_CONNECTIONS
+    → (is_tracked c ≡ true → many is_tracked all < MOST_SESSIONS) → Fits (all ++ c ∷ [])
 fits_more {S = S} all c f long room = record {
   connections = omega (arith, length_push all c);
   sessions = rw filter-append (by_test (is_tracked c) room);
 }
   where
-    by_test : (b : Bool) → (b ≡ true → many is_tracked all < most_sessions) → length (filter is_tracked all ++ cond b (c ∷ []) []) ≤ most_sessions
-    by_test true r = let less : many is_tracked all < most_sessions = r refl in omega (arith, length_push (filter is_tracked all) c)
+    by_test : (b : Bool) → (b ≡ true → many is_tracked all < MOST_SESSIONS) → length (filter is_tracked all ++ cond b (c ∷ []) []) ≤ MOST_SESSIONS
+    by_test true r = let less : many is_tracked all < MOST_SESSIONS = r refl in omega (arith, length_push (filter is_tracked all) c)
     by_test false r = omega (arith, length-append (filter is_tracked all) [], f.sessions)
 
 fits_changed : {S : Type 0} (all : List (Connection (Tracked S))) (place : Option ℕ) (c : Option (Connection (Tracked S))) → Fits all
-    → (place ≡ None → IfSome c (λ x. (length all < most_connections) × (is_tracked x ≡ true → many is_tracked all < most_sessions)))
+    → (place ≡ None → IfSome c (λ x. (length all < MOST_CONNECTIONS) × (is_tracked x ≡ true → many is_tracked all < MOST_SESSIONS)))
     → ((i : ℕ) → place ≡ Some i → (old : Connection (Tracked S)) × (slice_get all i ≡ Some old) × IfSome c (λ x. is_tracked x ≡ is_tracked old))
     → Fits (changed all place c)
 fits_changed all None None f new old = f
@@ -180,17 +184,17 @@ stream_fits {S = S} rules live side moment d p f =
 
     both : (o : Option (Connection (Tracked S))) → found_in live side d ≡ None → IfSome o (λ c. (flags_of (tcp_of d).flags).reset ≡ false)
         → IfSome o (λ c. is_tracked c ≡ is_some (taker_in rules live side moment d))
-        → IfSome o (λ x. (length live.connections < most_connections) × (is_tracked x ≡ true → many is_tracked live.connections < most_sessions))
+        → IfSome o (λ x. (length live.connections < MOST_CONNECTIONS) × (is_tracked x ≡ true → many is_tracked live.connections < MOST_SESSIONS))
     both None none a b = tt
     both (Some c) none a b =
         let full : is_full {S = S} live.connections None d ≡ false =
         ap (λ (o : Option (Connection (Tracked S))). is_full live.connections o d) (sym none) ∙ p.full in
         let r = room live.connections d full a in
-        (r.0, λ t. let less : count_by is_tracked live.connections < most_sessions = r.1 (sym (begun none) ∙ sym b ∙ t) in omega (arith, counted))
+        (r.0, λ t. let less : count_by is_tracked live.connections < MOST_SESSIONS = r.1 (sym (begun none) ∙ sym b ∙ t) in omega (arith, counted))
 
     new : place_of (key_in live.table side d) live.connections ≡ None
         → IfSome (connection_after rules (image_in rules live side moment d) live side moment d (taker_in rules live side moment d))
-        (λ x. (length live.connections < most_connections) × (is_tracked x ≡ true → many is_tracked live.connections < most_sessions))
+        (λ x. (length live.connections < MOST_CONNECTIONS) × (is_tracked x ≡ true → many is_tracked live.connections < MOST_SESSIONS))
     new e = both (connection_after rules (image_in rules live side moment d) live side moment d (taker_in rules live side moment d)) (found_none e)
         (begins_plain rules (image_in rules live side moment d) live side moment d (taker_in rules live side moment d) (found_none e))
         (session_left rules (image_in rules live side moment d) live side moment d (taker_in rules live side moment d))

@@ -11,7 +11,11 @@ use Rattle.ipv4_frames.specs.Ipv4.{Datagram}
 use Rattle.stream_model.specs.Prelude.{Outgoing}
 use Rattle.tcp_tracker.specs.Prelude.{after, place_of, changed, with_session}
 use Rattle.tcp_tracker.specs.declared.connection.Connection.{Connection}
-use Rattle.gate_model.specs.Prelude.{Whole, Kind, Udp, Echo, Error, Dns, Snmp, Stream, datagram_in, kind_of, SessionRules, Tracked, World, at_moment, called, source_of, destination_of, host_on, tracked_as, connection_as, world_as, Reads, tcp_of, segment_of, key_in, found_in, session_in, session_refusal, stepped, ends_by, connection_after, connections_with, pending_by, pending_in, sent_as, inside, table_after, image_in, verdict, taker_in, with_connection, after_kind, next_by, next, stream_out, out_between, out_kind, out_by, out}
+use Rattle.gate_model.specs.Prelude.{Whole, Kind, Error, Stream, datagram_in, kind_of, SessionRules, Tracked, World, at_moment, called, source_of}
+use Rattle.gate_model.specs.Prelude.{destination_of, host_on, tracked_as, connection_as, world_as, Reads, tcp_of, segment_of, key_in, found_in}
+use Rattle.gate_model.specs.Prelude.{session_in, session_refusal, stepped, ends_by, connection_after, connections_with, pending_by, pending_in}
+use Rattle.gate_model.specs.Prelude.{sent_as, inside, table_after, image_in, verdict, taker_in, with_connection, after_kind, next_by, next}
+use Rattle.gate_model.specs.Prelude.{stream_out, out_between, out_kind, out_by, out}
 use Rattle.gate_model.proofs.ReadLists.{place_of_as, after_as, changed_as}
 use Rattle.gate_model.proofs.ReadWorlds.{found_as, session_as, ends_as, table_as, image_as, taker_as, inner_number_as, moment_as, verdict_as}
 use Rattle.gate_model.proofs.Passing.{Passes, passes, stream_passes}
@@ -123,12 +127,9 @@ out_between_as : {S T : Type 0} (h : S → T) (a : SessionRules S) (b : SessionR
     → (live : World S) (table : Bindings) (side : Side) (moment : ℕ) (d : Datagram) (source destination : ℕ) (kind : Kind)
     → Passes a live side moment d kind
     → out_between b (world_as h live) table side moment d source destination kind ≡ out_between a live table side moment d source destination kind
-out_between_as h a b r live table side moment d source destination (Whole Udp) p = refl
-out_between_as h a b r live table side moment d source destination (Whole Echo) p = refl
-out_between_as h a b r live table side moment d source destination (Whole Dns) p = refl
-out_between_as h a b r live table side moment d source destination (Whole Snmp) p = refl
 out_between_as h a b r live table side moment d source destination (Whole Error) p =
     rw (inner_number_as h a b r live side (inner_fields (inside d))) refl
+out_between_as h a b r live table side moment d source destination (Whole _) p = refl
 out_between_as h a b r live table side moment d source destination Stream p =
     ap (λ (i : Addr → Option Addr). stream_out b i side d source destination (taker_in b (world_as h live) side moment d))
     (image_as h a b r live side moment d)

@@ -12,9 +12,16 @@ use Rattle.icmp_errors.specs.Inner.{inner_fields}
 use Rattle.icmp_errors.specs.declared.Inner.{Inner}
 use Rattle.ipv4_frames.specs.Ipv4.{Datagram}
 use Rattle.gate_base.specs.declared.host.Host.TheVariants.{Client, Server}
-use Rattle.tcp_tracker.specs.Prelude.{connection_of, short_timeout, timeout_of}
+use Rattle.tcp_tracker.specs.Prelude.{connection_of, timeout_of}
+use Rattle.tcp_tracker.specs.declared.connection.TheConstants.{SHORT_TIMEOUT}
 use Rattle.tcp_tracker.specs.declared.connection.Connection.{Connection}
-use Rattle.gate_model.specs.Prelude.{Whole, Kind, Udp, Echo, Error, Dns, Snmp, Stream, datagram_in, header_tests, datagram_tests, transport_tests, kind_of, addresses_in, renamed_in, SessionRules, uses_until, units_in, names_in, entries_in, uses_of_lists, unit_tests, growth_tests, Tracked, World, at_moment, called, addresses_of, host_on, tracked_as, connection_as, world_as, Reads, tcp_of, segment_of, key_in, key_of, found_in, session_in, begins, made_by, taker_by, session_refusal, ends_by, lacks_session, is_full, stream_timeout, inside, inner_number, is_inner_unbound, payload_addresses, payload_uses, uses_of, table_after, image_in, is_pool_empty, refusal_tests, address_tests, kind_tests, late_tests, tests, verdict_of, taker_in}
+use Rattle.gate_model.specs.Prelude.{Whole, Kind, Error, Stream, datagram_in, header_tests, datagram_tests, transport_tests, kind_of, addresses_in}
+use Rattle.gate_model.specs.Prelude.{renamed_in, SessionRules, uses_until, units_in, names_in, entries_in, uses_of_lists, unit_tests, growth_tests}
+use Rattle.gate_model.specs.Prelude.{Tracked, World, at_moment, called, addresses_of, host_on, tracked_as, connection_as, world_as, Reads, tcp_of}
+use Rattle.gate_model.specs.Prelude.{segment_of, key_in, key_of, found_in, session_in, begins, made_by, taker_by, session_refusal, ends_by}
+use Rattle.gate_model.specs.Prelude.{lacks_session, is_full, stream_timeout, inside, inner_number, is_inner_unbound, payload_addresses, payload_uses}
+use Rattle.gate_model.specs.Prelude.{uses_of, table_after, image_in, is_pool_empty, refusal_tests, address_tests, kind_tests, late_tests, tests}
+use Rattle.gate_model.specs.Prelude.{verdict_of, taker_in}
 use Rattle.gate_model.specs.Inner.{inner_session}
 use Rattle.gate_model.specs.Verdict.{verdict}
 use Rattle.gate_model.proofs.ReadLists.{live_as, connection_of_as, tracked_as_many, timeout_as}
@@ -41,8 +48,8 @@ stream_timeout_as h a b r live side d =
     let one : ends_by b side d (session_in (found_in (world_as h live) side d)) ≡ ends_by a side d (session_in (found_in live side d)) =
     ap (λ f. ends_by b side d (session_in f)) (found_as h live side d) ∙ ap (ends_by b side d) (session_as h (found_in live side d))
     ∙ ends_as h a b r side d (session_in (found_in live side d)) in
-    ap (λ (x : Bool). if x then short_timeout else timeout_of (world_as h live).connections (key_in live.table side d) side (tcp_of d).flags) one
-    ∙ ap (λ (n : ℕ). if ends_by a side d (session_in (found_in live side d)) then short_timeout else n)
+    ap (λ (x : Bool). if x then SHORT_TIMEOUT else timeout_of (world_as h live).connections (key_in live.table side d) side (tcp_of d).flags) one
+    ∙ ap (λ (n : ℕ). if ends_by a side d (session_in (found_in live side d)) then SHORT_TIMEOUT else n)
     (timeout_as h live.connections (key_in live.table side d) side (tcp_of d).flags)
 
 pub holder_as : {S T : Type 0} (h : S → T) (live : World S) (side : Side) (d : Datagram)
@@ -212,11 +219,8 @@ unbound_as h a b r live side inner = rw (inner_number_as h a b r live side inner
 kind_tests_as : {S T : Type 0} (h : S → T) (a : SessionRules S) (b : SessionRules T) → Reads h a b
     → (live : World S) (side : Side) (moment : ℕ) (d : Datagram) (kind : Kind)
     → kind_tests b (world_as h live) side moment d kind ≡ kind_tests a live side moment d kind
-kind_tests_as h a b r live side moment d (Whole Udp) = refl
-kind_tests_as h a b r live side moment d (Whole Echo) = refl
-kind_tests_as h a b r live side moment d (Whole Dns) = refl
-kind_tests_as h a b r live side moment d (Whole Snmp) = refl
 kind_tests_as h a b r live side moment d (Whole Error) = rw (unbound_as h a b r live side (inner_fields (inside d))) refl
+kind_tests_as h a b r live side moment d (Whole _) = refl
 kind_tests_as h a b r live side moment d Stream =
     let refusal : session_refusal b side d (taker_in b (world_as h live) side moment d) ≡ session_refusal a side d (taker_in a live side moment d) =
     ap (session_refusal b side d) (taker_as h a b r live side moment d) ∙ refusal_as h a b r side d (taker_in a live side moment d) in

@@ -15,7 +15,9 @@ use Rattle.dialogue.proofs.Alike.{learned_alike, due_alike, back_alike}
 use Rattle.dialogue.proofs.FirstUnit.{cut-on}
 use Rattle.dns_stream.specs.Prelude.{unit_addresses, dns_units, dns_units-lawful, dns_units-learning}
 use Rattle.ftp_lines.specs.Inside.Lawful.{client_lines-lawful, server_lines-lawful}
-use Rattle.stream_model.specs.Prelude.{known, number_at, Sender, Session, Segment, Outgoing, own, other, session, due_in, recent, extent, arrival, start_of, repeats_unlike, segment_refusal, refusal_of, opened, taken, acknowledged, own_after, other_after, session_made, session_next, session_out, if_by, if_to, places_of, numbers_of, SentIs, EachIsBack, Facts}
+use Rattle.stream_model.specs.Prelude.{known, number_at, Sender, Session, Segment, Outgoing, own, other, session, due_in, recent, extent, arrival}
+use Rattle.stream_model.specs.Prelude.{start_of, repeats_unlike, segment_refusal, refusal_of, opened, taken, acknowledged, own_after, other_after}
+use Rattle.stream_model.specs.Prelude.{session_made, session_next, session_out, if_by, if_to, places_of, numbers_of, IsBack, SentIs, Facts}
 use Rattle.stream_model.specs.declared.refusals.Extent.{Extent}
 use Rattle.stream_model.proofs.SentLaw.{due_nil}
 use Rattle.stream_model.proofs.SessionSent.{SentOf, Silent, sound_step, own_meaning, other_meaning}
@@ -23,7 +25,9 @@ use Rattle.stream_model.proofs.SessionAcked.{Acked, acked_step, made_acked}
 use Rattle.stream_model.proofs.FactLemmas.{short_step}
 use Rattle.stream_model.proofs.RecentFact.{facts_of, few_after}
 use Rattle.tcp_tracker.specs.declared.connection.Connection.{Connection}
-use Rattle.gate_model.specs.Prelude.{Lists, list_of, with_list, addresses_in, entered, whole_rules, lists_at, meaning_by, entries_by, units_by, completed, reads_by, whole_units, whole_learned, Tracked, opening_world, Reads, Remembered, RememberedSession, stream_of, remembering_rules, IsRenamed, UnitsAreRenamed, EachTracked, next as world_next}
+use Rattle.gate_model.specs.Prelude.{Lists, list_of, with_list, addresses_in, entered, whole_rules, lists_at, meaning_by, entries_by, units_by}
+use Rattle.gate_model.specs.Prelude.{completed, reads_by, whole_units, whole_learned, Tracked, opening_world, Reads, Remembered, RememberedSession}
+use Rattle.gate_model.specs.Prelude.{remembering_rules, IsRenamed, UnitsAreRenamed, EachTracked, next as world_next}
 use Rattle.gate_model.specs.Remembered.{Passed, remembered, begun, step, AllPass, StreamIs, IsRemembered, SessionIs}
 use Rattle.gate_model.proofs.Entering.{entered_more, entered_all, all_renamed_more, all_renamed, listed_units, all_append, split_listed}
 use Rattle.gate_model.proofs.Tracking.{UnitsFit, Keeps, run_keeps}
@@ -53,8 +57,8 @@ verdict_alike f a b n g h =
     ap (λ (e : Extent). refusal_of f e (extent b) (arrival g) (repeats_unlike (with_meaning a n) g)) (extent_alike a n h)
     ∙ ap (refusal_of f (extent a) (extent b) (arrival g)) (unlike_alike a n g h)
 
-each_alike : (a : Sender) (n : Meaning) (places numbers : List ℕ) → ReadAlike a.meaning n a.octets → EachIsBack a places numbers
-    → EachIsBack (with_meaning a n) places numbers
+each_alike : (a : Sender) (n : Meaning) (places numbers : List ℕ) → ReadAlike a.meaning n a.octets → AllByRecursion (IsBack a places) numbers
+    → AllByRecursion (IsBack (with_meaning a n) places) numbers
 each_alike a n places [] h e = tt
 each_alike a n places (x ∷ xs) h e = (
   record {
@@ -276,7 +280,7 @@ units_next P goes (Some l) pair Server Client s g es more is mine units new = ot
 
 -- what both streams keep while segments pass
 pub record StreamsHold (t : Tracked RememberedSession) : Type 0 where
-  pub holds : (host : Host) → Holds (meaning_by t.session.session.lists t.pair host) (own host t.session.session.session) (stream_of host t.session)
+  pub holds : (host : Host) → Holds (meaning_by t.session.session.lists t.pair host) (own host t.session.session.session) (t.session.streams host)
   pub units : (host : Host) → UnitsAreRenamed t.session.session.lists host (own host t.session.session.session).octets
 
 made_holds : (lists : Option Lists) (pair : Pair) (initial mss : ℕ) (host : Host)
@@ -319,7 +323,7 @@ streams_made port client pair initial mss =
     all : (host : Host)
         → Holds (meaning_by (lists_at port) pair host)
         (own host (session_made (meaning_by (lists_at port) pair Client) (meaning_by (lists_at port) pair Server) initial mss))
-        (stream_of host (remembering_rules.made port pair initial mss))
+        ((remembering_rules.made port pair initial mss).streams host)
     all Client = made_holds (lists_at port) pair initial mss Client
     all Server = made_holds (lists_at port) pair initial mss Server
 
@@ -359,11 +363,11 @@ streams_next image f t g v fit h =
     one : (host : Host) → Holds (meaning_by (whole_learned image f t.session.session g).lists t.pair host)
         (own host (session_next f (whole_learned image f t.session.session g).session g))
         (remembered host f (whole_learned image f t.session.session g).session g (session_out f (whole_learned image f t.session.session g).session g)
-        (stream_of host t.session))
+        (t.session.streams host))
     one host =
         holds_step (meaning_by (whole_learned image f t.session.session g).lists t.pair host) host f
-        (whole_learned image f t.session.session g).session g (stream_of host t.session) passes
-        (holds_learned t.session.session.lists t.pair host f t.session.session.session (stream_of host t.session)
+        (whole_learned image f t.session.session g).session g (t.session.streams host) passes
+        (holds_learned t.session.session.lists t.pair host f t.session.session.session (t.session.streams host)
         (entered image (entries_by t.session.session.lists f) (addresses_in (whole_units f t.session.session g)))
         (longer t.session.session.lists f image (addresses_in (whole_units f t.session.session g))) (h.units f) (h.holds host))
 
@@ -384,13 +388,10 @@ streams_next image f t g v fit h =
     both : (host : Host)
         → Holds (meaning_by (whole_learned image f t.session.session g).lists t.pair host)
         (own host (session_next f (whole_learned image f t.session.session g).session g))
-        (stream_of host (remembering_rules.next image f t.session g))
-    both Client = subst (λ (r : Remembered). Holds (meaning_by (whole_learned image f t.session.session g).lists t.pair Client)
-        (own Client (session_next f (whole_learned image f t.session.session g).session g)) r)
-        (same Client (session_out f (whole_learned image f t.session.session g).session g) t.session.client) (one Client)
-    both Server = subst (λ (r : Remembered). Holds (meaning_by (whole_learned image f t.session.session g).lists t.pair Server)
-        (own Server (session_next f (whole_learned image f t.session.session g).session g)) r)
-        (same Server (session_out f (whole_learned image f t.session.session g).session g) t.session.server) (one Server)
+        ((remembering_rules.next image f t.session g).streams host)
+    both host = subst (λ (r : Remembered). Holds (meaning_by (whole_learned image f t.session.session g).lists t.pair host)
+        (own host (session_next f (whole_learned image f t.session.session g).session g)) r)
+        (same host (session_out f (whole_learned image f t.session.session g).session g) (t.session.streams host)) (one host)
 
 -- ## What is remembered is true
 
@@ -455,7 +456,7 @@ session_is t h = record { remembers = h.remembers; streams = λ host. stream_is 
 facts_is : (host : Host) (t : Tracked RememberedSession) → TrackedHolds t → Facts (own host t.session.session.session)
 facts_is host t h =
     let k = h.streams.holds host in
-    facts_of (own host t.session.session.session) (stream_of host t.session).places (stream_of host t.session).numbers k.acked k.short k.few
+    facts_of (own host t.session.session.session) (t.session.streams host).places (t.session.streams host).numbers k.acked k.short k.few
 
 pub run_holds : (events : List Frame) (settings : Settings)
     → EachTracked TrackedHolds (fold (world_next remembering_rules) (opening_world settings) events).connections

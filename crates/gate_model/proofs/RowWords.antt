@@ -55,6 +55,9 @@ refused refusal = (Refused refusal, [])
 abbrev pub Row : Type 0
 Row = Event × Shown
 
+abbrev pub frame : Side → ℕ → Link → Bool → List ℕ → Shown → Row
+frame side moment link whole octets shown = (event side moment link whole octets, shown)
+
 -- the world so far, and what its events gave
 abbrev So_far : Type 0
 So_far = World WholeSession × List Shown

@@ -1,5 +1,5 @@
 -- What the world sends for a segment that a session takes is what the session says, and the session goes on by it.
-use Rattle.std.proofs.Common.{◌≡◌, ◌<◌, ℕ, Bool, true, false, nat_lt, cond, List, [], ◌∷◌, length, position, Option, Some, None, option_map, refl, sym, ◌∙◌, ap, subst, arith, option_and_then, slice_get, IfSome, ltb-true}
+use Rattle.std.proofs.Common.{◌≡◌, ◌<◌, ℕ, Bool, true, false, nat_lt, cond, List, [], ◌∷◌, length, position, Option, Some, None, option_map, refl, sym, ◌∙◌, ap, subst, arith, option_and_then, slice_get, IfSome, ltb-true, map}
 use Rattle.std.specs.List.{find, position_or_len}
 use Rattle.std.specs.Option.{option_or}
 use Rattle.std.proofs.lemmas.List.Folds.{find-set, find-append}
@@ -9,9 +9,10 @@ use Rattle.tcp_tracker.specs.Prelude.{is_of, place_of, connection_of, changed}
 use Rattle.tcp_tracker.specs.declared.connection.ConnKey.{ConnKey}
 use Rattle.tcp_tracker.specs.declared.connection.Connection.{Connection}
 use Rattle.tcp_tracker.proofs.Names.{find_by_place}
-use Rattle.gate_model.specs.Prelude.{Kind, Stream, datagram_in, SessionRules, Tracked, World, at_moment, key_in, found_in, stepped, connection_after, table_after, image_in, taker_in, stream_out, out_kind, out_by, out, after_kind, next_by, next, TakesSegment}
+use Rattle.gate_model.specs.Prelude.{Kind, Stream, datagram_in, SessionRules, Tracked, World, at_moment, key_in, found_in, stepped, connection_after, table_after, image_in, taker_in, stream_out, out_kind, out_by, out, after_kind, next_by, next, TakesSegment, called, source_of, destination_of}
 use Rattle.gate_model.proofs.HostsKept.{IsLeft, left_of, found_is}
-use Rattle.gate_model.specs.Taken.{source_after, destination_after, said}
+use Rattle.gate_model.specs.Stream.{sent_as}
+use Rattle.gate_model.specs.Taken.{segments_for, said}
 
 kind_out : {S : Type 0} (rules : SessionRules S) (w : World S) (e : Event) (t : Tracked S) → TakesSegment rules w e t
     → out rules w e ≡ out_kind rules (at_moment w e.moment) e.side e.moment (datagram_in e) Stream
@@ -21,9 +22,14 @@ kind_out rules w e t k = ap (out_by rules (at_moment w e.moment) e) k.passes
 pub taken_out : {S : Type 0} (rules : SessionRules S) (w : World S) (e : Event) (t : Tracked S) → TakesSegment rules w e t
     → out rules w e ≡ said rules w e t
 taken_out rules w e t k =
+    let live = at_moment w e.moment in
+    let d = datagram_in e in
+    let table = table_after rules live e.side e.moment d Stream in
     kind_out rules w e t k
-    ∙ ap (stream_out rules (image_in rules (at_moment w e.moment) e.side e.moment (datagram_in e)) e.side (datagram_in e) (source_after rules w e)
-    (destination_after rules w e)) k.taker
+    ∙ ap (stream_out rules (image_in rules live e.side e.moment d) e.side d (called table e.side (source_of d)).0
+    (called table e.side (destination_of d)).0) k.taker
+    ∙ ap (λ (kind : Kind). let after = table_after rules live e.side e.moment d kind in
+    map (sent_as d (called after e.side (source_of d)).0 (called after e.side (destination_of d)).0) (segments_for rules w e t)) (sym k.stream)
 
 -- ## What is found afterwards
 

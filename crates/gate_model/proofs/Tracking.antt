@@ -19,7 +19,12 @@ use Rattle.stream_model.specs.Prelude.{Segment}
 use Rattle.tcp_tracker.specs.Prelude.{place_of, connection_of, changed, is_live, after, with_session}
 use Rattle.tcp_tracker.specs.declared.connection.ConnKey.{ConnKey}
 use Rattle.tcp_tracker.specs.declared.connection.Connection.{Connection}
-use Rattle.gate_model.specs.Prelude.{Whole, Kind, Stream, datagram_in, kind_of, most_entries, addresses_in, entered, is_bad, grows_too_much, SessionRules, Tracked, World, at_moment, host_on, tcp_of, segment_of, key_in, found_in, begins, made_by, taker_by, session_refusal, stepped, ends_by, connection_after, units_in, names_in, entries_in, entries_after, is_new_unbound, unit_tests, growth_tests, table_after, image_in, verdict, taker_in, after_kind, next_by, next, TakesSegment, EachTracked}
+use Rattle.gate_model.specs.Prelude.{Whole, Kind, Stream, datagram_in, kind_of, addresses_in, entered, is_bad, grows_too_much}
+use Rattle.dialogue.specs.declared.TheConstants.{MOST_ENTRIES}
+use Rattle.gate_model.specs.Prelude.{SessionRules, Tracked, World, at_moment, host_on, tcp_of, segment_of, key_in, found_in, begins, made_by}
+use Rattle.gate_model.specs.Prelude.{taker_by, session_refusal, stepped, ends_by, connection_after, units_in, names_in, entries_in, entries_after}
+use Rattle.gate_model.specs.Prelude.{is_new_unbound, unit_tests, growth_tests, table_after, image_in, verdict, taker_in, after_kind, next_by, next}
+use Rattle.gate_model.specs.Prelude.{TakesSegment, EachTracked}
 use Rattle.gate_model.proofs.Passing.{NoneHolds, none_head, none_tail, Passes, passes, stream_passes}
 
 -- ## Connections that come and go
@@ -49,7 +54,7 @@ all_found {S = S} P key all h = by_place (place_of key all)
 pub record UnitsFit (entries : List Entry) (units : List (List ℕ)) : Type 0 where
   pub good : list_any is_bad units ≡ false
   pub small : list_any (grows_too_much entries) units ≡ false
-  pub few : nat_lt most_entries (length entries) ≡ false
+  pub few : nat_lt MOST_ENTRIES (length entries) ≡ false
 
 -- a session has this when it is made, and keeps it while segments pass
 pub record Keeps {S : Type 0} (rules : SessionRules S) (Q : Tracked S → Type 0) : Type 0 where
@@ -76,13 +81,13 @@ units_fit : {S : Type 0} (rules : SessionRules S) (image : Addr → Option Addr)
 units_fit rules image table side d t units growth = record {
   good = none_head {test = (list_any is_bad (units_in rules side d t), BadUnit)}
       {more = (list_any (is_new_unbound table side (entries_in rules side t)) (names_in rules side d t), UnitUnbound)
-      ∷ (nat_lt most_entries (length (entries_after rules image side d t)), RenamesFull) ∷ []} units;
-  few = none_head {test = (nat_lt most_entries (length (entries_after rules image side d t)), RenamesFull)} {more = []}
+      ∷ (nat_lt MOST_ENTRIES (length (entries_after rules image side d t)), RenamesFull) ∷ []} units;
+  few = none_head {test = (nat_lt MOST_ENTRIES (length (entries_after rules image side d t)), RenamesFull)} {more = []}
       (none_tail {test = (list_any (is_new_unbound table side (entries_in rules side t)) (names_in rules side d t), UnitUnbound)}
-      {more = (nat_lt most_entries (length (entries_after rules image side d t)), RenamesFull) ∷ []}
+      {more = (nat_lt MOST_ENTRIES (length (entries_after rules image side d t)), RenamesFull) ∷ []}
       (none_tail {test = (list_any is_bad (units_in rules side d t), BadUnit)}
       {more = (list_any (is_new_unbound table side (entries_in rules side t)) (names_in rules side d t), UnitUnbound)
-      ∷ (nat_lt most_entries (length (entries_after rules image side d t)), RenamesFull) ∷ []} units));
+      ∷ (nat_lt MOST_ENTRIES (length (entries_after rules image side d t)), RenamesFull) ∷ []} units));
   small = none_head {test = (list_any (grows_too_much (entries_after rules image side d t)) (units_in rules side d t), UnitGrows)} {more = []} growth;
 }
 

@@ -23,9 +23,14 @@ use Rattle.binding_table.proofs.Used.{known_after}
 use Rattle.gate_model.specs.Called.{table_by, called_by, sent_from, sent_to, header_until, CrossBack, AllBefore}
 use Rattle.gate_model.specs.Frame.{has_other_address, is_other_protocol}
 use Rattle.gate_model.specs.Inner.{inner_session}
-use Rattle.gate_model.specs.Prelude.{SessionRules, Kind, Whole, Udp, Echo, Error, Dns, Snmp, Stream, Tracked, World, host_on, at_moment, called, source_of, destination_of, addresses_of, datagram_in, kind_of, header_tests, datagram_tests, transport_tests, address_tests, world_tests, is_pool_empty, is_reachable, is_unknown, inside, uses_of, table_after, tests, verdict_of, next, out, out_by, out_kind, tcp_of, is_tracked_port, found_in, session_in, begins, is_opening, made_by, taker_by, taker_in, session_refusal, refusal_tests, unit_tests, growth_tests, lacks_session, is_full, names_in, image_in, stream_out}
+use Rattle.gate_model.specs.Prelude.{SessionRules, Kind, Whole, Udp, Echo, Stream, Tracked, World, host_on, at_moment, called, source_of}
+use Rattle.gate_model.specs.Prelude.{destination_of, addresses_of, datagram_in, kind_of, header_tests, datagram_tests, transport_tests, address_tests}
+use Rattle.gate_model.specs.Prelude.{world_tests, is_pool_empty, is_reachable, is_unknown, inside, uses_of, table_after, tests, verdict_of, next, out}
+use Rattle.gate_model.specs.Prelude.{out_by, out_kind, tcp_of, is_tracked_port, found_in, session_in, begins, is_opening, made_by, taker_by, taker_in}
+use Rattle.gate_model.specs.Prelude.{session_refusal, refusal_tests, unit_tests, growth_tests, lacks_session, is_full, names_in, image_in, stream_out}
 use Rattle.gate_model.specs.Verdict.{verdict}
-use Rattle.gate_model.specs.Transparent.{IsTranslated, KeepsAlias, IsReply, own_tests, own_reason, has_tracked_port, IsUntracked, IsPlainKind, ComesBack, IsAbout, ComesHome}
+use Rattle.gate_model.specs.Stream.{has_tracked_port}
+use Rattle.gate_model.specs.Transparent.{IsTranslated, KeepsAlias, IsReply, own_tests, own_reason, IsUntracked, IsPlainKind, ComesBack, IsAbout, ComesHome}
 use Rattle.gate_model.proofs.AliasesLast.{StandFor, cross_back, called_is, stand_after, stand_expired, stand_through, lawful_through, lawful_next, lawful_by, passed_table, HostsAre, hosts_are, hosts_later}
 use Rattle.gate_model.proofs.BoundTables.{placed, known_seen}
 use Rattle.gate_model.proofs.Passing.{NoneHolds, none_head, none_tail, none_left, none_right, pass_is}
@@ -229,10 +234,7 @@ world_none : {S : Type 0} (rules : SessionRules S) (live : World S) (side : Side
     → first_that_holds (world_tests rules live side moment d kind) ≡ None
 world_none rules live side moment d (Whole Udp) plain addresses room = pool_enough live.table side d addresses room
 world_none rules live side moment d (Whole Echo) plain addresses room = pool_enough live.table side d addresses room
-world_none rules live side moment d (Whole Error) plain addresses room = absurd plain
-world_none rules live side moment d (Whole Dns) plain addresses room = absurd plain
-world_none rules live side moment d (Whole Snmp) plain addresses room = absurd plain
-world_none rules live side moment d Stream plain addresses room = absurd plain
+world_none rules live side moment d _ plain addresses room = absurd plain
 
 in_order : (a b c d : List (Bool × Refusal)) → (a ++ (b ++ c)) ++ d ≡ a ++ (b ++ (c ++ d))
 in_order a b c d = append_assoc a (b ++ c) d ∙ ap (λ (xs : List (Bool × Refusal)). a ++ xs) (append_assoc b c d)
@@ -352,10 +354,7 @@ plain_out : {S : Type 0} (rules : SessionRules S) (live : World S) (side : Side)
     (called (table_after rules live side moment d kind) side (destination_of d)).0 ∷ []
 plain_out rules live side moment d (Whole Udp) plain = refl
 plain_out rules live side moment d (Whole Echo) plain = refl
-plain_out rules live side moment d (Whole Error) plain = absurd plain
-plain_out rules live side moment d (Whole Dns) plain = absurd plain
-plain_out rules live side moment d (Whole Snmp) plain = absurd plain
-plain_out rules live side moment d Stream plain = absurd plain
+plain_out rules live side moment d _ plain = absurd plain
 
 pub comes_back : {S : Type 0} (rules : SessionRules S) (w : World S) (e : Event) (between : List Event) (r : Event) → IsLawful w.table
     → verdict rules w e ≡ Pass → IsReply rules w e r → AllBefore (header_until rules w e) between → r.moment < header_until rules w e

@@ -4,10 +4,11 @@ use Rattle.gate_base.specs.Prelude.{Event, other}
 use Rattle.gate_base.specs.declared.address.Addr.{Addr}
 use Rattle.gate_base.specs.declared.side.Side.{Side}
 use Rattle.binding_table.specs.Prelude.{Bindings, seen}
-use Rattle.gate_model.specs.Frame.{Udp, Echo, Error, Dns, Snmp, Kind, Whole, Stream, datagram_in, kind_of}
+use Rattle.gate_model.specs.Frame.{Echo, Error, Dns, Kind, Whole, Stream, datagram_in, kind_of}
 use Rattle.gate_model.specs.Names.{message_in, named_in}
 use Rattle.gate_model.specs.Rules.{SessionRules}
-use Rattle.gate_model.specs.Verdict.{named_timeout, timeout_by, table_after}
+use Rattle.gate_model.specs.Verdict.{timeout_by, table_after}
+use Rattle.gate_model.specs.declared.timeouts.TheConstants.{NAMED_TIMEOUT}
 use Rattle.gate_model.specs.World.{World, at_moment, called, source_of, destination_of}
 
 -- ## One frame
@@ -41,7 +42,7 @@ abbrev pub IsKeptUntil : {S : Type 0} → SessionRules S → World S → Event �
 IsKeptUntil rules w e address until =
     let d = datagram_in e in
     (((address ≡ source_of d) ⊎ (address ≡ destination_of d)) × (until ≡ header_until rules w e))
-    ⊎ ((kind_of d ≡ Whole Dns) × Contains (named_in (message_in d)) address × (until ≡ e.moment + named_timeout))
+    ⊎ ((kind_of d ≡ Whole Dns) × Contains (named_in (message_in d)) address × (until ≡ e.moment + NAMED_TIMEOUT))
 
 -- ## Later ones
 
@@ -58,9 +59,7 @@ AllBefore moment events = All (λ e. e.moment < moment) events
 
 -- for how many seconds the header of a kind has to keep its addresses at least (RFC 4787, REQ-5; RFC 5508, REQ-2; RFC 5382, REQ-5)
 abbrev pub least_seconds : Kind → ℕ
-least_seconds (Whole Udp) = 300
-least_seconds (Whole Dns) = 300
-least_seconds (Whole Snmp) = 300
 least_seconds (Whole Echo) = 60
 least_seconds (Whole Error) = 60
+least_seconds (Whole _) = 300
 least_seconds Stream = 240

@@ -1,9 +1,9 @@
 -- That tracked sessions go on, those of FTP and those of DNS.
 use Rattle.std.specs.Prelude.{◌≡◌, ◌⊎◌, true, List, Some, Contains}
+use Rattle.std.specs.List.{AllByRecursion}
 use Rattle.gate_base.specs.Prelude.{Event}
 use Rattle.gate_base.specs.declared.host.Host.{Host}
 use Rattle.stream_model.specs.Prelude.{number_at, known, acknowledged_of, Brings, OnlyHeldWaits, Session, Segment, Outgoing, own, other, arrival, is_data}
-use Rattle.stream_model.specs.Progress.{EachCarries}
 use Rattle.tcp_tracker.specs.declared.connection.Connection.{Connection}
 use Rattle.gate_model.specs.Frame.{datagram_in}
 use Rattle.gate_model.specs.Remembered.{RememberedSession, remembering_rules}
@@ -28,7 +28,8 @@ pub record GoesOn (from : Host) (before after : Session) (g : Segment) (outs : L
   -- what goes out brings what is lacking of its sender's stream,
   pub brings : Brings (own from before) (own from after) g outs
   -- each of it acknowledges to the other host all of its octets whose images are acknowledged by then,
-  pub carries : EachCarries (number_at (known (other from after).initial) (acknowledged_of (other from after))) outs
+  pub carries : let receiver = other from after in
+      AllByRecursion (λ o. o.acknowledgement ≡ number_at (known receiver.initial) (acknowledged_of receiver)) outs
   -- and nothing waits then but held rests
   pub waits : OnlyRestsWait after
 

@@ -14,7 +14,8 @@ use Rattle.dns_stream.specs.Prelude.{image_in}
 use Rattle.tcp_tracker.specs.declared.connection.ConnKey.{ConnKey}
 use Rattle.tcp_tracker.specs.declared.connection.Connection.{Connection}
 use Rattle.stream_model.specs.Prelude.{Segment}
-use Rattle.gate_model.specs.Lists.{most_entries, addresses_in, entered}
+use Rattle.gate_model.specs.Lists.{addresses_in, entered}
+use Rattle.dialogue.specs.declared.TheConstants.{MOST_ENTRIES}
 use Rattle.gate_model.specs.Rules.{SessionRules}
 use Rattle.gate_model.specs.World.{Tracked, World}
 
@@ -94,4 +95,4 @@ KeepsImages rules old new = (host : Host) (number : ℕ) → is_listed (rules.li
 
 -- no list is longer than the most
 abbrev pub ListsAreFew : {S : Type 0} → SessionRules S → Tracked S → Type 0
-ListsAreFew rules t = (host : Host) → length (rules.listed host t.session) ≤ most_entries
+ListsAreFew rules t = (host : Host) → length (rules.listed host t.session) ≤ MOST_ENTRIES

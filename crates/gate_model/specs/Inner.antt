@@ -1,6 +1,7 @@
 -- ICMP errors: the datagram inside, which came from the other realm and goes back.
 use Rattle.std.specs.Prelude.{ℕ, Bool, true, false, ◌||◌, ◌==◌, if◌then◌else◌, List, ◌++◌, take, drop, Option, Some, None, option_map, option_and_then, is_none}
 use Rattle.gate_base.specs.Prelude.{other}
+use Rattle.gate_base.specs.declared.protocol.TheConstants.{TCP}
 use Rattle.gate_base.specs.declared.side.Side.{Side}
 use Rattle.binding_table.specs.Prelude.{seen}
 use Rattle.icmp_errors.specs.Inner.{inner_fields, inner_with}
@@ -18,7 +19,7 @@ inside d = drop 8 d.payload
 -- the session to which the datagram inside belongs, if one tracks it
 abbrev pub inner_session : {S : Type 0} → World S → Side → Inner → Option (Tracked S)
 inner_session live side inner =
-    if inner.protocol == 6
+    if inner.protocol == TCP
     then session_in (connection_of (key_of side inner.destination inner.ports.1 (called live.table side inner.source) inner.ports.0) live.connections)
     else None
 

@@ -6,6 +6,7 @@ use Rattle.ipv4_frames.specs.Ipv4.{Datagram}
 use Rattle.snmp_gateway.specs.Message.{message}
 use Rattle.snmp_oids.specs.Elements.{oid_renamed}
 use Rattle.gate_model.specs.Names.{carried}
+use Rattle.gate_model.specs.declared.TheConstants.{MOST_CARRIED}
 
 -- the octets are no message
 abbrev pub is_bad_snmp : Datagram → Bool
@@ -21,4 +22,4 @@ management_after after side d = oid_renamed (number_seen after side) after.oids 
 
 -- it is longer than a datagram holds behind both headers
 abbrev pub is_snmp_too_long : Bindings → Side → Datagram → Bool
-is_snmp_too_long after side d = nat_lt 65507 (length (management_after after side d))
+is_snmp_too_long after side d = nat_lt MOST_CARRIED (length (management_after after side d))

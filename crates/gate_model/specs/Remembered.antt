@@ -4,12 +4,11 @@ use Rattle.std.specs.List.{fold, AllByRecursion}
 use Rattle.gate_base.specs.declared.address.Addr.{Addr}
 use Rattle.gate_base.specs.declared.event.Pair.{Pair}
 use Rattle.gate_base.specs.declared.host.Host.{Host}
-use Rattle.gate_base.specs.declared.host.Host.TheVariants.{Client, Server}
 use Rattle.dialogue.specs.Prelude.{Entry, AllListed, cut}
 use Rattle.dns_messages.specs.declared.message.Message.{Message}
 use Rattle.dns_gateway.specs.Addresses.{message_addresses}
 use Rattle.dns_stream.specs.Prelude.{message_in, image_in, renamed, dns_units}
-use Rattle.stream_model.specs.Prelude.{known, Session, Segment, Outgoing, own, other, due_in, if_by, if_to, places_of, numbers_of, SentIs, EachIsBack}
+use Rattle.stream_model.specs.Prelude.{known, Session, Segment, Outgoing, own, other, due_in, if_by, if_to, places_of, numbers_of, IsBack, SentIs}
 use Rattle.tcp_tracker.specs.declared.connection.Connection.{Connection}
 use Rattle.gate_model.specs.Lists.{Lists, list_of}
 use Rattle.gate_model.specs.Rules.{SessionRules, whole_rules}
@@ -28,7 +27,8 @@ pub record Remembered : Type 0 where
   pub places : List ℕ
   pub numbers : List ℕ
 
--- a session, the server's port, the pair and the numbers with which it began, the segments that passed, in their order, and what is remembered of both hosts' streams
+-- a session, the server's port, the pair and the numbers with which it began, the segments that passed, in their order, and what is remembered
+-- of each host's stream
 pub record RememberedSession : Type 0 where
   pub session : WholeSession
   pub port : ℕ
@@ -36,13 +36,7 @@ pub record RememberedSession : Type 0 where
   pub initial : ℕ
   pub mss : ℕ
   pub past : List Passed
-  pub client : Remembered
-  pub server : Remembered
-
--- of a host's stream
-abbrev pub stream_of : Host → RememberedSession → Remembered
-stream_of Client t = t.client
-stream_of Server t = t.server
+  pub streams : Host → Remembered
 
 -- one segment more, of which this went out
 abbrev pub remembered : Host → Host → Session → Segment → List Outgoing → Remembered → Remembered
@@ -51,9 +45,6 @@ remembered host from s segment outs r = record {
   places = r.places ++ if_to host from (places_of (other from s) segment);
   numbers = r.numbers ++ if_to host from (numbers_of (other from s) segment outs);
 }
-
-abbrev nothing : Remembered
-nothing = record { sent = []; places = []; numbers = [] }
 
 -- they answer as sessions over whole lists do
 abbrev pub remembering_rules : SessionRules RememberedSession
@@ -65,21 +56,15 @@ remembering_rules = record {
     initial = initial;
     mss = mss;
     past = [];
-    client = nothing;
-    server = nothing;
+    streams = λ host. record { sent = []; places = []; numbers = [] };
   };
   refusal = λ from t g. whole_rules.refusal from t.session g;
   units = λ from t g. whole_rules.units from t.session g;
   listed = λ host t. whole_rules.listed host t.session;
-  next = λ image from t g. record {
+  next = λ image from t g. record t {
     session = whole_rules.next image from t.session g;
-    port = t.port;
-    pair = t.pair;
-    initial = t.initial;
-    mss = t.mss;
     past = t.past ++ record { from = from; segment = g; image = image } ∷ [];
-    client = remembered Client from t.session.session g (whole_rules.out image from t.session g) t.client;
-    server = remembered Server from t.session.session g (whole_rules.out image from t.session g) t.server;
+    streams = λ host. remembered host from t.session.session g (whole_rules.out image from t.session g) (t.streams host);
   };
   out = λ image from t g. whole_rules.out image from t.session g;
   ends = λ from t g. whole_rules.ends from t.session g;
@@ -119,9 +104,9 @@ pub record StreamIs (host : Host) (t : Tracked RememberedSession) : Type 0 where
   -- each whole unit of DNS is a message, which that list renames;
   pub units : UnitsAreRenamed t.session.session.lists host (own host t.session.session.session).octets
   -- the octets that went out are those of its image that are due, each at its place and none left out;
-  pub sent : SentIs (known (own host t.session.session.session).initial) (due_in (own host t.session.session.session)) (stream_of host t.session).sent
+  pub sent : SentIs (known (own host t.session.session.session).initial) (due_in (own host t.session.session.session)) (t.session.streams host).sent
   -- and each acknowledgement that went out to its sender covers only octets whose images the other host acknowledged
-  pub acknowledged : EachIsBack (own host t.session.session.session) (stream_of host t.session).places (stream_of host t.session).numbers
+  pub acknowledged : let past = t.session.streams host in AllByRecursion (IsBack (own host t.session.session.session) past.places) past.numbers
 
 -- what a session remembers is true: it began with its hosts' pair, none of its segments was refused, and it is what they made of it
 pub record IsRemembered (t : Tracked RememberedSession) : Type 0 where

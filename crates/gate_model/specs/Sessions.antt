@@ -8,7 +8,7 @@ use Rattle.dialogue.specs.Prelude.{Entry, Meaning, cut}
 use Rattle.dns_stream.specs.Prelude.{dns_units}
 use Rattle.ftp_lines.specs.Renaming.{client_lines, server_lines}
 use Rattle.stream_model.specs.Prelude.{Sender, Session, Segment, Outgoing, own, other, session, session_made, session_next, session_out, own_after}
-use Rattle.gate_model.specs.Frame.{dns_port}
+use Rattle.gate_base.specs.declared.protocol.TheConstants.{DNS_PORT}
 use Rattle.gate_model.specs.Lists.{Lists, list_of, with_list, addresses_in, entered}
 
 -- the session of both hosts, and its lists where it is one of DNS
@@ -18,7 +18,7 @@ pub record WholeSession : Type 0 where
 
 -- the lists with which a session on a port of the server begins: only one of DNS has lists, and nothing is listed
 abbrev pub lists_at : ℕ → Option Lists
-lists_at port = if port == dns_port then Some (record { client = []; server = [] }) else None
+lists_at port = if port == DNS_PORT then Some (record { client = []; server = [] }) else None
 
 -- how the octets of a host are cut and renamed: by the lines of FTP and the pair of the hosts, or by the units of DNS and the list
 abbrev pub meaning_by : Option Lists → Pair → Host → Meaning
@@ -67,8 +67,7 @@ abbrev pub whole_learned : (Addr → Option Addr) → Host → WholeSession → 
 whole_learned image from x segment = with_entries from (entered image (whole_listed from x) (addresses_in (whole_units from x segment))) x
 
 abbrev pub whole_next : (Addr → Option Addr) → Host → WholeSession → Segment → WholeSession
-whole_next image from x segment = let y = whole_learned image from x segment in
-    record { lists = y.lists; session = session_next from y.session segment }
+whole_next image from x segment = let y = whole_learned image from x segment in record y { session = session_next from y.session segment }
 
 abbrev pub whole_out : (Addr → Option Addr) → Host → WholeSession → Segment → List Outgoing
 whole_out image from x segment = session_out from (whole_learned image from x segment).session segment

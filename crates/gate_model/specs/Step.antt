@@ -3,7 +3,7 @@ use Rattle.std.specs.Prelude.{ℕ, max, List, [], ◌∷◌, map, Option, Some, 
 use Rattle.gate_base.specs.Prelude.{Event}
 use Rattle.gate_base.specs.declared.address.Addr.{Addr}
 use Rattle.gate_base.specs.declared.event.Verdict.{Verdict}
-use Rattle.gate_base.specs.declared.event.Verdict.TheVariants.{Pass, Refused, Held}
+use Rattle.gate_base.specs.declared.event.Verdict.TheVariants.{Pass}
 use Rattle.gate_base.specs.declared.side.Side.{Side}
 use Rattle.binding_table.specs.Prelude.{Bindings}
 use Rattle.ipv4_frames.specs.Ipv4.{Datagram}
@@ -39,8 +39,7 @@ after_kind rules live side moment d (Whole payload) = record live { table = tabl
 -- by the verdict: a frame that is refused moves the clock, by which bindings and connections may end, and changes nothing else
 abbrev pub next_by : {S : Type 0} → SessionRules S → World S → Event → Verdict → World S
 next_by rules live e Pass = let d = datagram_in e in after_kind rules live e.side e.moment d (kind_of d)
-next_by rules live e (Refused refusal) = live
-next_by rules live e Held = live
+next_by rules live e _ = live
 
 -- what is known after an event
 abbrev pub next : {S : Type 0} → SessionRules S → World S → Event → World S
@@ -77,8 +76,7 @@ out_kind rules live side moment d kind =
 -- by the verdict
 abbrev pub out_by : {S : Type 0} → SessionRules S → World S → Event → Verdict → List (List ℕ)
 out_by rules live e Pass = let d = datagram_in e in out_kind rules live e.side e.moment d (kind_of d)
-out_by rules live e (Refused refusal) = []
-out_by rules live e Held = []
+out_by rules live e _ = []
 
 -- the datagrams that go out at an event, in their order
 abbrev pub out : {S : Type 0} → SessionRules S → World S → Event → List (List ℕ)

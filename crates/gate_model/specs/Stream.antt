@@ -9,9 +9,12 @@ use Rattle.binding_table.specs.Prelude.{Bindings}
 use Rattle.ipv4_frames.specs.Ipv4.{Datagram}
 use Rattle.tcp_segments.specs.Prelude.{flags_of, flags_octet, Tcp, tcp_fields_of, tcp_header_length_of, spelled_segment, datagram_of}
 use Rattle.stream_model.specs.Prelude.{Segment, Outgoing, segment_in}
-use Rattle.tcp_tracker.specs.Prelude.{is_tracked, place_of, connection_of, timeout_of, short_timeout, after, changed, with_session}
+use Rattle.tcp_tracker.specs.Prelude.{is_tracked, place_of, connection_of, timeout_of, after, changed, with_session}
+use Rattle.tcp_tracker.specs.declared.connection.TheConstants.{SHORT_TIMEOUT}
 use Rattle.tcp_tracker.specs.declared.connection.ConnKey.{ConnKey}
 use Rattle.tcp_tracker.specs.declared.connection.Connection.{Connection}
+use Rattle.tcp_tracker.specs.declared.tracker.TheConstants.{MOST_CONNECTIONS}
+use Rattle.tcp_tracker.specs.declared.table.TheConstants.{MOST_SESSIONS}
 use Rattle.gate_model.specs.Frame.{is_tracked_port}
 use Rattle.gate_model.specs.Rules.{SessionRules}
 use Rattle.gate_model.specs.World.{Tracked, World, called, source_of, destination_of, host_on}
@@ -89,30 +92,26 @@ ends_by rules side d (Some t) = rules.ends (host_on side t) t.session (segment_o
 
 -- ## Refusals
 
+-- one of both ports is one at which connections are tracked
+abbrev pub has_tracked_port : Datagram → Bool
+has_tracked_port d = is_tracked_port (tcp_of d).source_port || is_tracked_port (tcp_of d).destination_port
+
 -- no connection lives, connections to one of both ports are tracked, and the segment isn't a SYN without ACK
 abbrev pub lacks_session : {S : Type 0} → Option (Connection (Tracked S)) → Datagram → Bool
-lacks_session found d = let tcp = tcp_of d in
-    is_none found && ((is_tracked_port tcp.source_port || is_tracked_port tcp.destination_port) && not (is_opening tcp.flags))
-
--- the most connections and the most sessions that live at once
-abbrev pub most_connections : ℕ
-most_connections = 65536
-
-abbrev pub most_sessions : ℕ
-most_sessions = 4096
+lacks_session found d = is_none found && (has_tracked_port d && not (is_opening (tcp_of d).flags))
 
 -- the segment would make a connection or a session, and the most of them live
 abbrev pub is_full : {S : Type 0} → List (Connection (Tracked S)) → Option (Connection (Tracked S)) → Datagram → Bool
 is_full all found d =
-    is_none found && (not (flags_of (tcp_of d).flags).reset && nat_le most_connections (length all))
-    || (begins found d && nat_le most_sessions (count_by is_tracked all))
+    is_none found && (not (flags_of (tcp_of d).flags).reset && nat_le MOST_CONNECTIONS (length all))
+    || (begins found d && nat_le MOST_SESSIONS (count_by is_tracked all))
 
 -- ## After a segment that passes
 
 -- how long its addresses are held: as its connection is, and a short time where none is left
 abbrev pub stream_timeout : {S : Type 0} → SessionRules S → World S → Side → Datagram → ℕ
 stream_timeout rules live side d =
-    if ends_by rules side d (session_in (found_in live side d)) then short_timeout else timeout_of live.connections (key_in live.table side d) side
+    if ends_by rules side d (session_in (found_in live side d)) then SHORT_TIMEOUT else timeout_of live.connections (key_in live.table side d) side
     (tcp_of d).flags
 
 -- what is left of its connection: nothing where its session ends

@@ -1,6 +1,6 @@
 -- That translation is transparent: nothing goes out under an address of the wrong realm, an alias means one host at a time, and replies
 -- come back (RFC 2663, RFC 4787, RFC 5382, RFC 5508).
-use Rattle.std.specs.Prelude.{◌≡◌, ◌⊎◌, Bool, ◌||◌, true, false, if◌then◌else◌, All, List, [], ◌∷◌, ◌++◌, Option, Some, None, IfSome}
+use Rattle.std.specs.Prelude.{◌≡◌, ◌⊎◌, Bool, true, false, if◌then◌else◌, All, List, [], ◌∷◌, ◌++◌, Option, Some, None, IfSome}
 use Rattle.gate_base.specs.Prelude.{Event, other, first_that_holds, is_unicast_number}
 use Rattle.gate_base.specs.declared.address.Addr.{Addr}
 use Rattle.gate_base.specs.declared.event.Verdict.TheVariants.{Pass}
@@ -9,15 +9,14 @@ use Rattle.gate_base.specs.declared.refusal.Refusal.TheVariants.{SessionsFull}
 use Rattle.gate_base.specs.declared.side.Side.{Side}
 use Rattle.binding_table.specs.Prelude.{Bindings, is_same, in_pool, seen, needed, image_after}
 use Rattle.icmp_errors.specs.Inner.{inner_fields}
-use Rattle.ipv4_frames.specs.Ipv4.{Datagram}
 use Rattle.twice_translate.specs.Renamed.{renamed}
 use Rattle.gate_model.specs.Called.{table_by, called_by, sent_from, sent_to, CrossBack}
-use Rattle.gate_model.specs.Frame.{Udp, Echo, Kind, Whole, Stream, datagram_in, is_tracked_port, header_tests, datagram_tests, transport_tests, kind_of}
+use Rattle.gate_model.specs.Frame.{Udp, Echo, Kind, Whole, Stream, datagram_in, header_tests, datagram_tests, transport_tests, kind_of}
 use Rattle.gate_model.specs.Inner.{inside, inner_session, is_inner_unbound}
 use Rattle.gate_model.specs.Names.{message_in, named_in}
 use Rattle.gate_model.specs.Rules.{SessionRules}
 use Rattle.gate_model.specs.Step.{out}
-use Rattle.gate_model.specs.Stream.{tcp_of, found_in, session_in, is_full}
+use Rattle.gate_model.specs.Stream.{found_in, has_tracked_port, session_in, is_full}
 use Rattle.gate_model.specs.Verdict.{address_tests, is_reachable, verdict, verdict_of}
 use Rattle.gate_model.specs.Held.{host_in}
 use Rattle.gate_model.specs.World.{Tracked, World, at_moment, source_of, destination_of, addresses_of}
@@ -76,10 +75,6 @@ IsPlainKind (Whole Udp) = Unit {0}
 IsPlainKind (Whole Echo) = Unit {0}
 IsPlainKind _ = ⊥
 
--- one of both ports is one at which connections are tracked
-abbrev pub has_tracked_port : Datagram → Bool
-has_tracked_port d = is_tracked_port (tcp_of d).source_port || is_tracked_port (tcp_of d).destination_port
-
 -- a segment of a connection that no session tracks
 pub record IsUntracked {S : Type 0} (v : World S) (r : Event) : Type 0 where
   pub kind : kind_of (datagram_in r) ≡ Stream
@@ -99,12 +94,8 @@ pub record ComesBack {S : Type 0} (rules : SessionRules S) (e : Event) (v : Worl
   pub sent : IsPlainKind (kind_of (datagram_in r)) → own_reason r ≡ None
       → out rules v r ≡ renamed (datagram_in r) (datagram_in e).destination (datagram_in e).source ∷ []
   -- so does a TCP segment that no session tracks, as long as there is room for its connection
-  pub segment : IsUntracked v r → verdict rules v r ≡ verdict_of
-      (first_that_holds (own_tests r ++ (
-        is_full (at_moment v r.moment).connections (found_in (at_moment v r.moment) r.side (datagram_in r))
-            (datagram_in r),
-        SessionsFull,
-      ) ∷ []))
+  pub segment : IsUntracked v r → let live = at_moment v r.moment in let d = datagram_in r in
+      verdict rules v r ≡ verdict_of (first_that_holds (own_tests r ++ (is_full live.connections (found_in live r.side d) d, SessionsFull) ∷ []))
   pub segment_sent : IsUntracked v r → verdict rules v r ≡ Pass
       → out rules v r ≡ renamed (datagram_in r) (datagram_in e).destination (datagram_in e).source ∷ []
 

@@ -8,7 +8,8 @@ use Rattle.gate_base.specs.declared.side.Side.{Side}
 use Rattle.binding_table.specs.Prelude.{Bindings, cross, Use}
 use Rattle.dialogue.specs.Prelude.{Entry, is_listed}
 use Rattle.ipv4_frames.specs.Ipv4.{Datagram}
-use Rattle.gate_model.specs.Lists.{most_entries, addresses_in, entered, renamed_in, is_bad, grows_too_much}
+use Rattle.gate_model.specs.Lists.{addresses_in, entered, renamed_in, is_bad, grows_too_much}
+use Rattle.dialogue.specs.declared.TheConstants.{MOST_ENTRIES}
 use Rattle.gate_model.specs.Names.{is_unbound}
 use Rattle.gate_base.specs.declared.refusal.Refusal.TheVariants.{BadUnit, UnitUnbound, RenamesFull, UnitGrows}
 use Rattle.gate_base.specs.declared.host.Host.TheVariants.{Client, Server}
@@ -56,7 +57,7 @@ abbrev pub unit_tests : {S : Type 0} → SessionRules S → (Addr → Option Add
 unit_tests rules image table side d t =
     (list_any is_bad (units_in rules side d t), BadUnit)
     ∷ (list_any (is_new_unbound table side (entries_in rules side t)) (names_in rules side d t), UnitUnbound)
-    ∷ (nat_lt most_entries (length (entries_after rules image side d t)), RenamesFull)
+    ∷ (nat_lt MOST_ENTRIES (length (entries_after rules image side d t)), RenamesFull)
     ∷ []
 
 -- behind all others: one would grow too much by the list afterwards

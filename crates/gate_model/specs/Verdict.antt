@@ -1,5 +1,5 @@
 -- What becomes of a frame: the first refusal that holds, or it passes.
-use Rattle.std.specs.Prelude.{ℕ, ◌+◌, ◌*◌, Bool, true, not, ◌&&◌, ◌||◌, nat_lt, List, [], ◌∷◌, ◌++◌, Option, Some, None, is_some, is_none}
+use Rattle.std.specs.Prelude.{ℕ, ◌+◌, Bool, true, not, ◌&&◌, ◌||◌, nat_lt, List, [], ◌∷◌, ◌++◌, Option, Some, None, is_some, is_none}
 use Rattle.gate_base.specs.Prelude.{Event, other, first_that_holds}
 use Rattle.gate_base.specs.declared.address.Addr.{Addr}
 use Rattle.gate_base.specs.declared.event.Verdict.{Verdict}
@@ -18,27 +18,16 @@ use Rattle.gate_model.specs.Names.{message_in, named_in, has_unbound}
 use Rattle.gate_model.specs.Rules.{SessionRules}
 use Rattle.gate_model.specs.Stream.{found_in, session_in, taker_by, lacks_session, session_refusal, is_full, stream_timeout}
 use Rattle.gate_model.specs.Units.{uses_until, names_in, uses_of_lists, unit_tests, growth_tests}
+use Rattle.gate_model.specs.declared.timeouts.TheConstants.{ICMP_TIMEOUT, NAMED_TIMEOUT, UDP_TIMEOUT}
 use Rattle.gate_model.specs.World.{World, at_moment, source_of, destination_of, addresses_of}
 
 -- ## Uses
 
--- for how long a use keeps a binding, in nanoseconds: 300 seconds by a UDP header, 60 seconds by an ICMP header and by an address in a DNS message
-abbrev pub udp_timeout : ℕ
-udp_timeout = 300 * 1000000000
-
-abbrev pub icmp_timeout : ℕ
-icmp_timeout = 60 * 1000000000
-
-abbrev pub named_timeout : ℕ
-named_timeout = 60 * 1000000000
-
 -- the timeout of a header
 abbrev pub payload_timeout : Payload → ℕ
-payload_timeout Udp = udp_timeout
-payload_timeout Echo = icmp_timeout
-payload_timeout Error = icmp_timeout
-payload_timeout Dns = udp_timeout
-payload_timeout Snmp = udp_timeout
+payload_timeout Echo = ICMP_TIMEOUT
+payload_timeout Error = ICMP_TIMEOUT
+payload_timeout _ = UDP_TIMEOUT
 
 abbrev pub timeout_by : {S : Type 0} → SessionRules S → World S → Side → Datagram → Kind → ℕ
 timeout_by rules live side d (Whole payload) = payload_timeout payload
@@ -55,7 +44,7 @@ payload_addresses rules live side d Stream = names_in rules side d (session_in (
 
 -- their uses, until a moment where they hold as the header does: behind those of a DNS session stand the addresses that its lists rename
 abbrev pub payload_uses : {S : Type 0} → SessionRules S → World S → Side → ℕ → ℕ → Datagram → Kind → List Use
-payload_uses rules live side moment until d (Whole payload) = uses_until side (moment + named_timeout) (named_by payload d)
+payload_uses rules live side moment until d (Whole payload) = uses_until side (moment + NAMED_TIMEOUT) (named_by payload d)
 payload_uses rules live side moment until d Stream =
     uses_until side until (payload_addresses rules live side d Stream) ++ uses_of_lists rules until (session_in (found_in live side d))
 

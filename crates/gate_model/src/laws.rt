@@ -38,10 +38,11 @@ ghost use Rattle.gate_model.specs.World.{destination_of};
 ghost use Rattle.tcp_tracker.specs.Connections.{is_established, kept, with_flags};
 ghost use Rattle.ipv4_frames.specs.Ipv4.{Datagram};
 ghost use Rattle.gate_model.specs.Frame.{Kind, Dns, Whole, Stream, kind_of};
-ghost use Rattle.gate_model.specs.Stream.{tcp_of, found_in, ends_by};
-ghost use Rattle.gate_model.specs.Verdict.{named_timeout, timeout_by};
+ghost use Rattle.gate_model.specs.Stream.{tcp_of, found_in, has_tracked_port, ends_by};
+ghost use Rattle.gate_model.specs.Verdict.{timeout_by};
+ghost use Rattle.gate_model.specs.declared.timeouts.TheConstants.{NAMED_TIMEOUT};
 ghost use Rattle.gate_model.specs.Called.{IsKeptUntil, AllBefore, header_until, least_seconds};
-ghost use Rattle.gate_model.specs.Transparent.{IsTranslated, KeepsAlias, NamesAreCalled, IsReply, ComesBack, IsAbout, ComesHome, IsUntracked, has_tracked_port, ReachesHosts};
+ghost use Rattle.gate_model.specs.Transparent.{IsTranslated, KeepsAlias, NamesAreCalled, IsReply, ComesBack, IsAbout, ComesHome, IsUntracked, ReachesHosts};
 ghost use Rattle.gate_model.specs.Origins.{ComesFromUse, IsMeant};
 
 /// A frame that is refused gives no datagram, and moves the clock alone.
@@ -355,7 +356,7 @@ pub fn timeouts_are_long_enough<S>()
     ensures least { (rules : SessionRules S) (live : World S) (side : Side)
         (d : Datagram) (kind : Kind)
         → least_seconds kind * 1000000000 ≤ timeout_by rules live side d kind }
-    ensures named { 60 * 1000000000 ≤ named_timeout }
+    ensures named { 60 * 1000000000 ≤ NAMED_TIMEOUT }
     ensures established { (rules : SessionRules S) (live : World S) (side : Side)
         (d : Datagram) (c : Connection (Tracked S))
         → found_in live side d ≡ Some c

@@ -9,7 +9,7 @@ use Rattle.gate_base.specs.declared.host.Host.{Host}
 use Rattle.gate_base.specs.declared.host.Host.TheVariants.{Client, Server}
 use Rattle.dialogue.specs.Prelude.{Meaning, IsLawful, IsReleased, IsUnit, Cut, cut}
 use Rattle.dialogue.proofs.CutLemmas.{none_or_some, IsRest-cut}
-use Rattle.dialogue.proofs.FirstUnit.{after_units, cut-first, cut-rest}
+use Rattle.dialogue.proofs.FirstUnit.{cut-first, cut-rest}
 use Rattle.stream_model.specs.Prelude.{Segment, Sender, arrival, extent, is_data, own, refusal_of, repeats_unlike, segment_refusal, start_at, start_of}
 use Rattle.stream_model.specs.declared.refusals.Extent.{Extent}
 use Rattle.stream_model.proofs.Lacking.{data_of, own_is}

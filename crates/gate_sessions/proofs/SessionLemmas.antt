@@ -12,7 +12,8 @@ use Rattle.dns_stream.specs.Prelude.{dns_units}
 use Rattle.stream_model.specs.Prelude.{Segment, arrival, is_data}
 use Rattle.compact_stream.specs.Prelude.{start_kept, sender_kept}
 use Rattle.compact_stream.proofs.SessionLemmas.{verdict_is}
-use Rattle.gate_model.specs.Prelude.{addresses_in, entered, most_entries, whole_rules, meaning_by, whole_next}
+use Rattle.gate_model.specs.Prelude.{addresses_in, entered, whole_rules, meaning_by, whole_next}
+use Rattle.dialogue.specs.declared.TheConstants.{MOST_ENTRIES}
 use Rattle.gate_model.proofs.Completing.{drop-min}
 use Rattle.gate_sessions.specs.Compact.{CompactSession, compact_rules, kept_units, IsOfSome}
 use Rattle.gate_sessions.proofs.Agreed.{made_stands, next_stands}
@@ -40,7 +41,7 @@ pub next_session : (image : Addr → Option Addr) (f : Host) (k : CompactSession
     → length (entered image (compact_rules.listed f k) (addresses_in (compact_rules.units f k g))) ≤ 256 → IsSession (compact_rules.next image f k g)
 next_session image f k g h v few = record {
   some = some_next image f k g h.some v;
-  few = both (λ (b : Host). length (compact_rules.listed b (compact_rules.next image f k g)) ≤ most_entries) f
+  few = both (λ (b : Host). length (compact_rules.listed b (compact_rules.next image f k g)) ≤ MOST_ENTRIES) f
       (omega (arith, few, ap length (kept_have_lists.own image f k g)))
       (omega (arith, h.few (peer f), ap length (kept_have_lists.other image f k g)));
 }

@@ -2,6 +2,7 @@
 ghost use Rattle.std.specs.Prelude.{◌≡◌, ◌≤◌, ◌<◌, [], false, length, map, None, IfOk, OnOk, OnErr};
 ghost use Rattle.gate_base.specs.Prelude.{peer};
 ghost use Rattle.dialogue.specs.Prelude.{is_listed, AreImages};
+ghost use Rattle.dialogue.specs.declared.TheConstants.{MOST_ENTRIES};
 ghost use Rattle.dns_stream.specs.Prelude.{dns_units};
 ghost use Rattle.gate_model.specs.Prelude.{segment_of, sent_as, tcp_of};
 ghost use Rattle.compact_stream.specs.Prelude.{kept_ends, kept_refusal};
@@ -25,7 +26,7 @@ fn knows(session: &DnsSession, host: Host, address: Addr) -> bool
 /// Enters an address into a host's list, unless it is listed.
 fn learn_one(session: &mut DnsSession, host: Host, one: Entry)
     requires few { is_listed (listed_of host session.old) one.0.0 ≡ false
-        → length (listed_of host session.old) < 256 }
+        → length (listed_of host session.old) < MOST_ENTRIES }
     requires stream { IsListedSide host session.old }
     ensures list { listed_of host session.new
         ≡ enter_one (listed_of host session.old) one }
@@ -42,7 +43,8 @@ fn learn_one(session: &mut DnsSession, host: Host, one: Entry)
 
 /// Enters addresses into a host's list, one after the other.
 fn learn_all(session: &mut DnsSession, host: Host, named: &[Entry])
-    requires few { length (entered_all (listed_of host session.old) named.now) ≤ 256 }
+    requires few { length (entered_all (listed_of host session.old) named.now)
+        ≤ MOST_ENTRIES }
     requires stream { IsListedSide host session.old }
     ensures list { listed_of host session.new
         ≡ entered_all (listed_of host session.old) named.now }
@@ -67,7 +69,7 @@ pub fn step_units(
 ) -> Result<bool, OutOfMemory>
     requires few { length
         (entered_all (listed_of passing.now.from session.old) completed.entries.now)
-        ≤ 256 }
+        ≤ MOST_ENTRIES }
     requires images { AreImages
         (dns_units (entered_all (listed_of passing.now.from session.old)
         completed.entries.now)) completed.images.items }

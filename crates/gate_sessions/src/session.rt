@@ -2,6 +2,7 @@
 ghost use Rattle.std.specs.Prelude.{◌≡◌, ◌≤◌, ◌<◌, ℕ, Option, true, [], length, map, slice_get, Some, None, IfOk, OnOk, OnErr};
 ghost use Rattle.gate_base.specs.declared.address.Addr.{Addr};
 ghost use Rattle.dialogue.specs.Prelude.{AreImages};
+ghost use Rattle.dialogue.specs.declared.TheConstants.{MOST_ENTRIES};
 ghost use Rattle.dns_stream.specs.Prelude.{dns_units};
 ghost use Rattle.stream_model.specs.Prelude.{segment_in, arrival, is_data};
 ghost use Rattle.stream_gate.specs.Prelude.{nothing_pushed};
@@ -195,7 +196,7 @@ impl AnySession {
     ) -> Result<bool, OutOfMemory>
         requires few { length (entered_all
             (compact_rules.listed passing.now.from self.old)
-            completed.entries.now) ≤ 256 }
+            completed.entries.now) ≤ MOST_ENTRIES }
         requires images { AreImages
             (dns_units (entered_all (compact_rules.listed passing.now.from self.old)
             completed.entries.now)) completed.images.items }

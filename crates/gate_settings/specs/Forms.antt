@@ -1,7 +1,9 @@
 -- The forms of what settings hold.
-use Rattle.std.specs.Prelude.{◌≡◌, ◌-◌, ◌^◌, ◌≤◌, ◌%◌, true, All}
+use Rattle.std.specs.Prelude.{◌≡◌, ◌-◌, ◌^◌, ◌≤◌, ◌%◌, true, All, length}
 use Rattle.gate_base.specs.Prelude.{is_unicast_number, AreRules}
 use Rattle.gate_base.specs.declared.address.Addr.{Addr}
+use Rattle.gate_base.specs.declared.side.Side.{Side}
+use Rattle.gate_settings.specs.Cross.{side_settings}
 use Rattle.gate_settings.specs.declared.settings.Block.{Block}
 use Rattle.gate_settings.specs.declared.settings.Fixed.{Fixed}
 use Rattle.gate_settings.specs.declared.settings.Settings.{Settings}
@@ -21,6 +23,15 @@ pub record HasUnicastPool (side : SideSettings) : Type 0 where
   pub first : IsUnicast side.first
   pub last : IsUnicast side.last
 
+-- both Ethernet addresses of a realm have six octets
+pub record HasMacAddresses (side : SideSettings) : Type 0 where
+  pub gateway : length side.gateway_mac ≡ 6
+  pub next : length side.next_mac ≡ 6
+
+-- and of both realms
+abbrev pub HaveMacAddresses : Settings → Type 0
+HaveMacAddresses settings = (side : Side) → HasMacAddresses (side_settings settings side)
+
 -- host and alias are addresses of hosts
 pub record IsUnicastPair (fixed : Fixed) : Type 0 where
   pub host : IsUnicast fixed.host
@@ -31,5 +42,6 @@ pub record HasForms (settings : Settings) : Type 0 where
   pub blocks : All IsBlock settings.same
   pub left : HasUnicastPool settings.left
   pub right : HasUnicastPool settings.right
+  pub macs : HaveMacAddresses settings
   pub statics : All IsUnicastPair settings.statics
   pub oids : AreRules settings.oids

@@ -1,6 +1,7 @@
 -- The datagrams of the workload: identification 0, DF, lifetime 64, right sums.
 use Rattle.std.specs.Prelude.{◌≡◌, ℕ, ◌+◌, ◌*◌, ◌/◌, ◌%◌, ◌≤◌, IsTrue, List, [], ◌∷◌, ◌++◌, length, true, Ok}
 use Rattle.byteorder.specs.Endian.{big_bytes}
+use Rattle.gate_base.specs.declared.protocol.TheConstants.{TCP, UDP}
 use Rattle.ipv4_frames.specs.Ipv4.{Datagram, read_datagram}
 use Rattle.udp_icmp.specs.Udp.{sealed_udp, read_udp}
 use Rattle.tcp_segments.specs.Prelude.{are_options, spelled_segment, datagram_of}
@@ -20,7 +21,7 @@ udp_header flow len = big_bytes 2 flow.source_port ++ (big_bytes 2 flow.destinat
 
 -- a UDP datagram with this payload
 unfoldable pub udp_datagram : Flow → List ℕ → List ℕ
-udp_datagram flow payload = carrying 17 flow (sealed_udp flow.source.0 flow.destination.0 (udp_header flow (8 + length payload) ++ payload))
+udp_datagram flow payload = carrying UDP flow (sealed_udp flow.source.0 flow.destination.0 (udp_header flow (8 + length payload) ++ payload))
 
 -- such a datagram reads back with its addresses, ports and payload, and both its checksums are right
 pub record ReadsBack (flow : Flow) (payload : List ℕ) : Type 0 where
@@ -46,4 +47,4 @@ pub record AreShortOptions (options : List ℕ) : Type 0 where
 -- a TCP datagram with these options, numbers, flags and octets
 unfoldable pub tcp_datagram : Flow → List ℕ → ℕ → ℕ → ℕ → List ℕ → List ℕ
 tcp_datagram flow options sequence acknowledgement flags octets =
-    carrying 6 flow (spelled_segment (tcp_model flow options) flow.source.0 flow.destination.0 sequence acknowledgement flags octets)
+    carrying TCP flow (spelled_segment (tcp_model flow options) flow.source.0 flow.destination.0 sequence acknowledgement flags octets)

@@ -1,39 +1,31 @@
 -- What the datagrams of the workload carry, and where they go.
 use Rattle.std.specs.Prelude.{ℕ, ◌+◌, ◌%◌, List, [], ◌∷◌, ◌++◌, codes, decimal}
 use Rattle.byteorder.specs.Endian.{big_bytes}
+use Rattle.gate_base.specs.declared.protocol.TheConstants.{CONTROL_PORT, DNS_PORT, SNMP_PORT, TRAP_PORT}
 use Rattle.gate_workload.specs.declared.flow.Flow.{Flow}
+use Rattle.gate_workload.specs.declared.payload.TheConstants.{HOST, LEFT_HOST_ALIAS, NAME_SERVER, RIGHT_HOST_ALIAS}
 
 -- ## Where they go
-
--- both realms have a host 10.0.0.5: the right one is 192.168.200.1 on the left, the left one is 172.16.9.1 on the right
-abbrev pub host : ℕ
-host = 0x0a000005
-
-abbrev pub right_host_alias : ℕ
-right_host_alias = 0xc0a8c801
-
-abbrev pub left_host_alias : ℕ
-left_host_alias = 0xac100901
 
 -- from the left host to the right one, on the left
 abbrev pub leftward : ℕ → ℕ → Flow
 leftward source_port destination_port = record {
-  source = record { 0 = host };
+  source = HOST;
   source_port = source_port;
-  destination = record { 0 = right_host_alias };
+  destination = RIGHT_HOST_ALIAS;
   destination_port = destination_port;
 }
 
 -- the client's segments, on the left
 abbrev pub client_flow : Flow
-client_flow = leftward 40000 21
+client_flow = leftward 40000 CONTROL_PORT
 
 -- the server's segments, on the right
 abbrev pub server_flow : Flow
 server_flow = record {
-  source = record { 0 = host };
-  source_port = 21;
-  destination = record { 0 = left_host_alias };
+  source = HOST;
+  source_port = CONTROL_PORT;
+  destination = LEFT_HOST_ALIAS;
   destination_port = 40000;
 }
 
@@ -43,14 +35,14 @@ plain_flow k = leftward (4000 + k % 1000) 5000
 
 -- traps
 abbrev pub trap_flow : Flow
-trap_flow = leftward 161 162
+trap_flow = leftward SNMP_PORT TRAP_PORT
 
--- the answers of the name server 10.0.0.53, on the right
+-- the answers of the name server, on the right
 abbrev pub names_flow : Flow
 names_flow = record {
-  source = record { 0 = 0x0a000035 };
-  source_port = 53;
-  destination = record { 0 = left_host_alias };
+  source = NAME_SERVER;
+  source_port = DNS_PORT;
+  destination = LEFT_HOST_ALIAS;
   destination_port = 4000;
 }
 
@@ -87,7 +79,7 @@ extension = 0 ∷ 0 ∷ 0x29 ∷ 0x04 ∷ 0xd0 ∷ 0 ∷ 0 ∷ 0x80 ∷ 0 ∷ 0 
 -- the answer with two addresses, of which the first is the host's
 abbrev pub names : ℕ → List ℕ
 names address =
-    (0 ∷ 1 ∷ 0x81 ∷ 0x80 ∷ 0 ∷ 1 ∷ 0 ∷ 2 ∷ 0 ∷ 0 ∷ 0 ∷ 1 ∷ []) ++ question ++ address_record host ++ address_record address ++ extension
+    (0 ∷ 1 ∷ 0x81 ∷ 0x80 ∷ 0 ∷ 1 ∷ 0 ∷ 2 ∷ 0 ∷ 0 ∷ 0 ∷ 1 ∷ []) ++ question ++ address_record HOST.0 ++ address_record address ++ extension
 
 -- an SNMP trap whose agent is the host (RFC 1157, 4.1.6)
 abbrev pub trap : List ℕ

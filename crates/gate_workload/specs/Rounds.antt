@@ -3,6 +3,7 @@ use Rattle.std.specs.Prelude.{ℕ, zero, suc, ◌+◌, ◌%◌, ◌^◌, ◌==�
 use Rattle.gate_workload.specs.Draws.{next_random, drawn}
 use Rattle.gate_workload.specs.Captures.{capture_head, record_of}
 use Rattle.gate_workload.specs.Datagrams.{udp_datagram, tcp_datagram}
+use Rattle.gate_workload.specs.declared.rounds.TheConstants.{ACK, FIRST_NAMED, PSH, SYN}
 use Rattle.gate_workload.specs.Payloads.{client_flow, server_flow, plain_flow, trap_flow, names_flow, segment_size, port_line, port_image, reply, names, trap}
 
 -- what is known between two frames: the state of the draw, how many frames there are, the next sequence number of the client and of the server,
@@ -32,25 +33,25 @@ on_right datagram s = record s { frames = s.frames + 1; right = s.right ++ recor
 abbrev pub opening : ℕ → State
 opening number = record { random = number; frames = 0; client = 1001; server = 5001; image = 1001; left = capture_head; right = capture_head }
 
--- the handshake: SYN (2), SYN and ACK (18), ACK (16), the first two with a segment size
+-- the handshake: SYN, SYN and ACK, ACK, the first two with a segment size
 unfoldable pub shaken : State → State
 shaken s =
     on_left
-    (tcp_datagram client_flow [] 1001 5001 16 [])
-    (on_right (tcp_datagram server_flow segment_size 5000 1001 18 []) (on_left (tcp_datagram client_flow segment_size 1000 0 2 []) s))
+    (tcp_datagram client_flow [] 1001 5001 ACK [])
+    (on_right (tcp_datagram server_flow segment_size 5000 1001 (SYN + ACK) []) (on_left (tcp_datagram client_flow segment_size 1000 0 SYN []) s))
 
 -- the left host sends the number of the round in decimal digits
 unfoldable pub plain_round : ℕ → State → State
 plain_round k s = on_left (udp_datagram (plain_flow k) (decimal k)) s
 
--- the name server answers with an address 10.1.0.n, n from 1 to 200
+-- the name server answers with one of the first 200 addresses of its block
 unfoldable pub names_round : State → State
-names_round s = let t = stepped s in on_right (udp_datagram names_flow (names (0x0a010001 + drawn t.random 200))) t
+names_round s = let t = stepped s in on_right (udp_datagram names_flow (names (FIRST_NAMED + drawn t.random 200))) t
 
 -- the client names a port, and acknowledges all that the server sent (ACK and PSH)
 unfoldable pub line_sent : ℕ → State → State
 line_sent number s =
-    record (on_left (tcp_datagram client_flow [] s.client s.server 24 (port_line number)) s) {
+    record (on_left (tcp_datagram client_flow [] s.client s.server (PSH + ACK) (port_line number)) s) {
       client = (s.client + length (port_line number)) % 2 ^ 32;
       image = (s.image + length (port_image number)) % 2 ^ 32;
     }
@@ -58,7 +59,7 @@ line_sent number s =
 -- the server answers, and acknowledges the whole image
 unfoldable pub reply_sent : State → State
 reply_sent s =
-    record (on_right (tcp_datagram server_flow [] s.server s.image 24 reply) s) { server = (s.server + length reply) % 2 ^ 32 }
+    record (on_right (tcp_datagram server_flow [] s.server s.image (PSH + ACK) reply) s) { server = (s.server + length reply) % 2 ^ 32 }
 
 -- the client names a port below 4 * 256 + 250, and the server answers
 abbrev pub line_round : State → State

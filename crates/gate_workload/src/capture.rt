@@ -17,7 +17,7 @@ pub(crate) fn capture_head() -> [u8; 24]
 pub(crate) const RECORD_HEAD: usize = 16;
 
 /// The second at which the first frame comes.
-const FIRST_SECOND: u64 = 1000;
+pub const FIRST_SECOND: u64 = 1000;
 
 /// The head of the record of a frame, which has so many octets. The frame comes as many milliseconds after the first one
 /// as there are frames before it.

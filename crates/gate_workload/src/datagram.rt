@@ -1,6 +1,7 @@
 // Datagrams with identification 0, DF, lifetime 64 and right sums.
 ghost use Rattle.std.specs.Prelude.{◌≡◌, ◌+◌, ◌*◌, ◌^◌, ◌<◌, ◌≤◌, [], ◌∷◌, ◌++◌, length, take, OnOk, IfOk};
 ghost use Rattle.gate_base.specs.Prelude.{u16_at};
+ghost use Rattle.gate_base.specs.declared.protocol.TheConstants.{LONGEST_DATAGRAM};
 ghost use Rattle.ipv4_frames.specs.Ipv4.{spelled_head};
 ghost use Rattle.udp_icmp.specs.Udp.{udp_sum_of, sealed_udp};
 ghost use Rattle.gate_workload.specs.Captures.{record_head, record_of};
@@ -57,7 +58,7 @@ fn put_ip_head(head: &mut [u8], protocol: u8, total: u16, flow: &Flow)
 /// Writes a UDP header whose checksum is still to come, and the payload behind it.
 fn put_udp_parts(segment: &mut [u8], flow: &Flow, payload: &[u8])
     requires room { length segment.old ≡ 8 + length payload.now }
-    requires short { length segment.old ≤ 65535 }
+    requires short { length segment.old ≤ LONGEST_DATAGRAM }
     ensures { segment.new
         ≡ udp_header flow.now (8 + length payload.now) ++ payload.now }
 {
@@ -74,7 +75,7 @@ fn put_udp_parts(segment: &mut [u8], flow: &Flow, payload: &[u8])
 #[tactic(auto, unfolding(udp_icmp::specs::Udp::sealed_udp))]
 fn put_udp_sum(segment: &mut [u8], flow: &Flow)
     requires long { 8 ≤ length segment.old }
-    requires short { length segment.old ≤ 65535 }
+    requires short { length segment.old ≤ LONGEST_DATAGRAM }
     requires unknown { u16_at 6 segment.old ≡ 65535 }
     ensures { segment.new
         ≡ sealed_udp flow.now.source.0 flow.now.destination.0 segment.old }
@@ -146,7 +147,7 @@ pub(crate) fn append_segment(
 /// Appends the head of a frame's record and room for its octets, and answers where these begin.
 fn begin_record(capture: &mut Vec<u8>, frame: u64, len: usize) -> Result<usize, OutOfMemory>
     requires early { frame < 2 ^ 40 }
-    requires short { len ≤ 65535 }
+    requires short { len ≤ LONGEST_DATAGRAM }
     ensures place { IfOk result (λ start. start ≡ length capture.old.items + 16) }
     ensures room { IfOk result (λ start. length capture.new.items ≡ start + len) }
     ensures head { IfOk result (λ start. take start capture.new.items
@@ -181,7 +182,7 @@ fn put_tcp(target: &mut [u8], segment: &Segment<'_>)
     requires options { AreShortOptions segment.now.options.now }
     requires room { length target.old
         ≡ 40 + (length segment.now.options.now + length segment.now.octets.now) }
-    requires short { length target.old ≤ 65535 }
+    requires short { length target.old ≤ LONGEST_DATAGRAM }
     ensures { let s = segment.now in
         target.new
         ≡ tcp_datagram s.flow s.options.now s.sequence s.acknowledgement s.flags
@@ -205,7 +206,7 @@ fn put_tcp(target: &mut [u8], segment: &Segment<'_>)
 #[tactic(auto, unfolding(crate::specs::Datagrams::udp_datagram))]
 fn put_udp(target: &mut [u8], flow: &Flow, payload: &[u8])
     requires room { length target.old ≡ 28 + length payload.now }
-    requires short { length target.old ≤ 65535 }
+    requires short { length target.old ≤ LONGEST_DATAGRAM }
     ensures { target.new ≡ udp_datagram flow.now payload.now }
 {
     let total = target.len() as u16;

@@ -2,10 +2,11 @@
 ghost use Rattle.std.specs.Prelude.{◌≡◌, ◌<◌};
 ghost use Rattle.gate_workload.specs.Draws.{next_random, drawn};
 
-/// The factor and the addend of the generator.
-const FACTOR: u64 = 6_364_136_223_846_793_005;
+/// The factor of the generator.
+pub const FACTOR: u64 = 6_364_136_223_846_793_005;
 
-const ADDEND: u64 = 1_442_695_040_888_963_407;
+/// The addend of the generator.
+pub const ADDEND: u64 = 1_442_695_040_888_963_407;
 
 /// The state that follows a state.
 pub(crate) fn next_random(state: u64) -> u64

@@ -3,21 +3,21 @@ ghost use Rattle.std.specs.Prelude.{◌≡◌, ◌≤◌, ◌<◌, ◌^◌, leng
 ghost use Rattle.gate_workload.specs.Payloads as payloads;
 
 use crate::flow::Flow;
-use gate_base::{Addr, OutOfMemory, put_u32};
+use gate_base::{Addr, CONTROL_PORT, DNS_PORT, OutOfMemory, put_u32};
 use itoa::Buffer;
 use std::alloc::Global;
 
 /// The host 10.0.0.5, which each realm has.
-const HOST: Addr = Addr(0x0a00_0005);
+pub const HOST: Addr = Addr(0x0a00_0005);
 
 /// The right host as the left one knows it: 192.168.200.1.
-const RIGHT_HOST_ALIAS: Addr = Addr(0xc0a8_c801);
+pub const RIGHT_HOST_ALIAS: Addr = Addr(0xc0a8_c801);
 
 /// The left host as the right one knows it: 172.16.9.1.
-const LEFT_HOST_ALIAS: Addr = Addr(0xac10_0901);
+pub const LEFT_HOST_ALIAS: Addr = Addr(0xac10_0901);
 
 /// The name server 10.0.0.53 of the right realm.
-const NAME_SERVER: Addr = Addr(0x0a00_0035);
+pub const NAME_SERVER: Addr = Addr(0x0a00_0035);
 
 /// The TCP option of a maximum segment size of 1460.
 pub(crate) const SEGMENT_SIZE: [u8; 4] = [2, 4, 0x05, 0xb4];
@@ -38,7 +38,7 @@ pub(crate) fn leftward(source_port: u16, destination_port: u16) -> Flow
 pub(crate) fn client_flow() -> Flow
     ensures { result ≡ payloads.client_flow }
 {
-    leftward(40_000, 21)
+    leftward(40_000, CONTROL_PORT)
 }
 
 /// The server's segments, on the right.
@@ -47,7 +47,7 @@ pub(crate) fn server_flow() -> Flow
 {
     Flow {
         source: HOST,
-        source_port: 21,
+        source_port: CONTROL_PORT,
         destination: LEFT_HOST_ALIAS,
         destination_port: 40_000,
     }
@@ -66,7 +66,7 @@ pub(crate) fn names_flow() -> Flow
 {
     Flow {
         source: NAME_SERVER,
-        source_port: 53,
+        source_port: DNS_PORT,
         destination: LEFT_HOST_ALIAS,
         destination_port: 4000,
     }

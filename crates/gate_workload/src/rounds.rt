@@ -12,20 +12,22 @@ use crate::payload::{
     SEGMENT_SIZE, client_flow, leftward, names, names_flow, plain_flow, port_line, server_flow,
     trap,
 };
-use gate_base::OutOfMemory;
+use gate_base::{OutOfMemory, SNMP_PORT, TRAP_PORT};
 use itoa::Buffer;
 use std::alloc::Global;
 use std::marker::Model;
 
-/// The flags of TCP (RFC 9293, 3.1).
-const SYN: u8 = 2;
+/// The octet of flags of TCP that has SYN alone (RFC 9293, 3.1).
+pub const SYN: u8 = 2;
 
-const PSH: u8 = 8;
+/// The octet of flags that has PSH alone.
+pub const PSH: u8 = 8;
 
-const ACK: u8 = 16;
+/// The octet of flags that has ACK alone.
+pub const ACK: u8 = 16;
 
 /// The first address of the block from which the name server answers, 10.1.0.1.
-const FIRST_NAMED: u32 = 0x0a01_0001;
+pub const FIRST_NAMED: u32 = 0x0a01_0001;
 
 /// By how many octets the image of the client's line is longer than the line.
 const GROWTH: u32 = 2;
@@ -271,7 +273,7 @@ impl Making {
         ensures state { OnOk result (self.new ≡ spec.trap_round self.old) }
         ensures frames { OnOk result (self.new.frames ≤ self.old.frames + 2) }
     {
-        self.left_udp(&leftward(161, 162), &trap())
+        self.left_udp(&leftward(SNMP_PORT, TRAP_PORT), &trap())
     }
 
     /// Round `k` of a kind from 0 to 3.

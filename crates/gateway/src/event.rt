@@ -1,6 +1,7 @@
 // One frame: it is judged, and what it gives is written.
 ghost use Rattle.std.specs.Prelude.{◌≡◌, ◌<◌, ◌≤◌, ◌^◌, ◌++◌, [], ◌∷◌, length, IfSome, IsSome};
 ghost use Rattle.gate_base.specs.Prelude.{IsMoment, event_of};
+ghost use Rattle.gate_base.specs.declared.protocol.TheConstants.{LONGEST_DATAGRAM};
 ghost use Rattle.gate_desk.specs.declared.slot.Slot.TheVariants.{LeftOut, RightOut, Report};
 ghost use Rattle.gate_desk.specs.Outside.{CanWrite};
 ghost use Rattle.frag_join.specs.Prelude.{Reaches, Stopped, arrival, joiner_after, joined_in, by_known};
@@ -44,7 +45,7 @@ fn write_frame<D: Desk>(
     requires right { CanWrite (D.outside desk.old) RightOut }
     requires early { IsMoment moment.0 }
     requires head { length head.now ≤ HEAD }
-    requires short { length datagram.now ≤ 65535 }
+    requires short { length datagram.now ≤ LONGEST_DATAGRAM }
     ensures { WritesPieces result
         (frame_piece side moment.0 (head.now ++ datagram.now) ∷ [])
         (D.outside desk.old) (D.outside desk.new) }
@@ -76,7 +77,7 @@ fn send<D: Desk>(
     requires left { CanWrite (D.outside desk.old) LeftOut }
     requires right { CanWrite (D.outside desk.old) RightOut }
     requires early { IsMoment moment.0 }
-    requires short { length datagram.now ≤ 65535 }
+    requires short { length datagram.now ≤ LONGEST_DATAGRAM }
     ensures { WritesPieces result
         (sent settings.now side moment.0 (datagram.now ∷ [])) (D.outside desk.old)
         (D.outside desk.new) }

@@ -1,5 +1,6 @@
 // A run over a workload in memory.
 ghost use Rattle.std.specs.Prelude.{◌≡◌, ◌≤◌, MatchResult};
+ghost use Rattle.run_setup.specs.declared.command.TheConstants.{MOST_ROUNDS};
 ghost use Rattle.gateway.specs.Making.{IsMake, IsLineOf};
 
 use crate::report::put_line;
@@ -24,7 +25,7 @@ const NAMES: FileNames<'static> = FileNames {
 /// Runs over the workload of a number with so many rounds, throws its outputs away, and answers the last line of its report.
 /// Nothing but memory can be wanting.
 fn rehearse(alloc: Global, number: u32, count: u32) -> Result<Line, Status>
-    requires { count ≤ 100000 }
+    requires { count ≤ MOST_ROUNDS }
     ensures { MatchResult result (λ line. IsLineOf line number count)
         (λ status. status ≡ Status.OutOfMemory) }
 {
@@ -45,7 +46,7 @@ fn rehearse(alloc: Global, number: u32, count: u32) -> Result<Line, Status>
 
 /// Runs over the workload of a number with so many rounds, and writes the last line of its report as text.
 pub fn make<D: Desk>(alloc: Global, desk: &mut D, number: u32, count: u32, report: &str) -> Status
-    requires { count ≤ 100000 }
+    requires { count ≤ MOST_ROUNDS }
     ensures { IsMake result number count report.now (D.outside desk.old)
         (D.outside desk.new) }
 {

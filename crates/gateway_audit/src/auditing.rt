@@ -23,14 +23,14 @@ pub fn audit<D: Desk>(alloc: Global, desk: &mut D, names: AuditNames<'_>) -> Sta
         (D.outside desk.new) }
     ensures taken { TookForEvents (D.outside desk.old) (D.outside desk.new) }
 {
-    match judge(alloc, desk, names) {
+    match audit_files(alloc, desk, names) {
         Ok(verdict) => write_verdict(desk, verdict),
         Err(status) => status,
     }
 }
 
 /// What an audit of these files finds. All slots are started then.
-fn judge<D: Desk>(
+fn audit_files<D: Desk>(
     alloc: Global,
     desk: &mut D,
     names: AuditNames<'_>,

@@ -3,6 +3,7 @@
 
 ghost use Rattle.std.specs.Prelude.{◌≡◌, ◌==◌, ◌+◌, ◌*◌, ◌/◌, ◌%◌, ◌^◌, ◌<◌, ◌≤◌, ◌++◌, length, IsPermutation};
 ghost use Rattle.gate_base.specs.Prelude.{u16_at, with_u16};
+ghost use Rattle.gate_base.specs.declared.protocol.TheConstants.{LONGEST_DATAGRAM};
 ghost use Rattle.inet_sum.specs.Sum.{words, total, fold_of, checksum, IsRight, is_right, pseudo_header};
 
 use byteorder::{ByteOrder, LittleEndian};
@@ -24,7 +25,7 @@ pub fn sum(octets: &[u8]) -> u16
 /// There are at most 65,535 octets, so that their number fits its field.
 #[inline(always)]
 pub fn pseudo_sum(source: Addr, destination: Addr, protocol: u8, octets: &[u8]) -> u16
-    requires { length octets.now ≤ 65535 }
+    requires { length octets.now ≤ LONGEST_DATAGRAM }
     ensures value { result
         ≡ checksum (pseudo_header source.0 destination.0 protocol (length octets.now)
         ++ octets.now) }
@@ -48,7 +49,7 @@ pub fn moved_sum(
 ) -> u16
     requires even { place % 2 ≡ 0 }
     requires within { place + 2 ≤ length segment.now }
-    requires short { length segment.now ≤ 65535 }
+    requires short { length segment.now ≤ LONGEST_DATAGRAM }
     requires right { IsRight (pseudo_header from.0.0 from.1.0 protocol
         (length segment.now) ++ segment.now) }
     ensures { let empty = with_u16 place 0 segment.now in

@@ -1,38 +1,10 @@
 -- Worked cases, computed: whole files, and the first reason against them.
 use Rattle.std.proofs.Common.{◌≡◌, ℕ, true, List, [], ◌∷◌, ◌++◌, Option, Some, None, refl, map, codes, take}
+use Rattle.std.specs.Prelude.{⊤}
 use Rattle.gate_base.specs.declared.side.Side.TheVariants.{Left, Right}
 use Rattle.gate_settings.specs.declared.settings.ReportForm.TheVariants.{Json}
 use Rattle.gate_settings.specs.declared.settings.Settings.{Settings}
-use Rattle.ether_frames.specs.Ether.{read_frame}
-use Rattle.inet_sum.specs.Sum.{words, fold_of}
-use Rattle.ipv4_frames.specs.Ipv4.{read_datagram, head_with}
-use Rattle.udp_icmp.specs.Icmp.{sealed_icmp}
-use Rattle.udp_icmp.specs.Udp.{sealed_udp}
-use Rattle.tcp_segments.specs.Options.{options_within}
-use Rattle.tcp_segments.specs.Tcp.{sealed_tcp, tcp_header_with}
-use Rattle.twice_translate.specs.Renamed.{sealed_payload, renamed}
-use Rattle.gate_base.specs.Address.{number_of}
-use Rattle.binding_table.specs.Bindings.{cross}
-use Rattle.gate_settings.specs.Cross.{block_end}
-use Rattle.icmp_errors.specs.Inner.{inner_with}
-use Rattle.dns_names.specs.Names.{piece_at}
-use Rattle.dns_names.specs.Inside.Octets.{reverse_in}
-use Rattle.dns_names.specs.Reverse.{full_reverse}
-use Rattle.dns_names.specs.Spelling.{spell}
-use Rattle.dns_names.specs.Walk.{name_at}
-use Rattle.dns_messages.specs.Reading.{content_by, resource_at, resources_at, question_at, questions_at, message_at}
-use Rattle.dns_messages.specs.Writing.{spelling}
-use Rattle.snmp_gateway.specs.Element.{element_at}
-use Rattle.snmp_gateway.specs.Message.{binding, bindings_within, outline_of, message}
-use Rattle.snmp_gateway.specs.Parts.{first_of, skip}
-use Rattle.snmp_oids.specs.Arcs.{numbers_from}
-use Rattle.snmp_oids.specs.Elements.{elements_within}
-use Rattle.dns_stream.specs.Images.{renamed as unit_renamed}
-use Rattle.ftp_lines.specs.Numbers.{number, four, six}
-use Rattle.ftp_lines.specs.Grammar.{port, eprt, delimited, passive, client_text, server_text}
-use Rattle.ftp_lines.specs.Renaming.{spelled}
-use Rattle.std.specs.Fmt.{digits}
-use Rattle.gate_model.specs.Verdict.{verdict}
+use Rattle.ipv4_frames.specs.Ipv4.{read_datagram}
 use Rattle.gate_base.specs.Refusal.{name_of as refusal_name}
 use Rattle.gate_base.specs.declared.side.Link.TheVariants.{Ethernet, Raw}
 use Rattle.gate_report.specs.Lines.{event_text, event_json, done_text, done_json}
@@ -42,10 +14,17 @@ use Rattle.pcap_files.specs.Spelling.{record_octets}
 use Rattle.pcap_merge.specs.Prelude.{Merged}
 use Rattle.pcap_merge.specs.Events.{up_to as merge_up_to, merge_from, events_of}
 use Rattle.frag_join.specs.Arrivals.{arrivals_from}
+use Rattle.gate_model.proofs.OnLiterals.{frames_on_literals}
 use Rattle.gate_model.proofs.RowWords.{hex, fixed, pool, set}
 use Rattle.lawful_files.specs.declared.reason.AuditReason.{AuditReason}
 use Rattle.lawful_files.specs.declared.reason.AuditReason.TheVariants.{Capture, Line, Missing, Frame, Left as SomethingLeft}
 use Rattle.lawful_files.specs.Judging.{reason_from, reason_against}
+
+-- what a row unfolds to compute the files
+unfoldable files_on_literals : ⊤
+unfolding frames_on_literals refusal_name event_text event_json done_text done_json capture_of head_of next_at up_to records_from record_octets
+    merge_up_to merge_from events_of arrivals_from read_datagram reason_from
+files_on_literals = tt
 
 abbrev row_settings : Settings
 row_settings =
@@ -118,11 +97,7 @@ one_rows =
     ∷ []
 
 one_holds : found row_settings one_datagram one_rows ≡ told one_rows
-unfolding read_frame words fold_of head_with sealed_icmp sealed_udp options_within sealed_tcp tcp_header_with sealed_payload renamed number_of cross
-    block_end inner_with piece_at reverse_in full_reverse spell name_at content_by resource_at resources_at question_at questions_at message_at
-    spelling element_at binding bindings_within outline_of message first_of skip numbers_from elements_within unit_renamed number four six port eprt
-    delimited passive client_text server_text spelled digits verdict refusal_name event_text event_json done_text done_json capture_of head_of next_at
-    up_to records_from record_octets merge_up_to merge_from events_of arrivals_from read_datagram reason_from
+unfolding files_on_literals
 one_holds = refl
 
 -- the report as JSON, where the settings ask for it
@@ -137,11 +112,7 @@ json_rows =
     ∷ []
 
 json_holds : found json_settings one_datagram json_rows ≡ told json_rows
-unfolding read_frame words fold_of head_with sealed_icmp sealed_udp options_within sealed_tcp tcp_header_with sealed_payload renamed number_of cross
-    block_end inner_with piece_at reverse_in full_reverse spell name_at content_by resource_at resources_at question_at questions_at message_at
-    spelling element_at binding bindings_within outline_of message first_of skip numbers_from elements_within unit_renamed number four six port eprt
-    delimited passive client_text server_text spelled digits verdict refusal_name event_text event_json done_text done_json capture_of head_of next_at
-    up_to records_from record_octets merge_up_to merge_from events_of arrivals_from read_datagram reason_from
+unfolding files_on_literals
 json_holds = refl
 
 -- on an Ethernet link behind a head, without padding
@@ -163,11 +134,7 @@ ethernet_holds : found ethernet_settings
     (head_octets Ethernet ++ record_octets 1000000000
     (hex 60 0x02000000000102000000000208004500001e000140004011a81f0a000005c0a8c8010fa01388000ae199686900000000000000000000000000000000))
     (head_octets Raw)) ethernet_rows ≡ told ethernet_rows
-unfolding read_frame words fold_of head_with sealed_icmp sealed_udp options_within sealed_tcp tcp_header_with sealed_payload renamed number_of cross
-    block_end inner_with piece_at reverse_in full_reverse spell name_at content_by resource_at resources_at question_at questions_at message_at
-    spelling element_at binding bindings_within outline_of message first_of skip numbers_from elements_within unit_renamed number four six port eprt
-    delimited passive client_text server_text spelled digits verdict refusal_name event_text event_json done_text done_json capture_of head_of next_at
-    up_to records_from record_octets merge_up_to merge_from events_of arrivals_from read_datagram reason_from
+unfolding files_on_literals
 ethernet_holds = refl
 
 -- 100 octets of a session go out in pieces of at most 88
@@ -218,11 +185,7 @@ cut_rows =
     ∷ []
 
 cut_holds : found row_settings cut_octets cut_rows ≡ told cut_rows
-unfolding read_frame words fold_of head_with sealed_icmp sealed_udp options_within sealed_tcp tcp_header_with sealed_payload renamed number_of cross
-    block_end inner_with piece_at reverse_in full_reverse spell name_at content_by resource_at resources_at question_at questions_at message_at
-    spelling element_at binding bindings_within outline_of message first_of skip numbers_from elements_within unit_renamed number four six port eprt
-    delimited passive client_text server_text spelled digits verdict refusal_name event_text event_json done_text done_json capture_of head_of next_at
-    up_to records_from record_octets merge_up_to merge_from events_of arrivals_from read_datagram reason_from
+unfolding files_on_literals
 cut_holds = refl
 
 -- a line in three parts, without the record of the fifth event
@@ -267,11 +230,7 @@ line_holds : found row_settings (events_of (head_octets Raw
     ++ record_octets 6000000000 (hex 50 0x45000032000240004006a8150a000005c0a8c8019c400015000003f200001389501820008b6e00002c302c352c342c310d0a))
     (head_octets Raw ++ record_octets 2000000000 (hex 44 0x4500002c0002400040067bb40a000005ac10090100159c4000001388000003e960122000053a0000020405b4)))
     line_rows ≡ told line_rows
-unfolding read_frame words fold_of head_with sealed_icmp sealed_udp options_within sealed_tcp tcp_header_with sealed_payload renamed number_of cross
-    block_end inner_with piece_at reverse_in full_reverse spell name_at content_by resource_at resources_at question_at questions_at message_at
-    spelling element_at binding bindings_within outline_of message first_of skip numbers_from elements_within unit_renamed number four six port eprt
-    delimited passive client_text server_text spelled digits verdict refusal_name event_text event_json done_text done_json capture_of head_of next_at
-    up_to records_from record_octets merge_up_to merge_from events_of arrivals_from read_datagram reason_from
+unfolding files_on_literals
 line_holds = refl
 
 -- a frame that is refused has a line and no record
@@ -284,11 +243,7 @@ refused_holds : found row_settings (events_of (head_octets Raw
     ++ record_octets 1000000000 (hex 30 0x4500001e000140000111e71f0a000005c0a8c8010fa01388000ae1996869)
     ++ record_octets 2000000000 (hex 30 0x4500001e000140004011a81f0a000005c0a8c8010fa01388000ae1996869)) (head_octets Raw)) refused_rows ≡ told
     refused_rows
-unfolding read_frame words fold_of head_with sealed_icmp sealed_udp options_within sealed_tcp tcp_header_with sealed_payload renamed number_of cross
-    block_end inner_with piece_at reverse_in full_reverse spell name_at content_by resource_at resources_at question_at questions_at message_at
-    spelling element_at binding bindings_within outline_of message first_of skip numbers_from elements_within unit_renamed number four six port eprt
-    delimited passive client_text server_text spelled digits verdict refusal_name event_text event_json done_text done_json capture_of head_of next_at
-    up_to records_from record_octets merge_up_to merge_from events_of arrivals_from read_datagram reason_from
+unfolding files_on_literals
 refused_holds = refl
 
 -- where an incoming capture is faulty behind its events, nothing is asked behind them
@@ -302,11 +257,7 @@ faulty_holds : found row_settings
     (events_of
     (head_octets Raw ++ record_octets 1000000000 (hex 30 0x4500001e000140004011a81f0a000005c0a8c8010fa01388000ae1996869) ++ (hex 1 0x00)) head)
     faulty_rows ≡ told faulty_rows
-unfolding read_frame words fold_of head_with sealed_icmp sealed_udp options_within sealed_tcp tcp_header_with sealed_payload renamed number_of cross
-    block_end inner_with piece_at reverse_in full_reverse spell name_at content_by resource_at resources_at question_at questions_at message_at
-    spelling element_at binding bindings_within outline_of message first_of skip numbers_from elements_within unit_renamed number four six port eprt
-    delimited passive client_text server_text spelled digits verdict refusal_name event_text event_json done_text done_json capture_of head_of next_at
-    up_to records_from record_octets merge_up_to merge_from events_of arrivals_from read_datagram reason_from
+unfolding files_on_literals
 faulty_holds = refl
 
 -- fragments are joined: one is held, one refused before the gate, and with the last the datagram passes
@@ -319,9 +270,5 @@ joined_holds : found (record row_settings { join = true }) (events_of (head_octe
     ++ record_octets 1000000000 (hex 22 0x45000016000100014011e8260a000005c0a8c8016869)
     ++ record_octets 1000000000 (hex 22 0x45000016000100014011e8260a000005c0a8c8016868)
     ++ record_octets 2000000000 (hex 28 0x4500001c000120004011c8210a000005c0a8c8010fa01388000ae199)) (head_octets Raw)) joined_rows ≡ told joined_rows
-unfolding read_frame words fold_of head_with sealed_icmp sealed_udp options_within sealed_tcp tcp_header_with sealed_payload renamed number_of cross
-    block_end inner_with piece_at reverse_in full_reverse spell name_at content_by resource_at resources_at question_at questions_at message_at
-    spelling element_at binding bindings_within outline_of message first_of skip numbers_from elements_within unit_renamed number four six port eprt
-    delimited passive client_text server_text spelled digits verdict refusal_name event_text event_json done_text done_json capture_of head_of next_at
-    up_to records_from record_octets merge_up_to merge_from events_of arrivals_from read_datagram reason_from
+unfolding files_on_literals
 joined_holds = refl

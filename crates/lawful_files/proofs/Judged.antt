@@ -13,13 +13,13 @@ use Rattle.gate_base.specs.declared.side.Link.{Link}
 use Rattle.gate_base.specs.declared.side.Link.TheVariants.{Ethernet, Raw}
 use Rattle.gate_base.specs.declared.side.Side.{Side}
 use Rattle.gate_base.specs.declared.side.Side.TheVariants as sides
-use Rattle.gate_settings.specs.Prelude.{side_settings}
+use Rattle.gate_settings.specs.Prelude.{HaveMacAddresses}
 use Rattle.gate_settings.specs.declared.settings.Settings.{Settings}
 use Rattle.pcap_files.specs.Prelude.{Packet, Records, Ending as CaptureEnding, Whole, Fault as CaptureEndsFaulty, Head, Good, Bad, head_of}
 use Rattle.pcap_merge.specs.Prelude.{Ending, Done, Fault}
 use Rattle.lawful_files.specs.declared.reason.AuditReason.{AuditReason}
 use Rattle.lawful_files.specs.declared.reason.AuditReason.TheVariants.{Capture, Line, Missing, Frame, Left}
-use Rattle.lawful_files.specs.Files.{Given, given_at, given_of, State, opening, after, line_of, last_line, record_of, HasLink, HaveMacAddresses, HasMacAddresses, IsLawfulAt, IsAtLast, LawfulFrom, Lawful}
+use Rattle.lawful_files.specs.Files.{Given, given_at, given_of, State, opening, after, line_of, last_line, record_of, HasLink, IsLawfulAt, IsAtLast, LawfulFrom, Lawful}
 use Rattle.lawful_files.specs.Judging.{AllOctets, digits_in, before_number, frames_told, goes_on_with, same_link, has_link_by, has_link, is_whole, is_used_up, without_first, behind_records, is_at_last, at_event, reason_from, reason_of}
 use Rattle.lawful_files.specs.Wanted.{event_in, verdict_of, wanted_of}
 use Rattle.lawful_files.specs.Progress.{IsSound, AreLawful, behind_all, is_closed}
@@ -84,10 +84,6 @@ report_behind : (side : Side) (n : ℕ) (rest : List ℕ) (g : Given) → (behin
 report_behind sides.Left n rest g = refl
 report_behind sides.Right n rest g = refl
 
-pub addresses_of : (settings : Settings) (side : Side) → HaveMacAddresses settings → HasMacAddresses (side_settings settings side)
-addresses_of settings sides.Left h = h.left
-addresses_of settings sides.Right h = h.right
-
 sound_first : (k : State) (f : Arrival) (fs : List Arrival) → AllOctets (f ∷ fs) → IsSound (wanted_of k.world f)
 sound_first k (Reaches e) fs h = wanted_sound k.world e h.0
 sound_first k (Stopped e v) fs h = tt
@@ -151,7 +147,7 @@ not_lawful settings k f g n rest addresses sound line wrong next at =
     let to = other (event_in f).side in
     let same = line_same settings k f (length at.list) n next.report rest at.few line.0 (sym at.line ∙ line.1) in
     true≢false
-    (sym (whole_is_closed settings to (event_in f).moment (addresses_of settings to addresses) (wanted_of k.world f)
+    (sym (whole_is_closed settings to (event_in f).moment (addresses to) (wanted_of k.world f)
     (take n (given_at to g).packets) sound (are_lawful settings k f g next n at same.number)) ∙ wrong)
 
 -- ## The end
@@ -237,7 +233,7 @@ judged_event settings k f fs ending g n later addresses sound told h =
         let line = goes_on settings k f g n e in
         let to = other (event_in f).side in
         let lawful =
-        closed_is_lawful settings to (event_in f).moment (addresses_of settings to addresses) (wanted_of k.world f)
+        closed_is_lawful settings to (event_in f).moment (addresses to) (wanted_of k.world f)
         (take n (given_at to g).packets) sound c in
         goes_further settings k f fs ending g n (taken settings k f g n line.0 line.1 (ltb-false (there_for f g) n m) lawful) later h
 

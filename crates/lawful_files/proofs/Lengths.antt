@@ -4,6 +4,7 @@ use Rattle.byteorder.specs.Endian.{big_bytes}
 use Rattle.ether_frames.specs.Ether.{framed_on}
 use Rattle.gate_base.specs.declared.side.Link.{Link}
 use Rattle.gate_base.specs.declared.side.Link.TheVariants.{Ethernet, Raw}
+use Rattle.gate_settings.specs.Prelude.{HasMacAddresses}
 use Rattle.gate_settings.specs.declared.settings.SideSettings.{SideSettings}
 use Rattle.ipv4_frames.specs.Ipv4.{Datagram, spelled_head}
 use Rattle.ipv4_frames.proofs.Heads.{head_long}
@@ -11,7 +12,6 @@ use Rattle.stream_model.specs.Prelude.{Outgoing}
 use Rattle.tcp_segments.specs.Prelude.{flags_octet, spelled_segment}
 use Rattle.tcp_segments.proofs.Written.{segment_long}
 use Rattle.gate_model.specs.Prelude.{tcp_of, sent_as}
-use Rattle.lawful_files.specs.Files.{HasMacAddresses}
 use Rattle.lawful_files.specs.Progress.{HasHeads, head_length}
 
 pub sent_long : (d : Datagram) (source destination : ℕ) (o : Outgoing) → HasHeads d

@@ -6,7 +6,7 @@ use Rattle.std.proofs.lemmas.List.{take_at, drop_at, drop_all, drop_more, drop-d
 use Rattle.std.proofs.lemmas.List.Sums.{fold-append}
 use Rattle.std.proofs.lemmas.Slice.Eq.{bytes_eq-Decides}
 use Rattle.gate_base.specs.declared.side.Side.{Side}
-use Rattle.gate_settings.specs.Prelude.{side_settings}
+use Rattle.gate_settings.specs.Prelude.{HasMacAddresses, side_settings}
 use Rattle.gate_settings.specs.declared.settings.Settings.{Settings}
 use Rattle.ipv4_frames.specs.Ipv4.{Datagram}
 use Rattle.pcap_files.specs.Prelude.{Packet}
@@ -14,7 +14,7 @@ use Rattle.stream_model.specs.Prelude.{Outgoing, Piece, pieces, Sent, ArePieces,
 use Rattle.gate_model.specs.Prelude.{sent_as}
 use Rattle.stream_model.specs.Cuts.{IsPiece}
 use Rattle.lawful_files.specs.Wanted.{Wanted, Exactly, Cut}
-use Rattle.lawful_files.specs.Files.{record_of, HasMacAddresses}
+use Rattle.lawful_files.specs.Files.{record_of}
 use Rattle.lawful_files.specs.Progress.{Progress, HasHeads, IsSound, begun, before_octets, is_record, piece_behind, carries_piece, is_next_piece, is_alone, is_right, behind, is_closed, AreLawful, behind_all, AreFront}
 use Rattle.lawful_files.proofs.Lengths.{sent_long, framed_long}
 use Rattle.stream_model.proofs.Ways.{cut_lawful}

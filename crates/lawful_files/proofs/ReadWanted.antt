@@ -8,7 +8,9 @@ use Rattle.gate_base.specs.declared.side.Side.{Side}
 use Rattle.binding_table.specs.Prelude.{Bindings}
 use Rattle.icmp_errors.specs.Inner.{inner_fields}
 use Rattle.ipv4_frames.specs.Ipv4.{Datagram}
-use Rattle.gate_model.specs.Prelude.{Whole, Kind, Udp, Echo, Error, Dns, Snmp, Stream, datagram_in, kind_of, inside, tracked_as, world_as, Reads, SessionRules, whole_rules, WholeSession, taker_in, segment_of, session_refusal, table_after, image_in, verdict, World, Tracked, at_moment, called, source_of, destination_of, host_on}
+use Rattle.gate_model.specs.Prelude.{Whole, Kind, Error, Stream, datagram_in, kind_of, inside, tracked_as, world_as, Reads, SessionRules, whole_rules}
+use Rattle.gate_model.specs.Prelude.{WholeSession, taker_in, segment_of, session_refusal, table_after, image_in, verdict, World, Tracked, at_moment}
+use Rattle.gate_model.specs.Prelude.{called, source_of, destination_of, host_on}
 use Rattle.gate_model.proofs.Passing.{Passes, passes, stream_passes}
 use Rattle.gate_model.proofs.ReadWorlds.{table_as, image_as, taker_as, inner_number_as, moment_as, verdict_as}
 use Rattle.lawful_files.specs.Wanted.{Wanted, Cut, Sends, SendAlike, whole_sent, wanted_segment, wanted_kind, wanted_by, wanted, wanted_in}
@@ -36,11 +38,8 @@ module _ {S : Type 0} (h : S → WholeSession) (rules : SessionRules S) (sends :
       ∙ ap (to table image) (taker_as h rules whole_rules reads live side moment d)
       ∙ segment_as image side d (called table side (source_of d)).0 (called table side (destination_of d)).0 (taker_in rules live side moment d)
       (stream_passes rules live side moment d p.content).taken
-  kind_as live side moment d (Whole Udp) p = refl
-  kind_as live side moment d (Whole Echo) p = refl
-  kind_as live side moment d (Whole Dns) p = refl
-  kind_as live side moment d (Whole Snmp) p = refl
   kind_as live side moment d (Whole Error) p = rw (inner_number_as h rules whole_rules reads live side (inner_fields (inside d))) refl
+  kind_as live side moment d (Whole _) p = refl
 
   pub wanted_as : (w : World S) (e : Event) → wanted (world_as h w) e ≡ wanted_in rules sends w e
   wanted_as w e =

@@ -3,39 +3,10 @@ use Rattle.std.proofs.Common.{◌≡◌, Bool, true, false, List, [], ◌∷◌,
 use Rattle.gate_base.specs.declared.side.Link.TheVariants.{Raw}
 use Rattle.gate_base.specs.declared.side.Side.TheVariants.{Left, Right}
 use Rattle.gate_settings.specs.declared.settings.Settings.{Settings}
-use Rattle.ether_frames.specs.Ether.{read_frame}
-use Rattle.inet_sum.specs.Sum.{words, fold_of}
-use Rattle.ipv4_frames.specs.Ipv4.{head_with}
-use Rattle.udp_icmp.specs.Icmp.{sealed_icmp}
-use Rattle.udp_icmp.specs.Udp.{sealed_udp}
-use Rattle.tcp_segments.specs.Options.{options_within}
-use Rattle.tcp_segments.specs.Tcp.{sealed_tcp, tcp_header_with}
-use Rattle.twice_translate.specs.Renamed.{sealed_payload, renamed}
-use Rattle.gate_base.specs.Address.{number_of}
-use Rattle.binding_table.specs.Bindings.{cross}
-use Rattle.gate_settings.specs.Cross.{block_end}
-use Rattle.icmp_errors.specs.Inner.{inner_with}
-use Rattle.dns_names.specs.Names.{piece_at}
-use Rattle.dns_names.specs.Inside.Octets.{reverse_in}
-use Rattle.dns_names.specs.Reverse.{full_reverse}
-use Rattle.dns_names.specs.Spelling.{spell}
-use Rattle.dns_names.specs.Walk.{name_at}
-use Rattle.dns_messages.specs.Reading.{content_by, resource_at, resources_at, question_at, questions_at, message_at}
-use Rattle.dns_messages.specs.Writing.{spelling}
-use Rattle.snmp_gateway.specs.Element.{element_at}
-use Rattle.snmp_gateway.specs.Message.{binding, bindings_within, outline_of, message}
-use Rattle.snmp_gateway.specs.Parts.{first_of, skip}
-use Rattle.snmp_oids.specs.Arcs.{numbers_from}
-use Rattle.snmp_oids.specs.Elements.{elements_within}
-use Rattle.dns_stream.specs.Images.{renamed as unit_renamed}
-use Rattle.ftp_lines.specs.Numbers.{number, four, six}
-use Rattle.ftp_lines.specs.Grammar.{port, eprt, delimited, passive, client_text, server_text}
-use Rattle.ftp_lines.specs.Renaming.{spelled}
-use Rattle.std.specs.Fmt.{digits}
-use Rattle.gate_model.specs.Verdict.{verdict}
 use Rattle.gate_base.specs.Prelude.{Event, other}
 use Rattle.pcap_files.specs.Prelude.{Packet}
 use Rattle.gate_model.specs.Prelude.{whole_rules, next, opening_world}
+use Rattle.gate_model.proofs.OnLiterals.{frames_on_literals}
 use Rattle.gate_model.proofs.RowWords.{hex, fixed, pool, set, event}
 use Rattle.lawful_files.specs.Wanted.{Wanted, wanted}
 use Rattle.lawful_files.specs.Progress.{Progress, behind_all, is_closed}
@@ -140,10 +111,7 @@ pushed_rows =
     ∷ []
 
 pushed_holds : found opened pushed pushed_rows ≡ told pushed_rows
-unfolding read_frame words fold_of head_with sealed_icmp sealed_udp options_within sealed_tcp tcp_header_with sealed_payload renamed number_of cross
-    block_end inner_with piece_at reverse_in full_reverse spell name_at content_by resource_at resources_at question_at questions_at message_at
-    spelling element_at binding bindings_within outline_of message first_of skip numbers_from elements_within unit_renamed number four six port eprt
-    delimited passive client_text server_text spelled digits verdict
+unfolding frames_on_literals
 pushed_holds = refl
 
 -- 100 octets with FIN
@@ -165,10 +133,7 @@ ended_rows =
     ∷ []
 
 ended_holds : found opened ended ended_rows ≡ told ended_rows
-unfolding read_frame words fold_of head_with sealed_icmp sealed_udp options_within sealed_tcp tcp_header_with sealed_payload renamed number_of cross
-    block_end inner_with piece_at reverse_in full_reverse spell name_at content_by resource_at resources_at question_at questions_at message_at
-    spelling element_at binding bindings_within outline_of message first_of skip numbers_from elements_within unit_renamed number four six port eprt
-    delimited passive client_text server_text spelled digits verdict
+unfolding frames_on_literals
 ended_holds = refl
 
 -- an acknowledgement alone goes out once
@@ -189,10 +154,7 @@ bare_rows =
 bare_holds : found (event Left 1000000000 Raw true (hex 44 0x4500002c000240004006a81b0a000005c0a8c8019c400015000003e80000000060022000453a0000020405b4)
     ∷ event Right 2000000000 Raw true (hex 44 0x4500002c0002400040067bb40a000005ac10090100159c4000001388000003e9601220000a96000002040058) ∷ []) bare
     bare_rows ≡ told bare_rows
-unfolding read_frame words fold_of head_with sealed_icmp sealed_udp options_within sealed_tcp tcp_header_with sealed_payload renamed number_of cross
-    block_end inner_with piece_at reverse_in full_reverse spell name_at content_by resource_at resources_at question_at questions_at message_at
-    spelling element_at binding bindings_within outline_of message first_of skip numbers_from elements_within unit_renamed number four six port eprt
-    delimited passive client_text server_text spelled digits verdict
+unfolding frames_on_literals
 bare_holds = refl
 
 -- a message of DNS over TCP goes out with its addresses renamed, among them one that it names first, and may be cut too
@@ -223,8 +185,5 @@ answered_rows = (
 ) ∷ []
 
 answered_holds : found asked answered answered_rows ≡ told answered_rows
-unfolding read_frame words fold_of head_with sealed_icmp sealed_udp options_within sealed_tcp tcp_header_with sealed_payload renamed number_of cross
-    block_end inner_with piece_at reverse_in full_reverse spell name_at content_by resource_at resources_at question_at questions_at message_at
-    spelling element_at binding bindings_within outline_of message first_of skip numbers_from elements_within unit_renamed number four six port eprt
-    delimited passive client_text server_text spelled digits verdict
+unfolding frames_on_literals
 answered_holds = refl

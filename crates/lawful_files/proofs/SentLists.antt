@@ -3,7 +3,8 @@ use Rattle.std.proofs.Common.{◌≤◌, ◌<◌, ◌-◌, ℕ, Bool, true, fals
 use Rattle.std.proofs.lemmas.Bool.{cases_lt}
 use Rattle.std.proofs.lemmas.List.{get_or_past}
 use Rattle.std.proofs.lemmas.List.Elements.{All-take, All-drop, All-nil}
-use Rattle.ether_frames.specs.Ether.{octets_in, read_frame, fields_of, carried, ipv4_type}
+use Rattle.ether_frames.specs.Ether.{octets_in, read_frame, fields_of, carried}
+use Rattle.ether_frames.specs.declared.head.TheConstants.{IPV4}
 use Rattle.gate_base.specs.Prelude.{Event}
 use Rattle.gate_base.specs.declared.event.Verdict.{Verdict}
 use Rattle.gate_base.specs.declared.address.Addr.{Addr}
@@ -40,7 +41,7 @@ carried_octets octets h = by_test (nat_lt (length octets) 14)
 
     by_test : (short : Bool) → AreOctets (carried (cond short None (Some (fields_of octets))))
     by_test true = All-nil (λ octet. octet < 256)
-    by_test false = by_kind ((fields_of octets).kind == ipv4_type)
+    by_test false = by_kind ((fields_of octets).kind == IPV4)
 
 pub in_octets : (link : Link) (octets : List ℕ) → AreOctets octets → AreOctets (octets_in link octets)
 in_octets Raw octets h = h

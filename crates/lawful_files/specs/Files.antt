@@ -11,7 +11,6 @@ use Rattle.gate_report.specs.Lines.{line_octets, event_line}
 use Rattle.gate_report.specs.declared.totals.Totals.{Totals}
 use Rattle.gate_settings.specs.Prelude.{side_settings}
 use Rattle.gate_settings.specs.declared.settings.Settings.{Settings}
-use Rattle.gate_settings.specs.declared.settings.SideSettings.{SideSettings}
 use Rattle.pcap_files.specs.Prelude.{Packet, Records, Whole, Good, head_of, capture_of}
 use Rattle.pcap_files.specs.declared.form.Form.{Form}
 use Rattle.pcap_merge.specs.Prelude.{Merged, Ending, Done, Fault}
@@ -63,16 +62,6 @@ line_of settings s a frames =
 -- the last line
 abbrev pub last_line : Settings → State → List ℕ
 last_line settings s = line_octets settings.report (done_line s.totals s.world.pending)
-
--- both Ethernet addresses of a realm have six octets
-pub record HasMacAddresses (side : SideSettings) : Type 0 where
-  pub gateway : length side.gateway_mac ≡ 6
-  pub next : length side.next_mac ≡ 6
-
--- and of both realms
-pub record HaveMacAddresses (settings : Settings) : Type 0 where
-  pub left : HasMacAddresses settings.left
-  pub right : HasMacAddresses settings.right
 
 -- ## Lawful files
 

@@ -195,7 +195,7 @@ impl Desk for MemoryDesk {
         ensures exact { IsOk result }
         ensures counts { self.new.faults ≡ self.old.faults }
     {
-        Ok(self.left.at_mut(slot).take(buffer))
+        Ok(self.left.at_mut(slot).read(buffer))
     }
 
     /// Fails exactly where the octets of all slots would be more than 64 MiB.

@@ -1,4 +1,3 @@
-mod OnLiterals
 mod RowsEdges
 mod RowsFirst
 mod RowsFull

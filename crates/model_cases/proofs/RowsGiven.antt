@@ -11,20 +11,19 @@ use Rattle.gate_base.specs.declared.side.Side.{Side}
 use Rattle.gate_base.specs.declared.side.Side.TheVariants.{Left, Right}
 use Rattle.gate_settings.specs.declared.settings.Settings.{Settings}
 use Rattle.binding_table.specs.Prelude.{opening}
-use Rattle.binding_table.specs.Bindings.{cross}
 use Rattle.binding_table.specs.declared.binding.Binding.{Binding}
 use Rattle.dialogue.specs.Prelude.{Entry}
 use Rattle.dns_stream.specs.Prelude.{dns_units}
-use Rattle.dns_stream.specs.Images.{renamed}
 use Rattle.stream_model.specs.Prelude.{Session}
 use Rattle.tcp_tracker.specs.declared.connection.Connection.{Connection}
 use Rattle.gate_model.specs.Prelude.{Lists, whole_rules, WholeSession, Tracked, World, next, out}
 use Rattle.gate_model.specs.Verdict.{verdict}
 use Rattle.gate_model.proofs.RowWords.{hex, fixed, pool, set, event}
-use Rattle.model_cases.proofs.OnLiterals.{frames_on_literals}
+use Rattle.gate_model.proofs.OnLiterals.{frames_on_literals}
 
 abbrev settings : Settings
-settings = set [] (pool 0xc0a8c801 0xc0a8c8fe) (pool 0xac100901 0xac1009fe) (fixed Left 0x0a000005 0xac100901 ∷ fixed Right 0x0a000035 0xc0a8c835 ∷ [])
+settings = set [] (pool 0xc0a8c801 0xc0a8c8fe) (pool 0xac100901 0xac1009fe)
+    (fixed Left 0x0a000005 0xac100901 ∷ fixed Right 0x0a000035 0xc0a8c835 ∷ [])
 
 abbrev pair : Pair
 pair = record { client = record { 0 = 0x0a000005 }; client_alias = record { 0 = 0xac100901 }; server = record { 0 = 0x0a000035 }; server_alias = record { 0 = 0xc0a8c835 } }
@@ -59,29 +58,41 @@ world count = record {
   pending = 0;
 }
 
-one_more_fits : verdict whole_rules (world 255) (event Right 1000 Raw true (hex 88 0x450000580002400040067b580a000035ac10090100359c4100001389000003e950182000f3140000002e000181800000000200000000016100000100010000012c00040a000008016100000100010000012c00040a000008)) ≡ Pass
+one_more_fits : verdict whole_rules (world 255) (event Right 1000 Raw true
+    (hex 56 0x450000580002400040067b580a000035ac10090100359c4100001389000003e950182000f3140000002e0001818000000002000000000161
+    ++ hex 32 0x00000100010000012c00040a000008016100000100010000012c00040a000008)) ≡ Pass
 unfolding frames_on_literals
 one_more_fits = refl
 
-two_more_do_not : verdict whole_rules (world 255) (event Right 1000 Raw true (hex 88 0x450000580002400040067b580a000035ac10090100359c4100001389000003e950182000f3130000002e000181800000000200000000016100000100010000012c00040a000008016100000100010000012c00040a000009)) ≡ Refused RenamesFull
+two_more_do_not : verdict whole_rules (world 255) (event Right 1000 Raw true
+    (hex 56 0x450000580002400040067b580a000035ac10090100359c4100001389000003e950182000f3130000002e0001818000000002000000000161
+    ++ hex 32 0x00000100010000012c00040a000008016100000100010000012c00040a000009)) ≡ Refused RenamesFull
 unfolding frames_on_literals
 two_more_do_not = refl
 
-none_fits : verdict whole_rules (world 256) (event Right 1000 Raw true (hex 88 0x450000580002400040067b580a000035ac10090100359c4100001389000003e950182000f3140000002e000181800000000200000000016100000100010000012c00040a000008016100000100010000012c00040a000008)) ≡ Refused RenamesFull
+none_fits : verdict whole_rules (world 256) (event Right 1000 Raw true
+    (hex 56 0x450000580002400040067b580a000035ac10090100359c4100001389000003e950182000f3140000002e0001818000000002000000000161
+    ++ hex 32 0x00000100010000012c00040a000008016100000100010000012c00040a000008)) ≡ Refused RenamesFull
 unfolding frames_on_literals
 none_fits = refl
 
-two_more_fit : verdict whole_rules (world 254) (event Right 1000 Raw true (hex 88 0x450000580002400040067b580a000035ac10090100359c4100001389000003e950182000f3130000002e000181800000000200000000016100000100010000012c00040a000008016100000100010000012c00040a000009)) ≡ Pass
+two_more_fit : verdict whole_rules (world 254) (event Right 1000 Raw true
+    (hex 56 0x450000580002400040067b580a000035ac10090100359c4100001389000003e950182000f3130000002e0001818000000002000000000161
+    ++ hex 32 0x00000100010000012c00040a000008016100000100010000012c00040a000009)) ≡ Pass
 unfolding frames_on_literals
 two_more_fit = refl
 
 -- ## The tests of units in their order
 
-an_unbound_name : verdict whole_rules (world 0) (event Left 1000 Raw true (hex 87 0x45000057000240004006a7bc0a000005c0a8c8359c410035000003e900001389501820009ab10000002d00010100000100000000000002353003323030033136380331393207696e2d61646472046172706100000c0001)) ≡ Refused UnitUnbound
+an_unbound_name : verdict whole_rules (world 0) (event Left 1000 Raw true
+    (hex 56 0x45000057000240004006a7bc0a000005c0a8c8359c410035000003e900001389501820009ab10000002d0001010000010000000000000235
+    ++ hex 31 0x3003323030033136380331393207696e2d61646472046172706100000c0001)) ≡ Refused UnitUnbound
 unfolding frames_on_literals
 an_unbound_name = refl
 
-behind_a_bad_unit : verdict whole_rules (world 0) (event Left 1000 Raw true (hex 89 0x45000059000240004006a7ba0a000005c0a8c8359c410035000003e900001389501820009aaf00000000002d00010100000100000000000002353003323030033136380331393207696e2d61646472046172706100000c0001)) ≡ Refused BadUnit
+behind_a_bad_unit : verdict whole_rules (world 0) (event Left 1000 Raw true
+    (hex 56 0x45000059000240004006a7ba0a000005c0a8c8359c410035000003e900001389501820009aaf00000000002d000101000001000000000000
+    ++ hex 33 0x02353003323030033136380331393207696e2d61646472046172706100000c0001)) ≡ Refused BadUnit
 unfolding frames_on_literals
 behind_a_bad_unit = refl
 
@@ -105,7 +116,8 @@ both_named =
     }
 
 -- each list's addresses cross from the realm of its sender, whichever host sends
-both_lists_are_used : (next whole_rules both_named (event Left 1000 Raw true (hex 40 0x45000028000240004006a7eb0a000005c0a8c8359c410035000003e9000013895010200049090000))).table.entries ≡ (opening settings).entries ++ bound_until Left 0x0a000007 0xac100902 7440000001000 ∷ bound_until Right 0x0a000008 0xc0a8c809 7440000001000 ∷ []
+both_lists_are_used : (next whole_rules both_named (event Left 1000 Raw true
+    (hex 40 0x45000028000240004006a7eb0a000005c0a8c8359c410035000003e9000013895010200049090000))).table.entries ≡ (opening settings).entries ++ bound_until Left 0x0a000007 0xac100902 7440000001000 ∷ bound_until Right 0x0a000008 0xc0a8c809 7440000001000 ∷ []
 unfolding frames_on_literals
 both_lists_are_used = refl
 
@@ -122,6 +134,10 @@ named_before =
       }) ∷ [];
     }
 
-by_the_list : out whole_rules named_before (event Right 1000 Raw true (hex 71 0x450000470002400040067b690a000035ac10090100359c4100001389000003e9501820005f730000001d000181800000000100000000016100000100010000012c00040a000008)) ≡ hex 71 0x45000047000240003f06a8ccc0a8c8350a00000500359c4100001389000003e9501820000d590000001d00018180000000010000000001610000010001000000000004c0a8c809 ∷ []
+by_the_list : out whole_rules named_before (event Right 1000 Raw true
+    (hex 56 0x450000470002400040067b690a000035ac10090100359c4100001389000003e9501820005f730000001d0001818000000001000000000161
+    ++ hex 15 0x00000100010000012c00040a000008)) ≡
+    (hex 56 0x45000047000240003f06a8ccc0a8c8350a00000500359c4100001389000003e9501820000d590000001d0001818000000001000000000161
+    ++ hex 15 0x0000010001000000000004c0a8c809) ∷ []
 unfolding frames_on_literals
 by_the_list = refl

@@ -8,7 +8,6 @@ use Rattle.gate_base.specs.declared.side.Link.TheVariants.{Raw}
 use Rattle.gate_base.specs.declared.side.Side.TheVariants.{Left, Right}
 use Rattle.gate_settings.specs.declared.settings.Settings.{Settings}
 use Rattle.binding_table.specs.Prelude.{opening}
-use Rattle.ftp_lines.specs.Grammar.{port}
 use Rattle.ftp_lines.specs.Renaming.{client_lines, server_lines}
 use Rattle.stream_model.specs.Prelude.{Session, own, due_in, extent, arrival, place_acknowledged, acknowledged_of}
 use Rattle.stream_model.specs.Progress.{Covers}
@@ -23,7 +22,7 @@ use Rattle.gate_model.specs.Stream.{segment_of}
 use Rattle.gate_model.specs.Verdict.{verdict}
 use Rattle.gate_model.specs.World.{at_moment}
 use Rattle.gate_model.proofs.RowWords.{hex, fixed, pool, set, event}
-use Rattle.model_cases.proofs.OnLiterals.{frames_on_literals}
+use Rattle.gate_model.proofs.OnLiterals.{frames_on_literals}
 
 abbrev settings : Settings
 settings = set [] (pool 0xc0a8c801 0xc0a8c8fe) (pool 0xac100901 0xac1009fe)
@@ -59,8 +58,7 @@ t = record {
     initial = 1000;
     mss = 1460;
     past = [];
-    client = none;
-    server = none;
+    streams = λ host. none;
   };
 }
 

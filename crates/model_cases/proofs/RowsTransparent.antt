@@ -1,5 +1,5 @@
 -- That the premises of the laws on replies, aliases and connections are met: each by frames, computed. A law whose premise nothing meets would say nothing.
-use Rattle.std.proofs.Common.{◌≡◌, ◌<◌, ℕ, true, false, List, [], ◌∷◌, fold, map, All, Contains, Some, None, refl, inl, inr, lit<, arith}
+use Rattle.std.proofs.Common.{◌++◌, ◌≡◌, ◌<◌, true, false, List, [], ◌∷◌, fold, map, Some, None, refl, inl, inr, lit<, arith}
 use Rattle.std.proofs.lemmas.List.Elements.{All-cons, All-nil}
 use Rattle.gate_base.specs.Prelude.{Event, is_unicast_number}
 use Rattle.gate_base.specs.declared.address.Addr.{Addr}
@@ -17,14 +17,16 @@ use Rattle.gate_model.specs.Frame.{Whole, Dns, datagram_in, kind_of}
 use Rattle.gate_model.specs.Inner.{inside, inner_session}
 use Rattle.gate_model.specs.Prelude.{Tracked, WholeSession, World, ends_by, found_in, source_of, tcp_of, whole_rules}
 use Rattle.gate_model.specs.Step.{next}
-use Rattle.gate_model.specs.Transparent.{IsAbout, IsPlainKind, IsReply, IsUntracked, has_tracked_port, own_reason}
+use Rattle.gate_model.specs.Stream.{has_tracked_port}
+use Rattle.gate_model.specs.Transparent.{IsAbout, IsPlainKind, IsReply, IsUntracked, own_reason}
 use Rattle.gate_model.specs.Verdict.{verdict}
 use Rattle.gate_model.specs.World.{at_moment, opening_world}
 use Rattle.gate_model.proofs.RowWords.{hex, fixed, pool, set, event}
-use Rattle.model_cases.proofs.OnLiterals.{frames_on_literals}
+use Rattle.gate_model.proofs.OnLiterals.{frames_on_literals}
 
 abbrev settings : Settings
-settings = set [] (pool 0xc0a8c801 0xc0a8c8fe) (pool 0xac100901 0xac1009fe) (fixed Left 0x0a000005 0xac100901 ∷ fixed Right 0x0a000005 0xc0a8c801 ∷ fixed Right 0x0a000035 0xc0a8c835 ∷ [])
+settings = set [] (pool 0xc0a8c801 0xc0a8c8fe) (pool 0xac100901 0xac1009fe)
+    (fixed Left 0x0a000005 0xac100901 ∷ fixed Right 0x0a000005 0xc0a8c801 ∷ fixed Right 0x0a000035 0xc0a8c835 ∷ [])
 
 -- what is known after these frames
 abbrev after : List Event → World WholeSession
@@ -121,7 +123,9 @@ again_from = refl
 
 -- the server's port is unreachable
 abbrev error : Event
-error = event Right 3000 Raw true (hex 58 0x4500003a0001400040017bab0a000005ac1009020303bc2f000000004500001e000140003f117cb7ac1009020a0000050fa01388000ab5316869)
+error = event Right 3000 Raw true
+    (hex 56 0x4500003a0001400040017bab0a000005ac1009020303bc2f000000004500001e000140003f117cb7ac1009020a0000050fa01388000ab531
+    ++ hex 2 0x6869)
 
 is_about : IsAbout whole_rules (after []) sends error
 unfolding frames_on_literals
@@ -135,11 +139,15 @@ asks_no_session = refl
 
 -- 10.0.0.5 asks the name server,
 abbrev question : Event
-question = event Left 1000000000 Raw true (hex 57 0x45000039000140004011a7d00a000005c0a8c8350fa000350025887700010100000100000000000003667470076578616d706c650000010001)
+question = event Left 1000000000 Raw true
+    (hex 56 0x45000039000140004011a7d00a000005c0a8c8350fa000350025887700010100000100000000000003667470076578616d706c6500000100
+    ++ hex 1 0x01)
 
 -- and that names 10.0.0.7
 abbrev answer : Event
-answer = event Right 2000000000 Raw true (hex 73 0x450000490001400040117b5d0a000035ac10090100350fa0003595a700018180000100010000000003667470076578616d706c650000010001c00c000100010000012c00040a000007)
+answer = event Right 2000000000 Raw true
+    (hex 56 0x450000490001400040117b5d0a000035ac10090100350fa0003595a700018180000100010000000003667470076578616d706c6500000100
+    ++ hex 17 0x01c00c000100010000012c00040a000007)
 
 answer_passes : verdict whole_rules (after (question ∷ [])) answer ≡ Pass
 unfolding frames_on_literals

@@ -10,7 +10,10 @@ use Rattle.pcap_files.specs.declared.fault.CaptureFault.TheVariants.{NoHead, Mag
 use Rattle.pcap_files.specs.declared.form.Order.{Order}
 use Rattle.pcap_files.specs.declared.form.Precision.{Precision}
 use Rattle.pcap_files.specs.declared.form.Form.{Form}
-use Rattle.pcap_files.specs.Prelude.{Packet, size, Next, Ended, Broken, Came, tested, record_tests, packet_at, number_at, unit, magic, link_number, Head, Good, Bad, layout_at, link_of, by_layout, by_link, Records, Ending, Whole, Fault, records_from, capture_of, number_octets, spelled_head, Entry, spelled, all_spelled, packet_from, IsGood, AreGood, first_fault, EndsWith, IsCapture}
+use Rattle.pcap_files.specs.Prelude.{Packet, size, Next, Ended, Broken, Came, tested, record_tests, packet_at, number_at, unit, magic, link_number}
+use Rattle.pcap_files.specs.Prelude.{Head, Good, Bad, layout_at, link_of, by_layout, by_link, Records, Ending, Whole, Fault, records_from, capture_of}
+use Rattle.pcap_files.specs.Prelude.{number_octets, spelled_head, Entry, spelled, all_spelled, packet_from, IsGood, AreGood, first_fault, EndsWith}
+use Rattle.pcap_files.specs.Prelude.{IsCapture}
 use Rattle.pcap_files.specs.Capture.{next_at, head_of, layouts}
 use Rattle.pcap_files.proofs.Numbers.{AreOctets, octets_of, octets-drop, number-small, number_octets-number}
 use Rattle.pcap_files.proofs.Joined.{number_at-drop, length-spelled}

@@ -12,7 +12,10 @@ use Rattle.pcap_files.specs.declared.form.Order.TheVariants.{Little, Big}
 use Rattle.pcap_files.specs.declared.form.Precision.{Precision}
 use Rattle.pcap_files.specs.declared.form.Precision.TheVariants.{Microseconds, Nanoseconds}
 use Rattle.pcap_files.specs.declared.form.Form.{Form}
-use Rattle.pcap_files.specs.Prelude.{Packet, size, Ended, Broken, Came, tested, record_tests, packet_at, number_at, unit, magic, link_number, Good, Bad, layout_at, link_of, by_layout, by_link, Records, Ending, Whole, Fault, records_from, capture_of, number_octets, spelled_head, Entry, spelled, all_spelled, packet_from, IsGood, AreGood, first_fault, EndsWith, IsCapture}
+use Rattle.pcap_files.specs.Prelude.{Packet, size, Ended, Broken, Came, tested, record_tests, packet_at, number_at, unit, magic, link_number, Good}
+use Rattle.pcap_files.specs.Prelude.{Bad, layout_at, link_of, by_layout, by_link, Records, Ending, Whole, Fault, records_from, capture_of}
+use Rattle.pcap_files.specs.Prelude.{number_octets, spelled_head, Entry, spelled, all_spelled, packet_from, IsGood, AreGood, first_fault, EndsWith}
+use Rattle.pcap_files.specs.Prelude.{IsCapture}
 use Rattle.pcap_files.specs.Capture.{next_at, head_of}
 use Rattle.pcap_files.proofs.Numbers.{number-number_octets}
 use Rattle.pcap_files.proofs.Records.{nothing_is_ended, records-came, records-ended, records-broken, capture-good}

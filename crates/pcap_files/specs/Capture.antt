@@ -3,6 +3,7 @@ use Rattle.std.specs.Prelude.{ℕ, ◌+◌, ◌*◌, ◌^◌, List, [], ◌∷�
 use Rattle.byteorder.specs.Endian.{little_number, big_number}
 use Rattle.gate_base.specs.declared.side.Link.{Link}
 use Rattle.gate_base.specs.declared.side.Link.TheVariants.{Ethernet, Raw}
+use Rattle.gate_base.specs.declared.event.TheConstants.{SECOND}
 use Rattle.pcap_files.specs.declared.fault.CaptureFault.{CaptureFault}
 use Rattle.pcap_files.specs.declared.fault.CaptureFault.TheVariants.{NoHead, Magic, Link as OtherLink, Torn, Stamp, RecordTooLong, CaptureTooLong}
 use Rattle.pcap_files.specs.declared.form.Order.{Order}
@@ -10,6 +11,7 @@ use Rattle.pcap_files.specs.declared.form.Order.TheVariants.{Little, Big}
 use Rattle.pcap_files.specs.declared.form.Precision.{Precision}
 use Rattle.pcap_files.specs.declared.form.Precision.TheVariants.{Microseconds, Nanoseconds}
 use Rattle.pcap_files.specs.declared.form.Form.{Form}
+use Rattle.pcap_files.specs.declared.record.TheConstants.{LONGEST_RECORD}
 
 -- the 32-bit number at a place
 abbrev pub number_at : Order → ℕ → List ℕ → ℕ
@@ -91,7 +93,7 @@ size p = 16 + length p.octets
 -- the record at the front
 abbrev pub packet_at : Form → List ℕ → Packet
 packet_at form octets = record {
-  stamp = seconds_of form octets * 1000000000 + nanoseconds_of form octets;
+  stamp = seconds_of form octets * SECOND + nanoseconds_of form octets;
   whole = nat_le (original_of form octets) (kept_of form octets);
   octets = take (kept_of form octets) (drop 16 octets);
 }
@@ -100,8 +102,8 @@ packet_at form octets = record {
 abbrev pub record_tests : Form → ℕ → List ℕ → List (Bool × CaptureFault)
 record_tests form place octets =
     (nat_lt (length octets) 16, Torn)
-    ∷ (nat_le 1000000000 (nanoseconds_of form octets), Stamp)
-    ∷ (nat_lt 262144 (kept_of form octets), RecordTooLong)
+    ∷ (nat_le SECOND (nanoseconds_of form octets), Stamp)
+    ∷ (nat_lt LONGEST_RECORD (kept_of form octets), RecordTooLong)
     ∷ (nat_lt (2 ^ 40) (place + 16 + kept_of form octets), CaptureTooLong)
     ∷ (nat_lt (length octets) (16 + kept_of form octets), Torn)
     ∷ []

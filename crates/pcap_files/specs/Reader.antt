@@ -8,6 +8,7 @@ use Rattle.pcap_files.specs.declared.fault.CaptureFault.TheVariants.{Torn}
 use Rattle.pcap_files.specs.declared.fault.ReadStop.{ReadStop}
 use Rattle.pcap_files.specs.declared.fault.ReadStop.TheVariants.{Fault, Desk, OutOfMemory}
 use Rattle.pcap_files.specs.declared.form.Form.{Form}
+use Rattle.pcap_files.specs.declared.record.TheConstants.{LONGEST_RECORD}
 use Rattle.pcap_files.specs.Capture.{Packet, Next, Ended, Broken, Came, size, next_at, Good, Bad, head_of}
 
 -- a reader: its slot, the form of the capture, the place that it has come to, the record that the last advance read, and the stop that it has come to
@@ -46,7 +47,7 @@ pub record TakesToFailure (slot : Slot) (form : Form) (place : ℕ) (old new : O
 -- a record that can be written again
 pub record IsSmall (p : Packet) : Type 0 where
   pub stamp : IsMoment p.stamp
-  pub octets : length p.octets ≤ 262144
+  pub octets : length p.octets ≤ LONGEST_RECORD
 
 -- no count of reads rose, but where the desk failed
 abbrev pub StopLeavesCounts : ReadStop → Outside → Outside → Type 0

@@ -1,8 +1,10 @@
 -- A capture as whole spellings that are joined: its head, its records in order, and a rest.
 use Rattle.std.specs.Prelude.{◌≡◌, ℕ, ◌+◌, ◌*◌, ◌^◌, ◌<◌, ◌≤◌, List, [], ◌∷◌, ◌++◌, Bool, Option, Some, None, if◌then◌else◌, nat_le, map, length}
+use Rattle.gate_base.specs.declared.event.TheConstants.{SECOND}
 use Rattle.pcap_files.specs.declared.fault.CaptureFault.{CaptureFault}
 use Rattle.pcap_files.specs.declared.form.Order.{Order}
 use Rattle.pcap_files.specs.declared.form.Form.{Form}
+use Rattle.pcap_files.specs.declared.record.TheConstants.{LONGEST_RECORD}
 use Rattle.pcap_files.specs.Capture.{unit, Packet, record_tests, Ending, Whole, Fault}
 use Rattle.pcap_files.specs.Spelling.{spelled_head, spelled_numbers}
 
@@ -25,7 +27,7 @@ all_spelled order (e ∷ entries) = spelled order e ++ all_spelled order entries
 -- what its reader makes of it
 abbrev pub packet_from : Form → Entry → Packet
 packet_from form e = record {
-  stamp = e.seconds * 1000000000 + e.fraction * unit form.precision;
+  stamp = e.seconds * SECOND + e.fraction * unit form.precision;
   whole = nat_le e.original (length e.octets);
   octets = e.octets;
 }
@@ -33,9 +35,9 @@ packet_from form e = record {
 -- a record at this place of the capture is free of faults: its numbers have 32 bits, its fraction is less than a second, and it is not too long
 pub record IsGood (form : Form) (place : ℕ) (e : Entry) : Type 0 where
   pub seconds : e.seconds < 2 ^ 32
-  pub fraction : e.fraction * unit form.precision < 1000000000
+  pub fraction : e.fraction * unit form.precision < SECOND
   pub original : e.original < 2 ^ 32
-  pub kept : length e.octets ≤ 262144
+  pub kept : length e.octets ≤ LONGEST_RECORD
   pub ends : place + 16 + length e.octets ≤ 2 ^ 40
 
 -- so are all, the first of which begins at this place

@@ -2,6 +2,7 @@
 use Rattle.std.specs.Prelude.{ℕ, ◌/◌, ◌%◌, List, [], ◌∷◌, ◌++◌, length}
 use Rattle.byteorder.specs.Endian.{little_bytes, big_bytes}
 use Rattle.gate_base.specs.declared.side.Link.{Link}
+use Rattle.gate_base.specs.declared.event.TheConstants.{SECOND}
 use Rattle.pcap_files.specs.declared.form.Order.{Order}
 use Rattle.pcap_files.specs.declared.form.Order.TheVariants.{Little, Big}
 use Rattle.pcap_files.specs.declared.form.Precision.{Precision}
@@ -28,7 +29,7 @@ head_octets link = spelled_head Little Nanoseconds (2 ∷ 0 ∷ 4 ∷ 0 ∷ 0 �
 
 -- the head of an outgoing record at a moment in nanoseconds: nothing of it is left out
 abbrev pub record_head : ℕ → ℕ → List ℕ
-record_head moment len = spelled_numbers Little (moment / 1000000000) (moment % 1000000000) len len
+record_head moment len = spelled_numbers Little (moment / SECOND) (moment % SECOND) len len
 
 -- an outgoing record
 unfoldable pub record_octets : ℕ → List ℕ → List ℕ

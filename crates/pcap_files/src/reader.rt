@@ -36,6 +36,7 @@ pub struct CaptureReader {
 impl Model for CaptureReader {
     ghost use Rattle.std.specs.Prelude.{◌≡◌, ◌≤◌, ◌^◌, option_map, take, length, IfSome};
     ghost use Rattle.pcap_files.specs.Reader.{Reading};
+    ghost use Rattle.pcap_files.specs.declared.record.TheConstants.{LONGEST_RECORD};
 
     ghost Value = { Reading };
 
@@ -47,7 +48,8 @@ impl Model for CaptureReader {
       stop = r.stopped;
     } };
 
-    ghost invariant = { λ r. (length r.buffer.items ≡ 262144) × IfSome r.current (λ h. h.kept ≤ 262144) × (r.place ≤ 2 ^ 40) };
+    ghost invariant = { λ r. (length r.buffer.items ≡ LONGEST_RECORD)
+        × IfSome r.current (λ h. h.kept ≤ LONGEST_RECORD) × (r.place ≤ 2 ^ 40) };
 }
 
 impl CaptureReader {

@@ -5,6 +5,7 @@ ghost use Rattle.pcap_files.specs.Inside.Heads.{Judges, StandsWhole, TakesHead, 
 ghost use Rattle.pcap_files.specs.Reader.{LeavesCounts};
 
 use crate::{CaptureFault, Form, ReadStop};
+use gate_base::SECOND;
 use gate_desk::{Desk, Slot, read_full};
 
 /// The octets of a record's head.
@@ -15,9 +16,6 @@ pub const LONGEST_RECORD: usize = 262_144;
 
 /// The most octets of a capture.
 pub const LONGEST_CAPTURE: u64 = 1 << 40;
-
-/// The nanoseconds of a second.
-pub const SECOND: u64 = 1_000_000_000;
 
 /// What the head of a record says.
 #[derive(Clone, Copy, Debug, PartialEq, Eq)]
@@ -93,7 +91,7 @@ fn read_head<D: Desk>(
 #[inline(always)]
 fn copy_record(form: Form, place: u64, octets: &[u8], buffer: &mut [u8]) -> Option<RecordHead>
     requires small { place ≤ 2 ^ 40 }
-    requires room { length buffer.old ≡ 262144 }
+    requires room { length buffer.old ≡ LONGEST_RECORD }
     ensures { IfSome result (λ h. StandsWhole h form place octets.now buffer.new) }
 {
     if octets.len() < RECORD_HEAD {
@@ -121,7 +119,7 @@ pub fn read_record<D: Desk>(
 ) -> Result<Option<RecordHead>, ReadStop>
     requires start { CanRead (D.outside desk.old) slot }
     requires small { place ≤ 2 ^ 40 }
-    requires room { length buffer.old ≡ 262144 }
+    requires room { length buffer.old ≡ LONGEST_RECORD }
     ensures takes { TakesRecord result form place slot buffer.new (D.outside desk.old)
         (D.outside desk.new) }
     ensures leaves { LeavesCounts result (D.outside desk.old) (D.outside desk.new) }
@@ -144,7 +142,7 @@ fn read_in_parts<D: Desk>(
 ) -> Result<Option<RecordHead>, ReadStop>
     requires start { CanRead (D.outside desk.old) slot }
     requires small { place ≤ 2 ^ 40 }
-    requires room { length buffer.old ≡ 262144 }
+    requires room { length buffer.old ≡ LONGEST_RECORD }
     ensures takes { TakesRecord result form place slot buffer.new (D.outside desk.old)
         (D.outside desk.new) }
     ensures leaves { LeavesCounts result (D.outside desk.old) (D.outside desk.new) }

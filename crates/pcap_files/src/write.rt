@@ -5,9 +5,9 @@ ghost use Rattle.gate_desk.specs.Outside.{Writes, WritesPart, HasFailed, CanWrit
 ghost use Rattle.pcap_files.specs.Capture.{link_number};
 ghost use Rattle.pcap_files.specs.Spelling.{head_octets, record_octets, record_head};
 
-use crate::record::{RECORD_HEAD, SECOND};
+use crate::record::{LONGEST_RECORD, RECORD_HEAD};
 use byteorder::{ByteOrder, LittleEndian};
-use gate_base::{Link, Moment};
+use gate_base::{Link, Moment, SECOND};
 use gate_desk::{Desk, Failed, Slot, write_whole};
 
 fn link_octet(link: Link) -> u8
@@ -67,7 +67,7 @@ pub fn write_packet<D: Desk>(
 ) -> Result<(), Failed>
     requires can { CanWrite (D.outside desk.old) slot }
     requires early { IsMoment moment.0 }
-    requires short { length head.now + length octets.now ≤ 262144 }
+    requires short { length head.now + length octets.now ≤ LONGEST_RECORD }
     ensures ok { OnOk result (Writes slot
         (record_octets moment.0 (head.now ++ octets.now)) (D.outside desk.old)
         (D.outside desk.new)) }

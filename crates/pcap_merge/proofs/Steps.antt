@@ -16,7 +16,9 @@ use Rattle.pcap_merge.specs.declared.order.Last.{Last}
 use Rattle.pcap_merge.specs.declared.order.Last.TheVariants.{Nothing, Event as LastEvent, End}
 use Rattle.pcap_merge.specs.declared.stop.MergeStop.{MergeStop}
 use Rattle.pcap_merge.specs.declared.stop.MergeStop.TheVariants.{Fault, Desk, OutOfMemory}
-use Rattle.pcap_merge.specs.Prelude.{is_unread, earlier, Merged, Done, Fault as EndsFaulty, Ahead, Gives, Stops, front_of, turn_of, event_at, with_event, merge_from, Readies, ReadsSide, records_ahead, IsSpent, side_work, Merging, merging, event_given, Reads, sides_ahead, ComesTo, Finishes, StopsBy, Advances}
+use Rattle.pcap_merge.specs.Prelude.{is_unread, earlier, Merged, Done, Fault as EndsFaulty, Ahead, Gives, Stops, front_of, turn_of, event_at}
+use Rattle.pcap_merge.specs.Prelude.{with_event, merge_from, Readies, ReadsSide, records_ahead, IsSpent, side_work, Merging, merging, event_given}
+use Rattle.pcap_merge.specs.Prelude.{Reads, sides_ahead, ComesTo, Finishes, StopsBy, Advances}
 use Rattle.pcap_merge.specs.Events.{behind_first}
 use Rattle.pcap_merge.specs.Sides.{held_before}
 use Rattle.pcap_merge.specs.Inside.Sides.{ReadsSides}

@@ -7,6 +7,7 @@ use Rattle.gate_desk.specs.declared.slot.Slot.TheVariants.{LeftIn, RightIn}
 use Rattle.gate_desk.specs.declared.slot.PerSlot.{PerSlot}
 use Rattle.gate_desk.specs.Outside.{Outside, Trace, told_at, took, HasFailed, Grows, IsAtEnd}
 use Rattle.pcap_files.specs.Prelude.{Reading}
+use Rattle.pcap_files.specs.declared.record.TheConstants.{LONGEST_RECORD}
 use Rattle.pcap_merge.specs.declared.order.Last.{Last}
 use Rattle.pcap_merge.specs.declared.order.Last.TheVariants.{End}
 use Rattle.pcap_merge.specs.declared.stop.MergeStop.{MergeStop}
@@ -81,7 +82,7 @@ AtEnds m o = IfSome o.left
 -- an event that can be written again
 pub record IsSmallEvent (e : Event) : Type 0 where
   pub moment : IsMoment e.moment
-  pub octets : length e.octets ≤ 262144
+  pub octets : length e.octets ≤ LONGEST_RECORD
 
 -- whether both heads are good, where the desk tells the captures
 abbrev pub HeadsAre : Bool → Trace → Type 0

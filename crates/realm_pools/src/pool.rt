@@ -88,8 +88,8 @@ impl Pool {
         self.free_from(place)
     }
 
-    /// Takes a free address.
-    pub fn take(&mut self, address: Addr)
+    /// Makes a free address taken.
+    pub fn allocate(&mut self, address: Addr)
         requires { IsTrue (addresses.is_free address self.old) }
         ensures { self.new ≡ addresses.with_address address true self.old }
     {

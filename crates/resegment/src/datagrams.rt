@@ -1,5 +1,6 @@
 // Datagrams one behind the other.
 ghost use Rattle.std.specs.Prelude.{◌≡◌, ◌+◌, ◌≤◌, ◌<◌, [], ◌∷◌, length, slice_index, slice_index_or, IfOk, vec_capacity};
+ghost use Rattle.gate_base.specs.declared.protocol.TheConstants.{LONGEST_DATAGRAM};
 ghost use Rattle.tcp_segments.specs.Prelude.{flags_octet, spelled_segment, datagram_of};
 ghost use Rattle.resegment.specs.Datagrams.{datagrams, CanPut, IsFew};
 
@@ -8,11 +9,11 @@ use gate_base::OutOfMemory;
 use std::alloc::Global;
 use std::marker::Model;
 
-/// How many octets there is room for.
-const OCTETS: usize = 524_288;
+/// The most octets of the datagrams that one event gives.
+pub const MOST_OCTETS: usize = 524_288;
 
 /// The most datagrams that one event gives.
-const DATAGRAMS: usize = 4_096;
+pub const MOST_DATAGRAMS: usize = 4_096;
 
 /// The datagrams that go out at an event, one behind the other: at most 4,096 with at most 524,288 octets, and room for these. Code that
 /// writes a field proves the invariant again.
@@ -47,15 +48,15 @@ impl Datagrams {
         ensures { IfOk result (λ datagrams. datagrams ≡ []) }
     {
         Ok(Datagrams {
-            octets: Vec::with_capacity(alloc, OCTETS)?,
-            ends: Vec::with_capacity(alloc, DATAGRAMS)?,
+            octets: Vec::with_capacity(alloc, MOST_OCTETS)?,
+            ends: Vec::with_capacity(alloc, MOST_DATAGRAMS)?,
         })
     }
 
     /// The number of datagrams, which is at most 4,096.
     pub fn len(&self) -> usize
         ensures count { result ≡ length self.now }
-        ensures few { result ≤ 4096 }
+        ensures few { result ≤ MOST_DATAGRAMS }
     {
         self.ends.len()
     }
@@ -64,7 +65,7 @@ impl Datagrams {
     pub fn datagram(&self, place: usize) -> &[u8]
         requires { place < length self.now }
         ensures octets { result.now ≡ slice_index_or self.now place [] }
-        ensures short { length result.now ≤ 65535 }
+        ensures short { length result.now ≤ LONGEST_DATAGRAM }
     {
         let start = start_of(&self.ends, place);
         &self.octets[start as usize..self.ends[place] as usize]

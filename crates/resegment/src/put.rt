@@ -1,7 +1,9 @@
 // Pieces as datagrams.
 ghost use Rattle.std.specs.Prelude.{◌≡◌, ◌≤◌, ◌<◌, ◌+◌, ◌-◌, ◌*◌, ◌^◌, ℕ, List, [], ◌∷◌, ◌++◌, length, vec_capacity};
 ghost use Rattle.std.specs.List.{flat_map};
+ghost use Rattle.gate_base.specs.declared.protocol.TheConstants.{LONGEST_DATAGRAM};
 ghost use Rattle.tcp_segments.specs.Prelude.{flags_octet, IsTcpHeader, spelled_segment, datagram_of};
+ghost use Rattle.tcp_segments.specs.declared.TheConstants.{MOST_PAYLOAD};
 ghost use Rattle.resegment.specs.Pieces.{piece_count};
 ghost use Rattle.resegment.specs.Datagrams.{datagrams, ends_from, room_for, piece_flags};
 
@@ -36,7 +38,7 @@ pub(crate) fn append_pieces(
     limit: usize,
 )
     requires some { 1 ≤ limit }
-    requires fits { limit + (length model.now.tcp.now - 20) ≤ 65495 }
+    requires fits { limit + (length model.now.tcp.now - 20) ≤ MOST_PAYLOAD }
     requires ip { length model.now.ip.now ≡ 20 }
     requires tcp { IsTcpHeader model.now.tcp.now }
     requires ecn { model.now.flags.ecn ≤ 3 }
@@ -76,7 +78,7 @@ pub(crate) fn append_empty(outbox: &mut Vec<u8>, ends: &mut Vec<u32>, model: &Se
     requires ip { length model.now.ip.now ≡ 20 }
     requires tcp { IsTcpHeader model.now.tcp.now }
     requires ecn { model.now.flags.ecn ≤ 3 }
-    requires fits { 20 + length model.now.tcp.now ≤ 65535 }
+    requires fits { 20 + length model.now.tcp.now ≤ LONGEST_DATAGRAM }
     requires room { length outbox.old.items + (20 + length model.now.tcp.now)
         ≤ vec_capacity outbox.old }
     requires below { length outbox.old.items + (20 + length model.now.tcp.now)
@@ -118,7 +120,7 @@ fn put_datagram(
     requires ip { length model.now.ip.now ≡ 20 }
     requires tcp { IsTcpHeader model.now.tcp.now }
     requires ecn { flags.ecn ≤ 3 }
-    requires fits { 20 + (length model.now.tcp.now + length octets.now) ≤ 65535 }
+    requires fits { 20 + (length model.now.tcp.now + length octets.now) ≤ LONGEST_DATAGRAM }
     requires room { length outbox.old.items
         + (20 + (length model.now.tcp.now + length octets.now))
         ≤ vec_capacity outbox.old }

@@ -4,6 +4,7 @@ use Rattle.std.specs.Str.{bytes_eq}
 use Rattle.gate_base.specs.Prelude.{◌>>=◌, digit_of}
 use Rattle.run_setup.specs.RunNames.{Names, names_of}
 use Rattle.run_setup.specs.AuditNames.{Names as AuditNames, names_of as audit_names_of}
+use Rattle.run_setup.specs.declared.command.TheConstants.{GREATEST_NUMBER, MOST_ROUNDS}
 use Rattle.run_setup.specs.declared.command.Command.{Command as Words}
 use Rattle.run_setup.specs.declared.command.Command.TheVariants as words
 
@@ -43,9 +44,9 @@ asked (words.Make number count report) = Make number count report.now
 asked (words.Audit names) = Audit (audit_names_of names)
 asked words.Usage = Usage
 
--- a make has at most 100,000 rounds
+-- a make has at most MOST_ROUNDS rounds
 abbrev pub HasFewRounds : Words → Type 0
-HasFewRounds (words.Make number count report) = count ≤ 100000
+HasFewRounds (words.Make number count report) = count ≤ MOST_ROUNDS
 HasFewRounds words = Unit {0}
 
 -- the number that digits write behind those of another, where none on the way is above the limit
@@ -70,13 +71,13 @@ run_of names =
     names.right_out && is_report_word names.report
     then Run names else Usage
 
--- the number of a workload, its rounds from 1 to 100,000, and a file
+-- the number of a workload, its rounds, from one to MOST_ROUNDS, and a file
 abbrev pub made_of : Option ℕ → Option ℕ → List ℕ → Command
 made_of (Some number) (Some count) report = if nat_lt 0 count && is_report_word report then Make number count report else Usage
 made_of _ _ report = Usage
 
 abbrev pub make_of : List ℕ → List ℕ → List ℕ → Command
-make_of number count report = made_of (number_in 4294967295 number) (number_in 100000 count) report
+make_of number count report = made_of (number_in GREATEST_NUMBER number) (number_in MOST_ROUNDS count) report
 
 -- seven files
 abbrev pub audit_of : AuditNames → Command

@@ -9,10 +9,10 @@ use crate::names::{AuditNames, FileNames};
 use gate_base::read_number;
 
 /// The greatest number of a workload.
-const GREATEST_NUMBER: u32 = 4_294_967_295;
+pub const GREATEST_NUMBER: u32 = 4_294_967_295;
 
 /// The most rounds of a workload.
-const MOST_ROUNDS: u32 = 100_000;
+pub const MOST_ROUNDS: u32 = 100_000;
 
 /// What the words of a command ask for.
 #[derive(Clone, Copy)]
@@ -78,7 +78,7 @@ fn is_no_number(digits: &[u8]) -> bool
 
 /// The decimal number up to a limit that a word writes without a leading zero.
 fn number_in(limit: u32, word: &str) -> Option<u32>
-    requires { limit ≤ 4294967295 }
+    requires { limit ≤ GREATEST_NUMBER }
     ensures number { result ≡ number_in limit word.now }
     ensures limit { IfSome result (λ n. n ≤ limit) }
 {
@@ -93,7 +93,7 @@ fn number_in(limit: u32, word: &str) -> Option<u32>
 /// The number that these digits write behind those of another, where none on the way is above the limit.
 fn number_behind(limit: u32, number: u32, digits: &[u8]) -> Option<u32>
     requires number { number ≤ limit }
-    requires limit { limit ≤ 4294967295 }
+    requires limit { limit ≤ GREATEST_NUMBER }
     ensures number { result ≡ number_behind limit number digits.now }
     ensures limit { IfSome result (λ n. n ≤ limit) }
 {

@@ -9,11 +9,8 @@ use crate::open::start_slot;
 use gate_desk::{Access, Desk, Slot, read_up_to};
 use gate_settings::Settings;
 use pcap_merge::Merge;
-use settings_file::read_settings;
+use settings_file::{LONGEST_SETTINGS, read_settings};
 use std::alloc::Global;
-
-/// The most octets that settings may have.
-const SETTINGS_LIMIT: usize = 1_048_576;
 
 /// Starts and reads the settings of a name.
 pub fn read_settings_file<D: Desk>(
@@ -28,7 +25,7 @@ pub fn read_settings_file<D: Desk>(
     ensures settings { TookSettings (D.outside desk.old) (D.outside desk.new) }
 {
     start_slot(desk, Slot::Settings, name, Access::Read)?;
-    let text = read_up_to(alloc, desk, Slot::Settings, SETTINGS_LIMIT)?;
+    let text = read_up_to(alloc, desk, Slot::Settings, LONGEST_SETTINGS)?;
     let settings = read_settings(alloc, &text)?;
     Ok(settings)
 }

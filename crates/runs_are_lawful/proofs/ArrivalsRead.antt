@@ -12,7 +12,10 @@ use Rattle.gate_base.specs.declared.refusal.Refusal.{Refusal}
 use Rattle.gate_base.specs.declared.side.Link.TheVariants.{Raw}
 use Rattle.inet_sum.specs.Sum.{checksum}
 use Rattle.ipv4_frames.specs.Ipv4.{total_length_of}
-use Rattle.frag_join.specs.Prelude.{Arrival, opened, joiner_after, arrival_by, arrival, arrivals_of, Fragment, is_fragment, name_in, fragment_in, octet_in, covers, octets_of, Step, State, by_list, live, is_live, changed, place_of, part_of, part_or_new, fragment_tests, with_fragment, settled, taken_unless, fragment_step, step_by, step, octet_at, octet_of, reach_of, header_told, header_by, known_by, is_complete, whole_head, payload_below, datagram_of, table}
+use Rattle.frag_join.specs.Prelude.{Arrival, opened, joiner_after, arrival_by, arrival, arrivals_of, Fragment, is_fragment, name_in, fragment_in}
+use Rattle.frag_join.specs.Prelude.{octet_in, covers, octets_of, Step, State, by_list, live, is_live, changed, place_of, part_of, part_or_new}
+use Rattle.frag_join.specs.Prelude.{fragment_tests, with_fragment, settled, taken_unless, fragment_step, step_by, step, octet_at, octet_of, reach_of}
+use Rattle.frag_join.specs.Prelude.{header_told, header_by, known_by, is_complete, whole_head, payload_below, datagram_of, table}
 use Rattle.frag_join.specs.Arrivals.{arrivals_from}
 use Rattle.frag_join.specs.Coverage.{cleared_head}
 use Rattle.frag_join.specs.declared.part.Part.{Part}

@@ -23,7 +23,10 @@ use Rattle.stream_model.proofs.Cutting.{pieces_from, pieces_are}
 use Rattle.stream_model.proofs.FactLemmas.{image_small, short_step}
 use Rattle.tcp_tracker.specs.Prelude.{is_live}
 use Rattle.tcp_tracker.specs.declared.connection.Connection.{Connection}
-use Rattle.gate_model.specs.Prelude.{Whole, Kind, Stream, datagram_in, kind_of, Lists, list_of, whole_rules, WholeSession, lists_at, meaning_by, reads_by, whole_learned, out, out_by, out_kind, stream_out, taker_in, tcp_of, segment_of, sent_as, found_in, key_in, begins, made_by, taker_by, session_refusal, EachTracked, table_after, image_in, kind_tests, verdict, World, Tracked, at_moment, called, source_of, destination_of, host_on}
+use Rattle.gate_model.specs.Prelude.{Whole, Kind, Stream, datagram_in, kind_of, Lists, list_of, whole_rules, WholeSession, lists_at, meaning_by}
+use Rattle.gate_model.specs.Prelude.{reads_by, whole_learned, out, out_by, out_kind, stream_out, taker_in, tcp_of, segment_of, sent_as, found_in}
+use Rattle.gate_model.specs.Prelude.{key_in, begins, made_by, taker_by, session_refusal, EachTracked, table_after, image_in, kind_tests, verdict}
+use Rattle.gate_model.specs.Prelude.{World, Tracked, at_moment, called, source_of, destination_of, host_on}
 use Rattle.gate_model.proofs.Passing.{NoneHolds, passes, stream_passes}
 use Rattle.gate_model.proofs.RememberedSessions.{meaning_lawful, meaning_step}
 use Rattle.gate_model.proofs.Tracking.{Keeps, all_found}

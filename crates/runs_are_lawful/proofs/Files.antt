@@ -1,18 +1,15 @@
 -- The files of a run, put together.
-use Rattle.std.proofs.Common.{◌≡◌, ◌≤◌, ◌<◌, ◌*◌, ◌/◌, ◌%◌, ◌^◌, ℕ, List, [], ◌∷◌, ◌++◌, length, refl, sym, ◌∙◌, ap, subst, arith, length-append, map, IfSome, append-nil}
+use Rattle.std.proofs.Common.{◌≡◌, ◌≤◌, ◌<◌, ◌+◌, ◌*◌, ◌/◌, ◌%◌, ◌^◌, ℕ, List, [], ◌∷◌, ◌++◌, length, refl, sym, ◌∙◌, ap, subst, arith, length-append, map, IfSome, append-nil}
 use Rattle.std.proofs.lemmas.List.Elements.{All-nil}
-use Rattle.byteorder.specs.Endian.{big_bytes}
 use Rattle.frag_join.specs.Prelude.{Arrival, Reaches, Stopped}
-use Rattle.ether_frames.specs.Ether.{framed_on}
 use Rattle.gate_base.specs.Prelude.{other}
 use Rattle.gate_base.specs.declared.side.Link.{Link}
 use Rattle.gate_base.specs.declared.side.Link.TheVariants.{Ethernet, Raw}
 use Rattle.gate_base.specs.declared.side.Side.{Side}
 use Rattle.gate_base.specs.declared.side.Side.TheVariants.{Left, Right}
 use Rattle.gate_desk.specs.declared.slot.Slot.TheVariants.{LeftOut, RightOut, Report}
-use Rattle.gate_settings.specs.Prelude.{side_settings}
+use Rattle.gate_settings.specs.Prelude.{HaveMacAddresses, side_settings}
 use Rattle.gate_settings.specs.declared.settings.Settings.{Settings}
-use Rattle.gate_settings.specs.declared.settings.SideSettings.{SideSettings}
 use Rattle.pcap_files.specs.Prelude.{Packet, Records, Whole, head_of, capture_of, Entry, all_spelled, head_octets}
 use Rattle.pcap_files.specs.declared.form.Order.TheVariants.{Little}
 use Rattle.pcap_merge.specs.Prelude.{Merged, Ending, Done, Fault}
@@ -21,10 +18,11 @@ use Rattle.tcp_tracker.specs.declared.connection.Connection.{Connection}
 use Rattle.gate_model.proofs.Tracking.{next_keeps}
 use Rattle.gateway.specs.Prelude.{State, opening, after, after_one, arrivals_by, files, heads, given_by_all, ended_by, framed, out_slot}
 use Rattle.gateway.specs.Machine.{given_by_merged}
-use Rattle.lawful_files.specs.Prelude.{event_in, wanted_of, IsLawfulList, Given, HasLink, LawfulFrom, HasMacAddresses, HaveMacAddresses}
+use Rattle.lawful_files.specs.Prelude.{event_in, wanted_of, IsLawfulList, Given, HasLink, LawfulFrom}
 use Rattle.lawful_files.specs.Files.{Lawful}
+use Rattle.lawful_files.specs.Progress.{head_length}
+use Rattle.lawful_files.proofs.Lengths.{framed_long}
 use Rattle.lawful_files.proofs.SentLists.{own_lawful}
-use Rattle.lawful_files.proofs.Judged.{addresses_of}
 use Rattle.runs_are_lawful.specs.Outputs.{octets_to}
 use Rattle.runs_are_lawful.proofs.Spelled.{outs_of, if_to, entry_of, entries_to, packets_to, octets-append, given_octets, form_of, read_packets, IsSmallEntry, AreSmall, small-append, read_capture}
 use Rattle.runs_are_lawful.proofs.Walk.{known_of, report_from, records_of, AllFew, walked}
@@ -67,19 +65,9 @@ all_few s (f ∷ fs) h fine = (outs_few s f h, outs_lawful s f fine.0, all_few (
 
 -- ## Small records
 
-framed_long : (link : Link) (side : SideSettings) (d : List ℕ) → HasMacAddresses side → length d ≤ 131072
-    → length (framed_on link side.next_mac side.gateway_mac d) ≤ 131086
-framed_long Raw side d h short = omega (arith, short)
-framed_long Ethernet side d h short =
-    omega (
-      arith,
-      short,
-      h.gateway,
-      h.next,
-      length-append ((side.next_mac ++ side.gateway_mac) ++ big_bytes 2 0x0800) d,
-      length-append (side.next_mac ++ side.gateway_mac) (big_bytes 2 0x0800),
-      length-append side.next_mac side.gateway_mac,
-    )
+head_short : (link : Link) → head_length link ≤ 14
+head_short Raw = omega arith
+head_short Ethernet = omega arith
 
 seconds_fit : (moment : ℕ) → moment < 2 ^ 32 * 1000000000 → moment / 1000000000 < 2 ^ 32
 seconds_fit moment early = omega (arith, early)
@@ -90,8 +78,9 @@ fraction_fits moment = omega arith
 small_entry : (settings : Settings) (side : Side) (moment : ℕ) (d : List ℕ) → HaveMacAddresses settings → moment < 2 ^ 32 * 1000000000
     → length d ≤ 131072 → IsSmallEntry (entry_of settings side moment d)
 small_entry settings side moment d h early short =
-    let long : length (framed settings side d) ≤ 131086 =
-    framed_long (side_settings settings side).link (side_settings settings side) d (addresses_of settings side h) short in
+    let realm = side_settings settings side in
+    let size : length (framed settings side d) ≡ head_length realm.link + length d = framed_long realm.link realm d (h side) in
+    let long : length (framed settings side d) ≤ 131086 = omega (arith, size, head_short realm.link, short) in
     record { seconds = seconds_fit moment early; fraction = fraction_fits moment; original = omega (arith, long); kept = omega (arith, long) }
 
 small_all : (settings : Settings) (side : Side) (moment : ℕ) (ds : List (List ℕ)) → HaveMacAddresses settings → moment < 2 ^ 32 * 1000000000

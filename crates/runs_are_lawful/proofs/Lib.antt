@@ -4,7 +4,6 @@ pub mod Counts
 pub mod Shorts
 pub mod ShortNames
 pub mod OutShort
-pub mod AcceptedSettings
 pub mod Spelled
 pub mod Walk
 pub mod Files

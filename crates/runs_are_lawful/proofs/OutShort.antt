@@ -11,7 +11,10 @@ use Rattle.binding_table.specs.Prelude.{Bindings}
 use Rattle.ipv4_frames.specs.Ipv4.{Datagram}
 use Rattle.stream_model.specs.Prelude.{Sender, Segment, Outgoing, other, Piece, limit_of, session_out, Sent, session_sent, ArePieces, segment_with, MaySend}
 use Rattle.twice_translate.specs.Renamed.{with_payload}
-use Rattle.gate_model.specs.Prelude.{Whole, Kind, Udp, Echo, Error, Dns, Snmp, Stream, datagram_in, kind_of, inside, inner_number, management_after, is_snmp_too_long, names_after, whole_rules, WholeSession, whole_learned, out, out_by, out_kind, stream_out, taker_in, segment_of, sent_as, table_after, image_in, verdict, World, Tracked, at_moment, called, source_of, destination_of, host_on}
+use Rattle.gate_model.specs.Prelude.{Whole, Kind, Udp, Echo, Error, Dns, Snmp, Stream, datagram_in, kind_of, inside, inner_number, management_after}
+use Rattle.gate_model.specs.Prelude.{is_snmp_too_long, names_after, whole_rules, WholeSession, whole_learned, out, out_by, out_kind, stream_out}
+use Rattle.gate_model.specs.Prelude.{taker_in, segment_of, sent_as, table_after, image_in, verdict, World, Tracked, at_moment, called, source_of}
+use Rattle.gate_model.specs.Prelude.{destination_of, host_on}
 use Rattle.gate_model.proofs.Passing.{Passes, none_head, passes}
 use Rattle.lawful_files.proofs.SentLists.{AreOctets, event_options, limit_some}
 use Rattle.runs_are_lawful.proofs.ShortNames.{names_short}

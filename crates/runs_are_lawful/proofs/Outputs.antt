@@ -12,9 +12,9 @@ use Rattle.pcap_merge.specs.Prelude.{Done, are_good, by_heads}
 use Rattle.pcap_merge.specs.Events.{have_good_heads, events_of}
 use Rattle.gateway.specs.Prelude.{files, outputs_of, Piece}
 use Rattle.run_setup.specs.Prelude.{IsAccepted, events_in}
+use Rattle.settings_file.proofs.Accepted.{accepted as accepted_settings}
 use Rattle.gateway.specs.Pieces.{wrote_pieces}
 use Rattle.gateway.proofs.Runs.{good_outputs}
-use Rattle.runs_are_lawful.proofs.AcceptedSettings.{accepted_have}
 use Rattle.runs_are_lawful.proofs.EventsRead.{events_are_read}
 use Rattle.lawful_files.specs.Prelude.{LawfulFor}
 use Rattle.runs_are_lawful.specs.Outputs.{octets_to, IsOctets, OutputsFit}
@@ -50,7 +50,7 @@ faulty all settings accepted octets good fit =
     let small : OutputsFit (files settings (events_in all)) = subst OutputsFit same fit in
     subst (λ (ps : List Piece). LawfulFor settings (events_in all) (octets_to slots.LeftOut ps) (octets_to slots.RightOut ps)
     (octets_to slots.Report ps)) (sym same)
-    (files_lawful settings (events_in all) (accepted_have all.settings settings accepted)
+    (files_lawful settings (events_in all) (accepted_settings all.settings settings accepted).forms.macs
     (events_are_read all.left_in all.right_in octets.left octets.right) small.left small.right)
 
 pub done : (all : PerSlot (List ℕ)) (settings : Settings) → IsAccepted settings all → IsOctets all → (events_in all).ending ≡ Done → let pieces =

@@ -1,5 +1,5 @@
 -- A run's files go on as lawful files do, event by event.
-use Rattle.std.proofs.Common.{◌≡◌, ◌<◌, ◌^◌, ℕ, Bool, true, false, cond, List, [], ◌∷◌, ◌++◌, length, refl, sym, ◌∙◌, ap, subst, append_assoc, map, append-nil}
+use Rattle.std.proofs.Common.{◌≡◌, ◌<◌, ◌^◌, ℕ, List, [], ◌∷◌, ◌++◌, length, refl, sym, ◌∙◌, ap, subst, append_assoc, map, append-nil}
 use Rattle.frag_join.specs.Prelude.{Arrival, Reaches, Stopped}
 use Rattle.gate_base.specs.Prelude.{other}
 use Rattle.gate_base.specs.declared.side.Side.{Side}
@@ -11,7 +11,7 @@ use Rattle.gate_report.specs.Lines.{line_octets}
 use Rattle.pcap_files.specs.Prelude.{Packet, Records, Whole}
 use Rattle.pcap_merge.specs.Prelude.{Ending, Done, Fault}
 use Rattle.gate_model.specs.Prelude.{whole_rules, WholeSession}
-use Rattle.gateway.specs.Prelude.{State, sent, after_one, after, ended_by, last_line as written_last, Piece}
+use Rattle.gateway.specs.Prelude.{State, sent, after_one, after, ended_by, Piece}
 use Rattle.gateway.specs.Machine.{given_by_all}
 use Rattle.lawful_files.specs.Prelude.{event_in, wanted_of, IsLawfulList, Given, given_at, State as AuditState, after as after_lawful, record_of, line_of, last_line, IsLawfulAt, LawfulFrom}
 use Rattle.runs_are_lawful.specs.Outputs.{octets_to}

@@ -1,7 +1,7 @@
 // A pool of one address.
 use binding_table::{Crossing, Table};
 use expiring_table::Seed;
-use gate_base::{Addr, Moment, Side};
+use gate_base::{Addr, Moment, SECOND, Side};
 use settings_file::read_settings;
 use std::test::Fail;
 
@@ -21,8 +21,6 @@ const SECOND_HOST: Addr = Addr(0x0a00_0006);
 const ONLY_ALIAS: Addr = Addr(0xac10_0901);
 
 const STATIC_ALIAS: Addr = Addr(0xc0a8_c801);
-
-const SECOND: u64 = 1_000_000_000;
 
 // How an address of the left realm crosses at a moment. A new host is then bound for 300 seconds.
 fn use_at(table: &mut Table, now: u64, address: Addr) -> Crossing {

@@ -1,9 +1,7 @@
 use expiring_table::Seed;
-use gate_base::{Addr, Moment, Side};
+use gate_base::{Addr, Moment, SECOND, Side};
 use std::test::Fail;
 use tcp_tracker::{ConnKey, Tracker};
-
-const SECOND: u64 = 1_000_000_000;
 
 const KEY: ConnKey = ConnKey {
     left: Addr(0x0a00_0005),

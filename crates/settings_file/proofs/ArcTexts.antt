@@ -5,7 +5,8 @@ use Rattle.std.proofs.lemmas.List.Elements.{All-from_get_or}
 use Rattle.std.proofs.lemmas.List.Sums.{list_all-from_AllPass}
 use Rattle.std.proofs.lemmas.Option.{same_Some}
 use Rattle.std.specs.List.{list_all}
-use Rattle.gate_base.specs.Prelude.{◌>>=◌, cut_at, greatest, is_prefix}
+use Rattle.gate_base.specs.Prelude.{◌>>=◌, cut_at, is_prefix}
+use Rattle.gate_base.specs.declared.rule.TheConstants.{GREATEST_ARC}
 use Rattle.gate_base.specs.Address.{number_of}
 use Rattle.settings_file.specs.Prefixes.{arc_behind, arc_text, arcs_by, arcs_text}
 
@@ -20,14 +21,14 @@ pub other_octet : (number x : ℕ) (xs : List ℕ) → number_of (x ∷ []) ≡ 
 unfolding arc_behind number_of
 other_octet number x xs e = rw e refl
 
-pub above : (number x digit : ℕ) (xs : List ℕ) → number_of (x ∷ []) ≡ Some digit → greatest < 10 * number + digit → arc_behind number (x ∷ xs) ≡ None
+pub above : (number x digit : ℕ) (xs : List ℕ) → number_of (x ∷ []) ≡ Some digit → GREATEST_ARC < 10 * number + digit → arc_behind number (x ∷ xs) ≡ None
 unfolding arc_behind number_of
-above number x digit xs e more = let no : nat_le (10 * number + digit) greatest ≡ false = grind (arith, nat_tests) in rw e (rw no refl)
+above number x digit xs e more = let no : nat_le (10 * number + digit) GREATEST_ARC ≡ false = grind (arith, nat_tests) in rw e (rw no refl)
 
-pub one_digit : (number x digit : ℕ) (xs : List ℕ) → number_of (x ∷ []) ≡ Some digit → 10 * number + digit ≤ greatest
+pub one_digit : (number x digit : ℕ) (xs : List ℕ) → number_of (x ∷ []) ≡ Some digit → 10 * number + digit ≤ GREATEST_ARC
     → arc_behind number (x ∷ xs) ≡ arc_behind (10 * number + digit) xs
 unfolding arc_behind number_of
-one_digit number x digit xs e fits = let yes : nat_le (10 * number + digit) greatest ≡ true = grind (arith, nat_tests) in rw e (rw yes refl)
+one_digit number x digit xs e fits = let yes : nat_le (10 * number + digit) GREATEST_ARC ≡ true = grind (arith, nat_tests) in rw e (rw yes refl)
 
 -- ## Arc by arc
 
@@ -90,10 +91,10 @@ if_read view (Err e) one all h is = tt
 
 -- ## A prefix
 
-pub are_arcs : (arcs : List ℕ) → ((k : ℕ) → get_or arcs k 0 < 2 ^ 32) → list_all (λ arc. nat_le arc greatest) arcs ≡ true
+pub are_arcs : (arcs : List ℕ) → ((k : ℕ) → get_or arcs k 0 < 2 ^ 32) → list_all (λ arc. nat_le arc GREATEST_ARC) arcs ≡ true
 are_arcs arcs small =
-    list_all-from_AllPass (λ arc. nat_le arc greatest) arcs
-    (All-from_get_or (λ arc. nat_le arc greatest ≡ true) arcs 0 (λ k within. let below = small k in grind (arith, nat_tests)))
+    list_all-from_AllPass (λ arc. nat_le arc GREATEST_ARC) arcs
+    (All-from_get_or (λ arc. nat_le arc GREATEST_ARC ≡ true) arcs 0 (λ k within. let below = small k in grind (arith, nat_tests)))
 
 and_true : (test : Bool) → test ≡ (test && true)
 and_true true = refl

@@ -1,5 +1,5 @@
 -- Settings that octets give have their forms.
-use Rattle.std.proofs.Common.{◌≡◌, ◌≤◌, ℕ, ℤ, pos, negsuc, option_and_then, ◌+◌, ◌-◌, ◌^◌, ◌%◌, ◌==◌, nat_le, Bool, true, false, ◌&&◌, if◌then◌else◌, List, [], ◌∷◌, Option, Some, None, Ok, Err, refl, arith, All, IfOk, IfSome, ok_or, length, nat_lt}
+use Rattle.std.proofs.Common.{◌≡◌, ◌≤◌, ℕ, ℤ, pos, negsuc, option_and_then, ◌+◌, ◌-◌, ◌^◌, ◌%◌, ◌==◌, nat_le, Bool, true, false, ◌&&◌, if◌then◌else◌, List, [], ◌∷◌, Option, Some, None, Ok, Err, refl, arith, All, IfOk, IfSome, ok_or, unwrap_or, length, nat_lt}
 use Rattle.std.proofs.lemmas.Bool.Decides.{nat_tests}
 use Rattle.std.proofs.lemmas.List.Elements.{All-from_recursion, All-nil}
 use Rattle.std.proofs.lemmas.List.Sums.{list_all-from_AllPass}
@@ -11,10 +11,10 @@ use Rattle.gate_base.specs.declared.rule.OidRule.{OidRule}
 use Rattle.settings_file.specs.declared.key.Key.{Key}
 use Rattle.settings_file.specs.declared.fault.SettingsFault.{SettingsFault}
 use Rattle.settings_file.specs.Firsts.{◌>>=◌, Found}
-use Rattle.gate_settings.specs.Prelude.{HasUnicastPool, HasForms}
+use Rattle.gate_settings.specs.Prelude.{HasMacAddresses, HasUnicastPool, HasForms}
 use Rattle.gate_settings.specs.Forms.{IsBlock, IsUnicast, IsUnicastPair}
 use Rattle.gate_settings.specs.declared.settings.ReportForm.TheVariants.{Text}
-use Rattle.settings_file.specs.Texts.{address_text, block_text}
+use Rattle.settings_file.specs.Texts.{address_text, block_text, hex_pair, has_colons, six_pairs, mac_text}
 use Rattle.settings_file.specs.Prefixes.{arcs_text, prefix_text}
 use Rattle.settings_file.specs.Document as document
 use Rattle.settings_file.specs.Keys.{name_of}
@@ -27,17 +27,17 @@ use Rattle.gate_base.specs.declared.side.Side.TheVariants.{Left, Right}
 
 -- ## Texts
 
-pub bind : {A B : Type 0} (P : B → Type 0) (o : Option A) (f : A → Option B) → ((x : A) → IfSome (f x) P) → IfSome (addresses.◌>>=◌ o f) P
+bind : {A B : Type 0} (P : B → Type 0) (o : Option A) (f : A → Option B) → ((x : A) → IfSome (f x) P) → IfSome (addresses.◌>>=◌ o f) P
 bind P None f h = tt
 bind P (Some x) f h = h x
 
-guarded : {A : Type 0} (P : A → Type 0) (test : Bool) (x : A) → (test ≡ true → P x) → IfSome (if test then Some x else None) P
-guarded P true x h = h refl
-guarded P false x h = tt
+guarded : {A : Type 0} (P : A → Type 0) (test : Bool) (o : Option A) → (test ≡ true → IfSome o P) → IfSome (if test then o else None) P
+guarded P true o h = h refl
+guarded P false o h = tt
 
 pub unicast : (text : List ℕ) → IfSome (address_text text) IsUnicast
 unfolding address_text
-unicast text = bind IsUnicast (quad text) _ (λ number. guarded IsUnicast (is_unicast_number number) (record { 0 = number }) (λ yes. yes))
+unicast text = bind IsUnicast (quad text) _ (λ number. guarded IsUnicast (is_unicast_number number) _ (λ yes. yes))
 
 block_is : (base bits : ℕ) → (nat_le bits 32 && base % 2 ^ (32 - bits) == 0) ≡ true → IsBlock (record { base = record { 0 = base }; bits = bits })
 block_is base bits h =
@@ -56,7 +56,16 @@ IsPrefix arcs = is_prefix arcs ≡ true
 
 pub prefix_form : (text : List ℕ) → IfSome (prefix_text text) IsPrefix
 unfolding prefix_text
-prefix_form text = bind IsPrefix (arcs_text 64 text) _ (λ arcs. guarded IsPrefix (is_prefix arcs) arcs (λ yes. yes))
+prefix_form text = bind IsPrefix (arcs_text 64 text) _ (λ arcs. guarded IsPrefix (is_prefix arcs) _ (λ yes. yes))
+
+abbrev HasSix : List ℕ → Type 0
+HasSix octets = length octets ≡ 6
+
+mac_form : (text : List ℕ) → IfSome (mac_text text) HasSix
+unfolding mac_text
+mac_form text = guarded HasSix (length text == 17 && has_colons text) (six_pairs text) (λ yes.
+    bind HasSix (hex_pair text 0) _ (λ a. bind HasSix (hex_pair text 3) _ (λ b. bind HasSix (hex_pair text 6) _ (λ c.
+    bind HasSix (hex_pair text 9) _ (λ d. bind HasSix (hex_pair text 12) _ (λ e. bind HasSix (hex_pair text 15) _ (λ f. refl)))))))
 
 -- ## Values
 
@@ -64,16 +73,16 @@ found : {A : Type 0} (P : A → Type 0) (o : Option A) (fault : SettingsFault) �
 found P None fault h = tt
 found P (Some x) fault h = h
 
-pub given : {A B : Type 0} (Q : A → Type 0) (P : B → Type 0) (first : Found A) (f : A → Found B) → IfOk first Q → ((x : A) → Q x → IfOk (f x) P)
+given : {A B : Type 0} (Q : A → Type 0) (P : B → Type 0) (first : Found A) (f : A → Found B) → IfOk first Q → ((x : A) → Q x → IfOk (f x) P)
     → IfOk (first >>= f) P
 given Q P (Ok x) f q h = h x q
 given Q P (Err e) f q h = tt
 
-pub after : {A B : Type 0} (P : B → Type 0) (first : Found A) (f : A → Found B) → ((x : A) → IfOk (f x) P) → IfOk (first >>= f) P
+after : {A B : Type 0} (P : B → Type 0) (first : Found A) (f : A → Found B) → ((x : A) → IfOk (f x) P) → IfOk (first >>= f) P
 after P (Ok x) f h = h x
 after P (Err e) f h = tt
 
-pub spelled : {A : Type 0} (P : A → Type 0) (spell : List ℕ → Option A) (fault : Key → SettingsFault) → ((text : List ℕ) → IfSome (spell text) P)
+spelled : {A : Type 0} (P : A → Type 0) (spell : List ℕ → Option A) (fault : Key → SettingsFault) → ((text : List ℕ) → IfSome (spell text) P)
     → (key : Key) (value : Data) → IfOk (document.spelled spell fault key value) P
 spelled P spell fault h key value =
     after P (document.text key value) (λ words. ok_or (spell words) (fault key)) (λ words. found P (spell words) (fault key) (h words))
@@ -85,6 +94,17 @@ address = spelled IsUnicast address_text _ unicast
 block : (key : Key) (value : Data) → IfOk (document.block key value) IsBlock
 unfolding document.block
 block = spelled IsBlock block_text _ block_form
+
+mac : (key : Key) (value : Data) → IfOk (document.mac key value) HasSix
+unfolding document.mac
+mac = spelled HasSix mac_text _ mac_form
+
+-- it has six octets, or so have the zeros in its place
+abbrev GivesSix : Option (List ℕ) → Type 0
+GivesSix given = HasSix (unwrap_or given document.zeros)
+
+given_mac : (key : Key) (value : Data) → IfOk (document.given_mac key value) GivesSix
+given_mac key value = given HasSix GivesSix (document.mac key value) _ (mac key value) (λ octets six. six)
 
 prefix : (key : Key) (value : Data) → IfOk (document.prefix key value) IsPrefix
 unfolding document.prefix
@@ -99,7 +119,7 @@ skip key value = found IsFew _ _ (from (as_integer value))
   where
     from : (o : Option ℤ) → IfSome (option_and_then document.few o) IsFew
     from None = tt
-    from (Some (pos number)) = guarded IsFew (nat_le number 127) number (λ yes. yes)
+    from (Some (pos number)) = guarded IsFew (nat_le number 127) _ (λ yes. yes)
     from (Some (negsuc number)) = tt
 
 -- ## Keys
@@ -108,7 +128,7 @@ needed : {A : Type 0} (P : A → Type 0) (read : Key → Data → Found A) → (
     → (key : Key) (table : Members) → IfOk (document.needed read key table) P
 needed P read h key table = after P _ (read key) (h key)
 
-pub optional : {A : Type 0} (P : A → Type 0) (read : Key → Data → Found A) (default : A) → P default
+optional : {A : Type 0} (P : A → Type 0) (read : Key → Data → Found A) (default : A) → P default
     → ((key : Key) (value : Data) → IfOk (read key value) P) → (key : Key) (members : Members) → IfOk (document.optional read default key members) P
 optional P read default base h key members = from (get_member (name_of key) members)
   where
@@ -141,24 +161,28 @@ array_of P is_kind read h key value =
 
 -- ## The keys of a document
 
-abbrev HasUnicastSide : GivenSide → Type 0
-HasUnicastSide side = HasUnicastPool side.settings
+optional_mac : (key : Key) (members : Members) → IfOk (document.optional document.given_mac None key members) GivesSix
+optional_mac = optional GivesSix document.given_mac None refl given_mac
 
-side_keys : (side : Side) (members : Members) → IfOk (document.side_keys side members) HasUnicastSide
+abbrev HasSideForms : GivenSide → Type 0
+HasSideForms side = HasUnicastPool side.settings × HasMacAddresses side.settings
+
+side_keys : (side : Side) (members : Members) → IfOk (document.side_keys side members) HasSideForms
 unfolding document.side_keys
 side_keys side members =
-    given IsUnicast HasUnicastSide (document.needed document.address (PoolFirst side) members) _
+    given IsUnicast HasSideForms (document.needed document.address (PoolFirst side) members) _
     (needed IsUnicast document.address address (PoolFirst side) members) (λ first is_first.
-    given IsUnicast HasUnicastSide (document.needed document.address (PoolLast side) members) _
+    given IsUnicast HasSideForms (document.needed document.address (PoolLast side) members) _
     (needed IsUnicast document.address address (PoolLast side) members) (λ last is_last.
-    after HasUnicastSide (document.needed document.link (Link side) members) _ (λ link.
-    after HasUnicastSide (document.optional document.given_mac None (GatewayMac side) members) _ (λ gateway.
-    after HasUnicastSide (document.optional document.given_mac None (NextMac side) members) _
-    (λ next. record { first = is_first; last = is_last })))))
+    after HasSideForms (document.needed document.link (Link side) members) _ (λ link.
+    given GivesSix HasSideForms (document.optional document.given_mac None (GatewayMac side) members) _ (optional_mac (GatewayMac side) members)
+    (λ gateway gateway_six.
+    given GivesSix HasSideForms (document.optional document.given_mac None (NextMac side) members) _ (optional_mac (NextMac side) members)
+    (λ next next_six. (record { first = is_first; last = is_last }, record { gateway = gateway_six; next = next_six }))))))
 
-side_table : (side : Side) (members : Members) → IfOk (document.side_table side members) HasUnicastSide
+side_table : (side : Side) (members : Members) → IfOk (document.side_table side members) HasSideForms
 unfolding document.side_table
-side_table side members = after HasUnicastSide (document.needed document.table (Table side) members) _ (side_keys side)
+side_table side members = after HasSideForms (document.needed document.table (Table side) members) _ (side_keys side)
 
 static_keys : (n : ℕ) (members : Members) → IfOk (document.static_keys n members) IsUnicastPair
 unfolding document.static_keys
@@ -211,15 +235,16 @@ all_keys members =
     after HasGivenForms (document.optional document.join false Fragments members) _ (λ join.
     given (All IsBlock) HasGivenForms (document.optional document.blocks [] Same members) _
     (optional (All IsBlock) document.blocks [] (All-nil IsBlock) blocks Same members) (λ same are_blocks.
-    given HasUnicastSide HasGivenForms (document.side_table Left members) _ (side_table Left members) (λ left has_left.
-    given HasUnicastSide HasGivenForms (document.side_table Right members) _ (side_table Right members) (λ right has_right.
+    given HasSideForms HasGivenForms (document.side_table Left members) _ (side_table Left members) (λ left has_left.
+    given HasSideForms HasGivenForms (document.side_table Right members) _ (side_table Right members) (λ right has_right.
     given (All IsUnicastPair) HasGivenForms (document.optional document.statics [] Statics members) _
     (optional (All IsUnicastPair) document.statics [] (All-nil IsUnicastPair) statics Statics members) (λ statics are_pairs.
     given (All IsRule) HasGivenForms (document.optional document.oids [] Oids members) _
     (optional (All IsRule) document.oids [] (All-nil IsRule) oids Oids members) (λ oids are_rules. record {
       blocks = are_blocks;
-      left = has_left;
-      right = has_right;
+      left = has_left.0;
+      right = has_right.0;
+      macs = elim [ Left ↦ has_left.1 | Right ↦ has_right.1 ];
       statics = are_pairs;
       oids = list_all-from_AllPass is_rule oids are_rules;
     })))))))

@@ -9,6 +9,7 @@ use Rattle.gate_base.specs.declared.side.Link.{Link as LinkKind}
 use Rattle.gate_base.specs.declared.side.Link.TheVariants.{Ethernet, Raw}
 use Rattle.gate_base.specs.declared.side.Side.{Side}
 use Rattle.gate_base.specs.declared.side.Side.TheVariants.{Left, Right}
+use Rattle.settings_file.specs.declared.document.TheConstants.{LONGEST_SETTINGS}
 use Rattle.settings_file.specs.declared.key.Key.{Key}
 use Rattle.settings_file.specs.declared.key.Key.TheVariants.{Report, Fragments, Same, Table, PoolFirst, PoolLast, Link, GatewayMac, NextMac, Statics, StaticSide, StaticHost, StaticAlias, Oids, OidPrefix, OidSkip}
 use Rattle.settings_file.specs.declared.fault.SettingsFault.{SettingsFault}
@@ -227,6 +228,6 @@ document_of octets = if is_utf8 octets then parse_document octets else None
 -- the keys of octets, or the first fault in them
 unfoldable pub keys_of : List ℕ → Found Given
 keys_of octets =
-    if nat_lt 1048576 (length octets) then Err TooLong else do
+    if nat_lt LONGEST_SETTINGS (length octets) then Err TooLong else do
       document ← ok_or (document_of octets) NotToml
       all_keys document

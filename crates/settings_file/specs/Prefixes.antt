@@ -1,13 +1,14 @@
 -- The prefixes of rules about object identifiers, as texts.
 use Rattle.std.specs.Prelude.{ℕ, zero, suc, ◌+◌, ◌*◌, ◌&&◌, ◌||◌, ◌==◌, nat_lt, nat_le, Bool, if◌then◌else◌, List, [], ◌∷◌, length, slice_index, Option, Some, None}
-use Rattle.gate_base.specs.Prelude.{◌>>=◌, cut_at, digit_of, greatest, is_prefix}
+use Rattle.gate_base.specs.Prelude.{◌>>=◌, cut_at, digit_of, is_prefix}
+use Rattle.gate_base.specs.declared.rule.TheConstants.{GREATEST_ARC}
 
 -- the number that digits write behind those of another, where none on the way is above the greatest arc
 unfoldable pub arc_behind : ℕ → List ℕ → Option ℕ
 arc_behind number [] = Some number
 arc_behind number (octet ∷ octets) = do
   digit ← digit_of octet
-  if nat_le (10 * number + digit) greatest then arc_behind (10 * number + digit) octets else None
+  if nat_le (10 * number + digit) GREATEST_ARC then arc_behind (10 * number + digit) octets else None
 
 -- no digit, or a zero (48) before other digits
 abbrev pub is_no_number : List ℕ → Bool

@@ -16,7 +16,7 @@ use std::alloc::Global;
 use toml::Table;
 
 /// The most octets that a settings document may have.
-const LIMIT: usize = 1_048_576;
+pub const LONGEST_SETTINGS: usize = 1_048_576;
 
 fn read_document(alloc: Global, octets: &[u8]) -> Result<Table, ReadSettings>
     ensures { ReturnsFoundBy table_view result
@@ -39,7 +39,7 @@ fn read_keys(alloc: Global, octets: &[u8]) -> Result<Given, ReadSettings>
     ensures value { ReturnsFound result (keys_of octets.now) }
     ensures few { IfOk result (λ given. length given.settings.statics < 2 ^ 32) }
 {
-    if octets.len() > LIMIT {
+    if octets.len() > LONGEST_SETTINGS {
         return Err(ReadSettings::Fault(SettingsFault::TooLong));
     }
     let document = read_document(alloc, octets)?;

@@ -11,7 +11,7 @@ mod prefixes;
 mod texts;
 mod values;
 
-pub use document::read_settings;
+pub use document::{LONGEST_SETTINGS, read_settings};
 pub use fault::{FaultText, ReadSettings, SettingsFault};
 pub use key::{Key, KeyText};
 pub use laws::accepted_settings;

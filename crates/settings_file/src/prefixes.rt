@@ -3,14 +3,8 @@ ghost use Rattle.std.specs.Prelude.{◌≡◌, ◌==◌, ◌&&◌, ◌||◌, nat
 ghost use Rattle.gate_base.specs.Prelude.{is_prefix};
 ghost use Rattle.settings_file.specs.Prefixes.{arc_behind, arc_text, arcs_text, prefix_text};
 
-use gate_base::{Arcs, OutOfMemory, cut, read_number};
+use gate_base::{Arcs, GREATEST_ARC, MOST_ARCS, OutOfMemory, cut, read_number};
 use std::alloc::Global;
-
-/// The greatest arc.
-const GREATEST_ARC: u64 = 4_294_967_295;
-
-/// The most arcs of a prefix.
-const MOST_ARCS: usize = 64;
 
 /// The number that digits write behind those of another, where none on the way is above the greatest arc.
 fn arc_behind(number: u32, digits: &[u8]) -> Option<u32>

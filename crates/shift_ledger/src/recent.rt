@@ -2,15 +2,13 @@
 ghost use Rattle.std.specs.Prelude.{◌≡◌, ◌≤◌, ◌+◌, ◌-◌, [], ◌++◌, length, take, drop, IfOk, vec_capacity};
 ghost use Rattle.dialogue.specs.Prelude.{is_unlike, differ};
 
+use dialogue::MOST_RECENT;
 use gate_base::OutOfMemory;
 use std::alloc::Global;
 use std::marker::Model;
 
-/// The most octets that are kept.
-const LIMIT: usize = 65_536;
-
 /// The room for them: a quarter more, so that they are moved once for each 16,384 that are forgotten.
-const ROOM: usize = LIMIT + LIMIT / 4;
+const ROOM: usize = MOST_RECENT + MOST_RECENT / 4;
 
 /// The last octets of a stream, at most 65,536 of them. They are seen as the list of them.
 #[derive(Drop)]
@@ -45,14 +43,14 @@ impl Recent {
     /// The octets.
     pub fn octets(&self) -> &[u8]
         ensures octets { result.now ≡ self.now }
-        ensures few { length result.now ≤ 65536 }
+        ensures few { length result.now ≤ MOST_RECENT }
     {
         &self.octets[self.forgotten..]
     }
 
     /// Appends octets, for which there has to be room. It takes no memory.
     pub fn push(&mut self, octets: &[u8])
-        requires { length self.old + length octets.now ≤ 65536 }
+        requires { length self.old + length octets.now ≤ MOST_RECENT }
         ensures { self.new ≡ self.old ++ octets.now }
     {
         if ROOM < self.octets.len() + octets.len() {

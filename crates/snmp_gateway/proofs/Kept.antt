@@ -1,5 +1,7 @@
 -- What a message keeps where an address in it is replaced.
-use Rattle.std.proofs.Common.{◌≡◌, ℕ, zero, suc, ◌+◌, ◌-◌, ◌<◌, ◌≤◌, ◌==◌, ◌⊎◌, Bool, true, false, ◌&&◌, nat_le, List, [], ◌∷◌, ◌++◌, get_or, take, drop, length, Option, Some, None, option_map, option_to_list, unwrap_or, inl, inr, refl, ap, subst, ◌∙◌, sym, arith, length-drop, length-append, if◌then◌else◌}
+use Rattle.std.proofs.Common.{◌≡◌, ℕ, zero, suc, ◌+◌, ◌-◌, ◌<◌, ◌≤◌, ◌==◌, ◌⊎◌, Bool, true, false, ◌&&◌, nat_le, List, [], ◌∷◌, ◌++◌, get_or, take}
+use Rattle.std.proofs.Common.{drop, length, Option, Some, None, option_map, option_to_list, unwrap_or, inl, inr, refl, ap, subst, ◌∙◌, sym, arith}
+use Rattle.std.proofs.Common.{length-drop, length-append, if◌then◌else◌}
 use Rattle.std.proofs.lemmas.Bool.Decides.{nat_tests}
 use Rattle.std.proofs.lemmas.Option.{same_Some}
 use Rattle.std.proofs.lemmas.List.{length-take-le, get_or-take, get_or-drop, get_or_append_left, get_or-append_right}
@@ -10,10 +12,11 @@ use Rattle.snmp_gateway.proofs.Elements.{element_room, element_alike}
 use Rattle.snmp_gateway.specs.declared.message.SnmpKind.{SnmpKind}
 use Rattle.snmp_gateway.specs.declared.part.Part.{Part}
 use Rattle.snmp_gateway.specs.declared.part.Piece.{Piece}
-use Rattle.snmp_gateway.specs.Parts.{integer, object_identifier, sequence, ip_address, time_ticks, has_right_size, piece_of, first_of, field, skip, only, in_sequence}
+use Rattle.snmp_gateway.specs.Parts.{has_right_size, piece_of, first_of, field, behind_fields, only, in_sequence}
+use Rattle.snmp_gateway.specs.declared.part.TheConstants.{INTEGER, IP_ADDRESS, OBJECT_IDENTIFIER, SEQUENCE, TIME_TICKS}
 use Rattle.snmp_gateway.specs.Message.{is_value_tag, address_in, binding, bindings_within, request, trap}
 use Rattle.snmp_gateway.specs.Renaming.{renamed_at}
-use Rattle.snmp_gateway.proofs.Reading.{bound, tested, Read, first_read, within_size, address_size, first_cut, field_cut, skip_follows, only_first, binding_leaves}
+use Rattle.snmp_gateway.proofs.Reading.{bound, tested, Read, first_read, within_size, address_size, first_cut, field_cut, behind_follows, only_first, binding_leaves}
 
 -- at most the four octets at a place are others
 pub record Differs (place : ℕ) (old new : List ℕ) : Type 0 where
@@ -150,18 +153,18 @@ earlier : (place start content later from : ℕ) → content ≤ later → start
 earlier place start content later from a b (inl before) = inl (omega arith)
 earlier place start content later from a b (inr behind) = inr (omega arith)
 
-pub skip_same : (place : ℕ) (old new : List ℕ) → Differs place old new → (tags : List ℕ) (part rest : Part) → skip old tags part ≡ Some rest
-    → (rest.start ≤ place) ⊎ (place + 4 ≤ part.start) → skip new tags part ≡ Some rest
-unfolding skip
-skip_same place old new differs [] part rest e clear = e
-skip_same place old new differs (tag ∷ tags) part rest e clear =
+pub behind_same : (place : ℕ) (old new : List ℕ) → Differs place old new → (tags : List ℕ) (part rest : Part) → behind_fields old tags part ≡ Some rest
+    → (rest.start ≤ place) ⊎ (place + 4 ≤ part.start) → behind_fields new tags part ≡ Some rest
+unfolding behind_fields
+behind_same place old new differs [] part rest e clear = e
+behind_same place old new differs (tag ∷ tags) part rest e clear =
     let piece = bound (field old tag part) _ rest e in
     let cut = field_cut old tag part piece.value piece.is in
-    let follows = skip_follows old tags piece.value.rest rest piece.then_is in
+    let follows = behind_follows old tags piece.value.rest rest piece.then_is in
     let on = clear_on place part.start piece.value.content.start piece.value.rest.start rest.start (omega (arith, cut.head))
     (omega (arith, cut.content, cut.next)) follows.start clear in
-    ap (λ o. o >>= λ piece. skip new tags piece.rest) (field_same place old new differs tag part piece.value piece.is on.0)
-    ∙ skip_same place old new differs tags piece.value.rest rest piece.then_is on.1
+    ap (λ o. o >>= λ piece. behind_fields new tags piece.rest) (field_same place old new differs tag part piece.value piece.is on.0)
+    ∙ behind_same place old new differs tags piece.value.rest rest piece.then_is on.1
 
 -- the content of a part's only element
 pub record Fills (octets : List ℕ) (part content : Part) : Type 0 where
@@ -191,7 +194,7 @@ sequence_same place old new differs part content e clear =
     let piece = bound (only old part) _ content e in
     let right = tested _ _ _ piece.then_is in
     let here = subst (λ (n : ℕ). (n ≤ place) ⊎ (place + 4 ≤ part.start)) (sym (ap (λ (p : Part). p.start) right.same)) clear in
-    ap (λ o. o >>= λ piece. if piece.tag == sequence then Some piece.content else None)
+    ap (λ o. o >>= λ piece. if piece.tag == SEQUENCE then Some piece.content else None)
     (only_same place old new differs part piece.value piece.is here)
     ∙ ap (λ b. if b then Some piece.value.content else None) right.holds
     ∙ ap Some right.same
@@ -202,27 +205,27 @@ binding_kept : (place : ℕ) (old new : List ℕ) → Differs place old new → 
     → binding new kind part ≡ Some found
 unfolding binding
 binding_kept place old new differs kind part found e clear =
-    let pair = bound (field old sequence part) _ found e in
-    let name = bound (skip old (object_identifier ∷ []) pair.value.content) _ found pair.then_is in
+    let pair = bound (field old SEQUENCE part) _ found e in
+    let name = bound (behind_fields old (OBJECT_IDENTIFIER ∷ []) pair.value.content) _ found pair.then_is in
     let value = bound (only old name.value) _ found name.then_is in
     let right = tested _ _ _ value.then_is in
-    let cut = field_cut old sequence part pair.value pair.is in
-    let follows = skip_follows old (object_identifier ∷ []) pair.value.content name.value name.is in
+    let cut = field_cut old SEQUENCE part pair.value pair.is in
+    let follows = behind_follows old (OBJECT_IDENTIFIER ∷ []) pair.value.content name.value name.is in
     let first = only_first old name.value value.value value.is in
     let value_cut = first_cut old name.value value.value first.0 in
     let address = ap (λ (f : Option ℕ × Part). f.0) right.same in
     let rest = ap (λ (f : Option ℕ × Part). f.1.start) right.same in
     let here = clear value.value address (omega (arith, cut.next, follows.end, value_cut.content, value_cut.next, value_cut.end, first.1, rest)) in
-    let pair_same = field_same place old new differs sequence part pair.value pair.is
+    let pair_same = field_same place old new differs SEQUENCE part pair.value pair.is
     (earlier place part.start pair.value.content.start value.value.content.start part.start (omega (arith, follows.start, value_cut.head))
     (omega arith) here) in
-    let name_same = skip_same place old new differs (object_identifier ∷ []) pair.value.content name.value name.is
+    let name_same = behind_same place old new differs (OBJECT_IDENTIFIER ∷ []) pair.value.content name.value name.is
     (earlier place part.start name.value.start value.value.content.start pair.value.content.start (omega (arith, value_cut.head))
     (omega (arith, cut.head)) here) in
     let value_same = only_same place old new differs name.value value.value value.is
     (earlier place part.start value.value.content.start value.value.content.start name.value.start (omega arith)
     (omega (arith, cut.head, follows.start)) here) in
-    ap (λ o. o >>= λ pair. skip new (object_identifier ∷ []) pair.content >>= λ rest. only new rest >>= λ value. if is_value_tag kind
+    ap (λ o. o >>= λ pair. behind_fields new (OBJECT_IDENTIFIER ∷ []) pair.content >>= λ rest. only new rest >>= λ value. if is_value_tag kind
     value.tag then Some (address_in value, pair.rest) else None) pair_same
     ∙ ap (λ o. o >>= λ rest. only new rest >>= λ value. if is_value_tag kind value.tag then Some (address_in value, pair.value.rest) else None)
     name_same
@@ -353,8 +356,8 @@ pub record Opens (part : Part) (agent : Option ℕ) (rest : Part) : Type 0 where
 
 pub request_opens : (octets : List ℕ) (part : Part) (found : Option ℕ × Part) → request octets part ≡ Some found → Opens part found.0 found.1
 request_opens octets part found e =
-    let rest = bound (skip octets (integer ∷ integer ∷ integer ∷ []) part) _ found e in
-    let follows = skip_follows octets (integer ∷ integer ∷ integer ∷ []) part rest.value rest.is in
+    let rest = bound (behind_fields octets (INTEGER ∷ INTEGER ∷ INTEGER ∷ []) part) _ found e in
+    let follows = behind_follows octets (INTEGER ∷ INTEGER ∷ INTEGER ∷ []) part rest.value rest.is in
     let same = same_Some _ _ rest.then_is in
     record {
       start = omega (arith, follows.start, ap (λ (f : Option ℕ × Part). f.1.start) same);
@@ -365,29 +368,29 @@ request_opens octets part found e =
 pub request_same : (place : ℕ) (old new : List ℕ) → Differs place old new → (part : Part) (found : Option ℕ × Part) → request old part ≡ Some found
     → (found.0 ≡ Some place) ⊎ (found.1.start ≤ place) → request new part ≡ Some found
 request_same place old new differs part found e clear =
-    let rest = bound (skip old (integer ∷ integer ∷ integer ∷ []) part) _ found e in
+    let rest = bound (behind_fields old (INTEGER ∷ INTEGER ∷ INTEGER ∷ []) part) _ found e in
     let same = same_Some _ _ rest.then_is in
     let none : found.0 ≡ Some place → rest.value.start ≤ place = λ is. let wrong = ap (λ (f : Option ℕ × Part). f.0) same ∙ is in absurd cc in
     let behind : found.1.start ≤ place → rest.value.start ≤ place = λ h. omega (arith, h, ap (λ (f : Option ℕ × Part). f.1.start) same) in
     let here : rest.value.start ≤ place = elim clear [ inl is ↦ none is | inr h ↦ behind h ] in
-    ap (λ o. o >>= λ rest. Some (None, rest)) (skip_same place old new differs (integer ∷ integer ∷ integer ∷ []) part rest.value rest.is (inl here))
+    ap (λ o. o >>= λ rest. Some (None, rest)) (behind_same place old new differs (INTEGER ∷ INTEGER ∷ INTEGER ∷ []) part rest.value rest.is (inl here))
     ∙ rest.then_is
 
 -- how a trap was read
 record ReadsTrap (octets : List ℕ) (part : Part) (found : Option ℕ × Part) : Type 0 where
   pub before : Part
-  pub before_is : skip octets (object_identifier ∷ []) part ≡ Some before
+  pub before_is : behind_fields octets (OBJECT_IDENTIFIER ∷ []) part ≡ Some before
   pub agent : Piece
-  pub agent_is : field octets ip_address before ≡ Some agent
+  pub agent_is : field octets IP_ADDRESS before ≡ Some agent
   pub rest : Part
-  pub rest_is : skip octets (integer ∷ integer ∷ time_ticks ∷ []) agent.rest ≡ Some rest
+  pub rest_is : behind_fields octets (INTEGER ∷ INTEGER ∷ TIME_TICKS ∷ []) agent.rest ≡ Some rest
   pub found_is : found ≡ (Some agent.content.start, rest)
 
 trap_read : (octets : List ℕ) (part : Part) (found : Option ℕ × Part) → trap octets part ≡ Some found → ReadsTrap octets part found
 trap_read octets part found e =
-    let before = bound (skip octets (object_identifier ∷ []) part) _ found e in
-    let agent = bound (field octets ip_address before.value) _ found before.then_is in
-    let rest = bound (skip octets (integer ∷ integer ∷ time_ticks ∷ []) agent.value.rest) _ found agent.then_is in
+    let before = bound (behind_fields octets (OBJECT_IDENTIFIER ∷ []) part) _ found e in
+    let agent = bound (field octets IP_ADDRESS before.value) _ found before.then_is in
+    let rest = bound (behind_fields octets (INTEGER ∷ INTEGER ∷ TIME_TICKS ∷ []) agent.value.rest) _ found agent.then_is in
     record {
       before = before.value;
       before_is = before.is;
@@ -400,26 +403,26 @@ trap_read octets part found e =
 
 trap_made : (octets : List ℕ) (part : Part) (found : Option ℕ × Part) → ReadsTrap octets part found → trap octets part ≡ Some found
 trap_made octets part found read =
-    ap (λ o. o >>= λ rest. field octets ip_address rest >>= λ agent. skip octets (integer ∷ integer ∷ time_ticks ∷ []) agent.rest >>= λ rest. Some
+    ap (λ o. o >>= λ rest. field octets IP_ADDRESS rest >>= λ agent. behind_fields octets (INTEGER ∷ INTEGER ∷ TIME_TICKS ∷ []) agent.rest >>= λ rest. Some
     (Some agent.content.start, rest)) read.before_is
-    ∙ ap (λ o. o >>= λ agent. skip octets (integer ∷ integer ∷ time_ticks ∷ []) agent.rest >>= λ rest. Some (Some agent.content.start, rest))
+    ∙ ap (λ o. o >>= λ agent. behind_fields octets (INTEGER ∷ INTEGER ∷ TIME_TICKS ∷ []) agent.rest >>= λ rest. Some (Some agent.content.start, rest))
     read.agent_is
     ∙ ap (λ o. o >>= λ rest. Some (Some read.agent.content.start, rest)) read.rest_is
     ∙ ap Some (sym read.found_is)
 
-agent_size : (octets : List ℕ) (part : Part) (agent : Piece) → field octets ip_address part ≡ Some agent → agent.content.start + 4 ≡ agent.content.end
+agent_size : (octets : List ℕ) (part : Part) (agent : Piece) → field octets IP_ADDRESS part ≡ Some agent → agent.content.start + 4 ≡ agent.content.end
 agent_size octets part agent e =
     let first = bound (first_of octets part) _ agent e in
     let right = tested _ _ _ first.then_is in
-    address_size octets part agent (first.is ∙ ap Some right.same) (ap (λ (p : Piece). p.tag == ip_address) (sym right.same) ∙ right.holds)
+    address_size octets part agent (first.is ∙ ap Some right.same) (ap (λ (p : Piece). p.tag == IP_ADDRESS) (sym right.same) ∙ right.holds)
 
 pub trap_opens : (octets : List ℕ) (part : Part) (found : Option ℕ × Part) → trap octets part ≡ Some found → Opens part found.0 found.1
 trap_opens octets part found e =
     let read = trap_read octets part found e in
-    let before = skip_follows octets (object_identifier ∷ []) part read.before read.before_is in
-    let cut = field_cut octets ip_address read.before read.agent read.agent_is in
+    let before = behind_follows octets (OBJECT_IDENTIFIER ∷ []) part read.before read.before_is in
+    let cut = field_cut octets IP_ADDRESS read.before read.agent read.agent_is in
     let size = agent_size octets read.before read.agent read.agent_is in
-    let follows = skip_follows octets (integer ∷ integer ∷ time_ticks ∷ []) read.agent.rest read.rest read.rest_is in
+    let follows = behind_follows octets (INTEGER ∷ INTEGER ∷ TIME_TICKS ∷ []) read.agent.rest read.rest read.rest_is in
     let start = ap (λ (f : Option ℕ × Part). f.1.start) read.found_is in
     record {
       start = omega (arith, before.start, cut.head, cut.content, cut.next, follows.start, start);
@@ -433,9 +436,9 @@ pub trap_same : (place : ℕ) (old new : List ℕ) → Differs place old new →
     → (found.0 ≡ Some place) ⊎ (found.1.start ≤ place) → trap new part ≡ Some found
 trap_same place old new differs part found e clear =
     let read = trap_read old part found e in
-    let cut = field_cut old ip_address read.before read.agent read.agent_is in
+    let cut = field_cut old IP_ADDRESS read.before read.agent read.agent_is in
     let size = agent_size old read.before read.agent read.agent_is in
-    let follows = skip_follows old (integer ∷ integer ∷ time_ticks ∷ []) read.agent.rest read.rest read.rest_is in
+    let follows = behind_follows old (INTEGER ∷ INTEGER ∷ TIME_TICKS ∷ []) read.agent.rest read.rest read.rest_is in
     let start = ap (λ (f : Option ℕ × Part). f.1.start) read.found_is in
     let address : found.0 ≡ Some place → read.agent.content.start ≡ place =
     λ is. same_Some _ _ (sym (ap (λ (f : Option ℕ × Part). f.0) read.found_is) ∙ is) in
@@ -445,10 +448,10 @@ trap_same place old new differs part found e clear =
     elim clear [ inl is ↦ inr (omega (arith, address is, size, cut.next)) | inr h ↦ inl (omega (arith, h, start)) ] in
     trap_made new part found (record {
       before = read.before;
-      before_is = skip_same place old new differs (object_identifier ∷ []) part read.before read.before_is (inl (omega (arith, head, cut.head)));
+      before_is = behind_same place old new differs (OBJECT_IDENTIFIER ∷ []) part read.before read.before_is (inl (omega (arith, head, cut.head)));
       agent = read.agent;
-      agent_is = field_same place old new differs ip_address read.before read.agent read.agent_is (inl head);
+      agent_is = field_same place old new differs IP_ADDRESS read.before read.agent read.agent_is (inl head);
       rest = read.rest;
-      rest_is = skip_same place old new differs (integer ∷ integer ∷ time_ticks ∷ []) read.agent.rest read.rest read.rest_is behind;
+      rest_is = behind_same place old new differs (INTEGER ∷ INTEGER ∷ TIME_TICKS ∷ []) read.agent.rest read.rest read.rest_is behind;
       found_is = read.found_is;
     })

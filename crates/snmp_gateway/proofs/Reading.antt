@@ -9,7 +9,8 @@ use Rattle.snmp_gateway.proofs.Elements.{element_room}
 use Rattle.snmp_gateway.specs.declared.message.SnmpKind.{SnmpKind}
 use Rattle.snmp_gateway.specs.declared.part.Part.{Part}
 use Rattle.snmp_gateway.specs.declared.part.Piece.{Piece}
-use Rattle.snmp_gateway.specs.Parts.{object_identifier, ip_address, sequence, has_right_size, octets_in, piece_of, first_of, field, skip, only}
+use Rattle.snmp_gateway.specs.Parts.{has_right_size, octets_in, piece_of, first_of, field, behind_fields, only}
+use Rattle.snmp_gateway.specs.declared.part.TheConstants.{IP_ADDRESS, OBJECT_IDENTIFIER, SEQUENCE}
 use Rattle.snmp_gateway.specs.declared.outline.Outline.{Outline}
 use Rattle.snmp_gateway.specs.Message.{binding, bindings_within, bindings, outline_of, places_ahead, message, kind_of}
 
@@ -96,25 +97,25 @@ first_cut octets part piece e =
       within = read.in_message;
     }
 
--- fields are skipped one after another
-skip_more : (octets tags : List ℕ) (part : Part) (i : ℕ) → i < length tags
-    → skip octets (drop i tags) part ≡ (field octets (get_or tags i 0) part >>= λ piece. skip octets (drop (i + 1) tags) piece.rest)
-unfolding skip
-skip_more octets tags part i below = rw (add-one, drop-cons tags i 0)
+-- what is behind fields, one after another
+behind_more : (octets tags : List ℕ) (part : Part) (i : ℕ) → i < length tags
+    → behind_fields octets (drop i tags) part ≡ (field octets (get_or tags i 0) part >>= λ piece. behind_fields octets (drop (i + 1) tags) piece.rest)
+unfolding behind_fields
+behind_more octets tags part i below = rw (add-one, drop-cons tags i 0)
 
-pub skip_next : (octets tags : List ℕ) (part : Part) (i : ℕ) (o : Option Piece) (piece : Piece) → i < length tags
-    → o ≡ field octets (get_or tags i 0) part → o ≡ Some piece → skip octets (drop i tags) part ≡ skip octets (drop (i + 1) tags) piece.rest
-skip_next octets tags part i o piece below is found =
-    skip_more octets tags part i below ∙ ap (λ o. o >>= λ piece. skip octets (drop (i + 1) tags) piece.rest) (sym is ∙ found)
+pub behind_next : (octets tags : List ℕ) (part : Part) (i : ℕ) (o : Option Piece) (piece : Piece) → i < length tags
+    → o ≡ field octets (get_or tags i 0) part → o ≡ Some piece → behind_fields octets (drop i tags) part ≡ behind_fields octets (drop (i + 1) tags) piece.rest
+behind_next octets tags part i o piece below is found =
+    behind_more octets tags part i below ∙ ap (λ o. o >>= λ piece. behind_fields octets (drop (i + 1) tags) piece.rest) (sym is ∙ found)
 
-pub skip_fails : (octets tags : List ℕ) (part : Part) (i : ℕ) (o : Option Piece) → i < length tags → o ≡ field octets (get_or tags i 0) part
-    → o ≡ None → skip octets (drop i tags) part ≡ None
-skip_fails octets tags part i o below is none =
-    skip_more octets tags part i below ∙ ap (λ o. o >>= λ piece. skip octets (drop (i + 1) tags) piece.rest) (sym is ∙ none)
+pub behind_fails : (octets tags : List ℕ) (part : Part) (i : ℕ) (o : Option Piece) → i < length tags → o ≡ field octets (get_or tags i 0) part
+    → o ≡ None → behind_fields octets (drop i tags) part ≡ None
+behind_fails octets tags part i o below is none =
+    behind_more octets tags part i below ∙ ap (λ o. o >>= λ piece. behind_fields octets (drop (i + 1) tags) piece.rest) (sym is ∙ none)
 
-pub skip_ends : (octets tags : List ℕ) (part : Part) (i : ℕ) → length tags ≤ i → skip octets (drop i tags) part ≡ Some part
-unfolding skip
-skip_ends octets tags part i past = rw drop_all
+pub behind_none : (octets tags : List ℕ) (part : Part) (i : ℕ) → length tags ≤ i → behind_fields octets (drop i tags) part ≡ Some part
+unfolding behind_fields
+behind_none octets tags part i past = rw drop_all
 
 pub field_cut : (octets : List ℕ) (tag : ℕ) (part : Part) (piece : Piece) → field octets tag part ≡ Some piece → IsCut octets part piece
 field_cut octets tag part piece e =
@@ -123,31 +124,31 @@ field_cut octets tag part piece e =
     first_cut octets part piece (first.is ∙ ap Some right.same)
 
 -- an address has four octets
-pub address_size : (octets : List ℕ) (part : Part) (piece : Piece) → first_of octets part ≡ Some piece → (piece.tag == ip_address) ≡ true
+pub address_size : (octets : List ℕ) (part : Part) (piece : Piece) → first_of octets part ≡ Some piece → (piece.tag == IP_ADDRESS) ≡ true
     → piece.content.start + 4 ≡ piece.content.end
 address_size octets part piece e is =
     let read = first_read octets part piece e in
     let size = within_size octets read.within part.start part.end read.within_is read.ordered read.in_message in
     let room = element_room read.within read.element read.rest read.found in
-    let tag : read.element.tag ≡ ip_address = sym (ap (λ (p : Piece). p.tag) read.piece_is) ∙ eqb-true _ _ is in
+    let tag : read.element.tag ≡ IP_ADDRESS = sym (ap (λ (p : Piece). p.tag) read.piece_is) ∙ eqb-true _ _ is in
     let four = eqb-true _ _ (sym (ap (λ n. has_right_size n (length read.element.content)) tag) ∙ read.right) in
     let start = ap (λ (p : Piece). p.content.start) read.piece_is in
     let stop = ap (λ (p : Piece). p.content.end) read.piece_is in
     omega (arith, size, room, four, start, stop)
 
--- what skipped fields leave
+-- what is behind fields follows them
 pub record Follows (part rest : Part) : Type 0 where
   pub start : part.start ≤ rest.start
   pub end : rest.end ≡ part.end
 
-pub skip_follows : (octets tags : List ℕ) (part rest : Part) → skip octets tags part ≡ Some rest → Follows part rest
-unfolding skip
-skip_follows octets [] part rest e = let same = same_Some _ _ e in
+pub behind_follows : (octets tags : List ℕ) (part rest : Part) → behind_fields octets tags part ≡ Some rest → Follows part rest
+unfolding behind_fields
+behind_follows octets [] part rest e = let same = same_Some _ _ e in
     record { start = omega (arith, ap (λ (p : Part). p.start) same); end = sym (ap (λ (p : Part). p.end) same) }
-skip_follows octets (tag ∷ tags) part rest e =
+behind_follows octets (tag ∷ tags) part rest e =
     let piece = bound (field octets tag part) _ rest e in
     let cut = field_cut octets tag part piece.value piece.is in
-    let more = skip_follows octets tags piece.value.rest rest piece.then_is in
+    let more = behind_follows octets tags piece.value.rest rest piece.then_is in
     record { start = omega (arith, cut.head, cut.content, cut.next, more.start); end = more.end ∙ cut.end }
 
 pub only_first : (octets : List ℕ) (part : Part) (piece : Piece) → only octets part ≡ Some piece → (first_of octets part ≡ Some piece)
@@ -169,14 +170,14 @@ pub binding_leaves : (octets : List ℕ) (kind : SnmpKind) (part : Part) (found 
     → Leaves octets part found.0 found.1
 unfolding binding
 binding_leaves octets kind part found e =
-    let pair = bound (field octets sequence part) _ found e in
-    let name = bound (skip octets (object_identifier ∷ []) pair.value.content) _ found pair.then_is in
+    let pair = bound (field octets SEQUENCE part) _ found e in
+    let name = bound (behind_fields octets (OBJECT_IDENTIFIER ∷ []) pair.value.content) _ found pair.then_is in
     let value = bound (only octets name.value) _ found name.then_is in
     let right = tested _ _ _ value.then_is in
-    let cut = field_cut octets sequence part pair.value pair.is in
+    let cut = field_cut octets SEQUENCE part pair.value pair.is in
     let rest = ap (λ (f : Option ℕ × Part). f.1.start) right.same in
     let end = ap (λ (f : Option ℕ × Part). f.1.end) right.same in
-    let follows = skip_follows octets (object_identifier ∷ []) pair.value.content name.value name.is in
+    let follows = behind_follows octets (OBJECT_IDENTIFIER ∷ []) pair.value.content name.value name.is in
     let first = only_first octets name.value value.value value.is in
     let value_cut = first_cut octets name.value value.value first.0 in
     record {

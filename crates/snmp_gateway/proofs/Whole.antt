@@ -8,11 +8,13 @@ use Rattle.snmp_gateway.specs.declared.part.Piece.{Piece}
 use Rattle.snmp_gateway.specs.declared.outline.Outline.{Outline}
 use Rattle.snmp_gateway.specs.declared.message.SnmpKind.{SnmpKind}
 use Rattle.snmp_gateway.specs.declared.message.SnmpKind.TheVariants.{V1, V2, V3}
-use Rattle.snmp_gateway.specs.Parts.{integer, octet_string, field, skip, only, in_sequence}
-use Rattle.snmp_gateway.specs.Message.{bindings_within, bindings, request, trap, trap_tag, is_pdu_tag, pdu, with_community, by_version, outline_of, places_ahead, message, kind_of, places_of, AreApart}
+use Rattle.snmp_gateway.specs.Parts.{field, behind_fields, only, in_sequence}
+use Rattle.snmp_gateway.specs.declared.part.TheConstants.{INTEGER, OCTET_STRING}
+use Rattle.snmp_gateway.specs.Message.{bindings_within, bindings, request, trap, is_pdu_tag, pdu, with_community, by_version, outline_of, places_ahead, message, kind_of, places_of, AreApart}
+use Rattle.snmp_gateway.specs.declared.outline.TheConstants.{TRAP_TAG}
 use Rattle.snmp_gateway.specs.Renaming.{renamed_at, renamed}
-use Rattle.snmp_gateway.proofs.Reading.{bound, first_cut, field_cut, skip_follows, only_first, binding_leaves}
-use Rattle.snmp_gateway.proofs.Kept.{Differs, renamed_differs, IsAmong, among_either, none_among, Ends, Goes, bindings_read, place_follows, bindings_same, Opens, request_opens, request_same, trap_opens, trap_same, sequence_fills, sequence_same, field_same, skip_same, only_same}
+use Rattle.snmp_gateway.proofs.Reading.{bound, first_cut, field_cut, behind_follows, only_first, binding_leaves}
+use Rattle.snmp_gateway.proofs.Kept.{Differs, renamed_differs, IsAmong, among_either, none_among, Ends, Goes, bindings_read, place_follows, bindings_same, Opens, request_opens, request_same, trap_opens, trap_same, sequence_fills, sequence_same, field_same, behind_same, only_same}
 
 pub tested_first : {A : Type 0} (test : Bool) (o : Option A) (x : A) → (if test then o else None) ≡ Some x → (test ≡ true) × (o ≡ Some x)
 tested_first true o x e = (refl, e)
@@ -28,15 +30,15 @@ pdu_opens : (octets : List ℕ) (kind : SnmpKind) (piece : Piece) (found : Optio
     → Opens piece.content found.0 found.1
 pdu_opens octets kind piece found e =
     let right = tested_first (is_pdu_tag kind piece.tag) _ found e in
-    one_of (piece.tag == trap_tag) (trap octets piece.content) (request octets piece.content) (Some found) right.1
+    one_of (piece.tag == TRAP_TAG) (trap octets piece.content) (request octets piece.content) (Some found) right.1
     (trap_opens octets piece.content found) (request_opens octets piece.content found)
 
 pdu_same : (place : ℕ) (old new : List ℕ) → Differs place old new → (kind : SnmpKind) (piece : Piece) (found : Option ℕ × Part)
     → pdu old kind piece ≡ Some found → (found.0 ≡ Some place) ⊎ (found.1.start ≤ place) → pdu new kind piece ≡ Some found
 pdu_same place old new differs kind piece found e clear =
     let right = tested_first (is_pdu_tag kind piece.tag) _ found e in
-    ap (λ b. if b then (if piece.tag == trap_tag then trap new piece.content else request new piece.content) else None) right.0
-    ∙ by_tag (piece.tag == trap_tag) right.1
+    ap (λ b. if b then (if piece.tag == TRAP_TAG then trap new piece.content else request new piece.content) else None) right.0
+    ∙ by_tag (piece.tag == TRAP_TAG) right.1
   where
     by_tag : (test : Bool) → (if test then trap old piece.content else request old piece.content) ≡ Some found
         → (if test then trap new piece.content else request new piece.content) ≡ Some found
@@ -46,7 +48,7 @@ pdu_same place old new differs kind piece found e clear =
 -- how a message with a community was read
 record ReadsCommunity (octets : List ℕ) (kind : SnmpKind) (part : Part) (outline : Outline) : Type 0 where
   pub rest : Part
-  pub rest_is : skip octets (octet_string ∷ []) part ≡ Some rest
+  pub rest_is : behind_fields octets (OCTET_STRING ∷ []) part ≡ Some rest
   pub piece : Piece
   pub piece_is : only octets rest ≡ Some piece
   pub behind : Part
@@ -57,7 +59,7 @@ record ReadsCommunity (octets : List ℕ) (kind : SnmpKind) (part : Part) (outli
 community_read : (octets : List ℕ) (kind : SnmpKind) (part : Part) (outline : Outline) → with_community octets kind part ≡ Some outline
     → ReadsCommunity octets kind part outline
 community_read octets kind part outline e =
-    let rest = bound (skip octets (octet_string ∷ []) part) _ outline e in
+    let rest = bound (behind_fields octets (OCTET_STRING ∷ []) part) _ outline e in
     let piece = bound (only octets rest.value) _ outline rest.then_is in
     let found = bound (pdu octets kind piece.value) _ outline piece.then_is in
     let sequence = bound (in_sequence octets found.value.1) _ outline found.then_is in
@@ -95,7 +97,7 @@ pub record Stands (octets : List ℕ) (start : ℕ) (outline : Outline) : Type 0
 community_stands : (octets : List ℕ) (kind : SnmpKind) (part : Part) (outline : Outline) → ReadsCommunity octets kind part outline
     → Stands octets part.start outline
 community_stands octets kind part outline read =
-    let follows = skip_follows octets (octet_string ∷ []) part read.rest read.rest_is in
+    let follows = behind_follows octets (OCTET_STRING ∷ []) part read.rest read.rest_is in
     let first = only_first octets read.rest read.piece read.piece_is in
     let cut = first_cut octets read.rest read.piece first.0 in
     let opens = pdu_opens octets kind read.piece (outline.agent, read.behind) read.behind_is in
@@ -123,7 +125,7 @@ community_same place old new differs kind part outline read clear =
     elim clear [ inl is ↦ (opens.inside place is).0 | inr h ↦ omega (arith, h, fills.start, opens.start) ] in
     record {
       rest = read.rest;
-      rest_is = skip_same place old new differs (octet_string ∷ []) part read.rest read.rest_is (inl (omega (arith, head, cut.head)));
+      rest_is = behind_same place old new differs (OCTET_STRING ∷ []) part read.rest read.rest_is (inl (omega (arith, head, cut.head)));
       piece = read.piece;
       piece_is = only_same place old new differs read.rest read.piece read.piece_is (inl head);
       behind = read.behind;
@@ -181,7 +183,7 @@ record ReadsOutline (octets : List ℕ) (outline : Outline) : Type 0 where
   pub content : Part
   pub content_is : in_sequence octets (record { start = 0; end = length octets }) ≡ Some content
   pub version : Piece
-  pub version_is : field octets integer content ≡ Some version
+  pub version_is : field octets INTEGER content ≡ Some version
   pub one : (version.content.end - version.content.start == 1) ≡ true
   pub outline_is : by_version octets (slice_index octets version.content.start) version.rest ≡ Some outline
 
@@ -189,14 +191,14 @@ outline_read : (octets : List ℕ) (outline : Outline) → outline_of octets ≡
 unfolding outline_of
 outline_read octets outline e =
     let content = bound (in_sequence octets (record { start = 0; end = length octets })) _ outline e in
-    let version = bound (field octets integer content.value) _ outline content.then_is in
+    let version = bound (field octets INTEGER content.value) _ outline content.then_is in
     let right = tested_first _ _ _ version.then_is in
     record { content = content.value; content_is = content.is; version = version.value; version_is = version.is; one = right.0; outline_is = right.1 }
 
 outline_made : (octets : List ℕ) (outline : Outline) → ReadsOutline octets outline → outline_of octets ≡ Some outline
 unfolding outline_of
 outline_made octets outline read =
-    ap (λ o. o >>= λ content. field octets integer content >>= λ version. if version.content.end - version.content.start == 1 then by_version octets
+    ap (λ o. o >>= λ content. field octets INTEGER content >>= λ version. if version.content.end - version.content.start == 1 then by_version octets
     (slice_index octets version.content.start) version.rest else None) read.content_is
     ∙ ap (λ o. o >>= λ version. if version.content.end - version.content.start == 1 then by_version octets (slice_index octets version.content.start)
     version.rest else None) read.version_is
@@ -206,7 +208,7 @@ outline_made octets outline read =
 pub outline_stands : (octets : List ℕ) (outline : Outline) → outline_of octets ≡ Some outline → Stands octets 1 outline
 outline_stands octets outline e =
     let read = outline_read octets outline e in
-    let cut = field_cut octets integer read.content read.version read.version_is in
+    let cut = field_cut octets INTEGER read.content read.version read.version_is in
     let stands = by_version_stands octets (slice_index octets read.version.content.start) read.version.rest outline
     (omega (arith, cut.rest, cut.end, cut.within)) read.outline_is in
     record {
@@ -220,7 +222,7 @@ pub outline_same : (place : ℕ) (old new : List ℕ) → Differs place old new 
     → (outline.agent ≡ Some place) ⊎ (outline.bindings.start ≤ place) → outline_of new ≡ Some outline
 outline_same place old new differs outline e clear =
     let read = outline_read old outline e in
-    let cut = field_cut old integer read.content read.version read.version_is in
+    let cut = field_cut old INTEGER read.content read.version read.version_is in
     let stands = by_version_stands old (slice_index old read.version.content.start) read.version.rest outline
     (omega (arith, cut.rest, cut.end, cut.within)) read.outline_is in
     let size = eqb-true _ _ read.one in
@@ -232,7 +234,7 @@ outline_same place old new differs outline e clear =
       content_is = whole ∙ sequence_same place old new differs (record { start = 0; end = length old }) read.content read.content_is
           (inl (omega (arith, head, cut.head, cut.content, cut.next)));
       version = read.version;
-      version_is = field_same place old new differs integer read.content read.version read.version_is
+      version_is = field_same place old new differs INTEGER read.content read.version read.version_is
           (inl (omega (arith, head, cut.content, cut.next)));
       one = read.one;
       outline_is = ap (λ n. by_version new n read.version.rest) octet

@@ -4,14 +4,16 @@ use Rattle.std.specs.List.{list_any}
 use Rattle.gate_base.specs.Prelude.{◌>>=◌}
 use Rattle.snmp_gateway.specs.declared.message.SnmpKind.{SnmpKind}
 use Rattle.snmp_gateway.specs.declared.message.SnmpKind.TheVariants.{V1, V2, V3}
+use Rattle.snmp_gateway.specs.declared.outline.TheConstants.{TRAP_TAG}
 use Rattle.snmp_gateway.specs.declared.outline.Outline.{Outline}
 use Rattle.snmp_gateway.specs.declared.part.Part.{Part}
 use Rattle.snmp_gateway.specs.declared.part.Piece.{Piece}
-use Rattle.snmp_gateway.specs.Parts.{integer, octet_string, null, object_identifier, sequence, ip_address, counter, gauge, time_ticks, opaque, counter_64, is_exception, field, skip, only, in_sequence}
+use Rattle.snmp_gateway.specs.Parts.{is_exception, field, behind_fields, only, in_sequence}
+use Rattle.snmp_gateway.specs.declared.part.TheConstants.{COUNTER, COUNTER_64, GAUGE, INTEGER, IP_ADDRESS, NULL, OBJECT_IDENTIFIER, OCTET_STRING, OPAQUE, SEQUENCE, TIME_TICKS}
 
 -- the tags that a value can have in each version with a community (RFC 1157, 5; RFC 1155, 6)
 abbrev pub common_value_tags : List ℕ
-common_value_tags = integer ∷ octet_string ∷ null ∷ object_identifier ∷ ip_address ∷ counter ∷ gauge ∷ time_ticks ∷ opaque ∷ []
+common_value_tags = INTEGER ∷ OCTET_STRING ∷ NULL ∷ OBJECT_IDENTIFIER ∷ IP_ADDRESS ∷ COUNTER ∷ GAUGE ∷ TIME_TICKS ∷ OPAQUE ∷ []
 
 abbrev pub is_common_value_tag : ℕ → Bool
 is_common_value_tag tag = list_any (λ common. common == tag) common_value_tags
@@ -19,18 +21,18 @@ is_common_value_tag tag = list_any (λ common. common == tag) common_value_tags
 -- whether a value can have this tag: in version 2c it can be a Counter64 or an exception too (RFC 3416, 3)
 abbrev pub is_value_tag : SnmpKind → ℕ → Bool
 is_value_tag V1 tag = is_common_value_tag tag
-is_value_tag V2 tag = is_common_value_tag tag || (tag == counter_64 || is_exception tag)
+is_value_tag V2 tag = is_common_value_tag tag || (tag == COUNTER_64 || is_exception tag)
 is_value_tag V3 tag = false
 
 -- the place of an address
 abbrev pub address_in : Piece → Option ℕ
-address_in value = if value.tag == ip_address then Some value.content.start else None
+address_in value = if value.tag == IP_ADDRESS then Some value.content.start else None
 
 -- the place of the address, if there is one, in the binding that a part begins with, and the bindings behind that: a name and a value, in a sequence
 unfoldable pub binding : List ℕ → SnmpKind → Part → Option (Option ℕ × Part)
 binding octets kind part = do
-  pair ← field octets sequence part
-  rest ← skip octets (object_identifier ∷ []) pair.content
+  pair ← field octets SEQUENCE part
+  rest ← behind_fields octets (OBJECT_IDENTIFIER ∷ []) pair.content
   value ← only octets rest
   if is_value_tag kind value.tag then Some (address_in value, pair.rest) else None
 
@@ -50,20 +52,16 @@ bindings octets kind part = bindings_within (part.end - part.start) octets kind 
 -- the bindings
 abbrev pub request : List ℕ → Part → Option (Option ℕ × Part)
 request octets part = do
-  rest ← skip octets (integer ∷ integer ∷ integer ∷ []) part
+  rest ← behind_fields octets (INTEGER ∷ INTEGER ∷ INTEGER ∷ []) part
   Some (None, rest)
 
 -- the Trap of version 1: enterprise, agent address, generic trap, specific trap and time, and the bindings
 abbrev pub trap : List ℕ → Part → Option (Option ℕ × Part)
 trap octets part = do
-  rest ← skip octets (object_identifier ∷ []) part
-  agent ← field octets ip_address rest
-  rest ← skip octets (integer ∷ integer ∷ time_ticks ∷ []) agent.rest
+  rest ← behind_fields octets (OBJECT_IDENTIFIER ∷ []) part
+  agent ← field octets IP_ADDRESS rest
+  rest ← behind_fields octets (INTEGER ∷ INTEGER ∷ TIME_TICKS ∷ []) agent.rest
   Some (Some agent.content.start, rest)
-
--- the tag of the Trap of version 1
-abbrev pub trap_tag : ℕ
-trap_tag = 0xA4
 
 -- whether a PDU can have this tag: in version 1 it is a GetRequest, GetNextRequest, GetResponse, SetRequest or Trap (RFC 1157, 4.1), in version 2c
 -- one of the first four, or a GetBulkRequest, InformRequest, Trap of version 2 or Report (RFC 3416, 3)
@@ -75,12 +73,12 @@ is_pdu_tag V3 tag = false
 -- the place of a PDU's agent address, if it has one, and what follows its fields: the bindings
 abbrev pub pdu : List ℕ → SnmpKind → Piece → Option (Option ℕ × Part)
 pdu octets kind piece =
-    if is_pdu_tag kind piece.tag then (if piece.tag == trap_tag then trap octets piece.content else request octets piece.content) else None
+    if is_pdu_tag kind piece.tag then (if piece.tag == TRAP_TAG then trap octets piece.content else request octets piece.content) else None
 
 -- version 1 or 2c behind its version field: the community and a PDU (RFC 1157, 4; RFC 1901)
 abbrev pub with_community : List ℕ → SnmpKind → Part → Option Outline
 with_community octets kind part = do
-  rest ← skip octets (octet_string ∷ []) part
+  rest ← behind_fields octets (OCTET_STRING ∷ []) part
   piece ← only octets rest
   found ← pdu octets kind piece
   bindings ← in_sequence octets found.1
@@ -98,7 +96,7 @@ by_version octets version part =
 unfoldable pub outline_of : List ℕ → Option Outline
 outline_of octets = do
   content ← in_sequence octets (record { start = 0; end = length octets })
-  version ← field octets integer content
+  version ← field octets INTEGER content
   if version.content.end - version.content.start == 1 then by_version octets (slice_index octets version.content.start) version.rest else None
 
 -- the places of the addresses that an outline has ahead: that of the agent address, if there is one, and those in the bindings

@@ -2,63 +2,20 @@
 use Rattle.std.specs.Prelude.{ℕ, ◌-◌, Bool, true, ◌&&◌, ◌||◌, ◌==◌, nat_lt, nat_le, if◌then◌else◌, List, [], ◌∷◌, take, drop, length, Option, Some, None}
 use Rattle.gate_base.specs.Prelude.{◌>>=◌}
 use Rattle.snmp_gateway.specs.Element.{Element, element_at}
+use Rattle.snmp_gateway.specs.declared.part.TheConstants.{END_OF_MIB_VIEW, INTEGER, IP_ADDRESS, NO_SUCH_INSTANCE, NO_SUCH_OBJECT, NULL, OBJECT_IDENTIFIER, SEQUENCE}
 use Rattle.snmp_gateway.specs.declared.part.Part.{Part}
 use Rattle.snmp_gateway.specs.declared.part.Piece.{Piece}
 
--- the tags of X.690, 8, and of RFC 1155, 6
-abbrev pub integer : ℕ
-integer = 0x02
-
-abbrev pub octet_string : ℕ
-octet_string = 0x04
-
-abbrev pub null : ℕ
-null = 0x05
-
-abbrev pub object_identifier : ℕ
-object_identifier = 0x06
-
-abbrev pub sequence : ℕ
-sequence = 0x30
-
-abbrev pub ip_address : ℕ
-ip_address = 0x40
-
-abbrev pub counter : ℕ
-counter = 0x41
-
-abbrev pub gauge : ℕ
-gauge = 0x42
-
-abbrev pub time_ticks : ℕ
-time_ticks = 0x43
-
-abbrev pub opaque : ℕ
-opaque = 0x44
-
--- the tags that came with version 2 (RFC 2578, 7.1.10; RFC 3416, 3)
-abbrev pub counter_64 : ℕ
-counter_64 = 0x46
-
-abbrev pub no_such_object : ℕ
-no_such_object = 0x80
-
-abbrev pub no_such_instance : ℕ
-no_such_instance = 0x81
-
-abbrev pub end_of_mib_view : ℕ
-end_of_mib_view = 0x82
-
 -- the tags of what stands in the place of a value that there isn't
 abbrev pub is_exception : ℕ → Bool
-is_exception tag = (tag == no_such_object || tag == no_such_instance) || tag == end_of_mib_view
+is_exception tag = (tag == NO_SUCH_OBJECT || tag == NO_SUCH_INSTANCE) || tag == END_OF_MIB_VIEW
 
 -- whether an element with this tag can have so many octets of content
 abbrev pub has_right_size : ℕ → ℕ → Bool
 has_right_size tag count =
-    if tag == integer || tag == object_identifier then nat_lt 0 count
-    else if tag == ip_address then count == 4
-    else if tag == null || is_exception tag then count == 0
+    if tag == INTEGER || tag == OBJECT_IDENTIFIER then nat_lt 0 count
+    else if tag == IP_ADDRESS then count == 4
+    else if tag == NULL || is_exception tag then count == 0
     else true
 
 -- the octets of a part, where the message has them
@@ -88,11 +45,11 @@ field octets tag part = do
   if piece.tag == tag then Some piece else None
 
 -- what follows the fields with these tags that a part begins with
-unfoldable pub skip : List ℕ → List ℕ → Part → Option Part
-skip octets [] part = Some part
-skip octets (tag ∷ tags) part = do
+unfoldable pub behind_fields : List ℕ → List ℕ → Part → Option Part
+behind_fields octets [] part = Some part
+behind_fields octets (tag ∷ tags) part = do
   piece ← field octets tag part
-  skip octets tags piece.rest
+  behind_fields octets tags piece.rest
 
 -- the only element of a part
 abbrev pub only : List ℕ → Part → Option Piece
@@ -104,4 +61,4 @@ only octets part = do
 abbrev pub in_sequence : List ℕ → Part → Option Part
 in_sequence octets part = do
   piece ← only octets part
-  if piece.tag == sequence then Some piece.content else None
+  if piece.tag == SEQUENCE then Some piece.content else None

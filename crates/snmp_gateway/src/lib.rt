@@ -9,5 +9,6 @@ mod rename;
 mod tlv;
 
 pub use message::{SnmpKind, SnmpStop, addresses, check};
+pub use part::{IP_ADDRESS, OBJECT_IDENTIFIER};
 pub use rename::{Lookup, rename_in_place};
 pub use tlv::Tlv;

@@ -7,11 +7,11 @@ ghost use Rattle.snmp_gateway.specs.Inside.Walk.{is_at_end, StandsIn, Passes};
 use crate::message::SnmpKind;
 use crate::part::{
     COUNTER, COUNTER_64, GAUGE, INTEGER, IP_ADDRESS, NULL, OBJECT_IDENTIFIER, OCTET_STRING, OPAQUE,
-    Part, Piece, SEQUENCE, TIME_TICKS, field, in_sequence, is_exception, only, skip,
+    Part, Piece, SEQUENCE, TIME_TICKS, behind_fields, field, in_sequence, is_exception, only,
 };
 
-// The tag of the Trap of version 1.
-const TRAP_TAG: u8 = 0xa4;
+/// The tag of the Trap of version 1 (RFC 1157, 4.1.6).
+pub const TRAP_TAG: u8 = 0xa4;
 
 /// The kind of a message, and the addresses that a walk over it has ahead: a trap's agent address, and those in bindings.
 #[derive(Clone, Copy)]
@@ -96,7 +96,7 @@ fn by_version(octets: &[u8], version: u8, part: Part) -> Option<Outline>
 fn with_community(octets: &[u8], kind: SnmpKind, part: Part) -> Option<Outline>
     ensures { result ≡ with_community octets.now kind part }
 {
-    let rest = skip(octets, &[OCTET_STRING], part)?;
+    let rest = behind_fields(octets, &[OCTET_STRING], part)?;
     let piece = only(octets, rest)?;
     let (agent, rest) = pdu(octets, kind, piece)?;
     let bindings = in_sequence(octets, rest)?;
@@ -134,16 +134,16 @@ fn pdu(octets: &[u8], kind: SnmpKind, piece: Piece) -> Option<(Option<usize>, Pa
 fn request(octets: &[u8], part: Part) -> Option<(Option<usize>, Part)>
     ensures { result ≡ request octets.now part }
 {
-    let rest = skip(octets, &[INTEGER, INTEGER, INTEGER], part)?;
+    let rest = behind_fields(octets, &[INTEGER, INTEGER, INTEGER], part)?;
     Some((None, rest))
 }
 
 fn trap(octets: &[u8], part: Part) -> Option<(Option<usize>, Part)>
     ensures { result ≡ trap octets.now part }
 {
-    let rest = skip(octets, &[OBJECT_IDENTIFIER], part)?;
+    let rest = behind_fields(octets, &[OBJECT_IDENTIFIER], part)?;
     let agent = field(octets, IP_ADDRESS, rest)?;
-    let rest = skip(octets, &[INTEGER, INTEGER, TIME_TICKS], agent.rest)?;
+    let rest = behind_fields(octets, &[INTEGER, INTEGER, TIME_TICKS], agent.rest)?;
     Some((Some(agent.content.start), rest))
 }
 
@@ -175,7 +175,7 @@ pub(crate) fn binding(octets: &[u8], kind: SnmpKind, part: Part) -> Option<(Opti
     ensures { result ≡ binding octets.now kind part }
 {
     let pair = field(octets, SEQUENCE, part)?;
-    let rest = skip(octets, &[OBJECT_IDENTIFIER], pair.content)?;
+    let rest = behind_fields(octets, &[OBJECT_IDENTIFIER], pair.content)?;
     let value = only(octets, rest)?;
     if !is_value_tag(kind, value.tag) {
         return None;

@@ -1,38 +1,50 @@
 // Elements in a message, by their places.
 ghost use Rattle.std.specs.Prelude.{◌≡◌, ◌+◌, ◌≤◌, option_map, length, IfSome};
-ghost use Rattle.snmp_gateway.specs.Parts.{is_exception, has_right_size, octets_in, first_of, field, skip, only, in_sequence};
+ghost use Rattle.snmp_gateway.specs.Parts.{is_exception, has_right_size, octets_in, first_of, field, behind_fields, only, in_sequence};
 
 use crate::tlv::Tlv;
 
-// The tags of X.690, 8, and of RFC 1155, 6.
-pub(crate) const INTEGER: u8 = 0x02;
+/// The tag of an INTEGER (X.690, 8.3).
+pub const INTEGER: u8 = 0x02;
 
-pub(crate) const OCTET_STRING: u8 = 0x04;
+/// The tag of an OCTET STRING (X.690, 8.7).
+pub const OCTET_STRING: u8 = 0x04;
 
-pub(crate) const NULL: u8 = 0x05;
+/// The tag of a NULL (X.690, 8.8).
+pub const NULL: u8 = 0x05;
 
-pub(crate) const OBJECT_IDENTIFIER: u8 = 0x06;
+/// The tag of an OBJECT IDENTIFIER (X.690, 8.19).
+pub const OBJECT_IDENTIFIER: u8 = 0x06;
 
-pub(crate) const SEQUENCE: u8 = 0x30;
+/// The tag of a SEQUENCE (X.690, 8.9).
+pub const SEQUENCE: u8 = 0x30;
 
-pub(crate) const IP_ADDRESS: u8 = 0x40;
+/// The tag of an IpAddress (RFC 1155, 6).
+pub const IP_ADDRESS: u8 = 0x40;
 
-pub(crate) const COUNTER: u8 = 0x41;
+/// The tag of a Counter (RFC 1155, 6).
+pub const COUNTER: u8 = 0x41;
 
-pub(crate) const GAUGE: u8 = 0x42;
+/// The tag of a Gauge (RFC 1155, 6).
+pub const GAUGE: u8 = 0x42;
 
-pub(crate) const TIME_TICKS: u8 = 0x43;
+/// The tag of a TimeTicks (RFC 1155, 6).
+pub const TIME_TICKS: u8 = 0x43;
 
-pub(crate) const OPAQUE: u8 = 0x44;
+/// The tag of an Opaque (RFC 1155, 6).
+pub const OPAQUE: u8 = 0x44;
 
-// The tags that came with version 2 (RFC 2578, 7.1.10; RFC 3416, 3).
-pub(crate) const COUNTER_64: u8 = 0x46;
+/// The tag of a Counter64, which came with version 2 (RFC 2578, 7.1.10).
+pub const COUNTER_64: u8 = 0x46;
 
-const NO_SUCH_OBJECT: u8 = 0x80;
+/// The tag of a noSuchObject in the place of a value (RFC 3416, 3).
+pub const NO_SUCH_OBJECT: u8 = 0x80;
 
-const NO_SUCH_INSTANCE: u8 = 0x81;
+/// The tag of a noSuchInstance in the place of a value (RFC 3416, 3).
+pub const NO_SUCH_INSTANCE: u8 = 0x81;
 
-const END_OF_MIB_VIEW: u8 = 0x82;
+/// The tag of an endOfMibView in the place of a value (RFC 3416, 3).
+pub const END_OF_MIB_VIEW: u8 = 0x82;
 
 /// The octets of a message from a place up to another.
 #[derive(Clone, Copy)]
@@ -115,8 +127,8 @@ pub(crate) fn field(octets: &[u8], tag: u8, part: Part) -> Option<Piece>
 }
 
 /// What follows the fields with these tags that a part begins with.
-pub(crate) fn skip(octets: &[u8], tags: &[u8], part: Part) -> Option<Part>
-    ensures { result ≡ skip octets.now tags.now part }
+pub(crate) fn behind_fields(octets: &[u8], tags: &[u8], part: Part) -> Option<Part>
+    ensures { result ≡ behind_fields octets.now tags.now part }
 {
     let mut rest = part;
     for tag in tags {

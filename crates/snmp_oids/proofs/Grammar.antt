@@ -5,7 +5,8 @@ use Rattle.std.proofs.lemmas.Bool.Decides.{nat_tests}
 use Rattle.std.proofs.lemmas.List.{take_at, drop_at, nil_from_length}
 use Rattle.gate_base.specs.Prelude.{◌>>=◌}
 use Rattle.snmp_gateway.specs.Element.{Element, element_at}
-use Rattle.snmp_gateway.specs.Parts.{object_identifier, ip_address, has_right_size, octets_in, first_of}
+use Rattle.snmp_gateway.specs.Parts.{has_right_size, octets_in, first_of}
+use Rattle.snmp_gateway.specs.declared.part.TheConstants.{IP_ADDRESS, OBJECT_IDENTIFIER}
 use Rattle.snmp_gateway.specs.Message.{address_in, places_ahead}
 use Rattle.snmp_gateway.specs.Renaming.{renamed_at}
 use Rattle.snmp_gateway.proofs.Reading.{first_read}
@@ -150,15 +151,15 @@ by_tags false true address x i a content plain kept same = same
 by_tags false false true x i a content plain kept same = cc
 by_tags false false false x i a content plain kept same = refl
 
-content_kept : (image : ℕ → Option ℕ) (element : Element) → is_constructed element.tag ≡ false → (element.tag == ip_address) ≡ false
+content_kept : (image : ℕ → Option ℕ) (element : Element) → is_constructed element.tag ≡ false → (element.tag == IP_ADDRESS) ≡ false
     → content_renamed image [] element ≡ element.content
 content_kept image element plain kept =
-    by_tags (is_constructed element.tag) (element.tag == object_identifier) (element.tag == ip_address) (elements_renamed image [] element.content)
+    by_tags (is_constructed element.tag) (element.tag == OBJECT_IDENTIFIER) (element.tag == IP_ADDRESS) (elements_renamed image [] element.content)
     (identifier_renamed image [] element.content) (address_renamed image element.content) element.content plain kept
     (identifier_kept image element.content)
 
 abbrev pub is_kept : ℕ → Bool
-is_kept tag = not (is_constructed tag) && not (tag == ip_address)
+is_kept tag = not (is_constructed tag) && not (tag == IP_ADDRESS)
 
 kept_plain : (a b : Bool) → (not a && not b) ≡ true → (a ≡ false) × (b ≡ false)
 kept_plain true b e = cc
@@ -168,7 +169,7 @@ kept_plain false false e = (refl, refl)
 pub node_kept : (image : ℕ → Option ℕ) (qs octets : List ℕ) (part : Part) (xs : List ℕ) (piece : Piece) (r : Reads octets part xs piece)
     → is_kept piece.tag ≡ true → Claim image qs piece.rest r.rest → Claim image qs part xs
 node_kept image qs octets part xs piece r kept rest =
-    let plain = kept_plain (is_constructed r.element.tag) (r.element.tag == ip_address) (ap is_kept r.tag_is ∙ kept) in
+    let plain = kept_plain (is_constructed r.element.tag) (r.element.tag == IP_ADDRESS) (ap is_kept r.tag_is ∙ kept) in
     node image [] qs octets part xs piece r
     (swaps_at image [] [] piece.content.start r.element.content r.element.content r.element.content (content_renamed image [] r.element) refl refl
     (sym (content_kept image r.element plain.0 plain.1)) (swaps_none image piece.content.start r.element.content))
@@ -183,14 +184,14 @@ by_address false false true false x i a content plain other is size = cc
 by_address false false true true x i a content plain other is size = refl
 
 pub node_address : (image : ℕ → Option ℕ) (qs octets : List ℕ) (part : Part) (xs : List ℕ) (piece : Piece) (r : Reads octets part xs piece)
-    → piece.tag ≡ ip_address → Claim image qs piece.rest r.rest → Claim image (piece.content.start ∷ qs) part xs
+    → piece.tag ≡ IP_ADDRESS → Claim image qs piece.rest r.rest → Claim image (piece.content.start ∷ qs) part xs
 node_address image qs octets part xs piece r tag rest =
     let tag_is = r.tag_is ∙ tag in
     let four = sym (ap (λ n. has_right_size n (length r.element.content)) tag_is) ∙ r.right in
-    let new = by_address (is_constructed r.element.tag) (r.element.tag == object_identifier) (r.element.tag == ip_address)
+    let new = by_address (is_constructed r.element.tag) (r.element.tag == OBJECT_IDENTIFIER) (r.element.tag == IP_ADDRESS)
     (length r.element.content == 4) (elements_renamed image [] r.element.content) (identifier_renamed image [] r.element.content)
     (renamed_at image 0 r.element.content) r.element.content
-    (ap is_constructed tag_is) (ap (λ n. n == object_identifier) tag_is) (ap (λ n. n == ip_address) tag_is) four in
+    (ap is_constructed tag_is) (ap (λ n. n == OBJECT_IDENTIFIER) tag_is) (ap (λ n. n == IP_ADDRESS) tag_is) four in
     node image (piece.content.start ∷ []) qs octets part xs piece r
     (swaps_at image _ _ piece.content.start r.element.content r.element.content (renamed_at image 0 r.element.content)
     (content_renamed image [] r.element) refl refl (sym new) (swaps_address image piece.content.start r.element.content (eqb-true _ _ four)))

@@ -7,7 +7,7 @@ use Rattle.snmp_gateway.proofs.Elements.{element_room}
 use Rattle.snmp_gateway.specs.declared.message.SnmpKind.{SnmpKind}
 use Rattle.snmp_gateway.specs.declared.message.SnmpKind.TheVariants.{V1, V2, V3}
 use Rattle.snmp_gateway.specs.Message.{kind_of}
-use Rattle.snmp_gateway.specs.Parts.{object_identifier, ip_address}
+use Rattle.snmp_gateway.specs.declared.part.TheConstants.{IP_ADDRESS, OBJECT_IDENTIFIER}
 use Rattle.snmp_gateway.proofs.Kept.{renamed_differs}
 use Rattle.snmp_oids.specs.Arcs.{arcs_of, named}
 use Rattle.snmp_oids.specs.Identifier.{identifier_renamed}
@@ -27,7 +27,7 @@ address_length image content = elim (cases_Bool (length content == 4)) [
 ]
 
 primitive_length : (image : ℕ → Option ℕ) (tag : ℕ) (content : List ℕ) → length (primitive_renamed image [] tag content) ≡ length content
-primitive_length image tag content = by_tag (tag == object_identifier) (tag == ip_address)
+primitive_length image tag content = by_tag (tag == OBJECT_IDENTIFIER) (tag == IP_ADDRESS)
   where
     by_tag : (a b : Bool) → length (if a then identifier_renamed image [] content else if b then address_renamed image content else content)
         ≡ length content

@@ -1,5 +1,7 @@
 -- What a message of the versions 1 and 2c becomes with no rule.
-use Rattle.std.proofs.Common.{◌≡◌, ℕ, zero, suc, ◌-◌, ◌/◌, ◌%◌, ◌≤◌, ◌==◌, ◌&&◌, ◌||◌, not, Bool, true, false, nat_le, if◌then◌else◌, List, [], ◌∷◌, ◌++◌, slice_index, length, Option, Some, None, IsSome, option_map, option_to_list, unwrap_or, refl, ap, sym, subst, ◌∙◌, arith, append-nil, inl, inr, lit≤}
+use Rattle.std.proofs.Common.{◌≡◌, ℕ, zero, suc, ◌-◌, ◌/◌, ◌%◌, ◌≤◌, ◌==◌, ◌&&◌, ◌||◌, not, Bool, true, false, nat_le, if◌then◌else◌, List, [], ◌∷◌}
+use Rattle.std.proofs.Common.{◌++◌, slice_index, length, Option, Some, None, IsSome, option_map, option_to_list, unwrap_or, refl, ap, sym, subst, ◌∙◌}
+use Rattle.std.proofs.Common.{arith, append-nil, inl, inr, lit≤}
 use Rattle.std.specs.List.{list_all, list_any}
 use Rattle.std.proofs.lemmas.Bool.{eqb-true, and_parts, or_cases, not-true}
 use Rattle.std.proofs.lemmas.Bool.Decides.{nat_tests}
@@ -7,8 +9,10 @@ use Rattle.std.proofs.lemmas.Option.{same_Some}
 use Rattle.gate_base.specs.Prelude.{◌>>=◌}
 use Rattle.snmp_gateway.specs.declared.message.SnmpKind.{SnmpKind}
 use Rattle.snmp_gateway.specs.declared.message.SnmpKind.TheVariants.{V1, V2, V3}
-use Rattle.snmp_gateway.specs.Parts.{integer, octet_string, object_identifier, sequence, ip_address, time_ticks, counter_64, no_such_object, no_such_instance, first_of, field, skip, only, in_sequence}
-use Rattle.snmp_gateway.specs.Message.{common_value_tags, is_common_value_tag, is_value_tag, address_in, binding, bindings_within, bindings, request, trap, trap_tag, is_pdu_tag, pdu, with_community, by_version, outline_of, places_ahead, message, kind_of, places_of}
+use Rattle.snmp_gateway.specs.Parts.{first_of, field, behind_fields, only, in_sequence}
+use Rattle.snmp_gateway.specs.declared.part.TheConstants.{COUNTER_64, INTEGER, IP_ADDRESS, NO_SUCH_INSTANCE, NO_SUCH_OBJECT, OBJECT_IDENTIFIER, OCTET_STRING, SEQUENCE, TIME_TICKS}
+use Rattle.snmp_gateway.specs.Message.{common_value_tags, is_common_value_tag, is_value_tag, address_in, binding, bindings_within, bindings, request, trap, is_pdu_tag, pdu, with_community, by_version, outline_of, places_ahead, message, kind_of, places_of}
+use Rattle.snmp_gateway.specs.declared.outline.TheConstants.{TRAP_TAG}
 use Rattle.snmp_gateway.specs.Renaming.{renamed}
 use Rattle.snmp_gateway.proofs.Reading.{bound, tested, only_first}
 use Rattle.snmp_gateway.proofs.Walk.{none_renamed}
@@ -38,9 +42,9 @@ record Skips (octets : List ℕ) (part rest : Part) (xs : List ℕ) : Type 0 whe
   left_at : At octets rest left
   goes : (image : ℕ → Option ℕ) (ps : List ℕ) → Claim image ps rest left → Claim image ps part xs
 
-skips : (octets tags : List ℕ) (part rest : Part) (xs : List ℕ) → list_all is_kept tags ≡ true → At octets part xs → skip octets tags part ≡ Some rest
+skips : (octets tags : List ℕ) (part rest : Part) (xs : List ℕ) → list_all is_kept tags ≡ true → At octets part xs → behind_fields octets tags part ≡ Some rest
     → Skips octets part rest xs
-unfolding skip
+unfolding behind_fields
 skips octets [] part rest xs kept at e =
     let same = same_Some _ _ e in
     record {
@@ -88,10 +92,10 @@ value_plain : (kind : SnmpKind) (tag : ℕ) → is_value_tag kind tag ≡ true �
 value_plain V1 tag is = plain_among tag common_value_tags refl is
 value_plain V2 tag is = elim (or_cases (is_common_value_tag tag) _ is) [
   | inl common ↦ plain_among tag common_value_tags refl common
-  | inr other ↦ elim (or_cases (tag == counter_64) _ other) [
+  | inr other ↦ elim (or_cases (tag == COUNTER_64) _ other) [
     | inl counter ↦ ap is_constructed (eqb-true _ _ counter)
-    | inr exception ↦ elim (or_cases (tag == no_such_object || tag == no_such_instance) _ exception) [
-      | inl none ↦ elim (or_cases (tag == no_such_object) _ none) [
+    | inr exception ↦ elim (or_cases (tag == NO_SUCH_OBJECT || tag == NO_SUCH_INSTANCE) _ exception) [
+      | inl none ↦ elim (or_cases (tag == NO_SUCH_OBJECT) _ none) [
         | inl object ↦ ap is_constructed (eqb-true _ _ object)
         | inr instance ↦ ap is_constructed (eqb-true _ _ instance)
       ]
@@ -120,9 +124,9 @@ pdu_constructed V3 tag is = cc
 
 pub by_value : (image : ℕ → Option ℕ) (octets : List ℕ) (kind : SnmpKind) (part : Part) (xs : List ℕ) (piece : Piece) → Alone octets part xs piece
     → is_value_tag kind piece.tag ≡ true → Claim image (option_to_list (address_in piece)) part xs
-by_value image octets kind part xs piece a is = by_test (piece.tag == ip_address) refl
+by_value image octets kind part xs piece a is = by_test (piece.tag == IP_ADDRESS) refl
   where
-    by_test : (b : Bool) → (piece.tag == ip_address) ≡ b → Claim image (option_to_list (if b then Some piece.content.start else None)) part xs
+    by_test : (b : Bool) → (piece.tag == IP_ADDRESS) ≡ b → Claim image (option_to_list (if b then Some piece.content.start else None)) part xs
     by_test true same = node_address image [] octets part xs piece a.r (eqb-true _ _ same) (a.behind image)
     by_test false other = node_kept image [] octets part xs piece a.r (neither _ _ (value_plain kind piece.tag is) other) (a.behind image)
 
@@ -136,13 +140,13 @@ binds : (octets : List ℕ) (kind : SnmpKind) (part : Part) (xs : List ℕ) (fou
     → binding octets kind part ≡ Some found → Binds octets part found.0 found.1 xs
 unfolding binding
 binds octets kind part xs found at e =
-    let pair = bound (field octets sequence part) _ found e in
-    let name = bound (skip octets (object_identifier ∷ []) pair.value.content) _ found pair.then_is in
+    let pair = bound (field octets SEQUENCE part) _ found e in
+    let name = bound (behind_fields octets (OBJECT_IDENTIFIER ∷ []) pair.value.content) _ found pair.then_is in
     let value = bound (only octets name.value) _ found name.then_is in
     let right = tested _ _ _ value.then_is in
-    let first = field_is octets sequence part pair.value pair.is in
+    let first = field_is octets SEQUENCE part pair.value pair.is in
     let r = reads octets part xs pair.value at first.first in
-    let skipped = skips octets (object_identifier ∷ []) pair.value.content name.value r.element.content refl r.content_at name.is in
+    let skipped = skips octets (OBJECT_IDENTIFIER ∷ []) pair.value.content name.value r.element.content refl r.content_at name.is in
     let a = alone octets name.value skipped.left value.value skipped.left_at value.is in
     let rest = ap (λ (f : Option ℕ × Part). f.1) right.same in
     let address = ap (λ (f : Option ℕ × Part). f.0) right.same in
@@ -190,8 +194,8 @@ binding_claims (suc most) octets kind part xs places at e image =
 request_binds : (octets : List ℕ) (part : Part) (xs : List ℕ) (found : Option ℕ × Part) → At octets part xs → request octets part ≡ Some found
     → Binds octets part found.0 found.1 xs
 request_binds octets part xs found at e =
-    let rest = bound (skip octets (integer ∷ integer ∷ integer ∷ []) part) _ found e in
-    let skipped = skips octets (integer ∷ integer ∷ integer ∷ []) part rest.value xs refl at rest.is in
+    let rest = bound (behind_fields octets (INTEGER ∷ INTEGER ∷ INTEGER ∷ []) part) _ found e in
+    let skipped = skips octets (INTEGER ∷ INTEGER ∷ INTEGER ∷ []) part rest.value xs refl at rest.is in
     let same = same_Some _ _ rest.then_is in
     subst (λ (f : Option ℕ × Part). Binds octets part f.0 f.1 xs) same
     (record { left = skipped.left; left_at = skipped.left_at; goes = skipped.goes })
@@ -199,13 +203,13 @@ request_binds octets part xs found at e =
 trap_binds : (octets : List ℕ) (part : Part) (xs : List ℕ) (found : Option ℕ × Part) → At octets part xs → trap octets part ≡ Some found
     → Binds octets part found.0 found.1 xs
 trap_binds octets part xs found at e =
-    let enterprise = bound (skip octets (object_identifier ∷ []) part) _ found e in
-    let agent = bound (field octets ip_address enterprise.value) _ found enterprise.then_is in
-    let rest = bound (skip octets (integer ∷ integer ∷ time_ticks ∷ []) agent.value.rest) _ found agent.then_is in
-    let first = skips octets (object_identifier ∷ []) part enterprise.value xs refl at enterprise.is in
-    let found_agent = field_is octets ip_address enterprise.value agent.value agent.is in
+    let enterprise = bound (behind_fields octets (OBJECT_IDENTIFIER ∷ []) part) _ found e in
+    let agent = bound (field octets IP_ADDRESS enterprise.value) _ found enterprise.then_is in
+    let rest = bound (behind_fields octets (INTEGER ∷ INTEGER ∷ TIME_TICKS ∷ []) agent.value.rest) _ found agent.then_is in
+    let first = skips octets (OBJECT_IDENTIFIER ∷ []) part enterprise.value xs refl at enterprise.is in
+    let found_agent = field_is octets IP_ADDRESS enterprise.value agent.value agent.is in
     let r = reads octets enterprise.value first.left agent.value first.left_at found_agent.first in
-    let last = skips octets (integer ∷ integer ∷ time_ticks ∷ []) agent.value.rest rest.value r.rest refl r.rest_at rest.is in
+    let last = skips octets (INTEGER ∷ INTEGER ∷ TIME_TICKS ∷ []) agent.value.rest rest.value r.rest refl r.rest_at rest.is in
     let same = same_Some _ _ rest.then_is in
     subst (λ (f : Option ℕ × Part). Binds octets part f.0 f.1 xs) same (record {
       left = last.left;
@@ -216,7 +220,7 @@ trap_binds octets part xs found at e =
 
 pdu_binds : (octets : List ℕ) (kind : SnmpKind) (piece : Piece) (xs : List ℕ) (found : Option ℕ × Part) → At octets piece.content xs
     → pdu octets kind piece ≡ Some found → (is_pdu_tag kind piece.tag ≡ true) × Binds octets piece.content found.0 found.1 xs
-pdu_binds octets kind piece xs found at e = by_test (is_pdu_tag kind piece.tag) (piece.tag == trap_tag) refl e
+pdu_binds octets kind piece xs found at e = by_test (is_pdu_tag kind piece.tag) (piece.tag == TRAP_TAG) refl e
   where
     by_test : (a b : Bool) → is_pdu_tag kind piece.tag ≡ a
         → (if a then (if b then trap octets piece.content else request octets piece.content) else None) ≡ Some found
@@ -264,13 +268,13 @@ community_claims : (octets : List ℕ) (kind : SnmpKind) (part : Part) (xs : Lis
     → with_community octets kind part ≡ Some outline → places_ahead octets outline ≡ Some places → (outline.kind ≡ kind)
     × ((image : ℕ → Option ℕ) → Claim image places part xs)
 community_claims octets kind part xs outline places at e ahead =
-    let rest = bound (skip octets (octet_string ∷ []) part) _ outline e in
+    let rest = bound (behind_fields octets (OCTET_STRING ∷ []) part) _ outline e in
     let piece = bound (only octets rest.value) _ outline rest.then_is in
     let found = bound (pdu octets kind piece.value) _ outline piece.then_is in
     let inner = bound (in_sequence octets found.value.1) _ outline found.then_is in
     let same = same_Some _ _ inner.then_is in
     let listed = bound (bindings octets kind inner.value) _ places (ap (places_ahead octets) same ∙ ahead) in
-    let skipped = skips octets (octet_string ∷ []) part rest.value xs refl at rest.is in
+    let skipped = skips octets (OCTET_STRING ∷ []) part rest.value xs refl at rest.is in
     let a = alone octets rest.value skipped.left piece.value skipped.left_at piece.is in
     let fields = pdu_binds octets kind piece.value a.r.element.content found.value a.r.content_at found.is in
     let sequence_in = inside octets found.value.1 inner.value fields.1.left fields.1.left_at inner.is in (
@@ -321,11 +325,11 @@ outline_meets : (octets : List ℕ) (outline : Outline) (places : List ℕ) → 
 unfolding outline_of
 outline_meets octets outline places e ahead =
     let content = bound (in_sequence octets (record { start = 0; end = length octets })) _ outline e in
-    let version = bound (field octets integer content.value) _ outline content.then_is in
+    let version = bound (field octets INTEGER content.value) _ outline content.then_is in
     let at : At octets (record { start = 0; end = length octets }) octets =
     record { before = []; after = []; whole = sym (append-nil octets); start_is = refl; end_is = omega arith } in
     let seq = inside octets (record { start = 0; end = length octets }) content.value octets at content.is in
-    let first = field_is octets integer content.value version.value version.is in
+    let first = field_is octets INTEGER content.value version.value version.is in
     let r = reads octets content.value seq.left version.value seq.left_at first.first in
     wider octets version.value.rest (record { start = 0; end = length octets }) r.rest octets outline.kind places
     (λ image claim. seq.goes image places (node_kept image places octets content.value seq.left version.value r (ap is_kept first.tag_is) claim))

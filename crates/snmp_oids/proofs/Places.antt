@@ -1,5 +1,7 @@
 -- Where sub-identifiers end.
-use Rattle.std.proofs.Common.{◌≡◌, ℕ, zero, suc, ◌+◌, ◌-◌, ◌<◌, ◌≤◌, ◌==◌, nat_eq, Bool, true, false, nat_lt, nat_le, if◌then◌else◌, List, [], ◌∷◌, get_or, take, drop, length, Option, Some, None, option_map, option_and_then, unwrap_or, is_some, IsSome, IsTrue, refl, ap, sym, ◌∙◌, arith, drop-cons, add-one}
+use Rattle.std.proofs.Common.{◌≡◌, ℕ, zero, suc, ◌+◌, ◌-◌, ◌<◌, ◌≤◌, ◌==◌, nat_eq, Bool, true, false, nat_lt, nat_le, if◌then◌else◌, List, [], ◌∷◌}
+use Rattle.std.proofs.Common.{get_or, take, drop, length, Option, Some, None, option_map, option_and_then, unwrap_or, is_some, IsSome, IsTrue, refl}
+use Rattle.std.proofs.Common.{ap, sym, ◌∙◌, arith, drop-cons, add-one}
 use Rattle.std.proofs.lemmas.Bool.{and_parts}
 use Rattle.std.proofs.lemmas.Bool.Decides.{nat_tests}
 use Rattle.std.proofs.lemmas.Option.{same_Some}

@@ -3,7 +3,7 @@ use Rattle.std.proofs.Common.{◌≡◌, ℕ, ◌==◌, if◌then◌else◌, Lis
 use Rattle.gate_base.specs.declared.rule.OidRule.{OidRule}
 use Rattle.snmp_gateway.specs.Element.{element_at}
 use Rattle.snmp_gateway.specs.Message.{message, outline_of, bindings_within, binding}
-use Rattle.snmp_gateway.specs.Parts.{skip, first_of}
+use Rattle.snmp_gateway.specs.Parts.{behind_fields, first_of}
 use Rattle.snmp_oids.specs.Arcs.{numbers_from, named_in, arcs_of}
 use Rattle.snmp_oids.specs.Identifier.{place_behind, identifier_renamed}
 use Rattle.snmp_oids.specs.Elements.{elements_within, elements_renamed, oid_renamed}
@@ -61,15 +61,15 @@ before = 48 ∷ 44 ∷ 2 ∷ 1 ∷ 0 ∷ 4 ∷ 6 ∷ 112 ∷ 117 ∷ 98 ∷ 108 
 -- a response whose name holds 10.0.0.5, and what it becomes: an octet more, and so each length around the name
 response : oid_renamed image rules before ≡ 48 ∷ 45 ∷ 2 ∷ 1 ∷ 0 ∷ 4 ∷ 6 ∷ 112 ∷ 117 ∷ 98 ∷ 108 ∷ 105 ∷ 99 ∷ 162 ∷ 32 ∷ 2 ∷ 1 ∷ 1 ∷ 2 ∷ 1 ∷ 0 ∷ 2 ∷ 1
     ∷ 0 ∷ 48 ∷ 21 ∷ 48 ∷ 19 ∷ 6 ∷ 14 ∷ 43 ∷ 6 ∷ 1 ∷ 2 ∷ 1 ∷ 4 ∷ 20 ∷ 1 ∷ 2 ∷ 129 ∷ 44 ∷ 16 ∷ 9 ∷ 1 ∷ 2 ∷ 1 ∷ 3 ∷ []
-unfolding numbers_from place_behind elements_within element_at message outline_of bindings_within binding skip first_of
+unfolding numbers_from place_behind elements_within element_at message outline_of bindings_within binding behind_fields first_of
 response = refl
 
 -- with no rule it is kept
 without_rule : oid_renamed image [] before ≡ before
-unfolding numbers_from place_behind elements_within element_at message outline_of bindings_within binding skip first_of
+unfolding numbers_from place_behind elements_within element_at message outline_of bindings_within binding behind_fields first_of
 without_rule = refl
 
 -- and so is one whose name holds 10.0.0.9, which has no image
 kept : let other = take 42 before ++ 9 ∷ drop 43 before in oid_renamed image rules other ≡ other
-unfolding numbers_from place_behind elements_within element_at message outline_of bindings_within binding skip first_of
+unfolding numbers_from place_behind elements_within element_at message outline_of bindings_within binding behind_fields first_of
 kept = refl

@@ -4,7 +4,8 @@ use Rattle.std.proofs.lemmas.Bool.{and_parts}
 use Rattle.std.proofs.lemmas.Bool.Decides.{nat_tests}
 use Rattle.std.proofs.lemmas.List.{drop_all, take_rest}
 use Rattle.gate_base.proofs.Options.{some_mapped}
-use Rattle.gate_base.specs.Prelude.{◌>>=◌, greatest}
+use Rattle.gate_base.specs.Prelude.{◌>>=◌}
+use Rattle.gate_base.specs.declared.rule.TheConstants.{GREATEST_ARC}
 use Rattle.snmp_oids.specs.Arcs.{joined, numbers_from, numbers_of}
 
 -- numbers go on with one more octet
@@ -48,9 +49,9 @@ joined_one : (octet : ℕ) → octet < 128 → joined 0 octet ≡ Some octet
 joined_one octet below =
     let number : 128 * 0 + octet % 128 ≡ octet = omega (arith, below) in
     let other : (octet == 128) ≡ false = grind (arith, nat_tests) in
-    let fits : nat_lt greatest octet ≡ false = grind (arith, nat_tests) in
-    ap (λ n. if (octet == 128) || nat_lt greatest n then None else Some n) number
-    ∙ ap (λ b. if b || nat_lt greatest octet then None else Some octet) other
+    let fits : nat_lt GREATEST_ARC octet ≡ false = grind (arith, nat_tests) in
+    ap (λ n. if (octet == 128) || nat_lt GREATEST_ARC n then None else Some n) number
+    ∙ ap (λ b. if b || nat_lt GREATEST_ARC octet then None else Some octet) other
     ∙ ap (λ b. if b then None else Some octet) fits
 
 pub one_octet : (octet number : ℕ) (xs rest : List ℕ) → xs ≡ octet ∷ rest → number ≡ octet → octet < 128

@@ -6,7 +6,7 @@ use Rattle.snmp_gateway.specs.Element.{Element, element_at}
 use Rattle.snmp_gateway.specs.declared.message.SnmpKind.{SnmpKind}
 use Rattle.snmp_gateway.specs.declared.message.SnmpKind.TheVariants.{V3}
 use Rattle.snmp_gateway.specs.Message.{kind_of}
-use Rattle.snmp_gateway.specs.Parts.{object_identifier, ip_address}
+use Rattle.snmp_gateway.specs.declared.part.TheConstants.{IP_ADDRESS, OBJECT_IDENTIFIER}
 use Rattle.snmp_gateway.specs.Renaming.{renamed_at}
 use Rattle.snmp_oids.specs.Identifier.{identifier_renamed}
 
@@ -34,8 +34,8 @@ address_renamed image content = if length content == 4 then renamed_at image 0 c
 -- content that isn't elements: of an OBJECT IDENTIFIER or an IpAddress, else it is kept
 abbrev pub primitive_renamed : (ℕ → Option ℕ) → List OidRule → ℕ → List ℕ → List ℕ
 primitive_renamed image rules tag content =
-    if tag == object_identifier then identifier_renamed image rules content
-    else if tag == ip_address then address_renamed image content
+    if tag == OBJECT_IDENTIFIER then identifier_renamed image rules content
+    else if tag == IP_ADDRESS then address_renamed image content
     else content
 
 -- the octets before the content of the element that octets begin with

@@ -10,12 +10,7 @@ use crate::identifier::put_identifier;
 use crate::put::put;
 use gate_base::{Addr, get_u32, put_u32};
 use oid_rules::SortedRules;
-use snmp_gateway::{Lookup, Tlv};
-
-// The tags of X.690, 8.19, and of RFC 1155, 6.
-const OBJECT_IDENTIFIER: u8 = 0x06;
-
-const IP_ADDRESS: u8 = 0x40;
+use snmp_gateway::{IP_ADDRESS, Lookup, OBJECT_IDENTIFIER, Tlv};
 
 // The element that octets begin with, and the octets behind it.
 fn next_element(octets: &[u8]) -> Option<(Tlv<'_>, &[u8])>

@@ -5,7 +5,7 @@ use Rattle.tcp_segments.specs.Prelude.{one_if}
 use Rattle.stream_model.specs.Numbers.{number_at, place_near, known}
 use Rattle.stream_model.specs.Session.{Segment, arrival, start_at, place_acknowledged}
 use Rattle.stream_model.specs.Standing.{Standing, first_recent}
-use Rattle.stream_model.specs.Sending.{grows, sends_end, low, high, bare_offset, limit_of, acknowledgement_at, acknowledgement_to, acked_with, syn_sent, reset_sent, other_sent, sent_by, ends_by, inner_number, inner_at, inner_by}
+use Rattle.stream_model.specs.Sending.{sends_end, low, high, bare_offset, limit_of, acknowledgement_at, acknowledgement_to, acked_with, syn_sent, reset_sent, other_sent, sent_by, ends_by, inner_number, inner_at, inner_by}
 use Rattle.stream_model.specs.Agreeing.{Agree, SendsRecent}
 use Rattle.stream_model.specs.declared.numbers.Offset.{Offset}
 use Rattle.stream_model.specs.declared.refusals.Extent.{Extent}

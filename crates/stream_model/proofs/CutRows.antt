@@ -1,11 +1,8 @@
 -- The definitions at worked rows: what a session sends for a segment, computed, and ways to cut it that are lawful or not.
 use Rattle.std.proofs.Common.{◌≡◌, ◌≤◌, ℕ, true, false, List, [], ◌∷◌, ◌++◌, length, take, drop, refl, sym, ◌∙◌, ap, subst, arith, ◌&&◌, ◌==◌, codes, replicate, map, length-append}
-use Rattle.std.specs.Fmt.{digits}
 use Rattle.std.proofs.lemmas.Bool.{false≢true}
 use Rattle.gate_base.specs.declared.host.Host.TheVariants.{Client}
-use Rattle.ftp_lines.specs.Numbers.{number, four, six}
-use Rattle.ftp_lines.specs.Grammar.{port, eprt, delimited, passive, client_text, server_text}
-use Rattle.ftp_lines.specs.Renaming.{spelled}
+use Rattle.ftp_lines.proofs.OnLiterals.{lines_on_literals}
 use Rattle.tcp_segments.specs.declared.flags.Flags.{Flags}
 use Rattle.stream_model.specs.Session.{Session, Outgoing}
 use Rattle.stream_model.specs.History.{Event, next}
@@ -58,7 +55,7 @@ sent_rows =
     ∷ []
 
 sent_holds : found shaken sent_rows ≡ wanted sent_rows
-unfolding number four six port eprt delimited passive client_text server_text spelled digits
+unfolding lines_on_literals
 sent_holds = refl
 
 -- ## How it may be cut
@@ -71,7 +68,7 @@ abbrev letters : Sent
 letters = sends ack_push 1001 5001 88 hundred
 
 letters_sent : session_sent Client narrow (segment ack_push 1001 5001 hundred) ≡ letters
-unfolding number four six port eprt delimited passive client_text server_text spelled digits
+unfolding lines_on_literals
 letters_sent = refl
 
 -- the definitions' own way

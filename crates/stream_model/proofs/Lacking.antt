@@ -1,5 +1,6 @@
 -- What goes out for a segment brings what is lacking.
 use Rattle.std.proofs.Common.{◌≡◌, ◌≤◌, ◌<◌, ◌+◌, ◌-◌, ◌*◌, ℕ, zero, suc, Bool, true, false, cond, List, [], ◌∷◌, ◌++◌, length, map, drop, refl, sym, ◌∙◌, ap, subst, arith, inl, inr, not, ◌&&◌, ◌||◌, ◌==◌, ◌/◌, ◌⊎◌, nat_lt, min, max, slice_range, Some, None, slice_get}
+use Rattle.std.specs.List.{AllByRecursion}
 use Rattle.std.proofs.lemmas.List.{length-append, length-drop, drop_all}
 use Rattle.std.proofs.lemmas.Bool.{cases_Bool, cases_lt, ltb-true, ltb-false, le-ltb, le-leb, lt-leb, cond-false, or_parts, or_right, or_from, and_parts, and_from, and_left, and_right, eqb-true, eq-eqb, ne_eqb, not-false, true≢false, not-true}
 use Rattle.std.proofs.lemmas.Option.{slice_get_past}
@@ -15,7 +16,7 @@ use Rattle.stream_model.specs.Standing.{Standing, standing}
 use Rattle.stream_model.specs.Sending.{Sent, Piece, pieces, limit_of, grows, sends_end, low, high, bare_offset, acknowledgement_to, data_sent, segment_with, alone, sent_in, in_pieces}
 use Rattle.stream_model.specs.Steps.{taken, acknowledged, opened, own_after, other_after, session_next, session_out}
 use Rattle.stream_model.specs.History.{OneShows, Facts}
-use Rattle.stream_model.specs.Progress.{acknowledged_of, BeginsBy, EndsBy, Reaches, OneEnds, AsksAgain, EachCarries, Brings}
+use Rattle.stream_model.specs.Progress.{acknowledged_of, BeginsBy, EndsBy, Reaches, OneEnds, AsksAgain, Brings}
 use Rattle.stream_model.proofs.Cutting.{pieces_from}
 use Rattle.stream_model.proofs.PassLemmas.{Passes, IsData, passes, data_is, second_false, nothing_past}
 use Rattle.stream_model.proofs.SentLaw.{Part, part, parts, parts_show, in_pieces_are, numbered, fits, front, rear_in-le, high-le, not_grown, due-taken, out, data_is_sent, data_acknowledges, data_out}
@@ -358,11 +359,11 @@ again f a b g law p d bound by_it repeats known_end =
     ]
 
 -- each acknowledges the octets of the receiver that are acknowledged by now
-pub each_carries : (s : Sent) (octets : List ℕ) → EachCarries s.acknowledgement (sent_in s octets)
+pub each_carries : (s : Sent) (octets : List ℕ) → AllByRecursion (λ o. o.acknowledgement ≡ s.acknowledgement) (sent_in s octets)
 each_carries s [] = (refl, tt)
 each_carries s (x ∷ xs) = each (pieces s.limit 0 (x ∷ xs) s.flags.fin s.flags.push)
   where
-    each : (ps : List Piece) → EachCarries s.acknowledgement (map (segment_with s) ps)
+    each : (ps : List Piece) → AllByRecursion (λ o. o.acknowledgement ≡ s.acknowledgement) (map (segment_with s) ps)
     each [] = tt
     each (p ∷ ps) = (refl, each ps)
 
@@ -421,14 +422,17 @@ pub session_brings : (from : Host) (s : Session) (g : Segment) → IsLawful (own
 session_brings Client s g law facts v e = brings_by Client s.client s.server g law facts (passes Client s.client s.server g v) e
 session_brings Server s g law facts v e = brings_by Server s.server s.client g law facts (passes Server s.server s.client g v) e
 
-carries_by : (a b : Sender) (g : Segment) → is_data (arrival g) ≡ true → EachCarries (acknowledgement_to (standing (other_after b g))) (out a b g)
+carries_by : (a b : Sender) (g : Segment) → is_data (arrival g) ≡ true
+    → AllByRecursion (λ o. o.acknowledgement ≡ acknowledgement_to (standing (other_after b g))) (out a b g)
 carries_by a b g e =
     let d : IsData g = data_of g e in
-    subst (λ (z : Sender). EachCarries (acknowledgement_to (standing z)) (out a b g)) (sym (other_is b g d))
-    (subst (λ (os : List Outgoing). EachCarries (acknowledgement_to (standing (acknowledged b g))) os) (sym (out_is a b g d))
-    (subst (λ (n : ℕ). EachCarries n (data_out a b g)) (data_acknowledges a b g) (each_carries (data_is_sent a b g) (data_is_sent a b g).octets)))
+    let s : Sent = data_is_sent a b g in
+    subst (λ (z : Sender). AllByRecursion (λ o. o.acknowledgement ≡ acknowledgement_to (standing z)) (out a b g)) (sym (other_is b g d))
+    (subst (λ (os : List Outgoing). AllByRecursion (λ o. o.acknowledgement ≡ acknowledgement_to (standing (acknowledged b g))) os)
+    (sym (out_is a b g d))
+    (subst (λ (n : ℕ). AllByRecursion (λ o. o.acknowledgement ≡ n) (data_out a b g)) (data_acknowledges a b g) (each_carries s s.octets)))
 
 pub session_carries : (from : Host) (s : Session) (g : Segment) → is_data (arrival g) ≡ true
-    → EachCarries (acknowledgement_to (standing (other from (session_next from s g)))) (session_out from s g)
+    → AllByRecursion (λ o. o.acknowledgement ≡ acknowledgement_to (standing (other from (session_next from s g)))) (session_out from s g)
 session_carries Client s g e = carries_by s.client s.server g e
 session_carries Server s g e = carries_by s.server s.client g e

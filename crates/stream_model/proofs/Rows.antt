@@ -1,12 +1,9 @@
 -- The definitions at worked rows, computed: sessions of the lines of FTP, a segment and what goes out for it on each line.
 use Rattle.std.proofs.Common.{◌≡◌, ℕ, true, false, List, [], ◌∷◌, ◌++◌, take, drop, refl, ◌+◌, ◌-◌, ◌^◌, Option, Some, None, codes, replicate, map}
-use Rattle.std.specs.Fmt.{digits}
 use Rattle.gate_base.specs.declared.refusal.Refusal.{Refusal}
 use Rattle.gate_base.specs.declared.refusal.Refusal.TheVariants.{NoSession, SynData, SynInSession, NoAck, Gap, PastEnd, AckAhead, Unlike, StreamLimit, Backlog}
 use Rattle.gate_base.specs.declared.host.Host.TheVariants.{Client, Server}
-use Rattle.ftp_lines.specs.Numbers.{number, four, six}
-use Rattle.ftp_lines.specs.Grammar.{port, eprt, delimited, passive, client_text, server_text}
-use Rattle.ftp_lines.specs.Renaming.{spelled}
+use Rattle.ftp_lines.proofs.OnLiterals.{lines_on_literals}
 use Rattle.stream_model.specs.Numbers.{place_near}
 use Rattle.stream_model.specs.Session.{Outgoing}
 use Rattle.tcp_segments.specs.declared.flags.Flags.{Flags}
@@ -25,7 +22,7 @@ port_row = (client 1001 5001 port_line, goes 1001 5001 port_image)
 
 -- the handshake keeps its numbers
 handshake : found (begun 1000) (shake 1000 1460) ≡ wanted (shake 1000 1460)
-unfolding number four six port eprt delimited passive client_text server_text spelled digits
+unfolding lines_on_literals
 handshake = refl
 
 -- a line with an address, its acknowledgement, and what follows it
@@ -37,7 +34,7 @@ renamed_line =
     ∷ []
 
 renamed_line_holds : found shaken renamed_line ≡ wanted renamed_line
-unfolding number four six port eprt delimited passive client_text server_text spelled digits
+unfolding lines_on_literals
 renamed_line_holds = refl
 
 -- a reply with an address, and its acknowledgement
@@ -50,7 +47,7 @@ renamed_reply = (
     ∷ []
 
 renamed_reply_holds : found shaken renamed_reply ≡ wanted renamed_reply
-unfolding number four six port eprt delimited passive client_text server_text spelled digits
+unfolding lines_on_literals
 renamed_reply_holds = refl
 
 -- a line in three segments: the first two are held
@@ -62,7 +59,7 @@ held_line =
     ∷ []
 
 held_line_holds : found shaken held_line ≡ wanted held_line
-unfolding number four six port eprt delimited passive client_text server_text spelled digits
+unfolding lines_on_literals
 held_line_holds = refl
 
 -- an extended line, one of the next version's addresses, and one that has an address outside the pair
@@ -74,7 +71,7 @@ other_lines =
     ∷ []
 
 other_lines_hold : found shaken other_lines ≡ wanted other_lines
-unfolding number four six port eprt delimited passive client_text server_text spelled digits
+unfolding lines_on_literals
 other_lines_hold = refl
 
 -- all but one octet of a changed line are acknowledged: none of the line is, and its last octets bring all of it again
@@ -86,7 +83,7 @@ part_acknowledged =
     ∷ []
 
 part_acknowledged_holds : found shaken part_acknowledged ≡ wanted part_acknowledged
-unfolding number four six port eprt delimited passive client_text server_text spelled digits
+unfolding lines_on_literals
 part_acknowledged_holds = refl
 
 -- an acknowledged line is not sent again, and the receiver is made to acknowledge again
@@ -98,7 +95,7 @@ repeated_line =
     ∷ []
 
 repeated_line_holds : found shaken repeated_line ≡ wanted repeated_line
-unfolding number four six port eprt delimited passive client_text server_text spelled digits
+unfolding lines_on_literals
 repeated_line_holds = refl
 
 -- a held rest goes out with the end, and the repeats of both after their acknowledgement
@@ -116,7 +113,7 @@ ended_rest_repeated =
     ∷ []
 
 ended_rest_holds : found shaken (ended_rest ++ ended_rest_repeated) ≡ wanted (ended_rest ++ ended_rest_repeated)
-unfolding number four six port eprt delimited passive client_text server_text spelled digits
+unfolding lines_on_literals
 ended_rest_holds = refl
 
 -- a reply of so many letters behind an address, without its LF
@@ -134,7 +131,7 @@ abbrev longest_line : List Row
 longest_line = (server 5001 1001 (long 492 ++ lf), goes 5001 1001 (long_image 492 ++ lf)) ∷ []
 
 longest_line_holds : found shaken longest_line ≡ wanted longest_line
-unfolding number four six port eprt delimited passive client_text server_text spelled digits
+unfolding lines_on_literals
 longest_line_holds = refl
 
 abbrev longest_held : List Row
@@ -144,7 +141,7 @@ longest_held =
     ∷ []
 
 longest_held_holds : found shaken longest_held ≡ wanted longest_held
-unfolding number four six port eprt delimited passive client_text server_text spelled digits
+unfolding lines_on_literals
 longest_held_holds = refl
 
 -- a longer one is kept, and its rest is not held
@@ -152,7 +149,7 @@ abbrev longer_line : List Row
 longer_line = (server 5001 1001 (long 493 ++ lf), goes 5001 1001 (long 493 ++ lf)) ∷ []
 
 longer_line_holds : found shaken longer_line ≡ wanted longer_line
-unfolding number four six port eprt delimited passive client_text server_text spelled digits
+unfolding lines_on_literals
 longer_line_holds = refl
 
 abbrev longer_released : List Row
@@ -162,7 +159,7 @@ longer_released =
     ∷ []
 
 longer_released_holds : found shaken longer_released ≡ wanted longer_released
-unfolding number four six port eprt delimited passive client_text server_text spelled digits
+unfolding lines_on_literals
 longer_released_holds = refl
 
 -- numbers go past 2 ^ 32
@@ -175,7 +172,7 @@ around =
     ∷ []
 
 around_holds : found (begun 4294967293) around ≡ wanted around
-unfolding number four six port eprt delimited passive client_text server_text spelled digits
+unfolding lines_on_literals
 around_holds = refl
 
 -- a line longer than the server takes goes in two pieces, with PSH on the last
@@ -192,7 +189,7 @@ two_pieces =
     ∷ []
 
 two_pieces_hold : found (begun 1000) two_pieces ≡ wanted two_pieces
-unfolding number four six port eprt delimited passive client_text server_text spelled digits
+unfolding lines_on_literals
 two_pieces_hold = refl
 
 -- an answer that refuses the connection keeps its numbers and ends the session
@@ -210,7 +207,7 @@ abbrev late_reset : List Row
 late_reset = (client_with ack_reset 1015 5001 [], Goes (goes_with ack_reset 1000 5001 [] ∷ [])) ∷ []
 
 late_reset_holds : found (run shaken (port_row ∷ [])) late_reset ≡ wanted late_reset
-unfolding number four six port eprt delimited passive client_text server_text spelled digits
+unfolding lines_on_literals
 late_reset_holds = refl
 
 late_reset_stays : session_ends Client (run shaken (port_row ∷ [])) (segment ack_reset 1015 5001 []) ≡ false
@@ -224,7 +221,7 @@ released_rest =
     ∷ []
 
 released_rest_holds : found shaken released_rest ≡ wanted released_rest
-unfolding number four six port eprt delimited passive client_text server_text spelled digits
+unfolding lines_on_literals
 released_rest_holds = refl
 
 -- a segment without octets whose number lies inside a changed line brings the whole line; at the line's first octet it is empty
@@ -236,7 +233,7 @@ empty_inside =
     ∷ []
 
 empty_inside_holds : found shaken empty_inside ≡ wanted empty_inside
-unfolding number four six port eprt delimited passive client_text server_text spelled digits
+unfolding lines_on_literals
 empty_inside_holds = refl
 
 -- refusals of a session that has no number of its server
@@ -275,7 +272,7 @@ syn_repeated_holds = refl
 
 -- one octet of the image more than was sent is acknowledged
 ahead_of_line : found shaken (port_row ∷ (server 5001 1023 [], Refused AckAhead) ∷ []) ≡ port_row.1 ∷ Refused AckAhead ∷ []
-unfolding number four six port eprt delimited passive client_text server_text spelled digits
+unfolding lines_on_literals
 ahead_of_line = refl
 
 -- octets past an end, another end, and an end before the octets so far
@@ -288,11 +285,11 @@ past_ends =
     ∷ []
 
 past_ends_hold : found (run shaken ended_rest) past_ends ≡ wanted past_ends
-unfolding number four six port eprt delimited passive client_text server_text spelled digits
+unfolding lines_on_literals
 past_ends_hold = refl
 
 early_end : found (run shaken (port_row ∷ [])) ((client_with ack_fin 1001 5001 (codes "PORT"), Refused PastEnd) ∷ []) ≡ Refused PastEnd ∷ []
-unfolding number four six port eprt delimited passive client_text server_text spelled digits
+unfolding lines_on_literals
 early_end = refl
 
 -- a client of so many octets, a server of none, and one octet more
@@ -317,12 +314,12 @@ places_around = refl
 
 -- what an ICMP error brings back of the client: what is not acknowledged, what is, the end of what was sent, and what lies beyond
 inner_open : map (session_inner Client (run shaken renamed_line)) (1022 ∷ 1010 ∷ 1028 ∷ 1029 ∷ []) ≡ Some 1020 ∷ Some 1019 ∷ Some 1026 ∷ None ∷ []
-unfolding number four six port eprt delimited passive client_text server_text spelled digits
+unfolding lines_on_literals
 inner_open = refl
 
 -- inside a changed line that is not acknowledged; and of a server whose number is not known
 inner_inside : session_inner Client (run shaken (port_row ∷ [])) 1010 ≡ Some 1001
-unfolding number four six port eprt delimited passive client_text server_text spelled digits
+unfolding lines_on_literals
 inner_inside = refl
 
 inner_unknown : session_inner Server (begun 1000) 5001 ≡ None
@@ -332,7 +329,7 @@ inner_unknown = refl
 opened_lines : map session_open
     (run shaken (port_row ∷ []) ∷ run shaken part_acknowledged ∷ run shaken repeated_line ∷ run shaken renamed_reply ∷ run shaken ended_rest ∷ [])
     ≡ 1 ∷ 1 ∷ 0 ∷ 0 ∷ 0 ∷ []
-unfolding number four six port eprt delimited passive client_text server_text spelled digits
+unfolding lines_on_literals
 opened_lines = refl
 
 -- octets that are repeated otherwise, and the same once they are acknowledged
@@ -345,11 +342,11 @@ repeated_otherwise =
     ∷ []
 
 repeated_otherwise_holds : found shaken repeated_otherwise ≡ wanted repeated_otherwise
-unfolding number four six port eprt delimited passive client_text server_text spelled digits
+unfolding lines_on_literals
 repeated_otherwise_holds = refl
 
 other_address : found (run shaken (port_row ∷ [])) ((client 1001 5001 (line (codes "PORT 10,0,0,6,4,1")), Refused Unlike) ∷ []) ≡ Refused Unlike ∷ []
-unfolding number four six port eprt delimited passive client_text server_text spelled digits
+unfolding lines_on_literals
 other_address = refl
 
 -- a client of so many octets that are not acknowledged, and one octet more
@@ -375,7 +372,7 @@ with_options =
     ∷ []
 
 with_options_hold : found (begun 1000) with_options ≡ wanted with_options
-unfolding number four six port eprt delimited passive client_text server_text spelled digits
+unfolding lines_on_literals
 with_options_hold = refl
 
 -- a maximum segment size below 88 counts as 88
@@ -383,7 +380,7 @@ abbrev small_size : List Row
 small_size = shake 1000 40 ++ (client_with ack_push 1001 5001 noop_line, Goes noop_pieces) ∷ []
 
 small_size_holds : found (begun 1000) small_size ≡ wanted small_size
-unfolding number four six port eprt delimited passive client_text server_text spelled digits
+unfolding lines_on_literals
 small_size_holds = refl
 
 -- of several SYNs the last one's maximum segment size counts
@@ -395,7 +392,7 @@ last_size =
     ∷ []
 
 last_size_holds : found (begun 1000) last_size ≡ wanted last_size
-unfolding number four six port eprt delimited passive client_text server_text spelled digits
+unfolding lines_on_literals
 last_size_holds = refl
 
 -- a SYN, an RST and a held line go without PSH; an RST past the octets so far is a gap, and one at their end stands at the end of what was sent
@@ -415,7 +412,7 @@ no_push =
     ∷ []
 
 no_push_holds : found shaken no_push ≡ wanted no_push
-unfolding number four six port eprt delimited passive client_text server_text spelled digits
+unfolding lines_on_literals
 no_push_holds = refl
 
 -- an RST to a server whose number isn't known keeps its acknowledgement
@@ -427,12 +424,12 @@ unknown_receiver_holds = refl
 
 -- what an ICMP error brings back at the place of an end, and beyond it
 inner_end : map (session_inner Client (run shaken ended_rest)) (1008 ∷ 1009 ∷ []) ≡ Some 1008 ∷ None ∷ []
-unfolding number four six port eprt delimited passive client_text server_text spelled digits
+unfolding lines_on_literals
 inner_end = refl
 
 -- a changed line of the server counts too
 server_open : session_open (run shaken (take 1 renamed_reply)) ≡ 1
-unfolding number four six port eprt delimited passive client_text server_text spelled digits
+unfolding lines_on_literals
 server_open = refl
 
 -- a segment without octets behind an end stands behind the end of the image
@@ -440,7 +437,7 @@ abbrev after_end : List Row
 after_end = (client 1008 5001 [], goes 1008 5001 []) ∷ []
 
 after_end_holds : found (run shaken ended_rest) after_end ≡ wanted after_end
-unfolding number four six port eprt delimited passive client_text server_text spelled digits
+unfolding lines_on_literals
 after_end_holds = refl
 
 -- an end that is lost once all octets are acknowledged goes out again
@@ -453,5 +450,5 @@ lost_end =
     ∷ []
 
 lost_end_holds : found shaken lost_end ≡ wanted lost_end
-unfolding number four six port eprt delimited passive client_text server_text spelled digits
+unfolding lines_on_literals
 lost_end_holds = refl

@@ -1,17 +1,16 @@
 -- A round of repeats, computed: a client of FTP sends a line again, and the server acknowledges its image. And what doesn't go on.
 use Rattle.std.proofs.Common.{◌≡◌, ◌<◌, ℕ, false, [], ◌∷◌, ◌++◌, length, Some, None, refl, sym, subst, arith, inl, inr, lit<, lit≤}
+use Rattle.std.specs.List.{AllByRecursion}
 use Rattle.std.specs.Prelude.{codes}
 use Rattle.std.proofs.lemmas.Bool.{false≢true}
-use Rattle.std.specs.Fmt.{digits}
 use Rattle.gate_base.specs.Address.{number_of}
 use Rattle.gate_base.specs.declared.host.Host.TheVariants.{Client, Server}
-use Rattle.ftp_lines.specs.Numbers.{number, four, six}
-use Rattle.ftp_lines.specs.Grammar.{port, eprt, delimited, passive, client_text, server_text}
-use Rattle.ftp_lines.specs.Renaming.{spelled, client_lines, server_lines}
+use Rattle.ftp_lines.specs.Renaming.{client_lines, server_lines}
+use Rattle.ftp_lines.proofs.OnLiterals.{lines_on_literals}
 use Rattle.tcp_segments.specs.Prelude.{flags_of}
 use Rattle.stream_model.specs.Session.{Outgoing, Session, Segment, own, due_in, extent, arrival, place_acknowledged, repeats_unlike}
 use Rattle.stream_model.specs.Refusals.{segment_refusal}
-use Rattle.stream_model.specs.Progress.{AllShown, Brings, Covers, EachCarries, EndsAt, EndsBy, acknowledged_of}
+use Rattle.stream_model.specs.Progress.{AllShown, Brings, Covers, EndsAt, EndsBy, acknowledged_of}
 use Rattle.stream_model.specs.Keeping.{KeepsTo}
 use Rattle.stream_model.proofs.RowWords.{pair}
 use Rattle.stream_model.specs.Rounds.{Round, IsRound, AllRounds, after_repeat, after_round}
@@ -42,23 +41,23 @@ abbrev round : Round
 round = record { repeat = line; has = 21; answer = answer }
 
 passes : segment_refusal Client both line ≡ None
-unfolding number_of number four six port eprt delimited passive client_text server_text spelled digits
+unfolding number_of lines_on_literals
 passes = refl
 
 covers : Covers (own Client both) line 0
-unfolding number_of number four six port eprt delimited passive client_text server_text spelled digits
+unfolding number_of lines_on_literals
 covers = record { begins = lit≤ tt; goes_past = lit≤ tt }
 
 due : length (due_in (own Client (after_repeat Client both round))) ≡ 21
-unfolding number_of number four six port eprt delimited passive client_text server_text spelled digits
+unfolding number_of lines_on_literals
 due = refl
 
 answered : segment_refusal Server (after_repeat Client both round) answer ≡ None
-unfolding number_of number four six port eprt delimited passive client_text server_text spelled digits
+unfolding number_of lines_on_literals
 answered = refl
 
 all : place_acknowledged (extent (own Client (after_repeat Client both round))) (arrival answer) ≡ 21
-unfolding number_of number four six port eprt delimited passive client_text server_text spelled digits
+unfolding number_of lines_on_literals
 all = refl
 
 -- these two are a round
@@ -77,25 +76,25 @@ rounds : AllRounds Client both 0 0 (round ∷ [])
 rounds = (a_round, tt)
 
 known_then : acknowledged_of (own Client (after_round Client both round)) ≡ 19
-unfolding number_of number four six port eprt delimited passive client_text server_text spelled digits
+unfolding number_of lines_on_literals
 known_then = refl
 
 -- the same line once more repeats only what is acknowledged
 ends_by : EndsBy (own Client (after_round Client both round)) line 19
-unfolding number_of number four six port eprt delimited passive client_text server_text spelled digits
+unfolding number_of lines_on_literals
 ends_by = lit≤ tt
 
 -- it keeps to its sender's stream
 acknowledged_first : acknowledged_of (own Client both) ≡ 0
-unfolding number_of number four six port eprt delimited passive client_text server_text spelled digits
+unfolding number_of lines_on_literals
 acknowledged_first = refl
 
 alike : repeats_unlike (own Client both) line ≡ false
-unfolding number_of number four six port eprt delimited passive client_text server_text spelled digits
+unfolding number_of lines_on_literals
 alike = refl
 
 keeps_to : KeepsTo (own Client both) (own Server both) line
-unfolding number_of number four six port eprt delimited passive client_text server_text spelled digits
+unfolding number_of lines_on_literals
 keeps_to = record {
   kind = refl;
   ack = refl;
@@ -114,7 +113,7 @@ keeps_to = record {
 
 -- a gateway that sends nothing for the line doesn't bring what becomes due with it
 nothing_brings : Brings (own Client both) (own Client (after_repeat Client both round)) line [] → ⊥
-unfolding number_of number four six port eprt delimited passive client_text server_text spelled digits
+unfolding number_of lines_on_literals
 nothing_brings b = b.due 0 (lit≤ tt) (subst (λ (n : ℕ). 0 < n) (sym due) (lit< tt))
 
 -- a segment without octets and without an end, which acknowledges up to number 7
@@ -128,5 +127,5 @@ ends_nothing e = false≢true e.fin
 shows_nothing : AllShown 1000 (1 ∷ []) 0 (bare ∷ []) → ⊥
 shows_nothing shown = elim (shown 0 (lit≤ tt) (lit< tt)) [ inl one ↦ omega (arith, one.from, one.below) | inr none ↦ none ]
 
-carries_another : EachCarries 8 (bare ∷ []) → ⊥
+carries_another : AllByRecursion (λ o. o.acknowledgement ≡ 8) (bare ∷ []) → ⊥
 carries_another carries = let same : 7 ≡ 8 = carries.0 in absurd (omega arith)

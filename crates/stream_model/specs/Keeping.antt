@@ -1,5 +1,6 @@
 -- Segments of hosts that keep to their own streams and to what they were sent: none of them is refused.
 use Rattle.std.specs.Prelude.{◌≡◌, ◌≤◌, ◌<◌, ◌+◌, ◌-◌, ◌^◌, ◌⊎◌, true, false, length, is_some}
+use Rattle.dialogue.specs.declared.TheConstants.{MOST_RECENT}
 use Rattle.tcp_segments.specs.Prelude.{one_if}
 use Rattle.stream_model.specs.Session.{Sender, Segment, extent, arrival, start_of, repeats_unlike}
 use Rattle.stream_model.specs.Refusals.{is_data, past_end, ack_ahead}
@@ -16,7 +17,7 @@ pub record KeepsTo (a b : Sender) (g : Segment) : Type 0 where
   pub begins : BeginsBy a g (length a.octets + one_if a.ended)
   -- and, where it adds octets, not behind the first that isn't acknowledged to its sender;
   pub adds : (length g.octets ≤ (start_of a g).before) ⊎ BeginsBy a g (acknowledged_of a)
-  pub few : length g.octets ≤ 65536
+  pub few : length g.octets ≤ MOST_RECENT
   -- what it repeats is as before, and nothing stands behind an end;
   pub alike : repeats_unlike a g ≡ false
   pub ends : past_end (extent a) (arrival g) ≡ false

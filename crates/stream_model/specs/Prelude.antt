@@ -6,7 +6,7 @@ pub use Rattle.stream_model.specs.Agreeing.{Agree, SendsRecent}
 pub use Rattle.stream_model.specs.Standing.{Standing, first_recent, standing}
 pub use Rattle.stream_model.specs.Sending.{Piece, Sent, acked_with, acknowledgement_at, acknowledgement_to, alone, bare_offset, data_sent, ends_by, grows, high, in_pieces, inner_at, inner_by, inner_number, limit_of, low, other_sent, pieces, reset_sent, segment_with, sends_end, sent_by, syn_sent}
 pub use Rattle.stream_model.specs.Steps.{acknowledged, open_of, opened, other_after, own_after, sent, session_ends, session_inner, session_made, session_next, session_open, session_out, session_sent, taken}
-pub use Rattle.stream_model.specs.History.{EachIsBack, Facts, SentIs, if_by, if_to, numbers_of, places_of}
+pub use Rattle.stream_model.specs.History.{Facts, IsBack, SentIs, if_by, if_to, numbers_of, places_of}
 pub use Rattle.stream_model.specs.Progress.{Brings, OnlyHeldWaits, acknowledged_of}
 pub use Rattle.stream_model.specs.Rounds.{Hears, LacksEnd, LacksOctets}
 pub use Rattle.stream_model.specs.Cuts.{ArePieces, MaySend}

@@ -73,11 +73,6 @@ pub record AsksAgain (initial acked : ℕ) (outs : List Outgoing) : Type 0 where
   pub fin : one.flags.fin ≡ false
   pub number : one.sequence ≡ number_after initial acked
 
--- each of these acknowledges with this number
-abbrev pub EachCarries : ℕ → List Outgoing → Type 0
-EachCarries number [] = Unit {0}
-EachCarries number (o ∷ os) = (o.acknowledgement ≡ number) × EachCarries number os
-
 -- what goes out for a segment, which its sender a sends and after which it is new:
 pub record Brings (a new : Sender) (g : Segment) (outs : List Outgoing) : Type 0 where
   -- all that becomes due with it;

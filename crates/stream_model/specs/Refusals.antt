@@ -1,5 +1,6 @@
 -- The first reason for which a segment of a session is refused (RFC 9293, 3.10.7), by what is known of its sender, its receiver and itself.
 use Rattle.std.specs.Prelude.{◌+◌, ◌-◌, ◌^◌, Bool, not, ◌&&◌, ◌||◌, cond, nat_lt, nat_le, ◌==◌, List, [], ◌∷◌, Option, is_some, is_none}
+use Rattle.dialogue.specs.declared.TheConstants.{MOST_RECENT}
 use Rattle.gate_base.specs.Prelude.{first_that_holds}
 use Rattle.gate_base.specs.declared.refusal.Refusal.{Refusal}
 use Rattle.gate_base.specs.declared.refusal.Refusal.TheVariants.{NoSession, SynData, SynInSession, NoAck, Gap, PastEnd, AckAhead, Unlike, StreamLimit, Backlog}
@@ -67,7 +68,7 @@ stream_limit sender segment = is_data segment && nat_le (2 ^ 30) (sender.octets 
 abbrev pub backlog : Extent → Arrival → Bool
 backlog sender segment =
     let added = segment.count - (start_at sender segment).before in
-    is_data segment && nat_lt 0 added && nat_lt 65536 (sender.recent + added)
+    is_data segment && nat_lt 0 added && nat_lt MOST_RECENT (sender.recent + added)
 
 -- the tests in their order, where it is known whether the segment repeats unlike
 abbrev pub tests : Host → Extent → Extent → Arrival → Bool → List (Bool × Refusal)

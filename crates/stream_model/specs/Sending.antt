@@ -5,10 +5,12 @@ use Rattle.std.specs.Prelude.{◌+◌, ◌-◌, ◌%◌, ◌^◌, ℕ, Bool, fal
 use Rattle.std.specs.List.{range_with_len}
 use Rattle.resegment.specs.Pieces.{piece_count, cut_at, more_follow, piece_octets}
 use Rattle.tcp_segments.specs.declared.flags.Flags.{Flags}
+use Rattle.tcp_segments.specs.declared.TheConstants.{MOST_PAYLOAD}
 use Rattle.tcp_segments.specs.Prelude.{one_if}
 use Rattle.stream_model.specs.Numbers.{number_at, number_after, place_near, known}
 use Rattle.stream_model.specs.Session.{Segment, Outgoing, arrival, start_at, place_acknowledged}
 use Rattle.stream_model.specs.Standing.{Standing, first_recent}
+use Rattle.stream_model.specs.declared.TheConstants.{LEAST_PIECE}
 use Rattle.stream_model.specs.declared.numbers.Offset.{Offset}
 use Rattle.stream_model.specs.declared.refusals.Extent.{Extent}
 
@@ -42,10 +44,10 @@ high old new start count fin =
 abbrev pub bare_offset : Standing → Offset → ℕ
 bare_offset new start = cond (start.before == 0) (new.extent.due + start.after + 1) new.acked
 
--- The most octets of a piece are what the receiver takes, or 88 if that is more, and at most the 65,495 that fit a datagram behind two
+-- The most octets of a piece are what the receiver takes, or LEAST_PIECE if that is more, and at most those that fit a datagram behind two
 -- headers without options. The octets of the segment's options are taken off (RFC 9293, 3.7.1).
 abbrev pub limit_of : ℕ → Segment → ℕ
-limit_of mss segment = min (max mss 88) 65495 - segment.options
+limit_of mss segment = min (max mss LEAST_PIECE) MOST_PAYLOAD - segment.options
 
 -- The acknowledgement number that goes to the receiver, whose image is acknowledged up to a place: it acknowledges just the octets whose
 -- whole image lies before that.

@@ -5,6 +5,7 @@ ghost use Rattle.stream_model.specs.Numbers.{is_number};
 ghost use Rattle.stream_model.specs.Refusals.{is_data, no_session, syn_data, opens, syn_in_session, no_ack, gap, past_end, ack_ahead, stream_limit, backlog, refusal_of};
 
 use crate::numbers::{Offset, number_at, place_near};
+use dialogue::MOST_RECENT;
 use gate_base::{Host, Refusal};
 use tcp_segments::Flags;
 
@@ -155,7 +156,7 @@ fn backlog(sender: Extent, segment: Arrival) -> bool
     ensures { result ≡ backlog sender segment }
 {
     let added = u64::from(segment.count).saturating_sub(start_at(sender, segment).before);
-    is_data(segment) && 0 < added && 65_536 < u64::from(sender.recent) + added
+    is_data(segment) && 0 < added && (MOST_RECENT as u64) < u64::from(sender.recent) + added
 }
 
 /// Why a segment of a host is refused: the first reason that holds, in the order of `Refusal`. None where it passes. It goes by

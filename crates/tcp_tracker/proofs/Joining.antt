@@ -1,5 +1,7 @@
 -- Connections with their sessions inline.
-use Rattle.std.proofs.Common.{◌≡◌, ◌≢◌, ◌≤◌, ◌<◌, ℕ, zero, suc, ◌+◌, Bool, true, false, not, ◌&&◌, ◌||◌, cond, nat_lt, if◌then◌else◌, List, [], ◌∷◌, ◌++◌, length, take, drop, set, get_or, All, AllPairs, position, Option, Some, None, option_map, is_some, refl, sym, ◌∙◌, ap, subst, arith, option_and_then, slice_get, IfSome, IsSome, option_to_list}
+use Rattle.std.proofs.Common.{◌≡◌, ◌≢◌, ◌≤◌, ◌<◌, ℕ, zero, suc, ◌+◌, Bool, true, false, not, ◌&&◌, ◌||◌, cond, nat_lt, if◌then◌else◌, List, [], ◌∷◌}
+use Rattle.std.proofs.Common.{◌++◌, length, take, drop, set, get_or, All, AllPairs, position, Option, Some, None, option_map, is_some, refl, sym, ◌∙◌}
+use Rattle.std.proofs.Common.{ap, subst, arith, option_and_then, slice_get, IfSome, IsSome, option_to_list}
 use Rattle.std.specs.List.{filter, remove, position_or_len}
 use Rattle.std.proofs.lemmas.Bool.{and_parts, ltb-true, true≢false}
 use Rattle.std.proofs.lemmas.List.{length-append, append-nil, map-append, map-set, take-map, drop-map}

@@ -7,6 +7,7 @@ ghost use Rattle.tcp_tracker.specs.Lends.{lends_session};
 ghost use Rattle.slab.specs.Slab.{get, slab_len, Updates};
 ghost use Rattle.tcp_segments.specs.Prelude.{flags_of};
 ghost use Rattle.tcp_tracker.specs.Connections.{connection_of, place_of, timeout_of, noted, without, live, is_tracked};
+ghost use Rattle.tcp_tracker.specs.declared.tracker.TheConstants.{MOST_CONNECTIONS};
 
 use crate::{ConnKey, Tracker};
 use expiring_table::Seed;
@@ -14,6 +15,9 @@ use gate_base::{Moment, OutOfMemory, Side};
 use slab::Slab;
 use std::alloc::Global;
 use std::marker::Model;
+
+/// The most sessions that live at once.
+pub const MOST_SESSIONS: usize = 4_096;
 
 /// The connections between the two realms, each with its session, if it is tracked.
 pub struct SessionTable<X> {
@@ -48,7 +52,7 @@ impl<X> SessionTable<X> {
     {
         Ok(SessionTable {
             tracker: Tracker::new(alloc, seed)?,
-            sessions: Slab::with_capacity(alloc, 4096)?,
+            sessions: Slab::with_capacity(alloc, MOST_SESSIONS)?,
         })
     }
 
@@ -121,7 +125,7 @@ impl<X> SessionTable<X> {
     /// A segment with these flags passed from a side at a moment, and begins no session. There are fewer than 65,536
     /// connections, or the segment's is there. It answers how long the connection lives on, as `timeout_of` does.
     pub fn note(&mut self, key: ConnKey, from: Side, flags: u8, now: Moment) -> u64
-        requires room { place_of key self.old ≡ None → length self.old < 65536 }
+        requires room { place_of key self.old ≡ None → length self.old < MOST_CONNECTIONS }
         requires moment { IsMoment now.0 }
         ensures noted { self.new ≡ noted self.old key from flags None now }
         ensures timeout { result ≡ timeout_of self.old key from flags }
@@ -133,8 +137,8 @@ impl<X> SessionTable<X> {
     pub fn open(&mut self, key: ConnKey, from: Side, flags: u8, session: X, now: Moment)
         requires absent { connection_of key self.old ≡ None }
         requires flags { (flags_of flags).reset ≡ false }
-        requires room { length self.old < 65536 }
-        requires sessions { count_by is_tracked self.old < 4096 }
+        requires room { length self.old < MOST_CONNECTIONS }
+        requires sessions { count_by is_tracked self.old < MOST_SESSIONS }
         requires moment { IsMoment now.0 }
         ensures { self.new ≡ noted self.old key from flags (Some session) now }
     {

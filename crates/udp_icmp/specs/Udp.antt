@@ -1,6 +1,7 @@
 -- UDP (RFC 768).
 use Rattle.std.specs.Prelude.{ℕ, Bool, not, ◌&&◌, ◌||◌, ◌==◌, nat_lt, if◌then◌else◌, List, [], ◌∷◌, ◌++◌, drop, length, Result}
 use Rattle.gate_base.specs.Prelude.{u16_at, with_u16}
+use Rattle.gate_base.specs.declared.protocol.TheConstants.{UDP}
 use Rattle.inet_sum.specs.Sum.{is_right, checksum, pseudo_header}
 use Rattle.ipv4_frames.specs.declared.fault.TransportFault.{TransportFault}
 use Rattle.ipv4_frames.specs.declared.fault.TransportFault.TheVariants.{BadTransport, BadSum}
@@ -22,9 +23,9 @@ udp_fields_of segment = record {
   payload = drop 8 segment;
 }
 
--- what the checksum covers: the pseudo header of protocol 17, and the segment
+-- what the checksum covers: the pseudo header, and the segment
 abbrev pub udp_covered : ℕ → ℕ → List ℕ → List ℕ
-udp_covered source destination segment = pseudo_header source destination 17 (length segment) ++ segment
+udp_covered source destination segment = pseudo_header source destination UDP (length segment) ++ segment
 
 -- fewer than 8 octets, or a length field that isn't their number
 abbrev pub has_bad_length : List ℕ → Bool

@@ -1,5 +1,6 @@
 ghost use Rattle.std.specs.Prelude.{◌≡◌, false, ◌≤◌, Ok, length};
 ghost use Rattle.std.specs.Bool.{OnFalse};
+ghost use Rattle.gate_base.specs.declared.protocol.TheConstants.{LONGEST_DATAGRAM};
 ghost use Rattle.udp_icmp.specs.Udp.{Udp, udp_fields_of, has_bad_length, has_bad_sum, read_udp, sealed_udp};
 
 use gate_base::{Addr, UDP, get_u16};
@@ -67,7 +68,7 @@ impl<'a> UdpView<'a> {
 fn has_bad_length(segment: &[u8]) -> bool
     ensures value { result ≡ has_bad_length segment.now }
     ensures right { OnFalse result
-        ((8 ≤ length segment.now) × (length segment.now ≤ 65535)) }
+        ((8 ≤ length segment.now) × (length segment.now ≤ LONGEST_DATAGRAM)) }
 {
     segment.len() < 8 || usize::from(get_u16(segment, 4)) != segment.len()
 }
@@ -75,7 +76,7 @@ fn has_bad_length(segment: &[u8]) -> bool
 #[inline(always)]
 fn has_bad_sum(segment: &[u8], source: Addr, destination: Addr) -> bool
     requires long { 8 ≤ length segment.now }
-    requires short { length segment.now ≤ 65535 }
+    requires short { length segment.now ≤ LONGEST_DATAGRAM }
     ensures { result ≡ has_bad_sum source.0 destination.0 segment.now }
 {
     get_u16(segment, 6) != 0 && pseudo_sum(source, destination, UDP, segment) != 0

@@ -1,10 +1,8 @@
 use frag_join::{Joiner, Taken};
-use gate_base::{Event, Link, Moment, Refusal, Side, put_u16};
+use gate_base::{Event, LONGEST_DATAGRAM, Link, Moment, Refusal, SECOND, Side, put_u16};
 use inet_sum::sum;
 use std::alloc::{AllocError, Global};
 use std::test::Fail;
-
-const SECOND: u64 = 1_000_000_000;
 
 /// The last fragment of a datagram.
 const LAST: &[u8; 22] = b"\x45\0\0\x16\0\x01\0\x01\x40\x11\xe8\x26\x0a\0\0\x05\xc0\xa8\xc8\x01hi";
@@ -54,7 +52,7 @@ const ORDERS: [[u8; 4]; 24] = [
 
 /// Octets of the first fragment's header, with another total length, identification, flags and offset.
 fn seal(octets: &mut [u8], identification: u16, place: u16) {
-    if octets.len() < 20 || octets.len() > 65_535 {
+    if octets.len() < 20 || octets.len() > LONGEST_DATAGRAM {
         return;
     }
     let total = octets.len() as u16;
@@ -180,7 +178,7 @@ fn longest_datagram(rt: HostRuntime) -> Result<(), AllocError> {
     };
     let mut front = filled(rt.alloc(), 20 + 65_512)?;
     seal(&mut front, 1, 0x2000);
-    let mut datagram = filled(rt.alloc(), 65_535)?;
+    let mut datagram = filled(rt.alloc(), LONGEST_DATAGRAM)?;
     seal(&mut datagram, 1, 0);
     let mut last = [9; 23];
     seal(&mut last, 1, 8_189);

@@ -8,7 +8,7 @@ use Rattle.dialogue.specs.Prelude.{Entry}
 use Rattle.dns_messages.specs.Suits.{MessageSuits}
 use Rattle.dns_messages.specs.declared.message.Message.{Message}
 use Rattle.dns_stream.specs.Prelude.{message_in}
-use Rattle.gate_model.specs.Prelude.{most_entries}
+use Rattle.dialogue.specs.declared.TheConstants.{MOST_ENTRIES}
 use Rattle.dns_plans.specs.Plans.{all_addresses}
 use Rattle.dns_plans.specs.declared.named.ReadUnit.{ReadUnit}
 use Rattle.dns_plans.specs.declared.plan.Endpoints.{Endpoints}
@@ -16,7 +16,7 @@ use Rattle.dns_plans.specs.declared.plan.Endpoints.{Endpoints}
 -- the tests that are left where no unit is whole
 abbrev pub none_tests : Bindings → Endpoints → List Entry → List (Bool × Refusal)
 none_tests table ends entries =
-    (nat_lt most_entries (length entries), RenamesFull)
+    (nat_lt MOST_ENTRIES (length entries), RenamesFull)
     ∷ (nat_lt (free table (other ends.side)) (needed table ends.side (all_addresses ends [])), PoolEmpty)
     ∷ []
 

@@ -1,6 +1,7 @@
 -- A list of entries, and the same entries in the order of their addresses.
 use Rattle.std.specs.Prelude.{◌≡◌, ℕ, ◌<◌, ◌≤◌, List, length, slice_index_or, None}
 use Rattle.dialogue.specs.Prelude.{Entry, listed_image}
+use Rattle.dialogue.specs.declared.TheConstants.{MOST_ENTRIES}
 
 -- stands where a list has no entry
 abbrev pub no_entry : Entry
@@ -25,9 +26,9 @@ pub record IsGapFor (l : List Entry) (address i : ℕ) : Type 0 where
   pub lower_before : (j : ℕ) → j < i → address_at l j < address
   pub higher_after : (j : ℕ) → i ≤ j → j < length l → address < address_at l j
 
--- at most 256 entries, and at most as many sorted ones, whose addresses rise and which give each address the same image
+-- at most MOST_ENTRIES entries, and at most as many sorted ones, whose addresses rise and which give each address the same image
 pub record AreOneList (entries sorted : List Entry) : Type 0 where
-  pub few : length entries ≤ 256
+  pub few : length entries ≤ MOST_ENTRIES
   pub fewer : length sorted ≤ length entries
   pub rises : Rises sorted
   pub same : (a : ℕ) → listed_image sorted a ≡ listed_image entries a

@@ -3,6 +3,7 @@ use Rattle.std.specs.Prelude.{◌≡◌, ◌-◌, ◌≤◌, ◌<◌, ◌+◌, �
 use Rattle.gate_base.specs.Prelude.{other}
 use Rattle.gate_desk.specs.Outside.{Outside, Takes, told_at}
 use Rattle.pcap_files.specs.Prelude.{Packet, Whole, records_from, Reading}
+use Rattle.pcap_files.specs.declared.record.TheConstants.{LONGEST_RECORD}
 use Rattle.pcap_merge.specs.Prelude.{with_records}
 use Rattle.lawful_files.specs.Prelude.{behind}
 use Rattle.gate_audit.specs.Auditing.{Auditing}
@@ -36,7 +37,7 @@ TakesSome r old new = (count : ℕ) × Takes r.slot count old new
 
 -- a record was taken and judged; or none stands next; or a read failed
 abbrev pub TakesRecord : Result Bool Status → Reading → Reading → Auditing → Auditing → Outside → Outside → Type 0
-TakesRecord (Ok true) r r' a a' old new = (p : Packet) × (length p.octets ≤ 262144) × Took (p ∷ []) r r' a a' old new
+TakesRecord (Ok true) r r' a a' old new = (p : Packet) × (length p.octets ≤ LONGEST_RECORD) × Took (p ∷ []) r r' a a' old new
 TakesRecord (Ok false) r r' a a' old new = TakesSome r old new
     × IfSome (told_at old.left r.slot) (λ octets. length (records_from r.form r.place octets).packets ≡ 0)
 TakesRecord (Err stop) r r' a a' old new = TakesSome r old new × FailsAt stop r.slot old new

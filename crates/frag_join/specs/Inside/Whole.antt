@@ -1,5 +1,6 @@
 -- What a joiner keeps.
 use Rattle.std.specs.Prelude.{◌≡◌, ℕ, ◌*◌, ◌%◌, ◌<◌, ◌≤◌, true, false, if◌then◌else◌, length, slice_index_or, Option, Some, None, is_some}
+use Rattle.gate_base.specs.declared.protocol.TheConstants.{LONGEST_DATAGRAM}
 use Rattle.frag_join.specs.Places.{table, count_below}
 use Rattle.frag_join.specs.Coverage.{Coverage}
 use Rattle.frag_join.specs.Inside.Held.{octet_held, header_held}
@@ -20,7 +21,7 @@ known_inside b = record {
 -- there is room for the longest datagram; the held octets are counted; no unit is held at or behind the reach, which lies between two units unless
 -- it is the end; and where the first unit is held, the header is there
 pub record IsWhole (b : Inside) : Type 0 where
-  pub octets : length b.octets.items ≡ 65535
+  pub octets : length b.octets.items ≡ LONGEST_DATAGRAM
   pub units : length b.held.items ≡ 8190
   pub fits : b.reach ≤ 65515
   pub counted : b.count ≡ count_below (λ place. is_some (octet_inside b place)) b.reach

@@ -2,7 +2,8 @@
 use Rattle.std.specs.Prelude.{◌≡◌, ◌≤◌, None, length}
 use Rattle.gate_base.specs.declared.event.Pair.{Pair}
 use Rattle.gate_base.specs.declared.host.Host.{Host}
-use Rattle.gate_model.specs.Prelude.{most_entries, entries_by}
+use Rattle.gate_model.specs.Prelude.{entries_by}
+use Rattle.dialogue.specs.declared.TheConstants.{MOST_ENTRIES}
 use Rattle.gate_sessions.specs.Compact.{CompactSession, IsOfSome}
 use Rattle.gate_sessions.specs.Inside.Directions.{dns_session}
 use Rattle.gate_sessions.specs.declared.kinds.SessionKind.{SessionKind}
@@ -21,4 +22,4 @@ IsOfPair pair (Units session) = Unit {0}
 -- what holds of each session by itself: it is kept of some session over whole lists, all of whose addresses are listed where it is one of DNS, and no list is longer than the most
 pub record IsSession (k : CompactSession) : Type 0 where
   pub some : IsOfSome k
-  pub few : (host : Host) → length (entries_by k.lists host) ≤ most_entries
+  pub few : (host : Host) → length (entries_by k.lists host) ≤ MOST_ENTRIES

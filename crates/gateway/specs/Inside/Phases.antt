@@ -1,5 +1,6 @@
 -- The phases of a run, and how each answers.
 use Rattle.std.specs.Prelude.{◌≡◌, ◌⊎◌, ℕ, ◌^◌, ◌*◌, ◌≤◌, List, [], ◌∷◌, length, true, false, Result, Ok, Err, None, IfSome}
+use Rattle.resegment.specs.declared.datagrams.TheConstants.{MOST_DATAGRAMS}
 use Rattle.gate_base.specs.Prelude.{Event}
 use Rattle.gate_base.specs.declared.side.Side.{Side}
 use Rattle.gate_desk.specs.declared.slot.Slot.{Slot}
@@ -143,8 +144,8 @@ state_of gate totals = record { world = gate.world; totals = totals }
 pub record CanCount (t : Totals) : Type 0 where
   pub passed : t.passed ≤ t.events
   pub refused : t.refused ≤ t.events
-  pub to_left : t.to_left ≤ 4096 * t.events
-  pub to_right : t.to_right ≤ 4096 * t.events
+  pub to_left : t.to_left ≤ MOST_DATAGRAMS * t.events
+  pub to_right : t.to_right ≤ MOST_DATAGRAMS * t.events
 
 -- how many datagrams go out at a frame
 abbrev pub frames_by : World CompactSession → Arrival → ℕ
@@ -156,7 +157,7 @@ pub record Handled (after : Totals) (gate gate' : Gateway) (totals : Totals) (a 
   pub settings : gate'.settings ≡ gate.settings
   pub state : state_of gate' after ≡ after_one compact_rules (state_of gate totals) a
   pub gives : WritesAll (given_by compact_rules gate.settings (state_of gate totals) a) old new
-  pub few : frames_by gate.world a ≤ 4096
+  pub few : frames_by gate.world a ≤ MOST_DATAGRAMS
 
 -- what writing the last line answers
 abbrev pub WritesLastLine : Result Line Status → ReportForm → Line → Outside → Outside → Type 0

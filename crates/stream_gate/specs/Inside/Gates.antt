@@ -1,8 +1,10 @@
 -- What only proofs and private contracts need beside `Gates`.
 use Rattle.std.specs.Prelude.{◌≡◌, ◌≤◌, ◌<◌, ◌+◌, ◌-◌, ◌^◌, ℕ, length}
 use Rattle.tcp_segments.specs.Prelude.{IsTcpHeader, one_if}
+use Rattle.tcp_segments.specs.declared.TheConstants.{MOST_PAYLOAD}
 use Rattle.resegment.specs.declared.put.SegmentModel.{SegmentModel}
 use Rattle.dialogue.specs.Prelude.{Meaning}
+use Rattle.dialogue.specs.declared.TheConstants.{MOST_RECENT}
 use Rattle.stream_model.specs.Prelude.{Segment, arrival, place_acknowledged, Sent, other_sent, acknowledgement_at, acked_with, limit_of}
 use Rattle.compact_stream.specs.Prelude.{CompactSender, extent_kept, octets_kept, start_kept, standing_kept, taken_kept, recent_back}
 use Rattle.shift_ledger.specs.Prelude.{fore_by}
@@ -13,7 +15,7 @@ use Rattle.stream_gate.specs.Segments.{Headers}
 pub record CanPass (own other : CompactSender) (g : Segment) : Type 0 where
   pub near : (start_kept own g).after ≤ 1
   pub limit : octets_kept own + (length g.octets - (start_kept own g).before) < 2 ^ 30
-  pub recent : 1 ≤ length g.octets - (start_kept own g).before → length own.recent + (length g.octets - (start_kept own g).before) ≤ 65536
+  pub recent : 1 ≤ length g.octets - (start_kept own g).before → length own.recent + (length g.octets - (start_kept own g).before) ≤ MOST_RECENT
   pub place : place_acknowledged (extent_kept other) (arrival g) ≤ other.ledger.octets_out + one_if other.ended
 
 -- the headers and new fields that all datagrams of a segment have
@@ -37,7 +39,7 @@ pub record CanCopy (h : CompactSender) (low high : ℕ) : Type 0 where
 pub record CanCut (h : CompactSender) (m : SegmentModel) (g : Going) : Type 0 where
   pub copies : CanCopy h g.first g.past
   pub some : 48 ≤ g.limit
-  pub fits : g.limit + (length m.tcp.now - 20) ≤ 65495
+  pub fits : g.limit + (length m.tcp.now - 20) ≤ MOST_PAYLOAD
 
 -- what goes out for a segment with neither SYN nor RST
 abbrev pub data_kept : Meaning → CompactSender → CompactSender → Segment → Sent

@@ -4,6 +4,7 @@ use Rattle.expiring_table.specs.declared.row.Row.{Row}
 use Rattle.expiring_table.specs.Prelude.{Table}
 use Rattle.tcp_tracker.specs.declared.connection.ConnKey.{ConnKey}
 use Rattle.tcp_tracker.specs.declared.connection.Connection.{Connection}
+use Rattle.tcp_tracker.specs.declared.tracker.TheConstants.{MOST_CONNECTIONS}
 
 -- the name of a connection as a number
 abbrev pub number_of : ConnKey → ℕ
@@ -27,5 +28,5 @@ pub record IsFiled (row : Row (Connection ℕ)) : Type 0 where
 
 -- there is room for 65,536 connections, and each is filed
 pub record IsWhole (table : Table (Connection ℕ)) : Type 0 where
-  pub most : table.most ≡ 65536
+  pub most : table.most ≡ MOST_CONNECTIONS
   pub filed : All IsFiled table.rows

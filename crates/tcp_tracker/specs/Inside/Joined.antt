@@ -3,6 +3,7 @@ use Rattle.std.specs.Prelude.{◌≡◌, ◌≢◌, ◌≤◌, ℕ, List, length
 use Rattle.std.specs.List.{flat_map}
 use Rattle.slab.specs.Slab.{Slab, get, slab_len}
 use Rattle.tcp_tracker.specs.declared.connection.Connection.{Connection}
+use Rattle.tcp_tracker.specs.declared.table.TheConstants.{MOST_SESSIONS}
 
 -- a connection with the session of its slot
 abbrev pub inline : {X : Type 0} → Slab X → Connection ℕ → Connection X
@@ -31,4 +32,4 @@ pub record IsJoined {X : Type 0} (all : List (Connection ℕ)) (slots : Slab X) 
   pub kept : All (IsKept slots) all
   pub apart : AllPairs (λ one two. one ≢ two) (slots_of all)
   pub counted : slab_len slots ≡ length (slots_of all)
-  pub room : 4096 ≤ slots.capacity
+  pub room : MOST_SESSIONS ≤ slots.capacity

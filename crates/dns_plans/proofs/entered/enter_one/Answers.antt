@@ -1,7 +1,7 @@
 use Rattle.std.proofs.Common.{◌≡◌, ◌<◌, ◌++◌, ◌∷◌, [], true, false, List, length, refl, sym, ◌∙◌, ap, arith, not, nat_lt, is_some, ◌||◌, le-ltb, lt-ltb, length-append}
 use Rattle.dialogue.specs.Prelude.{Entry, is_listed}
 use Rattle.dialogue.proofs.ListedImages.{image_of_listed}
-use Rattle.gate_model.specs.Prelude.{most_entries}
+use Rattle.dialogue.specs.declared.TheConstants.{MOST_ENTRIES}
 use Rattle.dns_plans.proofs.EnteredLemmas.{enters_none, enters_new}
 use Rattle.dns_plans.specs.Prelude.{enter_one}
 use Rattle.dns_plans.proofs.entered.enter_one.Goals as goal
@@ -25,8 +25,8 @@ pub returns-then-knows-clause-room : goal.returns-then-knows-clause-room
 returns-then-knows-clause-room g c =
     let es : List Entry = g.S.Session.rules.listed c.args.sender.now.host c.args.sender.now.session.now in
     let new : List Entry = c.args.new.now in
-    ap not (sym (le-ltb most_entries (length (es ++ new)) c.requires.few))
-    ∙ ap (λ (xs : List Entry). not (nat_lt most_entries (length xs))) (returns-then-knows-clause-entered g c refl)
+    ap not (sym (le-ltb MOST_ENTRIES (length (es ++ new)) c.requires.few))
+    ∙ ap (λ (xs : List Entry). not (nat_lt MOST_ENTRIES (length xs))) (returns-then-knows-clause-entered g c refl)
 
 pub returns-then-listed-len-eq-MOST_ENTRIES-clause-room : goal.returns-then-listed-len-eq-MOST_ENTRIES-clause-room
 returns-then-listed-len-eq-MOST_ENTRIES-clause-room g c =
@@ -37,7 +37,7 @@ returns-then-listed-len-eq-MOST_ENTRIES-clause-room g c =
     ∙ c.if-is_some.false in
     let unknown : (is_listed es one.0.0 || is_listed new one.0.0) ≡ false =
     ap (λ b. b || is_listed new one.0.0) (sym c.knows.ensures ∙ c.if-knows.false) ∙ unlisted in
-    let many : most_entries < length (enter_one (es ++ new) one) =
+    let many : MOST_ENTRIES < length (enter_one (es ++ new) one) =
     omega (
       arith,
       ap length (enters_new es new one unknown),
@@ -47,7 +47,7 @@ returns-then-listed-len-eq-MOST_ENTRIES-clause-room g c =
       c.len.ensures.len,
       c.if-listed-len-eq-MOST_ENTRIES.true,
     ) in
-    sym (ap not (lt-ltb most_entries (length (enter_one (es ++ new) one)) many))
+    sym (ap not (lt-ltb MOST_ENTRIES (length (enter_one (es ++ new) one)) many))
 
 pub learn-requires-clause-unknown : goal.learn-requires-clause-unknown
 learn-requires-clause-unknown g c = sym (image_of_listed c.args.new.now c.args.one.0.0) ∙ ap is_some (sym c.image_of.ensures) ∙ sym c.is_some.ensures

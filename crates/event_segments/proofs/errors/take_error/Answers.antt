@@ -4,7 +4,8 @@ use Rattle.gate_base.specs.declared.address.Addr.{Addr}
 use Rattle.binding_table.specs.Prelude.{Bindings, seen, after_uses}
 use Rattle.twice_translate.specs.Renamed.{datagram_of, renamed}
 use Rattle.icmp_errors.specs.Inner.{read_inner, inner_with}
-use Rattle.gate_model.specs.Prelude.{inside, with_inside, icmp_timeout, uses_until}
+use Rattle.gate_model.specs.Prelude.{inside, with_inside, uses_until}
+use Rattle.gate_model.specs.declared.timeouts.TheConstants.{ICMP_TIMEOUT}
 use Rattle.event_payloads.specs.Prelude.{image_by}
 use Rattle.event_segments.proofs.ErrorsTaken.{IsKnown, inner_read, error_bad, error_unseen, error_unknown, error_empty, error_passes}
 use Rattle.event_segments.proofs.errors.take_error.Goals as goal
@@ -106,7 +107,7 @@ returns g c = record {
       error_passes g.S.Session.rules live side d way c.in-Ok.inner c.in-Some.source c.in-Some-seen.destination number c.use_both.new.table
       c.put_error.new.outbox w known (sym c.is_unknown.ensures ∙ c.if-is_unknown.false) (sym c.lacks_alias.ensures ∙ c.if-lacks_alias.false)
       (c.use_both.ensures
-      ∙ ap (λ (x : Bindings). after_uses x (uses_until side (way.moment.0 + icmp_timeout) (way.source ∷ way.destination ∷ []))) (sym t))
+      ∙ ap (λ (x : Bindings). after_uses x (uses_until side (way.moment.0 + ICMP_TIMEOUT) (way.source ∷ way.destination ∷ []))) (sym t))
       (c.put_error.ensures
       ∙ ap (λ (n : Option ℕ). R n c.source_image.result c.destination_image.result) (c.flatten.ensures ∙ flatten_is number)
       ∙ ap (λ (a : Addr). R (option_and_then (λ n. n) number) a c.destination_image.result) c.source_image.ensures

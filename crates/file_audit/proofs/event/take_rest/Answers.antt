@@ -106,7 +106,8 @@ returns-in_err-alone g c =
     record {
       answer = handed_on (λ x. FindsLast x c.args.auditor.now.settings (state_of c.args.auditor.now c.args.totals) r old new)
           c.from_residual-in_err-alone.result stop is
-          (last_stops stop form _ _ r old end new (ap (λ (t : Settings). t.report) c.settings.ensures) ends.grows c.in_err-alone.ensures.takes.1);
+          (last_stops stop form _ _ r old end new (ap (λ (t : Settings). t.report) c.settings.ensures.value) ends.grows
+          c.in_err-alone.ensures.takes.1);
       reads = reads_on old end new ends (last_some c.take_last.result form c.last_line-line.result _ _ end new c.take_last.ensures.takes);
       leaves = leaves_handed Bool c.from_residual-in_err-alone.result stop old new is
           (leaves_on {A = Bool} (Err stop) old end new (c.in_ok-right_ended.ensures.leaves
@@ -123,7 +124,7 @@ returns-else-alone g c =
     let s = state_of c.args.auditor.now c.args.totals in
     let form = c.settings.result.now.report in
     let line = c.last_line-line.result in
-    let is = last_is c.args.auditor.now.settings form s line (ap (λ (t : Settings). t.report) c.settings.ensures)
+    let is = last_is c.args.auditor.now.settings form s line (ap (λ (t : Settings). t.report) c.settings.ensures.value)
     (c.last_line-line.ensures ∙ ap (λ (n : ℕ). done_line c.args.totals n) c.pending.ensures) in
     let same = beside RightGiven ReportGiven r.right mid end c.requires.running.right_slot refl
     (end_some c.is_at_end-2.result r.right mid end c.is_at_end-2.ensures.finds)
@@ -150,7 +151,7 @@ returns-then-alone g c =
     let s = state_of c.args.auditor.now c.args.totals in
     let form = c.settings.result.now.report in
     let line = c.last_line-line.result in
-    let is = last_is c.args.auditor.now.settings form s line (ap (λ (t : Settings). t.report) c.settings.ensures)
+    let is = last_is c.args.auditor.now.settings form s line (ap (λ (t : Settings). t.report) c.settings.ensures.value)
     (c.last_line-line.ensures ∙ ap (λ (n : ℕ). done_line c.args.totals n) c.pending.ensures) in
     let left = end_some c.is_at_end.result r.left old mid c.is_at_end.ensures.finds in
     let right = end_some c.is_at_end-2.result r.right mid end c.is_at_end-2.ensures.finds in

@@ -11,9 +11,9 @@ pub returns-in-Some-clause-takes : goal.returns-in-Some-clause-takes
 returns-in-Some-clause-takes g c =
     let found = c.in-Some.found in
     let line = subst (λ (o : Option LineFound). FindsLine o c.args.form c.args.head c.octets.result.now) c.in-Some.is c.in_ok-found.ensures.is in
-    takes_frames found c.args.form c.args.head c.args.report.now c.fill.new.self c.take.new.self (g.D.Desk.outside c.args.desk.now)
+    takes_frames found c.args.form c.args.head c.args.report.now c.fill.new.self c.skip.new.self (g.D.Desk.outside c.args.desk.now)
     (g.D.Desk.outside c.fill.new.desk) c.in_ok-fill.ensures.ok
-    (subst (λ (xs : List ℕ). FindsLine (Some found) c.args.form c.args.head xs) c.octets.ensures line) c.take.ensures
+    (subst (λ (xs : List ℕ). FindsLine (Some found) c.args.form c.args.head xs) c.octets.ensures line) c.skip.ensures
 
 pub returns-in-None-clause-takes : goal.returns-in-None-clause-takes
 returns-in-None-clause-takes g c =

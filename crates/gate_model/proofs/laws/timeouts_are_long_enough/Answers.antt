@@ -1,5 +1,5 @@
 use Rattle.std.proofs.Common.{arith}
-use Rattle.gate_model.proofs.Timeouts.{least, established_is}
+use Rattle.gate_model.proofs.LeastTimeouts.{least, established_is}
 use Rattle.gate_model.proofs.laws.timeouts_are_long_enough.Goals as goal
 
 pub returns : goal.returns

@@ -9,12 +9,12 @@ use Rattle.binding_table.proofs.Room.{room_for}
 use Rattle.binding_table.proofs.Whole.{room_of}
 use Rattle.binding_table.proofs.table.Table.append.Goals as goal
 
-pub take_alias-requires-clause-left : goal.take_alias-requires-clause-left
-take_alias-requires-clause-left c = left_free c.self.inside c.args.binding c.self.invariant
+pub allocate_alias-requires-clause-left : goal.allocate_alias-requires-clause-left
+allocate_alias-requires-clause-left c = left_free c.self.inside c.args.binding c.self.invariant
     (subst (λ (table : Bindings). CanHold table c.args.binding) (sym c.self.view_is) c.requires.place)
 
-pub take_alias-requires-clause-right : goal.take_alias-requires-clause-right
-take_alias-requires-clause-right c = right_free c.self.inside c.args.binding c.self.invariant
+pub allocate_alias-requires-clause-right : goal.allocate_alias-requires-clause-right
+allocate_alias-requires-clause-right c = right_free c.self.inside c.args.binding c.self.invariant
     (subst (λ (table : Bindings). CanHold table c.args.binding) (sym c.self.view_is) c.requires.place)
 
 pub push-requires : goal.push-requires
@@ -37,5 +37,5 @@ pub invariant_of-self : goal.invariant_of-self
 invariant_of-self c =
     let can = subst (λ (table : Bindings). CanHold table c.args.binding) (sym c.self.view_is) c.requires.place in
     let table = c.self.inside.bindings in
-    whole_push c.self.inside _ c.args.binding c.self.invariant can refl refl c.take_alias.ensures.left c.take_alias.ensures.right
+    whole_push c.self.inside _ c.args.binding c.self.invariant can refl refl c.allocate_alias.ensures.left c.allocate_alias.ensures.right
     (c.push.ensures ∙ ap (λ (row : Row Binding). let one : Table Binding = record table { rows = table.rows ++ row ∷ [] } in one) c.filed.ensures)

@@ -13,16 +13,16 @@ fix-requires c =
       fixed = c.requires.fixed;
     }
 
-pub take_alias-requires-clause-left : goal.take_alias-requires-clause-left
-take_alias-requires-clause-left c = left_free c.self.inside c.args.binding c.self.invariant
+pub allocate_alias-requires-clause-left : goal.allocate_alias-requires-clause-left
+allocate_alias-requires-clause-left c = left_free c.self.inside c.args.binding c.self.invariant
     (subst (λ (table : Bindings). CanHold table c.args.binding) (sym c.self.view_is) c.requires.place)
 
-pub take_alias-requires-clause-right : goal.take_alias-requires-clause-right
-take_alias-requires-clause-right c = right_free c.self.inside c.args.binding c.self.invariant
+pub allocate_alias-requires-clause-right : goal.allocate_alias-requires-clause-right
+allocate_alias-requires-clause-right c = right_free c.self.inside c.args.binding c.self.invariant
     (subst (λ (table : Bindings). CanHold table c.args.binding) (sym c.self.view_is) c.requires.place)
 
 pub invariant_of-self-2 : goal.invariant_of-self-2
 invariant_of-self-2 c =
     let can = subst (λ (table : Bindings). CanHold table c.args.binding) (sym c.self.view_is) c.requires.place in
-    whole_push c.self.inside _ c.args.binding c.self.invariant can refl refl c.take_alias.ensures.left c.take_alias.ensures.right
+    whole_push c.self.inside _ c.args.binding c.self.invariant can refl refl c.allocate_alias.ensures.left c.allocate_alias.ensures.right
     c.in_ok-fix.ensures.ok

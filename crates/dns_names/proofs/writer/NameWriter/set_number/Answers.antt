@@ -1,4 +1,4 @@
-use Rattle.std.proofs.Common.{◌≡◌, ◌≤◌, ◌++◌, ℕ, arith, drop, length, length-append, length-take-le, rules, take}
+use Rattle.std.proofs.Common.{◌≡◌, ◌≤◌, ◌++◌, arith, drop, length, length-append, length-take-le, rules, take}
 use Rattle.dns_names.proofs.Kept.{IsIndex-later}
 use Rattle.dns_names.proofs.Pending.{edges-later}
 use Rattle.dns_names.proofs.writer.NameWriter.set_number.Goals as goal

@@ -5,7 +5,8 @@ use Rattle.gate_base.specs.declared.address.Addr.{Addr}
 use Rattle.gate_base.specs.declared.side.Side.{Side}
 use Rattle.ipv4_frames.specs.Ipv4.{Datagram}
 use Rattle.tcp_segments.specs.Prelude.{Tcp}
-use Rattle.tcp_tracker.specs.Prelude.{connection_of, place_of, timeout_of, short_timeout, noted, without, replaced}
+use Rattle.tcp_tracker.specs.Prelude.{connection_of, place_of, timeout_of, noted, without, replaced}
+use Rattle.tcp_tracker.specs.declared.connection.TheConstants.{SHORT_TIMEOUT}
 use Rattle.tcp_tracker.specs.declared.connection.ConnKey.{ConnKey}
 use Rattle.tcp_tracker.specs.declared.connection.Connection.{Connection}
 use Rattle.gate_model.specs.Prelude.{key_in, session_in, stepped, Tracked, Stream}
@@ -149,7 +150,7 @@ returns g c =
     session_is_over g.S.Session.rules g.S.Engine.gives.tells live way d t c.use_segment-in-None.new.table c.remove.new.self
     (given_by g.S.Engine.gives (Cut c.in_ok-stepped.stepped.sent) c.step_session.new.outbox) c.requires.on.way p.found (sym p.units.passes)
     (sym c.in-None.is ∙ did.waits)
-    (λ h. planned_used g.S.Session.rules c.requires.on.laws.lists live way d t (s g w) c.args.plan short_timeout c.use_segment-in-None.new.table
+    (λ h. planned_used g.S.Session.rules c.requires.on.laws.lists live way d t (s g w) c.args.plan SHORT_TIMEOUT c.use_segment-in-None.new.table
     c.requires.listed.lawful c.requires.on.way p refl h (c.use_segment-in-None.ensures (s g w) (there g w)))
     (c.remove.ensures
     ∙ ap (λ (x : List (Connection (Tracked g.row.S.Denot))). without x c.args.key.now) (next g w)

@@ -6,7 +6,8 @@ use Rattle.std.proofs.lemmas.Option.{slice_get-get_or}
 use Rattle.gate_base.specs.Prelude.{event_of}
 use Rattle.ipv4_frames.specs.Ipv4.{has_options}
 use Rattle.frag_join.specs.declared.part.Part.{Part}
-use Rattle.frag_join.specs.Prelude.{name_in, fragment_in, octets_of, Coverage, nothing, is_bad, State, Step, by_known, is_of, place_of, limit, fragment_step, part_or_new, with_fragment, known_at, put_at}
+use Rattle.frag_join.specs.Prelude.{name_in, fragment_in, octets_of, Coverage, nothing, is_bad, State, Step, by_known, is_of, place_of, fragment_step, part_or_new, with_fragment, known_at, put_at}
+use Rattle.frag_join.specs.declared.joiner.TheConstants.{LIMIT}
 use Rattle.frag_join.specs.Fragments.{name_of, fragment_of}
 use Rattle.frag_join.specs.Inside.Kept.{known_or_nothing, new_part}
 use Rattle.frag_join.proofs.PartLemmas.{get-last}
@@ -54,7 +55,7 @@ returns-in-None-2 c =
     let good : is_bad (known_at parts c.place_of-place.result) (fragment_in e) ≡ false =
     ap (is_bad (known_at parts c.place_of-place.result)) (sym (c.of-fragment.ensures ∙ ap fragment_of c.requires.octets))
     ∙ sym c.is_bad.ensures ∙ c.if-is_bad.false in
-    let full : leb limit (length parts) ≡ true = le-leb limit (length parts) (omega (arith, c.len.ensures)) in
+    let full : leb LIMIT (length parts) ≡ true = le-leb LIMIT (length parts) (omega (arith, c.len.ensures)) in
     let step = step-full parts e c.place_of-place.result options looked good c.in-None-2.is full in
     record {
       answer = ap (λ (s : Step Coverage). s.answer) (sym step);
@@ -167,7 +168,7 @@ first c =
     ap (λ p. is_bad (known_at parts p) (fragment_in e)) (sym c.in-None.is)
     ∙ ap (is_bad (known_at parts c.place_of-place.result)) (sym (c.of-fragment.ensures ∙ ap fragment_of c.requires.octets))
     ∙ sym c.is_bad.ensures ∙ c.if-is_bad.false in
-    let room : leb limit (length parts) ≡ false = lt-leb limit (length parts) (omega (arith, c.len.ensures)) in
+    let room : leb LIMIT (length parts) ≡ false = lt-leb LIMIT (length parts) (omega (arith, c.len.ensures)) in
     ap (λ all. put_at all c.begin_datagram-place.result e new) (begun c)
     ∙ ap (λ place. put_at (parts ++ new ∷ []) place e new) c.begin_datagram-place.ensures.place
     ∙ settled-last by_known parts e new (with_fragment by_known new e) ∙ sym (step-new by_known parts e options none good room)

@@ -23,7 +23,7 @@ pub take_frame-requires-clause-listed : goal.take_frame-requires-clause-listed
 take_frame-requires-clause-listed c =
     let kept : c.self.inside.lost ≡ false = ap (λ (a : Auditing). a.lost) c.self.view_is ∙ c.requires.kept in
     subst (λ (x : World HeardSession). KeepsListed heard_rules x) (sym c.expire.ensures.live)
-    (moment_lists heard_rules (world_in c.self.inside.state) (event_of c.args.event.now).moment (c.self.invariant kept))
+    (moment_lists heard_rules (world_in c.self.inside.state) (event_of c.args.event.now).moment (c.self.invariant.1 kept))
 
 pub take_frame-requires-clause-laws : goal.take_frame-requires-clause-laws
 take_frame-requires-clause-laws c = heard_laws
@@ -36,7 +36,7 @@ want-verdict-requires c =
     (world_in c.take_frame.new.self) c.take_frame.new.outbox c.in_ok-taken.ensures
 
 pub invariant_of-self-2 : goal.invariant_of-self-2
-invariant_of-self-2 c = λ lost.
+invariant_of-self-2 c =
     let e = event_of c.args.event.now in
     let w = c.args.self.now.world in
     let kept : c.self.inside.lost ≡ false = ap (λ (a : Auditing). a.lost) c.self.view_is ∙ c.requires.kept in
@@ -46,8 +46,9 @@ invariant_of-self-2 c = λ lost.
     let s = expected w e c.in_ok-taken.taken (world_in c.take_frame.new.self) c.take_frame.new.outbox
     (subst (λ (x : World HeardSession). IsGiven heard_rules heard_gives (first_that_holds (tests heard_rules x e)) (kind_of (datagram_in e)) x
     e.side (datagram_in e) c.in_ok-taken.taken (world_in c.take_frame.new.self) c.take_frame.new.outbox) live c.in_ok-taken.ensures) in
-    subst (λ (x : World HeardSession). KeepsListed heard_rules x) (sym s.kept_is)
-    (next_lists heard_rules heard_lists w e (subst (λ (x : World HeardSession). KeepsListed heard_rules x) state (c.self.invariant kept)))
+    let old = subst (λ (x : World HeardSession). KeepsListed heard_rules x) state (c.self.invariant.1 kept) in
+    let new = subst (λ (x : World HeardSession). KeepsListed heard_rules x) (sym s.kept_is) (next_lists heard_rules heard_lists w e old) in
+    (c.self.invariant.0, λ lost. new)
 
 pub returns-clause-verdict : goal.returns-clause-verdict
 returns-clause-verdict c =

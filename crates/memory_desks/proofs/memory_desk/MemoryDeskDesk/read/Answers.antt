@@ -6,17 +6,17 @@ use Rattle.memory_desks.proofs.memory_desk.MemoryDeskDesk.read.Goals as goal
 
 pub returns-clause-ok : goal.returns-clause-ok
 returns-clause-ok c =
-    let rest = ap (put c.self.inside.left c.args.slot) (c.take.ensures.rest ∙ ap (drop c.take.result) c.at_mut.ensures.value) in
-    rw (← c.self.view_is) (memory_takes c.args.slot c.take.result (the_view c.self.inside) (put c.self.inside.left c.args.slot c.take.new.self) rest)
+    let rest = ap (put c.self.inside.left c.args.slot) (c.read.ensures.rest ∙ ap (drop c.read.result) c.at_mut.ensures.value) in
+    rw (← c.self.view_is) (memory_takes c.args.slot c.read.result (the_view c.self.inside) (put c.self.inside.left c.args.slot c.read.new.self) rest)
 
 pub returns-clause-octets : goal.returns-clause-octets
 returns-clause-octets c =
     rw (← c.self.view_is)
-    (memory_next c.args.slot c.take.result (the_view c.self.inside) c.take.new.buffer (omega (arith, c.take.ensures.count, c.take.auto.buffer))
-    (c.take.ensures.octets ∙ ap (take c.take.result) c.at_mut.ensures.value))
+    (memory_next c.args.slot c.read.result (the_view c.self.inside) c.read.new.buffer (omega (arith, c.read.ensures.count, c.read.auto.buffer))
+    (c.read.ensures.octets ∙ ap (take c.read.result) c.at_mut.ensures.value))
 
 pub returns-clause-end : goal.returns-clause-end
 returns-clause-end c =
     rw (← c.self.view_is)
     (λ none some. memory_end c.args.slot (the_view c.self.inside)
-    (omega (arith, c.take.ensures.count, none, some, ap (λ (xs : List ℕ). length xs) c.at_mut.ensures.value)))
+    (omega (arith, c.read.ensures.count, none, some, ap (λ (xs : List ℕ). length xs) c.at_mut.ensures.value)))

@@ -1,4 +1,4 @@
-use Rattle.std.proofs.Common.{◌≡◌, ◌≤◌, ℕ, List, [], ◌∷◌, length, arith, ap, ◌∙◌}
+use Rattle.std.proofs.Common.{◌≡◌, ◌≤◌, [], ◌∷◌, length, arith, ap, ◌∙◌}
 use Rattle.resegment.proofs.Boxes.{no_ends, no_octets, behind_none, one_put}
 use Rattle.resegment.proofs.datagrams.Datagrams.put_empty.Goals as goal
 

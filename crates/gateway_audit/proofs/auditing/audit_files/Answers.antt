@@ -3,7 +3,7 @@ use Rattle.run_setup.proofs.Causes.{handed_on}
 use Rattle.run_setup.specs.AuditNames.{names_of}
 use Rattle.gateway_audit.specs.Inside.Phases.{Readied, Judges}
 use Rattle.gateway_audit.proofs.Judging.{not_ready, no_head, read_inputs, to_walk, took_none, took_prepared, took_walked, walked}
-use Rattle.gateway_audit.proofs.auditing.judge.Goals as goal
+use Rattle.gateway_audit.proofs.auditing.audit_files.Goals as goal
 
 pub returns-in_err-given-clause-answer : goal.returns-in_err-given-clause-answer
 returns-in_err-given-clause-answer g c =
