@@ -9,7 +9,7 @@ use Rattle.gate_base.specs.declared.host.Host.TheVariants.{Client, Server}
 use Rattle.dialogue.specs.Prelude.{Meaning, IsLawful, Span, back_in, cut, pushes_of, image, due, spans, fore, rear, back}
 use Rattle.dialogue.proofs.Laws.{fore-back, length-due-le, length-spans}
 use Rattle.tcp_segments.specs.Prelude.{one_if}
-use Rattle.stream_model.specs.Numbers.{number_after, known}
+use Rattle.stream_model.specs.Numbers.{number_after, number_at, known}
 use Rattle.stream_model.specs.Session.{Sender, Session, Segment, Outgoing, own, other, due_in, extent, arrival, start_of}
 use Rattle.stream_model.specs.Refusals.{is_data, past_end_at, segment_refusal}
 use Rattle.stream_model.specs.Standing.{Standing, standing}
@@ -436,3 +436,13 @@ pub session_carries : (from : Host) (s : Session) (g : Segment) → is_data (arr
     → AllByRecursion (λ o. o.acknowledgement ≡ acknowledgement_to (standing (other from (session_next from s g)))) (session_out from s g)
 session_carries Client s g e = carries_by s.client s.server g e
 session_carries Server s g e = carries_by s.server s.client g e
+
+-- The same with the number in full. An equation of its own says that both are one: else whoever looks for a difference compares all that goes out.
+acknowledges : (a : Sender) → acknowledgement_to (standing a) ≡ number_at (known a.initial) (acknowledged_of a)
+acknowledges a = refl
+
+pub carries_number : (from : Host) (s : Session) (g : Segment) → is_data (arrival g) ≡ true
+    → let b = other from (session_next from s g) in
+    AllByRecursion (λ o. o.acknowledgement ≡ number_at (known b.initial) (acknowledged_of b)) (session_out from s g)
+carries_number from s g e = subst (λ (n : ℕ). AllByRecursion (λ o. o.acknowledgement ≡ n) (session_out from s g))
+    (acknowledges (other from (session_next from s g))) (session_carries from s g e)
