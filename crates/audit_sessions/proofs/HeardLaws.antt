@@ -10,7 +10,8 @@ use Rattle.dialogue.specs.Prelude.{Entry, AllListed, Meaning}
 use Rattle.dns_stream.specs.Prelude.{unit_addresses}
 use Rattle.stream_model.specs.Prelude.{Session, Segment, own, session_next}
 use Rattle.audit_streams.specs.Hosts.{Heard, sender_by}
-use Rattle.gate_model.specs.Prelude.{HasLists, Lists, addresses_in, entered, Reads, whole_rules, WholeSession, lists_at, meaning_by, entries_by, completed, whole_units, whole_learned, whole_next}
+use Rattle.gate_model.specs.Prelude.{HasLists, Lists, addresses_in, entered, Reads, whole_rules, WholeSession, lists_at}
+use Rattle.gate_model.specs.Prelude.{meaning_by, entries_by, completed, whole_units, whole_learned, whole_next}
 use Rattle.dialogue.specs.declared.TheConstants.{MOST_ENTRIES}
 use Rattle.gate_model.specs.Sessions.{with_entries}
 use Rattle.gate_model.proofs.Entering.{listed_units_more}

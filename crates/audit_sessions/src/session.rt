@@ -21,7 +21,7 @@ use ftp_lines::{ClientLines, ServerLines};
 use gate_base::{Addr, DNS_PORT, Host, OutOfMemory, Pair, Refusal};
 use std::alloc::Global;
 use std::marker::Model;
-use tcp_segments::{TcpView, flags_of};
+use tcp_segments::{DEFAULT_SEGMENT_SIZE, TcpView, flags_of};
 
 /// A session of one of two kinds: of FTP, which has no lists, or of DNS. It is seen as what was heard of its hosts, and answers as the
 /// rules of such sessions say.
@@ -50,7 +50,7 @@ pub fn ftp_session(alloc: Global, pair: Pair, initial: u32, mss: u16) -> FtpSess
           client_dialogue = record { pair = pair };
           server_dialogue = record { pair = pair };
           client = unheard (Some initial) mss;
-          server = unheard None 536;
+          server = unheard None DEFAULT_SEGMENT_SIZE;
         } }
 {
     WholeStreams::new(
@@ -68,7 +68,7 @@ fn dns_session(alloc: Global, initial: u32, mss: u16) -> Result<DnsSession, OutO
           client_dialogue = [];
           server_dialogue = [];
           client = unheard (Some initial) mss;
-          server = unheard None 536;
+          server = unheard None DEFAULT_SEGMENT_SIZE;
         }) }
 {
     let client = DnsUnits::new(alloc)?;
@@ -203,7 +203,12 @@ impl AuditedSession {
                 match step_units(session, from, segment, completed) {
                     Ok(sent) => return Ok(sent),
                     Err(error) => {
-                        self.kind = SessionKind::Lines(ftp_session(self.alloc, self.pair, 0, 536));
+                        self.kind = SessionKind::Lines(ftp_session(
+                            self.alloc,
+                            self.pair,
+                            0,
+                            DEFAULT_SEGMENT_SIZE,
+                        ));
                         return Err(error);
                     }
                 }

@@ -5,6 +5,7 @@ ghost use Rattle.dialogue.specs.declared.TheConstants.{MOST_ENTRIES};
 ghost use Rattle.stream_model.specs.Prelude.{due_in, recent, extent, open_of};
 ghost use Rattle.audit_streams.specs.Hosts.{unheard, held_in};
 ghost use Rattle.audit_streams.specs.Inside.Hosts.{sender_of};
+ghost use Rattle.stream_model.specs.declared.refusals.TheConstants.{STREAM_LIMIT};
 
 use crate::taking::take_octets;
 use crate::transcript::Transcript;
@@ -77,7 +78,7 @@ impl<D: Dialogue> WholeStream<D> {
     // How many octets it has sent so far.
     fn count(&self) -> u64
         ensures count { result ≡ length self.now.heard.octets }
-        ensures few { result < 2 ^ 30 }
+        ensures few { result < STREAM_LIMIT }
     {
         self.transcript.octets().len() as u64
     }
@@ -118,7 +119,7 @@ impl<D: Dialogue> WholeStream<D> {
     /// The octets that may be sent again.
     fn recent(&self) -> &[u8]
         ensures octets { result.now ≡ recent (sender_of D.meaning self.now) }
-        ensures few { length result.now < 2 ^ 30 }
+        ensures few { length result.now < STREAM_LIMIT }
     {
         let octets = self.transcript.octets();
         let start = self.back(self.acked).min(octets.len() as u64);
@@ -171,7 +172,7 @@ impl<D: Dialogue> WholeStream<D> {
 
     /// Takes octets that follow, and the end.
     pub(crate) fn take(&mut self, alloc: Global, fresh: &[u8], fin: bool) -> Result<(), OutOfMemory>
-        requires limit { length self.old.heard.octets + length fresh.now < 2 ^ 30 }
+        requires limit { length self.old.heard.octets + length fresh.now < STREAM_LIMIT }
         ensures dialogue { self.new.dialogue ≡ self.old.dialogue }
         ensures taken { OnOk result (self.new
             ≡ record self.old {

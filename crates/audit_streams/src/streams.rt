@@ -21,7 +21,7 @@ use stream_model::{
     Arrival, Going, LEAST_PIECE, Stands, acknowledgement_to, going_out, going_reset, going_syn,
     inner_number, place_acknowledged, refusal, start_at,
 };
-use tcp_segments::{MOST_PAYLOAD, TcpView, flags_octet, flags_of};
+use tcp_segments::{DEFAULT_SEGMENT_SIZE, MOST_PAYLOAD, TcpView, flags_octet, flags_of};
 
 /// A session that keeps all octets of both hosts, what their octets become on the way, and where units with another image stand. It
 /// takes some two octets of memory for each octet, and 16 for each such unit.
@@ -48,13 +48,13 @@ impl<C: Dialogue, S: Dialogue> WholeStreams<C, S> {
               client_dialogue = client;
               server_dialogue = server;
               client = unheard (Some initial) mss;
-              server = unheard None 536;
+              server = unheard None DEFAULT_SEGMENT_SIZE;
             } }
     {
         WholeStreams {
             alloc,
             client: WholeStream::new(alloc, client, Some(initial), mss),
-            server: WholeStream::new(alloc, server, None, 536),
+            server: WholeStream::new(alloc, server, None, DEFAULT_SEGMENT_SIZE),
         }
     }
 

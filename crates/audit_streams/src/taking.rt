@@ -1,8 +1,9 @@
 // Octets that are taken in pieces: a unit ends with a piece, or the rest goes on.
-ghost use Rattle.std.specs.Prelude.{◌≡◌, ◌≤◌, ◌<◌, ◌+◌, ◌-◌, ◌^◌, ◌++◌, length, take, true, false, IfOk, OnOk, OnErr, IfSome, IfNone};
+ghost use Rattle.std.specs.Prelude.{◌≡◌, ◌≤◌, ◌<◌, ◌+◌, ◌-◌, ◌++◌, length, take, true, false, IfOk, OnOk, OnErr, IfSome, IfNone};
 ghost use Rattle.std.specs.Str.{bytes_eq};
 ghost use Rattle.dialogue.specs.Prelude.{IsUnit};
 ghost use Rattle.audit_streams.specs.Inside.Transcripts.{IsOf, IsOther, rest_of, with_octets, ended};
+ghost use Rattle.stream_model.specs.declared.refusals.TheConstants.{STREAM_LIMIT};
 
 use crate::transcript::Transcript;
 use dialogue::Dialogue;
@@ -18,7 +19,7 @@ pub(crate) fn take_octets<D: Dialogue>(
     octets: &[u8],
 ) -> Result<(), OutOfMemory>
     requires of { IsOf (D.meaning dialogue.old) transcript.old released.old }
-    requires few { length transcript.old.octets + length octets.now < 2 ^ 30 }
+    requires few { length transcript.old.octets + length octets.now < STREAM_LIMIT }
     ensures taken { OnOk result
         (transcript.new.octets ≡ transcript.old.octets ++ octets.now) }
     ensures of { IsOf (D.meaning dialogue.old) transcript.new released.new }
@@ -41,7 +42,7 @@ fn take_piece<D: Dialogue>(
 ) -> Result<usize, OutOfMemory>
     requires some { 1 ≤ length octets.now }
     requires of { IsOf (D.meaning dialogue.old) transcript.old released.old }
-    requires few { length transcript.old.octets + length octets.now < 2 ^ 30 }
+    requires few { length transcript.old.octets + length octets.now < STREAM_LIMIT }
     ensures some { IfOk result (λ count. 1 ≤ count) }
     ensures within { IfOk result (λ count. count ≤ length octets.now) }
     ensures taken { IfOk result (λ count. transcript.new.octets
@@ -70,7 +71,7 @@ fn take_released<D: Dialogue>(
     requires some { 1 ≤ length octets.now }
     requires free { released.old ≡ true }
     requires of { IsOf (D.meaning dialogue.now) transcript.old released.old }
-    requires few { length transcript.old.octets + length octets.now < 2 ^ 30 }
+    requires few { length transcript.old.octets + length octets.now < STREAM_LIMIT }
     ensures some { IfOk result (λ count. 1 ≤ count) }
     ensures within { IfOk result (λ count. count ≤ length octets.now) }
     ensures taken { IfOk result (λ count. transcript.new.octets
@@ -105,7 +106,7 @@ fn take_held<D: Dialogue>(
     requires waits { released.old ≡ false }
     requires joined { joined.now ≡ rest_of transcript.old ++ octets.now }
     requires of { IsOf (D.meaning dialogue.old) transcript.old released.old }
-    requires few { length transcript.old.octets + length octets.now < 2 ^ 30 }
+    requires few { length transcript.old.octets + length octets.now < STREAM_LIMIT }
     ensures some { IfOk result (λ count. 1 ≤ count) }
     ensures within { IfOk result (λ count. count ≤ length octets.now) }
     ensures taken { IfOk result (λ count. transcript.new.octets
@@ -154,7 +155,7 @@ fn end_unit<D: Dialogue>(
     requires joined { unit.now ≡ rest_of transcript.old ++ octets.now }
     requires of { IsOf (D.meaning dialogue.old) transcript.old false }
     requires unit { IsUnit (D.meaning dialogue.old) unit.now }
-    requires few { length transcript.old.octets + length octets.now < 2 ^ 30 }
+    requires few { length transcript.old.octets + length octets.now < STREAM_LIMIT }
     ensures ok { OnOk result (transcript.new
         ≡ ended (D.meaning dialogue.old) (with_octets transcript.old octets.now)) }
     ensures err { OnErr result (transcript.new ≡ transcript.old) }

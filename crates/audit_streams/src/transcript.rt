@@ -4,6 +4,7 @@ ghost use Rattle.std.specs.List.{slice_get};
 ghost use Rattle.std.specs.Option.{option_map};
 ghost use Rattle.dialogue.specs.Prelude.{fore_in, rear_in, back_in};
 ghost use Rattle.audit_streams.specs.Inside.Transcripts.{span_of, rest_of, with_octets, closed, rest_at, changed, last_by};
+ghost use Rattle.stream_model.specs.declared.refusals.TheConstants.{STREAM_LIMIT};
 
 use gate_base::OutOfMemory;
 use std::alloc::Global;
@@ -26,7 +27,7 @@ pub(crate) struct Places {
 }
 
 /// The octets, their image, the units with another image, and where the rest after the last whole unit begins. There are fewer than
-/// 2^30 octets, and fewer than 2^31 of the image. Contracts see the octets, the image, the image places of each octet, where the
+/// `STREAM_LIMIT` octets, and fewer than twice as many of the image. Contracts see the octets, the image, the image places of each octet, where the
 /// images of changed units end, and where the rest begins.
 #[derive(Drop)]
 pub(crate) struct Transcript {
@@ -64,7 +65,7 @@ impl Transcript {
     /// The octets.
     pub(crate) fn octets(&self) -> &[u8]
         ensures octets { result.now ≡ self.now.octets }
-        ensures few { length result.now < 2 ^ 30 }
+        ensures few { length result.now < STREAM_LIMIT }
     {
         &self.octets
     }
@@ -145,7 +146,7 @@ impl Transcript {
     /// How many octets have all their image places below one.
     pub(crate) fn below(&self, place: u64) -> u64
         ensures back { result ≡ back_in self.now.places place }
-        ensures few { result < 2 ^ 30 }
+        ensures few { result < STREAM_LIMIT }
     {
         let next = self
             .units
@@ -171,7 +172,7 @@ impl Transcript {
 
     /// Appends octets, which go on as they are.
     pub(crate) fn extend(&mut self, octets: &[u8]) -> Result<(), OutOfMemory>
-        requires few { length self.old.octets + length octets.now < 2 ^ 30 }
+        requires few { length self.old.octets + length octets.now < STREAM_LIMIT }
         requires short { length self.old.image + length octets.now < 2 ^ 31 }
         ensures ok { OnOk result (self.new ≡ with_octets self.old octets.now) }
         ensures err { OnErr result (self.new ≡ self.old) }
@@ -192,7 +193,7 @@ impl Transcript {
     /// The rest and octets that follow are a unit with this image.
     pub(crate) fn change(&mut self, octets: &[u8], image: &[u8]) -> Result<(), OutOfMemory>
         requires some { self.old.rest < length self.old.octets + length octets.now }
-        requires few { length self.old.octets + length octets.now < 2 ^ 30 }
+        requires few { length self.old.octets + length octets.now < STREAM_LIMIT }
         requires short { rest_at self.old + length image.now < 2 ^ 31 }
         ensures ok { OnOk result
             (self.new ≡ changed (with_octets self.old octets.now) image.now) }
@@ -220,7 +221,7 @@ impl Transcript {
 // The places of an octet that stands as it is, behind these units.
 fn place_behind(units: &[ChangedUnit], octet: u64) -> Places
     requires behind { last_by (λ u. u.past) 0 units.now ≤ octet }
-    requires few { octet < 2 ^ 30 }
+    requires few { octet < STREAM_LIMIT }
     ensures first { result.first
         ≡ last_by (λ u. u.end) 0 units.now
         + (octet - last_by (λ u. u.past) 0 units.now) }

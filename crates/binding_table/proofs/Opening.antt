@@ -2,7 +2,8 @@
 use Rattle.std.proofs.Common.{◌≡◌, ℕ, ◌-◌, ◌<◌, ◌≤◌, ◌/◌, ◌^◌, true, false, not, ◌&&◌, ◌||◌, ◌==◌, nat_le, nat_lt, List, [], ◌∷◌, length, map, get_or, take, refl, sym, ◌∙◌, subst, arith, inl, inr}
 use Rattle.std.proofs.lemmas.List.{get_or_default, get_or-take, length-take}
 use Rattle.std.proofs.lemmas.List.Elements.{All-map}
-use Rattle.std.proofs.lemmas.Bool.{cases_Bool, or_parts, or_from, and_parts, and_from, not_from_true, not-false, not-true, not_from_false, leb-true, le-leb, ltb-true, ltb-false, lt-ltb, eqb-false, ne_eqb}
+use Rattle.std.proofs.lemmas.Bool.{cases_Bool, or_parts, or_from, and_parts, and_from, not_from_true, not-false, not-true, not_from_false}
+use Rattle.std.proofs.lemmas.Bool.{leb-true, leb-false, le-leb, ltb-true, ltb-false, lt-ltb, eqb-false, ne_eqb}
 use Rattle.gate_base.specs.Prelude.{is_unicast_number, other}
 use Rattle.gate_base.specs.declared.address.Addr.{Addr}
 use Rattle.gate_base.specs.declared.side.Side.{Side}
@@ -14,6 +15,7 @@ use Rattle.gate_settings.specs.declared.settings.Fixed.{Fixed}
 use Rattle.gate_settings.specs.declared.settings.Settings.{Settings}
 use Rattle.gate_settings.specs.declared.settings.SideSettings.{SideSettings}
 use Rattle.binding_table.specs.Prelude.{CanHold, range_of, fixed_binding, without_bindings, in_pool, is_same, IsLawful, collides}
+use Rattle.gate_base.specs.declared.address.TheConstants.{LARGEST_POOL}
 
 -- ## No address of a pool crosses unchanged
 
@@ -23,9 +25,9 @@ pub record IsRange (first last : ℕ) : Type 0 where
 
 pub range_is : (side : SideSettings) → is_bad_pool side ≡ false → IsRange side.first.0 side.last.0
 range_is side good =
-    let parts = or_parts (nat_lt side.last.0 side.first.0) (nat_lt 65535 (side.last.0 - side.first.0)) good in
+    let parts = or_parts (nat_lt side.last.0 side.first.0) (nat_le LARGEST_POOL (side.last.0 - side.first.0)) good in
     let low = ltb-false side.last.0 side.first.0 parts.0 in
-    let high = ltb-false 65535 (side.last.0 - side.first.0) parts.1 in
+    let high = leb-false LARGEST_POOL (side.last.0 - side.first.0) parts.1 in
     record { ordered = low; small = omega arith }
 
 pub record HasTop (top : ℕ) : Type 0 where

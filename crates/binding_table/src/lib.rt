@@ -11,5 +11,5 @@ mod table;
 
 pub use binding::Crossing;
 pub use laws::{crosses_back, keeps_apart, keeps_known, keeps_others, sees_used};
-pub use seen_addresses::SeenAddresses;
+pub use seen_addresses::{MOST_SEEN, SeenAddresses};
 pub use table::Table;

@@ -5,6 +5,7 @@ ghost use Rattle.gate_base.specs.Prelude.{other};
 ghost use Rattle.binding_table.specs.Bindings as tables;
 ghost use Rattle.binding_table.specs.Plan as plans;
 ghost use Rattle.binding_table.specs.Inside.Steps.{AreFirsts, EndsAtOnce, needing, next_alias, planned_by};
+ghost use Rattle.binding_table.specs.declared.seen_addresses.TheConstants.{MOST_SEEN};
 
 use crate::aliases::address_at;
 use crate::binding::Crossing;
@@ -59,7 +60,7 @@ impl Table {
         images: &mut [Option<Addr>],
         seen_addresses: &mut Rows<usize>,
     ) -> u32
-        requires empty { seen_addresses.old ≡ no_rows 8192 }
+        requires empty { seen_addresses.old ≡ no_rows MOST_SEEN }
         requires lengths { length images.old ≡ length addresses.now }
         requires bound { All
             (λ address. tables.cross self.now side address ≢ Crossing.Unbound)
@@ -70,7 +71,7 @@ impl Table {
             → (uses : List plans.Use)
             → plans.AreUsesOf side addresses.now uses
             → images.new ≡ plans.images_after self.now uses }
-        ensures most { seen_addresses.new.most ≡ 8192 }
+        ensures most { seen_addresses.new.most ≡ MOST_SEEN }
         ensures ends { All EndsAtOnce seen_addresses.new.rows }
     {
         keeps_apart(self);

@@ -11,10 +11,10 @@ use std::alloc::Global;
 use std::marker::Model;
 
 /// How many distinct addresses are noted: more than a datagram names.
-const MOST: usize = 8_192;
+pub const MOST_SEEN: usize = 8_192;
 
 /// Room in which `Table::plan` notes where the addresses of a list stand first. So each costs the same however many come before
-/// it, as long as no more than 8,192 distinct ones need a binding. Each plan leaves the room empty.
+/// it, as long as no more than `MOST_SEEN` distinct ones need a binding. Each plan leaves the room empty.
 #[derive(Drop)]
 pub struct SeenAddresses {
     pub(crate) rows: Rows<usize>,
@@ -23,19 +23,20 @@ pub struct SeenAddresses {
 impl Model for SeenAddresses {
     ghost use Rattle.std.specs.Prelude.{◌≡◌};
     ghost use Rattle.expiring_table.specs.Prelude.{no_rows};
+    ghost use Rattle.binding_table.specs.declared.seen_addresses.TheConstants.{MOST_SEEN};
 
     ghost Value = { Unit {0} };
 
     ghost view = { λ _. tt };
 
-    ghost invariant = { λ seen_addresses. seen_addresses.rows ≡ no_rows 8192 };
+    ghost invariant = { λ seen_addresses. seen_addresses.rows ≡ no_rows MOST_SEEN };
 }
 
 impl SeenAddresses {
     /// The room. The error is that there is too little memory. The seed spreads the addresses, and changes no answer.
     pub fn new(alloc: Global, seed: Seed) -> Result<SeenAddresses, OutOfMemory> {
         Ok(SeenAddresses {
-            rows: Rows::new(alloc, MOST, seed)?,
+            rows: Rows::new(alloc, MOST_SEEN, seed)?,
         })
     }
 
@@ -52,7 +53,7 @@ pub fn first_place(
     earlier: &[Addr],
     address: Addr,
 ) -> Option<usize>
-    requires { seen_addresses.old.most ≡ 8192 }
+    requires { seen_addresses.old.most ≡ MOST_SEEN }
     ensures place { (needs : Addr → Bool)
         → AreFirsts needs earlier.now seen_addresses.old
         → needs address ≡ true
@@ -66,7 +67,7 @@ pub fn first_place(
     match seen_addresses.find(key).copied() {
         Some(row) => Some(row.value),
         None => {
-            if MOST <= seen_addresses.len() {
+            if MOST_SEEN <= seen_addresses.len() {
                 return place_of(earlier, address);
             }
             seen_addresses.push(Row {

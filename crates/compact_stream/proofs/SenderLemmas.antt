@@ -1,7 +1,9 @@
 -- What is kept of a sender answers for its octets.
-use Rattle.std.proofs.Common.{◌≡◌, ◌≤◌, ◌+◌, ℕ, Bool, true, false, cond, List, [], ◌∷◌, ◌++◌, length, refl, sym, ◌∙◌, ap, subst, arith, append_assoc, inl, inr, map, flat_map, bytes_eq, length-append}
+use Rattle.std.proofs.Common.{◌≡◌, ◌≤◌, ◌+◌, ℕ, Bool, true, false, cond, List, [], ◌∷◌, ◌++◌, length, refl, sym, ◌∙◌}
+use Rattle.std.proofs.Common.{ap, subst, arith, append_assoc, inl, inr, map, flat_map, bytes_eq, length-append}
 use Rattle.std.proofs.lemmas.Bool.{cases_Bool, ne_eqb}
-use Rattle.dialogue.specs.Prelude.{Meaning, IsLawful, is_held, Push, Plain, end_from, fore_in, rear_in, Cut, cut, push_of, due_rest, due, image, spans, pushes_of, fore, rear, back}
+use Rattle.dialogue.specs.Prelude.{Meaning, IsLawful, is_held, Push, Plain, end_from, fore_in, rear_in, Cut}
+use Rattle.dialogue.specs.Prelude.{cut, push_of, due_rest, due, image, spans, pushes_of, fore, rear, back}
 use Rattle.dialogue.proofs.CutLemmas.{cut_joined}
 use Rattle.dialogue.proofs.Laws.{end_from-pushes}
 use Rattle.shift_ledger.specs.Prelude.{Kept, in_from, StandsFor, fore_of, rear_of, back_of}

@@ -1,5 +1,5 @@
 -- What is kept of a sender, without the octets that will not be sent again.
-use Rattle.std.specs.Prelude.{◌≡◌, ◌≤◌, ◌<◌, ◌+◌, ◌-◌, ◌*◌, ◌^◌, ℕ, Bool, true, false, ◌||◌, cond, nat_le, min, max, List, [], ◌++◌, length, drop, Option, Some}
+use Rattle.std.specs.Prelude.{◌≡◌, ◌≤◌, ◌<◌, ◌+◌, ◌-◌, ◌*◌, ℕ, Bool, true, false, ◌||◌, cond, nat_le, min, max, List, [], ◌++◌, length, drop, Option, Some}
 use Rattle.dialogue.specs.Prelude.{Meaning, IsRest, is_released, Push, Plain, is_unlike, Cut, cut, due_rest, pushes_of, back}
 use Rattle.dialogue.specs.declared.TheConstants.{MOST_RECENT}
 use Rattle.shift_ledger.specs.Prelude.{back_by, Kept, StandsFor, pushed, pruned}
@@ -7,6 +7,7 @@ use Rattle.tcp_segments.specs.Prelude.{one_if}
 use Rattle.stream_model.specs.Prelude.{Sender, Segment, arrival, start_at, place_acknowledged}
 use Rattle.stream_model.specs.declared.refusals.Extent.{Extent}
 use Rattle.compact_stream.specs.Runs.{held_rest, run, all_pushed}
+use Rattle.stream_model.specs.declared.refusals.TheConstants.{STREAM_LIMIT}
 
 -- the pushes whose image is due
 abbrev pub sent_pushes : Meaning → Bool → Cut → List Push
@@ -62,7 +63,7 @@ unlike_kept h segment = is_unlike h.recent (start_at (extent_kept h) (arrival se
 
 -- its numbers are in their ranges, its rest is one, and an image has at most one and a half times its octets
 pub record InRange (m : Meaning) (h : CompactSender) : Type 0 where
-  pub octets : h.ledger.octets_in + length h.rest < 2 ^ 30
+  pub octets : h.ledger.octets_in + length h.rest < STREAM_LIMIT
   pub image : 2 * h.ledger.octets_out ≤ 3 * h.ledger.octets_in
   pub acked : h.acked ≤ h.ledger.octets_out + one_if h.ended
   pub rest : IsRest m h.rest

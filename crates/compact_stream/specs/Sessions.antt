@@ -7,6 +7,7 @@ use Rattle.gate_base.specs.declared.host.Host.TheVariants.{Client, Server}
 use Rattle.dialogue.specs.Prelude.{Meaning}
 use Rattle.stream_model.specs.Prelude.{Session, Segment, arrival, refusal_of}
 use Rattle.compact_stream.specs.Kept.{CompactSender, KeepsSender, extent_kept, unlike_kept, own_kept, other_kept}
+use Rattle.tcp_segments.specs.declared.options.TheConstants.{DEFAULT_SEGMENT_SIZE}
 
 -- what is kept of both hosts
 pub record CompactState : Type 0 where
@@ -17,7 +18,7 @@ pub record CompactState : Type 0 where
 abbrev pub kept_made : ℕ → ℕ → Kept → Kept → CompactState
 kept_made initial mss client server = record {
   client = record { mss = mss; initial = Some initial; ended = false; acked = 0; rest = []; released = false; ledger = client; recent = [] };
-  server = record { mss = 536; initial = None; ended = false; acked = 0; rest = []; released = false; ledger = server; recent = [] };
+  server = record { mss = DEFAULT_SEGMENT_SIZE; initial = None; ended = false; acked = 0; rest = []; released = false; ledger = server; recent = [] };
 }
 
 -- what is kept is that of this session

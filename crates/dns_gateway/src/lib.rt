@@ -8,4 +8,4 @@ mod replies;
 
 pub use addresses::addresses_of;
 pub use renaming::rename;
-pub use replies::reply;
+pub use replies::{LONGEST_PLAIN, TRUNCATED, reply};

@@ -9,6 +9,12 @@ use dns_messages::{Message, Question, Resources, WriteStop, write_message};
 use gate_base::OutOfMemory;
 use std::alloc::Global;
 
+/// The most octets of a message over UDP where no extension allows more (RFC 1035, 4.2.1).
+pub const LONGEST_PLAIN: usize = 512;
+
+/// The flag TC, which says that a message was cut (RFC 1035, 4.1.1).
+pub const TRUNCATED: u16 = 0x0200;
+
 fn question_of(alloc: Global, question: &Option<Question>) -> Result<Option<Question>, OutOfMemory>
     ensures same { IfOk result (λ same. same ≡ question.now) }
     ensures name { IfOk result (λ _. IfSome question.now (λ q. IsName q.name)) }
@@ -31,7 +37,7 @@ fn cut(alloc: Global, message: &Message) -> Result<Message, OutOfMemory>
 {
     Ok(Message {
         id: message.id,
-        flags: message.flags | 0x0200,
+        flags: message.flags | TRUNCATED,
         question: question_of(alloc, &message.question)?,
         answers: Resources::none(),
         authority: Resources::none(),
@@ -41,7 +47,7 @@ fn cut(alloc: Global, message: &Message) -> Result<Message, OutOfMemory>
 
 fn put_cut(alloc: Global, message: &Message) -> Result<Vec<u8>, OutOfMemory>
     ensures is { IfOk result (λ octets. octets.items ≡ spelling (cut message.now)) }
-    ensures short { IfOk result (λ octets. length octets.items ≤ 512) }
+    ensures short { IfOk result (λ octets. length octets.items ≤ LONGEST_PLAIN) }
 {
     let short = cut(alloc, message)?;
     match write_message(alloc, &short) {
@@ -51,17 +57,17 @@ fn put_cut(alloc: Global, message: &Message) -> Result<Vec<u8>, OutOfMemory>
 }
 
 /// The octets that are sent for a message, where one of so many octets came in: its spelling. The header with the flag TC set and
-/// the question alone are sent instead where the spelling is longer than what came in and than 512 octets, or too long for a
+/// the question alone are sent instead where the spelling is longer than what came in and than `LONGEST_PLAIN` octets, or too long for a
 /// message. The data of each record must be what its type and class hold.
 pub fn reply(alloc: Global, message: &Message, incoming: usize) -> Result<Vec<u8>, OutOfMemory>
     requires { MessageSuits message.now }
     ensures is { IfOk result
         (λ octets. octets.items ≡ reply_of message.now incoming) }
-    ensures short { IfOk result (λ octets. length octets.items ≤ max 512 incoming) }
+    ensures short { IfOk result (λ octets. length octets.items ≤ max LONGEST_PLAIN incoming) }
 {
     match write_message(alloc, message) {
         Ok(octets) => {
-            if octets.len() <= incoming.max(512) {
+            if octets.len() <= incoming.max(LONGEST_PLAIN) {
                 Ok(octets)
             } else {
                 put_cut(alloc, message)

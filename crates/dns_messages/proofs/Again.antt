@@ -1,5 +1,7 @@
 -- What was written is read again.
-use Rattle.std.proofs.Common.{◌≡◌, ℕ, ◌+◌, ◌-◌, ◌≤◌, ◌<◌, ◌^◌, true, false, ltb, eqb, List, [], ◌∷◌, ◌++◌, length, Option, Some, None, refl, sym, ap, subst, append_assoc, arith, inl, inr, add-zero, ◌==◌, if◌then◌else◌, IfSome, take_at, append-nil, length-append, length-drop}
+use Rattle.std.proofs.Common.{◌≡◌, ℕ, ◌+◌, ◌-◌, ◌≤◌, ◌<◌, ◌^◌, true, false, ltb, eqb, List, [], ◌∷◌, ◌++◌, length}
+use Rattle.std.proofs.Common.{Option, Some, None, refl, sym, ap, subst, append_assoc, arith, inl, inr, add-zero}
+use Rattle.std.proofs.Common.{◌==◌, if◌then◌else◌, IfSome, take_at, append-nil, length-append, length-drop}
 use Rattle.byteorder.specs.Endian.{big_number, big_bytes}
 use Rattle.std.specs.List.{AllByRecursion}
 use Rattle.std.specs.Option.{option_len}
@@ -19,7 +21,8 @@ use Rattle.dns_messages.specs.Forms.{form_of, form_at}
 use Rattle.dns_messages.specs.Suits.{Suits, ResourceSuits, MessageSuits}
 use Rattle.dns_messages.specs.Inside.Suits.{ContentFits, ResourceFits, QuestionFits, MessageFits}
 use Rattle.dns_messages.specs.Reading.{number_at, octets_at, content_by, resource_at, resources_at, question_at, questions_at, message_at}
-use Rattle.dns_messages.specs.Writing.{put, join, behind_length, content_written, resource_written, resources_written, questions_written, message_written, spelling}
+use Rattle.dns_messages.specs.Writing.{put, join, behind_length, content_written, resource_written}
+use Rattle.dns_messages.specs.Writing.{resources_written, questions_written, message_written, spelling}
 use Rattle.dns_messages.proofs.Exact.{ends}
 
 -- the label starts are known once more was written

@@ -12,7 +12,7 @@ ghost use Rattle.dns_messages.specs.Inside.Writers.{wrote, Writes};
 
 use crate::message::{Content, Message, Question, Resource};
 use crate::stop::WriteStop;
-use dns_names::{Name, NameWriter};
+use dns_names::{LONGEST_MESSAGE, Name, NameWriter};
 use gate_base::OutOfMemory;
 use std::alloc::Global;
 
@@ -104,7 +104,7 @@ fn put_sized<'a>(writer: &mut NameWriter<'a>, content: &'a Content) -> Result<()
     writer.put_octets(&[0, 0])?;
     put_content(writer, content)?;
     let end = writer.len();
-    if end > 65_535 {
+    if end > LONGEST_MESSAGE {
         return Err(WriteStop::TooLong);
     }
     writer.set_number(place, (end - (place + 2)) as u16);
@@ -304,7 +304,7 @@ pub fn write_message(alloc: Global, message: &Message) -> Result<Vec<u8>, WriteS
     }
     let mut writer = writer_in(alloc)?;
     put_message(&mut writer, message)?;
-    if writer.len() > 65_535 {
+    if writer.len() > LONGEST_MESSAGE {
         return Err(WriteStop::TooLong);
     }
     Ok(writer.finish())

@@ -1,5 +1,6 @@
 -- The walk finds the name that stands at a place, and no other.
-use Rattle.std.proofs.Common.{◌≡◌, ℕ, zero, suc, ◌+◌, ◌-◌, ◌≤◌, ◌<◌, false, ltb, List, [], ◌∷◌, length, Some, None, refl, sym, ap, subst, arith, inl, inr, nat_lt, ltb-false, ltb-true, le-ltb, lt-ltb, length-append, option_map, IfOk, Result, Ok, Err}
+use Rattle.std.proofs.Common.{◌≡◌, ℕ, zero, suc, ◌+◌, ◌-◌, ◌≤◌, ◌<◌, false, ltb, List, [], ◌∷◌, length, Some, None, refl, sym, ap, subst}
+use Rattle.std.proofs.Common.{arith, inl, inr, nat_lt, ltb-false, ltb-true, le-ltb, lt-ltb, length-append, option_map, IfOk, Result, Ok, Err}
 use Rattle.dns_names.specs.Prelude.{Root, Label, Pointer, Nothing, piece_at, Stands, AtRoot, AtLabel, AtPointer, NameAt, spelled, ReturnsRead}
 use Rattle.dns_names.specs.Names.{Piece}
 use Rattle.dns_names.specs.Walk.{Walked, walk_on, walk, name_at}

@@ -3,6 +3,7 @@ use Rattle.std.specs.Prelude.{◌≡◌, ℕ, ◌+◌, ◌/◌, ◌%◌, if◌th
 use Rattle.std.specs.Str.{bytes_eq}
 use Rattle.gate_base.specs.Prelude.{with_u16}
 use Rattle.dns_names.specs.Names.{spelled}
+use Rattle.dns_names.specs.declared.TheConstants.{POINTED}
 
 -- a label start that was written, with the labels from there on, written out
 pub record Start : Type 0 where
@@ -14,7 +15,7 @@ abbrev pub found : List Start → List ℕ → Option ℕ
 found [] octets = None
 found (s ∷ starts) octets = if bytes_eq s.octets octets then Some s.place else found starts octets
 
--- the pointer to a place below 16,384
+-- the pointer to a place below POINTED
 abbrev pub pointer : ℕ → List ℕ
 pointer place = (192 + place / 256) ∷ place % 256 ∷ []
 
@@ -23,9 +24,9 @@ pub record Added : Type 0 where
   pub octets : List ℕ
   pub starts : List Start
 
--- only starts below 16,384 can be pointed to
+-- only starts below POINTED can be pointed to
 abbrev pub with_start : ℕ → List ℕ → List Start → List Start
-with_start place octets starts = if nat_lt place 16384 then record { place = place; octets = octets } ∷ starts else starts
+with_start place octets starts = if nat_lt place POINTED then record { place = place; octets = octets } ∷ starts else starts
 
 -- A name whose suffixes stand at a place already or nowhere: a pointer to it, or a label and the rest.
 abbrev pub spell_by : Option ℕ → ℕ → List ℕ → List ℕ → Added → Added

@@ -2,6 +2,7 @@
 ghost use Rattle.std.specs.Prelude.{◌≡◌, ◌+◌, ◌≤◌, ◌<◌, ℕ, List, length, IfSome};
 ghost use Rattle.dns_names.specs.Names.{piece_at, Label, Pointer};
 ghost use Rattle.dns_names.specs.Inside.Memo.{known_by, Knows, AreKnown};
+ghost use Rattle.dns_names.specs.declared.TheConstants.{LONGEST_MESSAGE};
 
 use crate::piece::{PieceAt, piece_at};
 
@@ -55,7 +56,7 @@ pub(crate) fn put(known: &mut Vec<Known>, place: usize, one: Known)
 
 /// What is known at the place of a label or a pointer, by what is known behind it, where the kept octets of both end there.
 pub(crate) fn before(message: &[u8], place: usize, behind: Known, end: usize) -> Known
-    requires few { length message.now ≤ 65535 }
+    requires few { length message.now ≤ LONGEST_MESSAGE }
     requires fits { (label : List ℕ)
         → piece_at message.now place ≡ Label label
         → behind.count + 1 + length label ≤ 254 }

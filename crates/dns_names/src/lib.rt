@@ -24,3 +24,9 @@ pub use reader::NameReader;
 pub use reverse::{address_of, reverse_of};
 pub use stop::NameStop;
 pub use writer::NameWriter;
+
+/// The most octets of a message: what the length in front of one over TCP can say (RFC 1035, 4.2.2).
+pub const LONGEST_MESSAGE: usize = 65_535;
+
+/// A pointer leads to a place below this one (RFC 1035, 4.1.4).
+pub const POINTED: usize = 16_384;

@@ -8,6 +8,7 @@ use crate::name::Name;
 use crate::stop::NameStop;
 use crate::walk::walk;
 use crate::way::Way;
+use crate::{LONGEST_MESSAGE, POINTED};
 use gate_base::OutOfMemory;
 use std::alloc::{AllocError, Global};
 
@@ -24,15 +25,12 @@ pub struct Memo {
 /// The least number of octets of a message of which is kept what was read. A shorter one is read as it stands.
 const LONG: usize = 128;
 
-/// Pointers lead below this place.
-const POINTED: usize = 16_384;
-
 /// Nothing is known yet. Of a message that is short, or longer than any is, nothing is kept.
 pub(crate) fn memo_of(alloc: Global, message: &[u8]) -> Result<Option<Memo>, OutOfMemory>
     ensures { IfOk result (λ found. IfSome found (IsMemo message.now)) }
 {
     let count = message.len();
-    if count < LONG || count > 65_535 {
+    if count < LONG || count > LONGEST_MESSAGE {
         return Ok(None);
     }
     let known = vec![in alloc; UNKNOWN; count.min(POINTED)]?;

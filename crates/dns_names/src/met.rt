@@ -3,11 +3,9 @@ ghost use Rattle.std.specs.Prelude.{◌≡◌, ◌≤◌, ◌<◌, ℕ, List, So
 ghost use Rattle.dns_names.specs.Spelling.{Start, found};
 ghost use Rattle.dns_names.specs.Inside.Met.{IsRow, AreRows};
 
+use crate::POINTED;
 use crate::way::{NOWHERE, SHORT, Way};
 use std::alloc::Global;
-
-/// How many places of a message pointers can lead to.
-const POINTED: usize = 16_384;
 
 /// A suffix that was met in a message, the lowest place at which it stands written, and the place of the label behind its first one in
 /// that message. Without octets, no place is known.
@@ -101,7 +99,7 @@ impl<'a> Rows<'a> {
     pub(crate) fn keep(&mut self, origin: u16, octets: &'a [u8], place: usize, next: u16)
         ensures { (starts : List Start)
             → AreRows starts self.old
-            → (place < 16384 → found starts octets.now ≡ Some place)
+            → (place < POINTED → found starts octets.now ≡ Some place)
             → AreRows starts self.new }
     {
         let row = if place < POINTED {

@@ -2,6 +2,7 @@
 ghost use Rattle.std.specs.Prelude.{◌≡◌, ◌≤◌, ◌<◌, ◌+◌, ◌-◌, ◌⊎◌, true, false, ◌++◌, ℕ, List, length, take, drop, IfOk, OnOk, Err};
 ghost use Rattle.dns_names.specs.Names.{NameAt};
 ghost use Rattle.dns_names.specs.Inside.Memo.{AreKnown, Joins};
+ghost use Rattle.dns_names.specs.declared.TheConstants.{LONGEST_MESSAGE};
 
 use crate::known::{Known, known_at};
 use crate::piece::{PieceAt, piece_at};
@@ -44,7 +45,7 @@ pub(crate) fn walk(
     kept: &mut Vec<u8>,
     place: usize,
 ) -> Result<Known, NameStop>
-    requires few { length message.now ≤ 65535 }
+    requires few { length message.now ≤ LONGEST_MESSAGE }
     requires places { length known.now ≤ length message.now }
     requires known { AreKnown message.now kept.old.items known.now }
     ensures found { IfOk result (λ k. Joins message.now kept.old.items kept.new.items

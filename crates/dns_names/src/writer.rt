@@ -8,6 +8,7 @@ ghost use Rattle.dns_names.specs.Spelling.{Start, found, pointer, spell};
 ghost use Rattle.dns_names.specs.Inside.Longest.{IsClosed, IsEdge, edge_by, ending};
 ghost use Rattle.dns_names.specs.Inside.Writers.{starts_in, place_in, key_at, GrewBy, IsFresh, IsIndex, Remembers};
 
+use crate::POINTED;
 use crate::ending::{Edge, longest};
 use crate::met::{Rows, Steps};
 use crate::name::Name;
@@ -25,7 +26,7 @@ fn remember<'a>(places: &mut Places<'a>, suffix: Suffix<'a>, place: usize) -> Re
     ensures remembers { OnOk result (Remembers suffix.entry place places.old places.new) }
     ensures kept { OnErr result (places.new ≡ places.old) }
 {
-    if place < 16_384 {
+    if place < POINTED {
         places.insert(suffix, place as u16)?;
     }
     Ok(())
@@ -36,10 +37,10 @@ fn edge_after<'a>(edge: Edge<'a>, octets: &'a [u8], place: usize, end: usize) ->
     ensures by { result.octets.now ≡ edge_by edge.entry.octets.now octets.now place end }
     ensures edge { (starts : List Start)
         → IsEdge starts edge.entry
-        → (place < 16384 → found starts octets.now ≡ Some place)
+        → (place < POINTED → found starts octets.now ≡ Some place)
         → IsEdge starts result }
 {
-    if place < 16_384 && end >= 16_384 {
+    if place < POINTED && end >= POINTED {
         let place = place as u16;
         Edge { octets, place }
     } else {
@@ -61,7 +62,7 @@ fn key_at(is_end: bool, place: usize, end: Option<u16>) -> u16
 {
     if is_end {
         end.unwrap_or(ROOT)
-    } else if place < 16_384 {
+    } else if place < POINTED {
         place as u16
     } else {
         FAR
@@ -69,7 +70,7 @@ fn key_at(is_end: bool, place: usize, end: Option<u16>) -> u16
 }
 
 fn put_pointer(out: &mut Vec<u8>, place: u16) -> Result<(), AllocError>
-    requires { place < 16384 }
+    requires { place < POINTED }
     ensures octets { OnOk result (out.new.items ≡ out.old.items ++ pointer place) }
     ensures behind { (more : List ℕ) × (out.new.items ≡ out.old.items ++ more) }
     ensures longer { length out.old.items ≤ length out.new.items }
@@ -81,7 +82,7 @@ fn put_pointer(out: &mut Vec<u8>, place: u16) -> Result<(), AllocError>
 
 /// Ends a name by a pointer to a place, or by the root octet.
 fn put_end(out: &mut Vec<u8>, place: Option<u16>) -> Result<(), AllocError>
-    requires { IfSome place (λ to. to < 16384) }
+    requires { IfSome place (λ to. to < POINTED) }
     ensures octets { OnOk result (out.new.items ≡ out.old.items ++ ending place) }
     ensures behind { (more : List ℕ) × (out.new.items ≡ out.old.items ++ more) }
     ensures longer { length out.old.items ≤ length out.new.items }
@@ -152,7 +153,7 @@ fn put_labels<'a>(
     Ok(edge)
 }
 
-/// Octets and names, one behind the other. Contracts see the octets, and the label starts below 16,384 in them with what
+/// Octets and names, one behind the other. Contracts see the octets, and the label starts below `POINTED` in them with what
 /// stands there. The names are lent to it.
 #[derive(Drop)]
 pub struct NameWriter<'a> {

@@ -1,6 +1,7 @@
 // Room for the octets in which units end.
-ghost use Rattle.std.specs.Prelude.{◌≡◌, ◌≤◌, ◌++◌, [], length, IfOk};
+ghost use Rattle.std.specs.Prelude.{◌≡◌, ◌≤◌, ◌+◌, ◌++◌, [], length, IfOk};
 ghost use Rattle.gate_base.specs.declared.protocol.TheConstants.{LONGEST_DATAGRAM};
+ghost use Rattle.dns_stream.specs.declared.messages.TheConstants.{LONGEST_STREAMED};
 
 use gate_base::OutOfMemory;
 use std::alloc::Global;
@@ -49,9 +50,9 @@ impl UnitOctets {
         self.octets.clear();
     }
 
-    /// Holds a rest, of at most 8,193 octets, and what follows it, at most 65,535.
+    /// Holds a rest and what follows it.
     pub fn join(&mut self, rest: &[u8], fresh: &[u8])
-        requires rest { length rest.now ≤ 8193 }
+        requires rest { length rest.now ≤ LONGEST_STREAMED + 1 }
         requires fresh { length fresh.now ≤ LONGEST_DATAGRAM }
         ensures { self.new ≡ rest.now ++ fresh.now }
     {

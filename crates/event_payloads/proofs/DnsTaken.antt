@@ -11,7 +11,8 @@ use Rattle.gate_base.specs.declared.event.Moment.{Moment}
 use Rattle.gate_base.specs.declared.side.Side.{Side}
 use Rattle.binding_table.specs.declared.binding.Crossing.{Crossing}
 use Rattle.binding_table.specs.declared.binding.Crossing.TheVariants.{Unbound}
-use Rattle.binding_table.specs.Prelude.{Bindings, cross, in_pool, free, is_settled, Use, AreUsesOf, used, after_uses, image_after, images_after, needed, needs_binding}
+use Rattle.binding_table.specs.Prelude.{Bindings, cross, in_pool, free, is_settled, Use, AreUsesOf, used}
+use Rattle.binding_table.specs.Prelude.{after_uses, image_after, images_after, needed, needs_binding}
 use Rattle.binding_table.proofs.Fresh.{fresh_cons}
 use Rattle.dns_messages.specs.declared.message.Message.{Message}
 use Rattle.ipv4_frames.specs.Ipv4.{Datagram, total_length_of}
@@ -23,7 +24,8 @@ use Rattle.twice_translate.proofs.Accepted.{ok_as, reads_udp}
 use Rattle.udp_icmp.proofs.Sealed.{long_segment}
 use Rattle.gate_base.specs.declared.refusal.Refusal.{Refusal}
 use Rattle.gate_base.specs.declared.refusal.Refusal.TheVariants.{BadDns, DnsUnbound, PoolEmpty}
-use Rattle.gate_model.specs.Prelude.{Whole, Dns, Udp, carried, message_in, named_in, is_unbound, has_unbound, reply_by, names_after, uses_until, World, source_of, destination_of, called, SessionRules}
+use Rattle.gate_model.specs.Prelude.{Whole, Dns, Udp, carried, message_in, named_in, is_unbound, has_unbound, reply_by}
+use Rattle.gate_model.specs.Prelude.{names_after, uses_until, World, source_of, destination_of, called, SessionRules}
 use Rattle.gate_model.specs.declared.timeouts.TheConstants.{NAMED_TIMEOUT, UDP_TIMEOUT}
 use Rattle.gate_model.proofs.ListsKept.{known_unbound}
 use Rattle.gate_model.proofs.ListsBound.{not_unbound}

@@ -9,7 +9,8 @@ use Rattle.ipv4_frames.specs.Ipv4.{Datagram}
 use Rattle.twice_translate.specs.Renamed.{renamed}
 use Rattle.gate_base.specs.Prelude.{first_that_holds, unless_refused, u16_at}
 use Rattle.udp_icmp.specs.Icmp.{is_error_type}
-use Rattle.gate_model.specs.Prelude.{Whole, Udp, Echo, udp_payload, icmp_payload, is_pool_empty, uses_until, World, source_of, destination_of, called, SessionRules}
+use Rattle.gate_model.specs.Prelude.{Whole, Udp, Echo, udp_payload, icmp_payload, is_pool_empty}
+use Rattle.gate_model.specs.Prelude.{uses_until, World, source_of, destination_of, called, SessionRules}
 use Rattle.gate_model.specs.declared.timeouts.TheConstants.{ICMP_TIMEOUT, UDP_TIMEOUT}
 use Rattle.event_payloads.specs.Prelude.{IsTaken, IsWayOf, image_by, is_empty, header_uses}
 use Rattle.event_payloads.specs.declared.addresses.Way.{Way}

@@ -1,5 +1,6 @@
 -- Datagrams with an SNMP message, refused or passed.
-use Rattle.std.proofs.Common.{◌≡◌, ◌≤◌, ◌+◌, ◌==◌, inl, inr, nat_lt, length, ℕ, Bool, true, false, not, List, [], ◌∷◌, ◌++◌, Option, Some, None, refl, sym, ap, subst, ◌∙◌, arith, option_map, is_some, is_none, IsSome}
+use Rattle.std.proofs.Common.{◌≡◌, ◌≤◌, ◌+◌, ◌==◌, inl, inr, nat_lt, length, ℕ, Bool, true, false, not, List, [], ◌∷◌, ◌++◌}
+use Rattle.std.proofs.Common.{Option, Some, None, refl, sym, ap, subst, ◌∙◌, arith, option_map, is_some, is_none, IsSome}
 use Rattle.std.proofs.lemmas.Bool.{cases_Bool, eqb-true, eq-eqb, false≢true, le-ltb}
 use Rattle.gate_base.specs.declared.address.Addr.{Addr}
 use Rattle.gate_base.specs.declared.refusal.Refusal.{Refusal}
@@ -21,7 +22,8 @@ use Rattle.snmp_oids.proofs.Lengths.{message_length}
 use Rattle.snmp_oids.proofs.Messages.{no_rule}
 use Rattle.gate_base.specs.Prelude.{first_that_holds, unless_refused}
 use Rattle.twice_translate.specs.Renamed.{rebuilt}
-use Rattle.gate_model.specs.Prelude.{Whole, Snmp, number_seen, management_after, is_snmp_too_long, carried, kind_tests, late_tests, is_pool_empty, table_after, uses_until, World, source_of, destination_of, called, SessionRules}
+use Rattle.gate_model.specs.Prelude.{Whole, Snmp, number_seen, management_after, is_snmp_too_long, carried, kind_tests, late_tests}
+use Rattle.gate_model.specs.Prelude.{is_pool_empty, table_after, uses_until, World, source_of, destination_of, called, SessionRules}
 use Rattle.gate_model.specs.declared.timeouts.TheConstants.{UDP_TIMEOUT}
 use Rattle.gate_model.specs.Management.{is_bad_snmp}
 use Rattle.gate_model.proofs.ListsKept.{known_unbound}

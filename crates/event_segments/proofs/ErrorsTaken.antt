@@ -1,5 +1,6 @@
 -- ICMP errors, refused for the datagram inside, or passed.
-use Rattle.std.proofs.Common.{◌≡◌, ◌+◌, ℕ, Bool, true, false, not, ◌||◌, List, [], ◌∷◌, ◌++◌, Option, Some, None, Result, Ok, Err, refl, sym, ap, ◌∙◌, option_and_then, is_none, unwrap_or, if◌then◌else◌}
+use Rattle.std.proofs.Common.{◌≡◌, ◌+◌, ℕ, Bool, true, false, not, ◌||◌, List, [], ◌∷◌, ◌++◌, Option, Some, None}
+use Rattle.std.proofs.Common.{Result, Ok, Err, refl, sym, ap, ◌∙◌, option_and_then, is_none, unwrap_or, if◌then◌else◌}
 use Rattle.gate_base.specs.declared.address.Addr.{Addr}
 use Rattle.gate_base.specs.declared.refusal.Refusal.{Refusal}
 use Rattle.gate_base.specs.declared.refusal.Refusal.TheVariants.{BadInner, InnerUnbound, PoolEmpty}
@@ -11,7 +12,8 @@ use Rattle.icmp_errors.specs.declared.Inner.{Inner}
 use Rattle.ipv4_frames.specs.Ipv4.{Datagram}
 use Rattle.gate_base.specs.Prelude.{first_that_holds}
 use Rattle.twice_translate.specs.Renamed.{renamed}
-use Rattle.gate_model.specs.Prelude.{Error, Whole, inside, with_inside, inner_number, is_unknown, is_inner_unbound, kind_tests, is_pool_empty, uses_until, World, source_of, destination_of, called, SessionRules}
+use Rattle.gate_model.specs.Prelude.{Error, Whole, inside, with_inside, inner_number, is_unknown, is_inner_unbound, kind_tests}
+use Rattle.gate_model.specs.Prelude.{is_pool_empty, uses_until, World, source_of, destination_of, called, SessionRules}
 use Rattle.gate_model.specs.declared.timeouts.TheConstants.{ICMP_TIMEOUT}
 use Rattle.gate_model.specs.Inner.{inner_after}
 use Rattle.event_payloads.specs.Prelude.{IsTaken, IsWayOf, image_by, is_empty, header_uses}

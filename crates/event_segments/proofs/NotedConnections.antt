@@ -1,12 +1,14 @@
 -- Connections, their sessions and the segments that pass on them.
-use Rattle.std.proofs.Common.{◌≡◌, ℕ, zero, suc, ◌+◌, Bool, true, false, not, ◌&&◌, ◌||◌, cond, List, [], ◌∷◌, set, position, Option, Some, None, option_map, is_some, is_none, refl, sym, ap, ◌∙◌, option_and_then, slice_get, if◌then◌else◌, length-set, set-set}
+use Rattle.std.proofs.Common.{◌≡◌, ℕ, zero, suc, ◌+◌, Bool, true, false, not, ◌&&◌, ◌||◌, cond, List, [], ◌∷◌, set, position, Option, Some, None}
+use Rattle.std.proofs.Common.{option_map, is_some, is_none, refl, sym, ap, ◌∙◌, option_and_then, slice_get, if◌then◌else◌, length-set, set-set}
 use Rattle.std.specs.List.{remove, position_or_len}
 use Rattle.gate_base.specs.declared.event.Moment.{Moment}
 use Rattle.gate_base.specs.declared.side.Side.{Side}
 use Rattle.gate_base.specs.declared.side.Side.TheVariants.{Left, Right}
 use Rattle.gate_base.proofs.Lists.{remove_set}
 use Rattle.tcp_segments.specs.Prelude.{flags_of}
-use Rattle.tcp_tracker.specs.Prelude.{is_of, place_of, connection_of, is_reset, starts_anew, unused, kept, with_flags, held, after, changed, noted, without, timeout_of, timeout_or_short, kept_or_begun, with_session, replaced}
+use Rattle.tcp_tracker.specs.Prelude.{is_of, place_of, connection_of, is_reset, starts_anew, unused, kept, with_flags, held, after}
+use Rattle.tcp_tracker.specs.Prelude.{changed, noted, without, timeout_of, timeout_or_short, kept_or_begun, with_session, replaced}
 use Rattle.tcp_tracker.specs.declared.connection.TheConstants.{SHORT_TIMEOUT}
 use Rattle.tcp_tracker.specs.declared.connection.ConnKey.{ConnKey}
 use Rattle.tcp_tracker.specs.declared.connection.Connection.{Connection}

@@ -8,7 +8,8 @@ use Rattle.gate_base.specs.declared.host.Host.TheVariants.{Client, Server}
 use Rattle.binding_table.specs.Prelude.{cross, free, Use, needed}
 use Rattle.binding_table.specs.declared.binding.Crossing.TheVariants.{Unbound}
 use Rattle.ipv4_frames.specs.Ipv4.{Datagram}
-use Rattle.gate_model.specs.Prelude.{renamed_in, found_in, session_in, session_refusal, uses_until, units_in, names_in, entries_after, image_in, Tracked, World, addresses_of, SessionRules}
+use Rattle.gate_model.specs.Prelude.{renamed_in, found_in, session_in, session_refusal, uses_until, units_in}
+use Rattle.gate_model.specs.Prelude.{names_in, entries_after, image_in, Tracked, World, addresses_of, SessionRules}
 use Rattle.dialogue.specs.declared.TheConstants.{MOST_ENTRIES}
 use Rattle.event_payloads.specs.declared.addresses.Way.{Way}
 use Rattle.dialogue.specs.Prelude.{AreImages}

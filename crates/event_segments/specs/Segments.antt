@@ -11,7 +11,8 @@ use Rattle.ipv4_frames.specs.Ipv4.{Datagram}
 use Rattle.tcp_segments.specs.Prelude.{Tcp, flags_of}
 use Rattle.tcp_tracker.specs.declared.connection.Connection.{Connection}
 use Rattle.tcp_tracker.specs.declared.tracker.TheConstants.{MOST_CONNECTIONS}
-use Rattle.gate_model.specs.Prelude.{Kind, Stream, tcp_of, segment_of, stepped, ends_by, pending_by, kind_tests, late_tests, is_pool_empty, Tracked, World, host_on, addresses_in, SessionRules}
+use Rattle.gate_model.specs.Prelude.{Kind, Stream, tcp_of, segment_of, stepped, ends_by, pending_by, kind_tests}
+use Rattle.gate_model.specs.Prelude.{late_tests, is_pool_empty, Tracked, World, host_on, addresses_in, SessionRules}
 use Rattle.twice_translate.specs.Renamed.{CanGoOn, datagram_of}
 use Rattle.dialogue.specs.Prelude.{Entry, AreImages}
 use Rattle.dialogue.specs.declared.TheConstants.{MOST_ENTRIES}

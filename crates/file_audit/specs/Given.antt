@@ -1,5 +1,5 @@
 -- The given files as far as they are read.
-use Rattle.std.specs.Prelude.{◌≡◌, ◌≤◌, ◌^◌, ℕ, List, ◌++◌, Option, None, IfSome, option_map}
+use Rattle.std.specs.Prelude.{◌≡◌, ◌≤◌, ℕ, List, ◌++◌, Option, None, IfSome, option_map}
 use Rattle.gate_base.specs.declared.side.Side.{Side}
 use Rattle.gate_base.specs.declared.side.Side.TheVariants.{Left, Right}
 use Rattle.gate_desk.specs.declared.slot.Slot.{Slot}
@@ -10,6 +10,7 @@ use Rattle.gate_report.specs.declared.totals.Totals.{Totals}
 use Rattle.pcap_files.specs.Prelude.{records_from}
 use Rattle.lawful_files.specs.Prelude.{Given}
 use Rattle.file_audit.specs.declared.given.GivenFiles.{GivenFiles}
+use Rattle.pcap_files.specs.declared.record.TheConstants.{LONGEST_CAPTURE}
 
 abbrev pub given_slot : Side → Slot
 given_slot Left = LeftGiven
@@ -37,8 +38,8 @@ pub record IsRunning (g : GivenFiles) : Type 0 where
 pub record Fits (totals : Totals) (g : GivenFiles) : Type 0 where
   pub left : totals.to_left ≤ g.left.place
   pub right : totals.to_right ≤ g.right.place
-  pub left_place : g.left.place ≤ 2 ^ 40
-  pub right_place : g.right.place ≤ 2 ^ 40
+  pub left_place : g.left.place ≤ LONGEST_CAPTURE
+  pub right_place : g.right.place ≤ LONGEST_CAPTURE
   pub passed : totals.passed ≤ totals.events
   pub refused : totals.refused ≤ totals.events
 

@@ -14,10 +14,10 @@ use Rattle.frag_join.specs.declared.part.Part.{Part}
 use Rattle.frag_join.specs.declared.taken.Taken.TheVariants.{Plain, Held, Refused}
 use Rattle.frag_join.specs.Prelude.{Fragment, is_fragment, name_in, same_name, fragment_in, octets_of, Coverage, known_by, is_bad, is_complete}
 use Rattle.frag_join.specs.Prelude.{datagram_of, State, Step, by_list, by_known, state_known, step_known, is_live, live, is_of, place_of}
-use Rattle.frag_join.specs.declared.joiner.TheConstants.{LIMIT}
+use Rattle.frag_join.specs.declared.joiner.TheConstants.{MOST_JOINED}
 use Rattle.frag_join.specs.Prelude.{part_of, part_or_new, event_from, fragment_tests, settled, with_fragment, taken_unless, fragment_taken}
 use Rattle.frag_join.specs.Prelude.{fragment_step, step_by, step, after, Original, IsCut, Brings, Arrives, cover}
-use Rattle.frag_join.specs.declared.part.TheConstants.{TIMEOUT}
+use Rattle.frag_join.specs.declared.part.TheConstants.{JOIN_TIMEOUT}
 use Rattle.frag_join.specs.Cuts.{is_part_of, Completes, fragments_among}
 use Rattle.frag_join.proofs.NameLemmas.{name-eq, name-same}
 use Rattle.frag_join.proofs.CutLemmas.{cut-good, cover-complete, cover-datagram, open-incomplete, open-less}
@@ -98,11 +98,13 @@ record HasPart (d : Original) (since : ℕ) (fragments : List Fragment) (parts :
   kept : part.kept ≡ fragments
   moment : part.since.0 ≡ since
 
-live_part : (d : Original) (since now : ℕ) (fragments : List Fragment) (parts : List Whole) → now < since + TIMEOUT → HasPart d since fragments parts
+live_part : (d : Original) (since now : ℕ) (fragments : List Fragment) (parts : List Whole) → now < since + JOIN_TIMEOUT
+    → HasPart d since fragments parts
     → HasPart d since fragments (live now parts)
 live_part d since now fragments parts soon has = record {
   part = has.part;
-  found = find_filter (is_of d.name) (is_live now) parts has.part has.found (lt-ltb now (has.part.since.0 + TIMEOUT) (omega (arith, has.moment)));
+  found = find_filter (is_of d.name) (is_live now) parts has.part has.found
+      (lt-ltb now (has.part.since.0 + JOIN_TIMEOUT) (omega (arith, has.moment)));
   kept = has.kept;
   moment = has.moment;
 }
@@ -178,15 +180,15 @@ piece_joined d since fragments parts e some fits has cuts piece_is more covered 
 
 -- ## The first
 
-full_at : (parts : List Whole) (e : Event) (part : Whole) (b : Bool) → leb LIMIT (length parts) ≡ b → has_options (octets_of e) ≡ false
+full_at : (parts : List Whole) (e : Event) (part : Whole) (b : Bool) → leb MOST_JOINED (length parts) ≡ b → has_options (octets_of e) ≡ false
     → place_of (name_in e) parts ≡ None → is_bad (known_by part.kept) (fragment_in e) ≡ false
-    → (fragment_taken by_list parts e part).answer ≢ Refused FragmentsFull → leb LIMIT (length parts) ≡ false
+    → (fragment_taken by_list parts e part).answer ≢ Refused FragmentsFull → leb MOST_JOINED (length parts) ≡ false
 full_at parts e part false full plain none good answer = full
 full_at parts e part true full plain none good answer =
     absurd (answer (ap (λ refusal. (taken_unless by_list parts e part refusal).answer)
     (third_holds (has_options (octets_of e)) (is_bad (known_by part.kept) (fragment_in e))
-    (not (is_some (place_of (name_in e) parts)) && leb LIMIT (length parts)) IpOptions BadFragment FragmentsFull plain good
-    (ap (λ p. not (is_some p) && leb LIMIT (length parts)) none ∙ full))))
+    (not (is_some (place_of (name_in e) parts)) && leb MOST_JOINED (length parts)) IpOptions BadFragment FragmentsFull plain good
+    (ap (λ p. not (is_some p) && leb MOST_JOINED (length parts)) none ∙ full))))
 
 piece_first : (d : Original) (parts : List Whole) (e : Event) → length d.payload ≤ 65515 → find (is_of d.name) parts ≡ None → IsPiece d e
     → (step_by by_list parts e).answer ≢ Refused FragmentsFull → All (IsCut d) (fragment_in e ∷ []) → cover d (fragment_in e ∷ []) ≡ false
@@ -200,7 +202,8 @@ piece_first d parts e fits none piece_is answer cuts open_ =
     let answer_of : (fragment_taken by_list parts e new).answer ≢ Refused FragmentsFull =
     λ full. answer (ap (λ (s : Step (List Fragment)). s.answer) (step_fragment parts e piece_is.fragment)
     ∙ ap (λ part. (fragment_taken by_list parts e (part_or_new by_list e part)).answer) no_part ∙ full) in
-    let room : leb LIMIT (length parts) ≡ false = full_at parts e new (leb LIMIT (length parts)) refl piece_is.plain no_place good answer_of in
+    let room : leb MOST_JOINED (length parts) ≡ false = full_at parts e new (leb MOST_JOINED (length parts)) refl piece_is.plain no_place good
+    answer_of in
     let one : step_by by_list parts e ≡ record { answer = Held; state = record { parts = parts ++ next ∷ []; joined = None } } =
     step_fragment parts e piece_is.fragment ∙ step-new by_list parts e piece_is.plain no_place good room
     ∙ settled-held by_list parts None e next (open-incomplete d (fragment_in e ∷ []) cuts open_) in

@@ -8,7 +8,7 @@ use Rattle.frag_join.specs.declared.part.Part.{Part}
 use Rattle.frag_join.specs.declared.taken.Taken.TheVariants.{Plain, Held, Joined, Refused}
 use Rattle.frag_join.specs.Prelude.{Fragment, name_in, is_fragment, fragment_in, octets_of, is_bad, is_complete, datagram_of, Coverage, Keeping}
 use Rattle.frag_join.specs.Prelude.{State, Step, live, by_known, place_of, part_of, part_or_new, changed, event_from, fragment_tests, settled}
-use Rattle.frag_join.specs.declared.joiner.TheConstants.{LIMIT}
+use Rattle.frag_join.specs.declared.joiner.TheConstants.{MOST_JOINED}
 use Rattle.frag_join.specs.Prelude.{with_fragment, taken_unless, fragment_taken, fragment_step, step, known_at}
 use Rattle.frag_join.specs.Inside.Kept.{known_or_nothing}
 use Rattle.frag_join.proofs.PartLemmas.{get-last, remove-last, set-last}
@@ -21,12 +21,13 @@ none_holds false false true x y z p q r = absurd cc
 
 -- a fragment that isn't refused is taken
 taken-good : {K : Type 0} (keeping : Keeping K) (parts : List (Part K)) (e : Event) (part : Part K) → has_options (octets_of e) ≡ false
-    → is_bad (keeping.known part.kept) (fragment_in e) ≡ false → (not (is_some (place_of (name_in e) parts)) && leb LIMIT (length parts)) ≡ false
+    → is_bad (keeping.known part.kept) (fragment_in e) ≡ false
+    → (not (is_some (place_of (name_in e) parts)) && leb MOST_JOINED (length parts)) ≡ false
     → fragment_taken keeping parts e part ≡ settled keeping parts (place_of (name_in e) parts) e (with_fragment keeping part e)
 taken-good keeping parts e part options good room =
     ap (taken_unless keeping parts e part)
     (none_holds (has_options (octets_of e)) (is_bad (keeping.known part.kept) (fragment_in e))
-    (not (is_some (place_of (name_in e) parts)) && leb LIMIT (length parts)) IpOptions BadFragment FragmentsFull options good room)
+    (not (is_some (place_of (name_in e) parts)) && leb MOST_JOINED (length parts)) IpOptions BadFragment FragmentsFull options good room)
 
 -- the datagram is there
 pub step-there : {K : Type 0} (keeping : Keeping K) (parts : List (Part K)) (e : Event) (place : ℕ) (part : Part K)
@@ -36,17 +37,17 @@ pub step-there : {K : Type 0} (keeping : Keeping K) (parts : List (Part K)) (e :
 step-there keeping parts e place part options found there good =
     let is : part_of (name_in e) parts ≡ Some part = ap (option_and_then (slice_get parts)) found ∙ there in
     ap (λ p. fragment_taken keeping parts e (part_or_new keeping e p)) is
-    ∙ taken-good keeping parts e part options good (ap (λ p. not (is_some p) && leb LIMIT (length parts)) found)
+    ∙ taken-good keeping parts e part options good (ap (λ p. not (is_some p) && leb MOST_JOINED (length parts)) found)
     ∙ ap (λ p. settled keeping parts p e (with_fragment keeping part e)) found
 
 -- it begins
 pub step-new : {K : Type 0} (keeping : Keeping K) (parts : List (Part K)) (e : Event) → has_options (octets_of e) ≡ false
-    → place_of (name_in e) parts ≡ None → is_bad (keeping.known keeping.none) (fragment_in e) ≡ false → leb LIMIT (length parts) ≡ false
+    → place_of (name_in e) parts ≡ None → is_bad (keeping.known keeping.none) (fragment_in e) ≡ false → leb MOST_JOINED (length parts) ≡ false
     → fragment_step keeping parts e ≡ settled keeping parts None e (with_fragment keeping (part_or_new keeping e None) e)
 step-new keeping parts e options found good room =
     let is : part_of (name_in e) parts ≡ None = ap (option_and_then (slice_get parts)) found in
     ap (λ p. fragment_taken keeping parts e (part_or_new keeping e p)) is
-    ∙ taken-good keeping parts e (part_or_new keeping e None) options good (ap (λ p. not (is_some p) && leb LIMIT (length parts)) found ∙ room)
+    ∙ taken-good keeping parts e (part_or_new keeping e None) options good (ap (λ p. not (is_some p) && leb MOST_JOINED (length parts)) found ∙ room)
     ∙ ap (λ p. settled keeping parts p e (with_fragment keeping (part_or_new keeping e None) e)) found
 
 -- one with options is refused
@@ -56,7 +57,7 @@ step-options keeping parts e options =
     let part = part_or_new keeping e (part_of (name_in e) parts) in
     ap (λ b. taken_unless keeping parts e part
     (first_that_holds ((b, IpOptions) ∷ (is_bad (keeping.known part.kept) (fragment_in e), BadFragment)
-    ∷ (not (is_some (place_of (name_in e) parts)) && leb LIMIT (length parts), FragmentsFull) ∷ []))) options
+    ∷ (not (is_some (place_of (name_in e) parts)) && leb MOST_JOINED (length parts), FragmentsFull) ∷ []))) options
 
 -- what is known of a datagram that begins is nothing
 known_of : (e : Event) (part : Option (Part Coverage)) → (part_or_new by_known e part).kept ≡ known_or_nothing part
@@ -84,22 +85,22 @@ step-bad parts e place options found bad =
     let part = part_or_new by_known e (part_of (name_in e) parts) in
     ap (taken_unless by_known parts e part)
     (second_holds (has_options (octets_of e)) (is_bad part.kept (fragment_in e))
-    (not (is_some (place_of (name_in e) parts)) && leb LIMIT (length parts)) IpOptions BadFragment FragmentsFull options
+    (not (is_some (place_of (name_in e) parts)) && leb MOST_JOINED (length parts)) IpOptions BadFragment FragmentsFull options
     (ap (λ k. is_bad k (fragment_in e)) (known_of e (part_of (name_in e) parts)) ∙ ap (λ p. is_bad (known_at parts p) (fragment_in e)) found
     ∙ bad))
 
 -- and one that begins where there is no room
 pub step-full : (parts : List (Part Coverage)) (e : Event) (place : Option ℕ) → has_options (octets_of e) ≡ false → place_of (name_in e) parts ≡ place
-    → is_bad (known_at parts place) (fragment_in e) ≡ false → place ≡ None → leb LIMIT (length parts) ≡ true
+    → is_bad (known_at parts place) (fragment_in e) ≡ false → place ≡ None → leb MOST_JOINED (length parts) ≡ true
     → fragment_step by_known parts e ≡ record { answer = Refused FragmentsFull; state = record { parts = parts; joined = None } }
 step-full parts e place options found good none full =
     let part = part_or_new by_known e (part_of (name_in e) parts) in
     ap (taken_unless by_known parts e part)
     (third_holds (has_options (octets_of e)) (is_bad part.kept (fragment_in e))
-    (not (is_some (place_of (name_in e) parts)) && leb LIMIT (length parts)) IpOptions BadFragment FragmentsFull options
+    (not (is_some (place_of (name_in e) parts)) && leb MOST_JOINED (length parts)) IpOptions BadFragment FragmentsFull options
     (ap (λ k. is_bad k (fragment_in e)) (known_of e (part_of (name_in e) parts)) ∙ ap (λ p. is_bad (known_at parts p) (fragment_in e)) found
     ∙ good)
-    (ap (λ p. not (is_some p) && leb LIMIT (length parts)) (found ∙ none) ∙ full))
+    (ap (λ p. not (is_some p) && leb MOST_JOINED (length parts)) (found ∙ none) ∙ full))
 
 -- a fragment that is good for a new datagram is good for it at the end of the list
 pub good-last : (parts all : List (Part Coverage)) (place : ℕ) (new : Part Coverage) (f : Fragment) → all ≡ parts ++ new ∷ [] → place ≡ length parts

@@ -9,7 +9,7 @@ use Rattle.frag_join.specs.Places.{all_below}
 use Rattle.frag_join.specs.Fragments.{Fragment, is_fragment, name_in, same_name, fragment_in, octets_of, end_of}
 use Rattle.frag_join.specs.Coverage.{octet_at, whole_head}
 use Rattle.frag_join.specs.Joining.{State, Step, by_list, event_from, live, part_of, step}
-use Rattle.frag_join.specs.declared.part.TheConstants.{TIMEOUT}
+use Rattle.frag_join.specs.declared.part.TheConstants.{JOIN_TIMEOUT}
 
 -- a datagram without options: what its fragments have in common, its header with neither MF nor an offset, and its payload
 pub record Original : Type 0 where
@@ -33,7 +33,7 @@ is_part_of name e = is_fragment e && same_name (name_in e) name
 
 -- a frame less than 30 seconds after a moment: if it carries a fragment with the datagram's name, then one of the datagram, without options
 pub record Brings (d : Original) (since : ℕ) (e : Event) : Type 0 where
-  pub soon : e.moment < since + TIMEOUT
+  pub soon : e.moment < since + JOIN_TIMEOUT
   pub cut : is_part_of d.name e ≡ true → IsCut d (fragment_in e)
   pub plain : is_part_of d.name e ≡ true → has_options (octets_of e) ≡ false
 

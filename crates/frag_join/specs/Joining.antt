@@ -1,5 +1,6 @@
 -- Fragments are joined (RFC 791, 3.2).
-use Rattle.std.specs.Prelude.{ℕ, ◌+◌, Bool, true, not, ◌&&◌, nat_lt, nat_le, if◌then◌else◌, List, [], ◌∷◌, ◌++◌, length, filter, map, fold, position, slice_get, slice_set, Option, Some, None, is_some, option_and_then}
+use Rattle.std.specs.Prelude.{ℕ, ◌+◌, Bool, true, not, ◌&&◌, nat_lt, nat_le, if◌then◌else◌, List, [], ◌∷◌, ◌++◌, length, filter}
+use Rattle.std.specs.Prelude.{map, fold, position, slice_get, slice_set, Option, Some, None, is_some, option_and_then}
 use Rattle.std.specs.List.{remove}
 use Rattle.gate_base.specs.Prelude.{Event, first_that_holds}
 use Rattle.gate_base.specs.declared.side.Side.{Side}
@@ -7,8 +8,8 @@ use Rattle.gate_base.specs.declared.side.Link.TheVariants.{Raw}
 use Rattle.gate_base.specs.declared.refusal.Refusal.{Refusal}
 use Rattle.gate_base.specs.declared.refusal.Refusal.TheVariants.{IpOptions, BadFragment, FragmentsFull}
 use Rattle.ipv4_frames.specs.Ipv4.{has_options}
-use Rattle.frag_join.specs.declared.joiner.TheConstants.{LIMIT}
-use Rattle.frag_join.specs.declared.part.TheConstants.{TIMEOUT}
+use Rattle.frag_join.specs.declared.joiner.TheConstants.{MOST_JOINED}
+use Rattle.frag_join.specs.declared.part.TheConstants.{JOIN_TIMEOUT}
 use Rattle.frag_join.specs.declared.part.Name.{Name}
 use Rattle.frag_join.specs.declared.part.Part.{Part}
 use Rattle.frag_join.specs.declared.taken.Taken.{Taken}
@@ -44,7 +45,7 @@ empty = record { parts = []; joined = None }
 
 -- parts are dropped so long after the first of them came
 abbrev pub is_live : {K : Type 0} → ℕ → Part K → Bool
-is_live now part = nat_lt now (part.since.0 + TIMEOUT)
+is_live now part = nat_lt now (part.since.0 + JOIN_TIMEOUT)
 
 abbrev pub live : {K : Type 0} → ℕ → List (Part K) → List (Part K)
 live now parts = filter (is_live now) parts
@@ -84,7 +85,7 @@ abbrev pub tests_by : Event → Coverage → Option ℕ → ℕ → List (Bool �
 tests_by e known place count =
     (has_options (octets_of e), IpOptions)
     ∷ (is_bad known (fragment_in e), BadFragment)
-    ∷ (not (is_some place) && nat_le LIMIT count, FragmentsFull)
+    ∷ (not (is_some place) && nat_le MOST_JOINED count, FragmentsFull)
     ∷ []
 
 abbrev pub fragment_tests : {K : Type 0} → List (Part K) → Event → Coverage → List (Bool × Refusal)

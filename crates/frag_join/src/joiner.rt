@@ -19,7 +19,7 @@ use std::alloc::Global;
 use std::marker::Model;
 
 /// The most datagrams that are joined at once.
-pub const LIMIT: usize = 64;
+pub const MOST_JOINED: usize = 64;
 
 /// Joins the fragments of datagrams, in whatever order they come. It is seen as the datagrams of which fragments are held,
 /// with what is known of each, and the datagram that the last frame completed. No call after `new` takes memory.
@@ -60,12 +60,12 @@ impl Joiner {
     pub fn new(alloc: Global) -> Result<Joiner, OutOfMemory>
         ensures { IfOk result (λ joiner. joiner ≡ joining.empty) }
     {
-        let mut spare = Vec::with_capacity(alloc, LIMIT)?;
-        for _ in 0..LIMIT {
+        let mut spare = Vec::with_capacity(alloc, MOST_JOINED)?;
+        for _ in 0..MOST_JOINED {
             spare.push_reserved(Buffer::new(alloc)?);
         }
         Ok(Joiner {
-            parts: Vec::with_capacity(alloc, LIMIT)?,
+            parts: Vec::with_capacity(alloc, MOST_JOINED)?,
             joined: None,
             spare,
         })
@@ -142,7 +142,7 @@ impl Joiner {
         }
         match place {
             Some(place) => self.put(place, event, &fragment),
-            None if self.len() < LIMIT => {
+            None if self.len() < MOST_JOINED => {
                 let place = self.begin_datagram(name, event.moment);
                 self.put(place, event, &fragment)
             }
@@ -190,7 +190,7 @@ impl Joiner {
 
     // Begins a datagram, and answers its place.
     fn begin_datagram(&mut self, name: Name, since: Moment) -> usize
-        requires few { length self.old.parts < LIMIT }
+        requires few { length self.old.parts < MOST_JOINED }
         requires joined { self.old.joined ≡ None }
         ensures place { result ≡ length self.old.parts }
         ensures state { self.new

@@ -6,7 +6,7 @@ ghost use Rattle.frag_join.specs.Joining as joining;
 use gate_base::{Addr, Moment, SECOND, Side};
 
 /// Nanoseconds from a datagram's first fragment to the moment at which its parts are dropped: 30 seconds.
-pub const TIMEOUT: u64 = 30 * SECOND;
+pub const JOIN_TIMEOUT: u64 = 30 * SECOND;
 
 /// What the fragments of one datagram have in common: the realm from which they come, and the fields of their headers
 /// by which they belong together (RFC 791, 3.2).
@@ -46,6 +46,6 @@ impl<K> Part<K> {
     pub fn is_live(&self, now: Moment) -> bool
         ensures { result ≡ joining.is_live now.0 self.now }
     {
-        now.0.saturating_sub(self.since.0) < TIMEOUT
+        now.0.saturating_sub(self.since.0) < JOIN_TIMEOUT
     }
 }

@@ -1,7 +1,7 @@
 // One event of the auditor, and the records that are given for it.
-ghost use Rattle.std.specs.Prelude.{◌≡◌, ◌^◌, ◌<◌, [], true, false, All, IfOk, OnOk, OnErr};
+ghost use Rattle.std.specs.Prelude.{◌≡◌, ◌^◌, ◌<◌, [], length, true, false, All, IfOk, OnOk, OnErr};
 ghost use Rattle.gate_base.specs.Prelude.{IsMoment, event_of, other};
-ghost use Rattle.gate_settings.specs.Prelude.{IsSound, HasForms};
+ghost use Rattle.gate_settings.specs.Prelude.{IsSound, HasForms, HaveMacAddresses};
 ghost use Rattle.gate_model.specs.Prelude.{whole_rules, verdict, verdict_of, at_moment};
 ghost use Rattle.lawful_files.specs.Prelude.{begun, behind, is_closed, Exactly};
 ghost use Rattle.gate_audit.specs.Auditing.{IsOpening, Expects, whole_world};
@@ -47,7 +47,7 @@ impl Drop for Auditor {
 impl Model for Auditor {
     ghost use Rattle.std.specs.Prelude.{◌≡◌, false};
     ghost use Rattle.gate_model.specs.Prelude.{KeepsListed};
-    ghost use Rattle.gate_settings.specs.Prelude.{HasForms};
+    ghost use Rattle.gate_settings.specs.Prelude.{HaveMacAddresses};
     ghost use Rattle.audit_sessions.specs.Heard.{heard_rules};
     ghost use Rattle.gate_audit.specs.Auditing.{Auditing};
     ghost use Rattle.event_state.specs.Knowing.{world_in};
@@ -56,7 +56,8 @@ impl Model for Auditor {
 
     ghost view = { λ a. record { settings = a.settings; world = world_in a.state; expecting = a.expected; lost = a.lost } };
 
-    ghost invariant = { λ a. HasForms a.settings × (a.lost ≡ false → KeepsListed heard_rules (world_in a.state)) };
+    ghost invariant = { λ a. HaveMacAddresses a.settings
+        × (a.lost ≡ false → KeepsListed heard_rules (world_in a.state)) };
 }
 
 impl Auditor {
@@ -67,6 +68,7 @@ impl Auditor {
         requires forms { HasForms settings }
         ensures { IfOk result (IsOpening settings) }
     {
+        have_mac_addresses(&settings);
         Ok(Auditor {
             state: State::new(alloc, &settings, Seed::from_number(seed))?,
             outbox: Datagrams::new(alloc)?,
@@ -79,7 +81,7 @@ impl Auditor {
     /// The settings.
     pub fn settings(&self) -> &Settings
         ensures value { result.now ≡ self.now.settings }
-        ensures forms { HasForms self.now.settings }
+        ensures macs { HaveMacAddresses self.now.settings }
     {
         &self.settings
     }
@@ -166,6 +168,23 @@ impl Auditor {
     {
         self.state.pending
     }
+}
+
+/// A MAC address has six octets.
+fn has_six_octets(address: &[u8; 6])
+    ensures { length address.now ≡ 6 }
+{
+    let _ = address.len();
+}
+
+/// The two MAC addresses of each realm have six octets.
+fn have_mac_addresses(settings: &Settings)
+    ensures { HaveMacAddresses settings.now }
+{
+    has_six_octets(&settings.left.gateway_mac);
+    has_six_octets(&settings.left.next_mac);
+    has_six_octets(&settings.right.gateway_mac);
+    has_six_octets(&settings.right.next_mac);
 }
 
 /// The octets of a frame are numbers below 256.

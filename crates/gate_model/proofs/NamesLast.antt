@@ -1,5 +1,6 @@
 -- What a DNS message over UDP names crosses once it has passed, for as long as its names are kept.
-use Rattle.std.proofs.Common.{◌≡◌, ◌≢◌, ◌≤◌, ◌<◌, ◌⊎◌, ◌+◌, ℕ, Bool, true, false, not, if◌then◌else◌, Some, None, is_none, List, [], ◌∷◌, ◌++◌, length, get_or, All, Contains, IsSome, refl, sym, ◌∙◌, ap, subst, append_assoc, arith, inl, inr, length-append}
+use Rattle.std.proofs.Common.{◌≡◌, ◌≢◌, ◌≤◌, ◌<◌, ◌⊎◌, ◌+◌, ℕ, Bool, true, false, not, if◌then◌else◌, Some, None, is_none, List, [], ◌∷◌, ◌++◌}
+use Rattle.std.proofs.Common.{length, get_or, All, Contains, IsSome, refl, sym, ◌∙◌, ap, subst, append_assoc, arith, inl, inr, length-append}
 use Rattle.std.specs.List.{AllByRecursion}
 use Rattle.std.proofs.lemmas.Bool.{not-false, ltb-false}
 use Rattle.std.proofs.lemmas.List.{map-append}
@@ -12,13 +13,15 @@ use Rattle.gate_base.specs.declared.refusal.Refusal.TheVariants.{SourceInPool, N
 use Rattle.gate_base.specs.declared.side.Side.{Side}
 use Rattle.binding_table.specs.declared.binding.Crossing.{Crossing}
 use Rattle.binding_table.specs.declared.binding.Crossing.TheVariants.{Unbound}
-use Rattle.binding_table.specs.Prelude.{Bindings, is_same, in_pool, seen, unless_same, image_after, free, IsLawful, Use, AreUsesOf, used, after_uses, needed}
+use Rattle.binding_table.specs.Prelude.{Bindings, is_same, in_pool, seen, unless_same, image_after}
+use Rattle.binding_table.specs.Prelude.{free, IsLawful, Use, AreUsesOf, used, after_uses, needed}
 use Rattle.binding_table.specs.Bindings.{cross}
 use Rattle.binding_table.proofs.Kept.{lawful_expired}
 use Rattle.binding_table.proofs.Used.{all_seen}
 use Rattle.ipv4_frames.specs.Ipv4.{Datagram}
 use Rattle.gate_model.specs.Called.{table_by, called_by, IsKeptUntil, header_until}
-use Rattle.gate_model.specs.Prelude.{Whole, SessionRules, Kind, Dns, World, at_moment, called, source_of, destination_of, addresses_of, datagram_in, kind_of, message_in, named_in, has_unbound, uses_until, is_reachable, table_after}
+use Rattle.gate_model.specs.Prelude.{Whole, SessionRules, Kind, Dns, World, at_moment, called, source_of, destination_of, addresses_of}
+use Rattle.gate_model.specs.Prelude.{datagram_in, kind_of, message_in, named_in, has_unbound, uses_until, is_reachable, table_after}
 use Rattle.gate_model.specs.declared.timeouts.TheConstants.{NAMED_TIMEOUT}
 use Rattle.gate_model.specs.Transparent.{NamesAreCalled}
 use Rattle.gate_model.specs.Verdict.{timeout_by, verdict}

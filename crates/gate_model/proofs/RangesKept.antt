@@ -18,7 +18,9 @@ use Rattle.tcp_tracker.specs.declared.connection.Connection.{Connection}
 use Rattle.tcp_tracker.proofs.Joining.{place_within, none_past}
 use Rattle.tcp_tracker.specs.declared.tracker.TheConstants.{MOST_CONNECTIONS}
 use Rattle.tcp_tracker.specs.declared.table.TheConstants.{MOST_SESSIONS}
-use Rattle.gate_model.specs.Prelude.{Whole, Kind, Stream, datagram_in, kind_of, SessionRules, Tracked, World, at_moment, tcp_of, key_in, found_in, begins, made_by, taker_by, stepped, ends_by, is_full, connection_after, table_after, image_in, verdict, taker_in, after_kind, next_by, next}
+use Rattle.gate_model.specs.Prelude.{Whole, Kind, Stream, datagram_in, kind_of, SessionRules, Tracked, World, at_moment}
+use Rattle.gate_model.specs.Prelude.{tcp_of, key_in, found_in, begins, made_by, taker_by, stepped, ends_by, is_full}
+use Rattle.gate_model.specs.Prelude.{connection_after, table_after, image_in, verdict, taker_in, after_kind, next_by, next}
 use Rattle.gate_model.specs.Ranges.{InRange}
 use Rattle.gate_model.proofs.Passing.{Passes, passes, StreamPasses, stream_passes}
 use Rattle.gate_model.proofs.HostsKept.{begun_is}

@@ -1,5 +1,6 @@
 -- What the world sends for a segment that a session takes is what the session says, and the session goes on by it.
-use Rattle.std.proofs.Common.{◌≡◌, ◌<◌, ℕ, Bool, true, false, nat_lt, cond, List, [], ◌∷◌, length, position, Option, Some, None, option_map, refl, sym, ◌∙◌, ap, subst, arith, option_and_then, slice_get, IfSome, ltb-true, map}
+use Rattle.std.proofs.Common.{◌≡◌, ◌<◌, ℕ, Bool, true, false, nat_lt, cond, List, [], ◌∷◌, length, position, Option, Some, None}
+use Rattle.std.proofs.Common.{option_map, refl, sym, ◌∙◌, ap, subst, arith, option_and_then, slice_get, IfSome, ltb-true, map}
 use Rattle.std.specs.List.{find, position_or_len}
 use Rattle.std.specs.Option.{option_or}
 use Rattle.std.proofs.lemmas.List.Folds.{find-set, find-append}
@@ -9,7 +10,9 @@ use Rattle.tcp_tracker.specs.Prelude.{is_of, place_of, connection_of, changed}
 use Rattle.tcp_tracker.specs.declared.connection.ConnKey.{ConnKey}
 use Rattle.tcp_tracker.specs.declared.connection.Connection.{Connection}
 use Rattle.tcp_tracker.proofs.Names.{find_by_place}
-use Rattle.gate_model.specs.Prelude.{Kind, Stream, datagram_in, SessionRules, Tracked, World, at_moment, key_in, found_in, stepped, connection_after, table_after, image_in, taker_in, stream_out, out_kind, out_by, out, after_kind, next_by, next, TakesSegment, called, source_of, destination_of}
+use Rattle.gate_model.specs.Prelude.{Kind, Stream, datagram_in, SessionRules, Tracked, World, at_moment, key_in, found_in}
+use Rattle.gate_model.specs.Prelude.{stepped, connection_after, table_after, image_in, taker_in, stream_out, out_kind, out_by}
+use Rattle.gate_model.specs.Prelude.{out, after_kind, next_by, next, TakesSegment, called, source_of, destination_of}
 use Rattle.gate_model.proofs.HostsKept.{IsLeft, left_of, found_is}
 use Rattle.gate_model.specs.Stream.{sent_as}
 use Rattle.gate_model.specs.Taken.{segments_for, said}

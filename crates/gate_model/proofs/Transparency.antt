@@ -1,11 +1,13 @@
 -- Replies come back, and aliases mean one host.
-use Rattle.std.proofs.Common.{◌≡◌, ◌<◌, ◌⊎◌, ℕ, Bool, true, false, not, ◌&&◌, ◌||◌, nat_lt, if◌then◌else◌, List, [], ◌∷◌, ◌++◌, Option, Some, None, is_some, is_none, option_map, refl, sym, ◌∙◌, ap, subst, inl, inr, fold, append_assoc, arith}
+use Rattle.std.proofs.Common.{◌≡◌, ◌<◌, ◌⊎◌, ℕ, Bool, true, false, not, ◌&&◌, ◌||◌, nat_lt, if◌then◌else◌, List, [], ◌∷◌, ◌++◌, Option}
+use Rattle.std.proofs.Common.{Some, None, is_some, is_none, option_map, refl, sym, ◌∙◌, ap, subst, inl, inr, fold, append_assoc, arith}
 use Rattle.std.proofs.lemmas.Bool.{cases_Bool, and_from, and_right, or_left, or_right, or_parts, not-false, ltb-true, true≢false}
 use Rattle.gate_base.specs.Prelude.{Event, other, first_that_holds, is_unicast_number}
 use Rattle.gate_base.specs.declared.address.Addr.{Addr}
 use Rattle.gate_base.specs.declared.event.Verdict.TheVariants.{Pass}
 use Rattle.gate_base.specs.declared.refusal.Refusal.{Refusal}
-use Rattle.gate_base.specs.declared.refusal.Refusal.TheVariants.{TtlSpent, NotUnicast, Protocol, SourceInPool, NoBinding, NoSession, SessionsFull, PoolEmpty}
+use Rattle.gate_base.specs.declared.refusal.Refusal.TheVariants.{TtlSpent, NotUnicast, Protocol, SourceInPool}
+use Rattle.gate_base.specs.declared.refusal.Refusal.TheVariants.{NoBinding, NoSession, SessionsFull, PoolEmpty}
 use Rattle.gate_base.specs.declared.side.Side.{Side}
 use Rattle.gate_base.proofs.Sides.{other_other}
 use Rattle.gate_settings.specs.Prelude.{is_in_same}
@@ -30,8 +32,10 @@ use Rattle.gate_model.specs.Prelude.{out_by, out_kind, tcp_of, is_tracked_port, 
 use Rattle.gate_model.specs.Prelude.{session_refusal, refusal_tests, unit_tests, growth_tests, lacks_session, is_full, names_in, image_in, stream_out}
 use Rattle.gate_model.specs.Verdict.{verdict}
 use Rattle.gate_model.specs.Stream.{has_tracked_port}
-use Rattle.gate_model.specs.Transparent.{IsTranslated, KeepsAlias, IsReply, own_tests, own_reason, IsUntracked, IsPlainKind, ComesBack, IsAbout, ComesHome}
-use Rattle.gate_model.proofs.AliasesLast.{StandFor, cross_back, called_is, stand_after, stand_expired, stand_through, lawful_through, lawful_next, lawful_by, passed_table, HostsAre, hosts_are, hosts_later}
+use Rattle.gate_model.specs.Transparent.{IsTranslated, KeepsAlias, IsReply, own_tests, own_reason}
+use Rattle.gate_model.specs.Transparent.{IsUntracked, IsPlainKind, ComesBack, IsAbout, ComesHome}
+use Rattle.gate_model.proofs.AliasesLast.{StandFor, cross_back, called_is, stand_after, stand_expired, stand_through}
+use Rattle.gate_model.proofs.AliasesLast.{lawful_through, lawful_next, lawful_by, passed_table, HostsAre, hosts_are, hosts_later}
 use Rattle.gate_model.proofs.BoundTables.{placed, known_seen}
 use Rattle.gate_model.proofs.Passing.{NoneHolds, none_head, none_tail, none_left, none_right, pass_is}
 

@@ -138,7 +138,9 @@ pub record Promised (settings : Settings) (events : List Event) : Type 0 where
   pub through : (done others : List Event) (e : Event) → events ≡ done ++ e ∷ others
       → EachTracked (ComesThrough (remembered_after settings done) e) (next remembering_rules (remembered_after settings done) e).connections
   -- after each event, sessions, connections and bindings are as WorldIs says;
-  pub worlds : (done others : List Event) → events ≡ done ++ others → WorldIs settings done (known_after settings done) (remembered_after settings done)
+  pub worlds : (done others : List Event)
+      → events ≡ done ++ others
+      → WorldIs settings done (known_after settings done) (remembered_after settings done)
   -- and later frames find what a frame that passed has kept
   pub later : (done between others : List Event) (e x : Event) → events ≡ done ++ e ∷ (between ++ x ∷ others)
       → verdict whole_rules (known_after settings done) e ≡ Pass

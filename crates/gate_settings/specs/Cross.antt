@@ -9,6 +9,7 @@ use Rattle.gate_settings.specs.declared.settings.Block.{Block}
 use Rattle.gate_settings.specs.declared.settings.Fixed.{Fixed}
 use Rattle.gate_settings.specs.declared.settings.Settings.{Settings}
 use Rattle.gate_settings.specs.declared.settings.SideSettings.{SideSettings}
+use Rattle.gate_base.specs.declared.address.TheConstants.{LARGEST_POOL}
 
 -- ## Where an address lies
 
@@ -35,9 +36,9 @@ is_in_same address same = list_any (is_in_block address) same
 
 -- ## What is asked of a pool or a static
 
--- the last address is below the first, or there are more than 65,536
+-- the last address is below the first, or there are more than LARGEST_POOL
 abbrev pub is_bad_pool : SideSettings → Bool
-is_bad_pool pool = nat_lt pool.last.0 pool.first.0 || nat_lt 65535 (pool.last.0 - pool.first.0)
+is_bad_pool pool = nat_lt pool.last.0 pool.first.0 || nat_le LARGEST_POOL (pool.last.0 - pool.first.0)
 
 -- the pool and a block share an address
 abbrev pub meets_pool : SideSettings → Block → Bool

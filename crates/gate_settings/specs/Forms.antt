@@ -23,7 +23,7 @@ pub record HasUnicastPool (side : SideSettings) : Type 0 where
   pub first : IsUnicast side.first
   pub last : IsUnicast side.last
 
--- both Ethernet addresses of a realm have six octets
+-- both MAC addresses of a realm have six octets
 pub record HasMacAddresses (side : SideSettings) : Type 0 where
   pub gateway : length side.gateway_mac ≡ 6
   pub next : length side.next_mac ≡ 6
@@ -37,11 +37,10 @@ pub record IsUnicastPair (fixed : Fixed) : Type 0 where
   pub host : IsUnicast fixed.host
   pub alias : IsUnicast fixed.alias
 
--- all blocks, addresses and rules have their forms
+-- all blocks, addresses of hosts and rules have their forms
 pub record HasForms (settings : Settings) : Type 0 where
   pub blocks : All IsBlock settings.same
   pub left : HasUnicastPool settings.left
   pub right : HasUnicastPool settings.right
-  pub macs : HaveMacAddresses settings
   pub statics : All IsUnicastPair settings.statics
   pub oids : AreRules settings.oids

@@ -32,9 +32,9 @@ pub struct SideSettings {
     pub last: Addr,
     /// What the frames of the realm's captures are.
     pub link: Link,
-    /// The gateway's own Ethernet address on this link, and six zeros where none is given.
+    /// The gateway's own MAC address on this link, and six zeros where none is given.
     pub gateway_mac: [u8; 6],
-    /// The Ethernet address to which outgoing frames are sent, and six zeros where none is given.
+    /// The MAC address to which outgoing frames are sent, and six zeros where none is given.
     pub next_mac: [u8; 6],
 }
 

@@ -1,5 +1,6 @@
 -- The function finds the first reason, and none exactly where the files are lawful.
-use Rattle.std.proofs.Common.{◌≡◌, ◌≤◌, ◌<◌, ◌+◌, ◌^◌, ℕ, Bool, true, false, cond, List, [], ◌∷◌, ◌++◌, length, take, drop, Option, Some, None, refl, sym, ◌∙◌, ap, subst, arith, inl, inr, map, not, ◌&&◌, ◌==◌, nat_lt, if◌then◌else◌, decimal, bytes_eq}
+use Rattle.std.proofs.Common.{◌≡◌, ◌≤◌, ◌<◌, ◌+◌, ◌^◌, ℕ, Bool, true, false, cond, List, [], ◌∷◌, ◌++◌, length, take, drop, Option, Some, None}
+use Rattle.std.proofs.Common.{refl, sym, ◌∙◌, ap, subst, arith, inl, inr, map, not, ◌&&◌, ◌==◌, nat_lt, if◌then◌else◌, decimal, bytes_eq}
 use Rattle.std.specs.Char.{digit_value}
 use Rattle.std.specs.Str.Parse.{AllDigits, digits_value}
 use Rattle.std.proofs.lemmas.Bool.{and_parts, and_from, eqb-true, true≢false, false≢true, lt-ltb, le-ltb, ltb-true, ltb-false}
@@ -19,8 +20,10 @@ use Rattle.pcap_files.specs.Prelude.{Packet, Records, Ending as CaptureEnding, W
 use Rattle.pcap_merge.specs.Prelude.{Ending, Done, Fault}
 use Rattle.lawful_files.specs.declared.reason.AuditReason.{AuditReason}
 use Rattle.lawful_files.specs.declared.reason.AuditReason.TheVariants.{Capture, Line, Missing, Frame, Left}
-use Rattle.lawful_files.specs.Files.{Given, given_at, given_of, State, opening, after, line_of, last_line, record_of, HasLink, IsLawfulAt, IsAtLast, LawfulFrom, Lawful}
-use Rattle.lawful_files.specs.Judging.{AllOctets, digits_in, before_number, frames_told, goes_on_with, same_link, has_link_by, has_link, is_whole, is_used_up, without_first, behind_records, is_at_last, at_event, reason_from, reason_of}
+use Rattle.lawful_files.specs.Files.{Given, given_at, given_of, State, opening, after, line_of, last_line}
+use Rattle.lawful_files.specs.Files.{record_of, HasLink, IsLawfulAt, IsAtLast, LawfulFrom, Lawful}
+use Rattle.lawful_files.specs.Judging.{AllOctets, digits_in, before_number, frames_told, goes_on_with, same_link, has_link_by, has_link}
+use Rattle.lawful_files.specs.Judging.{is_whole, is_used_up, without_first, behind_records, is_at_last, at_event, reason_from, reason_of}
 use Rattle.lawful_files.specs.Wanted.{event_in, verdict_of, wanted_of}
 use Rattle.lawful_files.specs.Progress.{IsSound, AreLawful, behind_all, is_closed}
 use Rattle.lawful_files.specs.Reasons.{GoesOn, HasNoLine, there_for, IsFirst, FirstReason}

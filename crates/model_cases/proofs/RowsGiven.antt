@@ -117,7 +117,8 @@ both_named =
 
 -- each list's addresses cross from the realm of its sender, whichever host sends
 both_lists_are_used : (next whole_rules both_named (event Left 1000 Raw true
-    (hex 40 0x45000028000240004006a7eb0a000005c0a8c8359c410035000003e9000013895010200049090000))).table.entries ≡ (opening settings).entries ++ bound_until Left 0x0a000007 0xac100902 7440000001000 ∷ bound_until Right 0x0a000008 0xc0a8c809 7440000001000 ∷ []
+    (hex 40 0x45000028000240004006a7eb0a000005c0a8c8359c410035000003e9000013895010200049090000))).table.entries
+    ≡ (opening settings).entries ++ bound_until Left 0x0a000007 0xac100902 7440000001000 ∷ bound_until Right 0x0a000008 0xc0a8c809 7440000001000 ∷ []
 unfolding frames_on_literals
 both_lists_are_used = refl
 

@@ -1,5 +1,5 @@
 -- A capture as a list of octets: a head of 24 octets, and records. All its numbers stand in one byte order.
-use Rattle.std.specs.Prelude.{ℕ, ◌+◌, ◌*◌, ◌^◌, List, [], ◌∷◌, Bool, Option, Some, None, zero, suc, if◌then◌else◌, nat_lt, nat_le, ◌==◌, find, take, drop, length}
+use Rattle.std.specs.Prelude.{ℕ, ◌+◌, ◌*◌, List, [], ◌∷◌, Bool, Option, Some, None, zero, suc, if◌then◌else◌, nat_lt, nat_le, ◌==◌, find, take, drop, length}
 use Rattle.byteorder.specs.Endian.{little_number, big_number}
 use Rattle.gate_base.specs.declared.side.Link.{Link}
 use Rattle.gate_base.specs.declared.side.Link.TheVariants.{Ethernet, Raw}
@@ -11,7 +11,7 @@ use Rattle.pcap_files.specs.declared.form.Order.TheVariants.{Little, Big}
 use Rattle.pcap_files.specs.declared.form.Precision.{Precision}
 use Rattle.pcap_files.specs.declared.form.Precision.TheVariants.{Microseconds, Nanoseconds}
 use Rattle.pcap_files.specs.declared.form.Form.{Form}
-use Rattle.pcap_files.specs.declared.record.TheConstants.{LONGEST_RECORD}
+use Rattle.pcap_files.specs.declared.record.TheConstants.{LONGEST_CAPTURE, LONGEST_RECORD}
 
 -- the 32-bit number at a place
 abbrev pub number_at : Order → ℕ → List ℕ → ℕ
@@ -104,7 +104,7 @@ record_tests form place octets =
     (nat_lt (length octets) 16, Torn)
     ∷ (nat_le SECOND (nanoseconds_of form octets), Stamp)
     ∷ (nat_lt LONGEST_RECORD (kept_of form octets), RecordTooLong)
-    ∷ (nat_lt (2 ^ 40) (place + 16 + kept_of form octets), CaptureTooLong)
+    ∷ (nat_lt LONGEST_CAPTURE (place + 16 + kept_of form octets), CaptureTooLong)
     ∷ (nat_lt (length octets) (16 + kept_of form octets), Torn)
     ∷ []
 

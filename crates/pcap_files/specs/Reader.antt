@@ -1,5 +1,5 @@
 -- A reader of a capture, and what its calls answer.
-use Rattle.std.specs.Prelude.{◌≡◌, ℕ, ◌+◌, ◌^◌, ◌<◌, ◌≤◌, length, Bool, true, false, Option, Some, None, Result, Ok, Err, IfSome}
+use Rattle.std.specs.Prelude.{◌≡◌, ℕ, ◌+◌, ◌<◌, ◌≤◌, length, Bool, true, false, Option, Some, None, Result, Ok, Err, IfSome}
 use Rattle.gate_base.specs.Prelude.{IsMoment}
 use Rattle.gate_desk.specs.declared.slot.Slot.{Slot}
 use Rattle.gate_desk.specs.Outside.{Outside, Takes, HasFailed, told_at}
@@ -8,7 +8,7 @@ use Rattle.pcap_files.specs.declared.fault.CaptureFault.TheVariants.{Torn}
 use Rattle.pcap_files.specs.declared.fault.ReadStop.{ReadStop}
 use Rattle.pcap_files.specs.declared.fault.ReadStop.TheVariants.{Fault, Desk, OutOfMemory}
 use Rattle.pcap_files.specs.declared.form.Form.{Form}
-use Rattle.pcap_files.specs.declared.record.TheConstants.{LONGEST_RECORD}
+use Rattle.pcap_files.specs.declared.record.TheConstants.{LONGEST_CAPTURE, LONGEST_RECORD}
 use Rattle.pcap_files.specs.Capture.{Packet, Next, Ended, Broken, Came, size, next_at, Good, Bad, head_of}
 
 -- a reader: its slot, the form of the capture, the place that it has come to, the record that the last advance read, and the stop that it has come to
@@ -34,14 +34,14 @@ fault_size f left = 16
 pub record TakesToFault (slot : Slot) (place : ℕ) (f : CaptureFault) (old new : Outside) : Type 0 where
   pub count : ℕ
   pub takes : Takes slot count old new
-  pub near : place + count ≤ 2 ^ 40 + 16
+  pub near : place + count ≤ LONGEST_CAPTURE + 16
   pub exact : IfSome (told_at old.left slot) (λ octets. count ≡ fault_size f (length octets))
 
 -- so many octets were taken from the slot at this place, where the desk failed: no whole record, and the capture was read no further than it may be
 pub record TakesToFailure (slot : Slot) (form : Form) (place : ℕ) (old new : Outside) : Type 0 where
   pub count : ℕ
   pub takes : Takes slot count old new
-  pub near : place + count ≤ 2 ^ 40 + 16
+  pub near : place + count ≤ LONGEST_CAPTURE + 16
   pub none : IfSome (told_at old.left slot) (λ octets. TakesNoRecord (next_at form place octets) count)
 
 -- a record that can be written again
@@ -61,7 +61,8 @@ LeavesCounts (Err stop) old new = StopLeavesCounts stop old new
 
 -- what an advance answers, where no earlier one stopped
 abbrev pub Advances : Result Bool ReadStop → Reading → Reading → Outside → Outside → Type 0
-Advances (Ok true) r s old new = (p : Packet) × IsSmall p × (r.place + size p ≤ 2 ^ 40) × (s ≡ record r { packet = Some p; place = r.place + size p })
+Advances (Ok true) r s old new = (p : Packet) × IsSmall p × (r.place + size p ≤ LONGEST_CAPTURE)
+    × (s ≡ record r { packet = Some p; place = r.place + size p })
     × Takes r.slot (size p) old new × IfSome (told_at old.left r.slot) (λ octets. next_at r.form r.place octets ≡ Came p)
 Advances (Ok false) r s old new = (s ≡ record r { packet = None }) × Takes r.slot 0 old new
     × IfSome (told_at old.left r.slot) (λ octets. next_at r.form r.place octets ≡ Ended)

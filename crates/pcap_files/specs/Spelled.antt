@@ -4,7 +4,7 @@ use Rattle.gate_base.specs.declared.event.TheConstants.{SECOND}
 use Rattle.pcap_files.specs.declared.fault.CaptureFault.{CaptureFault}
 use Rattle.pcap_files.specs.declared.form.Order.{Order}
 use Rattle.pcap_files.specs.declared.form.Form.{Form}
-use Rattle.pcap_files.specs.declared.record.TheConstants.{LONGEST_RECORD}
+use Rattle.pcap_files.specs.declared.record.TheConstants.{LONGEST_CAPTURE, LONGEST_RECORD}
 use Rattle.pcap_files.specs.Capture.{unit, Packet, record_tests, Ending, Whole, Fault}
 use Rattle.pcap_files.specs.Spelling.{spelled_head, spelled_numbers}
 
@@ -38,7 +38,7 @@ pub record IsGood (form : Form) (place : ℕ) (e : Entry) : Type 0 where
   pub fraction : e.fraction * unit form.precision < SECOND
   pub original : e.original < 2 ^ 32
   pub kept : length e.octets ≤ LONGEST_RECORD
-  pub ends : place + 16 + length e.octets ≤ 2 ^ 40
+  pub ends : place + 16 + length e.octets ≤ LONGEST_CAPTURE
 
 -- so are all, the first of which begins at this place
 abbrev pub AreGood : Form → ℕ → List Entry → Type 0

@@ -18,7 +18,7 @@ pub struct Packet<'a> {
     pub stamp: u64,
     /// Whether the capture kept all octets of the frame.
     pub whole: bool,
-    /// The octets that the capture kept, at most 262,144.
+    /// The octets that the capture kept, at most `LONGEST_RECORD`.
     pub octets: &'a [u8],
 }
 
@@ -36,7 +36,7 @@ pub struct CaptureReader {
 impl Model for CaptureReader {
     ghost use Rattle.std.specs.Prelude.{◌≡◌, ◌≤◌, ◌^◌, option_map, take, length, IfSome};
     ghost use Rattle.pcap_files.specs.Reader.{Reading};
-    ghost use Rattle.pcap_files.specs.declared.record.TheConstants.{LONGEST_RECORD};
+    ghost use Rattle.pcap_files.specs.declared.record.TheConstants.{LONGEST_CAPTURE, LONGEST_RECORD};
 
     ghost Value = { Reading };
 
@@ -49,7 +49,7 @@ impl Model for CaptureReader {
     } };
 
     ghost invariant = { λ r. (length r.buffer.items ≡ LONGEST_RECORD)
-        × IfSome r.current (λ h. h.kept ≤ LONGEST_RECORD) × (r.place ≤ 2 ^ 40) };
+        × IfSome r.current (λ h. h.kept ≤ LONGEST_RECORD) × (r.place ≤ LONGEST_CAPTURE) };
 }
 
 impl CaptureReader {

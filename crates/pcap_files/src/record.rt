@@ -1,5 +1,5 @@
 // The records of a capture.
-ghost use Rattle.std.specs.Prelude.{◌≡◌, ◌^◌, ◌≤◌, length, IfSome};
+ghost use Rattle.std.specs.Prelude.{◌≡◌, ◌≤◌, length, IfSome};
 ghost use Rattle.gate_desk.specs.Outside.{CanRead};
 ghost use Rattle.pcap_files.specs.Inside.Heads.{Judges, StandsWhole, TakesHead, TakesRecord};
 ghost use Rattle.pcap_files.specs.Reader.{LeavesCounts};
@@ -14,8 +14,8 @@ pub const RECORD_HEAD: usize = 16;
 /// The most octets that a record keeps.
 pub const LONGEST_RECORD: usize = 262_144;
 
-/// The most octets of a capture.
-pub const LONGEST_CAPTURE: u64 = 1 << 40;
+/// The most octets of a capture: 2^40, a limit of the gateway's own.
+pub const LONGEST_CAPTURE: u64 = 1_099_511_627_776;
 
 /// What the head of a record says.
 #[derive(Clone, Copy, Debug, PartialEq, Eq)]
@@ -33,7 +33,7 @@ pub struct RecordHead {
 #[tactic(auto, unfolding(crate::specs::Inside::Heads::after_head))]
 fn fields_of(form: Form, place: u64, head: &[u8]) -> Result<RecordHead, CaptureFault>
     requires long { length head.now ≡ 16 }
-    requires small { place ≤ 2 ^ 40 }
+    requires small { place ≤ LONGEST_CAPTURE }
     ensures { Judges result form place head.now }
 {
     let seconds = form.order.number(head, 0) as u64;
@@ -65,7 +65,7 @@ fn read_head<D: Desk>(
     place: u64,
 ) -> Result<Option<RecordHead>, ReadStop>
     requires start { CanRead (D.outside desk.old) slot }
-    requires small { place ≤ 2 ^ 40 }
+    requires small { place ≤ LONGEST_CAPTURE }
     ensures takes { TakesHead result form place slot (D.outside desk.old)
         (D.outside desk.new) }
     ensures leaves { LeavesCounts result (D.outside desk.old) (D.outside desk.new) }
@@ -90,7 +90,7 @@ fn read_head<D: Desk>(
 /// The record that stands whole at the front of these octets, if there is one, its own copied into the front of the buffer.
 #[inline(always)]
 fn copy_record(form: Form, place: u64, octets: &[u8], buffer: &mut [u8]) -> Option<RecordHead>
-    requires small { place ≤ 2 ^ 40 }
+    requires small { place ≤ LONGEST_CAPTURE }
     requires room { length buffer.old ≡ LONGEST_RECORD }
     ensures { IfSome result (λ h. StandsWhole h form place octets.now buffer.new) }
 {
@@ -118,7 +118,7 @@ pub fn read_record<D: Desk>(
     buffer: &mut [u8],
 ) -> Result<Option<RecordHead>, ReadStop>
     requires start { CanRead (D.outside desk.old) slot }
-    requires small { place ≤ 2 ^ 40 }
+    requires small { place ≤ LONGEST_CAPTURE }
     requires room { length buffer.old ≡ LONGEST_RECORD }
     ensures takes { TakesRecord result form place slot buffer.new (D.outside desk.old)
         (D.outside desk.new) }
@@ -141,7 +141,7 @@ fn read_in_parts<D: Desk>(
     buffer: &mut [u8],
 ) -> Result<Option<RecordHead>, ReadStop>
     requires start { CanRead (D.outside desk.old) slot }
-    requires small { place ≤ 2 ^ 40 }
+    requires small { place ≤ LONGEST_CAPTURE }
     requires room { length buffer.old ≡ LONGEST_RECORD }
     ensures takes { TakesRecord result form place slot buffer.new (D.outside desk.old)
         (D.outside desk.new) }

@@ -1,11 +1,12 @@
 -- Which records of each side were taken whole, and which events were given for them.
-use Rattle.std.specs.Prelude.{◌≡◌, ◌≤◌, ◌⊎◌, ℕ, ◌+◌, ◌-◌, ◌^◌, List, [], ◌∷◌, ◌++◌, Bool, true, false, Option, Some, None, IfSome, if◌then◌else◌, nat_le, option_map, drop, length, count_by}
+use Rattle.std.specs.Prelude.{◌≡◌, ◌≤◌, ◌⊎◌, ℕ, ◌+◌, ◌-◌, List, [], ◌∷◌, ◌++◌, Bool, true, false, Option, Some, None, IfSome, if◌then◌else◌, nat_le, option_map, drop, length, count_by}
 use Rattle.gate_base.specs.declared.side.Side.{Side}
 use Rattle.gate_base.specs.Prelude.{same_side, Event}
 use Rattle.gate_desk.specs.Outside.{Outside, told_at}
 use Rattle.pcap_files.specs.Prelude.{Packet, Records, size, capture_of, records_from, Reading}
 use Rattle.pcap_merge.specs.Stops.{slot_of}
 use Rattle.pcap_merge.specs.Sides.{one_for}
+use Rattle.pcap_files.specs.declared.record.TheConstants.{LONGEST_CAPTURE}
 
 -- how many of these records, from the first on, lie whole in so many octets
 abbrev pub whole_in : ℕ → List Packet → ℕ
@@ -37,7 +38,7 @@ pub record EndsAtTaken (side : Side) (start now : Outside) (events : List Event)
 pub record HasTakenFew (side : Side) (start now : Outside) (given : ℕ) : Type 0 where
   pub count : ℕ
   pub taken : told_at now.left (slot_of side) ≡ option_map (drop count) (told_at start.left (slot_of side))
-  pub near : count ≤ 2 ^ 40 + 16
+  pub near : count ≤ LONGEST_CAPTURE + 16
   pub few : IfSome (told_at start.left (slot_of side)) (λ all. whole_records count all ≤ given + 1)
 
 -- the same of both sides and these events

@@ -7,7 +7,7 @@ use Rattle.gate_desk.specs.declared.slot.Slot.TheVariants.{LeftIn, RightIn}
 use Rattle.gate_desk.specs.declared.slot.PerSlot.{PerSlot}
 use Rattle.gate_desk.specs.Outside.{Outside, Trace, told_at, took, HasFailed, Grows, IsAtEnd}
 use Rattle.pcap_files.specs.Prelude.{Reading}
-use Rattle.pcap_files.specs.declared.record.TheConstants.{LONGEST_RECORD}
+use Rattle.pcap_files.specs.declared.record.TheConstants.{LONGEST_CAPTURE, LONGEST_RECORD}
 use Rattle.pcap_merge.specs.declared.order.Last.{Last}
 use Rattle.pcap_merge.specs.declared.order.Last.TheVariants.{End}
 use Rattle.pcap_merge.specs.declared.stop.MergeStop.{MergeStop}
@@ -91,7 +91,7 @@ HeadsAre good told = IfSome told (λ all. have_good_heads all.left_in all.right_
 -- these events were given since the captures began, and of each side the records of its events, with one that is held, and nothing else were taken
 pub record HasGiven (start : Outside) (m : Merging) (now : Outside) (events : List Event) : Type 0 where
   pub stands : (side : Side) → told_at now.left (slot_of side) ≡ option_map (drop (reading_of side m).place) (told_at start.left (slot_of side))
-  pub near : (side : Side) → (reading_of side m).place ≤ 2 ^ 40
+  pub near : (side : Side) → (reading_of side m).place ≤ LONGEST_CAPTURE
   pub before : (side : Side) → IfSome (told_at start.left (slot_of side))
       (HasRead (reading_of side m) (is_unread side m.last) (count_of_side side events))
   pub last : IsLast m.event events

@@ -1,6 +1,7 @@
 -- What reading the sides of a merge answers.
-use Rattle.std.specs.Prelude.{◌≡◌, ℕ, ◌+◌, ◌-◌, ◌^◌, List, [], ◌∷◌, Bool, true, false, Option, Some, None, length}
+use Rattle.std.specs.Prelude.{◌≡◌, ℕ, ◌+◌, ◌-◌, List, [], ◌∷◌, Bool, true, false, Option, Some, None, length}
 use Rattle.pcap_files.specs.Prelude.{Packet, Records, Whole, records_from, Reading}
+use Rattle.pcap_files.specs.declared.record.TheConstants.{LONGEST_CAPTURE}
 
 -- a record that is held, and the records behind it; where none is held the side was read to its end
 abbrev pub held_before : Option Packet → Records → Records
@@ -25,4 +26,4 @@ one_for (Some p) = 1
 
 -- a number that falls with each reading of a side
 abbrev pub side_work : Reading → ℕ
-side_work r = (2 ^ 40 - r.place) + one_for r.packet
+side_work r = (LONGEST_CAPTURE - r.place) + one_for r.packet

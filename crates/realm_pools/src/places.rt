@@ -1,13 +1,14 @@
 // Places, of which the first from any place on is found at a constant cost.
 ghost use Rattle.std.specs.Prelude.{ℕ, ◌≡◌, ◌*◌, ◌<◌, ◌≤◌, nat_lt, length, IfOk};
 ghost use Rattle.realm_pools.specs.Inside.Places.{bit_of, one_if, IsFirst, IsSet};
+ghost use Rattle.gate_base.specs.declared.address.TheConstants.{LARGEST_POOL};
 
 use crate::words::{first_bit, set_bit};
 use gate_base::OutOfMemory;
 use std::alloc::Global;
 use std::marker::Model;
 
-/// Some of 65,536 places, each as a bit that is 1.
+/// Some of `LARGEST_POOL` places, each as a bit that is 1.
 #[derive(Drop)]
 pub(crate) struct Places {
     // the bits of the places
@@ -33,7 +34,7 @@ impl Model for Places {
 impl Places {
     /// The places below a size, all of which are there.
     pub fn new(alloc: Global, size: usize) -> Result<Places, OutOfMemory>
-        requires { size ≤ 65536 }
+        requires { size ≤ LARGEST_POOL }
         ensures long { IfOk result (λ places. size < 64 * length places) }
         ensures all { IfOk result (λ places. (place : ℕ)
             → bit_of places place ≡ one_if (nat_lt place size)) }
@@ -46,7 +47,7 @@ impl Places {
     }
 
     fn none(alloc: Global, size: usize) -> Result<Places, OutOfMemory>
-        requires { size ≤ 65536 }
+        requires { size ≤ LARGEST_POOL }
         ensures long { IfOk result (λ places. size < 64 * length places) }
         ensures none { IfOk result (λ places. (place : ℕ) → bit_of places place ≡ 0) }
     {

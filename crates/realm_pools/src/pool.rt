@@ -1,12 +1,13 @@
 ghost use Rattle.std.specs.Prelude.{◌≡◌, ◌+◌, ◌-◌, ◌<◌, ◌≤◌, IsTrue, IfOk, IfSome, IfNone, true, false, not, length, count_by};
 ghost use Rattle.realm_pools.specs.Addresses as addresses;
+ghost use Rattle.gate_base.specs.declared.address.TheConstants.{LARGEST_POOL};
 
 use crate::places::Places;
 use gate_base::{Addr, OutOfMemory};
 use std::alloc::Global;
 use std::marker::Model;
 
-/// A range of 1 to 65,536 addresses, each of which is free or taken.
+/// A range of 1 to `LARGEST_POOL` addresses, each of which is free or taken.
 #[derive(Drop)]
 pub struct Pool {
     first: u32,
@@ -32,11 +33,11 @@ impl Model for Pool {
 }
 
 impl Pool {
-    /// The pool of the addresses from the first to the last, 1 to 65,536 of them, all free. The error is that there is too little
+    /// The pool of the addresses from the first to the last, 1 to `LARGEST_POOL` of them, all free. The error is that there is too little
     /// memory.
     pub fn new(alloc: Global, first: Addr, last: Addr) -> Result<Pool, OutOfMemory>
         requires ordered { first.0 ≤ last.0 }
-        requires small { last.0 - first.0 < 65536 }
+        requires small { last.0 - first.0 < LARGEST_POOL }
         ensures { IfOk result (λ pool. pool ≡ addresses.unused first last) }
     {
         let size = last.0 - first.0 + 1;

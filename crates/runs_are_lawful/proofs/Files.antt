@@ -1,5 +1,6 @@
 -- The files of a run, put together.
-use Rattle.std.proofs.Common.{◌≡◌, ◌≤◌, ◌<◌, ◌+◌, ◌*◌, ◌/◌, ◌%◌, ◌^◌, ℕ, List, [], ◌∷◌, ◌++◌, length, refl, sym, ◌∙◌, ap, subst, arith, length-append, map, IfSome, append-nil}
+use Rattle.std.proofs.Common.{◌≡◌, ◌≤◌, ◌<◌, ◌+◌, ◌*◌, ◌/◌, ◌%◌, ◌^◌, ℕ, List, [], ◌∷◌, ◌++◌, length}
+use Rattle.std.proofs.Common.{refl, sym, ◌∙◌, ap, subst, arith, length-append, map, IfSome, append-nil}
 use Rattle.std.proofs.lemmas.List.Elements.{All-nil}
 use Rattle.frag_join.specs.Prelude.{Arrival, Reaches, Stopped}
 use Rattle.gate_base.specs.Prelude.{other}
@@ -24,7 +25,8 @@ use Rattle.lawful_files.specs.Progress.{head_length}
 use Rattle.lawful_files.proofs.Lengths.{framed_long}
 use Rattle.lawful_files.proofs.SentLists.{own_lawful}
 use Rattle.runs_are_lawful.specs.Outputs.{octets_to}
-use Rattle.runs_are_lawful.proofs.Spelled.{outs_of, if_to, entry_of, entries_to, packets_to, octets-append, given_octets, form_of, read_packets, IsSmallEntry, AreSmall, small-append, read_capture}
+use Rattle.runs_are_lawful.proofs.Spelled.{outs_of, if_to, entry_of, entries_to, packets_to, octets-append, given_octets}
+use Rattle.runs_are_lawful.proofs.Spelled.{form_of, read_packets, IsSmallEntry, AreSmall, small-append, read_capture}
 use Rattle.runs_are_lawful.proofs.Walk.{known_of, report_from, records_of, AllFew, walked}
 use Rattle.runs_are_lawful.proofs.Counts.{AreFit, fit_keeps, out_few}
 use Rattle.runs_are_lawful.proofs.ArrivalsRead.{AreFine, arrivals_fine}

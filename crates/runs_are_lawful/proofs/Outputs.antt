@@ -50,7 +50,7 @@ faulty all settings accepted octets good fit =
     let small : OutputsFit (files settings (events_in all)) = subst OutputsFit same fit in
     subst (λ (ps : List Piece). LawfulFor settings (events_in all) (octets_to slots.LeftOut ps) (octets_to slots.RightOut ps)
     (octets_to slots.Report ps)) (sym same)
-    (files_lawful settings (events_in all) (accepted_settings all.settings settings accepted).forms.macs
+    (files_lawful settings (events_in all) (accepted_settings all.settings settings accepted).macs
     (events_are_read all.left_in all.right_in octets.left octets.right) small.left small.right)
 
 pub done : (all : PerSlot (List ℕ)) (settings : Settings) → IsAccepted settings all → IsOctets all → (events_in all).ending ≡ Done → let pieces =

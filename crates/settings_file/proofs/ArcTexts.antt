@@ -1,5 +1,6 @@
 -- Prefixes that are read arc by arc.
-use Rattle.std.proofs.Common.{◌≡◌, ℕ, suc, ◌+◌, ◌-◌, ◌*◌, ◌<◌, ◌≤◌, ◌^◌, Bool, true, false, length, nat_le, ◌&&◌, ◌||◌, ◌==◌, List, [], ◌∷◌, ◌++◌, get_or, Option, Some, None, option_map, Result, Ok, Err, IfOk, refl, ◌∙◌, sym, arith, append_assoc, le-leb}
+use Rattle.std.proofs.Common.{◌≡◌, ℕ, suc, ◌+◌, ◌-◌, ◌*◌, ◌<◌, ◌≤◌, ◌^◌, Bool, true, false, length, nat_le, ◌&&◌, ◌||◌, ◌==◌, List, [], ◌∷◌}
+use Rattle.std.proofs.Common.{◌++◌, get_or, Option, Some, None, option_map, Result, Ok, Err, IfOk, refl, ◌∙◌, sym, arith, append_assoc, le-leb}
 use Rattle.std.proofs.lemmas.Bool.Decides.{nat_tests}
 use Rattle.std.proofs.lemmas.List.Elements.{All-from_get_or}
 use Rattle.std.proofs.lemmas.List.Sums.{list_all-from_AllPass}
@@ -21,7 +22,8 @@ pub other_octet : (number x : ℕ) (xs : List ℕ) → number_of (x ∷ []) ≡ 
 unfolding arc_behind number_of
 other_octet number x xs e = rw e refl
 
-pub above : (number x digit : ℕ) (xs : List ℕ) → number_of (x ∷ []) ≡ Some digit → GREATEST_ARC < 10 * number + digit → arc_behind number (x ∷ xs) ≡ None
+pub above : (number x digit : ℕ) (xs : List ℕ) → number_of (x ∷ []) ≡ Some digit → GREATEST_ARC < 10 * number + digit
+    → arc_behind number (x ∷ xs) ≡ None
 unfolding arc_behind number_of
 above number x digit xs e more = let no : nat_le (10 * number + digit) GREATEST_ARC ≡ false = grind (arith, nat_tests) in rw e (rw no refl)
 

@@ -1,5 +1,7 @@
 -- Settings that octets give have their forms.
-use Rattle.std.proofs.Common.{◌≡◌, ◌≤◌, ℕ, ℤ, pos, negsuc, option_and_then, ◌+◌, ◌-◌, ◌^◌, ◌%◌, ◌==◌, nat_le, Bool, true, false, ◌&&◌, if◌then◌else◌, List, [], ◌∷◌, Option, Some, None, Ok, Err, refl, arith, All, IfOk, IfSome, ok_or, unwrap_or, length, nat_lt}
+use Rattle.std.proofs.Common.{◌≡◌, ◌≤◌, ℕ, ℤ, pos, negsuc, option_and_then, ◌+◌, ◌-◌, ◌^◌, ◌%◌, ◌==◌, nat_le, Bool, true, false, ◌&&◌}
+use Rattle.std.proofs.Common.{if◌then◌else◌, List, [], ◌∷◌, Option, Some, None, Ok, Err, refl, arith, All, IfOk, IfSome, ok_or, unwrap_or, length}
+use Rattle.std.proofs.Common.{nat_lt}
 use Rattle.std.proofs.lemmas.Bool.Decides.{nat_tests}
 use Rattle.std.proofs.lemmas.List.Elements.{All-from_recursion, All-nil}
 use Rattle.std.proofs.lemmas.List.Sums.{list_all-from_AllPass}
@@ -11,7 +13,7 @@ use Rattle.gate_base.specs.declared.rule.OidRule.{OidRule}
 use Rattle.settings_file.specs.declared.key.Key.{Key}
 use Rattle.settings_file.specs.declared.fault.SettingsFault.{SettingsFault}
 use Rattle.settings_file.specs.Firsts.{◌>>=◌, Found}
-use Rattle.gate_settings.specs.Prelude.{HasMacAddresses, HasUnicastPool, HasForms}
+use Rattle.gate_settings.specs.Prelude.{HasMacAddresses, HaveMacAddresses, HasUnicastPool, HasForms}
 use Rattle.gate_settings.specs.Forms.{IsBlock, IsUnicast, IsUnicastPair}
 use Rattle.gate_settings.specs.declared.settings.ReportForm.TheVariants.{Text}
 use Rattle.settings_file.specs.Texts.{address_text, block_text, hex_pair, has_colons, six_pairs, mac_text}
@@ -21,7 +23,8 @@ use Rattle.settings_file.specs.Keys.{name_of}
 use Rattle.settings_file.specs.declared.fault.SettingsFault.TheVariants.{TooLong, NotToml, Kind}
 use Rattle.settings_file.specs.declared.given.Given.{Given}
 use Rattle.settings_file.specs.declared.given.GivenSide.{GivenSide}
-use Rattle.settings_file.specs.declared.key.Key.TheVariants.{Table, Same, Statics, StaticSide, StaticHost, StaticAlias, PoolFirst, PoolLast, Link, GatewayMac, NextMac, Oids, OidPrefix, OidSkip, Report, Fragments}
+use Rattle.settings_file.specs.declared.key.Key.TheVariants.{Table, Same, Statics, StaticSide, StaticHost, StaticAlias, PoolFirst, PoolLast}
+use Rattle.settings_file.specs.declared.key.Key.TheVariants.{Link, GatewayMac, NextMac, Oids, OidPrefix, OidSkip, Report, Fragments}
 use Rattle.gate_base.specs.declared.side.Side.{Side}
 use Rattle.gate_base.specs.declared.side.Side.TheVariants.{Left, Right}
 
@@ -225,8 +228,8 @@ oids : (key : Key) (value : Data) → IfOk (document.oids key value) (All IsRule
 unfolding document.oids
 oids = array_of IsRule document.is_table document.oid_entry oid_entry
 
-abbrev HasGivenForms : Given → Type 0
-HasGivenForms given = HasForms given.settings
+abbrev pub HasGivenForms : Given → Type 0
+HasGivenForms given = HasForms given.settings × HaveMacAddresses given.settings
 
 all_keys : (members : Members) → IfOk (document.all_keys members) HasGivenForms
 unfolding document.all_keys
@@ -240,14 +243,16 @@ all_keys members =
     given (All IsUnicastPair) HasGivenForms (document.optional document.statics [] Statics members) _
     (optional (All IsUnicastPair) document.statics [] (All-nil IsUnicastPair) statics Statics members) (λ statics are_pairs.
     given (All IsRule) HasGivenForms (document.optional document.oids [] Oids members) _
-    (optional (All IsRule) document.oids [] (All-nil IsRule) oids Oids members) (λ oids are_rules. record {
-      blocks = are_blocks;
-      left = has_left.0;
-      right = has_right.0;
-      macs = elim [ Left ↦ has_left.1 | Right ↦ has_right.1 ];
-      statics = are_pairs;
-      oids = list_all-from_AllPass is_rule oids are_rules;
-    })))))))
+    (optional (All IsRule) document.oids [] (All-nil IsRule) oids Oids members) (λ oids are_rules. (
+      record {
+        blocks = are_blocks;
+        left = has_left.0;
+        right = has_right.0;
+        statics = are_pairs;
+        oids = list_all-from_AllPass is_rule oids are_rules;
+      },
+      elim [ Left ↦ has_left.1 | Right ↦ has_right.1 ],
+    ))))))))
 
 keys_formed : (octets : List ℕ) → IfOk (document.keys_of octets) HasGivenForms
 unfolding document.keys_of
@@ -258,5 +263,5 @@ keys_formed octets = chosen (nat_lt 1048576 (length octets))
     chosen true = tt
     chosen false = after HasGivenForms (ok_or (document.document_of octets) NotToml) document.all_keys all_keys
 
-pub formed : (octets : List ℕ) (given : Given) → document.keys_of octets ≡ Ok given → HasForms given.settings
+pub formed : (octets : List ℕ) (given : Given) → document.keys_of octets ≡ Ok given → HasGivenForms given
 formed octets given is = rw is at (keys_formed octets)

@@ -53,7 +53,7 @@ link = spelled link_text Kind
 unfoldable pub side : Key → Data → Found Side
 side = spelled side_text Kind
 
--- the six octets of an Ethernet address
+-- the six octets of a MAC address
 unfoldable pub mac : Key → Data → Found (List ℕ)
 mac = spelled mac_text Kind
 
@@ -147,7 +147,7 @@ abbrev pub is_ethernet : LinkKind → Bool
 is_ethernet Ethernet = true
 is_ethernet Raw = false
 
--- what stands for an Ethernet address that isn't given
+-- what stands for a MAC address that isn't given
 abbrev pub zeros : List ℕ
 zeros = 0 ∷ 0 ∷ 0 ∷ 0 ∷ 0 ∷ 0 ∷ []
 

@@ -72,6 +72,6 @@ six_pairs text = do
   f ← hex_pair text 15
   Some (a ∷ b ∷ c ∷ d ∷ e ∷ f ∷ [])
 
--- an Ethernet address: six pairs of hexadecimal digits, joined by colons
+-- a MAC address: six pairs of hexadecimal digits, joined by colons
 unfoldable pub mac_text : List ℕ → Option (List ℕ)
 mac_text text = if length text == 17 && has_colons text then six_pairs text else None

@@ -6,7 +6,7 @@ ghost use Rattle.settings_file.specs.Inside.Numbers as keys;
 
 use crate::fault::SettingsFault;
 use crate::given::Given;
-use gate_base::{Addr, OutOfMemory, Side};
+use gate_base::{Addr, LARGEST_POOL, OutOfMemory, Side};
 use gate_settings::{Block, Fixed, SameRanges, Settings, SideSettings};
 use std::alloc::Global;
 use std::collections::BTreeSet;
@@ -14,7 +14,7 @@ use std::collections::BTreeSet;
 fn is_bad_pool(pool: &SideSettings) -> bool
     ensures { result ≡ cross.is_bad_pool pool.now }
 {
-    pool.last.0 < pool.first.0 || pool.last.0 - pool.first.0 > 65_535
+    pool.last.0 < pool.first.0 || pool.last.0 - pool.first.0 >= LARGEST_POOL
 }
 
 fn meets_pool(pool: &SideSettings, block: &Block) -> bool

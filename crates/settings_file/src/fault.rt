@@ -28,7 +28,7 @@ pub enum SettingsFault {
     Kind(Key),
     /// A text is no IPv4 address of a host, or no block of addresses.
     BadAddress(Key),
-    /// The pool's last address is below its first, or the pool has more than 65,536 addresses.
+    /// The pool's last address is below its first, or the pool has more than `LARGEST_POOL` addresses.
     PoolSize(Side),
     /// A block of `same` shares an address with the realm's pool.
     SameInPool(Side),

@@ -111,7 +111,7 @@ fn read_hex_pair(text: &[u8], place: usize) -> Option<u8>
     Some(16 * high + low)
 }
 
-/// An Ethernet address: six pairs of hexadecimal digits, joined by colons.
+/// A MAC address: six pairs of hexadecimal digits, joined by colons.
 #[tactic(auto, unfolding(crate::specs::Texts::mac_text))]
 pub fn read_mac(text: &[u8]) -> Option<[u8; 6]>
     ensures { result ≡ mac_text text.now }

@@ -120,7 +120,7 @@ pub fn side(key: Key, value: &Value) -> Result<Side, SettingsFault>
     }
 }
 
-/// The six octets of an Ethernet address.
+/// The six octets of a MAC address.
 #[tactic(auto, unfolding(crate::specs::Document::mac))]
 pub fn mac(key: Key, value: &Value) -> Result<[u8; 6], SettingsFault>
     ensures { result ≡ document.mac key (view value.now) }

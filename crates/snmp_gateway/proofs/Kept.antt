@@ -16,7 +16,8 @@ use Rattle.snmp_gateway.specs.Parts.{has_right_size, piece_of, first_of, field, 
 use Rattle.snmp_gateway.specs.declared.part.TheConstants.{INTEGER, IP_ADDRESS, OBJECT_IDENTIFIER, SEQUENCE, TIME_TICKS}
 use Rattle.snmp_gateway.specs.Message.{is_value_tag, address_in, binding, bindings_within, request, trap}
 use Rattle.snmp_gateway.specs.Renaming.{renamed_at}
-use Rattle.snmp_gateway.proofs.Reading.{bound, tested, Read, first_read, within_size, address_size, first_cut, field_cut, behind_follows, only_first, binding_leaves}
+use Rattle.snmp_gateway.proofs.Reading.{bound, tested, Read, first_read, within_size, address_size}
+use Rattle.snmp_gateway.proofs.Reading.{first_cut, field_cut, behind_follows, only_first, binding_leaves}
 
 -- at most the four octets at a place are others
 pub record Differs (place : ℕ) (old new : List ℕ) : Type 0 where
@@ -153,8 +154,8 @@ earlier : (place start content later from : ℕ) → content ≤ later → start
 earlier place start content later from a b (inl before) = inl (omega arith)
 earlier place start content later from a b (inr behind) = inr (omega arith)
 
-pub behind_same : (place : ℕ) (old new : List ℕ) → Differs place old new → (tags : List ℕ) (part rest : Part) → behind_fields old tags part ≡ Some rest
-    → (rest.start ≤ place) ⊎ (place + 4 ≤ part.start) → behind_fields new tags part ≡ Some rest
+pub behind_same : (place : ℕ) (old new : List ℕ) → Differs place old new → (tags : List ℕ) (part rest : Part)
+    → behind_fields old tags part ≡ Some rest → (rest.start ≤ place) ⊎ (place + 4 ≤ part.start) → behind_fields new tags part ≡ Some rest
 unfolding behind_fields
 behind_same place old new differs [] part rest e clear = e
 behind_same place old new differs (tag ∷ tags) part rest e clear =
@@ -373,8 +374,8 @@ request_same place old new differs part found e clear =
     let none : found.0 ≡ Some place → rest.value.start ≤ place = λ is. let wrong = ap (λ (f : Option ℕ × Part). f.0) same ∙ is in absurd cc in
     let behind : found.1.start ≤ place → rest.value.start ≤ place = λ h. omega (arith, h, ap (λ (f : Option ℕ × Part). f.1.start) same) in
     let here : rest.value.start ≤ place = elim clear [ inl is ↦ none is | inr h ↦ behind h ] in
-    ap (λ o. o >>= λ rest. Some (None, rest)) (behind_same place old new differs (INTEGER ∷ INTEGER ∷ INTEGER ∷ []) part rest.value rest.is (inl here))
-    ∙ rest.then_is
+    ap (λ o. o >>= λ rest. Some (None, rest)) (behind_same place old new differs (INTEGER ∷ INTEGER ∷ INTEGER ∷ []) part rest.value rest.is
+    (inl here)) ∙ rest.then_is
 
 -- how a trap was read
 record ReadsTrap (octets : List ℕ) (part : Part) (found : Option ℕ × Part) : Type 0 where
@@ -403,8 +404,8 @@ trap_read octets part found e =
 
 trap_made : (octets : List ℕ) (part : Part) (found : Option ℕ × Part) → ReadsTrap octets part found → trap octets part ≡ Some found
 trap_made octets part found read =
-    ap (λ o. o >>= λ rest. field octets IP_ADDRESS rest >>= λ agent. behind_fields octets (INTEGER ∷ INTEGER ∷ TIME_TICKS ∷ []) agent.rest >>= λ rest. Some
-    (Some agent.content.start, rest)) read.before_is
+    ap (λ o. o >>= λ rest. field octets IP_ADDRESS rest >>= λ agent. behind_fields octets (INTEGER ∷ INTEGER ∷ TIME_TICKS ∷ []) agent.rest
+    >>= λ rest. Some (Some agent.content.start, rest)) read.before_is
     ∙ ap (λ o. o >>= λ agent. behind_fields octets (INTEGER ∷ INTEGER ∷ TIME_TICKS ∷ []) agent.rest >>= λ rest. Some (Some agent.content.start, rest))
     read.agent_is
     ∙ ap (λ o. o >>= λ rest. Some (Some read.agent.content.start, rest)) read.rest_is

@@ -1,5 +1,7 @@
 -- One element or one binding, and those that follow it.
-use Rattle.std.proofs.Common.{◌≡◌, ℕ, zero, suc, ◌+◌, ◌-◌, ◌<◌, ◌≤◌, ◌==◌, Bool, true, false, List, [], ◌∷◌, ◌++◌, get_or, take, drop, length, Option, Some, None, option_map, option_to_list, refl, ap, ◌∙◌, sym, arith, length-drop, drop-cons, add-one, if◌then◌else◌, eqb-true}
+use Rattle.std.proofs.Common.{◌≡◌, ℕ, zero, suc, ◌+◌, ◌-◌, ◌<◌, ◌≤◌, ◌==◌, Bool, true, false, List, [], ◌∷◌, ◌++◌}
+use Rattle.std.proofs.Common.{get_or, take, drop, length, Option, Some, None, option_map, option_to_list, refl}
+use Rattle.std.proofs.Common.{ap, ◌∙◌, sym, arith, length-drop, drop-cons, add-one, if◌then◌else◌, eqb-true}
 use Rattle.std.proofs.lemmas.Bool.Decides.{nat_tests}
 use Rattle.std.proofs.lemmas.Option.{same_Some}
 use Rattle.std.proofs.lemmas.List.{length-take-le, drop_all}
@@ -104,7 +106,8 @@ unfolding behind_fields
 behind_more octets tags part i below = rw (add-one, drop-cons tags i 0)
 
 pub behind_next : (octets tags : List ℕ) (part : Part) (i : ℕ) (o : Option Piece) (piece : Piece) → i < length tags
-    → o ≡ field octets (get_or tags i 0) part → o ≡ Some piece → behind_fields octets (drop i tags) part ≡ behind_fields octets (drop (i + 1) tags) piece.rest
+    → o ≡ field octets (get_or tags i 0) part → o ≡ Some piece
+    → behind_fields octets (drop i tags) part ≡ behind_fields octets (drop (i + 1) tags) piece.rest
 behind_next octets tags part i o piece below is found =
     behind_more octets tags part i below ∙ ap (λ o. o >>= λ piece. behind_fields octets (drop (i + 1) tags) piece.rest) (sym is ∙ found)
 

@@ -1,5 +1,6 @@
 -- The whole message, and its addresses one after another.
-use Rattle.std.proofs.Common.{◌≡◌, ℕ, zero, suc, ◌+◌, ◌-◌, ◌≤◌, ◌==◌, ◌⊎◌, Bool, true, false, List, [], ◌∷◌, ◌++◌, slice_index, length, Option, Some, None, option_map, option_to_list, unwrap_or, IsSome, inl, inr, refl, ap, subst, ◌∙◌, sym, arith, if◌then◌else◌}
+use Rattle.std.proofs.Common.{◌≡◌, ℕ, zero, suc, ◌+◌, ◌-◌, ◌≤◌, ◌==◌, ◌⊎◌, Bool, true, false, List, [], ◌∷◌, ◌++◌, slice_index, length, Option}
+use Rattle.std.proofs.Common.{Some, None, option_map, option_to_list, unwrap_or, IsSome, inl, inr, refl, ap, subst, ◌∙◌, sym, arith, if◌then◌else◌}
 use Rattle.std.proofs.lemmas.Bool.{cases_Bool, eqb-true}
 use Rattle.std.proofs.lemmas.Option.{same_Some}
 use Rattle.gate_base.specs.Prelude.{◌>>=◌}
@@ -10,11 +11,14 @@ use Rattle.snmp_gateway.specs.declared.message.SnmpKind.{SnmpKind}
 use Rattle.snmp_gateway.specs.declared.message.SnmpKind.TheVariants.{V1, V2, V3}
 use Rattle.snmp_gateway.specs.Parts.{field, behind_fields, only, in_sequence}
 use Rattle.snmp_gateway.specs.declared.part.TheConstants.{INTEGER, OCTET_STRING}
-use Rattle.snmp_gateway.specs.Message.{bindings_within, bindings, request, trap, is_pdu_tag, pdu, with_community, by_version, outline_of, places_ahead, message, kind_of, places_of, AreApart}
-use Rattle.snmp_gateway.specs.declared.outline.TheConstants.{TRAP_TAG}
+use Rattle.snmp_gateway.specs.Message.{bindings_within, bindings, request, trap, is_pdu_tag, pdu, with_community}
+use Rattle.snmp_gateway.specs.Message.{by_version, outline_of, places_ahead, message, kind_of, places_of, AreApart}
+use Rattle.snmp_gateway.specs.declared.outline.TheConstants.{TRAP}
 use Rattle.snmp_gateway.specs.Renaming.{renamed_at, renamed}
 use Rattle.snmp_gateway.proofs.Reading.{bound, first_cut, field_cut, behind_follows, only_first, binding_leaves}
-use Rattle.snmp_gateway.proofs.Kept.{Differs, renamed_differs, IsAmong, among_either, none_among, Ends, Goes, bindings_read, place_follows, bindings_same, Opens, request_opens, request_same, trap_opens, trap_same, sequence_fills, sequence_same, field_same, behind_same, only_same}
+use Rattle.snmp_gateway.proofs.Kept.{Differs, renamed_differs, IsAmong, among_either, none_among, Ends, Goes, bindings_read}
+use Rattle.snmp_gateway.proofs.Kept.{place_follows, bindings_same, Opens, request_opens, request_same, trap_opens}
+use Rattle.snmp_gateway.proofs.Kept.{trap_same, sequence_fills, sequence_same, field_same, behind_same, only_same}
 
 pub tested_first : {A : Type 0} (test : Bool) (o : Option A) (x : A) → (if test then o else None) ≡ Some x → (test ≡ true) × (o ≡ Some x)
 tested_first true o x e = (refl, e)
@@ -30,15 +34,15 @@ pdu_opens : (octets : List ℕ) (kind : SnmpKind) (piece : Piece) (found : Optio
     → Opens piece.content found.0 found.1
 pdu_opens octets kind piece found e =
     let right = tested_first (is_pdu_tag kind piece.tag) _ found e in
-    one_of (piece.tag == TRAP_TAG) (trap octets piece.content) (request octets piece.content) (Some found) right.1
+    one_of (piece.tag == TRAP) (trap octets piece.content) (request octets piece.content) (Some found) right.1
     (trap_opens octets piece.content found) (request_opens octets piece.content found)
 
 pdu_same : (place : ℕ) (old new : List ℕ) → Differs place old new → (kind : SnmpKind) (piece : Piece) (found : Option ℕ × Part)
     → pdu old kind piece ≡ Some found → (found.0 ≡ Some place) ⊎ (found.1.start ≤ place) → pdu new kind piece ≡ Some found
 pdu_same place old new differs kind piece found e clear =
     let right = tested_first (is_pdu_tag kind piece.tag) _ found e in
-    ap (λ b. if b then (if piece.tag == TRAP_TAG then trap new piece.content else request new piece.content) else None) right.0
-    ∙ by_tag (piece.tag == TRAP_TAG) right.1
+    ap (λ b. if b then (if piece.tag == TRAP then trap new piece.content else request new piece.content) else None) right.0
+    ∙ by_tag (piece.tag == TRAP) right.1
   where
     by_tag : (test : Bool) → (if test then trap old piece.content else request old piece.content) ≡ Some found
         → (if test then trap new piece.content else request new piece.content) ≡ Some found

@@ -1,15 +1,17 @@
 -- SNMP messages of the versions 1 (RFC 1157, 4), 2c (RFC 1901; RFC 3416, 3) and 3 (RFC 3412), and the places of the IP addresses in them.
-use Rattle.std.specs.Prelude.{ℕ, zero, suc, ◌+◌, ◌-◌, ◌≤◌, Bool, false, ◌&&◌, ◌||◌, ◌==◌, nat_le, if◌then◌else◌, List, [], ◌∷◌, ◌++◌, length, slice_index, option_to_list, Option, Some, None, option_map, unwrap_or}
+use Rattle.std.specs.Prelude.{ℕ, zero, suc, ◌+◌, ◌-◌, ◌≤◌, Bool, false, ◌&&◌, ◌||◌, ◌==◌, nat_le, if◌then◌else◌, List, []}
+use Rattle.std.specs.Prelude.{◌∷◌, ◌++◌, length, slice_index, option_to_list, Option, Some, None, option_map, unwrap_or}
 use Rattle.std.specs.List.{list_any}
 use Rattle.gate_base.specs.Prelude.{◌>>=◌}
 use Rattle.snmp_gateway.specs.declared.message.SnmpKind.{SnmpKind}
 use Rattle.snmp_gateway.specs.declared.message.SnmpKind.TheVariants.{V1, V2, V3}
-use Rattle.snmp_gateway.specs.declared.outline.TheConstants.{TRAP_TAG}
+use Rattle.snmp_gateway.specs.declared.outline.TheConstants.{GET_BULK_REQUEST, GET_REQUEST, REPORT, SET_REQUEST, TRAP}
 use Rattle.snmp_gateway.specs.declared.outline.Outline.{Outline}
 use Rattle.snmp_gateway.specs.declared.part.Part.{Part}
 use Rattle.snmp_gateway.specs.declared.part.Piece.{Piece}
 use Rattle.snmp_gateway.specs.Parts.{is_exception, field, behind_fields, only, in_sequence}
-use Rattle.snmp_gateway.specs.declared.part.TheConstants.{COUNTER, COUNTER_64, GAUGE, INTEGER, IP_ADDRESS, NULL, OBJECT_IDENTIFIER, OCTET_STRING, OPAQUE, SEQUENCE, TIME_TICKS}
+use Rattle.snmp_gateway.specs.declared.part.TheConstants.{COUNTER, COUNTER_64, GAUGE, INTEGER, IP_ADDRESS, NULL}
+use Rattle.snmp_gateway.specs.declared.part.TheConstants.{OBJECT_IDENTIFIER, OCTET_STRING, OPAQUE, SEQUENCE, TIME_TICKS}
 
 -- the tags that a value can have in each version with a community (RFC 1157, 5; RFC 1155, 6)
 abbrev pub common_value_tags : List ℕ
@@ -66,14 +68,14 @@ trap octets part = do
 -- whether a PDU can have this tag: in version 1 it is a GetRequest, GetNextRequest, GetResponse, SetRequest or Trap (RFC 1157, 4.1), in version 2c
 -- one of the first four, or a GetBulkRequest, InformRequest, Trap of version 2 or Report (RFC 3416, 3)
 abbrev pub is_pdu_tag : SnmpKind → ℕ → Bool
-is_pdu_tag V1 tag = nat_le 0xA0 tag && nat_le tag 0xA4
-is_pdu_tag V2 tag = (nat_le 0xA0 tag && nat_le tag 0xA3) || (nat_le 0xA5 tag && nat_le tag 0xA8)
+is_pdu_tag V1 tag = nat_le GET_REQUEST tag && nat_le tag TRAP
+is_pdu_tag V2 tag = (nat_le GET_REQUEST tag && nat_le tag SET_REQUEST) || (nat_le GET_BULK_REQUEST tag && nat_le tag REPORT)
 is_pdu_tag V3 tag = false
 
 -- the place of a PDU's agent address, if it has one, and what follows its fields: the bindings
 abbrev pub pdu : List ℕ → SnmpKind → Piece → Option (Option ℕ × Part)
 pdu octets kind piece =
-    if is_pdu_tag kind piece.tag then (if piece.tag == TRAP_TAG then trap octets piece.content else request octets piece.content) else None
+    if is_pdu_tag kind piece.tag then (if piece.tag == TRAP then trap octets piece.content else request octets piece.content) else None
 
 -- version 1 or 2c behind its version field: the community and a PDU (RFC 1157, 4; RFC 1901)
 abbrev pub with_community : List ℕ → SnmpKind → Part → Option Outline

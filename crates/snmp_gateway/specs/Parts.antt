@@ -1,8 +1,10 @@
 -- Elements in a message, by their places.
-use Rattle.std.specs.Prelude.{ℕ, ◌-◌, Bool, true, ◌&&◌, ◌||◌, ◌==◌, nat_lt, nat_le, if◌then◌else◌, List, [], ◌∷◌, take, drop, length, Option, Some, None}
+use Rattle.std.specs.Prelude.{ℕ, ◌-◌, Bool, true, ◌&&◌, ◌||◌, ◌==◌, nat_lt, nat_le, if◌then◌else◌}
+use Rattle.std.specs.Prelude.{List, [], ◌∷◌, take, drop, length, Option, Some, None}
 use Rattle.gate_base.specs.Prelude.{◌>>=◌}
 use Rattle.snmp_gateway.specs.Element.{Element, element_at}
-use Rattle.snmp_gateway.specs.declared.part.TheConstants.{END_OF_MIB_VIEW, INTEGER, IP_ADDRESS, NO_SUCH_INSTANCE, NO_SUCH_OBJECT, NULL, OBJECT_IDENTIFIER, SEQUENCE}
+use Rattle.snmp_gateway.specs.declared.part.TheConstants.{END_OF_MIB_VIEW, INTEGER, IP_ADDRESS, NO_SUCH_INSTANCE}
+use Rattle.snmp_gateway.specs.declared.part.TheConstants.{NO_SUCH_OBJECT, NULL, OBJECT_IDENTIFIER, SEQUENCE}
 use Rattle.snmp_gateway.specs.declared.part.Part.{Part}
 use Rattle.snmp_gateway.specs.declared.part.Piece.{Piece}
 

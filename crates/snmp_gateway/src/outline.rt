@@ -10,8 +10,20 @@ use crate::part::{
     Part, Piece, SEQUENCE, TIME_TICKS, behind_fields, field, in_sequence, is_exception, only,
 };
 
+/// The tag of a GetRequest, the first of the PDUs (RFC 1157, 4.1.2).
+pub const GET_REQUEST: u8 = 0xa0;
+
+/// The tag of a SetRequest (RFC 1157, 4.1.5).
+pub const SET_REQUEST: u8 = 0xa3;
+
+/// The tag of a GetBulkRequest, the first of those that came with version 2 (RFC 3416, 3).
+pub const GET_BULK_REQUEST: u8 = 0xa5;
+
+/// The tag of a Report, the last of them (RFC 3416, 3).
+pub const REPORT: u8 = 0xa8;
+
 /// The tag of the Trap of version 1 (RFC 1157, 4.1.6).
-pub const TRAP_TAG: u8 = 0xa4;
+pub const TRAP: u8 = 0xa4;
 
 /// The kind of a message, and the addresses that a walk over it has ahead: a trap's agent address, and those in bindings.
 #[derive(Clone, Copy)]
@@ -112,8 +124,8 @@ fn is_pdu_tag(kind: SnmpKind, tag: u8) -> bool
     ensures { result ≡ is_pdu_tag kind tag }
 {
     match kind {
-        SnmpKind::V1 => matches!(tag, 0xa0..=0xa4),
-        SnmpKind::V2 => matches!(tag, 0xa0..=0xa3 | 0xa5..=0xa8),
+        SnmpKind::V1 => matches!(tag, GET_REQUEST..=TRAP),
+        SnmpKind::V2 => matches!(tag, GET_REQUEST..=SET_REQUEST | GET_BULK_REQUEST..=REPORT),
         SnmpKind::V3 => false,
     }
 }
@@ -124,7 +136,7 @@ fn pdu(octets: &[u8], kind: SnmpKind, piece: Piece) -> Option<(Option<usize>, Pa
 {
     if !is_pdu_tag(kind, piece.tag) {
         None
-    } else if piece.tag == TRAP_TAG {
+    } else if piece.tag == TRAP {
         trap(octets, piece.content)
     } else {
         request(octets, piece.content)

@@ -10,9 +10,12 @@ use Rattle.gate_base.specs.Prelude.{◌>>=◌}
 use Rattle.snmp_gateway.specs.declared.message.SnmpKind.{SnmpKind}
 use Rattle.snmp_gateway.specs.declared.message.SnmpKind.TheVariants.{V1, V2, V3}
 use Rattle.snmp_gateway.specs.Parts.{first_of, field, behind_fields, only, in_sequence}
-use Rattle.snmp_gateway.specs.declared.part.TheConstants.{COUNTER_64, INTEGER, IP_ADDRESS, NO_SUCH_INSTANCE, NO_SUCH_OBJECT, OBJECT_IDENTIFIER, OCTET_STRING, SEQUENCE, TIME_TICKS}
-use Rattle.snmp_gateway.specs.Message.{common_value_tags, is_common_value_tag, is_value_tag, address_in, binding, bindings_within, bindings, request, trap, is_pdu_tag, pdu, with_community, by_version, outline_of, places_ahead, message, kind_of, places_of}
-use Rattle.snmp_gateway.specs.declared.outline.TheConstants.{TRAP_TAG}
+use Rattle.snmp_gateway.specs.declared.part.TheConstants.{COUNTER_64, INTEGER, IP_ADDRESS, NO_SUCH_INSTANCE, NO_SUCH_OBJECT}
+use Rattle.snmp_gateway.specs.declared.part.TheConstants.{OBJECT_IDENTIFIER, OCTET_STRING, SEQUENCE, TIME_TICKS}
+use Rattle.snmp_gateway.specs.Message.{common_value_tags, is_common_value_tag, is_value_tag, address_in, binding}
+use Rattle.snmp_gateway.specs.Message.{bindings_within, bindings, request, trap, is_pdu_tag, pdu, with_community}
+use Rattle.snmp_gateway.specs.Message.{by_version, outline_of, places_ahead, message, kind_of, places_of}
+use Rattle.snmp_gateway.specs.declared.outline.TheConstants.{TRAP}
 use Rattle.snmp_gateway.specs.Renaming.{renamed}
 use Rattle.snmp_gateway.proofs.Reading.{bound, tested, only_first}
 use Rattle.snmp_gateway.proofs.Walk.{none_renamed}
@@ -37,27 +40,27 @@ field_is octets tag part piece e =
     record { first = first.is ∙ ap Some right.same; tag_is = ap (λ (p : Piece). p.tag) (sym right.same) ∙ eqb-true _ _ right.holds }
 
 -- what stands behind skipped fields, and what it does to the whole part
-record Skips (octets : List ℕ) (part rest : Part) (xs : List ℕ) : Type 0 where
+record Behind (octets : List ℕ) (part rest : Part) (xs : List ℕ) : Type 0 where
   left : List ℕ
   left_at : At octets rest left
   goes : (image : ℕ → Option ℕ) (ps : List ℕ) → Claim image ps rest left → Claim image ps part xs
 
-skips : (octets tags : List ℕ) (part rest : Part) (xs : List ℕ) → list_all is_kept tags ≡ true → At octets part xs → behind_fields octets tags part ≡ Some rest
-    → Skips octets part rest xs
+behind_each : (octets tags : List ℕ) (part rest : Part) (xs : List ℕ) → list_all is_kept tags ≡ true → At octets part xs
+    → behind_fields octets tags part ≡ Some rest → Behind octets part rest xs
 unfolding behind_fields
-skips octets [] part rest xs kept at e =
+behind_each octets [] part rest xs kept at e =
     let same = same_Some _ _ e in
     record {
       left = xs;
       left_at = subst (λ (p : Part). At octets p xs) same at;
       goes = λ image ps claim. subst (λ (p : Part). Claim image ps p xs) (sym same) claim;
     }
-skips octets (tag ∷ tags) part rest xs kept at e =
+behind_each octets (tag ∷ tags) part rest xs kept at e =
     let both = and_parts (is_kept tag) (list_all is_kept tags) kept in
     let piece = bound (field octets tag part) _ rest e in
     let found = field_is octets tag part piece.value piece.is in
     let r = reads octets part xs piece.value at found.first in
-    let more = skips octets tags piece.value.rest rest r.rest both.1 r.rest_at piece.then_is in
+    let more = behind_each octets tags piece.value.rest rest r.rest both.1 r.rest_at piece.then_is in
     record {
       left = more.left;
       left_at = more.left_at;
@@ -146,7 +149,7 @@ binds octets kind part xs found at e =
     let right = tested _ _ _ value.then_is in
     let first = field_is octets SEQUENCE part pair.value pair.is in
     let r = reads octets part xs pair.value at first.first in
-    let skipped = skips octets (OBJECT_IDENTIFIER ∷ []) pair.value.content name.value r.element.content refl r.content_at name.is in
+    let skipped = behind_each octets (OBJECT_IDENTIFIER ∷ []) pair.value.content name.value r.element.content refl r.content_at name.is in
     let a = alone octets name.value skipped.left value.value skipped.left_at value.is in
     let rest = ap (λ (f : Option ℕ × Part). f.1) right.same in
     let address = ap (λ (f : Option ℕ × Part). f.0) right.same in
@@ -195,7 +198,7 @@ request_binds : (octets : List ℕ) (part : Part) (xs : List ℕ) (found : Optio
     → Binds octets part found.0 found.1 xs
 request_binds octets part xs found at e =
     let rest = bound (behind_fields octets (INTEGER ∷ INTEGER ∷ INTEGER ∷ []) part) _ found e in
-    let skipped = skips octets (INTEGER ∷ INTEGER ∷ INTEGER ∷ []) part rest.value xs refl at rest.is in
+    let skipped = behind_each octets (INTEGER ∷ INTEGER ∷ INTEGER ∷ []) part rest.value xs refl at rest.is in
     let same = same_Some _ _ rest.then_is in
     subst (λ (f : Option ℕ × Part). Binds octets part f.0 f.1 xs) same
     (record { left = skipped.left; left_at = skipped.left_at; goes = skipped.goes })
@@ -206,10 +209,10 @@ trap_binds octets part xs found at e =
     let enterprise = bound (behind_fields octets (OBJECT_IDENTIFIER ∷ []) part) _ found e in
     let agent = bound (field octets IP_ADDRESS enterprise.value) _ found enterprise.then_is in
     let rest = bound (behind_fields octets (INTEGER ∷ INTEGER ∷ TIME_TICKS ∷ []) agent.value.rest) _ found agent.then_is in
-    let first = skips octets (OBJECT_IDENTIFIER ∷ []) part enterprise.value xs refl at enterprise.is in
+    let first = behind_each octets (OBJECT_IDENTIFIER ∷ []) part enterprise.value xs refl at enterprise.is in
     let found_agent = field_is octets IP_ADDRESS enterprise.value agent.value agent.is in
     let r = reads octets enterprise.value first.left agent.value first.left_at found_agent.first in
-    let last = skips octets (INTEGER ∷ INTEGER ∷ TIME_TICKS ∷ []) agent.value.rest rest.value r.rest refl r.rest_at rest.is in
+    let last = behind_each octets (INTEGER ∷ INTEGER ∷ TIME_TICKS ∷ []) agent.value.rest rest.value r.rest refl r.rest_at rest.is in
     let same = same_Some _ _ rest.then_is in
     subst (λ (f : Option ℕ × Part). Binds octets part f.0 f.1 xs) same (record {
       left = last.left;
@@ -220,7 +223,7 @@ trap_binds octets part xs found at e =
 
 pdu_binds : (octets : List ℕ) (kind : SnmpKind) (piece : Piece) (xs : List ℕ) (found : Option ℕ × Part) → At octets piece.content xs
     → pdu octets kind piece ≡ Some found → (is_pdu_tag kind piece.tag ≡ true) × Binds octets piece.content found.0 found.1 xs
-pdu_binds octets kind piece xs found at e = by_test (is_pdu_tag kind piece.tag) (piece.tag == TRAP_TAG) refl e
+pdu_binds octets kind piece xs found at e = by_test (is_pdu_tag kind piece.tag) (piece.tag == TRAP) refl e
   where
     by_test : (a b : Bool) → is_pdu_tag kind piece.tag ≡ a
         → (if a then (if b then trap octets piece.content else request octets piece.content) else None) ≡ Some found
@@ -274,7 +277,7 @@ community_claims octets kind part xs outline places at e ahead =
     let inner = bound (in_sequence octets found.value.1) _ outline found.then_is in
     let same = same_Some _ _ inner.then_is in
     let listed = bound (bindings octets kind inner.value) _ places (ap (places_ahead octets) same ∙ ahead) in
-    let skipped = skips octets (OCTET_STRING ∷ []) part rest.value xs refl at rest.is in
+    let skipped = behind_each octets (OCTET_STRING ∷ []) part rest.value xs refl at rest.is in
     let a = alone octets rest.value skipped.left piece.value skipped.left_at piece.is in
     let fields = pdu_binds octets kind piece.value a.r.element.content found.value a.r.content_at found.is in
     let sequence_in = inside octets found.value.1 inner.value fields.1.left fields.1.left_at inner.is in (

@@ -1,5 +1,6 @@
 -- The arcs of an object identifier (X.690, 8.19), and the address that a rule finds among them (RFC 2962, 4.2).
-use Rattle.std.specs.Prelude.{ℕ, ◌+◌, ◌-◌, ◌*◌, ◌%◌, ◌==◌, nat_eq, ◌&&◌, ◌||◌, nat_lt, nat_le, if◌then◌else◌, List, [], ◌∷◌, drop, Option, Some, None, option_map, option_and_then}
+use Rattle.std.specs.Prelude.{ℕ, ◌+◌, ◌-◌, ◌*◌, ◌%◌, ◌==◌, nat_eq, ◌&&◌, ◌||◌, nat_lt, nat_le, if◌then◌else◌}
+use Rattle.std.specs.Prelude.{List, [], ◌∷◌, drop, Option, Some, None, option_map, option_and_then}
 use Rattle.std.specs.List.{starts_with}
 use Rattle.std.specs.Option.{option_or}
 use Rattle.gate_base.specs.Prelude.{◌>>=◌}
@@ -10,7 +11,9 @@ use Rattle.oid_rules.specs.Sorted.{before}
 -- a sub-identifier's number with the seven bits of one more octet behind it; so_far is 0 where a sub-identifier begins, which it doesn't with the
 -- octet 128 (X.690, 8.19.2)
 abbrev pub joined : ℕ → ℕ → Option ℕ
-joined so_far octet = let number = 128 * so_far + octet % 128 in if (so_far == 0 && octet == 128) || nat_lt GREATEST_ARC number then None else Some number
+joined so_far octet =
+    let number = 128 * so_far + octet % 128 in
+    if (so_far == 0 && octet == 128) || nat_lt GREATEST_ARC number then None else Some number
 
 -- the numbers of the sub-identifiers that fill octets; the high bit is set in each octet of one but its last (X.690, 8.19.2)
 unfoldable pub numbers_from : ℕ → List ℕ → Option (List ℕ)

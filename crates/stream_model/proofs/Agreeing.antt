@@ -1,11 +1,13 @@
 -- Who answers alike from the greatest acknowledged place on sends alike.
-use Rattle.std.proofs.Common.{◌≡◌, ◌≤◌, ◌+◌, ◌-◌, ℕ, Bool, true, false, refl, sym, ◌∙◌, ap, arith, inl, inr, nat_lt, nat_le, max, length, Option, Some, None}
+use Rattle.std.proofs.Common.{◌≡◌, ◌≤◌, ◌+◌, ◌-◌, ℕ, Bool, true, false, refl, sym, ◌∙◌, ap}
+use Rattle.std.proofs.Common.{arith, inl, inr, nat_lt, nat_le, max, length, Option, Some, None}
 use Rattle.std.proofs.lemmas.Bool.{cases_Bool, cases_lt, cond-true, cond-false, lt-ltb, le-ltb, le-leb, lt-leb}
 use Rattle.tcp_segments.specs.Prelude.{one_if}
 use Rattle.stream_model.specs.Numbers.{number_at, place_near, known}
 use Rattle.stream_model.specs.Session.{Segment, arrival, start_at, place_acknowledged}
 use Rattle.stream_model.specs.Standing.{Standing, first_recent}
-use Rattle.stream_model.specs.Sending.{sends_end, low, high, bare_offset, limit_of, acknowledgement_at, acknowledgement_to, acked_with, syn_sent, reset_sent, other_sent, sent_by, ends_by, inner_number, inner_at, inner_by}
+use Rattle.stream_model.specs.Sending.{sends_end, low, high, bare_offset, limit_of, acknowledgement_at, acknowledgement_to, acked_with}
+use Rattle.stream_model.specs.Sending.{syn_sent, reset_sent, other_sent, sent_by, ends_by, inner_number, inner_at, inner_by}
 use Rattle.stream_model.specs.Agreeing.{Agree, SendsRecent}
 use Rattle.stream_model.specs.declared.numbers.Offset.{Offset}
 use Rattle.stream_model.specs.declared.refusals.Extent.{Extent}

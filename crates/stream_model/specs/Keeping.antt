@@ -1,10 +1,11 @@
 -- Segments of hosts that keep to their own streams and to what they were sent: none of them is refused.
-use Rattle.std.specs.Prelude.{◌≡◌, ◌≤◌, ◌<◌, ◌+◌, ◌-◌, ◌^◌, ◌⊎◌, true, false, length, is_some}
+use Rattle.std.specs.Prelude.{◌≡◌, ◌≤◌, ◌<◌, ◌+◌, ◌-◌, ◌⊎◌, true, false, length, is_some}
 use Rattle.dialogue.specs.declared.TheConstants.{MOST_RECENT}
 use Rattle.tcp_segments.specs.Prelude.{one_if}
 use Rattle.stream_model.specs.Session.{Sender, Segment, extent, arrival, start_of, repeats_unlike}
 use Rattle.stream_model.specs.Refusals.{is_data, past_end, ack_ahead}
 use Rattle.stream_model.specs.Progress.{acknowledged_of, BeginsBy}
+use Rattle.stream_model.specs.declared.refusals.TheConstants.{STREAM_LIMIT}
 
 -- a segment g of a, to b:
 pub record KeepsTo (a b : Sender) (g : Segment) : Type 0 where
@@ -23,5 +24,5 @@ pub record KeepsTo (a b : Sender) (g : Segment) : Type 0 where
   pub ends : past_end (extent a) (arrival g) ≡ false
   -- it acknowledges no more than was sent,
   pub acknowledges : ack_ahead (extent b) (arrival g) ≡ false
-  -- and its sender has sent fewer than 2 ^ 30 octets with it
-  pub short : length a.octets + (length g.octets - (start_of a g).before) < 2 ^ 30
+  -- and its sender has sent fewer than STREAM_LIMIT octets with it
+  pub short : length a.octets + (length g.octets - (start_of a g).before) < STREAM_LIMIT

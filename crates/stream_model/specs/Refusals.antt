@@ -1,5 +1,5 @@
 -- The first reason for which a segment of a session is refused (RFC 9293, 3.10.7), by what is known of its sender, its receiver and itself.
-use Rattle.std.specs.Prelude.{◌+◌, ◌-◌, ◌^◌, Bool, not, ◌&&◌, ◌||◌, cond, nat_lt, nat_le, ◌==◌, List, [], ◌∷◌, Option, is_some, is_none}
+use Rattle.std.specs.Prelude.{◌+◌, ◌-◌, Bool, not, ◌&&◌, ◌||◌, cond, nat_lt, nat_le, ◌==◌, List, [], ◌∷◌, Option, is_some, is_none}
 use Rattle.dialogue.specs.declared.TheConstants.{MOST_RECENT}
 use Rattle.gate_base.specs.Prelude.{first_that_holds}
 use Rattle.gate_base.specs.declared.refusal.Refusal.{Refusal}
@@ -12,6 +12,7 @@ use Rattle.stream_model.specs.Session.{Session, Segment, own, other, extent, arr
 use Rattle.stream_model.specs.declared.numbers.Offset.{Offset}
 use Rattle.stream_model.specs.declared.refusals.Arrival.{Arrival}
 use Rattle.stream_model.specs.declared.refusals.Extent.{Extent}
+use Rattle.stream_model.specs.declared.refusals.TheConstants.{STREAM_LIMIT}
 
 -- a segment with neither SYN nor RST
 abbrev pub is_data : Arrival → Bool
@@ -60,9 +61,9 @@ ack_ahead receiver segment =
     (not (segment.acknowledgement == number_at (known receiver.initial) 0))
     (segment.flags.ack && is_some receiver.initial && nat_lt (one_if receiver.ended) (acknowledged_at receiver segment).after)
 
--- the sender would have 2 ^ 30 octets or more
+-- the sender would have STREAM_LIMIT octets or more
 abbrev pub stream_limit : Extent → Arrival → Bool
-stream_limit sender segment = is_data segment && nat_le (2 ^ 30) (sender.octets + (segment.count - (start_at sender segment).before))
+stream_limit sender segment = is_data segment && nat_le STREAM_LIMIT (sender.octets + (segment.count - (start_at sender segment).before))
 
 -- it adds octets, and more than 65,536 of the sender's would be recent
 abbrev pub backlog : Extent → Arrival → Bool

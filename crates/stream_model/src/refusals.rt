@@ -9,6 +9,9 @@ use dialogue::MOST_RECENT;
 use gate_base::{Host, Refusal};
 use tcp_segments::Flags;
 
+/// A stream has fewer octets than these, a limit of the gateway's own: 2^30, a quarter of the sequence numbers.
+pub const STREAM_LIMIT: u64 = 1_073_741_824;
+
 /// What a refusal needs to know of a segment.
 #[derive(Clone, Copy, Debug, PartialEq, Eq)]
 pub struct Arrival {
@@ -149,7 +152,7 @@ fn stream_limit(sender: Extent, segment: Arrival) -> bool
     ensures { result ≡ stream_limit sender segment }
 {
     let taken = u64::from(segment.count).saturating_sub(start_at(sender, segment).before);
-    is_data(segment) && 1_073_741_824 <= u64::from(sender.octets) + taken
+    is_data(segment) && STREAM_LIMIT <= u64::from(sender.octets) + taken
 }
 
 fn backlog(sender: Extent, segment: Arrival) -> bool

@@ -5,6 +5,7 @@ use Rattle.std.specs.Str.{bytes_eq}
 use Rattle.dialogue.specs.Prelude.{Meaning, is_released, Span, plain_spans, changed_ends, cut, image, spans, pushes_of}
 use Rattle.audit_streams.specs.declared.transcript.Places.{Places}
 use Rattle.audit_streams.specs.declared.transcript.ChangedUnit.{ChangedUnit}
+use Rattle.stream_model.specs.declared.refusals.TheConstants.{STREAM_LIMIT}
 
 -- these lists, and where the rest after the last whole unit begins
 pub record Transcribed : Type 0 where
@@ -50,7 +51,7 @@ pub record IsTranscript (octets image : List ℕ) (units : List ChangedUnit) (re
   pub order : InOrder 0 0 units
   pub before : last_by (λ u. u.past) 0 units ≤ rest
   pub behind : last_by (λ u. u.end) 0 units + length octets ≡ length image + last_by (λ u. u.past) 0 units
-  pub few : length octets < 2 ^ 30
+  pub few : length octets < STREAM_LIMIT
   pub short : length image < 2 ^ 31
 
 -- the octets of the rest

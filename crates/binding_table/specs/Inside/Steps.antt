@@ -15,6 +15,7 @@ use Rattle.binding_table.specs.declared.binding.Crossing.TheVariants.{Same, Boun
 use Rattle.binding_table.specs.Bindings.{Bindings, cross, extend_through, in_pool, range_of, host_of, pool_with}
 use Rattle.binding_table.specs.Lawful.{IsInPlace, collides}
 use Rattle.binding_table.specs.Plan.{is_address, needs_binding}
+use Rattle.binding_table.specs.declared.seen_addresses.TheConstants.{MOST_SEEN}
 
 -- ## Bindings that come and go
 
@@ -134,7 +135,7 @@ EndsAtOnce row = row.end ≡ Some 0
 
 -- the rows have the places at which earlier addresses stand first: all of those that need a binding, as long as there is room for a row more
 pub record AreFirsts (needs : Addr → Bool) (earlier : List Addr) (seen_addresses : Table ℕ) : Type 0 where
-  pub most : seen_addresses.most ≡ 8192
+  pub most : seen_addresses.most ≡ MOST_SEEN
   pub ends : All EndsAtOnce seen_addresses.rows
   pub found : (address : Addr) → needs address ≡ true → IfSome (row_of address.0 seen_addresses.rows)
       (λ row. position (is_address address) earlier ≡ Some row.value)

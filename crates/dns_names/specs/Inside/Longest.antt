@@ -3,6 +3,7 @@ use Rattle.std.specs.Prelude.{◌≡◌, ◌⊎◌, ℕ, zero, suc, ◌<◌, ◌
 use Rattle.dns_names.specs.Inside.Octets.{behind}
 use Rattle.dns_names.specs.declared.ending.Edge.{Edge}
 use Rattle.dns_names.specs.Spelling.{Start, found, pointer}
+use Rattle.dns_names.specs.declared.TheConstants.{POINTED}
 
 -- octets without so many labels at the front
 abbrev pub skipped : ℕ → List ℕ → List ℕ
@@ -17,12 +18,12 @@ IsKept starts octets = (place : ℕ) × (found starts octets ≡ Some place)
 abbrev pub Ends : List Start → List ℕ → Type 0
 Ends starts octets = (octets ≡ []) ⊎ IsKept starts octets
 
--- Where octets are kept, those behind their first label are kept too. The edge may be an exception: it starts below 16,384, and its
--- next label at 16,384 or above, where no pointer leads.
+-- Where octets are kept, those behind their first label are kept too. The edge may be an exception: it starts below POINTED, and its
+-- next label at POINTED or above, where no pointer leads.
 pub record IsClosed (starts : List Start) (edge : List ℕ) (limit : ℕ) : Type 0 where
   pub closed : (octets : List ℕ) → IsKept starts octets → (octets ≡ edge) ⊎ Ends starts (behind octets)
   pub kept : Ends starts edge
-  pub near : limit < 16384 → edge ≡ []
+  pub near : limit < POINTED → edge ≡ []
 
 -- nothing is left, or what is left stands at this place
 abbrev pub EndsAt : List Start → List ℕ → Option ℕ → Type 0
@@ -42,7 +43,7 @@ IsEdge starts edge = (edge.octets.now ≡ []) ⊎ (found starts edge.octets.now 
 
 -- the edge after the label that begins these octets was written from a place to an end
 abbrev pub edge_by : List ℕ → List ℕ → ℕ → ℕ → List ℕ
-edge_by edge octets place end = if nat_lt place 16384 then if nat_lt end 16384 then edge else octets else edge
+edge_by edge octets place end = if nat_lt place POINTED then if nat_lt end POINTED then edge else octets else edge
 
 -- what ends a name
 abbrev pub ending : Option ℕ → List ℕ

@@ -3,6 +3,7 @@ use Rattle.std.specs.Prelude.{◌≡◌, ℕ, ◌+◌, ◌-◌, ◌<◌, ◌≤�
 use Rattle.dns_names.specs.Names.{Piece, Root, Label, Pointer, Nothing, piece_at, Stands, NameAt, IsName, spelled}
 use Rattle.dns_names.specs.declared.known.Known.{Known}
 use Rattle.dns_names.specs.declared.memo.Memo.{Memo}
+use Rattle.dns_names.specs.declared.TheConstants.{LONGEST_MESSAGE}
 
 -- the octets of the labels, among those that were kept
 abbrev pub octets_of : List ℕ → Known → List ℕ
@@ -47,7 +48,7 @@ pub record AreKnown (message kept : List ℕ) (known : List Known) : Type 0 wher
 -- what is kept of a message: places that are in it, and what is known of them
 pub record IsMemo (message : List ℕ) (memo : Memo) : Type 0 where
   pub places : length memo.known.items ≤ length message
-  pub few : length message ≤ 65535
+  pub few : length message ≤ LONGEST_MESSAGE
   pub known : AreKnown message memo.kept.items memo.known.items
 
 -- how a way goes on from a place: behind a label, or where a pointer leads

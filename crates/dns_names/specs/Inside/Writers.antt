@@ -10,6 +10,7 @@ use Rattle.dns_names.specs.Inside.Octets.{behind}
 use Rattle.dns_names.specs.Spelling.{Start, Added, found, with_start}
 use Rattle.dns_names.specs.Inside.Ends.{key, key_of}
 use Rattle.dns_names.specs.declared.suffix.Suffix.{Suffix}
+use Rattle.dns_names.specs.declared.TheConstants.{POINTED}
 
 -- a start among others that stand in the order of their places
 abbrev pub put_start : Start → List Start → List Start
@@ -31,7 +32,7 @@ GrewBy known old starts new = (more : Added) × (new ≡ old ++ more.octets) × 
 
 -- it can be pointed to, and lies below an end
 abbrev pub IsNear : ℕ → Start → Type 0
-IsNear limit s = (s.place < limit) × (s.place < 16384)
+IsNear limit s = (s.place < limit) × (s.place < POINTED)
 
 -- what stands for the place of octets in keys: of none 65,535, and of others the lowest of these starts that has them
 abbrev pub after_in : List Start → List ℕ → Option ℕ
@@ -55,24 +56,25 @@ pub record IsIndex (entries : List (Suffix × ℕ)) (limit : ℕ) : Type 0 where
 
 -- as long as an end can be pointed to, no key says that a rest stands there, or behind it
 abbrev pub IsFresh : List (Suffix × ℕ) → ℕ → Type 0
-IsFresh entries limit = limit < 16384 → (octets : List ℕ) (after : ℕ) → limit ≤ after → after < 65535 → place_in entries (key_of after octets) ≡ None
+IsFresh entries limit = limit < POINTED → (octets : List ℕ) (after : ℕ) → limit ≤ after → after < 65535
+    → place_in entries (key_of after octets) ≡ None
 
 -- what is written from an end on is to stand there: with it among the starts, the map finds what its starts find
 pub record IsPending (entries : List (Suffix × ℕ)) (rest : List ℕ) (limit : ℕ) : Type 0 where
   pub finds : FindsBy (starts_in entries ++ with_start limit rest []) entries
   pub near : AllByRecursion (IsNear limit) (starts_in entries)
   pub own : HaveOwnPlaces (starts_in entries)
-  pub fresh : limit < 16384 → (octets : List ℕ) (after : ℕ) → limit < after → after < 65535 → place_in entries (key_of after octets) ≡ None
+  pub fresh : limit < POINTED → (octets : List ℕ) (after : ℕ) → limit < after → after < 65535 → place_in entries (key_of after octets) ≡ None
 
 -- what stands for the place of the rest of a name: its end's, where that is reached, and else the next one, or 65,534
 abbrev pub key_at : Bool → ℕ → Option ℕ → ℕ
 key_at true place None = 65535
 key_at true place (Some end) = end
-key_at false place end = if nat_lt place 16384 then place else 65534
+key_at false place end = if nat_lt place POINTED then place else 65534
 
 -- a map remembers that a suffix stands at a place, where a pointer can lead there
 pub record Remembers (s : Suffix) (place : ℕ) (old new : List (Suffix × ℕ)) : Type 0 where
-  pub near : place < 16384 → place_in old (key s) ≡ None → (k : List ℕ) → place_in new k ≡ cond (bytes_eq (key s) k) (Some place) (place_in old k)
-  pub starts : place < 16384 → place_in old (key s) ≡ None → AllByRecursion (IsNear place) (starts_in old)
+  pub near : place < POINTED → place_in old (key s) ≡ None → (k : List ℕ) → place_in new k ≡ cond (bytes_eq (key s) k) (Some place) (place_in old k)
+  pub starts : place < POINTED → place_in old (key s) ≡ None → AllByRecursion (IsNear place) (starts_in old)
       → starts_in new ≡ starts_in old ++ record { place = place; octets = s.octets.now } ∷ []
-  pub far : 16384 ≤ place → new ≡ old
+  pub far : POINTED ≤ place → new ≡ old

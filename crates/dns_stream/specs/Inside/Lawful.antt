@@ -1,5 +1,5 @@
 -- Units keep the laws of a dialogue that learns. Lemmas, which stand here since an impl cites them for its laws.
-use Rattle.std.proofs.Common.{◌≡◌, ◌≤◌, ◌*◌, ℕ, Bool, true, false, List, [], ◌∷◌, ◌++◌, length, refl, sym, ◌∙◌, ap, arith, inl, inr}
+use Rattle.std.proofs.Common.{◌≡◌, ◌≤◌, ◌+◌, ◌*◌, ℕ, Bool, true, false, List, [], ◌∷◌, ◌++◌, length, refl, sym, ◌∙◌, ap, arith, inl, inr}
 use Rattle.std.specs.Prelude.{Option, Some, None, nat_lt, map, unwrap_or, option_map, is_some, if◌then◌else◌}
 use Rattle.gate_base.specs.Prelude.{◌>>=◌}
 use Rattle.std.specs.List.{find, list_any}
@@ -14,6 +14,7 @@ use Rattle.dns_gateway.specs.Addresses.{message_addresses}
 use Rattle.dns_stream.specs.Units.{message_in, addresses_of, unit_addresses}
 use Rattle.dns_stream.specs.Images.{image_in, renamed, if_small, image_with, image_by, dns_units}
 use Rattle.dns_stream.specs.Inside.Ends.{within, alone, follows, rest-short}
+use Rattle.dns_stream.specs.declared.messages.TheConstants.{LONGEST_STREAMED}
 
 -- ---- a unit that doesn't bear
 
@@ -112,5 +113,5 @@ dns_units-learning = record {
   image = λ es more u listed. unit-stays es more u (message_in u) listed;
 }
 
-pub rests-short : (entries : List Entry) → HoldsAtMost (dns_units entries) 8193
+pub rests-short : (entries : List Entry) → HoldsAtMost (dns_units entries) (LONGEST_STREAMED + 1)
 rests-short entries = λ r rest held. rest-short r rest

@@ -1,5 +1,5 @@
 -- What is taken of the given captures: a head, and the next records of the one to which an event's frames go.
-use Rattle.std.specs.Prelude.{◌≡◌, ◌≤◌, ◌<◌, ◌+◌, ◌^◌, ℕ, Bool, true, false, List, length, Result, Ok, Err, None, IfSome}
+use Rattle.std.specs.Prelude.{◌≡◌, ◌≤◌, ◌<◌, ◌+◌, ℕ, Bool, true, false, List, length, Result, Ok, Err, None, IfSome}
 use Rattle.gate_base.specs.Prelude.{other}
 use Rattle.gate_base.specs.declared.side.Link.{Link}
 use Rattle.gate_base.specs.declared.side.Side.{Side}
@@ -19,6 +19,7 @@ use Rattle.file_audit.specs.Given.{IsRunning, given_told}
 use Rattle.file_audit.specs.Inside.Given.{Alike}
 use Rattle.file_audit.specs.Inside.Records.{judged}
 use Rattle.gate_audit.specs.Auditing.{Auditing}
+use Rattle.pcap_files.specs.declared.record.TheConstants.{LONGEST_CAPTURE}
 
 -- ## A head
 
@@ -56,8 +57,8 @@ pub record TookNext (frames : ℕ) (from : Side) (r r' : GivenFiles) (a a' : Aud
   pub running : IsRunning r'
   pub left : r.left.place + frames_to_left from frames ≤ r'.left.place
   pub right : r.right.place + frames_to_right from frames ≤ r'.right.place
-  pub left_small : r.left.place ≤ 2 ^ 40 → r'.left.place ≤ 2 ^ 40
-  pub right_small : r.right.place ≤ 2 ^ 40 → r'.right.place ≤ 2 ^ 40
+  pub left_small : r.left.place ≤ LONGEST_CAPTURE → r'.left.place ≤ LONGEST_CAPTURE
+  pub right_small : r.right.place ≤ LONGEST_CAPTURE → r'.right.place ≤ LONGEST_CAPTURE
 
 -- or fewer stand next; or a read failed
 abbrev pub TakesNext : Result Bool Status → ℕ → Side → GivenFiles → GivenFiles → Auditing → Auditing → Outside → Outside → Type 0

@@ -1,9 +1,9 @@
 -- The next records of a given capture, as they are taken and judged.
-use Rattle.std.specs.Prelude.{◌≡◌, ◌-◌, ◌≤◌, ◌<◌, ◌+◌, ◌^◌, ℕ, Bool, true, false, List, [], ◌∷◌, fold, length, drop, Result, Ok, Err, None, IfSome}
+use Rattle.std.specs.Prelude.{◌≡◌, ◌-◌, ◌≤◌, ◌<◌, ◌+◌, ℕ, Bool, true, false, List, [], ◌∷◌, fold, length, drop, Result, Ok, Err, None, IfSome}
 use Rattle.gate_base.specs.Prelude.{other}
 use Rattle.gate_desk.specs.Outside.{Outside, Takes, told_at}
 use Rattle.pcap_files.specs.Prelude.{Packet, Whole, records_from, Reading}
-use Rattle.pcap_files.specs.declared.record.TheConstants.{LONGEST_RECORD}
+use Rattle.pcap_files.specs.declared.record.TheConstants.{LONGEST_CAPTURE, LONGEST_RECORD}
 use Rattle.pcap_merge.specs.Prelude.{with_records}
 use Rattle.lawful_files.specs.Prelude.{behind}
 use Rattle.gate_audit.specs.Auditing.{Auditing}
@@ -28,7 +28,7 @@ pub record Took (packets : List Packet) (r r' : Reading) (a a' : Auditing) (old 
   pub takes : Takes r.slot (r'.place - r.place) old new
   pub ahead : IfSome (told_at old.left r.slot)
       (λ octets. records_from r.form r.place octets ≡ with_records packets (records_from r.form r'.place (drop (r'.place - r.place) octets)))
-  pub small : r.place ≤ 2 ^ 40 → r'.place ≤ 2 ^ 40
+  pub small : r.place ≤ LONGEST_CAPTURE → r'.place ≤ LONGEST_CAPTURE
   pub audited : a' ≡ judged a packets
 
 -- some octets were taken from the capture, and nothing else happened

@@ -6,7 +6,7 @@ use Rattle.frag_join.specs.declared.part.Name.{Name}
 use Rattle.frag_join.specs.declared.part.Part.{Part}
 use Rattle.frag_join.specs.Coverage.{Coverage, nothing}
 use Rattle.frag_join.specs.Joining.{State, Step, by_known, with_fragment, settled}
-use Rattle.frag_join.specs.declared.joiner.TheConstants.{LIMIT}
+use Rattle.frag_join.specs.declared.joiner.TheConstants.{MOST_JOINED}
 use Rattle.frag_join.specs.declared.joiner.Joiner.TheInside.{Inside}
 
 -- the state that it stands for
@@ -32,6 +32,6 @@ put_at parts place e part = settled by_known parts (Some place) e (with_fragment
 -- there are as many buffers as datagrams may be joined, for those of which parts are there, the one that is joined, and the others; and there is
 -- room for all
 pub record IsFull (j : Inside) : Type 0 where
-  pub buffers : (length j.parts.items + length j.spare.items) + (if is_some j.joined then 1 else 0) ≡ LIMIT
-  pub parts : LIMIT ≤ vec_capacity j.parts
-  pub spare : LIMIT ≤ vec_capacity j.spare
+  pub buffers : (length j.parts.items + length j.spare.items) + (if is_some j.joined then 1 else 0) ≡ MOST_JOINED
+  pub parts : MOST_JOINED ≤ vec_capacity j.parts
+  pub spare : MOST_JOINED ≤ vec_capacity j.spare

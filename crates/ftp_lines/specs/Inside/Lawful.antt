@@ -14,6 +14,7 @@ use Rattle.ftp_lines.specs.Grammar.{line_end, agrees, held_rest, client_fronts, 
 use Rattle.ftp_lines.specs.Renaming.{client_partner, server_partner, spelled, replaced, renamed, image_of, lines, client_lines, server_lines}
 use Rattle.ftp_lines.specs.Inside.LineEnds.{within, follows, alone, ends}
 use Rattle.ftp_lines.specs.Inside.Texts.{IsInLine, Bears, client-bears, server-bears}
+use Rattle.ftp_lines.specs.declared.grammar.TheConstants.{MOST_HELD}
 
 -- what agrees with a front, has agreed with it with fewer octets
 agrees-front : (front r t : List ℕ) → agrees front (r ++ t) ≡ true → agrees front r ≡ true
@@ -43,19 +44,20 @@ any_agrees-front (front ∷ fronts) r t e =
     second {x = true} e h = cc
     second {x = false} e h = h
 
--- what is held has at most 511 octets
-pub held-short : (fronts : List (List ℕ)) (r : List ℕ) → held_rest fronts r ≡ true → length r ≤ 511
+-- what is held has at most MOST_HELD octets
+pub held-short : (fronts : List (List ℕ)) (r : List ℕ) → held_rest fronts r ≡ true → length r ≤ MOST_HELD
 held-short fronts r e =
-    let both : ((nat_lt 0 (length r) && nat_le (length r) 511) ≡ true) × (list_any (λ front. agrees front r) fronts ≡ true) = and_parts _ _ e in
-    leb-true (length r) 511 (and_parts _ _ both.0).1
+    let both : ((nat_lt 0 (length r) && nat_le (length r) MOST_HELD) ≡ true) × (list_any (λ front. agrees front r) fronts ≡ true) = and_parts _ _ e in
+    leb-true (length r) MOST_HELD (and_parts _ _ both.0).1
 
 -- what is held, has been held with fewer octets
 held-front : (fronts : List (List ℕ)) (r t : List ℕ) → 1 ≤ length r → held_rest fronts (r ++ t) ≡ true → held_rest fronts r ≡ true
 held-front fronts r t some e =
-    let both : ((nat_lt 0 (length (r ++ t)) && nat_le (length (r ++ t)) 511) ≡ true) × (list_any (λ front. agrees front (r ++ t)) fronts ≡ true) =
+    let both : ((nat_lt 0 (length (r ++ t)) && nat_le (length (r ++ t)) MOST_HELD) ≡ true)
+    × (list_any (λ front. agrees front (r ++ t)) fronts ≡ true) =
     and_parts _ _ e in
-    let long : length (r ++ t) ≤ 511 = held-short fronts (r ++ t) e in
-    and_from _ _ (and_from _ _ (lt-ltb 0 (length r) (omega arith)) (le-leb (length r) 511 (omega (arith, length-append r t))))
+    let long : length (r ++ t) ≤ MOST_HELD = held-short fronts (r ++ t) e in
+    and_from _ _ (and_from _ _ (lt-ltb 0 (length r) (omega arith)) (le-leb (length r) MOST_HELD (omega (arith, length-append r t))))
     (any_agrees-front fronts r t both.1)
 
 -- a front of a line that bears, without its LF, is held
@@ -71,7 +73,7 @@ bears-held fronts r (y ∷ t) text some rest unit bears =
     ∙ take-append-add r (y ∷ t) (length t) in
     let front : list_any (λ front. agrees front (r ++ take (length t) (y ∷ t))) fronts ≡ true =
     ap (λ u. list_any (λ front. agrees front u) fronts) (sym content) ∙ bears.front in
-    and_from _ _ (and_from _ _ (lt-ltb 0 (length r) (omega arith)) (le-leb (length r) 511 (omega (arith, bears.short))))
+    and_from _ _ (and_from _ _ (lt-ltb 0 (length r) (omega arith)) (le-leb (length r) MOST_HELD (omega (arith, bears.short))))
     (any_agrees-front fronts r (take (length t) (y ∷ t)) front)
 
 released : (fronts : List (List ℕ)) (text : List ℕ → Option AddressText)

@@ -1,5 +1,5 @@
 -- What is read of a capture's head and of a record.
-use Rattle.std.specs.Prelude.{◌≡◌, ℕ, ◌+◌, ◌*◌, ◌^◌, ◌<◌, ◌≤◌, List, Bool, Option, Some, None, Result, Ok, Err, IfSome, if◌then◌else◌, nat_lt, nat_le, take, drop, length}
+use Rattle.std.specs.Prelude.{◌≡◌, ℕ, ◌+◌, ◌*◌, ◌<◌, ◌≤◌, List, Bool, Option, Some, None, Result, Ok, Err, IfSome, if◌then◌else◌, nat_lt, nat_le, take, drop, length}
 use Rattle.gate_base.specs.Prelude.{IsMoment}
 use Rattle.gate_base.specs.declared.event.TheConstants.{SECOND}
 use Rattle.gate_desk.specs.declared.slot.Slot.{Slot}
@@ -10,7 +10,7 @@ use Rattle.pcap_files.specs.declared.fault.ReadStop.{ReadStop}
 use Rattle.pcap_files.specs.declared.fault.ReadStop.TheVariants.{Fault, Desk, OutOfMemory}
 use Rattle.pcap_files.specs.declared.form.Form.{Form}
 use Rattle.pcap_files.specs.declared.record.RecordHead.{RecordHead}
-use Rattle.pcap_files.specs.declared.record.TheConstants.{LONGEST_RECORD}
+use Rattle.pcap_files.specs.declared.record.TheConstants.{LONGEST_CAPTURE, LONGEST_RECORD}
 use Rattle.pcap_files.specs.Capture.{Head, Good, Bad, head_of, Next, next_at, Ended, Broken, Came, seconds_of, nanoseconds_of, kept_of, original_of}
 use Rattle.pcap_files.specs.Reader.{fault_size, TakesToFault, TakesToFailure}
 
@@ -29,14 +29,14 @@ unfoldable pub after_head : Form → ℕ → List ℕ → List ℕ → Next
 after_head form place head rest =
     if nat_le SECOND (nanoseconds_of form head) then Broken Stamp else
     (if nat_lt LONGEST_RECORD (kept_of form head) then Broken RecordTooLong else
-    (if nat_lt (2 ^ 40) (place + 16 + kept_of form head) then Broken CaptureTooLong else
+    (if nat_lt LONGEST_CAPTURE (place + 16 + kept_of form head) then Broken CaptureTooLong else
     body_of (seconds_of form head * SECOND + nanoseconds_of form head) (nat_le (original_of form head) (kept_of form head))
     (kept_of form head) rest))
 
 -- the record fits
 pub record Fits (place : ℕ) (h : RecordHead) : Type 0 where
   pub kept : h.kept ≤ LONGEST_RECORD
-  pub ends : place + 16 + h.kept ≤ 2 ^ 40
+  pub ends : place + 16 + h.kept ≤ LONGEST_CAPTURE
   pub early : IsMoment h.stamp
 
 -- the head's fault, or what it says

@@ -1,5 +1,5 @@
 -- What only proofs and private contracts need beside `Sides`.
-use Rattle.std.specs.Prelude.{◌≡◌, ◌⊎◌, ℕ, ◌+◌, ◌^◌, ◌<◌, ◌≤◌, List, [], Bool, true, false, Option, Some, None, Result, Ok, Err, IfSome, IsSome, drop}
+use Rattle.std.specs.Prelude.{◌≡◌, ◌⊎◌, ℕ, ◌+◌, ◌<◌, ◌≤◌, List, [], Bool, true, false, Option, Some, None, Result, Ok, Err, IfSome, IsSome, drop}
 use Rattle.gate_base.specs.declared.side.Side.{Side}
 use Rattle.gate_base.specs.declared.side.Side.TheVariants.{Left, Right}
 use Rattle.gate_desk.specs.Outside.{Outside, Takes, HasFailed, told_at}
@@ -10,6 +10,7 @@ use Rattle.pcap_merge.specs.declared.stop.MergeStop.TheVariants.{Fault, Desk, Ou
 use Rattle.pcap_merge.specs.Order.{is_unread}
 use Rattle.pcap_merge.specs.Stops.{slot_of}
 use Rattle.pcap_merge.specs.Sides.{records_ahead, IsSpent, side_work}
+use Rattle.pcap_files.specs.declared.record.TheConstants.{LONGEST_CAPTURE}
 
 -- the reader came to what stands next: a record, which it holds, or the end
 abbrev pub ComesTo : Option Packet → Reading → List ℕ → Type 0
@@ -29,7 +30,7 @@ pub record Readies (side : Side) (unread : Bool) (r s : Reading) (old new : Outs
   pub slot : s.slot ≡ r.slot
   pub form : s.form ≡ r.form
   pub place : s.place ≡ r.place + count
-  pub near : r.place ≤ 2 ^ 40 → s.place ≤ 2 ^ 40
+  pub near : r.place ≤ LONGEST_CAPTURE → s.place ≤ LONGEST_CAPTURE
   pub size_is : unread ≡ true → count ≡ held_size s.packet
   pub comes : unread ≡ true → IfSome (told_at old.left (slot_of side)) (ComesTo s.packet r)
   pub stop : s.stop ≡ None

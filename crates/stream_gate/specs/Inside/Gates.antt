@@ -1,5 +1,5 @@
 -- What only proofs and private contracts need beside `Gates`.
-use Rattle.std.specs.Prelude.{◌≡◌, ◌≤◌, ◌<◌, ◌+◌, ◌-◌, ◌^◌, ℕ, length}
+use Rattle.std.specs.Prelude.{◌≡◌, ◌≤◌, ◌<◌, ◌+◌, ◌-◌, ℕ, length}
 use Rattle.tcp_segments.specs.Prelude.{IsTcpHeader, one_if}
 use Rattle.tcp_segments.specs.declared.TheConstants.{MOST_PAYLOAD}
 use Rattle.resegment.specs.declared.put.SegmentModel.{SegmentModel}
@@ -10,11 +10,12 @@ use Rattle.compact_stream.specs.Prelude.{CompactSender, extent_kept, octets_kept
 use Rattle.shift_ledger.specs.Prelude.{fore_by}
 use Rattle.stream_model.specs.declared.step.Going.{Going}
 use Rattle.stream_gate.specs.Segments.{Headers}
+use Rattle.stream_model.specs.declared.refusals.TheConstants.{STREAM_LIMIT}
 
 -- a segment with neither SYN nor RST that passes keeps the numbers in their ranges
 pub record CanPass (own other : CompactSender) (g : Segment) : Type 0 where
   pub near : (start_kept own g).after ≤ 1
-  pub limit : octets_kept own + (length g.octets - (start_kept own g).before) < 2 ^ 30
+  pub limit : octets_kept own + (length g.octets - (start_kept own g).before) < STREAM_LIMIT
   pub recent : 1 ≤ length g.octets - (start_kept own g).before → length own.recent + (length g.octets - (start_kept own g).before) ≤ MOST_RECENT
   pub place : place_acknowledged (extent_kept other) (arrival g) ≤ other.ledger.octets_out + one_if other.ended
 

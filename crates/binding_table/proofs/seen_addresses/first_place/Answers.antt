@@ -4,8 +4,8 @@ use Rattle.binding_table.specs.Prelude.{AreFirsts}
 use Rattle.binding_table.proofs.Places.{firsts_noted}
 use Rattle.binding_table.proofs.seen_addresses.first_place.Goals as goal
 
-pub returns-else-len-ge-MOST-clause-seen_addresses : goal.returns-else-len-ge-MOST-clause-seen_addresses
-returns-else-len-ge-MOST-clause-seen_addresses c = λ needs are h.
+pub returns-else-len-ge-MOST_SEEN-clause-seen_addresses : goal.returns-else-len-ge-MOST_SEEN-clause-seen_addresses
+returns-else-len-ge-MOST_SEEN-clause-seen_addresses c = λ needs are h.
     let seen_addresses = c.args.seen_addresses.now in
     let earlier = c.args.earlier.now in
     let address = c.args.address in
@@ -15,4 +15,4 @@ returns-else-len-ge-MOST-clause-seen_addresses c = λ needs are h.
     let put : Table ℕ → Type 0 = λ table. AreFirsts needs (earlier ++ address ∷ []) table in
     subst put (sym (c.push.ensures
     ∙ ap (λ (k : ℕ). record seen_addresses { rows = seen_addresses.rows ++ record { key = k; end = Some 0; value = length earlier } ∷ [] }) key))
-    (firsts_noted needs earlier address seen_addresses are absent (omega (arith, c.len.ensures.value, c.if-len-ge-MOST.false, c.requires)))
+    (firsts_noted needs earlier address seen_addresses are absent (omega (arith, c.len.ensures.value, c.if-len-ge-MOST_SEEN.false, c.requires)))

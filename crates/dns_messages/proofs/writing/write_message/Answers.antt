@@ -21,8 +21,8 @@ returns-in_err-put_message-clause-long c = λ e.
     spelling-long c.in_err-put_message.field-0.0 c.in_ok-writer.writer c.args.message.now c.in_ok-writer.ensures c.in_err-put_message.ensures.text
     (same_stop c.from_residual-in_err-put_message.result p.0 _ _ p.1 p.2 e)
 
-pub returns-then-len-gt65535-clause-long : goal.returns-then-len-gt65535-clause-long
-returns-then-len-gt65535-clause-long c = λ _.
+pub returns-then-len-gt-LONGEST_MESSAGE-clause-long : goal.returns-then-len-gt-LONGEST_MESSAGE-clause-long
+returns-then-len-gt-LONGEST_MESSAGE-clause-long c = λ _.
     let octets = spelling-wrote c.in_ok-writer.writer c.put_message.new.writer c.args.message.now c.in_ok-writer.ensures
     c.in_ok-put_message.ensures.text in
     omega (arith, ap length octets, c.len.ensures)

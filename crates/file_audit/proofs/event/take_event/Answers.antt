@@ -104,7 +104,7 @@ returns-then-not-closed-clause-answer g c = λ s x e.
     let took = subst (λ (b : Bool). TakesNext (Ok b) frames c.args.head.side middle c.take_next.new.given c.args.auditor.now c.take_next.new.auditor
     mid new) c.if-not-there.false c.in_ok-there.ensures.answer in
     found_frame frames form c.args.head c.args.totals c.args.auditor.now c.take_next.new.auditor s x c.args.given.now c.take_next.new.given
-    c.take_line.new.report old mid new c.settings.ensures.forms.macs is e line took (sym c.closed.ensures ∙ c.if-not-closed.true)
+    c.take_line.new.report old mid new c.settings.ensures.macs is e line took (sym c.closed.ensures ∙ c.if-not-closed.true)
 
 pub returns-clause-answer : goal.returns-clause-answer
 returns-clause-answer g c = λ s x e.
@@ -121,6 +121,6 @@ returns-clause-answer g c = λ s x e.
     mid new) c.if-not-there.false c.in_ok-there.ensures.answer in (
       frames,
       found_lawful frames form c.args.head c.args.totals c.count.result c.args.auditor.now c.take_next.new.auditor s x c.args.given.now
-          c.take_next.new.given c.take_line.new.report old mid new c.settings.ensures.forms.macs is e c.requires.can.kept c.requires.can.fits line
+          c.take_next.new.given c.take_line.new.report old mid new c.settings.ensures.macs is e c.requires.can.kept c.requires.can.fits line
           took (sym c.closed.ensures ∙ c.if-not-closed.false) c.count.ensures,
     )

@@ -6,3 +6,6 @@ returns-clause-sound c octets settings is = (accepted octets settings is).sound
 
 pub returns-clause-forms : goal.returns-clause-forms
 returns-clause-forms c octets settings is = (accepted octets settings is).forms
+
+pub returns-clause-macs : goal.returns-clause-macs
+returns-clause-macs c octets settings is = (accepted octets settings is).macs

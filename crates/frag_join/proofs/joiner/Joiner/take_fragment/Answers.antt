@@ -1,4 +1,5 @@
-use Rattle.std.proofs.Common.{◌≡◌, ◌<◌, true, false, List, [], ◌∷◌, ◌++◌, length, get_or, Some, None, IfSome, subst, sym, ap, ◌∙◌, arith, leb, slice_get}
+use Rattle.std.proofs.Common.{◌≡◌, ◌<◌, true, false, List, [], ◌∷◌, ◌++◌, length, get_or, Some}
+use Rattle.std.proofs.Common.{None, IfSome, subst, sym, ap, ◌∙◌, arith, leb, slice_get}
 use Rattle.std.proofs.lemmas.Bool.{lt-leb, le-leb}
 use Rattle.std.proofs.lemmas.List.{length_push}
 use Rattle.std.proofs.lemmas.List.Quantifiers.{position-Some}
@@ -6,8 +7,9 @@ use Rattle.std.proofs.lemmas.Option.{slice_get-get_or}
 use Rattle.gate_base.specs.Prelude.{event_of}
 use Rattle.ipv4_frames.specs.Ipv4.{has_options}
 use Rattle.frag_join.specs.declared.part.Part.{Part}
-use Rattle.frag_join.specs.Prelude.{name_in, fragment_in, octets_of, Coverage, nothing, is_bad, State, Step, by_known, is_of, place_of, fragment_step, part_or_new, with_fragment, known_at, put_at}
-use Rattle.frag_join.specs.declared.joiner.TheConstants.{LIMIT}
+use Rattle.frag_join.specs.Prelude.{name_in, fragment_in, octets_of, Coverage, nothing, is_bad, State, Step, by_known}
+use Rattle.frag_join.specs.Prelude.{is_of, place_of, fragment_step, part_or_new, with_fragment, known_at, put_at}
+use Rattle.frag_join.specs.declared.joiner.TheConstants.{MOST_JOINED}
 use Rattle.frag_join.specs.Fragments.{name_of, fragment_of}
 use Rattle.frag_join.specs.Inside.Kept.{known_or_nothing, new_part}
 use Rattle.frag_join.proofs.PartLemmas.{get-last}
@@ -55,7 +57,7 @@ returns-in-None-2 c =
     let good : is_bad (known_at parts c.place_of-place.result) (fragment_in e) ≡ false =
     ap (is_bad (known_at parts c.place_of-place.result)) (sym (c.of-fragment.ensures ∙ ap fragment_of c.requires.octets))
     ∙ sym c.is_bad.ensures ∙ c.if-is_bad.false in
-    let full : leb LIMIT (length parts) ≡ true = le-leb LIMIT (length parts) (omega (arith, c.len.ensures)) in
+    let full : leb MOST_JOINED (length parts) ≡ true = le-leb MOST_JOINED (length parts) (omega (arith, c.len.ensures)) in
     let step = step-full parts e c.place_of-place.result options looked good c.in-None-2.is full in
     record {
       answer = ap (λ (s : Step Coverage). s.answer) (sym step);
@@ -168,7 +170,7 @@ first c =
     ap (λ p. is_bad (known_at parts p) (fragment_in e)) (sym c.in-None.is)
     ∙ ap (is_bad (known_at parts c.place_of-place.result)) (sym (c.of-fragment.ensures ∙ ap fragment_of c.requires.octets))
     ∙ sym c.is_bad.ensures ∙ c.if-is_bad.false in
-    let room : leb LIMIT (length parts) ≡ false = lt-leb LIMIT (length parts) (omega (arith, c.len.ensures)) in
+    let room : leb MOST_JOINED (length parts) ≡ false = lt-leb MOST_JOINED (length parts) (omega (arith, c.len.ensures)) in
     ap (λ all. put_at all c.begin_datagram-place.result e new) (begun c)
     ∙ ap (λ place. put_at (parts ++ new ∷ []) place e new) c.begin_datagram-place.ensures.place
     ∙ settled-last by_known parts e new (with_fragment by_known new e) ∙ sym (step-new by_known parts e options none good room)
