@@ -27,7 +27,7 @@ pub(crate) struct Places {
 }
 
 /// The octets, their image, the units with another image, and where the rest after the last whole unit begins. There are fewer than
-/// `STREAM_LIMIT` octets, and fewer than twice as many of the image. Contracts see the octets, the image, the image places of each octet, where the
+/// `STREAM_LIMIT` octets, and fewer than 2^31 of the image. Contracts see the octets, the image, the image places of each octet, where the
 /// images of changed units end, and where the rest begins.
 #[derive(Drop)]
 pub(crate) struct Transcript {

@@ -10,16 +10,16 @@ use crate::part::{
     Part, Piece, SEQUENCE, TIME_TICKS, behind_fields, field, in_sequence, is_exception, only,
 };
 
-/// The tag of a GetRequest, the first of the PDUs (RFC 1157, 4.1.2).
+/// The tag of a GetRequest, the first PDU (RFC 1157, 4.1.2).
 pub const GET_REQUEST: u8 = 0xa0;
 
 /// The tag of a SetRequest (RFC 1157, 4.1.5).
 pub const SET_REQUEST: u8 = 0xa3;
 
-/// The tag of a GetBulkRequest, the first of those that came with version 2 (RFC 3416, 3).
+/// The tag of a GetBulkRequest, the first PDU that came with version 2 (RFC 3416, 3).
 pub const GET_BULK_REQUEST: u8 = 0xa5;
 
-/// The tag of a Report, the last of them (RFC 3416, 3).
+/// The tag of a Report, the last PDU of version 2 (RFC 3416, 3).
 pub const REPORT: u8 = 0xa8;
 
 /// The tag of the Trap of version 1 (RFC 1157, 4.1.6).

@@ -9,7 +9,7 @@ use dialogue::MOST_RECENT;
 use gate_base::{Host, Refusal};
 use tcp_segments::Flags;
 
-/// A stream has fewer octets than these, a limit of the gateway's own: 2^30, a quarter of the sequence numbers.
+/// A stream has fewer octets than this, a limit of the gateway's own: 2^30, a quarter of the sequence numbers.
 pub const STREAM_LIMIT: u64 = 1_073_741_824;
 
 /// What a refusal needs to know of a segment.
