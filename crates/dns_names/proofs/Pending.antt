@@ -4,7 +4,7 @@ use Rattle.std.specs.List.{AllByRecursion}
 use Rattle.std.proofs.lemmas.Bool.{cases_Bool, lt-ltb, le-ltb, ltb-true, ltb-false}
 use Rattle.std.proofs.lemmas.Slice.Eq.{bytes_eq-Decides}
 use Rattle.dns_names.specs.declared.suffix.Suffix.{Suffix}
-use Rattle.dns_names.specs.Prelude.{behind, first_label, key, key_of, EndsAt, Start, found, with_start, starts_in}
+use Rattle.dns_names.specs.Prelude.{behind, first_label, key_of, EndsAt, Start, found, with_start, starts_in}
 use Rattle.dns_names.specs.Inside.Writers.{place_in, after_in, key_at, HaveOwnPlaces, IsFresh, IsNear, IsPending, Remembers}
 use Rattle.dns_names.specs.declared.ending.Edge.{Edge}
 use Rattle.dns_names.specs.declared.met.Row.{Row}
@@ -263,13 +263,12 @@ pub record IsPut (old new : List (Suffix × ℕ)) (rest : List ℕ) (place limit
   pub starts : starts_in new ≡ starts_in old ++ with_start place rest []
   pub pending : IsPending new (behind rest) limit
 
-module _ (known more : List Start) (old new : List (Suffix × ℕ)) (edge rest : List ℕ) (place limit : ℕ) (s : Suffix) (is_end : Bool) (end : Option ℕ)
-    (octets : s.octets.now ≡ rest) (key_is : key s ≡ key_of (key_at is_end limit end) rest) (r : Remembers s place old new)
-    (pending : IsPending old rest place)
+module _ (known more : List Start) (old new : List (Suffix × ℕ)) (edge rest : List ℕ) (place limit : ℕ) (is_end : Bool) (end : Option ℕ)
+    (r : Remembers (key_of (key_at is_end limit end) rest) rest place old new) (pending : IsPending old rest place)
     (closing : Closing (starts_in old) edge rest place) (absent : found (starts_in old) rest ≡ None) (some : 1 ≤ length rest) (on : place < limit)
     (grew : starts_in old ≡ known ++ more) (way : GoesOn known old rest is_end end) where
-  none : place < 16384 → place_in old (key s) ≡ None
-  none near = ap (λ (k : List ℕ). place_in old k) key_is ∙ by_end is_end refl
+  none : place < 16384 → place_in old (key_of (key_at is_end limit end) rest) ≡ None
+  none near = by_end is_end refl
     where
       by_end : (b : Bool) → is_end ≡ b → place_in old (key_of (key_at b limit end) rest) ≡ None
       by_end false e = absent-next old rest place limit end pending on near
@@ -284,7 +283,7 @@ module _ (known more : List Start) (old new : List (Suffix × ℕ)) (edge rest :
       elim (cases_Bool (nat_lt place 16384)) [
         | inl t ↦
             let near : place < 16384 = ltb-true _ _ t in
-            rw t (r.starts near (none near) pending.near ∙ ap (λ (o : List ℕ). starts_in old ++ record { place = place; octets = o } ∷ []) octets)
+            rw t (r.starts near (none near) pending.near)
         | inr f ↦ rw f (ap starts_in (r.far (ltb-false _ _ f)) ∙ sym (append-nil (starts_in old)))
       ]
 
@@ -315,7 +314,7 @@ module _ (known more : List Start) (old new : List (Suffix × ℕ)) (edge rest :
                 near = near;
                 on = on;
                 starts = put_starts ∙ rw t refl;
-                places = λ k. r.near near (none near) k ∙ ap (λ (x : List ℕ). cond (bytes_eq x k) (Some place) (place_in old k)) key_is;
+                places = r.near near (none near);
                 key = key_stands;
               })
           | inr f ↦

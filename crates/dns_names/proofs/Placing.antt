@@ -1,5 +1,5 @@
 -- The entries of the suffixes that were written.
-use Rattle.std.proofs.Common.{◌≡◌, ℕ, ◌+◌, ◌<◌, ◌≤◌, Bool, true, false, cond, List, [], ◌∷◌, ◌++◌, Option, Some, None, refl, sym, ap, subst, ◌∙◌, arith, inl, inr, nat_lt, bytes_eq}
+use Rattle.std.proofs.Common.{◌≡◌, ℕ, ◌+◌, ◌<◌, ◌≤◌, Bool, true, false, cond, List, [], ◌∷◌, ◌++◌, Option, Some, None, slice_get, unwrap_or, refl, sym, ap, subst, ◌∙◌, arith, inl, inr, nat_lt, bytes_eq}
 use Rattle.std.specs.Ordering.{is_eq, match_ordering, nat_cmp}
 use Rattle.std.specs.declared.cmp.Ordering.{Ordering}
 use Rattle.std.specs.declared.cmp.Ordering.TheVariants.{Less, Equal, Greater}
@@ -187,6 +187,15 @@ halved s all low rest middle high rises cut first =
               ∙ place-first (middle ∷ []) high (key s) (place-off s high (high-off (omega (arith, same))));
         }
 
+-- a suffix that comes before the first entry isn't there
+pub before-all : (s : Suffix) (es : List (Suffix × ℕ)) (first : Suffix × ℕ) → Rises es → Some first ≡ slice_get es 0
+    → s.behind < first.0.behind → place_in es (key s) ≡ None
+before-all s [] first rises is below = refl
+before-all s (e ∷ es) first rises is below =
+    let same : first ≡ e = ap (λ (o : Option (Suffix × ℕ)). unwrap_or o e) is in
+    let lt : s.behind < e.0.behind = subst (λ (x : Suffix × ℕ). s.behind < x.0.behind) same below in
+    place-off s (e ∷ es) ((λ off. omega (arith, lt, off)), all-more _ (IsOff s) es (λ x above off. omega (arith, lt, above, off)) rises.0)
+
 -- a list goes on to rise
 pub rises-push : (es : List (Suffix × ℕ)) (e : Suffix × ℕ) → Rises es → AreBelow e.0.behind es → Rises (es ++ e ∷ [])
 rises-push [] e r below = (tt, tt)
@@ -265,9 +274,12 @@ enters-tree s place m n entries updates = record {
 }
 
 -- a start that can be pointed to came in
-pub remembers : (s : Suffix) (place : ℕ) (old new : List (Suffix × ℕ)) → place < 16384 → Enters s place old new → Remembers s place old new
-remembers s place old new near enters = record {
-  near = λ _ none k. enters.places none k;
-  starts = λ _ none all. enters.starts none (near_below place (starts_in old) all);
-  far = λ far. absurd (omega (arith, near, far));
-}
+pub remembers : (s : Suffix) (k octets : List ℕ) (place : ℕ) (old new : List (Suffix × ℕ)) → key s ≡ k → s.octets.now ≡ octets
+    → place < 16384 → Enters s place old new → Remembers k octets place old new
+remembers s k octets place old new key_is octets_are near enters =
+    subst (λ (key : List ℕ). Remembers key octets place old new) key_is (subst (λ (all : List ℕ). Remembers (key s) all place old new) octets_are
+    (record {
+      near = λ _ none other. enters.places none other;
+      starts = λ _ none all. enters.starts none (near_below place (starts_in old) all);
+      far = λ far. absurd (omega (arith, near, far));
+    }))

@@ -25,6 +25,11 @@ pub struct Memo {
 /// The least number of octets of a message of which is kept what was read. A shorter one is read as it stands.
 const LONG: usize = 128;
 
+/// The most octets of the labels of a name, and the most labels: so much room is made at the start.
+const MOST_OCTETS: usize = 254;
+
+const MOST_LABELS: usize = 127;
+
 /// Nothing is known yet. Of a message that is short, or longer than any is, nothing is kept.
 pub(crate) fn memo_of(alloc: Global, message: &[u8]) -> Result<Option<Memo>, OutOfMemory>
     ensures { IfOk result (λ found. IfSome found (IsMemo message.now)) }
@@ -36,8 +41,8 @@ pub(crate) fn memo_of(alloc: Global, message: &[u8]) -> Result<Option<Memo>, Out
     let known = vec![in alloc; UNKNOWN; count.min(POINTED)]?;
     Ok(Some(Memo {
         known,
-        kept: Vec::new(alloc),
-        path: Vec::new(alloc),
+        kept: Vec::with_capacity(alloc, MOST_OCTETS)?,
+        path: Vec::with_capacity(alloc, MOST_LABELS)?,
         room: Vec::new(alloc),
     }))
 }

@@ -54,7 +54,7 @@ impl Name {
 }
 
 /// The room that a name is begun with, in octets: most names have fewer.
-const ROOM: usize = 32;
+pub(crate) const ROOM: usize = 32;
 
 /// The name at a place of a message.
 pub(crate) fn name_of(

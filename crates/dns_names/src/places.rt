@@ -1,5 +1,5 @@
 // The suffixes that were written, each found by its key.
-ghost use Rattle.std.specs.Prelude.{◌≡◌, ◌++◌, ◌∷◌, [], true, length, OnOk, OnErr};
+ghost use Rattle.std.specs.Prelude.{◌≡◌, ◌<◌, ◌++◌, ◌∷◌, [], true, length, OnOk, OnErr};
 ghost use Rattle.dns_names.specs.Inside.Ends.{key};
 ghost use Rattle.dns_names.specs.Inside.Places.{Rises, Enters, one_at_most};
 ghost use Rattle.dns_names.specs.Inside.Writers.{place_in};
@@ -47,23 +47,40 @@ fn place_if<'a>(entry: &(Suffix<'a>, u16), suffix: &Suffix<'a>) -> Option<u16>
     }
 }
 
+/// Of the entries below and above a place, those on the side of another one.
+#[inline(always)]
+fn half_with<'b, 'a>(
+    low: &'b [(Suffix<'a>, u16)],
+    middle: u16,
+    high: &'b [(Suffix<'a>, u16)],
+    behind: u16,
+) -> &'b [(Suffix<'a>, u16)]
+    ensures low { behind < middle → result.now ≡ low.now }
+    ensures high { middle < behind → result.now ≡ high.now }
+{
+    if behind < middle { low } else { high }
+}
+
 /// The place of a suffix among entries that rise, by halving.
+#[inline(never)]
 fn place_among<'a>(rising: &[(Suffix<'a>, u16)], suffix: &Suffix<'a>) -> Option<u16>
     requires rises { Rises rising.now }
     ensures { result ≡ place_in rising.now (key suffix.now) }
 {
-    if rising.is_empty() {
+    // Most names lead to the first one of their message, whose place comes before all those in the list.
+    if suffix.behind < rising.first()?.0.behind {
         return None;
     }
-    let (low, high) = rising.split_at(rising.len() / 2);
-    let (middle, high) = high.split_first()?;
-    if suffix.behind < middle.0.behind {
-        place_among(low, suffix)
-    } else if suffix.behind > middle.0.behind {
-        place_among(high, suffix)
-    } else {
-        place_if(middle, suffix)
+    let mut part = rising;
+    'parts: while !part.is_empty() {
+        let (low, high) = part.split_at(part.len() / 2);
+        let (middle, high) = high.split_first()?;
+        if suffix.behind == middle.0.behind {
+            return place_if(middle, suffix);
+        }
+        part = half_with(low, middle.0.behind, high, suffix.behind);
     }
+    None
 }
 
 fn place_at<'a>(last: &Option<(Suffix<'a>, u16)>, suffix: &Suffix<'a>) -> Option<u16>

@@ -4,7 +4,7 @@ ghost use Rattle.dns_names.specs.Names.{spelled};
 ghost use Rattle.dns_names.specs.Reverse.{full_reverse, with_address, is_zone, numbers};
 ghost use Rattle.dns_names.specs.Inside.Octets.{label_in, behind, reverse_in};
 
-use crate::name::Name;
+use crate::name::{Name, ROOM};
 use gate_base::{Addr, OutOfMemory, read_number};
 use itoa::Buffer;
 use std::alloc::{AllocError, Global};
@@ -42,13 +42,13 @@ fn address_by(d: &[u8], c: &[u8], b: &[u8], a: &[u8], zone: &[u8], top: &[u8]) -
     }
 }
 
+// Apart, since few names come here.
 #[tactic(auto, unfolding(crate::specs::Inside::Octets::reverse_in))]
-fn address_in(octets: &[u8]) -> Option<Addr>
+#[inline(never)]
+fn address_of_six(octets: &[u8]) -> Option<Addr>
     ensures { option_map (λ address. address.0) result ≡ reverse_in octets.now }
 {
     let (d, rest) = first_label(octets)?;
-    // most names begin with no number
-    let _number = read_number(d)?;
     let (c, rest) = first_label(rest)?;
     let (b, rest) = first_label(rest)?;
     let (a, rest) = first_label(rest)?;
@@ -59,6 +59,16 @@ fn address_in(octets: &[u8]) -> Option<Addr>
     } else {
         None
     }
+}
+
+#[tactic(auto, unfolding(crate::specs::Inside::Octets::reverse_in))]
+fn address_in(octets: &[u8]) -> Option<Addr>
+    ensures { option_map (λ address. address.0) result ≡ reverse_in octets.now }
+{
+    // most names begin with no number
+    let (d, _rest) = first_label(octets)?;
+    let _number = read_number(d)?;
+    address_of_six(octets)
 }
 
 /// The address of a full reverse name, as 5.0.0.10.in-addr.arpa is 10.0.0.5's. Such a name has four decimal numbers from 0 to 255
@@ -118,7 +128,7 @@ pub fn reverse_of(alloc: Global, address: Addr, old: &Name) -> Result<Name, OutO
     ensures again { IfOk result (λ name. full_reverse name ≡ Some address.0) }
 {
     let way = old.way.of_image(alloc);
-    let mut octets = Vec::new(alloc);
+    let mut octets = Vec::with_capacity(alloc, ROOM)?;
     put_numbers(&mut octets, address.0)?;
     let zone = behind_label(behind_label(behind_label(behind_label(old.octets()))));
     octets.extend_from_slice(zone)?;

@@ -1,6 +1,6 @@
 // Names one behind the other, each as short as it can be (RFC 1035, 4.1.4).
 ghost use Rattle.std.specs.Prelude.{◌≡◌, ◌+◌, ◌<◌, ◌≤◌, ◌++◌, ◌⊎◌, true, false, ℕ, List, [], length, IfOk, IfSome, OnOk, OnErr, Some};
-ghost use Rattle.dns_names.specs.Inside.Ends.{key};
+ghost use Rattle.dns_names.specs.Inside.Ends.{key_of};
 ghost use Rattle.dns_names.specs.Names.{IsSpelled};
 ghost use Rattle.dns_names.specs.Inside.Names.{labels_in};
 ghost use Rattle.dns_names.specs.Inside.Met.{AreRows};
@@ -22,12 +22,17 @@ use std::marker::Model;
 const FAR: u16 = u16::MAX - 1;
 
 /// Keeps the place of a label start, if a pointer can lead there.
-fn remember<'a>(places: &mut Places<'a>, suffix: Suffix<'a>, place: usize) -> Result<(), AllocError>
-    ensures remembers { OnOk result (Remembers suffix.entry place places.old places.new) }
+fn remember<'a>(
+    places: &mut Places<'a>,
+    octets: &'a [u8],
+    behind: u16,
+    place: usize,
+) -> Result<(), AllocError>
+    ensures remembers { OnOk result (Remembers (key_of behind octets.now) octets.now place places.old places.new) }
     ensures kept { OnErr result (places.new ≡ places.old) }
 {
     if place < POINTED {
-        places.insert(suffix, place as u16)?;
+        places.insert(Suffix::new(octets, behind), place as u16)?;
     }
     Ok(())
 }
@@ -141,8 +146,7 @@ fn put_labels<'a>(
         let (label, after) = rest.split_at(1 + rest[0] as usize);
         out.extend_from_slice(label)?;
         let behind = key_at(is_end(left, after), out.len(), end);
-        let suffix = Suffix::new(rest, behind);
-        remember(places, suffix, place)?;
+        remember(places, rest, behind, place)?;
         let next = steps.behind(rows);
         rows.keep(steps.first(), rest, place, next.first());
         edge = edge_after(edge, rest, place, out.len());

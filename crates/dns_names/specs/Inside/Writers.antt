@@ -72,9 +72,9 @@ key_at true place None = 65535
 key_at true place (Some end) = end
 key_at false place end = if nat_lt place POINTED then place else 65534
 
--- a map remembers that a suffix stands at a place, where a pointer can lead there
-pub record Remembers (s : Suffix) (place : ℕ) (old new : List (Suffix × ℕ)) : Type 0 where
-  pub near : place < POINTED → place_in old (key s) ≡ None → (k : List ℕ) → place_in new k ≡ cond (bytes_eq (key s) k) (Some place) (place_in old k)
-  pub starts : place < POINTED → place_in old (key s) ≡ None → AllByRecursion (IsNear place) (starts_in old)
-      → starts_in new ≡ starts_in old ++ record { place = place; octets = s.octets.now } ∷ []
+-- a map remembers that a suffix with a key stands at a place, where a pointer can lead there
+pub record Remembers (key octets : List ℕ) (place : ℕ) (old new : List (Suffix × ℕ)) : Type 0 where
+  pub near : place < POINTED → place_in old key ≡ None → (k : List ℕ) → place_in new k ≡ cond (bytes_eq key k) (Some place) (place_in old k)
+  pub starts : place < POINTED → place_in old key ≡ None → AllByRecursion (IsNear place) (starts_in old)
+      → starts_in new ≡ starts_in old ++ record { place = place; octets = octets } ∷ []
   pub far : POINTED ≤ place → new ≡ old

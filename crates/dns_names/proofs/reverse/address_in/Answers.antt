@@ -25,4 +25,4 @@ no_number octets d rest first none =
 pub returns-in_err-_number : goal.returns-in_err-_number
 returns-in_err-_number c =
     ap (option_map (λ (a : Addr). a.0)) c.from_residual-in_err-_number.ensures
-    ∙ sym (no_number c.args.octets.now c.in_ok-d.d.now c.in_ok-d.rest.now (sym c.in_ok-d.ensures) (sym c.in_err-_number.ensures))
+    ∙ sym (no_number c.args.octets.now c.in_ok-d.d.now c.in_ok-d._rest.now (sym c.in_ok-d.ensures) (sym c.in_err-_number.ensures))

@@ -12,7 +12,7 @@ renamed c =
     ∙ ap (λ (x : List ℕ). behind (behind (behind (behind x)))) c.octets.ensures.octets_are in
     renames c.args.address.0 c.args.old.now c.extend_from_slice.new.self.items (omega arith) c.requires
     (c.in_ok-extend_from_slice.ensures.items ∙ ap (λ (x : List ℕ). x ++ c.behind_label-zone.result.now)
-    (c.in_ok-put_numbers.ensures ∙ ap (λ (x : List ℕ). x ++ spelled (numbers c.args.address.0)) c.new-octets.ensures.items)
+    (c.in_ok-put_numbers.ensures ∙ ap (λ (x : List ℕ). x ++ spelled (numbers c.args.address.0)) c.in_ok-octets.ensures.items)
     ∙ ap (λ (x : List ℕ). spelled (numbers c.args.address.0) ++ x) zone)
 
 pub invariant_of-result : goal.invariant_of-result

@@ -6,7 +6,7 @@ use Rattle.dns_names.specs.Inside.Writers.{key_at, IsPending, Remembers}
 use Rattle.dns_names.proofs.Pending.{GoesOn, edge-later, put-found, put-label, rows-later}
 use Rattle.dns_names.proofs.Longest.{longest-new, longest-step, longest-ends, behind-shorter, closing-first, closing-put, closing-ends, behind-is}
 use Rattle.dns_names.proofs.Putting.{Left-ends, Left-closed, Left-new, Left-within, Left-label, ending-some, grew_more, grew_none, grew_octets}
-use Rattle.dns_names.specs.Prelude.{behind, found, key, key_of, labels_in, with_start, IsIndex, IsLongest, starts_in}
+use Rattle.dns_names.specs.Prelude.{behind, found, key_of, labels_in, with_start, IsIndex, IsLongest, starts_in}
 use Rattle.dns_names.proofs.writer.put_labels.Goals as goal
 use Rattle.dns_names.proofs.writer.put_labels.Goals.{then-labels-test+else-not-is_empty, else-labels-test}
 
@@ -80,9 +80,6 @@ labels-preserved c =
           ∙ longest-new _ (behind c.labels.rest.now) (c.labels.left - 1) _ step on.0 (subst (λ (x : List ℕ). 1 ≤ length x) rest on.1);
       long = λ e. subst (λ (x : List ℕ). 1 ≤ length x) rest (c.is_end.ensures.goes_on e).1;
     } in
-    let s : Suffix = c.new-suffix.result in
-    let is_its : key s ≡ key_of (key_at c.is_end.result limit c.longest-count.result.1) c.labels.rest.now =
-    c.new-suffix.ensures.key ∙ ap (λ (n : ℕ). key_of n c.labels.rest.now) key_is in
     let on : length c.labels.out.items < limit = omega (
       arith,
       c.labels.out.ok.0,
@@ -92,9 +89,10 @@ labels-preserved c =
     ) in
     let is = put-label (starts_in c.args.places.now)
     (v.2.0).starts c.labels.places c.remember.new.places c.labels.edge.octets.now c.labels.rest.now
-    (length c.labels.out.items) limit s c.is_end.result c.longest-count.result.1
-    c.new-suffix.ensures.octets is_its (subst (λ (n : ℕ). Remembers s n c.labels.places c.remember.new.places) len
-    c.in_ok-remember.ensures.remembers) v.1 v.4 absent some on v.2.2 way in
+    (length c.labels.out.items) limit c.is_end.result c.longest-count.result.1
+    (subst (λ (n : ℕ). Remembers (key_of n c.labels.rest.now) c.labels.rest.now (length c.labels.out.items) c.labels.places c.remember.new.places) key_is
+    (subst (λ (n : ℕ). Remembers (key_of c.key_at-behind.result c.labels.rest.now) c.labels.rest.now n c.labels.places c.remember.new.places) len
+    c.in_ok-remember.ensures.remembers)) v.1 v.4 absent some on v.2.2 way in
     let found_now = put-found c.labels.places c.remember.new.places c.labels.rest.now (length c.labels.out.items) limit is absent in
     let found_at : c.len-place.result < 16384 → found (starts_in c.remember.new.places) c.labels.rest.now
     ≡ Some c.len-place.result = λ near. found_now (omega (arith, near, len)) ∙ ap Some (sym len) in
