@@ -1,15 +1,27 @@
-"""What valgrind counts of a run, for the scripts that measure."""
+"""What valgrind counts of a run, for the scripts that measure. The gateway draws the same number in each run (`drawn.c`), so that counts repeat."""
+import functools
 import os
 import re
 import subprocess
+import tempfile
 
 from datagrams import record, write_run
 
-GATEWAY = f"{os.path.dirname(os.path.abspath(__file__))}/../crates/gateway_program/out/gateway_program"
+HERE = os.path.dirname(os.path.abspath(__file__))
+GATEWAY = f"{HERE}/../crates/gateway_program/out/gateway_program"
+BUILT = tempfile.TemporaryDirectory()
+
+
+@functools.cache
+def drawn():
+    """The library in front of libc, built at its first use."""
+    subprocess.run(["gcc", "-O2", "-shared", "-fPIC", "-o", f"{BUILT.name}/drawn.so", f"{HERE}/drawn.c"], check=True)
+    return f"{BUILT.name}/drawn.so"
 
 
 def counted(words, *patterns):
-    said = subprocess.run(["valgrind", *words], capture_output=True, text=True, check=True).stderr
+    with_drawn = os.environ | {"LD_PRELOAD": drawn()}
+    said = subprocess.run(["valgrind", *words], capture_output=True, text=True, check=True, env=with_drawn).stderr
     return [int(re.search(pattern, said).group(1).replace(",", "")) for pattern in patterns]
 
 

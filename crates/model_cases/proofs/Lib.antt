@@ -4,6 +4,7 @@ mod RowsFull
 mod RowsGiven
 mod RowsGrowth
 mod RowsHeld
+mod RowsLimits
 mod RowsLists
 mod RowsMore
 mod RowsPayloads
