@@ -25,9 +25,10 @@ pub struct Memo {
 /// The least number of octets of a message of which is kept what was read. A shorter one is read as it stands.
 const LONG: usize = 128;
 
-/// The most octets of the labels of a name, and the most labels: so much room is made at the start.
-const MOST_OCTETS: usize = 254;
+/// The most octets of the labels of a name. So much room is made for them at the start.
+const LONGEST_NAME: usize = 254;
 
+/// The most labels of a name, likewise.
 const MOST_LABELS: usize = 127;
 
 /// Nothing is known yet. Of a message that is short, or longer than any is, nothing is kept.
@@ -41,7 +42,7 @@ pub(crate) fn memo_of(alloc: Global, message: &[u8]) -> Result<Option<Memo>, Out
     let known = vec![in alloc; UNKNOWN; count.min(POINTED)]?;
     Ok(Some(Memo {
         known,
-        kept: Vec::with_capacity(alloc, MOST_OCTETS)?,
+        kept: Vec::with_capacity(alloc, LONGEST_NAME)?,
         path: Vec::with_capacity(alloc, MOST_LABELS)?,
         room: Vec::new(alloc),
     }))
